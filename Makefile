@@ -1,12 +1,13 @@
 # getmail and popd: to build them, to try them out, to check them.
 #
+#   make demo       serves a message with popd, fetches it with getmail, and shows each step: within two minutes, also
+#                   before the programs are built
 #   make            proves and builds the programs into bin/: half an hour to an hour on four cores the first time, seconds
 #                   if nothing has changed
-#   make demo       builds them if need be, serves a message with popd and fetches it with getmail, and shows each step
 #   make check      the gate: every proof, then every test; its last line is 'N passed, 0 failed'
-#   make rehearse   runs getmail on the recorded conversation in examples/ before any proof, within a minute; then
-#                   proves and builds it as above, and runs it again
-#   make test       builds the programs and the tests of the libraries, and runs these and the tests from outside
+#   make quick      what can be checked in seconds: the layout, the wrong bodies' texts, the documents
+#   make test       builds the programs and the tests of the libraries, and runs these and the tests from outside;
+#                   `make test-getmail WORDS='-k install'` builds only what the tests of getmail need, and runs some
 #   make install    puts programs, man pages, completions, units and examples below PREFIX (/usr/local), and builds only
 #                   what bin/ lacks; `make uninstall` takes them away
 #   make dist       an archive and a Debian package of what bin/ has, for machines without the toolchain
@@ -15,41 +16,50 @@
 SHELL := /bin/bash
 .SHELLFLAGS := -eu -o pipefail -c
 
-.PHONY: all demo rehearse check test dist bench install uninstall clean getmail popd store_bench record_bench
+.PHONY: all demo check quick test dist bench install uninstall clean getmail popd store_bench record_bench libraries
+.PHONY: test-getmail test-popd test-store_bench test-record_bench test-libraries
 .PHONY: bench-getmail bench-popd bench-client_bench bench-record_bench bench-store_bench
 .NOTPARALLEL:
 
-all: getmail popd
+all:
+	@./build.py getmail popd
+	install -D -m 755 -t bin crates/getmail/out/getmail crates/popd/out/popd
+
+getmail popd:
+	@./build.py $@
+	install -D -m 755 -t bin crates/$@/out/$@
 
 demo:
 	@python3 examples/demo/run.py
 
-# `rt run` builds a program once it is proved, and runs it: here on its recorded conversation,
-# with which it ends well, so that whatever fails is the proof, the build or the program.
-getmail popd:
-	@echo 'Proving and building $@: minutes the first time, while rt says how far it is.'
-	@cd crates/$@ && rt run -- --rehearse < $(CURDIR)/examples/$@-rehearsal.txt > /dev/null
-	mkdir -p bin
-	install -m 755 crates/$@/out/$@ bin/$@
-
-rehearse:
-	cd crates/getmail && rt try -- --rehearse < $(CURDIR)/examples/getmail-rehearsal.txt
-	$(MAKE) --no-print-directory getmail
-	bin/getmail --rehearse < examples/getmail-rehearsal.txt
-
 check:
 	@tests/gate.sh
 
+# `rattle` looks at the layout of all files at once, and `rt` only at a crate's.
+quick:
+	@$$(dirname "$$(rt doc)")/bin/rattle fmt --check $$(find crates -name out -prune -o -name '*.rt' -print -o -name '*.antt' -print)
+	@python3 tests/check_edits.py
+	@python3 tests/test_sample.py
+	@python3 tests/test_documents.py
+
 # The tests from outside also run the small programs of the stores' benchmark and of the record's.
 store_bench record_bench:
-	cd crates/$@ && rt run > /dev/null
+	@./build.py $@
 
-test: all store_bench record_bench
+libraries:
+	cd crates/tests && rt test > /dev/null
+
+test:
+	@./build.py getmail popd store_bench record_bench
 	cd crates/library_tests && rt test > /dev/null
 	cd crates/tests && rt test > /dev/null
 	python3 tests/test_sample.py
 	python3 tests/test_documents.py
 	python3 tests/run.py
+
+test-getmail: popd
+test-getmail test-popd test-store_bench test-record_bench test-libraries: test-%: %
+	python3 tests/run.py --only $* $(WORDS)
 
 bench: bench-getmail bench-popd bench-store_bench bench-record_bench bench-client_bench
 
@@ -91,4 +101,4 @@ dist: bin/getmail bin/popd
 	packaging/dist.py
 
 clean:
-	rm -rf bin dist
+	rm -rf bin dist .building-*

@@ -13,7 +13,11 @@ prefix=${PREFIX:-/usr/local}
 place=${DESTDIR:-}$prefix
 share=$place/share
 docs=$share/doc/getmail
-units=$place/lib/systemd/user
+# systemd looks for units in ~/.local/share, and not in ~/.local/lib.
+case $prefix in
+    "${HOME:-}/.local") units=$share/systemd/user ;;
+    *) units=$place/lib/systemd/user ;;
+esac
 
 case ${1:-} in
     "" | --remove) ;;
@@ -56,7 +60,10 @@ each_file() {
     for file in README.md CHANGELOG.md LICENSE docs/FROM-GETMAIL6.md docs/getmailrc.sample examples/stunnel.conf; do
         "$1" 644 "$file" "$docs/$(basename "$file")"
     done
-    "$1" 755 examples/from-getmail6.py "$docs/from-getmail6.py"
+    for name in from-getmail6.py from-mpop.py from-fetchmail.py; do
+        "$1" 755 "examples/$name" "$docs/$name"
+    done
+    "$1" 644 examples/make_record.py "$docs/make_record.py"
     "$2" examples/crontab "$docs/crontab"
 }
 

@@ -10,7 +10,7 @@ function __getmail_rcfiles
         end
     end
     for file in $dir/*
-        string match -q -- '*/seen-*' $file; or string replace -- "$dir/" '' $file
+        string match -qr -- '/(seen-[^/]*|lock|lock-[^/]*)$' $file; or string replace -- "$dir/" '' $file
     end
 end
 
@@ -18,7 +18,7 @@ complete -c getmail -s a -l all -d 'Fetch all messages'
 complete -c getmail -s d -l delete -d 'Delete from the server what was delivered'
 complete -c getmail -s g -l getmaildir -r -a '(__fish_complete_directories)' -d 'Folder of the rc file and the record'
 complete -c getmail -s h -l help -d 'Show the options'
-complete -c getmail -s l -l dont-delete -d 'Delete nothing now'
+complete -c getmail -s l -l dont-delete -d 'Take delete as false; delete_after still deletes'
 complete -c getmail -s n -l new -d 'Fetch only what was not delivered before'
 complete -c getmail -l pretend -d 'Say what would be done, and do nothing'
 complete -c getmail -s q -l quiet -d 'Write no report'

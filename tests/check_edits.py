@@ -3,6 +3,7 @@
 
 - Each wrong body, `crates/NAME/must-fail/*.edit`, can be applied: its file is there, and each text that it replaces
   occurs there exactly once, after the replacements before it. Its name has only small letters, digits and hyphens.
+- There are at most a hundred of them, since each takes the gate half a minute.
 - No `#[test]` is outside the crates `library_tests` and `tests`: a crate with tests of its own is proved twice.
 """
 
@@ -12,6 +13,7 @@ from pathlib import Path
 
 CRATES = Path(__file__).resolve().parent.parent / "crates"
 TEST_CRATES = {"library_tests", "tests"}
+MOST_EDITS = 100
 
 
 def faults_of_edit(edit):
@@ -46,7 +48,10 @@ def faults_of_edit(edit):
 
 
 def edit_faults():
-    for edit in sorted(CRATES.glob("*/must-fail/*.edit")):
+    edits = sorted(CRATES.glob("*/must-fail/*.edit"))
+    if len(edits) > MOST_EDITS:
+        yield f"there are {len(edits)} wrong bodies, and at most {MOST_EDITS} are wanted"
+    for edit in edits:
         for fault in faults_of_edit(edit):
             yield f"{edit.relative_to(CRATES)}: {fault}"
 

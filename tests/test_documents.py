@@ -6,13 +6,16 @@ top or in any crate; `make WORD` is a target that the Makefile names after .PHON
 a definition, a test or a man page uses. Names in capitals stand for something else (`FILE`), and those in OTHERS aren't
 names of this repository.
 
-And the man page lists the line of each fault of getmail.
+And the man page lists the line of each fault of getmail, PROVED.md has the table of headline_files.py, and the documents
+are no longer than their limits.
 """
 
 import re
 import subprocess
 import sys
 from pathlib import Path
+
+import headline_files
 
 TOP = Path(__file__).resolve().parent.parent
 DOCUMENTS = ["README.md", "CONTRIBUTING.md", "CHANGELOG.md", "bench/README.md", *sorted(
@@ -21,11 +24,14 @@ SOURCES = {".rt", ".antt", ".py", ".c", ".sh", ".1", ".5", ".8", ".sample", ".se
 FILE = re.compile(r"[A-Za-z0-9_.~*{},-]*(?:/[A-Za-z0-9_.*{},-]*)+|[A-Za-z0-9_-]+\.(?:rt|antt|py|md|c|sh|txt|edit)")
 NAME = re.compile(r"[A-Za-z_][A-Za-z0-9_]*")
 # Names of other programs and of what users have: nothing here has such a name.
-OTHERS = {"stunnel", "socat", "dovecot", "mutt", "fetchmail", "mpop", "Display", "BrokenUIDLPOP3Retriever"}
+OTHERS = {"stunnel", "socat", "dovecot", "mutt", "fetchmail", "mpop", "Display", "BrokenUIDLPOP3Retriever", "killsize"}
 # The sources of the lines that report faults.
 TELLING = ("crates/getmail_program/src/failure.rt", "crates/fetch_session/src/text.rt", "crates/rc_file/src/text.rt")
-# Folders that a user or a build makes.
-MADE = ("~", "/", "bin/", "out/", "examples/demo/Maildir")
+# The most lines of a document, and the most words of all documents and man pages together.
+MOST_LINES = {"README.md": 100, "docs/PROVED.md": 350, "docs/ARCHITECTURE.md": 200}
+MOST_WORDS = 22_000
+# Folders that a user, a build or an installation makes.
+MADE = ("~", "/", "bin/", "out/", "share/", "examples/demo/Maildir")
 
 
 def tracked_files():
@@ -94,12 +100,32 @@ def told_without_help():
                 yield f"man/getmail.1 doesn't list '{line}' of {source}"
 
 
+def other_definitions():
+    """A line if PROVED.md has another table of the headlines' definitions."""
+    rows, total = headline_files.table()
+    text = (TOP / "docs/PROVED.md").read_text()
+    if "\n".join(rows) not in text or f"{total:,} in all" not in text:
+        yield "docs/PROVED.md: the table of definitions isn't what tests/headline_files.py prints"
+
+
+def too_long():
+    """A line for each document that is too long, and one if all together are."""
+    for name, most in MOST_LINES.items():
+        lines = len((TOP / name).read_text().splitlines())
+        if lines > most:
+            yield f"{name}: {lines} lines, at most {most}"
+    pages = [path for path in DOCUMENTS if not path.startswith("bench/")] + list((TOP / "man").iterdir())
+    words = sum(len((TOP / page).read_text().split()) for page in pages)
+    if words > MOST_WORDS:
+        yield f"documents and man pages: {words:,} words, at most {MOST_WORDS:,}"
+
+
 def main():
     paths = tracked_files()
     words = words_of(paths)
     targets = set(" ".join(re.findall(r"^\.PHONY: (.*)", (TOP / "Makefile").read_text(), re.MULTILINE)).split())
     faults = [fault for document in DOCUMENTS for fault in faults_in(document, paths, words, targets)]
-    faults += told_without_help()
+    faults += [*told_without_help(), *other_definitions(), *too_long()]
     for fault in faults:
         print(fault)
     if not faults:

@@ -1,149 +1,143 @@
 #!/usr/bin/env python3
-"""The demonstration: builds the programs if they aren't there, serves a message with popd and fetches it with getmail, twice.
+"""The demonstration: popd serves a message, and getmail fetches it, twice.
 
-It works in a folder of its own, on a port that nobody uses, and removes the folder at the end.
+It runs the programs in bin/. If they aren't there, `rt try` compiles both for this run alone, before any proof. It works in
+a folder of its own, on a port that nobody uses, and removes the folder at the end.
 """
 
+import contextlib
 import os
-import queue
-import re
 import shutil
+import signal
 import socket
 import subprocess
 import sys
 import tempfile
-import threading
 import time
 from pathlib import Path
 
 DEMO = Path(__file__).resolve().parent
 TOP = DEMO.parent.parent
 PROGRAMS = ("getmail", "popd")
-SECONDS_BETWEEN_LINES = 10
-SECONDS_TO_START = 30
+RUNS = ("first", "second")
+SECONDS_TO_START = 600
 
 
 def say(text):
     print(text, flush=True)
 
 
-def crates_of_programs():
-    """The crates that both programs are made of, by crates.txt."""
-    lines = [line.split("#")[0].partition(":") for line in (TOP / "crates.txt").read_text().splitlines()]
-    below = {name.split()[0]: libraries.split() for name, _, libraries in lines if name.strip()}
-    return {crate for name in PROGRAMS for crate in (name, *below[name]) if crate in below}
-
-
-class Progress:
-    """How far the proofs are, read from what `rt` prints."""
-
-    def __init__(self):
-        self.crate = "starting"
-        self.part = ""
-        self.all = crates_of_programs()
-        self.done = set()
-        self.begun = time.monotonic()
-
-    def read(self, line):
-        if found := re.match(r"rt: chose --jobs \d+ for (\w+)|(?:rt: )?(?:proving|checking) (\w+)", line):
-            self.crate, self.part = found[1] or found[2], ""
-        elif found := re.match(r"so far: (\d+) of (\d+) functions checked", line):
-            self.part = f", {found[1]} of {found[2]} functions"
-        elif found := re.match(r"crate (\w+): ", line):
-            self.done.add(found[1])
-
-    def told(self):
-        passed = int(time.monotonic() - self.begun)
-        clock = f"{passed // 60:2}:{passed % 60:02}"
-        return f"  {clock}  {len(self.done & self.all)} of {len(self.all)} crates proved; now {self.crate}{self.part}"
-
-
-def lines_of(process):
-    """A queue of the lines that the process writes; None is the last."""
-    lines = queue.Queue()
-
-    def read():
-        for line in process.stdout:
-            lines.put(line)
-        lines.put(None)
-
-    threading.Thread(target=read, daemon=True).start()
-    return lines
-
-
-def build():
-    """Runs `make`, says every ten seconds how far it is, and shows its last lines if it fails."""
-    say("The programs are proved first and then built. That takes a while, once: half an hour to an hour on four cores.")
-    process = subprocess.Popen(["make", "--no-print-directory", "all"], cwd=TOP, text=True, errors="replace",
-                               stdin=subprocess.DEVNULL, stdout=subprocess.PIPE, stderr=subprocess.STDOUT)
-    lines, progress, last, due = lines_of(process), Progress(), [], time.monotonic() + SECONDS_BETWEEN_LINES
-    while True:
-        try:
-            line = lines.get(timeout=max(due - time.monotonic(), 0))
-            if line is None:
-                break
-            progress.read(line)
-            last = [*last[-30:], line]
-        except queue.Empty:
-            say(progress.told())
-            due += SECONDS_BETWEEN_LINES
-    if process.wait() != 0:
-        sys.exit("".join(last) + "`make` failed; its last lines are above")
-
-
-def start_popd(folder):
-    """Starts popd over the demonstration's Maildir, and answers the process and its port."""
-    with socket.socket() as probe:
-        probe.bind(("127.0.0.1", 0))
-        port = probe.getsockname()[1]
-    words = ["--listen", f"127.0.0.1:{port}", "fred", "password", "served"]
-    say(f"\n1. popd serves a Maildir with one message to Fred.\n$ env popd {' '.join(words)}")
-    process = subprocess.Popen([TOP / "bin/popd", *words], cwd=folder)
+def until(condition, process):
+    """Waits until the condition holds, and answers its value; ends the demonstration if the process ends first."""
     deadline = time.monotonic() + SECONDS_TO_START
     while process.poll() is None and time.monotonic() < deadline:
-        # A listening socket is seen in the kernel's table, without a connection that popd would serve.
-        if any(row.split()[1].endswith(f":{port:04X}") for row in Path("/proc/net/tcp").read_text().splitlines()[1:]):
-            return process, port
+        if found := condition():
+            return found
         time.sleep(0.05)
-    process.kill()
-    sys.exit("popd doesn't listen")
+    os.killpg(process.pid, signal.SIGKILL)
+    sys.exit((process.stdout.read() if process.stdout else "") + "the demonstration failed: a program didn't start")
 
 
-def fetch(folder):
-    """Runs getmail with the demonstration's folder as home, and shows what it reports."""
-    say("$ getmail")
-    done = subprocess.run([TOP / "bin/getmail"], env={**os.environ, "HOME": str(folder)})
-    if done.returncode != 0:
-        sys.exit(f"getmail ended with status {done.returncode}")
+def free_port():
+    with socket.socket() as probe:
+        probe.bind(("127.0.0.1", 0))
+        return probe.getsockname()[1]
 
 
-def show(folder):
+def is_listening(port):
+    """A listening socket is seen in the kernel's table, without a connection that popd would serve."""
+    return any(row.split()[1].endswith(f":{port:04X}") for row in Path("/proc/net/tcp").read_text().splitlines()[1:])
+
+
+def start(stack, words, **how):
+    """Starts a program, which is ended with the stack unless it has ended by itself."""
+    process = stack.enter_context(subprocess.Popen(words, stdin=subprocess.DEVNULL, start_new_session=True, **how))
+    stack.callback(lambda: process.poll() is None and os.killpg(process.pid, signal.SIGTERM))
+    return process
+
+
+class Built:
+    """The programs in bin/."""
+
+    def __init__(self, stack, folder, settings):
+        self.stack, self.rcfile = stack, folder / ".getmail/getmailrc"
+        self.rcfile.write_text(settings)
+
+    def popd(self, *words):
+        return start(self.stack, [TOP / "bin/popd", *words])
+
+    def fetch(self):
+        done = subprocess.run([TOP / "bin/getmail", "-r", self.rcfile, "-g", self.rcfile.parent])
+        if done.returncode != 0:
+            sys.exit(f"getmail ended with status {done.returncode}")
+
+
+class Tried:
+    """The programs as `rt try` compiles and runs them: getmail once for both its runs, each of which waits for its rc file."""
+
+    def __init__(self, stack, folder, settings):
+        say("The programs aren't proved yet: `rt try` compiles them for this demonstration alone, in a minute or two.\n"
+            "`make` proves them and builds them into bin/.")
+        self.stack, self.rcfile, self.settings, cases = stack, folder / "getmailrc", settings, folder / "cases"
+        os.mkfifo(self.rcfile)
+        cases.mkdir()
+        for run in RUNS:
+            (cases / run).touch()
+            (cases / f"{run}.args").write_text(f"-r\n{self.rcfile}\n-g\n{folder / '.getmail'}\n")
+        self.getmail = self.rt("getmail", "--cases", cases)
+
+    def rt(self, program, *words):
+        return start(self.stack, ["rt", "try", "--seconds", str(SECONDS_TO_START), *words], cwd=TOP / "crates" / program,
+                     stdout=subprocess.PIPE, stderr=subprocess.STDOUT, text=True)
+
+    def popd(self, *words):
+        return self.rt("popd", "--", *words)
+
+    def opened(self):
+        """The rc file, which can be written once getmail reads it."""
+        try:
+            return os.fdopen(os.open(self.rcfile, os.O_WRONLY | os.O_NONBLOCK), "w")
+        except OSError:
+            return None
+
+    def fetch(self):
+        with until(self.opened, self.getmail) as file:
+            file.write(self.settings)
+        for line in self.getmail.stdout:
+            if line.startswith("case="):
+                return
+            if not line.startswith("== "):
+                say(line.rstrip("\n"))
+        sys.exit("getmail didn't run")
+
+
+def show(stack, folder):
     """Serves and fetches: each step with its output."""
-    process, port = start_popd(folder)
-    try:
-        rcfile = folder / ".getmail/getmailrc"
-        rcfile.write_text(rcfile.read_text().replace("port = 1100", f"port = {port}"))
-        say("\n2. getmail fetches it into another Maildir, with the settings of examples/demo/.getmail/getmailrc.")
-        fetch(folder)
-        message, = (path for path in (folder / "Maildir/new").iterdir() if path.name != ".gitkeep")
-        say(f"\n3. The message is there, in Maildir/new/{message.name[:8]}..:\n")
-        say(message.read_text().rstrip("\n"))
-        say("\n4. A second run fetches nothing: the message is known.")
-        fetch(folder)
-    finally:
-        process.terminate()
-        process.wait()
+    port = free_port()
+    settings = (DEMO / ".getmail/getmailrc").read_text().replace("1100", str(port)).replace("~", str(folder))
+    are_built = all((TOP / "bin" / name).is_file() for name in PROGRAMS)
+    programs = (Built if are_built else Tried)(stack, folder, settings)
+    say("\n1. popd serves a Maildir with one message to Fred.\n"
+        f"$ env popd --listen 127.0.0.1:{port} --connections {len(RUNS)} fred password served")
+    process = programs.popd("--listen", f"127.0.0.1:{port}", "--connections", str(len(RUNS)), "fred",
+                            str(folder / "password"), str(folder / "served"))
+    until(lambda: is_listening(port), process)
+    say("\n2. getmail fetches it into another Maildir, with the settings of examples/demo/.getmail/getmailrc.\n$ getmail")
+    programs.fetch()
+    message, = (path for path in (folder / "Maildir/new").iterdir() if path.name != ".gitkeep")
+    say(f"\n3. The message is there, in Maildir/new/{message.name[:8]}..:\n")
+    say(message.read_text().rstrip("\n"))
+    say("\n4. A second run fetches nothing: the message is known.\n$ getmail")
+    programs.fetch()
+    process.wait(SECONDS_TO_START)
 
 
 def main():
-    there = all((TOP / "bin" / name).is_file() for name in PROGRAMS)
-    if not there or shutil.which("rt"):
-        build()
-    with tempfile.TemporaryDirectory() as place:
+    with tempfile.TemporaryDirectory() as place, contextlib.ExitStack() as stack:
         folder = Path(place) / "demo"
         shutil.copytree(DEMO, folder, ignore=shutil.ignore_patterns("seen-*", f"{'?' * 64}.*", "__pycache__"))
         (folder / "password").chmod(0o600)
-        show(folder)
+        show(stack, folder)
     say("\nThat was all: popd has ended, and its folder is removed. `man man/getmail.1` says how to set up an account.")
 
 

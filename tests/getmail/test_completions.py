@@ -23,7 +23,7 @@ class Completions(unittest.TestCase):
         holder = tempfile.TemporaryDirectory()
         self.addCleanup(holder.cleanup)
         self.home = Path(holder.name)
-        for folder, names in ((".getmail", ("getmailrc", "work", "seen-1")), ("other", ("home", "house"))):
+        for folder, names in ((".getmail", ("getmailrc", "work", "seen-1", "lock", "lock-work")), ("other", ("home", "house"))):
             (self.home / folder).mkdir()
             for name in names:
                 (self.home / folder / name).touch()
@@ -47,6 +47,27 @@ class Completions(unittest.TestCase):
         self.assertEqual(self.bash("-g", str(self.home / "none"), "-r", ""), [])
         self.assertEqual(self.bash("--re"), ["--rehearse"])
         self.assertEqual(self.bash("--pr"), ["--pretend"])
+
+    def test_bash_goes_on_in_a_folder(self):
+        (self.home / ".getmail/more").mkdir()
+        (self.home / ".getmail/more/last").touch()
+        self.assertEqual(self.bash("-r", "m"), ["more/"])
+        self.assertEqual(self.bash("-r", "more/"), ["more/last"])
+        self.assertEqual(self.bash("-r", f"{self.home}/oth"), [f"{self.home}/other/"])
+        self.assertEqual(self.bash("-g", f"{self.home}/oth"), [f"{self.home}/other/"])
+        self.assertEqual(self.bash("-g", "~/oth"), ["~/other/"])
+        told = subprocess.run(["bash", "-c", f"compopt() {{ echo asked \"$@\"; }}; {BASH}", "bash", "getmail", "-g",
+                               f"{self.home}/oth"], check=True, capture_output=True, text=True, cwd=programs.ROOT)
+        self.assertIn("asked -o nospace", told.stdout)
+
+    def test_zsh_completes_its_own_popd_itself(self):
+        if not shutil.which("zsh"):
+            self.skipTest("zsh is not installed")
+        stubs = "_directory_stack() { print own }; _arguments() { print program }"
+        for before, word, wanted in (("", "popd", "own"), ("builtin", "popd", "own"), ("env", "popd", "program"),
+                                     ("command", "popd", "program"), ("", "/usr/local/bin/popd", "program")):
+            asked = f"{stubs}; words=({word}); precommands=({before}); complete_it() {{ . completions/_popd }}; complete_it"
+            self.assertEqual(self.offered(["zsh", "-fc", asked]), [wanted], (before, word))
 
     def test_fish_looks_for_an_rc_file_in_the_folder(self):
         if not shutil.which("fish"):

@@ -21,14 +21,37 @@ PAGES = {"1": "man1", "5": "man5", "8": "man8"}
 COMPLETIONS = [path for name in ("getmail", "popd") for path in (
     f"share/bash-completion/completions/{name}", f"share/zsh/site-functions/_{name}",
     f"share/fish/vendor_completions.d/{name}.fish")]
-UNITS = [f"lib/systemd/user/{name}" for name in
-         ("getmail.service", "getmail.timer", "popd.service", "popd.socket", "popd@.service")]
-DOCUMENTS = [f"share/doc/getmail/{name}" for name in
-             ("README.md", "CHANGELOG.md", "LICENSE", "FROM-GETMAIL6.md", "getmailrc.sample", "stunnel.conf", "crontab")]
+UNITS = [f"lib/systemd/user/{name}" for name in (
+    "getmail.service", "getmail.timer", "getmail@.service", "getmail@.timer", "getmail-tunnel.service",
+    "popd.service", "popd.socket", "popd@.service")]
+DOCUMENTS = [f"share/doc/getmail/{name}" for name in (
+    "README.md", "CHANGELOG.md", "LICENSE", "FROM-GETMAIL6.md", "getmailrc.sample", "stunnel.conf", "crontab",
+    "make_record.py")]
+SCRIPTS = [f"share/doc/getmail/from-{name}.py" for name in ("getmail6", "mpop", "fetchmail")]
 MESSAGE = b"Subject: one\n\nIt is.\n"
 # What the rules of `make install` and `make dist` read.
-PARTS = ("Makefile", "crates.txt", "install.sh", "README.md", "CHANGELOG.md", "LICENSE", "man", "completions", "examples",
+PARTS = ("Makefile", "build.py", "crates.txt", "install.sh", "README.md", "CHANGELOG.md", "LICENSE", "man", "completions", "examples",
          "packaging", "docs/FROM-GETMAIL6.md", "docs/getmailrc.sample")
+
+# What stands in for `rt try`, for each run of a program, and for `rt lib` and `rt run`: they use the built programs. The second
+# writes down for each crate which libraries were there.
+TRY = """#!/bin/sh
+name=${PWD##*/}
+while [ "$1" != -- ] && [ "$1" != --cases ]; do shift; done
+if [ "$1" = -- ]; then shift; exec ../../$name.built "$@"; fi
+for case in "$2"/*.args; do
+    echo "== $case"
+    ../../$name.built $(cat "$case")
+    echo "case=$case run=ended status=$?"
+done
+"""
+PROVE = """#!/bin/sh
+name=${PWD##*/}
+echo $name $(ls -d ../*/out/rlib/* 2>/dev/null | while read path; do echo ${path##*/}; done) >> $LOG
+sleep 2
+mkdir -p out/rlib
+if [ "$1" = run ]; then install $TOP/$name.built out/$name; else mkdir out/rlib/$name; fi
+"""
 
 
 def copy_repository(top):
@@ -46,7 +69,6 @@ def copy_repository(top):
         shutil.copy(programs.path_of(name), top / "bin" / name)
 
 
-@programs.needs("getmail", "popd")
 class Copied(unittest.TestCase):
     """A copy of the repository's files, with the programs as they were built last."""
 
@@ -70,7 +92,7 @@ class Install(Copied):
         return {str(path.relative_to(self.place / prefix)): stat.S_IMODE(path.stat().st_mode) for path in paths}
 
     def check_installed(self, prefix):
-        wanted = {name: 0o755 for name in ("bin/getmail", "bin/popd", "share/doc/getmail/from-getmail6.py")}
+        wanted = {name: 0o755 for name in ("bin/getmail", "bin/popd", *SCRIPTS)}
         wanted |= {name: 0o644 for name in (*COMPLETIONS, *UNITS, *DOCUMENTS)}
         for page in (programs.ROOT / "man").iterdir():
             wanted[f"share/man/{PAGES[page.suffix[1:]]}/{page.name}"] = 0o644
@@ -79,9 +101,9 @@ class Install(Copied):
 
     def check_names(self, place, prefix):
         """Units, the line for cron and getmail(1) name files where they are."""
-        for name in ("getmail.service", "popd.service", "popd@.service"):
-            started, = re.findall("^ExecStart=(\\S+)", (place / "lib/systemd/user" / name).read_text(), re.MULTILINE)
-            self.assertEqual(started, f"{prefix}/bin/{name[:name.index('.')].removesuffix('@')}")
+        for name in ("getmail.service", "getmail@.service", "popd.service", "popd@.service"):
+            started, = re.findall("^ExecStart=(.*)", (place / "lib/systemd/user" / name).read_text(), re.MULTILINE)
+            self.assertIn(f"{prefix}/bin/{name[:name.index('.')].removesuffix('@')}", started.split())
         page = (place / "share/man/man1/getmail.1").read_text()
         self.assertIn(f"install -m 600 {prefix}/share/doc/getmail/getmailrc.sample ", page)
         crontab = (place / "share/doc/getmail/crontab").read_text()
@@ -96,6 +118,14 @@ class Install(Copied):
                 self.check_installed(prefix)
                 self.make("uninstall", f"DESTDIR={self.place}", *words)
                 self.assertEqual(self.files("."), {})
+
+    def test_units_of_a_home_are_where_systemd_looks_for_them(self):
+        home = self.place / "home"
+        for words in (["install"], ["uninstall"]):
+            self.make(*words, f"PREFIX={home}/.local", HOME=str(home))
+            there = {str(path.relative_to(home)) for path in home.rglob("*") if path.is_file()}
+            wanted = {f".local/share/systemd/user/{Path(unit).name}" for unit in UNITS} if words == ["install"] else set()
+            self.assertEqual({name for name in there if "systemd" in name}, wanted)
 
     def test_what_others_have_there_stays(self):
         (self.place / "usr/local/bin").mkdir(parents=True)
@@ -249,48 +279,62 @@ class Dist(Copied):
 
 
 class Demo(Copied):
-    """`make demo` with the programs built, and `make` if they aren't and proving them takes a while."""
+    """`make demo` with the programs built, and before that, and `make`; the last two with a stand-in for `rt`."""
 
-    def path_without_rt(self):
-        """A folder with the few programs that the demonstration calls, and no `rt`."""
+    def path_with(self, rt=None):
+        """A folder with the few programs that are called, and with `rt` if its text is given."""
         folder = self.top.parent / "path"
         folder.mkdir()
-        for name in ("python3", "make", "bash", "sh"):
+        for name in ("python3", "make", "bash", "sh", "mkdir", "install", "sleep", "ls", "cat"):
             (folder / name).symlink_to(shutil.which(name))
-        return folder
+        if rt:
+            (folder / "rt").write_text(rt)
+            (folder / "rt").chmod(0o755)
+        return str(folder)
 
-    def test_the_message_is_fetched_and_then_known(self):
-        before = sorted(self.top.rglob("*"))
-        told = self.make("demo", PATH=str(self.path_without_rt()))
-        for part in ("$ env popd --listen 127.0.0.1:", "delivered\n", "1 messages (", "Subject: hello\n", "It works.\n",
-                     "0 messages (0 bytes) retrieved, 1 skipped, 0 deleted\n", "popd has ended"):
+    def check_told(self, told, *parts):
+        """Each part is told, one after the other."""
+        for part in parts:
             self.assertIn(part, told)
-            told = told[told.index(part):]
+            told = told[told.index(part) + len(part):]
+
+    def check_demo(self, path, *parts):
+        before = sorted(self.top.rglob("*"))
+        self.check_told(self.make("demo", PATH=path), *parts, "$ env popd --listen 127.0.0.1:", "delivered\n", "1 messages (",
+                        "Subject: hello\n", "It works.\n", "0 messages (0 bytes) retrieved, 1 skipped, 0 deleted\n",
+                        "popd has ended")
         self.assertEqual(sorted(self.top.rglob("*")), before)
 
-    def test_it_says_that_proving_takes_a_while_and_how_far_it_is(self):
-        """A stand-in for `rt` says how far it is, and leaves the program after twelve seconds."""
-        folder = self.path_without_rt()
-        for name in ("sleep", "mkdir", "install"):
-            (folder / name).symlink_to(shutil.which(name))
+    def test_the_message_is_fetched_and_then_known(self):
+        self.check_demo(self.path_with())
+
+    def test_before_any_proof_it_says_so_and_tries_the_programs(self):
         for name in ("getmail", "popd"):
-            (self.top / "crates" / name / "out").mkdir(parents=True)
-            (self.top / "bin" / name).unlink()
-            shutil.copy(programs.path_of(name), self.top / f"{name}.built")
-        (folder / "rt").write_text("#!/bin/sh\necho 'rt: chose --jobs 4 for pop3_wire' >&2\n"
-                                   "echo 'so far: 51 of 128 functions checked' >&2\n"
-                                   "name=${PWD##*/}\nif [ $name = getmail ]; then sleep 12; fi\n"
-                                   "install ../../$name.built out/$name\n")
-        (folder / "rt").chmod(0o755)
-        process = subprocess.Popen(["make", "demo"], cwd=self.top, stdout=subprocess.PIPE, text=True,
-                                   env=programs.environment(PATH=str(folder)))
-        self.addCleanup(process.stdout.close)
-        self.addCleanup(process.wait)
-        self.addCleanup(process.kill)
-        told = process.communicate(timeout=programs.SECONDS)[0].splitlines()
-        self.assertIn("takes a while", told[0])
-        self.assertRegex(told[1], r"^ +0:1\d  .*pop3_wire, 51 of 128 functions$")
-        self.assertIn("It works.", told)
+            (self.top / "bin" / name).rename(self.top / f"{name}.built")
+            (self.top / "crates" / name).mkdir(parents=True)
+        self.check_demo(self.path_with(TRY), "aren't proved yet", "`make` proves them")
+
+    def test_make_proves_several_crates_at_once_in_their_order(self):
+        """Only those of the programs. It says how far it is."""
+        for name in ("getmail", "popd"):
+            (self.top / "bin" / name).rename(self.top / f"{name}.built")
+        lines = [line.partition("#")[0].partition(":") for line in (self.top / "crates.txt").read_text().splitlines()]
+        for crate in (crate for crate, colon, _ in lines if colon):
+            (self.top / "crates" / crate / "src").mkdir(parents=True)
+        for crate in ("getmail", "popd"):
+            (self.top / "crates" / crate / "src/main.rt").touch()
+        log = self.top.parent / "log"
+        told = self.make(PATH=self.path_with(PROVE), LOG=str(log), TOP=str(self.top))
+        self.assertRegex(told, r"(?m)^ +0:1\d  \d+ of 17 crates proved; \d being proved: \w+")
+        begun = [line.split() for line in log.read_text().splitlines()]
+        self.assertEqual(len(begun), 17)
+        self.assertNotIn("tests", [crate for crate, *_ in begun])
+        below = {crate: {name for name in libraries.split()} for crate, _, libraries in lines}
+        for at, (crate, *proved) in enumerate(begun):
+            self.assertLessEqual(below[crate] & set(below), set(proved))
+            self.assertLessEqual(set(proved), {crate for crate, *_ in begun[:at]})
+        for name in ("getmail", "popd"):
+            self.assertTrue(os.access(self.top / "bin" / name, os.X_OK))
 
 
 class Pages(unittest.TestCase):
@@ -318,10 +362,12 @@ class Readme(unittest.TestCase):
     def test_the_lines_that_set_up_an_account(self):
         section = (programs.ROOT / "README.md").read_text().split("## A real account\n")[1].split("\n## ")[0]
         lines = [line[4:] for line in section.splitlines() if line.startswith("    ")]
-        self.assertEqual(len(lines), 5)
+        self.assertEqual(len(lines), 6)
         messages = [(b"a", b"one\n"), (b"b", b"two\n")]
         with Server(messages) as server, tempfile.TemporaryDirectory() as home:
-            thread = server.begin_session()
+            # One session for `--pretend`, and one that fetches.
+            thread = threading.Thread(target=lambda: [server.begin_session().join(programs.SECONDS) for _ in range(2)])
+            thread.start()
             edits = f"sed -i -e s/mail.example.org/127.0.0.1/ -e s/^#.port.*/port={server.port}/"
             path = f"{Path(programs.path_of('getmail')).parent}:{os.environ['PATH']}"
             done = subprocess.run(["bash", "-euc", "\n".join(lines[:-1])], cwd=programs.ROOT, capture_output=True, text=True,
@@ -333,7 +379,55 @@ class Readme(unittest.TestCase):
         self.assertIn("flock -n ~/.getmail/lock $(command -v getmail) -q", lines[-1])
 
 
-class Cron(unittest.TestCase):
+class Regular(unittest.TestCase):
+    """The commands that fetch regularly."""
+
+    def start(self, account, words):
+        path = f"{Path(programs.path_of('getmail')).parent}:{os.environ['PATH']}"
+        return subprocess.Popen(words, stdin=subprocess.DEVNULL, stdout=subprocess.PIPE, stderr=subprocess.STDOUT,
+                                env={"HOME": str(account.home), "PATH": path, "SHELL": "/bin/sh"})
+
+
+class Timer(Regular):
+    """The commands of `examples/getmail.service` and of `examples/getmail@.service`."""
+
+    def words(self, unit, account):
+        """The words of ExecStart, with this test's program and home."""
+        started, = re.findall("^ExecStart=(.*)", (programs.ROOT / "examples" / unit).read_text(), re.MULTILINE)
+        started = started.replace("/usr/local/bin/getmail", str(programs.path_of("getmail")))
+        return started.replace("%h", str(account.home)).replace("%i", "work").split()
+
+    def run_whole(self, account, words):
+        process = self.start(account, words)
+        out, _ = process.communicate(timeout=programs.SECONDS)
+        return process.returncode, out
+
+    def test_the_journal_gets_the_report(self):
+        for unit in ("getmail.service", "getmail@.service"):
+            with self.subTest(unit), Server([(b"a", b"one\n")]) as server, Account(server.port) as account:
+                if "@" in unit:
+                    account.rcfile.rename(account.folder / "work")
+                thread = server.begin_session()
+                status, out = self.run_whole(account, self.words(unit, account))
+                thread.join(programs.SECONDS)
+                self.assertEqual((status, len(account.held())), (0, 1))
+                self.assertIn(b"1 messages (4 bytes) retrieved", out)
+
+    def test_a_run_beside_another_does_nothing(self):
+        for unit in ("getmail.service", "getmail@.service"):
+            with self.subTest(unit), SilentServer(b"+OK\r\n") as server, Account(server.port) as account:
+                shutil.copy(account.rcfile, account.folder / "work")
+                first = self.start(account, self.words(unit, account))
+                try:
+                    server.taken.wait(programs.SECONDS)
+                    self.assertEqual(self.run_whole(account, self.words(unit, account)), (0, b""))
+                    self.assertIsNone(first.poll())
+                finally:
+                    server.over.set()
+                    first.communicate(timeout=programs.SECONDS)
+
+
+class Cron(Regular):
     """The command of `examples/crontab`, as cron runs it: by `sh`, with nothing on its streams."""
 
     def command(self):
@@ -343,10 +437,7 @@ class Cron(unittest.TestCase):
         return entry.split(maxsplit=5)[5]
 
     def start(self, account):
-        path = f"{Path(programs.path_of('getmail')).parent}:{os.environ['PATH']}"
-        return subprocess.Popen(["/bin/sh", "-c", self.command()], stdin=subprocess.DEVNULL, stdout=subprocess.PIPE,
-                                stderr=subprocess.STDOUT,
-                                env={"HOME": str(account.home), "PATH": path, "SHELL": "/bin/sh"})
+        return super().start(account, ["/bin/sh", "-c", self.command()])
 
     def run_whole(self, account):
         process = self.start(account)

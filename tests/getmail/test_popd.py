@@ -20,7 +20,6 @@ TEXTS = {
 }
 
 
-@programs.needs("popd")
 class Together(unittest.TestCase):
     def setUp(self):
         self.served = Maildir()

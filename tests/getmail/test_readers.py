@@ -11,7 +11,7 @@ import unittest
 
 from getmail.account import Account
 from getmail.shared_server import SharedServer
-from harness import preload, programs
+from harness import kernel, preload, programs
 
 COUNT = 2000
 RUNS = int(os.environ.get("TESTS_READER_RUNS", "20"))
@@ -43,6 +43,9 @@ def read(maildir, asked):
 
 
 class Reading(unittest.TestCase):
+    # The folder in which the home is; a temporary one by default.
+    above = None
+
     @classmethod
     def setUpClass(cls):
         cls.messages = [(b"uid-%04d" % number, b"%d\n" % number) for number in range(COUNT)]
@@ -50,7 +53,7 @@ class Reading(unittest.TestCase):
     def setUp(self):
         self.server = SharedServer(self.messages)
         self.addCleanup(self.server.close)
-        self.account = Account(self.server.port)
+        self.account = Account(self.server.port, above=self.above)
         self.addCleanup(self.account.holder.cleanup)
         self.account.rcfile.write_text(self.account.rcfile.read_text().replace("read_all = false\n", ""))
         for uid, text in self.messages:
@@ -134,7 +137,7 @@ class Bursts(Reading):
         self.check_bursts("new")
 
 
-class EachCall(Reading):
+class WithReader(Reading):
     """The reader works just before one of the calls by which the program reads a folder."""
 
     @classmethod
@@ -152,6 +155,15 @@ class EachCall(Reading):
                             READER_CALL=str(call), READER_NOTE=str(note))
         return run, note.exists()
 
+    def check_restless(self):
+        """A run says that it was refused and stores nothing; the next one goes on once the reader rests."""
+        run, came = self.read_at(0)
+        self.assertTrue(came)
+        self.assertEqual(run, programs.Run(1, b"", REFUSED))
+        self.check_run(run)
+
+
+class EachCall(WithReader):
     def check_each_call(self, part):
         for call in range(1, 200):
             with self.subTest(call=call):
@@ -171,11 +183,17 @@ class EachCall(Reading):
         self.check_each_call("new")
 
     def test_a_reader_that_never_rests(self):
-        """A run says that it was refused and stores nothing; the next one goes on once the reader rests."""
-        run, came = self.read_at(0)
-        self.assertTrue(came)
-        self.assertEqual(run, programs.Run(1, b"", REFUSED))
-        self.check_run(run)
+        self.check_restless()
+
+
+@unittest.skipUnless(kernel.is_tmpfs("/dev/shm"), "/dev/shm is no tmpfs")
+class OnTmpfs(WithReader):
+    """A renamed file is found again later in the same pass, which would go on as long as the reader does."""
+
+    above = "/dev/shm"
+
+    def test_a_reader_that_never_rests(self):
+        self.check_restless()
 
 
 if __name__ == "__main__":

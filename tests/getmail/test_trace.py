@@ -82,7 +82,7 @@ class Session(unittest.TestCase):
         return run
 
     def missing_record(self):
-        return f"trace: open {self.account.record}: {NO_MEMBER}"
+        return f"trace: stat {self.account.record}: {NO_MEMBER}"
 
     def test_the_lines_of_a_first_session(self):
         run = self.session("--trace", "-d")

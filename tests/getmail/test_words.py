@@ -36,7 +36,6 @@ Options:
   -d, --delete...         Delete from the server what was delivered, held or not
   -l, --dont-delete...    Take delete as false; delete_after still deletes
       --pretend...        Say what would be fetched and deleted, and do nothing
-      --rehearse...       Hold a session with standard input as the server, and store nothing
   -h, --help              Print help
 """
 

@@ -34,6 +34,12 @@ def wait_for_listener(process, port):
     return False
 
 
+def is_tmpfs(path):
+    """True if a tmpfs is mounted at the path."""
+    rows = (row.split() for row in Path("/proc/mounts").read_text().splitlines())
+    return any(row[1] == path and row[2] == "tmpfs" for row in rows)
+
+
 def peak_of_memory(process):
     """The most memory that the running process of that number has had so far, in octets."""
     status = Path(f"/proc/{process}/status").read_text()

@@ -6,7 +6,6 @@ tests of the libraries are a program too.
 
 import os
 import subprocess
-import unittest
 from dataclasses import dataclass
 from pathlib import Path
 
@@ -39,12 +38,6 @@ def path_of(name):
     """The file of the built program `name`."""
     crate, built = ("tests", "tests_tests") if name == "libraries" else (name, name)
     return _placed.get(name, ROOT / "crates" / crate / "out" / built)
-
-
-def needs(*names):
-    """Skips a test, by name, if one of these programs isn't built; its own tests in the gate report that."""
-    missing = [name for name in names if not path_of(name).is_file()]
-    return unittest.skipIf(missing, f"{', '.join(missing)} is not built")
 
 
 def environment(**changes):

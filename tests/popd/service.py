@@ -21,8 +21,9 @@ FAULT_AND_PEER = re.compile(rb"^popd: (.*)\npopd: warning: 127\.0\.0\.1:\d+: \1\
 class Maildir:
     """A Maildir with its password file beside it, removed with the `with` block."""
 
-    def __init__(self, password=b"p\n"):
-        self.holder = tempfile.TemporaryDirectory()
+    def __init__(self, password=b"p\n", above=None):
+        """With `above` it is in a folder in that one."""
+        self.holder = tempfile.TemporaryDirectory(dir=above)
         self.folder = Path(self.holder.name) / "Maildir"
         for part in ("tmp", "new", "cur"):
             (self.folder / part).mkdir(parents=True)

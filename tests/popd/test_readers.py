@@ -7,7 +7,7 @@ import time
 import unittest
 from pathlib import Path
 
-from harness import preload
+from harness import kernel, preload
 from popd.service import Maildir, Service
 
 MANY = 1_000
@@ -131,6 +131,19 @@ class WhileItIsListed(Readers):
                     client.ask(b"USER u")
                     self.assertEqual(client.ask(b"PASS p"), b"+OK 1 messages\r\n")
                     self.assertEqual(client.ask_lines(b"RETR 1"), b"+OK 5 octets\r\none\r\n.\r\n")
+
+    @unittest.skipUnless(kernel.is_tmpfs("/dev/shm"), "/dev/shm is no tmpfs")
+    def test_a_reader_that_never_rests_on_tmpfs(self):
+        """It renames all files before each call that reads a folder, which then finds them again."""
+        reader = self.enterContext(preload.library("reader"))
+        for part in ("new", "cur"):
+            with self.subTest(part), Maildir(above="/dev/shm") as self.maildir:
+                self.fill(part, FEW)
+                reading = {"READER_MAILDIR": str(self.maildir.folder), "READER_CALL": "0", "READER_NOTE": "/dev/null"}
+                with Service(self.maildir, LD_PRELOAD=str(reader), **reading) as service, service.client() as client:
+                    begun = time.monotonic()
+                    self.assertEqual(client.log_in(), b"-ERR maildrop unavailable\r\n")
+                    self.assertLess(time.monotonic() - begun, MOST_SECONDS)
 
 
 class WhileItIsServed(Readers):

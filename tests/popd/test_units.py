@@ -11,7 +11,8 @@ from harness import kernel, programs
 from popd.service import Client, Maildir
 
 EXAMPLES = programs.ROOT / "examples"
-UNITS = ("getmail.service", "getmail.timer", "popd.service", "popd.socket", "popd@.service")
+UNITS = ("getmail.service", "getmail.timer", "getmail@.service", "getmail@.timer", "getmail-tunnel.service", "popd.service",
+         "popd.socket", "popd@.service")
 
 
 def keys_of(unit):
@@ -25,9 +26,9 @@ class Units(unittest.TestCase):
             self.skipTest("systemd-analyze is not installed")
         with tempfile.TemporaryDirectory() as holder:
             for name in UNITS:
-                text = (EXAMPLES / name).read_text().replace("/usr/local/bin/", f"{holder}/")
+                text = re.sub(r"/usr/(local/)?bin/(?!flock)", f"{holder}/", (EXAMPLES / name).read_text())
                 (Path(holder) / name).write_text(text)
-            for name in ("getmail", "popd"):
+            for name in ("getmail", "popd", "stunnel"):
                 (Path(holder) / name).write_text("#!/bin/sh\n")
                 (Path(holder) / name).chmod(0o755)
             for name in UNITS:

@@ -92,18 +92,26 @@ class Deliveries(unittest.TestCase):
         other.unlink()
         self.check_left(1)
 
-    def test_what_killed_runs_left_in_tmp_is_swept_after_36_hours(self):
-        tmp, other = self.maildir / "tmp", "0" * 64
-        marked = stem_of(1) + ".P1R0123456789abcdef"
-        for name, hours in ((marked, 37), (stem_of(2), 37), (stem_of(3), 35), (f"{other}.61", 37), (ACCOUNT, 37)):
-            make_older(tmp / name, hours)
+    def test_what_killed_runs_left_in_tmp_is_swept_after_an_hour(self):
+        """Only files of the account whose names end in the mark of a process, which no delivered one does."""
+        tmp = self.maildir / "tmp"
+        mark = ".P1R0123456789abcdef"
+        stays = {"0" * 64 + ".61" + mark, ACCOUNT, stem_of(2), name_of(2), name_of(2) + ":2,S", stem_of(2) + mark + ":2,S"}
+        stays |= {stem_of(2) + odd for odd in (mark[:-1], mark + "0", mark.upper(), ".PR" + mark[4:], ".P+1" + mark[3:],
+                                               ".P4294967296" + mark[3:], mark.replace(".", ","))}
+        for name in (stem_of(1) + mark, stem_of(1) + ".P4294967295" + mark[3:], *stays):
+            make_older(tmp / name, 1.1)
+        make_older(tmp / (stem_of(3) + mark), 0.9)
+        link = tmp / (stem_of(4) + mark)
+        link.symlink_to(stem_of(2))
+        os.utime(link, (0, 0), follow_symlinks=False)
         with open(bytes(tmp) + b"/" + ACCOUNT.encode() + b".\xff", "wb"):
             pass
         make_older(self.maildir / "new" / name_of(1), 37)
         run = programs.run("store_bench", "sweep", str(self.maildir), "1")
         self.assertEqual((run.status, run.err), (0, b""))
         left = {name for name in os.listdir(tmp) if name.isascii()}
-        self.assertEqual(left, {stem_of(3), f"{other}.61", ACCOUNT})
+        self.assertEqual(left, {stem_of(3) + mark, link.name, *stays})
         self.assertTrue((self.maildir / "new" / name_of(1)).exists())
 
     def test_no_delivery_over_a_link_that_leads_nowhere(self):

@@ -93,12 +93,13 @@ class Files(unittest.TestCase):
             self.assertIn(b"destination refused", run.err)
             self.assertEqual(self.file.read_bytes(), b"." * 100)
 
-    def test_what_killed_runs_left_beside_it_is_swept_after_36_hours(self):
+    def test_what_killed_runs_left_beside_it_is_swept_after_an_hour(self):
         marked = "seen.tmp.P1R0123456789abcdef"
-        for name, hours in ((marked, 37), ("seen.tmp", 37), ("seen.tmp.P2R0123456789abcdef", 35), ("seen", 37),
-                            ("seen.kept", 37), ("seen2.tmp", 37)):
-            make_older(self.work / name, hours)
+        stays = {"seen.tmp", "seen", "seen.kept", "seen2.tmp.P1R0123456789abcdef", "seen.P1R0123456789abcdef"}
+        for name in (marked, *stays):
+            make_older(self.work / name, 1.1)
+        make_older(self.work / "seen.tmp.P2R0123456789abcdef", 0.9)
         run = programs.run("store_bench", "sweep", str(self.work), "1")
         self.assertEqual((run.status, run.err), (0, b""))
         left = {file.name for file in self.work.iterdir()}
-        self.assertEqual(left, {"seen.tmp.P2R0123456789abcdef", "seen", "seen.kept", "seen2.tmp"})
+        self.assertEqual(left, {"seen.tmp.P2R0123456789abcdef", *stays})

@@ -18,6 +18,9 @@ const STEP_OF_SECONDS_MILLIS: u64 = 1_020;
 /// For how many seconds a folder that changes all the time is listed again.
 const MOST_SECONDS: u64 = 2;
 
+/// After how many entries a pass looks whether the folder has changed.
+const LOOK_EACH: u32 = 4_096;
+
 /// How many times a folder is listed.
 const MOST_LISTINGS: u32 = 100;
 
@@ -105,13 +108,23 @@ impl Sighting {
 }
 
 /// The names that one pass through a folder finds. If names change meanwhile, the system may leave
-/// out a file that is there all the time.
-fn pass_through<R: Files + AllocGlobal + Clone + Drop>(
+/// out a file that is there all the time; and on tmpfs it finds a renamed file again, so a pass
+/// ends early once the folder isn't as it was seen.
+fn pass_through<R: Files + Clock + AllocGlobal + Clone + Drop>(
     rt: &R,
     path: &str,
+    seen: &Sighting,
 ) -> io::Result<Vec<String>> {
     let mut names = Vec::new(rt.alloc());
+    let mut until_look = LOOK_EACH;
     for entry in fs::read_dir(rt, path)? {
+        until_look = until_look.saturating_sub(1);
+        if until_look == 0 {
+            if Sighting::now(rt, path)?.change() != seen.change() {
+                break;
+            }
+            until_look = LOOK_EACH;
+        }
         let entry = match entry {
             Ok(entry) => entry,
             Err(fault) if fault.kind() == ErrorKind::InvalidFilename => continue,
@@ -147,7 +160,7 @@ pub fn list_names<R: Files + Clock + AllocGlobal + Clone + Drop>(
         if wait > Duration::ZERO {
             thread::sleep(rt, wait);
         }
-        let names = pass_through(rt, path)?;
+        let names = pass_through(rt, path, &seen)?;
         let again = Sighting::now(rt, path)?;
         if again.change() == seen.change() {
             let folder = again.folder;

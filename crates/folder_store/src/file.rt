@@ -114,7 +114,7 @@ impl<'a, R: Files + Clock + AllocGlobal + Clone + Drop> HostFile<'a, HostFolder<
     }
 
     /// Removes the files that `replace` of killed runs left beside this one: those that weren't changed
-    /// for 36 hours. What can't be removed stays.
+    /// for an hour. What can't be removed stays.
     pub fn sweep(&self) {
         let name = self.name;
         if let Ok(front) = format!(in self.folder.alloc(); "{name}.tmp") {

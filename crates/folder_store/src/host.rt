@@ -94,7 +94,7 @@ impl<'a, R: Files + Clock + AllocGlobal + Clone + Drop> HostFolder<'a, R> {
     }
 
     /// Removes the files whose names begin with `front` that killed runs left behind: those that
-    /// weren't changed for 36 hours. What can't be removed stays.
+    /// weren't changed for an hour. What can't be removed stays.
     pub fn sweep(&self, front: &str) {
         if let Ok(path) = self.folder_path(self.scratch) {
             let _ = sweep(self.rt, path.as_str(), front);
@@ -130,6 +130,17 @@ impl<'a, R: Files + Clock + AllocGlobal + Clone + Drop> HostFolder<'a, R> {
 
     fn path_of(&self, name: &str) -> io::Result<String> {
         self.file_path(self.folder, name)
+    }
+
+    // The path of a regular file, or of a link to one. Nothing else is opened: a pipe that nobody
+    // writes to would be waited for. The system itself refuses a folder, with its reason.
+    fn regular_path(&self, name: &str) -> io::Result<String> {
+        let path = self.path_of(name)?;
+        let found = fs::metadata(self.rt, path.as_str())?;
+        if !found.is_file() && !found.is_dir() {
+            return Err(io::Error::from(ErrorKind::InvalidInput));
+        }
+        Ok(path)
     }
 
     // The names of the folder's files. A name that begins with a full stop or isn't UTF-8 is skipped,
@@ -182,11 +193,11 @@ impl<'a, R: Files + Clock + AllocGlobal + Clone + Drop> HostFolder<'a, R> {
     }
 
     fn read_all(&self, name: &str) -> io::Result<Vec<u8>> {
-        fs::read(self.rt, self.path_of(name)?)
+        fs::read(self.rt, self.regular_path(name)?)
     }
 
     fn read_edges(&self, name: &str) -> io::Result<Edges> {
-        let mut file = fs::open(self.rt, self.path_of(name)?)?;
+        let mut file = fs::open(self.rt, self.regular_path(name)?)?;
         let size = file.metadata()?.len();
         let mut head = [0u8; 5];
         let mut tail = [0u8; 2];
@@ -201,7 +212,7 @@ impl<'a, R: Files + Clock + AllocGlobal + Clone + Drop> HostFolder<'a, R> {
     fn read_piece(&self, name: &str, start: u64, buf: &mut [u8]) -> io::Result<usize>
         ensures { IfOk result (λ count. count ≤ length buf.new) }
     {
-        let mut file = fs::open(self.rt, self.path_of(name)?)?;
+        let mut file = fs::open(self.rt, self.regular_path(name)?)?;
         let there = file.metadata()?.len().saturating_sub(start);
         let count = there.min(buf.len() as u64) as usize;
         if count > 0 {
@@ -219,7 +230,7 @@ impl<'a, R: Files + Clock + AllocGlobal + Clone + Drop> HostFolder<'a, R> {
         let title = String::from_str(self.rt.alloc(), name)?;
         let mut file = OpenOptions::new()
             .append(true)
-            .open(self.rt, self.path_of(name)?)?;
+            .open(self.rt, self.regular_path(name)?)?;
         let answer = file.write_all(bytes);
         self.changed = Some(Changed { file, name: title });
         answer
@@ -229,7 +240,7 @@ impl<'a, R: Files + Clock + AllocGlobal + Clone + Drop> HostFolder<'a, R> {
         let title = String::from_str(self.rt.alloc(), name)?;
         let file = OpenOptions::new()
             .write(true)
-            .open(self.rt, self.path_of(name)?)?;
+            .open(self.rt, self.regular_path(name)?)?;
         if file.metadata()?.len() < len {
             return Err(io::Error::from(ErrorKind::InvalidInput));
         }
@@ -246,7 +257,7 @@ impl<'a, R: Files + Clock + AllocGlobal + Clone + Drop> HostFolder<'a, R> {
                 return changed.file.sync_all();
             }
         }
-        fs::open(self.rt, self.path_of(name)?)?.sync_all()
+        fs::open(self.rt, self.regular_path(name)?)?.sync_all()
     }
 
     fn sync_names(&self) -> io::Result<()> {

@@ -76,7 +76,7 @@ impl<'a, R: Files + Clock + AllocGlobal + Clone + Drop> FolderMaildir<HostFolder
     }
 
     /// Removes from `tmp` the files of an account that killed runs left behind: those that weren't
-    /// changed for 36 hours. What can't be removed stays.
+    /// changed for an hour. What can't be removed stays.
     pub fn sweep(&self, account: &AccountId) {
         let digits = account.as_str();
         if let Ok(front) = format!(in self.alloc; "{digits}.") {

@@ -31,3 +31,17 @@ impl ProcessMark {
         format!(in alloc; "{name}.P{process}R{random:016x}")
     }
 }
+
+/// Whether a name ends in the mark of a process, as `marked` writes it.
+pub fn is_marked(name: &str) -> bool {
+    let Some((_, mark)) = name.rsplit_once(".P") else {
+        return false;
+    };
+    let Some((process, random)) = mark.split_once('R') else {
+        return false;
+    };
+    process.bytes().all(|octet| octet.is_ascii_digit())
+        && process.parse::<u32>().is_ok()
+        && random.len() == 16
+        && random.bytes().all(|octet| octet.is_ascii_digit() || (b'a'..=b'f').contains(&octet))
+}

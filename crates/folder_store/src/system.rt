@@ -1,6 +1,7 @@
 //! What the devices of the file system share: making a file, flushing a folder, and removing what
 //! killed runs left behind.
 
+use crate::process_mark::is_marked;
 use std::fs::{Metadata, OpenFile, OpenOptions};
 use std::io::ErrorKind;
 use std::os::unix::fs::OpenOptionsExt;
@@ -8,9 +9,9 @@ use std::rt::Files;
 use std::time::{Clock, SystemTime};
 use std::{fs, io};
 
-/// How many seconds a file that is being written goes without a change before it counts as left
-/// behind: 36 hours, as the Maildir format says of `tmp`.
-const LEFT_BEHIND_SECONDS: u64 = 129_600;
+/// How many seconds nothing is written to a file before it counts as left behind. A run at work waits
+/// for the server for three minutes at most.
+const LEFT_BEHIND_SECONDS: u64 = 3_600;
 
 /// Makes an empty file; fails if there is one. Its owner alone can read and write it (mode 0600).
 pub fn make_file<R: Files>(rt: &R, path: &str) -> io::Result<R::File> {
@@ -48,8 +49,11 @@ pub fn name_in(path: &str) -> &str {
     }
 }
 
-/// Whether a file was changed last so long ago that no run is writing it.
+/// Whether this is a regular file that was changed last so long ago that no run is writing it.
 fn is_left_behind(file: &Metadata, now: SystemTime) -> bool {
+    if !file.is_file() {
+        return false;
+    }
     match file.modified() {
         Ok(modified) => match now.duration_since(modified) {
             Ok(age) => age.as_secs() >= LEFT_BEHIND_SECONDS,
@@ -59,8 +63,9 @@ fn is_left_behind(file: &Metadata, now: SystemTime) -> bool {
     }
 }
 
-/// Removes the files of a folder whose names begin with `front` and that were left behind. One that
-/// can't be looked at or removed stays.
+/// Removes the files of a folder whose names begin with `front` and end in the mark of a process, and
+/// that were left behind. One that can't be looked at or removed stays. No message that was delivered
+/// has such a name, so none is lost if the folder is a link to one of messages.
 pub fn sweep<R: Files + Clock + AllocGlobal + Clone + Drop>(
     rt: &R,
     folder: &str,
@@ -73,7 +78,8 @@ pub fn sweep<R: Files + Clock + AllocGlobal + Clone + Drop>(
             Err(fault) if fault.kind() == ErrorKind::InvalidFilename => continue,
             Err(fault) => return Err(fault),
         };
-        if !entry.file_name().starts_with(front) {
+        let name = entry.file_name();
+        if !name.starts_with(front) || !is_marked(name) {
             continue;
         }
         if let Ok(file) = entry.metadata() {

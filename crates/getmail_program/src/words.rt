@@ -95,7 +95,8 @@ fn command<'a>(alloc: Global) -> Result<Command<'a>, AllocError>
     let command = with_loudness(alloc, command)?;
     let command = with_choices(alloc, command)?;
     let command = add(command, long_flag(alloc, "pretend", PRETEND))?;
-    add(command, long_flag(alloc, "rehearse", REHEARSE))
+    // A help for developers: getmail(1) explains it.
+    add(command, long_flag(alloc, "rehearse", REHEARSE).hide(true))
 }
 
 /// The flags in clap's matches.

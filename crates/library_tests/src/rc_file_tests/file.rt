@@ -62,12 +62,14 @@ fn reads(rt: &(impl Abort + AllocGlobal), front: &str, rows: &[(&str, &str)]) ->
 
 /// The text of docs/getmailrc.sample; tests/test_sample.py compares the two.
 const SAMPLE: &str =
-    "# A sample rc file. A line that begins with '#' or ';', after blanks or none, is a comment.
+    "# A sample rc file. A comment has a line of its own, which begins with '#' or ';', after blanks or none.
 # Lines may end in LF or CR LF. A value goes on over lines that begin with a blank.
 
 [retriever]
 # The one type of retriever that there is.
 type = SimplePOP3Retriever
+# getmail doesn't speak TLS. If the server wants it, as on port 995, set up a tunnel (getmail(1), TLS)
+# and put the tunnel here: server = 127.0.0.1 and port = 11995.
 server = mail.example.org
 # port = 110
 username = fred
@@ -79,7 +81,8 @@ use_apop = no
 # A Maildir's path ends in '/'. It has to be there, with its folders tmp, new and cur.
 type = Maildir
 path = ~/Maildir/
-# Or a file in the form mboxrd, which has to be there, and may be empty:
+# Or a file in the form mboxrd, which has to be there, and may be empty. Each account needs its own,
+# and no other program may write it while getmail works.
 # type = Mboxrd
 # path = ~/mail/inbox
 
@@ -87,12 +90,15 @@ path = ~/Maildir/
 ; With true all mail crosses the network in each run, and max_messages_per_session never gets past
 ; the first so many. With false only new mail does. (1, yes, true, on; 0, no, false, off.)
 read_all = false
-; Delete from the server what was delivered: in the same run, or so many days after it was first
-; listed; 0 days is never.
+; On: what was delivered is deleted from the server in the same run.
 delete = off
-delete_after = 7
-; Skip larger messages, in octets, and fetch at most so many in a run; 0 is no limit.
-max_message_size = 10000000
+; With 7, what was delivered is deleted by the first run that comes 7 days or more after a run first
+; listed it. 0 is never.
+delete_after = 0
+; With 10000000, messages of more than so many octets aren't fetched and stay on the server. 0 is no
+; limit.
+max_message_size = 0
+; With 100, a run fetches at most so many messages, and the next run the next ones. 0 is no limit.
 max_messages_per_session = 0
 ; 0 reports nothing, 1 what was done, 2 what was skipped too.
 verbose = 1
@@ -103,7 +109,7 @@ fn reads_whole_files(rt: HostRuntime) -> Result<(), Fail> {
     let rows = [
         (
             SAMPLE,
-            "fred:secret@mail.example.org:110 Maildir ~/Maildir/ false false 7 10000000 0 1",
+            "fred:secret@mail.example.org:110 Maildir ~/Maildir/ false false 0 0 0 1",
         ),
         (
             "[retriever]\ntype = SimplePOP3Retriever\nserver = mail.example.org\nusername = fred\n\

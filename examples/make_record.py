@@ -1,0 +1,100 @@
+"""Makes a record of getmail out of another program's list of unique-ids, so that nothing is fetched again.
+
+The scripts from-getmail6.py, from-mpop.py and from-fetchmail.py read such lists. If one line of a list is anything else
+than it should be, nothing is written.
+"""
+
+import argparse
+import hashlib
+import os
+import sys
+import time
+
+HEADER = b"getmail-seen 2\n"
+
+
+class BadLine(Exception):
+    """The number of a line that no such list has."""
+
+
+class NoAccount(Exception):
+    """Why it isn't clear which of the lists in a file is meant."""
+
+
+def is_legal(uid):
+    """Whether a server may have given this unique-id (RFC 1939, section 7)."""
+    return 1 <= len(uid) <= 70 and all(0x21 <= octet <= 0x7E for octet in uid)
+
+
+def lines_of(content):
+    """The lines of a file, without their ends, each with its number."""
+    lines = content.split(b"\n")
+    if not lines[-1]:
+        lines.pop()
+    return list(enumerate((line.removesuffix(b"\r") for line in lines), 1))
+
+
+def chosen(lists, username, account):
+    """The list of the account `USER@HOST`, or the only one whose user is USERNAME. The keys of `lists` are (user, host)."""
+    named = {user + b"@" + host: (user, host) for user, host in lists}
+    if account is not None:
+        fitting = [named[account]] if account in named else []
+    else:
+        fitting = [key for key in lists if key[0] == username]
+    if len(fitting) == 1:
+        return lists[fitting[0]]
+    if not lists:
+        raise NoAccount("has no list of unique-ids")
+    there = ", ".join(sorted(name.decode(errors="replace") for name in named))
+    raise NoAccount(f"has the lists of {there}; name one of them with --account USER@HOST")
+
+
+def write(record, seconds):
+    """Writes a record that isn't there yet; a write that fails leaves no file."""
+    file = os.open(record, os.O_WRONLY | os.O_CREAT | os.O_EXCL, 0o600)
+    try:
+        with os.fdopen(file, "wb") as out:
+            out.write(HEADER)
+            for uid, second in seconds.items():
+                out.write(b"%s %d 1\n" % (uid, second))
+            out.flush()
+            os.fsync(out.fileno())
+    except BaseException:
+        os.unlink(record)
+        raise
+
+
+def run(about, kind, read, has_accounts):
+    """Reads the command line and the list, and writes the record.
+
+    `read` gets the file's octets, the second now, and the user name and `--account` as octets. It answers with the second
+    at which each unique-id was first seen.
+    """
+    words = argparse.ArgumentParser(description=about)
+    words.add_argument("-g", metavar="DIR", default=os.path.expanduser("~/.getmail"), help="getmail's folder [~/.getmail]")
+    words.add_argument("server", help="as in the rc file of getmail, letter by letter")
+    words.add_argument("port", type=int)
+    words.add_argument("username")
+    words.add_argument("list", help=f"the file: {kind}")
+    words.set_defaults(account=None)
+    if has_accounts:
+        words.add_argument("--account", metavar="USER@HOST", help="the account in that file, if it isn't USERNAME's only one")
+    asked = words.parse_args()
+
+    account = f"{asked.server}\0{asked.port}\0{asked.username}".encode()
+    record = os.path.join(asked.g, "seen-" + hashlib.sha256(account).hexdigest())
+    try:
+        with open(asked.list, "rb") as file:
+            content = file.read()
+        seconds = read(content, int(time.time()), os.fsencode(asked.username), asked.account and os.fsencode(asked.account))
+        write(record, seconds)
+    except BadLine as line:
+        sys.exit(f"{asked.list}: line {line} is no line of {kind}; nothing was written")
+    except NoAccount as reason:
+        sys.exit(f"{asked.list} {reason}; nothing was written")
+    except FileExistsError:
+        sys.exit(f"{record} is there already: getmail has run for this account, and its record stays as it is. To start "
+                 "from the other program's list instead, move the record away and run this again")
+    except OSError as error:
+        sys.exit(f"{error.filename or record}: {error.strerror}; nothing was written")
+    print(f"{record}: {len(seconds)} messages")
