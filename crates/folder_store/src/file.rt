@@ -95,7 +95,7 @@ impl<'a, R: Files + Clock + AllocGlobal + Clone + Drop> HostFile<'a, HostFolder<
         ensures { ⟦<HostFile<'a, HostFolder<'a, R>> as FlatFile>⟧.stored result ≡ unknown_file }
     {
         HostFile::over(
-            HostFolder::around(rt, path, mark),
+            HostFolder::around(rt, path, mark, false),
             name_in(path),
             Appending::AtOnce,
         )
@@ -107,7 +107,7 @@ impl<'a, R: Files + Clock + AllocGlobal + Clone + Drop> HostFile<'a, HostFolder<
         ensures { ⟦<HostFile<'a, HostFolder<'a, R>> as FlatFile>⟧.stored result ≡ unknown_file }
     {
         HostFile::over(
-            HostFolder::around(rt, path, mark),
+            HostFolder::around(rt, path, mark, true),
             name_in(path),
             Appending::ByPages,
         )
