@@ -7,7 +7,7 @@ ghost use Rattle.folder_store.specs.FileFolder.{unknown_directory};
 use crate::device::FileFolder;
 use crate::process_mark::ProcessMark;
 use crate::system::{flush_folder, folder_of, make_file, sweep};
-use folder_names::list_names;
+use folder_names::{FolderNames, list_names};
 use mail_store::{Edges, StoreFault};
 use std::alloc::Global;
 use std::fs::{Metadata, OpenFile, OpenOptions};
@@ -160,12 +160,26 @@ impl<'a, R: Files + Clock + AllocGlobal + Clone + Drop> HostFolder<'a, R> {
     // The names of the folder's files. A name that begins with a full stop or isn't UTF-8 is skipped,
     // and so is a folder. The system is asked what each name stands for only if a folder may be
     // among them, since that takes longer than all else.
-    fn read_names(&self) -> io::Result<Vec<String>> {
-        let found = list_names(self.rt, self.folder_path(self.folder)?.as_str())?;
+    pub(crate) fn read_names(&self) -> io::Result<FolderNames> {
+        let mut found = list_names(self.rt, self.folder_path(self.folder)?.as_str())?;
         if may_hold_folders(&found.folder) {
-            return self.files_among(found.names);
+            found.names = self.files_among(found.names)?;
         }
-        Ok(found.names)
+        Ok(found)
+    }
+
+    // The folder's metadata.
+    pub(crate) fn look_at_folder(&self) -> io::Result<Metadata> {
+        fs::metadata(self.rt, self.folder_path(self.folder)?)
+    }
+
+    // Whether a name leads to a file.
+    pub(crate) fn has(&self, name: &str) -> Result<bool, StoreFault> {
+        match told(self.look_up(name)) {
+            Ok(_) => Ok(true),
+            Err(StoreFault::Missing) => Ok(false),
+            Err(fault) => Err(fault),
+        }
     }
 
     // The names that stand for no folder. What has vanished counts as a file: a reader may have
@@ -299,7 +313,7 @@ impl<'a, R: Files + Clock + AllocGlobal + Clone + Drop> HostFolder<'a, R> {
     }
 
     // The folder is opened once, and again after a fault.
-    fn sync_names(&mut self) -> io::Result<()> {
+    pub(crate) fn sync_names(&mut self) -> io::Result<()> {
         let folder = match self.names.take() {
             Some(folder) => folder,
             None => fs::open(self.rt, self.folder_path(self.folder)?)?,
@@ -327,7 +341,7 @@ fn is_folder(answer: io::Result<Metadata>) -> io::Result<bool> {
 }
 
 /// What the system answered.
-fn told<T>(answer: io::Result<T>) -> Result<T, StoreFault>
+pub(crate) fn told<T>(answer: io::Result<T>) -> Result<T, StoreFault>
     ensures same { IfOk result (λ value. answer ≡ Ok value) }
     ensures fault { IfErr result IsDeviceFault }
 {
@@ -345,18 +359,6 @@ impl<'a, R: Files + Clock + AllocGlobal + Clone + Drop> FileFolder for HostFolde
 
     // Of the file system nothing is known.
     ghost sound = { λ _. ⊥ };
-
-    fn list(&mut self) -> Result<Vec<String>, StoreFault> {
-        told(self.read_names())
-    }
-
-    fn has(&mut self, name: &str) -> Result<bool, StoreFault> {
-        match told(self.look_up(name)) {
-            Ok(_) => Ok(true),
-            Err(StoreFault::Missing) => Ok(false),
-            Err(fault) => Err(fault),
-        }
-    }
 
     fn make(&mut self, name: &str) -> Result<(), StoreFault> {
         told(self.make_marked(name))
