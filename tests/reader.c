@@ -4,9 +4,9 @@
        READER_MAILDIR=Maildir READER_CALL=3 READER_NOTE=note LD_PRELOAD=./reader.so PROGRAM ..
 
    Just before the third call, here, by which the program reads entries of a folder, each file of the Maildir's `new`
-   is moved to `cur`, and each file of `cur` whose name ends in `:2,` gets `:2,S` there, and the other way round. The
-   file `note` is made at that moment, so that the caller can tell a run with fewer calls. With READER_CALL=0 this is
-   done before each call. */
+   is moved to `cur`, and each file of `cur` whose name ends in `:2,` gets `:2,S` there, and the other way round. With
+   READER_BACK each file of `cur` is put back into `new` instead, without flags. The file `note` is made at that moment,
+   so that the caller can tell a run with fewer calls. With READER_CALL=0 this is done before each call. */
 
 #define _GNU_SOURCE
 #include <dirent.h>
@@ -49,7 +49,7 @@ static void flag(const char *name, char other[PATH_MAX])
     snprintf(other, PATH_MAX, "%.*s:2,%s", base, name, flags && strchr(flags, 'S') ? "" : "S");
 }
 
-static void move_all(const char *maildir, const char *part)
+static void move_all(const char *maildir, const char *part, const char *target)
 {
     static char *names[MOST_FILES];
     char folder[PATH_MAX], from[2 * PATH_MAX], to[2 * PATH_MAX], other[PATH_MAX];
@@ -58,9 +58,12 @@ static void move_all(const char *maildir, const char *part)
     snprintf(folder, sizeof folder, "%s/%s", maildir, part);
     count = names_in(folder, names);
     for (place = 0; place < count; place++) {
-        flag(names[place], other);
+        if (strcmp(target, "new") == 0)
+            snprintf(other, sizeof other, "%.*s", (int)strcspn(names[place], ":"), names[place]);
+        else
+            flag(names[place], other);
         snprintf(from, sizeof from, "%s/%s", folder, names[place]);
-        snprintf(to, sizeof to, "%s/cur/%s", maildir, other);
+        snprintf(to, sizeof to, "%s/%s/%s", maildir, target, other);
         if (rename(from, to) != 0)
             abort();
         free(names[place]);
@@ -74,9 +77,13 @@ static void read_mail(void)
 
     if (descriptor >= 0)
         close(descriptor);
+    if (getenv("READER_BACK")) {
+        move_all(maildir, "cur", "new");
+        return;
+    }
     /* What was in `cur` first, so that no file is moved twice. */
-    move_all(maildir, "cur");
-    move_all(maildir, "new");
+    move_all(maildir, "cur", "cur");
+    move_all(maildir, "new", "cur");
 }
 
 ssize_t getdents64(int folder, void *entries, size_t size)

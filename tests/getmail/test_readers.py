@@ -24,21 +24,23 @@ def other_name(name):
     return f"{base}:2,{'' if flags else 'S'}"
 
 
-def burst(maildir, part, order):
-    """Marks each message of a folder as read, or as unread if it is read; a new one is moved to `cur`."""
+def burst(maildir, part, target, order):
+    """Marks each message of a folder as read, or as unread if it is read; a new one is moved to `cur`. Or puts each one
+    back into `new`."""
     for name in order:
-        os.rename(f"{maildir}/{part}/{name}", f"{maildir}/cur/{other_name(name)}")
+        other = name.partition(":")[0] if target == "new" else other_name(name)
+        os.rename(f"{maildir}/{part}/{name}", f"{maildir}/{target}/{other}")
 
 
 def read(maildir, asked):
-    """The reader's process: for each part and moment that it gets, one burst at that moment."""
+    """The reader's process: for each folder, target and moment that it gets, one burst at that moment."""
     while (job := asked.recv()) is not None:
-        part, moment = job
+        part, target, moment = job
         order = os.listdir(f"{maildir}/{part}")
         asked.send("ready")
         asked.recv()
         time.sleep(moment)
-        burst(maildir, part, order)
+        burst(maildir, part, target, order)
         asked.send("done")
 
 
@@ -114,12 +116,14 @@ class Bursts(Reading):
         self.server.give = plain
         return asked[0] - begun
 
-    def check_bursts(self, part):
+    def check_bursts(self, part, target, keeps_record=True):
         self.put_back(part)
         length = self.time_to_first_text()
         for number in range(RUNS):
             with self.subTest(number=number):
-                self.asking.send((part, length * number / RUNS))
+                if not keeps_record:
+                    self.account.record.unlink(missing_ok=True)
+                self.asking.send((part, target, length * number / RUNS))
                 self.hear("ready")
                 self.asking.send("go")
                 try:
@@ -127,14 +131,39 @@ class Bursts(Reading):
                 finally:
                     self.hear("done")
                 self.check_run(run)
-            if part == "new" or self.count_held() != COUNT:
+            if part != target or self.count_held() != COUNT:
                 self.put_back(part)
 
     def test_messages_that_are_marked_as_read(self):
-        self.check_bursts("cur")
+        self.check_bursts("cur", "cur")
 
     def test_messages_that_are_moved_from_new(self):
-        self.check_bursts("new")
+        self.check_bursts("new", "cur")
+
+    def test_messages_that_are_put_back_into_new(self):
+        self.check_bursts("cur", "new")
+
+    def test_messages_that_are_put_back_while_there_is_no_record(self):
+        self.check_bursts("cur", "new", keeps_record=False)
+
+
+class TakenAway(Reading):
+    def test_a_file_that_is_taken_away_during_a_session(self):
+        """The session stores what isn't held, and is good; without a record the next one stores that message again."""
+        first, last = (self.account.maildir / "cur" / f"{self.account.name(*self.messages[place])}:2," for place in (0, -1))
+        last.unlink()
+        plain = self.server.give
+
+        def give(session, say, octets):
+            first.unlink(missing_ok=True)
+            plain(session, say, octets)
+
+        self.server.give = give
+        self.assertEqual(self.run_once(), programs.Run(0, b"", b""))
+        self.assertEqual(self.count_held(), COUNT - 1)
+        self.server.give = plain
+        self.account.record.unlink()
+        self.check_run(self.run_once())
 
 
 class WithReader(Reading):
@@ -147,12 +176,12 @@ class WithReader(Reading):
         cls.library = library.__enter__()
         cls.addClassCleanup(library.__exit__, None, None, None)
 
-    def read_at(self, call):
+    def read_at(self, call, **changes):
         """A run whose reader works before that call, and whether there was such a call."""
         note = self.account.home / "note"
         note.unlink(missing_ok=True)
         run = self.run_once(LD_PRELOAD=str(self.library), READER_MAILDIR=str(self.account.maildir),
-                            READER_CALL=str(call), READER_NOTE=str(note))
+                            READER_CALL=str(call), READER_NOTE=str(note), **changes)
         return run, note.exists()
 
     def check_restless(self):
@@ -164,11 +193,13 @@ class WithReader(Reading):
 
 
 class EachCall(WithReader):
-    def check_each_call(self, part):
+    def check_each_call(self, part, keeps_record=True, **changes):
         for call in range(1, 200):
             with self.subTest(call=call):
                 self.put_back(part)
-                run, came = self.read_at(call)
+                if not keeps_record:
+                    self.account.record.unlink(missing_ok=True)
+                run, came = self.read_at(call, **changes)
                 self.check_run(run)
             if not came:
                 # Both folders are read, each with a last call that finds nothing more.
@@ -181,6 +212,14 @@ class EachCall(WithReader):
 
     def test_messages_that_are_moved_from_new(self):
         self.check_each_call("new")
+
+    def test_messages_that_are_put_back_into_new(self):
+        """Also between the listing of `new` and that of `cur`, so that neither has them."""
+        self.check_each_call("cur", READER_BACK="1")
+
+    def test_messages_that_are_put_back_while_there_is_no_record(self):
+        self.account.rcfile.write_text(self.account.rcfile.read_text() + "read_all = false\n")
+        self.check_each_call("cur", keeps_record=False, READER_BACK="1")
 
     def test_a_reader_that_never_rests(self):
         self.check_restless()

@@ -35,6 +35,11 @@ class Reader:
         for name in os.listdir(self.new):
             os.rename(os.path.join(self.new, name), os.path.join(self.cur, name + b":2,"))
 
+    def put_back(self):
+        """Moves every message from `cur` back to `new`."""
+        for name in os.listdir(self.cur):
+            os.rename(os.path.join(self.cur, name), os.path.join(self.new, name.split(b":")[0]))
+
 
 class Readers(unittest.TestCase):
     def setUp(self):
@@ -88,9 +93,15 @@ class WhileItIsListed(Readers):
             for turn in range(8):
                 with self.subTest(turn):
                     self.check_burst(service, uids, 0.004 * turn, self.reader.take)
-                for name in os.listdir(self.reader.cur):
-                    os.rename(os.path.join(self.reader.cur, name),
-                              os.path.join(self.reader.new, name.split(b":")[0]))
+                self.reader.put_back()
+
+    def test_all_are_put_back_into_new_in_one_burst(self):
+        uids = self.fill("cur", MANY, ":2,")
+        with Service(self.maildir) as service:
+            for turn in range(8):
+                with self.subTest(turn):
+                    self.check_burst(service, uids, 0.004 * turn, self.reader.put_back)
+                self.reader.take()
 
     def test_a_file_that_the_system_leaves_out(self):
         """It was renamed while its folder was listed: the folder is listed again."""
@@ -104,16 +115,17 @@ class WhileItIsListed(Readers):
                     self.assertIn(b" " + part.encode() + b"\r\n", client.ask_lines(b"UIDL"))
 
     def test_a_file_that_moves_between_the_folders(self):
-        """It is taken from `new` just before the one or the other folder is listed."""
-        for part in ("new", "cur"):
-            with self.subTest(part), Maildir() as self.maildir:
-                path = self.maildir.add("new", "a", b"one\n")
-                moved = self.maildir.folder / "cur" / "a:2,S"
-                meddling = {"from": path, "to": moved, "at": f"{self.maildir.folder / part}/"}
-                with self.meddled(**meddling) as service, service.client() as client:
-                    self.assertEqual(client.log_in(), b"+OK 1 messages\r\n")
-                    self.assertEqual(client.ask_lines(b"RETR 1"), b"+OK 5 octets\r\none\r\n.\r\n")
-                self.assertTrue(moved.exists())
+        """It is taken from `new`, or put back into it, just before the one or the other folder is listed."""
+        for origin, name, target, other in (("new", "a", "cur", "a:2,S"), ("cur", "a:2,S", "new", "a")):
+            for part in ("new", "cur"):
+                with self.subTest(f"{target} before {part}"), Maildir() as self.maildir:
+                    path = self.maildir.add(origin, name, b"one\n")
+                    moved = self.maildir.folder / target / other
+                    meddling = {"from": path, "to": moved, "at": f"{self.maildir.folder / part}/"}
+                    with self.meddled(**meddling) as service, service.client() as client:
+                        self.assertEqual(client.log_in(), b"+OK 1 messages\r\n")
+                        self.assertEqual(client.ask_lines(b"RETR 1"), b"+OK 5 octets\r\none\r\n.\r\n")
+                    self.assertTrue(moved.exists())
 
     def test_a_folder_that_finds_no_rest(self):
         """It is changed whenever it is listed: the maildrop is refused within some seconds, and served afterwards."""

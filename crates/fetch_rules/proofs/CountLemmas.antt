@@ -54,7 +54,7 @@ none_among : (uid : List ℕ) (rows : List Row) → AllByRecursion (λ other. is
 none_among uid [] none = refl
 none_among uid (row ∷ rows) none = or_from _ _ none.0 (none_among uid rows none.1)
 
-ids_apart : (rows : List Row) → IsRecord rows → AreApart (map uid_of rows)
+pub ids_apart : (rows : List Row) → IsRecord rows → AreApart (map uid_of rows)
 ids_apart [] is = tt
 ids_apart (row ∷ rows) is = (none_among row.uid rows (apart row.uid row rows is (test_from_same row.uid row.uid refl)), ids_apart rows (rest_of row rows is))
 
@@ -82,7 +82,7 @@ changed_apart (row ∷ old) (next ∷ new) are = by (next.delivered && not row.d
 abbrev pub listed : List Item → List (List ℕ)
 listed listing = map (λ (item : Item). item.uid) listing
 
-flagged_listed : (listing : List Item) (held : List Bool) (uid : List ℕ) → is_flagged listing held uid ≡ true → has_id (listed listing) uid ≡ true
+pub flagged_listed : (listing : List Item) (held : List Bool) (uid : List ℕ) → is_flagged listing held uid ≡ true → has_id (listed listing) uid ≡ true
 flagged_listed [] held uid flagged = cc
 flagged_listed (item ∷ listing) [] uid flagged = cc
 flagged_listed (item ∷ listing) (flag ∷ held) uid flagged = elim (or_cases (flag && bytes_eq item.uid uid) (is_flagged listing held uid) flagged) [

@@ -29,7 +29,7 @@ AreDeliveredTo-more rows place row was is delivered = λ k d within.
 pub AreDeliveredTo-all : (rows : List Row) (place : ℕ) → AreDeliveredTo rows place → length rows ≤ place → AreDelivered rows
 AreDeliveredTo-all rows place was past = λ k d inside. was k d (omega (arith, past, inside))
 
-same_row : (row : Row) (also : Bool) → row.delivered ≡ true → with_delivered also row ≡ row
+pub same_row : (row : Row) (also : Bool) → row.delivered ≡ true → with_delivered also row ≡ row
 same_row row also is = ap (λ (d : Bool). let r : Row = record row { delivered = d || also } in r) is ∙ ap (λ (d : Bool). let r : Row = record row { delivered = d } in r) (sym is)
 
 -- nothing is left to be set

@@ -58,7 +58,7 @@ or_not true b = refl
 or_not false true = refl
 or_not false false = refl
 
-has_id-new_ids : (rows : List Row) (listing : List Item) (uid : List ℕ) → has_id (new_ids rows listing) uid ≡ (has_item listing uid && not (has_row rows uid))
+pub has_id-new_ids : (rows : List Row) (listing : List Item) (uid : List ℕ) → has_id (new_ids rows listing) uid ≡ (has_item listing uid && not (has_row rows uid))
 has_id-new_ids rows listing uid =
     has_id-kept (λ id. not (has_row rows id)) (distinct_ids (map (λ (item : Item). item.uid) listing)) uid
     ∙ ap (λ (b : Bool). b && not (has_row rows uid)) (has_id-distinct_ids uid (map (λ (item : Item). item.uid) listing) ∙ any-map (bytes_eq uid) (λ (item : Item). item.uid) listing)
@@ -83,7 +83,7 @@ held_table false true L X p = refl
 held_table false false L X p = p
 
 -- what is held is listed
-held_is_listed : (listing : List Item) (held : List Bool) (uid : List ℕ) → is_flagged listing held uid ≡ (has_item listing uid && is_flagged listing held uid)
+pub held_is_listed : (listing : List Item) (held : List Bool) (uid : List ℕ) → is_flagged listing held uid ≡ (has_item listing uid && is_flagged listing held uid)
 held_is_listed [] held uid = refl
 held_is_listed (item ∷ items) [] uid = sym (and-false (has_item (item ∷ items) uid))
 held_is_listed (item ∷ items) (flag ∷ held) uid =

@@ -13,6 +13,7 @@ mod IdLemmas
 mod IdSetLemmas
 mod JoinLemmas
 mod JudgedLemmas
+mod KnownLemmas
 mod LawLemmas
 mod LineLemmas
 mod MergeLemmas

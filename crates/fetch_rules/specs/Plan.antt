@@ -1,5 +1,5 @@
 -- What is done with each message of a listing.
-use Rattle.std.specs.Prelude.{ℕ, Bool, ◌&&◌, ◌||◌, ◌==◌, List, map, filter, zip, unwrap_or}
+use Rattle.std.specs.Prelude.{◌≡◌, ℕ, Bool, false, ◌&&◌, ◌||◌, ◌==◌, List, map, filter, zip, unwrap_or}
 use Rattle.std.specs.List.{list_any}
 use Rattle.mail_terms.specs.Listing.{Item, numbered, is_first, is_last}
 use Rattle.fetch_rules.specs.Record.{Row, is_delivered, first_seen_of}
@@ -31,6 +31,10 @@ step_of settings rows listing now message =
 -- the steps, one for each message, in order
 abbrev pub planned : Settings → List Row → List Item → ℕ → List Step
 planned settings rows listing now = map (step_of settings rows listing now) (numbered listing)
+
+-- a step neither fetches nor deletes
+abbrev pub IsQuiet : Step → Type 0
+IsQuiet step = (step.retrieve ≡ false) × (step.delete ≡ false)
 
 -- the messages that steps fetch, in order
 abbrev pub retrieved : List Step → List Item → List (ℕ × Item)

@@ -1,11 +1,11 @@
 //! Laws of listings, the record and plans, for the crates above: a function here does nothing, and its
 //! contract is the law.
 
-ghost use Rattle.std.specs.Prelude.{◌≡◌, ℕ, ◌&&◌, ◌||◌, Bool, List, [], bytes_eq};
+ghost use Rattle.std.specs.Prelude.{◌≡◌, ℕ, ◌&&◌, ◌||◌, Bool, true, List, [], All, bytes_eq};
 ghost use Rattle.mail_terms.specs.Listing.{Item, Joins, has_item, is_flagged};
 ghost use Rattle.fetch_rules.specs.Laws.{FetchesFirsts};
 ghost use Rattle.fetch_rules.specs.Plan.{planned, retrieved};
-ghost use Rattle.fetch_rules.specs.Record.{Row, has_row, is_delivered, marked, merged};
+ghost use Rattle.fetch_rules.specs.Record.{Row, IsRecord, has_row, is_delivered, marked, merged};
 ghost use Rattle.fetch_rules.specs.Wanted.{wanted};
 
 use mail_terms::{ScanRow, UidRow};
@@ -33,6 +33,17 @@ pub fn held_is_delivered()
 pub fn listed_has_row()
     ensures { (rows : List Row) (listing : List Item) (held : List Bool) (now : ℕ) (uid : List ℕ)
         → has_row (merged rows listing held now) uid ≡ has_row rows uid || has_item listing uid }
+{}
+
+/// A merge of a listing whose ids are all recorded as delivered changes nothing, whatever is held.
+pub fn known_listings_change_nothing()
+    ensures { (rows : List Row) (listing : List Item) (held : List Bool) (now : ℕ) → IsRecord rows
+        → All (λ (item : Item). is_delivered rows item.uid ≡ true) listing → merged rows listing held now ≡ rows }
+{}
+
+/// An id that is recorded as delivered has a row.
+pub fn delivered_has_row()
+    ensures { (rows : List Row) (uid : List ℕ) → is_delivered rows uid ≡ true → has_row rows uid ≡ true }
 {}
 
 /// After a mark an id is recorded as delivered if it was before, or has a row and is the one that

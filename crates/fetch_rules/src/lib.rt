@@ -12,8 +12,9 @@ mod seen;
 mod steps;
 
 pub use laws::{
-    firsts_are_fetched, held_is_delivered, listed_has_row, marked_is_delivered, marked_keeps_rows,
-    plans_fetch_wanted, rows_join_in_one_way,
+    delivered_has_row, firsts_are_fetched, held_is_delivered, known_listings_change_nothing,
+    listed_has_row, marked_is_delivered, marked_keeps_rows, plans_fetch_wanted,
+    rows_join_in_one_way,
 };
 pub use mail_terms::{
     Listing, ListingFault, MESSAGE_LIMIT, ScanRow, UidRow, have_legal_ids, is_legal_id,
@@ -26,4 +27,4 @@ pub use seen::{
     Intent, Seen, SeenFault, appended_counts, bytes_have_one_meaning, bytes_stand, cut_is_ignored,
     files_stand_for_one_record, older_files_are_read, open_intents_have_rows,
 };
-pub use steps::{SECONDS_PER_DAY, Step, distinct_messages_are_filtered, plan};
+pub use steps::{SECONDS_PER_DAY, Step, ask_nothing, distinct_messages_are_filtered, plan, plan_of_known};

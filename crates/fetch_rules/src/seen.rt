@@ -1,6 +1,6 @@
 //! The record: which messages of a maildrop were seen, since when, and whether they were delivered.
 
-ghost use Rattle.std.specs.Prelude.{◌≡◌, ◌≢◌, ◌&&◌, ◌||◌, not, true, Some, None, length, OnErr, OnOk, IfOk, IfErr};
+ghost use Rattle.std.specs.Prelude.{◌≡◌, ◌≢◌, ◌&&◌, ◌||◌, ◌↔◌, not, true, All, IsTrue, Some, None, length, OnErr, OnOk, IfOk, IfErr};
 ghost use Rattle.std.specs.Bool.{OnTrue, OnFalse};
 ghost use Rattle.fetch_rules.specs.Record.{IsRecord, empty, has_row, is_delivered, first_seen_of, marked, merged};
 ghost use Rattle.fetch_rules.specs.Intents.{ReadAs, IsNoneOrOf, intent_of, intent_in, has_intent, is_older, closed_rows};
@@ -268,6 +268,20 @@ impl<H: BuildHasher> Seen<H> {
         ensures { result ≡ is_delivered self.now.rows uid.now }
     {
         self.rows.is_delivered(uid)
+    }
+
+    /// Whether each id of a listing is recorded as delivered.
+    pub fn knows(&self, listing: &Listing) -> bool
+        ensures known { IsTrue result ↔ All (λ item. is_delivered self.now.rows item.uid ≡ true) listing.now }
+        ensures is_record { IsRecord self.now.rows }
+    {
+        let _ = self.rows.len();
+        for i in 0..listing.len() {
+            if !self.is_delivered(listing.uid(i)) {
+                return false;
+            }
+        }
+        true
     }
 
     /// When the id was first seen, in seconds since 1970, if it was.

@@ -1,11 +1,11 @@
 //! Which messages of a listing are fetched, and which are deleted.
 
-ghost use Rattle.std.specs.Prelude.{◌≡◌, ◌+◌, ◌<◌, ◌&&◌, ◌||◌, true, length, map, HoldsAt, IfOk};
+ghost use Rattle.std.specs.Prelude.{◌≡◌, false, ◌+◌, ◌<◌, ◌&&◌, ◌||◌, ◌↔◌, true, length, map, All, IsTrue, HoldsAt, IfOk};
 ghost use Rattle.mail_terms.specs.Listing.{numbered, is_last};
 ghost use Rattle.fetch_rules.specs.Record.{is_delivered};
 ghost use Rattle.fetch_rules.specs.Wanted.{is_asked_for, wanted, DistinctAreFiltered};
 ghost use Rattle.fetch_rules.specs.Due.{is_due, may_delete};
-ghost use Rattle.fetch_rules.specs.Plan.{seen_since, planned, retrieved};
+ghost use Rattle.fetch_rules.specs.Plan.{IsQuiet, seen_since, planned, retrieved};
 
 use crate::occurrence::{are_first, are_last};
 use crate::seen::Seen;
@@ -130,6 +130,47 @@ pub fn plan<H: BuildHasher>(
             delete,
         })?;
         candidates += u64::from(candidate);
+    }
+    Ok(steps)
+}
+
+/// Whether a step neither fetches nor deletes.
+fn is_quiet(step: &Step) -> bool
+    ensures { IsTrue result ↔ IsQuiet step.now }
+{
+    !step.retrieve && !step.delete
+}
+
+/// Whether steps neither fetch nor delete anything.
+pub fn ask_nothing(steps: &[Step]) -> bool
+    ensures { IsTrue result ↔ All IsQuiet steps.now }
+{
+    steps.iter().all(|step| is_quiet(step))
+}
+
+/// As `plan`, if each listed id is recorded as delivered and only what is new is fetched. If nothing
+/// may be deleted, nothing is looked up.
+pub fn plan_of_known<H: BuildHasher>(
+    alloc: Global,
+    settings: &Settings,
+    seen: &Seen<H>,
+    listing: &Listing,
+    now: u64,
+) -> Result<Vec<Step>, AllocError>
+    requires new_alone { settings.now.read_all ≡ false }
+    requires known { All (λ item. is_delivered seen.now.rows item.uid ≡ true) listing.now }
+    ensures { IfOk result (λ steps. steps.items ≡ planned settings.now seen.now.rows listing.now now) }
+{
+    if may_delete(settings) {
+        return plan(alloc, settings, seen, listing, now);
+    }
+    let mut steps = Vec::with_capacity(alloc, listing.len() as usize)?;
+    for i in 0..listing.len() {
+        steps.push(Step {
+            number: i + 1,
+            retrieve: false,
+            delete: false,
+        })?;
     }
     Ok(steps)
 }

@@ -148,7 +148,7 @@ module _ (stores : ToldStores) (settings : Settings) (account : List ℕ) (now :
   }
     where
       unchanged : Leaves (holds rows before.maildir) (effect_of now (is_ended result) (course [] [] [] [])) (holds rows after.maildir)
-      unchanged = record { rows = refl; in_new = ap (λ (k : Kept). k.maildir.in_new) left.1; in_cur = ap (λ (k : Kept). k.maildir.in_cur) left.1; begun = refl; ended = left.0 }
+      unchanged = record { rows = refl; same = ap (λ (k : Kept). k.maildir.files) left.1; begun = refl; ended = left.0 }
   joined (Deals c) left said = record {
     sent = said.sent;
     got = said.got;

@@ -1,5 +1,5 @@
 -- From a kept state every list of sessions, and of what happens between them, keeps what is promised.
-use Rattle.std.proofs.Common.{◌≡◌, ◌⊎◌, inl, inr, ◌-◌, ◌<◌, ℕ, zero, suc, true, false, List, [], ◌∷◌, Some, refl, sym, ap, subst, ◌∙◌, ◌++◌}
+use Rattle.std.proofs.Common.{◌≡◌, ◌⊎◌, inl, inr, ◌-◌, ◌<◌, ℕ, zero, suc, true, false, List, [], ◌∷◌, Some, refl, sym, ap, subst, ◌∙◌}
 use Rattle.std.specs.Prelude.{bytes_eq, slice_get}
 use Rattle.std.specs.List.{AllByRecursion}
 use Rattle.std.proofs.lemmas.Bool.{or_cases, true≢false, cases_Bool}
@@ -11,7 +11,6 @@ use Rattle.pop3_wire.specs.declared.command.Command.TheVariants.{Dele}
 use Rattle.pop3_wire.specs.World.{Message}
 use Rattle.mail_terms.specs.Listing.{Item}
 use Rattle.mail_store.specs.FileName.{account_text, is_held, IsAccountText, stem_of}
-use Rattle.mail_store.specs.Maildir.{Maildir}
 use Rattle.fetch_rules.specs.Record.{Row, is_delivered}
 use Rattle.rc_file.specs.declared.settings.Settings.{Settings}
 use Rattle.fetch_rules.specs.RecordGrowth.{OneRecord}
@@ -20,12 +19,12 @@ use Rattle.fetch_session.specs.Account.{digits_of}
 use Rattle.fetch_session.specs.Record.{KeepsRows}
 use Rattle.mail_terms.specs.UniqueId.{has_id, is_legal_id}
 use Rattle.run_law.specs.Mails.{item_of, listing_of, is_selected}
-use Rattle.run_law.specs.Accounts.{Moves, KeepsOthers, copies}
+use Rattle.run_law.specs.Accounts.{KeepsOthers, copies}
 use Rattle.run_law.specs.Steps.{Effect, Leaves, Stores, IsHonest, ids_wanted, merged_rows, wanted_at}
-use Rattle.run_law.specs.Runs.{IsFrame, Situation, Visit, Event as EventIn, Visited, Moved as ShiftedIn, Between as BetweenIn, Expired as ExpiredIn, TakenAway as TakenIn, Visits, Happens, after_event as after_in, Promises as PromisesIn, Kept, KeptStaysKept, KeptHoldsWhatIsLeft, StartsKept, LeavesOut, DeletesHeld, StoresOnlyNew as StoresNew, past_limit, MovesLeaveMail, NothingTakenHoldsExactly}
+use Rattle.run_law.specs.Runs.{IsFrame, Situation, Visit, Event as EventIn, Visited, Between as BetweenIn, Expired as ExpiredIn, TakenAway as TakenIn, Visits, Happens, after_event as after_in, Promises as PromisesIn, Kept, KeptStaysKept, KeptHoldsWhatIsLeft, StartsKept, LeavesOut, DeletesHeld, StoresOnlyNew as StoresNew, past_limit, NothingTakenHoldsExactly}
 use Rattle.run_law.specs.Sessions.{IsBegun, Link as LinkIn, LinksAreVisits}
 use Rattle.fetch_runs.specs.Steps.{holds, IsStep, SessionIsAStep}
-use Rattle.fetch_runs.specs.Headline.{World, IsSound, account_of, AreSettings, State, Occasion, Event, Fetched, Moved, Between, Expired, TakenAway, maildrop_at, IsSession, after_event, Follows, frame_of, situation, HoldsAPrefix, IsHeldAfter, IsPastCount, LeavesOutOnlyBeyondLimits, IsForHeld, FilesStay, StoresOnlyNew, Promised, IsKept, Headline, EmptyIsKept, HeadlineFromEmpty, state_after, IsRun, contents_of, IsRecorded, HoldsExactlyAPrefix, IsForOneHeld, IsWordForWord, ReadOnlyNew, HeadlineWordForWord, StaysAway, NewProcessesAreBetween, StopsAreRuns}
+use Rattle.fetch_runs.specs.Headline.{World, IsSound, account_of, AreSettings, State, Occasion, Event, Fetched, Between, Expired, TakenAway, maildrop_at, IsSession, after_event, Follows, frame_of, situation, HoldsAPrefix, IsHeldAfter, IsPastCount, LeavesOutOnlyBeyondLimits, IsForHeld, FilesStay, StoresOnlyNew, Promised, IsKept, Headline, EmptyIsKept, HeadlineFromEmpty, state_after, IsRun, contents_of, IsRecorded, HoldsExactlyAPrefix, IsForOneHeld, IsWordForWord, ReadOnlyNew, HeadlineWordForWord, StaysAway, NewProcessesAreBetween, StopsAreRuns}
 use Rattle.fetch_runs.proofs.TalkCommands.{all_weaker, begins_of}
 use Rattle.fetch_session.specs.Session.{Kept as Holding}
 
@@ -150,8 +149,8 @@ module _ (laws : Laws) (world : World) (state : State) (occasion : Occasion) (so
     for_held held other begun = tt
 
     files_stay : AreStored → FilesStay state.kept.maildir occasion.after.maildir
-    files_stay (inl left) = record { gained = []; in_new = left.in_new ∙ sym (append-nil state.kept.maildir.in_new); in_cur = left.in_cur }
-    files_stay (inr (stores, honest)) = record { gained = _; in_new = stores.in_new; in_cur = stores.in_cur }
+    files_stay (inl left) = record { gained = []; came = left.same ∙ sym (append-nil state.kept.maildir.files) }
+    files_stay (inr (stores, honest)) = record { gained = _; came = stores.came }
 
     stores_only_new : StoresNew (frame_of world) (situation rows state) (visit_of s) → StoresOnlyNew world state occasion
     stores_only_new new only_new id legal recorded =
@@ -183,22 +182,6 @@ module _ (laws : Laws) (world : World) (state : State) (occasion : Occasion) (so
 
 -- ---- what happens between sessions
 
-pub with_rows : (rows : List Row) (old new : Maildir) → Moves (holds [] old) (holds [] new) → Moves (holds rows old) (holds rows new)
-with_rows rows old new (inl taken) = inl (record { name = taken.name; suffix = taken.suffix; taken = taken.taken; rows = refl })
-with_rows rows old new (inr renamed) = inr (record {
-  moved = renamed.moved;
-  suffix = renamed.suffix;
-  front = renamed.front;
-  back = renamed.back;
-  first = renamed.first;
-  last = renamed.last;
-  was = renamed.was;
-  others = renamed.others;
-  is = renamed.is;
-  in_new = renamed.in_new;
-  rows = refl;
-})
-
 -- what the law over runs says of one event
 one_event : Laws → (world : World) (state : State) (event : EventIn) (rows : List Row) → IsSound world → Kept (frame_of world) (situation rows state) → Happens (frame_of world) (situation rows state) event
     → Kept (frame_of world) (after_in (situation rows state) event) × PromisesIn (frame_of world) (situation rows state) event
@@ -208,9 +191,6 @@ one_event laws world state event rows sound kept happens =
 event_promised : Laws → (world : World) (state : State) (event : Event) → IsSound world → IsKept world state → Follows world state event
     → Promised world state event × IsKept world (after_event state event)
 event_promised laws world state (Fetched occasion) sound is follows = fetched_promised laws world state occasion sound is.0 is.1 is.2 follows
-event_promised laws world state (Moved maildir) sound is moves =
-    let all = one_event laws world state (ShiftedIn (holds is.0 maildir)) is.0 sound is.2 (with_rows is.0 state.kept.maildir maildir moves) in
-    (all.1, (is.0, is.1, all.0))
 event_promised laws world state (Between after) sound is between =
     let all = one_event laws world state (BetweenIn (holds is.0 after.maildir)) is.0 sound is.2 (record { rows = refl; same = between.mail }) in
     (tt, (is.0, between.record_is is.0 is.1, all.0))
@@ -305,23 +285,13 @@ headline_word_for_word law nothing world start (event ∷ events) sound is run n
 abbrev IsAway : World → Holding → List ℕ → Type 0
 IsAway world state id = IsRecorded state id × (contents_of world state id ≡ [])
 
--- the laws that are used
-pub record EventLaws : Type 0 where
-  pub headline : Headline
-  pub moves : MovesLeaveMail
-  pub digits : (server : List ℕ) (port : ℕ) (username : List ℕ) → IsAccountText (account_text server port username)
-
 recorded_in : (before after : Holding) (id : List ℕ) → ((rows : List Row) → KeepsRows before.file.content rows → KeepsRows after.file.content rows) → IsRecorded before id → IsRecorded after id
 recorded_in before after id same recorded = (recorded.0, same recorded.0 recorded.1, recorded.2)
 
-still_away : EventLaws → (world : World) (state : State) (event : Event) (id : List ℕ) → IsSound world → IsKept world state → Follows world state event
+still_away : Headline → (world : World) (state : State) (event : Event) (id : List ℕ) → IsSound world → IsKept world state → Follows world state event
     → ReadOnlyNew (event ∷ []) → is_legal_id id ≡ true → IsAway world state.kept id → IsAway world (after_event state event).kept id
 still_away laws world state (Fetched occasion) id sound is follows new legal away =
-    let now = (event_kept laws.headline world state (Fetched occasion) sound is follows).1.4 new.0 id legal away.0 in (now.1, now.0 ∙ away.1)
-still_away laws world state (Moved maildir) id sound is moves new legal away = (
-  away.0,
-  (laws.moves (frame_of world) (situation is.0 state) (holds is.0 maildir) (sound_frame laws.digits world sound) is.2 (with_rows is.0 state.kept.maildir maildir moves)).same id legal ∙ away.1,
-)
+    let now = (event_kept laws world state (Fetched occasion) sound is follows).1.4 new.0 id legal away.0 in (now.1, now.0 ∙ away.1)
 still_away laws world state (Between after) id sound is between new legal away = (recorded_in state.kept after id between.record_is away.0, between.mail id legal ∙ away.1)
 still_away laws world state (Expired ids) id sound is expired new legal away = away
 still_away laws world state (TakenAway other after) id sound is taken new legal away = (
@@ -336,15 +306,15 @@ one_new : (event : Event) (events : List Event) → ReadOnlyNew (event ∷ event
 one_new (Fetched occasion) events h = ((h.0, tt), h.1)
 one_new other events h = (tt, h)
 
-stay_all : EventLaws → (world : World) (start : State) (events : List Event) (id : List ℕ) → IsSound world → IsKept world start → IsRun world start events
+stay_all : Headline → (world : World) (start : State) (events : List Event) (id : List ℕ) → IsSound world → IsKept world start → IsRun world start events
     → ReadOnlyNew events → is_legal_id id ≡ true → IsAway world start.kept id → IsAway world (state_after start events).kept id
 stay_all laws world start [] id sound is run new legal away = away
 stay_all laws world start (event ∷ events) id sound is run new legal away =
     let split = one_new event events new in
-    stay_all laws world (after_event start event) events id sound (event_kept laws.headline world start event sound is run.0).2 run.1 split.1 legal
+    stay_all laws world (after_event start event) events id sound (event_kept laws world start event sound is run.0).2 run.1 split.1 legal
     (still_away laws world start event id sound is run.0 split.0 legal away)
 
-pub stays_away : EventLaws → StaysAway
+pub stays_away : Headline → StaysAway
 stays_away laws world start events id sound is run new legal recorded none = (stay_all laws world start events id sound is run new legal (recorded, none)).1
 
 -- ---- a new process
@@ -352,9 +322,7 @@ stays_away laws world start events id sound is run new legal recorded none = (st
 pub new_processes_are_between : NewProcessesAreBetween
 new_processes_are_between world before after same = record {
   record_is = λ rows keeps. subst (λ c. KeepsRows c rows) (sym same.content) keeps;
-  mail = λ id legal.
-      ap (λ fs. copies (fs ++ after.maildir.in_new) (stem_of (account_of world) id)) same.in_cur
-      ∙ ap (λ fs. copies (before.maildir.in_cur ++ fs) (stem_of (account_of world) id)) same.in_new;
+  mail = λ id legal. ap (λ fs. copies fs (stem_of (account_of world) id)) same.files;
 }
 
 pub stops_are_runs : StopsAreRuns

@@ -61,7 +61,7 @@ Leading p ended c maildir' content' lines refused unsaved = Leads p.settings p.a
 
 -- only the files of these tasks were added
 abbrev AddsFiles : List ℕ → Maildir → List Done → Maildir → Type 0
-AddsFiles account maildir dones maildir' = (maildir'.in_new ≡ maildir.in_new ++ files_of account dones) × (maildir'.in_cur ≡ maildir.in_cur)
+AddsFiles account maildir dones maildir' = maildir'.files ≡ maildir.files ++ files_of account dones
 
 module _ (laws : Laws) (p : Ground) where
   -- the files of the texts found
@@ -82,10 +82,9 @@ module _ (laws : Laws) (p : Ground) where
       j = length (found_by noted);
       number = rw (tally_number laws p t) t.number;
       maildir = elim t.number [
-        | inl is ↦ inl (in_new (length (found_by taken)) is)
-        | inr is ↦ inr (is ∙ sym (tally_number laws p t), in_new (length (found_by taken) + 1) is)
+        | inl is ↦ inl (came (length (found_by taken)) is)
+        | inr is ↦ inr (is ∙ sym (tally_number laws p t), came (length (found_by taken) + 1) is)
       ];
-      in_cur = adds.1;
       marks = t.mark;
       rows = inl (records_part laws p noted t.part);
       begun = t.begun;
@@ -102,14 +101,14 @@ module _ (laws : Laws) (p : Ground) where
       found : List (ℕ × List ℕ)
       found = found_of (course p.items taken spare under)
 
-      in_new : (n : ℕ) → n ≡ length (found_by whole)
-          → maildir'.in_new ≡ p.maildir.in_new ++ map (file_for p.account) (filter (is_unheld p.account p.maildir) (zip (take n (messages_on p)) (map text_found found)))
-      in_new n is = adds.0 ∙ ap (λ (l : List File). p.maildir.in_new ++ l) (adds_part whole t.whole found t.found n is)
+      came : (n : ℕ) → n ≡ length (found_by whole)
+          → maildir'.files ≡ p.maildir.files ++ map (file_for p.account) (filter (is_unheld p.account p.maildir) (zip (take n (messages_on p)) (map text_found found)))
+      came n is = adds ∙ ap (λ (l : List File). p.maildir.files ++ l) (adds_part whole t.whole found t.found n is)
 
   module _ {tasks : List Task} {old : Scene} (starts : Starts p tasks old) (same_maildir : old.store.maildir ≡ p.maildir) where
     -- what there was after the tasks that were done
     mid_files : (dones : List Done) (mid : Scene) → Went (AsFiles p.account) dones old mid → AddsFiles p.account p.maildir dones mid.store.maildir
-    mid_files dones mid went = subst (λ (m : Maildir). AddsFiles p.account m dones mid.store.maildir) same_maildir (went.stored.in_new, went.stored.in_cur)
+    mid_files dones mid went = subst (λ (m : Maildir). AddsFiles p.account m dones mid.store.maildir) same_maildir went.stored.came
 
     mid_holds : (dones : List Done) (mid : Scene) → Went (AsFiles p.account) dones old mid → KeepsRows mid.file.content (rows_after p dones)
     mid_holds dones mid went = (None, mid_keeps laws p starts dones mid went)
@@ -119,23 +118,21 @@ module _ (laws : Laws) (p : Ground) where
       Stopped c = Leading p false c new.store.maildir new.file.content new.lines (RefusedIn (Err cut)) (UnsavedIn (Err cut))
 
       -- the next task left the files and the report as they were
-      bare : new.store.maildir.in_new ≡ fell.mid.store.maildir.in_new → new.store.maildir.in_cur ≡ fell.mid.store.maildir.in_cur → new.file ≡ fell.mid.file → new.lines ≡ fell.mid.lines
+      bare : new.store.maildir.files ≡ fell.mid.store.maildir.files → new.file ≡ fell.mid.file → new.lines ≡ fell.mid.lines
           → Stopped (course p.items fell.dones [] (fell.next ∷ []))
-      bare in_new in_cur file told =
+      bare same file told =
           let files = mid_files fell.dones fell.mid fell.went in
-          lead (tally_bare laws p starts fell told) new.store.maildir new.file.content (in_new ∙ files.0, in_cur ∙ files.1)
+          lead (tally_bare laws p starts fell told) new.store.maildir new.file.content (same ∙ files)
           (subst (λ (s : Stored). KeepsRows s.content (rows_after p fell.dones)) (sym file) (mid_holds fell.dones fell.mid fell.went))
 
       -- the file of the next task's text is there
       module _ (number : ℕ) (uid : List ℕ) (reply : WholeReply) (is : fell.next ≡ stores number uid) (answered : AllZip IsGood (retr number ∷ []) (reply ∷ []))
-          (in_new : new.store.maildir.in_new ≡ fell.mid.store.maildir.in_new ++ file_from p.account uid reply ∷ []) (in_cur : new.store.maildir.in_cur ≡ fell.mid.store.maildir.in_cur) where
+          (came : new.store.maildir.files ≡ fell.mid.store.maildir.files ++ file_from p.account uid reply ∷ []) where
         files : AddsFiles p.account p.maildir (fell.dones ++ stored_done number uid reply ∷ []) new.store.maildir
         files =
-            let before = mid_files fell.dones fell.mid fell.went in (
-              in_new ∙ ap (λ (l : List File). l ++ file_from p.account uid reply ∷ []) before.0 ∙ append_assoc p.maildir.in_new (files_of p.account fell.dones) (file_from p.account uid reply ∷ [])
-                  ∙ ap (λ (l : List File). p.maildir.in_new ++ l) (sym (flat_map-append (λ (d : Done). files_in p.account d.task d.replies) fell.dones (stored_done number uid reply ∷ []))),
-              in_cur ∙ before.1,
-            )
+            let before = mid_files fell.dones fell.mid fell.went in
+            came ∙ ap (λ (l : List File). l ++ file_from p.account uid reply ∷ []) before ∙ append_assoc p.maildir.files (files_of p.account fell.dones) (file_from p.account uid reply ∷ [])
+            ∙ ap (λ (l : List File). p.maildir.files ++ l) (sym (flat_map-append (λ (d : Done). files_in p.account d.task d.replies) fell.dones (stored_done number uid reply ∷ [])))
 
         -- and the store refused it
         spare : new.file ≡ fell.mid.file → new.lines ≡ fell.mid.lines → cut.fault ≡ StoreRefused why.Refused → Stopped (course p.items fell.dones (reply ∷ []) (fell.next ∷ []))
@@ -157,7 +154,7 @@ module _ (laws : Laws) (p : Ground) where
           ]
         where
           there : AddsFiles p.account p.maildir (fell.dones ++ stored_done u.number u.uid u.reply ∷ []) new.store.maildir
-          there = files u.number u.uid u.reply u.is u.talked.good u.stored.in_new u.stored.in_cur
+          there = files u.number u.uid u.reply u.is u.talked.good u.stored.came
 
       -- the store refused a text
       not_stored : (refused : NoFile p.account fell.next fell.mid new cut) → Stopped (course p.items fell.dones (spare_of p.account fell.next fell.mid new cut refused) (fell.next ∷ []))
@@ -166,15 +163,15 @@ module _ (laws : Laws) (p : Ground) where
           by : (refuses : RefusesText fell.mid.store.maildir (stem_of p.account refused.uid) refused.rest refused.text cut.fault new.store.maildir)
               → Stopped (course p.items fell.dones
               (spare_in refused.number fell.mid.place new.place refused.rest refused.text fell.mid.store.maildir new.store.maildir (stem_of p.account refused.uid) cut.fault refused.whole refuses) (fell.next ∷ []))
-          by (inl missing) = bare (ap (λ (m : Maildir). m.in_new) missing.2) (ap (λ (m : Maildir). m.in_cur) missing.2) refused.file refused.lines
-          by (inr (is, inl same)) = bare (ap (λ (m : Maildir). m.in_new) same) (ap (λ (m : Maildir). m.in_cur) same) refused.file refused.lines
+          by (inl missing) = bare (ap (λ (m : Maildir). m.files) missing.2) refused.file refused.lines
+          by (inr (is, inl same)) = bare (ap (λ (m : Maildir). m.files) same) refused.file refused.lines
           by (inr (is, inr (done, there))) =
               let came = refused.whole done in
               spare refused.number refused.uid came.0 refused.is came.1.good
-              (ap (λ (m : Maildir). m.in_new) there ∙ ap (λ (t : List ℕ). fell.mid.store.maildir.in_new ++ mail_file p.account refused.uid t ∷ []) came.2) (ap (λ (m : Maildir). m.in_cur) there) refused.file refused.lines is
+              (ap (λ (m : Maildir). m.files) there ∙ ap (λ (t : List ℕ). fell.mid.store.maildir.files ++ mail_file p.account refused.uid t ∷ []) came.2) refused.file refused.lines is
 
       stopped : (stops : Stops (AsFiles p.account) fell.next fell.mid cut new) → Stopped (course_stopped (AsFiles p.account) p.items fell.dones fell.next fell.mid new cut stops)
-      stopped (inl broken) = bare (ap (λ (s : Stores). s.maildir.in_new) broken.store) (ap (λ (s : Stores). s.maildir.in_cur) broken.store) broken.file broken.lines
+      stopped (inl broken) = bare (ap (λ (s : Stores). s.maildir.files) broken.store) broken.file broken.lines
       stopped (inr (inl refused)) = not_stored refused
       stopped (inr (inr refused)) = unsaved refused
 
@@ -189,10 +186,10 @@ module _ (laws : Laws) (p : Ground) where
 
 -- the files are as they were
 abbrev SameFiles : Maildir → Maildir → Type 0
-SameFiles old new = (new.in_new ≡ old.in_new) × (new.in_cur ≡ old.in_cur)
+SameFiles old new = new.files ≡ old.files
 
 unready_files : (fault : Fault) (old : Maildir) (file : Stored) (new : Maildir) (file' : Stored) → UnreadyCause fault old file new file' → SameFiles old new
-unready_files (StoreRefused why.Refused) old file new file' is = subst (SameFiles old) (sym is) (refl, refl)
+unready_files (StoreRefused why.Refused) old file new file' is = subst (SameFiles old) (sym is) refl
 unready_files fault old file new file' is = grind arith
 
 module _ (laws : Laws) (p : Ground) (place : Place) (file : Stored) (lines : List ReportLine) (keeps : KeepsRows file.content p.rows) (no_lines : lines ≡ []) where
@@ -220,8 +217,7 @@ module _ (laws : Laws) (p : Ground) (place : Place) (file : Stored) (lines : Lis
           k = 0;
           j = 0;
           number = inl refl;
-          maildir = inl (same.0 ∙ sym (append-nil p.maildir.in_new) ∙ ap (λ (l : List File). p.maildir.in_new ++ l) (adds_part laws p [] none.whole [] refl 0 refl));
-          in_cur = same.1;
+          maildir = inl (same ∙ sym (append-nil p.maildir.files) ∙ ap (λ (l : List File). p.maildir.files ++ l) (adds_part laws p [] none.whole [] refl 0 refl));
           marks = inl refl;
           rows = inr refl;
           begun = tt;
@@ -239,7 +235,7 @@ module _ (laws : Laws) (p : Ground) (place : Place) (file : Stored) (lines : Lis
       by (inl content) = stays (subst (λ (c : Option (List ℕ)). KeepsRows c p.rows) (sym content) keeps)
       by (inr (was, stood, settled, inl left)) = stays (was.intent, subst (λ (r : List Row). FileStandsFor new.file.content r was.intent) (same_rows was stood) left)
       by (inr (was, stood, settled, inr merges)) =
-          lead laws p none new.store.maildir new.file.content (same.0 ∙ sym (append-nil p.maildir.in_new), same.1)
+          lead laws p none new.store.maildir new.file.content (same ∙ sym (append-nil p.maildir.files))
           (None, subst (λ (r : List Row). FileStandsFor new.file.content (merged r p.items (flags_of p.account p.maildir p.items) p.now) None) (same_rows was stood) merges)
 
   carried_leads : (result : Result (Unit {0}) Cut) (new : Scene) (skipped : ℕ) (is : Carried p.settings (AsFiles p.account) p.items p.now place (in_maildir p.maildir) file lines result new skipped)

@@ -20,11 +20,11 @@ use Rattle.mail_store.specs.Held.{flags_of}
 use Rattle.mail_store.specs.Maildir.{Maildir, File}
 use Rattle.fetch_session.specs.Account.{digits_of}
 use Rattle.fetch_session.specs.Record.{KeepsRows}
-use Rattle.fetch_session.specs.Session.{Kept, kept, Session}
+use Rattle.fetch_session.specs.Session.{Kept, Session}
 use Rattle.fetch_session.specs.declared.report.Outcome.TheVariants.{Ended}
 use Rattle.fetch_session.specs.declared.report.Report.{Report}
 use Rattle.run_law.specs.Mails.{listing_of, is_selected}
-use Rattle.run_law.specs.Accounts.{Moves, KeepsOthers, copies, files}
+use Rattle.run_law.specs.Accounts.{KeepsOthers, copies, files}
 use Rattle.run_law.specs.Steps.{ids_wanted}
 use Rattle.run_law.specs.Runs.{Frame, Situation, Kept as IsKeptIn, HoldsExactly, HoldsWhatIsLeft, past_limit}
 use Rattle.run_law.specs.Sessions.{BeginsOne, Served}
@@ -78,12 +78,10 @@ pub record Occasion : Type 0 where
   pub come : ℕ
   pub vanished : List (List ℕ)
 
--- a session; a move of a file by a reader; anything else that leaves the record and the account's messages as
--- they are; messages that are gone from the server without a session; and a message that its reader throws
+-- a session; anything that leaves the record and the account's messages as they are; messages that are gone from the server without a session; and a message that its reader throws
 -- away or files elsewhere
 pub data Event : Type 0 where
   Fetched : Occasion → Event
-  Moved : Maildir → Event
   Between : Kept → Event
   Expired : List (List ℕ) → Event
   TakenAway : List ℕ → Kept → Event
@@ -109,8 +107,7 @@ abbrev pub contents_of : World → Kept → List ℕ → List (List ℕ)
 contents_of world state id = copies (files (holds [] state.maildir)) (stem_of (account_of world) id)
 
 -- the record stays, and for each legal id the files hold what they held. All else may have changed: the
--- counts of refusals, the file that was begun, which folders are there, the suffixes that readers put after
--- names, and files of other names
+-- counts of refusals, the file that was begun, which folders are there, and files of other names
 pub record IsBetween (world : World) (before after : Kept) : Type 0 where
   pub record_is : KeepsRecord before after
   pub mail : (id : List ℕ) → is_legal_id id ≡ true → contents_of world after id ≡ contents_of world before id
@@ -131,14 +128,12 @@ IsFetched world state id = (is_legal_id id ≡ true)
 
 abbrev pub after_event : State → Event → State
 after_event state (Fetched occasion) = record state { kept = occasion.after; gone = state.gone ++ occasion.vanished }
-after_event state (Moved maildir) = record state { kept = kept maildir state.kept.file }
 after_event state (Between after) = record state { kept = after }
 after_event state (Expired ids) = record state { gone = state.gone ++ ids }
 after_event state (TakenAway id after) = record state { kept = after; taken = id ∷ state.taken }
 
 abbrev pub Follows : World → State → Event → Type 0
 Follows world state (Fetched occasion) = IsSession world state occasion
-Follows world state (Moved maildir) = Moves (holds [] state.kept.maildir) (holds [] maildir)
 Follows world state (Between after) = IsBetween world state.kept after
 Follows world state (Expired ids) = AllByRecursion (IsFetched world state) ids
 Follows world state (TakenAway id after) = IsTakenAway world state.kept id after
@@ -205,12 +200,11 @@ pub record DeletesOnlyHeld (world : World) (state : State) (occasion : Occasion)
 abbrev pub OthersStay : World → State → State → Type 0
 OthersStay world before after = KeepsOthers (account_of world) (holds [] before.kept.maildir) (holds [] after.kept.maildir)
 
--- every file of `new` and `cur` is there as before, and what was added comes after those of `new`: so a
--- session loses none
+-- every file of `new` and `cur` is there as before, in whichever folder and with whatever marks, and what
+-- was added comes after them: so a session loses none
 pub record FilesStay (before after : Maildir) : Type 0 where
   pub gained : List File
-  pub in_new : after.in_new ≡ before.in_new ++ gained
-  pub in_cur : after.in_cur ≡ before.in_cur
+  pub came : after.files ≡ before.files ++ gained
 
 -- the record's file stands for a record in which the id is delivered
 abbrev pub IsRecorded : Kept → List ℕ → Type 0
@@ -221,13 +215,12 @@ abbrev pub StoresOnlyNew : World → State → Occasion → Type 0
 StoresOnlyNew world state occasion = occasion.settings.read_all ≡ false → (id : List ℕ) → is_legal_id id ≡ true → IsRecorded state.kept id
     → (contents_of world occasion.after id ≡ contents_of world state.kept id) × IsRecorded occasion.after id
 
--- nothing is promised of what others do, except that a reader's moves leave files of other names
+-- nothing is promised of what others do
 abbrev pub Promised : World → State → Event → Type 0
 Promised world state (Fetched occasion) =
     LeavesOutOnlyBeyondLimits world state occasion × DeletesOnlyHeld world state occasion
     × OthersStay world state (after_event state (Fetched occasion))
     × FilesStay state.kept.maildir occasion.after.maildir × StoresOnlyNew world state occasion
-Promised world state (Moved maildir) = OthersStay world state (after_event state (Moved maildir))
 Promised world state _ = Unit {0}
 
 -- a prefix is held before and after each event, and each event keeps its promises
@@ -333,8 +326,7 @@ StaysAway = (world : World) (start : State) (events : List Event) (id : List ℕ
 
 -- the same files of `new` and `cur`, and the same bytes of the record's file; all else may be another process's
 pub record HasTheSameFiles (before after : Kept) : Type 0 where
-  pub in_new : after.maildir.in_new ≡ before.maildir.in_new
-  pub in_cur : after.maildir.in_cur ≡ before.maildir.in_cur
+  pub files : after.maildir.files ≡ before.maildir.files
   pub content : after.file.content ≡ before.file.content
 
 -- a new process, whose counts begin at 0 and which has begun no file, and folders that were made are changes

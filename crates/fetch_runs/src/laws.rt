@@ -22,8 +22,8 @@ use pop3_wire::fronts_are_asked;
 use run_law::{
     holds_exactly, holds_what_is_left, honest_sessions_bring_messages, kept_states,
     links_are_visits, mbox_holds_exactly, mbox_links_are_visits, mbox_sessions_are_safe,
-    mbox_starts_kept, mbox_states_are_kept, mbox_told_stores, moves_leave_mail, sessions_are_safe,
-    starts_kept, told_stores,
+    mbox_starts_kept, mbox_states_are_kept, mbox_told_stores, sessions_are_safe, starts_kept,
+    told_stores,
 };
 
 /// What a link gains in a session is one conversation that follows the plan. What was sent is the
@@ -89,8 +89,9 @@ pub fn honest_sessions()
 /// out only what its limits exclude; and DELE was sent only for messages held.
 ///
 /// Each session has its own settings, except for the server, the port, the user name and
-/// `max_message_size`. Between two of them a process may start anew; readers and other programs may do
-/// anything to files that aren't the account's, and move or rename those that are; the server may
+/// `max_message_size`. At any moment, also during a session and during a call, a mail reader may move
+/// any file between `new` and `cur` and change its marks. Between two sessions a process may start
+/// anew; readers and other programs may do anything to files that aren't the account's; the server may
 /// remove what was fetched; and a reader may take a message away, which then counts as held.
 pub fn headline()
     ensures { Headline }
@@ -119,8 +120,6 @@ pub fn recorded_stay_away()
     ensures { StaysAway }
 {
     headline();
-    moves_leave_mail();
-    account_texts_are_digits();
 }
 
 /// What a new process finds, with the files as they were, is one of the things that may happen

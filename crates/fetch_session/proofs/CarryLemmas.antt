@@ -1,11 +1,11 @@
 -- What follows once a record is ready, and what of it outlives a loss of power.
-use Rattle.std.proofs.Common.{◌≡◌, ℕ, Bool, List, [], ◌∷◌, ◌++◌, length, None, Ok, Err, refl, sym, ap, subst, ◌∙◌, arith, Result}
+use Rattle.std.proofs.Common.{◌≡◌, ℕ, Bool, List, [], ◌∷◌, ◌++◌, length, None, Ok, Err, refl, sym, ap, subst, ◌∙◌, inl, inr, arith, Result}
 use Rattle.std.proofs.lemmas.List.{length-map, append-nil}
 use Rattle.std.proofs.lemmas.List.FromFn.{length-enumerate_from}
 use Rattle.pop3_wire.specs.Place.{Place}
 use Rattle.mail_terms.specs.Listing.{Item, numbered}
-use Rattle.fetch_rules.specs.Record.{Row, Held, marked_all}
-use Rattle.fetch_rules.specs.Plan.{planned, step_of}
+use Rattle.fetch_rules.specs.Record.{Row, Held}
+use Rattle.fetch_rules.specs.Plan.{IsQuiet, planned, step_of}
 use Rattle.rc_file.specs.declared.settings.Settings.{Settings}
 use Rattle.fetch_rules.specs.declared.steps.Step.{Step}
 use Rattle.mail_store.specs.FlatFile.{Stored}
@@ -17,7 +17,7 @@ use Rattle.fetch_session.specs.declared.readiness.Ready.{Ready}
 use Rattle.fetch_session.specs.declared.fault.Cut.{Cut}
 use Rattle.fetch_session.specs.declared.report.ReportLine.{ReportLine}
 use Rattle.fetch_session.specs.Fault.{cut_of}
-use Rattle.fetch_session.specs.Task.{Task, says, tasks_planned, Done, files_in as files_brought, texts_in, ids_in, files_of, texts_of, ids_of}
+use Rattle.fetch_session.specs.Task.{Task, says, tasks_planned, Done}
 use Rattle.fetch_session.specs.Readiness.{IsReady, Unready, Settles}
 use Rattle.fetch_session.specs.Target.{Target, Stores, AsFiles, AsEntries, in_mbox, stores_of}
 use Rattle.fetch_session.specs.Report.{skipped_in}
@@ -25,18 +25,14 @@ use Rattle.fetch_session.specs.Scene.{Scene, scene, AllWent}
 use Rattle.fetch_session.specs.Plan.{tasks_ahead, Unprepared}
 use Rattle.fetch_session.proofs.SceneLemmas.{brings_same, all_on, fell_on, fell_first}
 use Rattle.fetch_session.proofs.TakeLemmas.{text_broken}
-use Rattle.std.specs.Prelude.{Contains}
+use Rattle.std.specs.Prelude.{◌⊎◌, All, Contains}
 use Rattle.std.proofs.lemmas.Grind.{flat_map-append}
-use Rattle.std.specs.List.{flat_map, AllByRecursion}
-use Rattle.mail_store.specs.Maildir.{File, names_of, files_in}
-use Rattle.mail_store.specs.Mboxrd.{entry_of}
-use Rattle.mail_store.specs.declared.maildir.disk.Folder.{Folder}
-use Rattle.mail_store.specs.declared.maildir.disk.Folder.TheVariants.{New, Cur}
+use Rattle.mail_store.specs.Maildir.{names_of}
 use Rattle.mail_store.specs.declared.maildir.disk.MaildirDisk.{Ghosts as DiskGhosts}
 use Rattle.mail_store.specs.declared.file.flat_file.FlatFile.{Ghosts as FileGhosts}
 use Rattle.fetch_session.specs.declared.account.Store.{Store}
 use Rattle.fetch_session.specs.declared.account.Store.TheVariants.{Maildir as InMaildir, Mboxrd as InMbox}
-use Rattle.fetch_session.specs.Lasting.{AllStayIn, CarriedForGood, DoesForGood, DonesLast, KeepsMailIn, RowsLast, StayFrom, TextsLast, front_in, outlives_in}
+use Rattle.fetch_session.specs.Lasting.{AllStayIn, CarriedForGood, DoesForGood, DonesLast, KeepsMailIn, Lasts, StayFrom, TextsLast}
 
 pub planned_length : (settings : Settings) (rows : List Row) (items : List Item) (now : ℕ) → length (planned settings rows items now) ≡ length items
 planned_length settings rows items now = length-map (numbered items) (step_of settings rows items now) ∙ length-enumerate_from 1 items
@@ -88,26 +84,29 @@ module _ {D F : Type 0} {disk : DiskGhosts D} {files : FileGhosts F} {sure : Typ
 -- the files that were there stay
 pub stay_from : {D F : Type 0} (disk : DiskGhosts D) (files : FileGhosts F) (target : Target) (was : Held) (old : Stores) (mid end : Store D F)
     → Settles target was old (stores_of disk files mid) → AllStayIn disk mid → KeepsMailIn disk mid end → StayFrom disk target old end
-stay_from disk files (AsFiles account) was old (InMaildir device) end settles all keeps = λ folder name inside.
-    keeps.0 name (all folder name (subst (λ (s : Stores). Contains (names_of (files_in s.maildir folder)) name) (sym settles) inside))
-stay_from disk files (AsFiles account) was old (InMbox device) end settles all keeps = λ folder name inside.
-    absurd (nothing folder (subst (λ (s : Stores). Contains (names_of (files_in s.maildir folder)) name) (sym settles) inside))
+stay_from disk files (AsFiles account) was old (InMaildir device) end settles all keeps = λ name inside.
+    keeps.0 name (all name (subst (λ (s : Stores). Contains (names_of s.maildir.files) name) (sym settles) inside))
+stay_from disk files (AsFiles account) was old (InMbox device) end settles all keeps = λ name inside.
+    absurd (nothing (subst (λ (s : Stores). Contains (names_of s.maildir.files) name) (sym settles) inside))
   where
-    nothing : {name : List ℕ} (folder : Folder) → Contains (names_of (files_in (in_mbox (files.stored device)).maildir folder)) name → ⊥
-    nothing New c = absurd (omega (arith, c.1))
-    nothing Cur c = absurd (omega (arith, c.1))
+    nothing : {name : List ℕ} → Contains (names_of (in_mbox (files.stored device)).maildir.files) name → ⊥
+    nothing c = absurd (omega (arith, c.1))
 stay_from disk files AsEntries was old mid end settles all keeps = tt
 
+pub firm_both : {P A B : Type 0} → P ⊎ A → B → P ⊎ (A × B)
+firm_both (inl p) b = inl p
+firm_both (inr a) b = inr (a, b)
+
 -- the planned tasks and QUIT were done once the record was ready, or as far as went well
-pub carried : {D F : Type 0} (disk : DiskGhosts D) (files : FileGhosts F) {sure : Type 0} {settings : Settings} {target : Target} {items : List Item} {now : ℕ} {place : Place} {store : Stores} {file : Stored} {lines : List ReportLine} {ready : Ready} {after : List Row}
+pub carried : {D F : Type 0} (disk : DiskGhosts D) (files : FileGhosts F) {sure safe : Type 0} {settings : Settings} {target : Target} {items : List Item} {now : ℕ} {place : Place} {store : Stores} {file : Stored} {lines : List ReportLine} {ready : Ready} {after : List Row}
     (before : Store D F) {end : Store D F} {f : F} {file' : Stored} (steps : List Step) (held : List Bool) {skipped : ℕ} {r : Result (Unit {0}) Cut} {new : Scene}
     → IsReady settings target items now store file ready after (stores_of disk files before) file' → steps ≡ ready.steps.items → held ≡ ready.held.items → skipped ≡ skipped_in ready.steps.items
-    → (sure → AllStayIn disk before) → KeepsMailIn disk before end
-    → DoesForGood disk files sure target (tasks_planned steps items held ++ says quit ∷ []) (scene place (stores_of disk files before) file' after lines) r new end f
+    → (sure → All IsQuiet ready.steps.items ⊎ AllStayIn disk before) → (sure → All IsQuiet ready.steps.items ⊎ safe) → KeepsMailIn disk before end
+    → DoesForGood disk files safe target (tasks_planned steps items held ++ says quit ∷ []) (scene place (stores_of disk files before) file' after lines) r new end f
     → CarriedForGood disk files sure settings target items now place store file lines r new skipped end f
-carried {D} {F} disk files {sure} {settings} {target} {items} {now} {place} {store} {file} {lines} {ready} {after} before {end} {f} {file'} steps held {skipped} {r} {new} is steps_are held_are skipped_is all keeps does =
+carried {D} {F} disk files {sure} {safe} {settings} {target} {items} {now} {place} {store} {file} {lines} {ready} {after} before {end} {f} {file'} steps held {skipped} {r} {new} is steps_are held_are skipped_is all firm keeps does =
     let mid : Scene = scene place (stores_of disk files before) file' after lines in
-    let good = rw (steps_are, is.steps, held_are, is.held) at does in
+    let good = rw (steps_are, held_are, is.held, is.steps) at does in
     record {
       carried = record {
         mid = mid;
@@ -115,6 +114,14 @@ carried {D} {F} disk files {sure} {settings} {target} {items} {now} {place} {sto
         does = good.does;
         skips = skipped_is ∙ ap skipped_in is.steps;
       };
-      lasts = good.lasts;
-      stay = λ s. stay_from disk files target is.was store before end is.settles (all s) keeps;
+      lasts = λ s. quiet_or_lasts (Lasts disk files target (tasks_ahead settings target items now store after) mid r new good.does end f) good.lasts (firm s);
+      stay = λ s. quiet_or_stays (all s);
     }
+  where
+    quiet_or_stays : All IsQuiet ready.steps.items ⊎ AllStayIn disk before → All IsQuiet (planned settings after items now) ⊎ StayFrom disk target store end
+    quiet_or_stays (inl quiet) = inl (subst (λ (ss : List Step). All IsQuiet ss) is.steps quiet)
+    quiet_or_stays (inr stays) = inr (stay_from disk files target is.was store before end is.settles stays keeps)
+
+    quiet_or_lasts : (P : Type 0) → (safe → P) → All IsQuiet ready.steps.items ⊎ safe → All IsQuiet (planned settings after items now) ⊎ P
+    quiet_or_lasts P good (inl quiet) = inl (subst (λ (ss : List Step). All IsQuiet ss) is.steps quiet)
+    quiet_or_lasts P good (inr s) = inr (good s)

@@ -1,5 +1,5 @@
 -- Which ids stay fresh while others are stored.
-use Rattle.std.proofs.Common.{◌≡◌, ◌≢◌, inl, inr, ◌<◌, ◌≤◌, ◌+◌, ℕ, zero, suc, Bool, true, false, List, [], ◌∷◌, ◌++◌, drop, get_or, length, None, refl, sym, ap, subst, ◌∙◌, arith, append_assoc}
+use Rattle.std.proofs.Common.{◌≡◌, ◌≢◌, inl, inr, ◌<◌, ◌+◌, ℕ, zero, suc, Bool, true, false, List, [], ◌∷◌, ◌++◌, drop, get_or, length, None, refl, sym, ap, ◌∙◌, arith, append_assoc}
 use Rattle.std.specs.Prelude.{◌||◌, bytes_eq}
 use Rattle.std.specs.List.{AllByRecursion, list_any}
 use Rattle.std.proofs.lemmas.Bool.{false_from_ne_true}
@@ -15,10 +15,10 @@ use Rattle.mail_store.specs.FileName.{mail_file, stem_of, names_id, is_held, IsA
 use Rattle.fetch_session.specs.Task.{Task, ids_in, ids_ahead, AreFresh, fetching, deleting, tasks_in, tasks_planned}
 use Rattle.fetch_session.specs.Store.{Grows, GrowsBy, Rests}
 
--- which ids are held depends only on the names in `new` and `cur`
-held_by_files : (account uid : List ℕ) (a b : Maildir) → b.in_new ≡ a.in_new → b.in_cur ≡ a.in_cur → is_held account b uid ≡ is_held account a uid
-held_by_files account uid a b news curs =
-    simp (news, curs)
+-- which ids are held depends only on the files
+held_by_files : (account uid : List ℕ) (a b : Maildir) → b.files ≡ a.files → is_held account b uid ≡ is_held account a uid
+held_by_files account uid a b same =
+    ap (λ (fs : List File). list_any (λ (f : File). names_id account uid f.name) fs) same
 
 -- a file under the name of an id makes that id held, and no other
 abbrev pub OneMore : Type 0
@@ -28,10 +28,10 @@ OneMore = (account a b content : List ℕ) (maildir : Maildir) → IsAccountText
 still_free : OneMore → (account uid other : List ℕ) (a b : Maildir) → IsAccountText account → IsLegalId uid → IsLegalId other → other ≢ uid → Grows (stem_of account uid) a b
     → is_held account a other ≡ false → is_held account b other ≡ false
 still_free law account uid other a b text legal legal' apart grows free =
-    elim grows.in_new [
-      | inl same ↦ held_by_files account other a b same grows.in_cur ∙ free
+    elim grows.came [
+      | inl same ↦ held_by_files account other a b same ∙ free
       | inr more ↦
-          held_by_files account other (with_file a (mail_file account uid more.0)) b more.1 grows.in_cur
+          held_by_files account other (with_file a (mail_file account uid more.0)) b more.1
           ∙ law account uid other more.0 a text legal legal'
           ∙ ap (λ (k : Bool). k || bytes_eq other uid) free
           ∙ false_from_ne_true (bytes_eq other uid) (λ same. apart ((bytes_eq-Decides other uid).0 same))
@@ -46,7 +46,7 @@ fresh_grows law account uid (x ∷ xs) a b text legal apart grows fresh =
 fresh_rests : (account : List ℕ) (uids : List (List ℕ)) (a b : Maildir) → Rests a b → AreFresh account a uids → AreFresh account b uids
 fresh_rests account [] a b rests fresh = tt
 fresh_rests account (x ∷ xs) a b rests fresh =
-    (fresh.0, held_by_files account x a b rests.in_new rests.in_cur ∙ fresh.1, fresh.2, fresh_rests account xs a b rests fresh.3)
+    (fresh.0, held_by_files account x a b rests.same ∙ fresh.1, fresh.2, fresh_rests account xs a b rests fresh.3)
 
 pub fresh_on : OneMore → (account : List ℕ) (uids later : List (List ℕ)) (a b : Maildir) → IsAccountText account → GrowsBy account uids a b → AreFresh account a (uids ++ later) → AreFresh account b later
 fresh_on law account [] later a b text grows fresh = fresh_rests account later a b grows fresh

@@ -6,11 +6,11 @@ use Rattle.std.proofs.lemmas.Option.{none-some}
 use Rattle.std.specs.List.{flat_map, AllByRecursion}
 use Rattle.std.specs.Prelude.{option_map}
 use Rattle.pop3_wire.specs.Place.{Place}
-use Rattle.fetch_rules.specs.Record.{Row, none_open, marked_all}
+use Rattle.fetch_rules.specs.Record.{Row, none_open}
 use Rattle.mail_store.specs.declared.maildir.disk.MaildirDisk.{Ghosts as DiskGhosts}
 use Rattle.mail_store.specs.declared.file.flat_file.FlatFile.{Ghosts as FileGhosts}
 use Rattle.mail_store.specs.FileName.{sized, sized_file}
-use Rattle.mail_store.specs.Maildir.{Maildir, File, file, with_file}
+use Rattle.mail_store.specs.Maildir.{Maildir, File, file, with_file, mail}
 use Rattle.mail_store.specs.Mboxrd.{entry_of}
 use Rattle.mail_store.specs.Power.{KeepsBytes, KeepsMail}
 use Rattle.fetch_session.specs.declared.account.Store.{Store}
@@ -22,7 +22,7 @@ use Rattle.fetch_session.specs.Scene.{Scene, scene, Went, AllWent, Fell, Does}
 use Rattle.fetch_session.specs.Store.{Brings, Ends, begun_with}
 use Rattle.fetch_session.specs.Lasting.{DoesForGood, DonesLast, IsSafe, IsSafeStore, IsSafeWork, KeepsMailIn, KeepsWork, NewOutlive, RowsLast, TextsLast, front_in, outlives_in}
 use Rattle.fetch_session.specs.Target.{Kind, Target, AsFiles, AsEntries, Stores, kind_of, stores_of, target as target_at, target_of}
-use Rattle.fetch_session.specs.Task.{Task, Done, deletes, fetching, deleting, files_in, texts_in, ids_in, tasks_of, ids_of, files_of, texts_of}
+use Rattle.fetch_session.specs.Task.{Task, Done, deletes, fetching, deleting, tasks_of, files_of, texts_of}
 use Rattle.fetch_session.proofs.StoreLemmas.{settled}
 use Rattle.fetch_session.proofs.SceneLemmas.{all_append, all_weaker, all_none, all_on, fell_before, fell_on, marked_on}
 
@@ -33,13 +33,20 @@ keeps_mail_on first then = (λ name is. then.0 name (first.0 name is), λ f is. 
 -- the file that was settled outlives a loss of power, whatever its text is called
 pub lasts_settled : (old now new : Maildir) (stem text : List ℕ) (octets : ℕ) (P : File → Type 0) → now ≡ begun_with old (file stem text)
     → octets ≡ length text → Ends now (sized stem octets) (Ok tt) new
-    → ((f : File) → now.begun ≡ Some f → P (file (sized stem octets) f.content))
+    → ((f : File) → now.begun ≡ Some f → P (mail (sized stem octets) f.content))
     → (other : List ℕ) → new ≡ with_file old (sized_file stem other) → P (sized_file stem other)
 lasts_settled old now new stem text octets P was counted ends lasts other is =
     let both = sym (settled old now new stem text octets was counted ends) ∙ is in
-    let one = append_cancel_left old.in_new (sized_file stem text ∷ []) (sized_file stem other ∷ []) (ap (λ (m : Maildir). m.in_new) both) in
+    let one = append_cancel_left old.files (sized_file stem text ∷ []) (sized_file stem other ∷ []) (ap (λ (m : Maildir). m.files) both) in
     let same : sized_file stem text ≡ sized_file stem other = cc in
-    subst P same (subst (λ (n : ℕ). P (file (sized stem n) text)) counted (lasts (file stem text) (ap (λ (m : Maildir). m.begun) was)))
+    subst P same (subst (λ (n : ℕ). P (mail (sized stem n) text)) counted (lasts (file stem text) (ap (λ (m : Maildir). m.begun) was)))
+
+-- the one file that came outlives it
+pub came_outlives : (old new : Maildir) (f : File) (P : File → Type 0) → new ≡ with_file old f → P f
+    → (files : List File) → new.files ≡ old.files ++ files → AllByRecursion P files
+came_outlives old new f P is lasts files came =
+    subst (λ (fs : List File). AllByRecursion P fs)
+    (append_cancel_left old.files (f ∷ []) files (ap (λ (m : Maildir). m.files) (sym is) ∙ came)) (lasts, tt)
 
 -- ---- texts
 
@@ -164,7 +171,7 @@ whole_in disk file (InMbox device) safe bytes is = safe.1 bytes is
 pub texts_ok : {D F : Type 0} (disk : DiskGhosts D) (file : FileGhosts F) (target : Target) (dones : List Done) (old new : Store D F)
     → Brings target dones (stores_of disk file old) (stores_of disk file new) → NewOutlive disk file old new → IsSafeStore file new
     → TextsLast disk file target dones (stores_of disk file old) new
-texts_ok disk file (AsFiles account) dones old new brings outlive safe = outlive (files_of account dones) brings.in_new
+texts_ok disk file (AsFiles account) dones old new brings outlive safe = outlive (files_of account dones) brings.came
 texts_ok disk file AsEntries dones old new brings outlive safe = λ was is.
     whole_in disk file new safe (was ++ flat_map entry_of (texts_of dones))
     (content_is (stores_of disk file old).mbox.content (stores_of disk file new).mbox.content was (texts_of dones) is brings.content)
@@ -222,7 +229,7 @@ module _ {D F : Type 0} {disk : DiskGhosts D} {file : FileGhosts F} {safe : Type
 -- no file came
 pub none_came : {D F : Type 0} (disk : DiskGhosts D) (file : FileGhosts F) (store : Store D F) → NewOutlive disk file store store
 none_came disk file store = λ files is.
-    let was = (stores_of disk file store).maildir.in_new in
+    let was = (stores_of disk file store).maildir.files in
     subst (λ (fs : List File). AllByRecursion (outlives_in disk store) fs) (append_cancel_left was [] files (append-nil was ∙ is)) tt
 
 pub keeps_same : {D F H Z : Type 0} (disk : DiskGhosts D) (file : FileGhosts F) (work : Work D F H Z) → KeepsWork disk file work work

@@ -1,5 +1,6 @@
 mod CarryLemmas
 mod FreshLemmas
+mod IdleLemmas
 mod IntakeLemmas
 mod LastLemmas
 mod MboxLemmas

@@ -21,6 +21,7 @@ use Rattle.fetch_session.specs.declared.readiness.Found.{Found}
 use Rattle.fetch_session.specs.declared.readiness.Ready.{Ready}
 use Rattle.fetch_session.specs.Mbox.{AsksMbox}
 use Rattle.fetch_session.specs.Readiness.{CausesUnready, FindsIn, FindsRefused, IsReady, IsSettledBy, MboxUnready, Settles, Unready, UnreadyCause, merged_in}
+use Rattle.fetch_session.specs.Task.{tasks_planned}
 use Rattle.fetch_session.specs.Record.{Keeps, Steady, ReadAs, Reads, Merges, held_in}
 use Rattle.fetch_session.specs.Target.{Target, AsFiles, AsEntries, Stores, closed_file, flags_in, is_stored, mail_in, rows_in}
 use Rattle.fetch_session.proofs.RecordLemmas.{read_keeps, steady_keeps, not_whole}
@@ -111,7 +112,7 @@ module _ (settings : Settings) (target : Target) (items : List Item) (now : ℕ)
   saved_merge ready after merges rows_are flags_are steps_are = record {
     was = held_in loaded;
     stood = kept;
-    held = flags_are ∙ (found_is target store store' items (held_in loaded) found finds).1;
+    held = ap (tasks_planned ready.steps.items items) (flags_are ∙ (found_is target store store' items (held_in loaded) found finds).1);
     rows = rows_are ∙ as_now;
     steps = steps_are;
     saved = subst (λ (rows : List Row). Steady new.content (none_open rows)) (sym rows_are) merges.1;

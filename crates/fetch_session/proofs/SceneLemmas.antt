@@ -1,5 +1,5 @@
 -- How what single tasks do makes what lists of tasks do.
-use Rattle.std.proofs.Common.{◌≡◌, ◌≤◌, ℕ, List, [], ◌∷◌, ◌++◌, Option, None, Some, Result, Ok, Err, OnOk, refl, sym, ap, subst, ◌∙◌, arith, append_assoc}
+use Rattle.std.proofs.Common.{◌≡◌, ℕ, List, [], ◌∷◌, ◌++◌, Option, None, Some, Result, Ok, Err, OnOk, refl, sym, ap, ◌∙◌, arith, append_assoc}
 use Rattle.std.proofs.lemmas.List.{append-nil, map-append}
 use Rattle.std.proofs.lemmas.Grind.{flat_map-append}
 use Rattle.std.specs.List.{flat_map, AllByRecursion}
@@ -8,24 +8,19 @@ use Rattle.mail_store.specs.FlatFile.{Stored}
 use Rattle.mail_store.specs.Mboxrd.{entry_of}
 use Rattle.fetch_rules.specs.Record.{Row, marked, marked_all}
 use Rattle.mail_store.specs.Maildir.{Maildir, File}
-use Rattle.pop3_client.specs.Turns.{Turn}
-use Rattle.pop3_wire.specs.Reading.{WholeReply}
-use Rattle.pop3_client.specs.Conversation.{Talked}
 use Rattle.pop3_client.proofs.TalkLemmas.{talked_none, talked_on}
 use Rattle.fetch_session.specs.declared.fault.Cut.{Cut}
-use Rattle.fetch_session.specs.declared.report.ReportLine.{ReportLine}
-use Rattle.fetch_session.specs.Task.{Task, Done, IsAnswered, task_in, turns_in, ids_in, files_in, texts_in, lines_in, tasks_of, turns_of, replies_of, ids_of, files_of, texts_of, lines_of}
+use Rattle.fetch_session.specs.Task.{Task, Done, IsAnswered, files_in, texts_in, tasks_of, turns_of, replies_of, files_of, texts_of}
 use Rattle.fetch_session.specs.Store.{Gained, Appended, Brings}
 use Rattle.fetch_session.specs.Target.{Target, AsFiles, AsEntries, Stores}
 use Rattle.fetch_session.specs.Scene.{Scene, Went, AllWent, Fell, Stops, TakesTask, Does}
 
 pub gained_none : (m : Maildir) → Gained m m []
-gained_none m = record { in_new = sym (append-nil m.in_new); in_cur = refl; there = refl; calm = λ calm. calm; failures = omega arith }
+gained_none m = record { came = sym (append-nil m.files); there = refl; calm = λ calm. calm; failures = omega arith }
 
 pub gained_on : (a b c : Maildir) (xs ys : List File) → Gained a b xs → Gained b c ys → Gained a c (xs ++ ys)
 gained_on a b c xs ys first then = record {
-  in_new = simp (then.in_new, first.in_new, append_assoc);
-  in_cur = then.in_cur ∙ first.in_cur;
+  came = simp (then.came, first.came, append_assoc);
   there = then.there ∙ first.there;
   calm = λ calm. then.calm (first.calm calm);
   failures = omega (arith, first.failures, then.failures);

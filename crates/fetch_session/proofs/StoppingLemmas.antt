@@ -1,27 +1,24 @@
 -- A list of tasks that stopped leaves what tasks that were cut short leave.
-use Rattle.std.proofs.Common.{◌≡◌, inl, inr, ◌⊎◌, ℕ, List, [], ◌∷◌, ◌++◌, Err, refl, sym, ap, subst, ◌∙◌, append_assoc}
+use Rattle.std.proofs.Common.{◌≡◌, inl, inr, ◌⊎◌, ℕ, List, [], ◌∷◌, ◌++◌, Err, refl, sym, ◌∙◌, append_assoc}
 use Rattle.std.proofs.lemmas.List.{append-nil, map-append}
 use Rattle.std.proofs.lemmas.Grind.{flat_map-append}
-use Rattle.std.specs.List.{flat_map}
-use Rattle.pop3_wire.specs.Place.{Place}
-use Rattle.fetch_rules.specs.Record.{Row, Held, none_open, marked, marked_all}
-use Rattle.mail_store.specs.Maildir.{Maildir, File, dropped, counted}
+use Rattle.fetch_rules.specs.Record.{Held, none_open, marked, marked_all}
+use Rattle.mail_store.specs.Maildir.{File}
 use Rattle.mail_store.specs.FlatFile.{Stored}
 use Rattle.pop3_client.specs.Turns.{Turn, retr}
-use Rattle.pop3_wire.specs.Reading.{WholeReply, reply_bytes}
+use Rattle.pop3_wire.specs.Reading.{WholeReply}
 use Rattle.pop3_client.specs.Conversation.{Talked, ConversationsArePaced}
 use Rattle.pop3_client.proofs.TalkLemmas.{talked_on, stopped_first}
 use Rattle.pop3_client.specs.declared.fault.Fault.{Fault}
 use Rattle.pop3_client.specs.declared.fault.Fault.TheVariants.{StoreRefused, SeenRefused, NoMemory}
 use Rattle.pop3_client.specs.declared.fault.Why.TheVariants.{Refused as DeviceRefused}
-use Rattle.fetch_session.specs.Task.{Task, Done, stores, task_in, tasks_of, turns_in, turns_of, replies_of, ids_in, ids_of, files_in, files_of, file_from, delivered, lines_in, lines_of}
+use Rattle.fetch_session.specs.Task.{Task, Done, stores, turns_of, replies_of, ids_in, ids_of}
 use Rattle.fetch_session.specs.declared.fault.Cut.{Cut}
-use Rattle.fetch_session.specs.declared.report.ReportLine.{ReportLine}
 use Rattle.pop3_wire.specs.declared.unstuffer.Spot.TheVariants.{Done as AtEnd}
 use Rattle.mail_store.specs.FileName.{mail_file}
 use Rattle.fetch_session.specs.Record.{Keeps, Steady, Saves}
 use Rattle.fetch_session.specs.Scene.{Scene, Fell, Broken, NoFile, FileNotSaved}
-use Rattle.fetch_session.specs.Target.{AsFiles, Stores}
+use Rattle.fetch_session.specs.Target.{AsFiles}
 use Rattle.fetch_session.specs.Laws.{Stands, ExtraIs, MarksAre, CutShort, StoppingCutsShort, UnsavedFilesKeep}
 use Rattle.fetch_session.proofs.SceneLemmas.{marked_on}
 use Rattle.fetch_session.proofs.RecordLemmas.{steady_keeps}
@@ -47,9 +44,9 @@ module _ (account : List ℕ) (tasks : List Task) (old new : Scene) (cut : Cut) 
     (stood : Steady old.file.content (none_open old.rows)) where
   -- nothing was marked
   short_unmarked : (more : List ℕ) → new.place.link.got ≡ fell.mid.place.link.got ++ more → new.file ≡ fell.mid.file → new.lines ≡ fell.mid.lines → (extra : List File)
-      → new.store.maildir.in_new ≡ fell.mid.store.maildir.in_new ++ extra → new.store.maildir.in_cur ≡ fell.mid.store.maildir.in_cur
+      → new.store.maildir.files ≡ fell.mid.store.maildir.files ++ extra
       → ExtraIs account fell.dones (fell.next ∷ fell.later) old cut.fault new extra → CutShort account tasks old cut.fault new
-  short_unmarked more got file lines extra in_new in_cur extra_is = record {
+  short_unmarked more got file lines extra came extra_is = record {
     taken = fell.dones;
     next = fell.next ∷ fell.later;
     extra = extra;
@@ -58,8 +55,7 @@ module _ (account : List ℕ) (tasks : List Task) (old new : Scene) (cut : Cut) 
     good = fell.went.talked.good;
     got = stand (turns_of fell.dones) (replies_of fell.dones) old fell.mid new more none fell.went.talked got;
     told = lines ∙ fell.went.lines;
-    files = simp (in_new, fell.went.stored.in_new, append_assoc);
-    others = in_cur ∙ fell.went.stored.in_cur;
+    files = simp (came, fell.went.stored.came, append_assoc);
     extra_is = extra_is;
     marks_are = inl refl;
     record_is = rw file (rw fell.went.rows at (steady_keeps fell.mid.file.content (none_open fell.mid.rows) (fell.went.saved stood)));
@@ -69,7 +65,7 @@ module _ (account : List ℕ) (tasks : List Task) (old new : Scene) (cut : Cut) 
   short_broken : ConversationsArePaced → Broken fell.next fell.mid new cut → CutShort account tasks old cut.fault new
   short_broken paced broken =
       let p = paced (broken.turn ∷ []) fell.mid.place new.place (Err cut.fault) (stopped_first broken.turn [] fell.mid.place new.place cut.fault broken.broke) in
-      short_unmarked p.gained p.got broken.file broken.lines [] (rw (broken.store, append-nil)) (rw broken.store) (inl refl)
+      short_unmarked p.gained p.got broken.file broken.lines [] (rw (broken.store, append-nil)) (inl refl)
 
   -- the text came whole
   whole_extra : (refused : NoFile account fell.next fell.mid new cut) → refused.rest.spot ≡ AtEnd → cut.fault ≡ StoreRefused DeviceRefused
@@ -96,9 +92,9 @@ module _ (account : List ℕ) (tasks : List Task) (old new : Scene) (cut : Cut) 
       let opened = refused.fetching.opened in
       let short = short_unmarked (opened.gained ++ under.gained) (simp (under.drew.got, opened.got, append_assoc)) refused.file refused.lines in
       elim refused.refuses [
-        | inl missing ↦ short [] (rw (missing.2, append-nil)) (rw missing.2) (inl refl)
-        | inr (is, inl same) ↦ short [] (rw (same, append-nil)) (rw same) (inl refl)
-        | inr (is, inr (done, there)) ↦ short (mail_file account refused.uid refused.text ∷ []) (rw there) (rw there) (whole_extra refused done is)
+        | inl missing ↦ short [] (rw (missing.2, append-nil)) (inl refl)
+        | inr (is, inl same) ↦ short [] (rw (same, append-nil)) (inl refl)
+        | inr (is, inr (done, there)) ↦ short (mail_file account refused.uid refused.text ∷ []) (rw there) (whole_extra refused done is)
       ]
 
   short_not_saved : FileNotSaved account fell.next fell.mid new cut → CutShort account tasks old cut.fault new
@@ -128,8 +124,7 @@ module _ (account : List ℕ) (tasks : List Task) (old new : Scene) (cut : Cut) 
         good = talked.good;
         got = stand (turns_of (fell.dones ++ last ∷ [])) (replies_of (fell.dones ++ last ∷ [])) old new new [] none talked (sym (append-nil new.place.link.got));
         told = simp (refused.lines, fell.went.lines, flat_map-append, append_assoc);
-        files = simp (refused.stored.in_new, fell.went.stored.in_new, flat_map-append, append-nil, append_assoc);
-        others = refused.stored.in_cur ∙ fell.went.stored.in_cur;
+        files = simp (refused.stored.came, fell.went.stored.came, flat_map-append, append-nil, append_assoc);
         extra_is = inl refl;
         marks_are = are;
         record_is = stands;

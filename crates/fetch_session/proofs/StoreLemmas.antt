@@ -1,7 +1,7 @@
 -- What storing a text leaves.
-use Rattle.std.proofs.Common.{◌≡◌, inl, inr, ◌≤◌, ◌+◌, ℕ, List, [], ◌∷◌, ◌++◌, length, take, Option, None, Some, Result, Ok, Err, refl, sym, ap, subst, ◌∙◌, arith, length-append}
+use Rattle.std.proofs.Common.{◌≡◌, inl, inr, ◌≤◌, ◌+◌, ℕ, List, [], ◌∷◌, ◌++◌, length, take, Option, None, Some, Result, Ok, Err, refl, sym, ap, ◌∙◌, arith, length-append}
 use Rattle.std.proofs.lemmas.List.{length-take-le}
-use Rattle.mail_store.specs.Maildir.{Maildir, File, file, with_file, dropped, counted}
+use Rattle.mail_store.specs.Maildir.{Maildir, File, file, mail, with_file, dropped, counted}
 use Rattle.mail_store.specs.FileName.{sized, sized_file}
 use Rattle.pop3_client.specs.declared.fault.Fault.{Fault}
 use Rattle.fetch_session.specs.declared.fault.Cut.{Cut}
@@ -14,10 +14,10 @@ use Rattle.pop3_client.specs.Turns.{retr}
 use Rattle.fetch_session.specs.Store.{Gained, Grows, begun_with, Starts, Puts, Ends, RefusesText, StopsStoring, StoresText, StopsReading}
 
 pub gained_file : (old new : Maildir) (f : File) → new ≡ with_file old f → Gained old new (f ∷ [])
-gained_file old new f is = rw is (record { in_new = refl; in_cur = refl; there = refl; calm = λ calm. refl; failures = omega arith })
+gained_file old new f is = rw is (record { came = refl; there = refl; calm = λ calm. refl; failures = omega arith })
 
 pub not_grown : (old new : Maildir) (name : List ℕ) → old.begun ≡ None → new ≡ old → Grows name old new
-not_grown old new name calm is = rw is (record { calm = calm; in_cur = refl; in_new = inl refl })
+not_grown old new name calm is = rw is (record { calm = calm; came = inl refl })
 
 -- ---- a text, piece by piece
 
@@ -48,8 +48,8 @@ put_on old now new name text bytes was puts = puts (file name text) (ap (λ (m :
 pub settled : (old now new : Maildir) (stem text : List ℕ) (octets : ℕ) → now ≡ begun_with old (file stem text) → octets ≡ length text
     → Ends now (sized stem octets) (Ok tt) new → new ≡ with_file old (sized_file stem text)
 settled old now new stem text octets was counted ends =
-    ends (file stem text) (ap (λ (m : Maildir). m.begun) was) ∙ ap (λ (m : Maildir). with_file m (file (sized stem octets) text)) was
-    ∙ ap (λ (n : ℕ). with_file old (file (sized stem n) text)) counted
+    ends (file stem text) (ap (λ (m : Maildir). m.begun) was) ∙ ap (λ (m : Maildir). with_file m (mail (sized stem octets) text)) was
+    ∙ ap (λ (n : ℕ). with_file old (mail (sized stem n) text)) counted
 
 pub refused_end : (old now new : Maildir) (stem text : List ℕ) (octets : ℕ) (rest : Rest) (fault : Fault) → now ≡ begun_with old (file stem text) → octets ≡ length text
     → rest.spot ≡ Done → Ends now (sized stem octets) (Err fault) new → RefusesText old stem rest text fault new
@@ -60,8 +60,8 @@ refused_end old now new stem text octets rest fault was counts done ends =
         | inl is ↦ inl (is ∙ ap (λ (m : Maildir). counted (dropped m)) was)
         | inr is ↦ inr (
           done,
-          is ∙ ap (λ (m : Maildir). counted (with_file m (file (sized stem octets) text))) was
-              ∙ ap (λ (n : ℕ). counted (with_file old (file (sized stem n) text))) counts,
+          is ∙ ap (λ (m : Maildir). counted (with_file m (mail (sized stem octets) text))) was
+              ∙ ap (λ (n : ℕ). counted (with_file old (mail (sized stem n) text))) counts,
         )
       ],
     )
@@ -69,11 +69,11 @@ refused_end old now new stem text octets rest fault was counts done ends =
 stops_grows : (old new : Maildir) (name text : List ℕ) (fault : Fault) (rest : Option Rest) → old.begun ≡ None → StopsStoring name old text fault rest new → Grows name old new
 stops_grows old new name text fault None calm is = not_grown old new name calm is
 stops_grows old new name text fault (Some rest) calm (inl missing) = not_grown old new name calm missing.2
-stops_grows old new name text fault (Some rest) calm (inr (why, inl is)) = rw is (record { calm = refl; in_cur = refl; in_new = inl refl })
-stops_grows old new name text fault (Some rest) calm (inr (why, inr there)) = rw there.1 (record { calm = refl; in_cur = refl; in_new = inr (text, refl) })
+stops_grows old new name text fault (Some rest) calm (inr (why, inl is)) = rw is (record { calm = refl; came = inl refl })
+stops_grows old new name text fault (Some rest) calm (inr (why, inr there)) = rw there.1 (record { calm = refl; came = inr (text, refl) })
 
 pub stores_grows : (old new : Maildir) (name text : List ℕ) (r : Result ℕ Cut) → old.begun ≡ None → StoresText name old text r new → Grows name old new
-stores_grows old new name text (Ok octets) calm is = rw is.0 (record { calm = refl; in_cur = refl; in_new = inr (text, refl) })
+stores_grows old new name text (Ok octets) calm is = rw is.0 (record { calm = refl; came = inr (text, refl) })
 stores_grows old new name text (Err cut) calm is = stops_grows old new name text cut.fault cut.rest calm is
 
 -- a text that grew by the first `put` of some bytes is `put` longer

@@ -1,11 +1,10 @@
 -- What of a session outlives a loss of power, by what its devices say.
-use Rattle.std.specs.Prelude.{◌≡◌, ◌⊎◌, ℕ, List, [], ◌++◌, length, Some, Result, Ok, Err, Contains}
+use Rattle.std.specs.Prelude.{◌≡◌, ◌⊎◌, ℕ, List, [], ◌++◌, length, Some, Result, Ok, Err, All, Contains}
 use Rattle.std.specs.List.{flat_map, AllByRecursion}
-use Rattle.mail_store.specs.declared.maildir.disk.Folder.{Folder}
 use Rattle.mail_store.specs.declared.maildir.disk.MaildirDisk.{Ghosts as DiskGhosts}
 use Rattle.mail_store.specs.declared.file.flat_file.FlatFile.{Ghosts as FileGhosts}
 use Rattle.mail_store.specs.FlatFile.{Stored}
-use Rattle.mail_store.specs.Maildir.{File, names_of, files_in}
+use Rattle.mail_store.specs.Maildir.{File, names_of}
 use Rattle.mail_store.specs.Mboxrd.{entry_of}
 use Rattle.mail_store.specs.Power.{AllStay, KeepsBytes, KeepsMail, KeepsWhole, LastsWhole}
 use Rattle.mail_terms.specs.Listing.{Item}
@@ -13,6 +12,7 @@ use Rattle.pop3_wire.specs.Link.{Link}
 use Rattle.pop3_wire.specs.Place.{Place, at}
 use Rattle.rc_file.specs.declared.settings.Settings.{Settings}
 use Rattle.fetch_rules.specs.Record.{Row, none_open, marked_all}
+use Rattle.fetch_rules.specs.Plan.{IsQuiet, planned}
 use Rattle.fetch_session.specs.declared.account.Store.{Store}
 use Rattle.fetch_session.specs.declared.account.Store.TheVariants.{Maildir as InMaildir, Mboxrd as InMbox}
 use Rattle.fetch_session.specs.declared.fault.Cut.{Cut}
@@ -80,7 +80,7 @@ KeepsWork disk file old new = KeepsMailIn disk old.store new.store × KeepsMboxI
 -- all files that came into a Maildir outlive a loss of power
 abbrev pub NewOutlive : {D F : Type 0} → DiskGhosts D → FileGhosts F → Store D F → Store D F → Type 0
 NewOutlive disk file old new = (files : List File)
-    → (stores_of disk file new).maildir.in_new ≡ (stores_of disk file old).maildir.in_new ++ files
+    → (stores_of disk file new).maildir.files ≡ (stores_of disk file old).maildir.files ++ files
     → AllByRecursion (outlives_in disk new) files
 
 -- ---- what tasks leave that outlives it
@@ -118,19 +118,19 @@ pub record DoesForGood {D F : Type 0} (disk : DiskGhosts D) (file : FileGhosts F
 -- each file that was in the Maildir still stays
 abbrev pub StayFrom : {D F : Type 0} → DiskGhosts D → Target → Stores → Store D F → Type 0
 StayFrom disk (AsFiles account) old store =
-    (folder : Folder) (name : List ℕ) → Contains (names_of (files_in old.maildir folder)) name → stays_in disk store name
+    (name : List ℕ) → Contains (names_of old.maildir.files) name → stays_in disk store name
 StayFrom disk AsEntries old store = Unit {0}
 
--- what was planned was done, or as much as went well; and if this premise holds, each file that was in the Maildir before stays, and what
--- was done outlives a loss of power
+-- what was planned was done, or as much as went well; and if this premise holds, nothing was to be fetched or deleted, or what was done
+-- outlives a loss of power and each file that was in the Maildir before stays
 pub record CarriedForGood {D F : Type 0} (disk : DiskGhosts D) (files : FileGhosts F) (safe : Type 0) (settings : Settings)
     (target : Target) (items : List Item)
     (now : ℕ) (place : Place) (old : Stores) (file : Stored) (lines : List ReportLine) (result : Result (Unit {0}) Cut) (new : Scene)
     (skipped : ℕ) (store : Store D F) (f : F) : Type 0 where
   pub carried : Carried settings target items now place old file lines result new skipped
-  pub lasts : safe → Lasts disk files target
+  pub lasts : safe → All IsQuiet (planned settings carried.mid.rows items now) ⊎ Lasts disk files target
       (tasks_ahead settings target items now old carried.mid.rows) carried.mid result new carried.does store f
-  pub stay : safe → StayFrom disk target old store
+  pub stay : safe → All IsQuiet (planned settings carried.mid.rows items now) ⊎ StayFrom disk target old store
 
 abbrev pub CarriesForGood : {D F : Type 0} → DiskGhosts D → FileGhosts F → Type 0 → Settings → Target → List Item → ℕ → Place → Stores
     → Stored → List ReportLine → Result (Unit {0}) Cut → Place → Stores → Stored → List ReportLine → ℕ → Store D F → F → Type 0

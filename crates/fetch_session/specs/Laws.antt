@@ -43,8 +43,7 @@ pub record CutShort (account : List ℕ) (tasks : List Task) (old : Scene) (faul
   pub good : AllZip IsGood (turns_of taken) (replies_of taken)
   pub got : Stands (replies_of taken) old new
   pub told : new.lines ≡ old.lines ++ lines_of taken
-  pub files : new.store.maildir.in_new ≡ old.store.maildir.in_new ++ (files_of account taken ++ extra)
-  pub others : new.store.maildir.in_cur ≡ old.store.maildir.in_cur
+  pub files : new.store.maildir.files ≡ old.store.maildir.files ++ (files_of account taken ++ extra)
   pub extra_is : ExtraIs account taken next old fault new extra
   pub marks_are : MarksAre (ids_of taken) fault marks
   pub record_is : Keeps new.file.content (none_open (marked_all old.rows marks))

@@ -1,8 +1,10 @@
 -- What a session has ready before its first task, or why it isn't ready.
-use Rattle.std.specs.Prelude.{◌≡◌, ◌⊎◌, ◌<◌, ℕ, Bool, false, List, Option, None, Some, Result, Ok, Err, Vec}
+use Rattle.std.specs.Prelude.{◌≡◌, ◌⊎◌, ◌<◌, ℕ, Bool, true, false, All, List, Option, None, Some, Result, Ok, Err, Vec}
 use Rattle.mail_terms.specs.Listing.{Item}
-use Rattle.fetch_rules.specs.Record.{Row, Intent, Held, none_open, merged}
-use Rattle.fetch_rules.specs.Plan.{planned}
+use Rattle.fetch_rules.specs.Record.{Row, Intent, Held, IsRecord, is_delivered, none_open, merged}
+use Rattle.fetch_rules.specs.Plan.{IsQuiet, planned}
+use Rattle.fetch_rules.specs.declared.steps.Step.{Step}
+use Rattle.fetch_session.specs.Task.{tasks_planned}
 use Rattle.rc_file.specs.declared.settings.Settings.{Settings}
 use Rattle.mail_store.specs.FlatFile.{Stored, holding}
 use Rattle.mail_store.specs.Maildir.{Maildir}
@@ -11,6 +13,8 @@ use Rattle.mail_store.specs.Held.{flags_of}
 use Rattle.pop3_client.specs.declared.fault.Fault.{Fault}
 use Rattle.pop3_client.specs.declared.fault.Fault.TheVariants.{StoreRefused, SeenRefused, BadSeen, NoMemory}
 use Rattle.pop3_client.specs.declared.fault.Why.TheVariants.{Missing, Refused, NotMbox}
+use Rattle.mail_store.specs.declared.fault.StoreFault.{StoreFault}
+use Rattle.mail_store.specs.declared.fault.StoreFault.TheVariants as refused
 use Rattle.fetch_session.specs.declared.readiness.Found.{Found}
 use Rattle.fetch_session.specs.declared.readiness.Ready.{Ready}
 use Rattle.fetch_session.specs.Mbox.{AsksMbox, IsSettledAtMost}
@@ -46,12 +50,37 @@ Settles AsEntries was old new = (bytes : List ℕ) × (old.mbox.content ≡ Some
 abbrev pub merged_in : Target → Stores → Held → List Item → ℕ → List Row
 merged_in target store was items now = merged (rows_in target store was) items (flags_in target store items) now
 
+-- what the store holds can change neither the record nor what is done: each listed id is recorded as delivered, and the steps that are
+-- planned neither fetch nor delete anything
+pub record IsIdle (settings : Settings) (rows : List Row) (items : List Item) (now : ℕ) (steps : List Step) : Type 0 where
+  pub is_record : IsRecord rows
+  pub known : All (λ (item : Item). is_delivered rows item.uid ≡ true) items
+  pub planned : steps ≡ planned settings rows items now
+  pub quiet : All IsQuiet steps
+
+-- both folders of a Maildir are there; or one isn't, or a call was refused
+abbrev pub ChecksBoth : {T : Type 0} → Maildir → Result T StoreFault → Maildir → Type 0
+ChecksBoth old (Ok done) new = (old.there.new ≡ true) × (old.there.cur ≡ true) × (new ≡ old)
+ChecksBoth old (Err refused.Missing) new = ((old.there.new ≡ false) ⊎ (old.there.cur ≡ false)) × (new ≡ old)
+ChecksBoth old (Err refused.Refused) new = new ≡ Rattle.mail_store.specs.Maildir.counted old
+ChecksBoth old (Err refused.NotMbox) new = ⊥
+ChecksBoth old (Err refused.NoMemory) new = ⊥
+
+-- nothing was done to a store; or it was found that a folder of its Maildir isn't there
+abbrev pub Rests : Stores → Result Ready Fault → Stores → Type 0
+Rests old (Ok ready) new = new ≡ old
+Rests old (Err fault) new = FindsRefused old.maildir fault new.maildir
+
+-- the flags are those of the store, as far as the steps use them
+abbrev pub AreAsHeld : List Step → List Item → List Bool → List Bool → Type 0
+AreAsHeld steps items flags held = tasks_planned steps items flags ≡ tasks_planned steps items held
+
 -- the record was read, merged and saved, and the plan made; no intent is open any more
 pub record IsReady (settings : Settings) (target : Target) (items : List Item) (now : ℕ) (store : Stores)
     (file : Stored) (ready : Ready) (after : List Row) (store' : Stores) (file' : Stored) : Type 0 where
   pub was : Held
   pub stood : Keeps file.content was
-  pub held : ready.held.items ≡ flags_in target store items
+  pub held : AreAsHeld ready.steps.items items ready.held.items (flags_in target store items)
   pub rows : after ≡ merged_in target store was items now
   pub steps : ready.steps.items ≡ planned settings after items now
   pub saved : Steady file'.content (none_open after)

@@ -66,6 +66,12 @@ Merges old was now (Err SeenRefused) new = (new.failures ≡ old.failures + 1) �
 Merges old was now (Err NoMemory) new = new ≡ old
 Merges old was now (Err _) new = ⊥
 
+-- the file was flushed, or a call was refused
+abbrev pub IsSecured : Stored → Result (Unit {0}) Fault → Stored → Type 0
+IsSecured old (Ok done) new = new ≡ old
+IsSecured old (Err SeenRefused) new = new ≡ counted old
+IsSecured old (Err _) new = ⊥
+
 -- the line of a record's fault
 abbrev pub LineOf : SeenFault → ℕ → Type 0
 LineOf BadHeader line = line ≡ 1

@@ -13,16 +13,15 @@ use Rattle.pop3_client.specs.Conversation.{Talked, Broke}
 use Rattle.pop3_client.specs.Turns.{retr}
 use Rattle.pop3_client.specs.Texts.{Fetching, Fetched, body_text}
 use Rattle.fetch_session.specs.declared.fault.Cut.{Cut}
-use Rattle.mail_store.specs.Maildir.{Maildir, File, file, with_file, dropped, counted}
+use Rattle.mail_store.specs.Maildir.{Maildir, File, file, mail, with_file, dropped, counted}
 use Rattle.mail_store.specs.FileName.{stem_of, sized_file}
 use Rattle.pop3_client.specs.declared.fault.Fault.{Fault}
 use Rattle.pop3_client.specs.declared.fault.Fault.TheVariants.{StoreRefused}
 use Rattle.pop3_client.specs.declared.fault.Why.TheVariants.{Missing, Refused}
 
--- `new` gained these files after the others; no other file changed, and the same folders are there
+-- these files came after the others; no other changed, and the same folders are there
 pub record Gained (old new : Maildir) (files : List File) : Type 0 where
-  pub in_new : new.in_new ≡ old.in_new ++ files
-  pub in_cur : new.in_cur ≡ old.in_cur
+  pub came : new.files ≡ old.files ++ files
   pub there : new.there ≡ old.there
   pub calm : old.begun ≡ None → new.begun ≡ None
   pub failures : old.failures ≤ new.failures
@@ -37,19 +36,17 @@ abbrev pub Brings : Target → List Done → Stores → Stores → Type 0
 Brings (AsFiles account) dones old new = Gained old.maildir new.maildir (files_of account dones)
 Brings AsEntries dones old new = Appended old.mbox new.mbox (texts_of dones)
 
--- at most a file with this stem and its length in its name came into `new`, and none is begun
+-- at most a file with this stem and its length in its name came, and none is begun
 pub record Grows (stem : List ℕ) (old new : Maildir) : Type 0 where
   pub calm : new.begun ≡ None
-  pub in_cur : new.in_cur ≡ old.in_cur
-  pub in_new : (new.in_new ≡ old.in_new) ⊎ ((content : List ℕ) × (new.in_new ≡ old.in_new ++ sized_file stem content ∷ []))
+  pub came : (new.files ≡ old.files) ⊎ ((content : List ℕ) × (new.files ≡ old.files ++ sized_file stem content ∷ []))
 
--- nothing came into `new`, and none is begun
+-- no file came, and none is begun
 pub record Rests (old new : Maildir) : Type 0 where
   pub calm : new.begun ≡ None
-  pub in_cur : new.in_cur ≡ old.in_cur
-  pub in_new : new.in_new ≡ old.in_new
+  pub same : new.files ≡ old.files
 
--- at most a file of this id came into `new`, if there is one
+-- at most a file of this id came, if there is one
 abbrev pub GrowsBy : List ℕ → List (List ℕ) → Maildir → Maildir → Type 0
 GrowsBy account [] old new = Rests old new
 GrowsBy account (uid ∷ []) old new = Grows (stem_of account uid) old new
@@ -72,13 +69,13 @@ abbrev pub Puts : Maildir → List ℕ → Result (Unit {0}) Fault → Maildir �
 Puts old bytes (Ok done) new = (f : File) → old.begun ≡ Some f → new ≡ begun_with old (file f.name (f.content ++ bytes))
 Puts old bytes (Err fault) new = (fault ≡ StoreRefused Refused) × ((f : File) → old.begun ≡ Some f → new ≡ counted (dropped old))
 
--- what was written is in `new` under this name, or, refused, it may be
+-- what was written is there under this name, or, refused, it may be
 abbrev pub Ends : Maildir → List ℕ → Result (Unit {0}) Fault → Maildir → Type 0
-Ends old name (Ok done) new = (f : File) → old.begun ≡ Some f → new ≡ with_file old (file name f.content)
+Ends old name (Ok done) new = (f : File) → old.begun ≡ Some f → new ≡ with_file old (mail name f.content)
 Ends old name (Err fault) new = (fault ≡ StoreRefused Refused) × ((f : File) → old.begun ≡ Some f
-    → (new ≡ counted (dropped old)) ⊎ (new ≡ counted (with_file old (file name f.content))))
+    → (new ≡ counted (dropped old)) ⊎ (new ≡ counted (with_file old (mail name f.content))))
 
--- the store refused a text of which this much has come: nothing came into `new`, or, only if the text had come whole, the file
+-- the store refused a text of which this much has come: nothing came, or, only if the text had come whole, the file
 abbrev pub RefusesText : Maildir → List ℕ → Rest → List ℕ → Fault → Maildir → Type 0
 RefusesText old stem rest text fault new = ((fault ≡ StoreRefused Missing) × (old.there.tmp ≡ false) × (new ≡ old))
     ⊎ ((fault ≡ StoreRefused Refused) × ((new ≡ counted (dropped old))

@@ -28,7 +28,7 @@ pub record Stores : Type 0 where
   pub mbox : Stored
 
 abbrev pub no_maildir : Maildir
-no_maildir = record { there = record { tmp = false; new = false; cur = false }; in_new = []; in_cur = []; begun = None; failures = 0 }
+no_maildir = record { there = record { tmp = false; new = false; cur = false }; files = []; begun = None; failures = 0 }
 
 abbrev pub no_mbox : Stored
 no_mbox = record { content = None; failures = 0 }

@@ -1,25 +1,29 @@
 //! What a session knows before its plan is carried out: the record, and what the store holds.
-ghost use Rattle.std.specs.Prelude.{◌≡◌, ◌≢◌, ℕ, Bool, List, [], false, true, map, None, Some, length, OnOk, IfOk};
+ghost use Rattle.std.specs.Prelude.{◌≡◌, ◌≢◌, ◌⊎◌, ℕ, Bool, List, [], false, true, map, All, None, Some, length, OnOk, IfOk, IfErr, IfSome};
 ghost use Rattle.std.specs.List.{AllByRecursion};
 ghost use Rattle.fetch_rules.specs.Intents.{closed_rows};
 ghost use Rattle.fetch_rules.specs.Record.{Loaded, has_row, none_open, merged};
 ghost use Rattle.fetch_rules.specs.RecordFile.{file_of};
-ghost use Rattle.fetch_rules.specs.Plan.{planned};
+ghost use Rattle.fetch_rules.specs.Plan.{IsQuiet, planned};
+ghost use Rattle.mail_store.specs.Fault.{IsDeviceFault};
 ghost use Rattle.fetch_session.specs.Mbox.{AsksMbox, SettlesIntent};
 ghost use Rattle.mail_store.specs.Power.{AllStay};
 ghost use Rattle.fetch_session.specs.Lasting.{AllStayIn, IsSafe, IsSafeStore, is_sure};
-ghost use Rattle.fetch_session.specs.Target.{flags_in, is_sound, kind_of, stores_of, target_of};
-ghost use Rattle.fetch_session.specs.Readiness.{FindsHeld, FindsIn, Readies};
-ghost use Rattle.fetch_session.specs.Record.{Gets, Reads, ReadAs, Merges, IsLineFault, Steady, bytes_in, held_in};
+ghost use Rattle.fetch_session.specs.Target.{Kind, flags_in, is_sound, kind_of, stores_of, target_of};
+ghost use Rattle.fetch_session.specs.Readiness.{AreAsHeld, ChecksBoth, FindsHeld, FindsIn, IsIdle, Readies, Rests};
+ghost use Rattle.fetch_session.specs.Record.{Gets, Reads, ReadAs, Merges, IsLineFault, IsSecured, Steady, bytes_in, held_in};
 
 use crate::account::Store;
 use crate::appending::refused;
 use crate::record::{grow, save};
 use crate::terms::Terms;
-use fetch_rules::{Listing, Seen, SeenFault, Step, listed_has_row, plan};
-use mail_store::{AccountId, FlatFile, MaildirDisk, StoreFault, check_mbox, held, settle_file};
+use fetch_rules::{
+    Listing, Seen, SeenFault, Step, ask_nothing, delivered_has_row, known_listings_change_nothing,
+    listed_has_row, plan, plan_of_known,
+};
+use mail_store::{AccountId, FlatFile, Folder, MaildirDisk, StoreFault, check_mbox, held, settle_file};
 use pop3_client::{Fault, Why};
-use std::alloc::Global;
+use std::alloc::{AllocError, Global};
 use std::hash::BuildHasher;
 use std::vec::Vec;
 
@@ -53,13 +57,13 @@ fn line_of(fault: SeenFault) -> Fault
     }
 }
 
-/// The bytes of the record's file; none if it isn't there.
+/// The bytes of the record's file; none if it isn't there. Nothing is flushed.
 fn load<F: FlatFile>(alloc: Global, file: &mut F) -> Result<Vec<u8>, Fault>
     ensures gets { F.sound file.new → F.sound file.old
         × Gets (F.stored file.old) result (F.stored file.new) }
-    ensures lasts { F.sound file.new → F.is_sure file.old → OnOk result (IsSafe F.FlatFile file.new) }
+    ensures sure { F.sound file.new → F.is_sure file.old → F.is_sure file.new }
 {
-    match file.load() {
+    match file.peek() {
         Ok(bytes) => Ok(bytes),
         Err(StoreFault::Missing) => Ok(Vec::new(alloc)),
         Err(_) => Err(Fault::SeenRefused),
@@ -74,7 +78,7 @@ pub(crate) fn read<F: FlatFile, H: BuildHasher>(
 ) -> Result<bool, Fault>
     ensures reads { F.sound file.new → F.sound file.old
         × Reads (F.stored file.old) seen.new result (F.stored file.new) }
-    ensures lasts { F.sound file.new → F.is_sure file.old → OnOk result (IsSafe F.FlatFile file.new) }
+    ensures sure { F.sound file.new → F.is_sure file.old → F.is_sure file.new }
 {
     let bytes = match load(alloc, file) {
         Ok(bytes) => bytes,
@@ -83,6 +87,18 @@ pub(crate) fn read<F: FlatFile, H: BuildHasher>(
     match seen.reread(&bytes) {
         Ok(()) => Ok(bytes.is_empty()),
         Err(fault) => Err(line_of(fault)),
+    }
+}
+
+/// Flushes the record's file, if it is there, so that no loss of power takes back what was read.
+fn secure<F: FlatFile>(file: &mut F) -> Result<(), Fault>
+    ensures same { F.sound file.new → F.sound file.old × IsSecured (F.stored file.old) result (F.stored file.new) }
+    ensures lasts { F.sound file.new → F.is_sure file.old → OnOk result (IsSafe F.FlatFile file.new) }
+{
+    match file.edges() {
+        Ok(_) => Ok(()),
+        Err(StoreFault::Missing) => Ok(()),
+        Err(_) => Err(Fault::SeenRefused),
     }
 }
 
@@ -220,16 +236,87 @@ fn take_in<F: FlatFile, H: BuildHasher>(
     grow(file, &group)
 }
 
-/// Reads the record, settles its open intent, merges the listing and what the store holds of it,
-/// saves the record if that changed it, and makes the plan.
-pub fn prepare<D: MaildirDisk, F: FlatFile, H: BuildHasher>(
+/// The steps of the plan, if nothing that the store holds can change the record, its file or what
+/// is done: each listed id is recorded as delivered, nothing is to be fetched or deleted, and the
+/// file needs no change.
+fn idle_steps<D, F, H: BuildHasher>(
+    alloc: Global,
+    terms: Terms<'_>,
+    store: &Store<D, F>,
+    seen: &Seen<H>,
+    listing: &Listing,
+) -> Result<Option<Vec<Step>>, AllocError>
+    ensures files { IfOk result (λ found. IfSome found (λ steps. kind_of store.now ≡ Kind.Files)) }
+    ensures idle { IfOk result (λ found. IfSome found (λ steps.
+        IsIdle terms.entry.settings.now seen.now.rows listing.now terms.entry.now steps.items)) }
+    ensures fresh { IfOk result (λ found. IfSome found (λ steps. seen.now.stale ≡ false)) }
+    ensures closed { IfOk result (λ found. IfSome found (λ steps. seen.now.intent ≡ None)) }
+{
+    if !matches!(store, Store::Maildir(_)) {
+        return Ok(None);
+    }
+    if terms.settings.read_all || seen.needs_rewrite() || seen.intent().is_some() {
+        return Ok(None);
+    }
+    if !seen.knows(listing) {
+        return Ok(None);
+    }
+    let steps = plan_of_known(alloc, terms.settings, seen, listing, terms.now)?;
+    if !ask_nothing(&steps) {
+        return Ok(None);
+    }
+    Ok(Some(steps))
+}
+
+/// Whether both folders of a Maildir are there.
+fn check_folders<D: MaildirDisk>(disk: &mut D) -> Result<(), StoreFault>
+    ensures checks { D.sound disk.new → D.sound disk.old
+        × ChecksBoth (D.maildir disk.old) result (D.maildir disk.new) }
+    ensures fault { IfErr result IsDeviceFault }
+{
+    disk.check(Folder::New)?;
+    disk.check(Folder::Cur)
+}
+
+/// What is ready if the Maildir needn't be asked what it holds: its folders must be there.
+fn rest<D: MaildirDisk, F: FlatFile>(
+    alloc: Global,
+    store: &mut Store<D, F>,
+    listing: &Listing,
+    steps: Vec<Step>,
+) -> Result<Ready, Fault>
+    requires files { kind_of store.old ≡ Kind.Files }
+    ensures kind { kind_of store.new ≡ kind_of store.old }
+    ensures length { IfOk result (λ ready. length ready.held.items ≡ length listing.now) }
+    ensures steps { IfOk result (λ ready. ready.steps.items ≡ steps.items) }
+    ensures finds { is_sound D.MaildirDisk F.FlatFile store.new → is_sound D.MaildirDisk F.FlatFile store.old
+        × Rests (stores_of D.MaildirDisk F.FlatFile store.old) result (stores_of D.MaildirDisk F.FlatFile store.new) }
+{
+    let Store::Maildir(disk) = store else {
+        unreachable!()
+    };
+    if let Err(fault) = check_folders(disk) {
+        return Err(refused(fault));
+    }
+    let Ok(held) = vec![in alloc; false; listing.len() as usize] else {
+        return Err(Fault::NoMemory);
+    };
+    Ok(Ready { held, steps })
+}
+
+/// Settles the open intent of the record that was read, merges the listing and what the store holds
+/// of it, saves the record if that changed it, and makes the plan.
+fn prepare_by_store<D: MaildirDisk, F: FlatFile, H: BuildHasher>(
     alloc: Global,
     terms: Terms<'_>,
     store: &mut Store<D, F>,
     file: &mut F,
     seen: &mut Seen<H>,
     listing: &Listing,
+    is_new: bool,
 ) -> Result<Ready, Fault>
+    requires stands { F.sound file.old → ReadAs (F.stored file.old).content seen.old }
+    requires begun { F.sound file.old → is_new ≡ false → bytes_in (F.stored file.old).content ≢ [] }
     ensures kind { kind_of store.new ≡ kind_of store.old }
     ensures lengths { IfOk result (λ ready. (length ready.steps.items ≡ length listing.now)
         × (length ready.held.items ≡ length listing.now)) }
@@ -248,13 +335,9 @@ pub fn prepare<D: MaildirDisk, F: FlatFile, H: BuildHasher>(
         (stores_of D.MaildirDisk F.FlatFile store.new) (F.stored file.new) }
     ensures lasts { is_sound D.MaildirDisk F.FlatFile store.new → is_sure F.FlatFile store.old
         → OnOk result (IsSafeStore F.FlatFile store.new × AllStayIn D.MaildirDisk store.new) }
-    ensures file_lasts { F.sound file.new → F.is_sure file.old → OnOk result (IsSafe F.FlatFile file.new) }
+    ensures file_lasts { F.sound file.new → IsSafe F.FlatFile file.old → OnOk result (IsSafe F.FlatFile file.new) }
 {
     listed_has_row();
-    let is_new = match read(alloc, file, seen) {
-        Ok(is_new) => is_new,
-        Err(fault) => return Err(fault),
-    };
     let found = match ask_store(alloc, store, seen, terms.account, listing) {
         Ok(found) => found,
         Err(fault) => return Err(fault),
@@ -269,4 +352,53 @@ pub fn prepare<D: MaildirDisk, F: FlatFile, H: BuildHasher>(
         }),
         Err(_) => Err(Fault::NoMemory),
     }
+}
+
+/// Reads the record, settles its open intent, merges the listing and what the store holds of it,
+/// saves the record if that changed it, and makes the plan. A Maildir isn't asked what it holds if
+/// that can change nothing: then nothing is fetched, deleted, written or flushed.
+pub fn prepare<D: MaildirDisk, F: FlatFile, H: BuildHasher>(
+    alloc: Global,
+    terms: Terms<'_>,
+    store: &mut Store<D, F>,
+    file: &mut F,
+    seen: &mut Seen<H>,
+    listing: &Listing,
+) -> Result<Ready, Fault>
+    ensures kind { kind_of store.new ≡ kind_of store.old }
+    ensures lengths { IfOk result (λ ready. (length ready.steps.items ≡ length listing.now)
+        × (length ready.held.items ≡ length listing.now)) }
+    ensures plans { IfOk result (λ ready. ready.steps.items ≡ planned terms.entry.settings.now seen.new.rows listing.now terms.entry.now) }
+    ensures rows { OnOk result (AllByRecursion (λ item. has_row seen.new.rows item.uid ≡ true) listing.now) }
+    ensures stays { is_sound D.MaildirDisk F.FlatFile store.new → is_sound D.MaildirDisk F.FlatFile store.old
+        × ((stores_of D.MaildirDisk F.FlatFile store.new).maildir.begun ≡ (stores_of D.MaildirDisk F.FlatFile store.old).maildir.begun)
+        × IfOk result (λ ready. AreAsHeld ready.steps.items listing.now ready.held.items
+        (flags_in (target_of store.old terms.entry.account.now) (stores_of D.MaildirDisk F.FlatFile store.new) listing.now)) }
+    ensures steady { F.sound file.new → F.sound file.old × OnOk result (Steady (F.stored file.new).content (none_open seen.new.rows)) }
+    ensures closed { OnOk result (seen.new.intent ≡ None) }
+    ensures readies { is_sound D.MaildirDisk F.FlatFile store.new → F.sound file.new
+        → is_sound D.MaildirDisk F.FlatFile store.old × F.sound file.old
+        × Readies terms.entry.settings.now (target_of store.old terms.entry.account.now) listing.now terms.entry.now
+        (stores_of D.MaildirDisk F.FlatFile store.old) (F.stored file.old) result seen.new.rows
+        (stores_of D.MaildirDisk F.FlatFile store.new) (F.stored file.new) }
+    ensures lasts { is_sound D.MaildirDisk F.FlatFile store.new → is_sure F.FlatFile store.old
+        → IfOk result (λ ready. IsSafeStore F.FlatFile store.new × (All IsQuiet ready.steps.items ⊎ AllStayIn D.MaildirDisk store.new)) }
+    ensures file_lasts { F.sound file.new → F.is_sure file.old
+        → IfOk result (λ ready. All IsQuiet ready.steps.items ⊎ IsSafe F.FlatFile file.new) }
+{
+    delivered_has_row();
+    known_listings_change_nothing();
+    let is_new = match read(alloc, file, seen) {
+        Ok(is_new) => is_new,
+        Err(fault) => return Err(fault),
+    };
+    match idle_steps(alloc, terms, store, seen, listing) {
+        Ok(Some(steps)) => return rest(alloc, store, listing, steps),
+        Ok(None) => {}
+        Err(_) => return Err(Fault::NoMemory),
+    }
+    if let Err(fault) = secure(file) {
+        return Err(fault);
+    }
+    prepare_by_store(alloc, terms, store, file, seen, listing, is_new)
 }

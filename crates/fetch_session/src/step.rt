@@ -29,7 +29,7 @@ use crate::storing::{pass_text, store_text};
 use crate::work::{Ledger, Work};
 use fetch_rules::{Listing, Step, marked_keeps_rows};
 use mail_store::{
-    AccountId, FlatFile, MaildirDisk, file_stem, one_more_is_held, unheld_ids_are_not_in_new,
+    AccountId, FlatFile, MaildirDisk, file_stem, one_more_is_held, unheld_ids_are_not_there,
 };
 use pop3_client::{Client, Fault, conversations_are_paced};
 use pop3_wire::Wire;
@@ -81,11 +81,11 @@ fn take_into_maildir<W: Wire, D: MaildirDisk, F: FlatFile, H: BuildHasher>(
         × KeepsBytes (F.outlives ledger.old.file) (F.outlives ledger.new.file) }
     ensures lasts { D.sound disk.new → F.sound ledger.new.file → IsSafe F.FlatFile ledger.old.file
         → OnOk result (IsSafe F.FlatFile ledger.new.file × ((files : List File)
-        → (D.maildir disk.new).in_new ≡ (D.maildir disk.old).in_new ++ files → AllByRecursion (D.outlives disk.new) files)) }
+        → (D.maildir disk.new).files ≡ (D.maildir disk.old).files ++ files → AllByRecursion (D.outlives disk.new) files)) }
 {
     conversations_are_paced();
     marked_keeps_rows();
-    unheld_ids_are_not_in_new();
+    unheld_ids_are_not_there();
     let stem = match file_stem(ledger.alloc, account, uid) {
         Ok(stem) => stem,
         Err(_) => return Err(plain(Fault::NoMemory)),

@@ -7,7 +7,7 @@ ghost use Rattle.pop3_wire.specs.declared.unstuffer.Spot.TheVariants.{Done};
 ghost use Rattle.pop3_client.specs.Turns.{retr, text_limit};
 ghost use Rattle.pop3_client.specs.Texts.{Fetching};
 ghost use Rattle.mail_store.specs.FileName.{HasRoomForSize, sized, sized_file};
-ghost use Rattle.mail_store.specs.Maildir.{File, IsInNew, file, with_file};
+ghost use Rattle.mail_store.specs.Maildir.{File, IsThere, file, mail, with_file};
 ghost use Rattle.mail_store.specs.Power.{KeepsMail};
 ghost use Rattle.fetch_session.specs.Refusal.{RefusesTillCut};
 ghost use Rattle.fetch_session.specs.Store.{Starts, Puts, Ends, StoresText, ReadsText, PassesText};
@@ -55,12 +55,12 @@ fn put_piece<D: MaildirDisk>(disk: &mut D, bytes: &[u8]) -> Result<(), Fault>
 fn settle_file<D: MaildirDisk>(disk: &mut D, stem: String, size: u64) -> Result<(), Fault>
     requires room { HasRoomForSize stem }
     requires begun { D.sound disk.old → IsSome (D.maildir disk.old).begun }
-    requires not_there { D.sound disk.old → IsInNew (D.maildir disk.old) (sized (string_bytes stem) size) → ⊥ }
+    requires not_there { D.sound disk.old → IsThere (D.maildir disk.old) (sized (string_bytes stem) size) → ⊥ }
     ensures ends { D.sound disk.new → D.sound disk.old
         × Ends (D.maildir disk.old) (sized (string_bytes stem) size) result (D.maildir disk.new) }
     ensures keeps { D.sound disk.new → KeepsMail (D.stays disk.old) (D.outlives disk.old) (D.stays disk.new) (D.outlives disk.new) }
     ensures lasts { D.sound disk.new → OnOk result ((f : File) → (D.maildir disk.old).begun ≡ Some f
-        → D.outlives disk.new (file (sized (string_bytes stem) size) f.content)) }
+        → D.outlives disk.new (mail (sized (string_bytes stem) size) f.content)) }
 {
     let mut name = stem;
     add_size(&mut name, size);
@@ -83,7 +83,7 @@ pub(crate) fn store_text<W: Wire, D: MaildirDisk>(
     requires open { body.spot ≢ Done }
     requires within { body.left ≤ text_limit }
     requires calm { D.sound disk.old → (D.maildir disk.old).begun ≡ None }
-    requires not_there { D.sound disk.old → (size : ℕ) → IsInNew (D.maildir disk.old) (sized (string_bytes stem) size) → ⊥ }
+    requires not_there { D.sound disk.old → (size : ℕ) → IsThere (D.maildir disk.old) (sized (string_bytes stem) size) → ⊥ }
     ensures link { HasSameLink client.old client.new }
     ensures counted { RefusesTillCut (link_of W.Wire client.old) result (link_of W.Wire client.new) }
     ensures stores { (text : List ℕ) × (D.sound disk.new → D.sound disk.old

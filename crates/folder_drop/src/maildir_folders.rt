@@ -8,17 +8,23 @@ use crate::folders_look::{ChangeTime, FoldersLook};
 use crate::listed_file::{count_size, stamp_of};
 use crate::maildir_names::{Folder, PlacedFile, Stamp};
 use crate::seen_files::SeenFiles;
-use folder_names::{FolderNames, list_names};
+use folder_names::list_names;
 use mail_terms::base;
 use std::alloc::{AllocError, AllocFailed};
 use std::fs;
 use std::io::{self, ErrorKind};
 use std::marker::Model;
 use std::rt::Files;
-use std::time::Clock;
+use std::time::{Clock, Duration};
 
 /// How many times a file is tried, if it has a new name each time.
 const MOST_TRIES: u32 = 10;
+
+/// How many times the folders are listed while others change `new` all the time, and for how many
+/// seconds at most.
+const MOST_LISTINGS: u32 = 100;
+
+const MOST_SECONDS: u64 = 4;
 
 /// Why a file or folder couldn't be read or removed: the system's error, and the path, if the error is
 /// about one.
@@ -138,28 +144,48 @@ impl<'a, R: Files + Clock + AllocGlobal + Clone + Drop> MaildirFolders<'a, R> {
         })
     }
 
-    /// Adds the files of a folder; one that is there all the time isn't left out. Names that aren't UTF-8,
-    /// or begin with a full stop, are skipped.
-    fn add_files(&self, folder: Folder, files: &mut Vec<PlacedFile>) -> Result<(), Unread> {
+    /// Adds the files of a folder at one moment, and returns the folder's time of change then. Names that
+    /// aren't UTF-8, or begin with a full stop, are skipped.
+    fn add_files(&self, folder: Folder, files: &mut Vec<PlacedFile>) -> Result<ChangeTime, Unread> {
         let path = self.folder_path(folder)?;
-        let names = match list_names(self.rt, path.as_str()) {
-            Ok(FolderNames { names, .. }) => names,
+        let listed = match list_names(self.rt, path.as_str()) {
+            Ok(listed) => listed,
             Err(error) => return Err(Unread::at(error, path)),
         };
-        for name in names {
+        for name in listed.names {
             files.push(PlacedFile::of(self.rt.alloc(), folder, name)?)?;
         }
-        Ok(())
+        Ok(ChangeTime::of(&listed.folder))
     }
 
-    /// The files of both folders, in order. A file that moves from `new` to `cur` meanwhile is still
-    /// found, since `new` is listed first; it may be found in both.
-    pub fn list(&self) -> Result<Vec<PlacedFile>, Unread> {
+    /// The files of both folders, in order. None if `new` changed meanwhile: a file may then have moved
+    /// from the folder that wasn't listed yet to the one that was.
+    fn list_once(&self) -> Result<Option<Vec<PlacedFile>>, Unread> {
         let mut files = Vec::new(self.rt.alloc());
-        self.add_files(Folder::New, &mut files)?;
+        let change = self.add_files(Folder::New, &mut files)?;
         self.add_files(Folder::Cur, &mut files)?;
+        if self.change_of(Folder::New)? != change {
+            return Ok(None);
+        }
         files.sort()?;
-        Ok(files)
+        Ok(Some(files))
+    }
+
+    /// The files of both folders at one moment, in order: each once, although others move files between
+    /// the two meanwhile. The error is TimedOut if `new` changes all the time.
+    pub fn list(&self) -> Result<Vec<PlacedFile>, Unread> {
+        let start = self.rt.monotonic()?;
+        for _ in 0..MOST_LISTINGS {
+            if let Some(files) = self.list_once()? {
+                return Ok(files);
+            }
+            let passed = self.rt.monotonic()?.saturating_sub(start);
+            if passed >= Duration::from_secs(MOST_SECONDS) {
+                break;
+            }
+        }
+        let path = self.folder_path(Folder::New)?;
+        Err(Unread::at(ErrorKind::TimedOut.into(), path))
     }
 
     /// The path of a file that isn't at `tried` any more: where the last listing saw a file with its

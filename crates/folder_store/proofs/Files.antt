@@ -11,8 +11,7 @@ use Rattle.mail_store.specs.declared.fault.StoreFault.TheVariants.{Missing, Refu
 use Rattle.mail_store.specs.declared.file.flat_file.Edges.{Edges}
 use Rattle.mail_store.specs.FlatFile.{Appends, Cuts, Replaces, Loads, Measures, ReadsAt, Denies}
 use Rattle.folder_store.specs.FileFolder.{Directory, Entry, Blob, Older, entry, names_in, find, placed, making, changed, appended, cut, doubted, flushed, secured, empty_blob, content_in, content_at, ChangesMade, Makes, Writes, LacksFile, Reads, MeasuresFile, ReadsPiece, AppendsTo, CutsTo, FlushesFile, FlushesNames}
-use Rattle.folder_store.specs.FolderMaildir.{PutsFlushed}
-use Rattle.folder_store.specs.HostFile.{stored_in, Holds, Keeps, Becomes, MayBeFlushed, IsAppended, IsSoFar, IsPartAppended, AppendsPiece, AppendsFlushed, CutsFlushed, ReplacesFlushed, Flushes}
+use Rattle.folder_store.specs.HostFile.{stored_in, Holds, Keeps, Becomes, MayBeFlushed, IsAppended, IsSoFar, IsPartAppended, AppendsPiece, AppendsFlushed, CutsFlushed, PutsFlushed, ReplacesFlushed, Flushes}
 
 pub some_is : {A : Type 0} (x y : A) → Some x ≡ Some y → x ≡ y
 some_is x y h = cc

@@ -1,20 +1,16 @@
 -- What stays of a folder, call after call.
-use Rattle.std.proofs.Common.{◌≡◌, ℕ, ◌+◌, ◌-◌, ◌≤◌, length, refl, List, [], ◌++◌, take, Bool, false, sym, ap, subst, ◌∙◌, arith, Option, Some, None, Result, Ok, Err, inl, inr, length-append, append_assoc, Vec, String}
-use Rattle.std.specs.Prelude.{option_map, Contains, OnOk, is_err}
+use Rattle.std.proofs.Common.{◌≡◌, ℕ, ◌+◌, ◌-◌, ◌≤◌, length, refl, List, [], ◌++◌, take, Bool, false, sym, ap, subst, ◌∙◌, arith, Option, Some, None, Result, Ok, Err, inl, inr, length-append, append_assoc}
+use Rattle.std.specs.Prelude.{option_map, OnOk, is_err}
 use Rattle.std.proofs.lemmas.List.{append-nil}
 use Rattle.std.proofs.Math.Seq.{take-append-add}
 use Rattle.std.proofs.lemmas.Bool.{cases_Bool}
 use Rattle.mail_store.specs.declared.fault.StoreFault.{StoreFault}
-use Rattle.mail_store.specs.declared.fault.StoreFault.TheVariants.{Missing, Refused, NotMbox, NoMemory}
-use Rattle.mail_store.specs.Maildir.{names_of}
-use Rattle.mail_store.specs.Power.{ToldStay, KeepsMail, KeepsBytes, KeepsFront, LastsWhole}
-use Rattle.folder_store.specs.FileFolder.{Directory, Blob, find, appended, cut, flushed, doubted, secured, content_in, content_at, making, names_flushed, ChangesMade, FlushesFile, FlushesNames}
+use Rattle.mail_store.specs.Power.{KeepsBytes, KeepsFront, LastsWhole}
+use Rattle.folder_store.specs.FileFolder.{Directory, Blob, find, appended, cut, flushed, doubted, secured, content_in, content_at, names_flushed, FlushesFile, FlushesNames}
 use Rattle.folder_store.specs.HostFile.{Holds, Keeps, MayBeFlushed, IsSoFar, AppendsFlushed, CutsFlushed}
-use Rattle.folder_store.specs.FolderMaildir.{PutsFlushed, AnswersNames, content_made, files_at}
-use Rattle.folder_store.specs.PowerLoss.{IsLeft, IsLeftOf, MayBe, IsFlushed, IsSure, IsOnDisk, IsKnown, StaysInEither, FileStands, LeavesNoMore, LeavesBut, IsFront, FrontStands, FrontsOutlivePower}
-use Rattle.folder_store.proofs.Files.{none_of, some_is, some_is_not_none, holds_changed}
-use Rattle.folder_store.proofs.Directories.{names_of-files_at}
-use Rattle.folder_store.proofs.PowerLoss.{asked, disk_is_known, flushed_sure, left_named, making_leaves, put_leaves_but, told_stay}
+use Rattle.folder_store.specs.PowerLoss.{IsLeft, IsLeftOf, IsFlushed, IsSure, IsOnDisk, IsKnown, IsFront, FrontStands, FrontsOutlivePower}
+use Rattle.folder_store.proofs.Files.{some_is, some_is_not_none, holds_changed}
+use Rattle.folder_store.proofs.PowerLoss.{asked, disk_is_known, flushed_sure, left_named}
 
 -- ---- the first bytes of a file
 
@@ -192,81 +188,6 @@ fronts_outlive_power old new name bytes f loses =
     by None h = absurd h
     by (Some left) h = let b = begins left h in (b.0, ap (λ (xs : List ℕ). Some xs) b.1)
 
--- ---- names, and the files under them
-
--- nothing more is left in either folder
-pub leaves_keep : (new cur new' cur' : Directory) → LeavesNoMore new new' → LeavesNoMore cur cur'
-    → KeepsMail (StaysInEither new cur) (FileStands new) (StaysInEither new' cur') (FileStands new')
-leaves_keep new cur new' cur' news curs = (
-  λ name s. elim s [
-    | inl stays ↦ inl (λ may. stays (news name None may))
-    | inr stays ↦ inr (λ may. stays (curs name None may))
-  ],
-  λ f s left may. s left (news f.name left may),
-)
-
-pub same_leaves : (d : Directory) → LeavesNoMore d d
-same_leaves d name left may = may
-
-pub making_keeps : (new cur new' : Directory) → ChangesMade new new'
-    → KeepsMail (StaysInEither new cur) (FileStands new) (StaysInEither new' cur) (FileStands new')
-making_keeps new cur new' change = leaves_keep new cur new' cur (making_leaves new new' change) (same_leaves cur)
-
-flushed_leaves : (old new : Directory) → new ≡ names_flushed old → LeavesNoMore old new
-flushed_leaves old new e name left may = elim (subst (λ (d : Directory). MayBe d name left) e may) [
-  | inl now ↦ inl now
-  | inr was ↦ absurd was
-]
-
-is_same : (old new : Directory) → new ≡ old → LeavesNoMore old new
-is_same old new e name left may = subst (λ (d : Directory). MayBe d name left) e may
-
-pub tells_leaves : {A B : Type 0} (old new : Directory) (r : Result (Vec (String A) B) StoreFault) → AnswersNames old r new → LeavesNoMore old new
-tells_leaves old new (Ok names) (t, e) = flushed_leaves old new e
-tells_leaves old new (Err Missing) (gone, e) = is_same old new e
-tells_leaves old new (Err Refused) (inl e) = is_same old new e
-tells_leaves old new (Err Refused) (inr e) = flushed_leaves old new e
-tells_leaves old new (Err NotMbox) t = absurd t
-tells_leaves old new (Err NoMemory) t = absurd t
-
--- a file was put under a name that was free
-but_keeps : (old new cur : Directory) (title bytes : List ℕ) → (Contains (names_of (files_at old.entries)) title → ⊥) → LeavesBut old title bytes new
-    → KeepsMail (StaysInEither old cur) (FileStands old) (StaysInEither new cur) (FileStands new)
-but_keeps old new cur title bytes free leaves = (
-  λ name s. elim s [
-    | inl stays ↦ inl (λ may. elim (leaves name None may) [
-      | inl was ↦ stays was
-      | inr came ↦ some_is_not_none bytes None refl came.1
-    ])
-    | inr stays ↦ inr stays
-  ],
-  λ f s left may. elim (leaves f.name left may) [
-    | inl was ↦ s left was
-    | inr came ↦ absurd (some_is_not_none f.content None refl (s None (was_free f.name came.0)))
-  ],
-)
-  where
-    nowhere : find title old.entries ≡ None
-    nowhere = none_of title old.entries (λ c. free (subst (λ (names : List (List ℕ)). Contains names title) (sym (names_of-files_at old.entries)) c))
-
-    was_free : (name : List ℕ) → name ≡ title → MayBe old name None
-    was_free name same = inl (subst (λ (o : Option Blob). IsLeftOf o None) (sym (ap (λ (n : List ℕ). find n old.entries) same ∙ nowhere)) tt)
-
-pub puts_keep : (old new cur : Directory) (title : List ℕ) (r : Result (Unit {0}) StoreFault) → (Contains (names_of (files_at old.entries)) title → ⊥)
-    → PutsFlushed old title r new → KeepsMail (StaysInEither old cur) (FileStands old) (StaysInEither new cur) (FileStands new)
-puts_keep old new cur title r free puts =
-    but_keeps old new cur title (content_made old.made) free
-    (put_leaves_but old new title (content_made old.made) r (λ b made. sym (ap content_made made)) puts)
-
--- the same, refused, and then the file was given up
-pub not_put_keeps : (old mid new cur : Directory) (title : List ℕ) (fault : StoreFault) → (Contains (names_of (files_at old.entries)) title → ⊥)
-    → PutsFlushed {T = Unit {0}} old title (Err fault) mid → new ≡ making mid None
-    → KeepsMail (StaysInEither old cur) (FileStands old) (StaysInEither new cur) (FileStands new)
-not_put_keeps old mid new cur title fault free puts gone =
-    let first = puts_keep old mid cur title (Err fault) free puts in
-    let then = making_keeps mid cur new (None, gone) in
-    (λ name s. then.0 name (first.0 name s), λ f s. then.1 f (first.1 f s))
-
 -- a call that only reads answered, once the file was flushed
 pub told_again : {T : Type 0} (r : Result T StoreFault) (is_flushed flag : Bool) (old mid new : Directory) (name name' : List ℕ) → is_err r ≡ false
     → mid ≡ old → name' ≡ name → (IsKnown is_flushed mid name → OnOk r (IsOnDisk new name)) → IsKnown is_flushed old name
@@ -274,12 +195,3 @@ pub told_again : {T : Type 0} (r : Result T StoreFault) (is_flushed flag : Bool)
 told_again r is_flushed flag old mid new name name' well same named on_disk known =
     told_lasts flag new name' (subst (λ (n : List ℕ). IsOnDisk new n) (sym named)
     (asked r (IsOnDisk new name) well (on_disk (subst (λ (d : Directory). IsKnown is_flushed d name) (sym same) known))))
-
--- the names returned of `new`, and of `cur`, stay
-pub told_new : {A B : Type 0} (old new cur : Directory) (r : Result (Vec (String A) B) StoreFault) → AnswersNames old r new → ToldStay r (StaysInEither new cur)
-told_new old new cur (Ok names) t = λ name inside. inl (told_stay old new (Ok names) t name inside)
-told_new old new cur (Err fault) t = tt
-
-pub told_cur : {A B : Type 0} (old new other : Directory) (r : Result (Vec (String A) B) StoreFault) → AnswersNames old r new → ToldStay r (StaysInEither other new)
-told_cur old new other (Ok names) t = λ name inside. inr (told_stay old new (Ok names) t name inside)
-told_cur old new other (Err fault) t = tt

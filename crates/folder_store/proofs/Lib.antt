@@ -1,6 +1,13 @@
-mod Directories
 mod Files
 mod MemoryFiles
 mod MemoryLoss
 mod PowerLoss
 mod Lasting
+mod MailMoves
+mod MailLooks
+mod MailBrings
+mod MailWriting
+mod MailTelling
+mod MailReaders
+mod MailLoss
+mod MemoryMail

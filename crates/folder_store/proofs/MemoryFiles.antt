@@ -1,8 +1,8 @@
 -- The files that a folder in memory keeps, as entries.
-use Rattle.std.proofs.Common.{◌≡◌, ℕ, zero, suc, ◌<◌, length, get_or, slice_set, refl, List, [], ◌∷◌, ◌++◌, cond, sym, ap, subst, ◌∙◌, arith, Bool, false, Option, Some, None, Result, Ok, Err, inl, inr, String, Global, string_bytes}
-use Rattle.std.specs.Prelude.{HoldsAt, bytes_eq, ◌⊎◌, ◌≢◌, Contains, ◌↔◌, IsTrue, is_some, OnOk, OnErr, option_map}
+use Rattle.std.proofs.Common.{◌≡◌, ℕ, zero, suc, ◌<◌, length, get_or, slice_set, refl, List, [], ◌∷◌, ◌++◌, cond, sym, ap, subst, ◌∙◌, arith, Bool, false, Some, None, Result, Ok, Err, inl, inr, String, Global, string_bytes}
+use Rattle.std.specs.Prelude.{HoldsAt, bytes_eq, ◌⊎◌, ◌≢◌, Contains, OnOk, OnErr}
 use Rattle.std.proofs.lemmas.Slice.Eq.{bytes_eq-Decides}
-use Rattle.std.proofs.lemmas.Bool.{both_ways, cases_Bool, false_from_ne_true}
+use Rattle.std.proofs.lemmas.Bool.{cases_Bool, false_from_ne_true}
 use Rattle.std.proofs.lemmas.List.{map-append, get_or_default}
 use Rattle.std.proofs.lemmas.List.Quantifiers.{all_pairs_push}
 use Rattle.mail_terms.specs.Distinct.{AreDistinct}
@@ -10,8 +10,7 @@ use Rattle.folder_store.specs.declared.memory.Kept.{Kept}
 use Rattle.mail_store.specs.declared.fault.StoreFault.{StoreFault}
 use Rattle.folder_store.specs.FileFolder.{Blob, Directory, Entry, entry, names_in, find, placed, appended, cut, flushed, changed, AppendsTo, CutsTo, FlushesFile}
 use Rattle.folder_store.specs.MemoryFolder.{blob_of, entry_of, entries_of}
-use Rattle.folder_store.proofs.Files.{find_here, find_later, not_ahead, placed_new, some_is_not_none}
-use Rattle.folder_store.proofs.PowerLoss.{found}
+use Rattle.folder_store.proofs.Files.{find_here, find_later, not_ahead, placed_new}
 
 abbrev pub Pair : Type 0
 Pair = String Global × Kept
@@ -80,19 +79,6 @@ pub place_distinct : {T E : Type 0} (r : Result T E) (old new : List Pair) (name
 place_distinct (Ok x) old new name b ok err h =
     subst (λ (es : List Entry). AreDistinct (names_in es)) (sym ok) (placed_distinct name b (entries_of old) h)
 place_distinct (Err e) old new name b ok err h = subst (λ (fs : List Pair). AreDistinct (names_in (entries_of fs))) (sym err) h
-
--- whether a name leads to a file
-found_name : (name : List ℕ) (es : List Entry) (b : Blob) → find name es ≡ Some b → Contains (names_in es) name
-found_name name [] b is = absurd (some_is_not_none b None refl is)
-found_name name (e ∷ es) b is = elim (cases_Bool (bytes_eq name e.name)) [
-  | inl same ↦ (0, omega arith, sym ((bytes_eq-Decides name e.name).0 same))
-  | inr apart ↦ let rest = found_name name es b (sym (find_later name e es apart) ∙ is) in (suc rest.0, omega (arith, rest.1), rest.2)
-]
-
-pub has_iff : {A : Type 0} (f : A → Blob) (o : Option A) (b : Bool) (name : List ℕ) (es : List Entry) → b ≡ is_some o → option_map f o ≡ find name es
-    → IsTrue b ↔ Contains (names_in es) name
-has_iff f None b name es e is = (λ t. absurd (both_ways b e t), λ h. absurd (found name es (sym is) h))
-has_iff f (Some x) b name es e is = (λ _. found_name name es (f x) (sym is), λ _. e)
 
 -- what `place` did if the name led to a file
 pub set_seen : (seen files : List Pair) (text name : List ℕ) (i : ℕ) → seen ≡ files → text ≡ name → i < length seen

@@ -13,8 +13,7 @@ use Rattle.folder_store.specs.FileFolder.{Blob, Directory, Entry, Older, entry, 
 use Rattle.folder_store.specs.PowerLoss.{IsTorn, IsLeft, IsLeftOf, WasOnce, MayBe, Loses, IsFlushed}
 use Rattle.folder_store.specs.MemoryFolder.{blob_of, entry_of, entries_of, older_of, kept_of, IsZeroed, MayBeOf, Survive}
 use Rattle.folder_store.proofs.MemoryFiles.{Pair}
-use Rattle.folder_store.proofs.Files.{find_here, find_later, none_of, some_is_not_none}
-use Rattle.folder_store.proofs.PowerLoss.{found}
+use Rattle.folder_store.proofs.Files.{find_here, find_later, none_of, not_ahead, some_is_not_none}
 
 take_less : (m n : ℕ) (xs : List ℕ) → m ≤ n → take m (take n xs) ≡ take m xs
 take_less zero n xs le = refl
@@ -211,6 +210,14 @@ survives_find older (e ∷ es) left name distinct h = elim (cases_Bool (bytes_eq
     other text apart (inr was) = inr was
 
 -- the names that are left are distinct
+-- a name that is there leads to a file
+found : (name : List ℕ) (es : List Entry) → find name es ≡ None → Contains (names_in es) name → ⊥
+found name [] none c = absurd (omega (arith, c.1))
+found name (e ∷ es) none c = elim (cases_Bool (bytes_eq name e.name)) [
+  | inl same ↦ some_is_not_none e.blob (find name (e ∷ es)) none (find_here name e es same)
+  | inr apart ↦ not_ahead name e.name (names_in es) (found name es (sym (find_later name e es apart) ∙ none)) apart c.0 c.1 c.2
+]
+
 survives_names : (older : List Older) (es left : List Entry) → Survive older es left → AreDistinct (names_in es) → AreDistinct (names_in left)
 survives_names older [] left is distinct = subst (λ (xs : List Entry). AreDistinct (names_in xs)) (sym is) distinct
 survives_names older (e ∷ es) left (inl (gone, rest)) distinct = survives_names older es left rest (distinct_tail e.name (names_in es) distinct)
@@ -234,7 +241,6 @@ flushed_of_secured (Some bytes) = refl
 pub survives_loses : (old new : Directory) → AreDistinct (names_in old.entries) → Survive old.older old.entries new.entries
     → new ≡ record old { entries = new.entries; older = []; made = None } → Loses old new
 survives_loses old new distinct h e = record {
-  is_there = ap (λ (d : Directory). d.is_there) e;
   can_make = ap (λ (d : Directory). d.can_make) e;
   each = λ name.
       let s = survives_find old.older old.entries new.entries name distinct h in
@@ -252,7 +258,7 @@ pub survivors_distinct : (older : List Older) (files left : List Pair) → Survi
 survivors_distinct older files left h distinct = survives_names older (entries_of files) (entries_of left) h distinct
 
 abbrev pub memory_in : List Pair → List Before → Option Blob → Directory
-memory_in files older made = record { is_there = true; can_make = true; entries = entries_of files; older = map older_of older; made = made }
+memory_in files older made = record { can_make = true; entries = entries_of files; older = map older_of older; made = made }
 
 pub memory_loses : (files left : List Pair) (was now : List Before) (made : Option Blob) → AreDistinct (names_in (entries_of files))
     → Survive (map older_of was) (entries_of files) (entries_of left) → now ≡ [] → Loses (memory_in files was made) (memory_in left now None)

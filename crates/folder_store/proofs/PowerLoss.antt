@@ -1,19 +1,15 @@
 -- What a loss of power leaves of a folder after each call.
-use Rattle.std.proofs.Common.{◌≡◌, ℕ, ◌≤◌, ◌<◌, length, refl, List, [], ◌∷◌, ◌++◌, take, min, cond, Bool, true, false, map, Vec, String, string_bytes, sym, ap, subst, ◌∙◌, arith, Option, Some, None, Result, Ok, Err, inl, inr, length-append, append_assoc, slice_index}
-use Rattle.std.specs.Prelude.{◌⊎◌, option_map, bytes_eq, Contains, OnOk, is_err}
+use Rattle.std.proofs.Common.{◌≡◌, ℕ, ◌≤◌, ◌<◌, length, refl, List, [], ◌∷◌, ◌++◌, take, min, false, map, sym, ap, subst, ◌∙◌, arith, Option, Some, None, Result, Ok, Err, inl, inr, length-append, append_assoc, slice_index}
+use Rattle.std.specs.Prelude.{◌⊎◌, option_map, bytes_eq, OnOk, is_err}
 use Rattle.std.proofs.lemmas.List.{append-nil, length-take, get_or-take, get_or_append_left}
 use Rattle.std.proofs.lemmas.Grind.{same_number_lists}
 use Rattle.std.proofs.Math.Seq.{take-append_seam, take-length}
-use Rattle.std.proofs.lemmas.Slice.Eq.{bytes_eq-Decides}
 use Rattle.std.proofs.lemmas.Bool.{true≢false, cases_Bool, cases_lt}
-use Rattle.std.proofs.lemmas.List.Sorted.{Contains-permutation, IsPermutation-sym}
 use Rattle.mail_store.specs.declared.fault.StoreFault.{StoreFault}
-use Rattle.mail_store.specs.declared.fault.StoreFault.TheVariants.{Missing, Refused, NotMbox, NoMemory}
-use Rattle.folder_store.specs.FileFolder.{Directory, Entry, Blob, Older, entry, names_in, placed, find, appended, cut, flushed, doubted, secured, content_in, content_at, put_in, names_flushed, making, ChangesMade, Makes, FlushesFile, FlushesNames}
+use Rattle.folder_store.specs.FileFolder.{Directory, Entry, Blob, Older, entry, find, appended, cut, flushed, doubted, secured, content_in, content_at, FlushesFile, FlushesNames}
 use Rattle.folder_store.specs.HostFile.{Holds, MayBeFlushed, IsSoFar, IsPartAppended, AppendsFlushed, CutsFlushed, ReplacesFlushed}
-use Rattle.folder_store.specs.FolderMaildir.{PutsFlushed, AnswersNames}
-use Rattle.folder_store.specs.PowerLoss.{IsZeroFrom, IsTorn, IsLeft, IsLeftOf, WasOnce, MayBe, IsFlushed, IsSure, IsOnDisk, Stands, DiskStands, DiskIsKnown, OutlivesPower, NamesOutlivePower, PowerCanBeLost, MakingLeaves, IsTornBehind, LeavesBehind, LeavesBut, AppendsForGood, CutsForGood, ReplacesForGood, SettlesForGood, TellsWhatStays}
-use Rattle.folder_store.proofs.Files.{some_is_not_none, content_is, find_here, find_later, find_placed, holds_changed, not_ahead}
+use Rattle.folder_store.specs.PowerLoss.{IsZeroFrom, IsTorn, IsLeft, IsLeftOf, WasOnce, MayBe, IsFlushed, IsSure, IsOnDisk, DiskStands, DiskIsKnown, OutlivesPower, PowerCanBeLost, IsTornBehind, LeavesBehind, AppendsForGood, CutsForGood, ReplacesForGood}
+use Rattle.folder_store.proofs.Files.{content_is, holds_changed}
 
 -- ---- what is left of a file
 
@@ -341,117 +337,6 @@ flushed_is_sure (Some b) is = ap (λ (x : Blob). x.is_doubted) is
 pub disk_is_known : DiskIsKnown
 disk_is_known is_flushed d name is = record { sure = flushed_is_sure (find name d.entries) is.flushed; on_disk = λ _. is }
 
--- ---- names
-
--- another name leads to what it led to
-find_other : (name title : List ℕ) (b : Blob) (es : List Entry) → bytes_eq name title ≡ false → find name (placed title b es) ≡ find name es
-find_other name title b [] apart = find_later name (entry title b) [] apart
-find_other name title b (e ∷ es) apart = elim (cases_Bool (bytes_eq title e.name)) [
-  | inl same ↦
-      let other : bytes_eq name e.name ≡ false = ap (bytes_eq name) (sym ((bytes_eq-Decides title e.name).0 same)) ∙ apart in
-      rw same (find_later name (entry title b) es apart ∙ sym (find_later name e es other))
-  | inr other ↦ rw other (ap (λ (o : Option Blob). cond (bytes_eq name e.name) (Some e.blob) o) (find_other name title b es apart))
-]
-
--- a name that is there leads to a file
-pub found : (name : List ℕ) (es : List Entry) → find name es ≡ None → Contains (names_in es) name → ⊥
-found name [] none c = absurd (omega (arith, c.1))
-found name (e ∷ es) none c = elim (cases_Bool (bytes_eq name e.name)) [
-  | inl same ↦ some_is_not_none e.blob (find name (e ∷ es)) none (find_here name e es same)
-  | inr apart ↦ not_ahead name e.name (names_in es) (found name es (sym (find_later name e es apart) ∙ none)) apart c.0 c.1 c.2
-]
-
--- a flushed file was put under a name
-put_leaves : (old : Directory) (bytes title : List ℕ) → LeavesBut old title bytes (put_in old (secured bytes) title)
-put_leaves old bytes title name left (inr (inl (same, was))) =
-    inl (inl (subst (λ (n : List ℕ). IsLeftOf (find n old.entries) left) same was))
-put_leaves old bytes title name left (inr (inr was)) = inl (inr was)
-put_leaves old bytes title name left (inl now) = by (bytes_eq name title) refl
-  where
-    by : (v : Bool) → bytes_eq name title ≡ v → MayBe old name left ⊎ ((name ≡ title) × (left ≡ Some bytes))
-    by true same =
-        let e : name ≡ title = (bytes_eq-Decides name title).0 same in
-        inr (
-          e,
-          left_secured bytes left
-              (subst (λ (o : Option Blob). IsLeftOf o left) (find_placed title (secured bytes) old.entries)
-              (subst (λ (n : List ℕ). IsLeftOf (find n (placed title (secured bytes) old.entries)) left) e now)),
-        )
-    by false apart = inl (inl (subst (λ (o : Option Blob). IsLeftOf o left) (find_other name title (secured bytes) old.entries apart) now))
-
--- only the names were flushed
-names_leave : (old d : Directory) (title bytes : List ℕ) → LeavesBut old title bytes d → LeavesBut old title bytes (names_flushed d)
-names_leave old d title bytes leaves name left (inl now) = leaves name left (inl now)
-names_leave old d title bytes leaves name left (inr was) = absurd was
-
--- the file made has these bytes, and was put under a name, which may be on the disk or not
-loosely_put : (old d : Directory) (b : Blob) (title bytes : List ℕ) → b.content ≡ bytes → d ≡ put_in old (secured b.content) title → LeavesBut old title bytes d
-loosely_put old d b title bytes same e =
-    subst (λ (x : Directory). LeavesBut old title bytes x) (sym (e ∙ ap (λ (xs : List ℕ). put_in old (secured xs) title) same)) (put_leaves old bytes title)
-
-firmly_put : (old d : Directory) (b : Blob) (title bytes : List ℕ) → b.content ≡ bytes → d ≡ names_flushed (put_in old (secured b.content) title)
-    → LeavesBut old title bytes d
-firmly_put old d b title bytes same e =
-    subst (λ (x : Directory). LeavesBut old title bytes x) (sym (e ∙ ap (λ (xs : List ℕ). names_flushed (put_in old (secured xs) title)) same))
-    (names_leave old (put_in old (secured bytes) title) title bytes (put_leaves old bytes title))
-
-pub making_leaves : MakingLeaves
-making_leaves old new (m, e) name left may = subst (λ (x : Directory). MayBe x name left) e may
-
--- a refused `make` changes no more than the file made
-pub not_made : (old new : Directory) (fault : StoreFault) → Makes {T = Unit {0}} old (Err fault) new → ChangesMade old new
-not_made old new Missing (gone, e) = (old.made, e)
-not_made old new Refused change = change
-not_made old new NotMbox t = absurd t
-not_made old new NoMemory t = absurd t
-
--- `settle`
-pub put_leaves_but : (old d : Directory) (title bytes : List ℕ) (r : Result (Unit {0}) StoreFault) → ((b : Blob) → old.made ≡ Some b → b.content ≡ bytes)
-    → PutsFlushed old title r d → LeavesBut old title bytes d
-put_leaves_but old d title bytes (Ok done) same (b, made, e) = firmly_put old d b title bytes (same b made) e
-put_leaves_but old d title bytes (Err fault) same (inl change) = λ name left may. inl (making_leaves old d change name left may)
-put_leaves_but old d title bytes (Err fault) same (inr (b, made, inl e)) = loosely_put old d b title bytes (same b made) e
-put_leaves_but old d title bytes (Err fault) same (inr (b, made, inr e)) = firmly_put old d b title bytes (same b made) e
-
-put_stands : (old d : Directory) (title bytes : List ℕ) (r : Result (Unit {0}) StoreFault) → ((b : Blob) → old.made ≡ Some b → b.content ≡ bytes)
-    → PutsFlushed old title r d → OnOk r (Stands d title (Some bytes))
-put_stands old d title bytes (Ok done) same (b, made, e) = λ left may.
-    let now = left_named (names_flushed (put_in old (secured b.content) title)) title left refl (subst (λ (x : Directory). MayBe x title left) e may) in
-    left_secured b.content left (subst (λ (o : Option Blob). IsLeftOf o left) (find_placed title (secured b.content) old.entries) now)
-    ∙ ap (λ (xs : List ℕ). Some xs) (same b made)
-put_stands old d title bytes (Err fault) same t = tt
-
-pub settles_for_good : (old d : Directory) (title bytes : List ℕ) (r : Result (Unit {0}) StoreFault) → ((b : Blob) → old.made ≡ Some b → b.content ≡ bytes)
-    → PutsFlushed old title r d → SettlesForGood old title bytes r d
-settles_for_good old d title bytes r same t = record {
-  leaves = put_leaves_but old d title bytes r same t;
-  outlives = put_stands old d title bytes r same t;
-}
-
--- a refused `settle`, and then the file was given up
-pub not_settled_for_good : (old d new : Directory) (title bytes : List ℕ) (fault other : StoreFault) → ((b : Blob) → old.made ≡ Some b → b.content ≡ bytes)
-    → PutsFlushed {T = Unit {0}} old title (Err fault) d → new ≡ making d None → SettlesForGood {T = Unit {0}} old title bytes (Err other) new
-not_settled_for_good old d new title bytes fault other same t gone = record {
-  leaves = λ name left may. put_leaves_but old d title bytes (Err fault) same t name left (making_leaves d new (None, gone) name left may);
-  outlives = tt;
-}
-
-pub only_given_up : (old new : Directory) (title bytes : List ℕ) (other : StoreFault) → ChangesMade old new → SettlesForGood {T = Unit {0}} old title bytes (Err other) new
-only_given_up old new title bytes other change = record { leaves = λ name left may. inl (making_leaves old new change name left may); outlives = tt }
-
-none_left : (o : Option Blob) → IsLeftOf o None → o ≡ None
-none_left None left = refl
-none_left (Some b) left = absurd left
-
--- the names that are returned stay
-pub told_stay : {A B : Type 0} (old new : Directory) (r : Result (Vec (String A) B) StoreFault) → AnswersNames old r new → TellsWhatStays new r
-told_stay old new (Ok names) (t, e) = λ name c may.
-    let now = left_named (names_flushed old) name None refl (subst (λ (x : Directory). MayBe x name None) e may) in
-    let there : Contains (names_in old.entries) name =
-    Contains-permutation (map string_bytes names.items) (names_in old.entries) name (IsPermutation-sym (names_in old.entries) (map string_bytes names.items) t.0.1) c in
-    found name old.entries (none_left (find name old.entries) now) there
-told_stay old new (Err fault) t = tt
-
 -- ---- the laws
 
 pub disk_stands : DiskStands
@@ -459,9 +344,6 @@ disk_stands d name h = λ left may. left_flushed (find name d.entries) left h.fl
 
 pub outlives_power : OutlivesPower
 outlives_power old new name bytes stands loses = stands (content_at new name) (loses.each name)
-
-pub names_outlive_power : NamesOutlivePower
-names_outlive_power old new name stays loses none = stays (subst (λ (o : Option (List ℕ)). MayBe old name o) none (loses.each name))
 
 -- the folder once everything is on the disk
 secured_entry : Entry → Entry
@@ -494,7 +376,6 @@ power_can_be_lost old =
     let at : (name : List ℕ) → find name new.entries ≡ option_map secured_blob (find name old.entries) = λ name. find_secured name old.entries in (
       new,
       record {
-        is_there = refl;
         can_make = refl;
         each = λ name. inl (subst (λ (o : Option Blob). IsLeftOf (find name old.entries) (option_map content_in o)) (sym (at name)) (may_arrive (find name old.entries)));
         on_disk = λ name. record {

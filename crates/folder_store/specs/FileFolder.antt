@@ -1,9 +1,8 @@
 -- A folder of a file system: what its calls see, what of it is on the disk, and what each call does,
 -- for either outcome.
-use Rattle.std.specs.Prelude.{◌≡◌, ℕ, min, List, [], ◌∷◌, ◌++◌, length, take, map, Bool, true, false, IsTrue, ◌↔◌}
-use Rattle.std.specs.Prelude.{Option, Some, None, option_map, Result, Ok, Err, ◌⊎◌, Vec, String, string_bytes}
-use Rattle.std.specs.Prelude.{bytes_eq, if◌then◌else◌, IsPermutation, Contains}
-use Rattle.mail_terms.specs.Distinct.{AreDistinct}
+use Rattle.std.specs.Prelude.{◌≡◌, ℕ, min, List, [], ◌∷◌, ◌++◌, length, take, map, Bool, true, false}
+use Rattle.std.specs.Prelude.{Option, Some, None, option_map, Result, Ok, Err, ◌⊎◌, Vec}
+use Rattle.std.specs.Prelude.{bytes_eq, if◌then◌else◌}
 use Rattle.mail_store.specs.declared.fault.StoreFault.{StoreFault}
 use Rattle.mail_store.specs.declared.fault.StoreFault.TheVariants.{Missing, Refused, NotMbox, NoMemory}
 use Rattle.mail_store.specs.declared.file.flat_file.Edges.{Edges}
@@ -27,11 +26,10 @@ pub record Older : Type 0 where
   pub name : List ℕ
   pub was : Option Blob
 
--- a folder: whether it is there, whether a file can be made, the files by their names in the order in
+-- a folder: whether a file can be made, the files by their names in the order in
 -- which they came, what names led to before they were changed, since the names were last flushed, and
 -- the file that was made and has no name here yet
 pub record Directory : Type 0 where
-  pub is_there : Bool
   pub can_make : Bool
   pub entries : List Entry
   pub older : List Older
@@ -115,21 +113,6 @@ names_flushed d = record d { older = [] }
 -- a call changed only the file made
 abbrev pub ChangesMade : Directory → Directory → Type 0
 ChangesMade old new = (m : Option Blob) × (new ≡ making old m)
-
--- `list`: each name once, in any order
-abbrev pub ListsNames : {A B : Type 0} → Directory → Result (Vec (String A) B) StoreFault → Directory → Type 0
-ListsNames old (Ok names) new =
-    ((old.is_there ≡ true) × IsPermutation (names_in old.entries) (map string_bytes names.items)
-    × AreDistinct (map string_bytes names.items)) × (new ≡ old)
-ListsNames old (Err Missing) new = (old.is_there ≡ false) × (new ≡ old)
-ListsNames old (Err Refused) new = new ≡ old
-ListsNames old (Err NotMbox) new = ⊥
-ListsNames old (Err NoMemory) new = ⊥
-
--- `has`: whether a name leads to a file
-abbrev pub LooksUp : Directory → List ℕ → Result Bool StoreFault → Directory → Type 0
-LooksUp old name (Ok found) new = (IsTrue found ↔ Contains (names_in old.entries) name) × (new ≡ old)
-LooksUp old name (Err fault) new = new ≡ old
 
 -- `make`: a file without bytes and without a name here; Missing if none can be made
 abbrev pub Makes : {T : Type 0} → Directory → Result T StoreFault → Directory → Type 0
@@ -220,4 +203,4 @@ FlushesNames old (Err fault) new = (new ≡ old) ⊎ (new ≡ names_flushed old)
 
 -- a folder of which nothing is known
 abbrev pub unknown_directory : Directory
-unknown_directory = record { is_there = false; can_make = false; entries = []; older = []; made = None }
+unknown_directory = record { can_make = false; entries = []; older = []; made = None }

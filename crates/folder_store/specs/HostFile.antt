@@ -2,7 +2,7 @@
 use Rattle.std.specs.Prelude.{◌≡◌, ℕ, List, [], ◌∷◌, ◌++◌, Option, Some, Result, Ok, Err, ◌⊎◌}
 use Rattle.mail_store.specs.declared.fault.StoreFault.{StoreFault}
 use Rattle.mail_store.specs.FlatFile.{Stored}
-use Rattle.folder_store.specs.FileFolder.{Directory, Blob, Older, find, appended, cut, doubted, flushed, secured}
+use Rattle.folder_store.specs.FileFolder.{Directory, Blob, Older, ChangesMade, find, appended, cut, doubted, flushed, names_flushed, put_in, secured}
 use Rattle.folder_store.specs.FileFolder.{content_at, unknown_directory}
 
 -- the file of this name
@@ -63,6 +63,19 @@ AppendsFlushed old name bytes (Err fault) new =
 abbrev pub CutsFlushed : {T : Type 0} → Directory → List ℕ → ℕ → Result T StoreFault → Directory → Type 0
 CutsFlushed old name len (Ok done) new = Becomes (λ b c. c ≡ flushed (cut b len)) old name new
 CutsFlushed old name len (Err fault) new = Keeps old name new ⊎ Becomes (λ b c. MayBeFlushed (cut b len) c) old name new
+
+-- the file made was flushed and put under the name, which may be on the disk or not
+abbrev pub StandsIn : Directory → List ℕ → Directory → Type 0
+StandsIn old name new =
+    (b : Blob) × (old.made ≡ Some b)
+    × ((new ≡ put_in old (secured b.content) name) ⊎ (new ≡ names_flushed (put_in old (secured b.content) name)))
+
+-- the file made was flushed, was put under the name, and then the names were flushed; a refused call did
+-- a part of this
+abbrev pub PutsFlushed : {T : Type 0} → Directory → List ℕ → Result T StoreFault → Directory → Type 0
+PutsFlushed old name (Ok done) new =
+    (b : Blob) × (old.made ≡ Some b) × (new ≡ names_flushed (put_in old (secured b.content) name))
+PutsFlushed old name (Err fault) new = ChangesMade old new ⊎ StandsIn old name new
 
 -- a file of these bytes, flushed, was put under the name, and the names were flushed
 abbrev pub ReplacesFlushed : {T : Type 0} → Directory → List ℕ → List ℕ → Result T StoreFault → Directory → Type 0

@@ -1,5 +1,8 @@
 pub mod FileFolder
-pub mod FolderMaildir
 pub mod HostFile
+pub mod MailCalls
+pub mod MailFolders
+pub mod MailPower
 pub mod MemoryFolder
+pub mod MemoryFolders
 pub mod PowerLoss

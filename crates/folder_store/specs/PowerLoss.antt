@@ -1,13 +1,9 @@
 -- What a loss of power may leave of a folder, and what each call of a device leaves to it.
-use Rattle.std.specs.Prelude.{◌≡◌, ℕ, ◌≤◌, ◌<◌, ◌/◌, List, [], ◌∷◌, ◌++◌, length, take, map, slice_index, Bool}
-use Rattle.std.specs.Prelude.{true, false, Option, Some, None, Result, Ok, Err, ◌⊎◌, OnOk, Vec, String}
-use Rattle.std.specs.Prelude.{string_bytes, Contains}
+use Rattle.std.specs.Prelude.{◌≡◌, ℕ, ◌≤◌, ◌<◌, ◌/◌, List, [], ◌∷◌, ◌++◌, length, take, slice_index, Bool}
+use Rattle.std.specs.Prelude.{true, false, Option, Some, None, Result, ◌⊎◌, OnOk}
 use Rattle.mail_store.specs.declared.fault.StoreFault.{StoreFault}
-use Rattle.mail_store.specs.declared.maildir.disk.Folder.{Folder}
-use Rattle.mail_store.specs.declared.maildir.disk.Folder.TheVariants.{New, Cur}
-use Rattle.mail_store.specs.Maildir.{File}
 use Rattle.mail_store.specs.Settling.{page_size}
-use Rattle.folder_store.specs.FileFolder.{Directory, Blob, Older, find, content_at, secured, ChangesMade}
+use Rattle.folder_store.specs.FileFolder.{Directory, Blob, Older, find, content_at, secured}
 
 -- the byte at a place and all after it in its page of the file are zeros
 abbrev pub IsZeroFrom : List ℕ → ℕ → Type 0
@@ -66,7 +62,6 @@ pub record IsOnDisk (d : Directory) (name : List ℕ) : Type 0 where
 -- the folder after a loss of power: under each name is something that may be left there, whatever is under the
 -- others, all of it is on the disk, and no file is being made
 pub record Loses (old new : Directory) : Type 0 where
-  pub is_there : new.is_there ≡ old.is_there
   pub can_make : new.can_make ≡ old.can_make
   pub each : (name : List ℕ) → MayBe old name (content_at new name)
   pub on_disk : (name : List ℕ) → IsOnDisk new name
@@ -76,10 +71,6 @@ pub record Loses (old new : Directory) : Type 0 where
 abbrev pub Stands : Directory → List ℕ → Option (List ℕ) → Type 0
 Stands d name bytes = (left : Option (List ℕ)) → MayBe d name left → left ≡ bytes
 
--- a loss of power leaves some file under the name
-abbrev pub StaysNamed : Directory → List ℕ → Type 0
-StaysNamed d name = MayBe d name None → ⊥
-
 -- what calls see under the name outlives a loss of power
 abbrev pub DiskStands : Type 0
 DiskStands = (d : Directory) (name : List ℕ) → IsOnDisk d name → Stands d name (content_at d name)
@@ -88,10 +79,6 @@ DiskStands = (d : Directory) (name : List ℕ) → IsOnDisk d name → Stands d 
 abbrev pub OutlivesPower : Type 0
 OutlivesPower =
     (old new : Directory) (name : List ℕ) (bytes : Option (List ℕ)) → Stands old name bytes → Loses old new → content_at new name ≡ bytes
-
--- a name that stays leads to a file after a loss of power
-abbrev pub NamesOutlivePower : Type 0
-NamesOutlivePower = (old new : Directory) (name : List ℕ) → StaysNamed old name → Loses old new → content_at new name ≡ None → ⊥
 
 -- a loss of power is possible in each state
 abbrev pub PowerCanBeLost : Type 0
@@ -139,34 +126,6 @@ pub record ReplacesForGood {T : Type 0} (old : Directory) (name bytes : List ℕ
   pub leaves : (left : Option (List ℕ)) → IsOnDisk old name → MayBe new name left → (left ≡ content_at old name) ⊎ (left ≡ Some bytes)
   pub outlives : OnOk r (IsOnDisk new name)
 
--- a loss of power leaves nothing under a name that it wouldn't have left before
-abbrev pub LeavesNoMore : Directory → Directory → Type 0
-LeavesNoMore old new = (name : List ℕ) (left : Option (List ℕ)) → MayBe new name left → MayBe old name left
-
--- a file that is made, written or given up changes nothing that a loss of power leaves
-abbrev pub MakingLeaves : Type 0
-MakingLeaves = (old new : Directory) → ChangesMade old new → LeavesNoMore old new
-
--- the same, except that these bytes may be left under this name
-abbrev pub LeavesBut : Directory → List ℕ → List ℕ → Directory → Type 0
-LeavesBut old title bytes new =
-    (name : List ℕ) (left : Option (List ℕ)) → MayBe new name left → MayBe old name left ⊎ ((name ≡ title) × (left ≡ Some bytes))
-
--- `settle`: whatever it answers, all that may be newly left is these bytes, whole, under this name; after Ok they are left
-pub record SettlesForGood {T : Type 0} (old : Directory) (name bytes : List ℕ) (r : Result T StoreFault) (new : Directory) : Type 0 where
-  pub leaves : LeavesBut old name bytes new
-  pub outlives : OnOk r (Stands new name (Some bytes))
-
--- the folder of readers
-abbrev pub of_folder : {D : Type 0} → D → D → Folder → D
-of_folder new cur New = new
-of_folder new cur Cur = cur
-
--- `names`: each name that it returns stays
-abbrev pub TellsWhatStays : {A B : Type 0} → Directory → Result (Vec (String A) B) StoreFault → Type 0
-TellsWhatStays d (Ok names) = (name : List ℕ) → Contains (map string_bytes names.items) name → StaysNamed d name
-TellsWhatStays d (Err fault) = Unit {0}
-
 -- ---- what stays, call after call
 
 -- these bytes are the first of the file, in memory and on the disk
@@ -188,11 +147,3 @@ pub record FrontStands (d : Directory) (name bytes : List ℕ) : Type 0 where
 abbrev pub FrontsOutlivePower : Type 0
 FrontsOutlivePower = (old new : Directory) (name bytes : List ℕ) → FrontStands old name bytes → Loses old new
     → (rest : List ℕ) × (content_at new name ≡ Some (bytes ++ rest))
-
--- a name stays in one of the two folders of readers
-abbrev pub StaysInEither : Directory → Directory → List ℕ → Type 0
-StaysInEither new cur name = StaysNamed new name ⊎ StaysNamed cur name
-
--- a loss of power leaves a file under its name, whole
-abbrev pub FileStands : Directory → File → Type 0
-FileStands new f = Stands new f.name (Some f.content)

@@ -9,7 +9,7 @@ use mail_store::{Edges, StoreFault};
 pub trait FileFolder {
     ghost use Rattle.std.specs.Prelude.{◌≡◌, ◌≤◌, length, IfErr, IfOk, None};
     ghost use Rattle.mail_store.specs.Fault.{IsDeviceFault};
-    ghost use Rattle.folder_store.specs.FileFolder.{Directory, ListsNames, LooksUp, Makes, Writes, FlushesMade};
+    ghost use Rattle.folder_store.specs.FileFolder.{Directory, Makes, Writes, FlushesMade};
     ghost use Rattle.folder_store.specs.FileFolder.{Puts, Reads, MeasuresFile, ReadsPiece, TellsSize, AppendsTo};
     ghost use Rattle.folder_store.specs.FileFolder.{CutsTo, FlushesFile, FlushesNames, making};
 
@@ -19,17 +19,6 @@ pub trait FileFolder {
     // The premise: so far the file system did what this trait says. If it holds after a call, it
     // held before.
     ghost sound: { Self → Type 0 };
-
-    /// The names of the files, each once, in any order. Missing if the folder isn't there.
-    fn list(&mut self) -> Result<Vec<String>, StoreFault>
-        ensures lists { sound self.new → sound self.old
-            × ListsNames (directory self.old) result (directory self.new) }
-        ensures fault { IfErr result IsDeviceFault };
-
-    /// Whether a name leads to a file.
-    fn has(&mut self, name: &str) -> Result<bool, StoreFault>
-        ensures { sound self.new → sound self.old
-            × LooksUp (directory self.old) name.now result (directory self.new) };
 
     /// Makes a file, which its owner alone can read. The name tells it from others that were made.
     /// Missing if the place for such files isn't there.

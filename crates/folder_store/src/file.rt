@@ -95,7 +95,7 @@ impl<'a, R: Files + Clock + AllocGlobal + Clone + Drop> HostFile<'a, HostFolder<
         ensures { ⟦<HostFile<'a, HostFolder<'a, R>> as FlatFile>⟧.stored result ≡ unknown_file }
     {
         HostFile::over(
-            HostFolder::around(rt, path, mark),
+            HostFolder::around(rt, path, mark, false),
             name_in(path),
             Appending::AtOnce,
         )
@@ -107,7 +107,7 @@ impl<'a, R: Files + Clock + AllocGlobal + Clone + Drop> HostFile<'a, HostFolder<
         ensures { ⟦<HostFile<'a, HostFolder<'a, R>> as FlatFile>⟧.stored result ≡ unknown_file }
     {
         HostFile::over(
-            HostFolder::around(rt, path, mark),
+            HostFolder::around(rt, path, mark, true),
             name_in(path),
             Appending::ByPages,
         )
@@ -165,6 +165,21 @@ impl<'a, F: FileFolder + Drop> FlatFile for HostFile<'a, F> {
             }
             Err(fault) => tally(&mut self.failures, Err(fault)),
         }
+    }
+
+    fn peek(&mut self) -> Result<Vec<u8>, StoreFault>
+        ensures loads { ⟦<HostFile<'a, F> as FlatFile>⟧.sound self.new → ⟦<HostFile<'a, F> as FlatFile>⟧.sound self.old
+            × Loads (⟦<HostFile<'a, F> as FlatFile>⟧.stored self.old) result (⟦<HostFile<'a, F> as FlatFile>⟧.stored self.new) }
+        ensures fault { IfErr result IsDeviceFault }
+        ensures keeps { ⟦<HostFile<'a, F> as FlatFile>⟧.sound self.new
+            → KeepsBytes (⟦<HostFile<'a, F> as FlatFile>⟧.outlives self.old) (⟦<HostFile<'a, F> as FlatFile>⟧.outlives self.new) }
+        ensures sure { ⟦<HostFile<'a, F> as FlatFile>⟧.sound self.new → ⟦<HostFile<'a, F> as FlatFile>⟧.is_sure self.old → ⟦<HostFile<'a, F> as FlatFile>⟧.is_sure self.new }
+        ensures count { Tallies (refuses is_refusal result) (⟦<HostFile<'a, F> as FlatFile>⟧.stored self.old).failures
+            (⟦<HostFile<'a, F> as FlatFile>⟧.stored self.new).failures }
+        ensures name { self.new.name ≡ self.old.name }
+    {
+        admit(&self.failures)?;
+        tally(&mut self.failures, self.folder.read(self.name))
     }
 
     fn edges(&mut self) -> Result<Edges, StoreFault>

@@ -1,10 +1,11 @@
-//! A folder that refuses every call after the first few.
+//! A folder, or the two of a Maildir, that refuses every call after the first few.
 
 use crate::device::FileFolder;
-use mail_store::{Edges, StoreFault};
+use crate::mail_folders::MailFolders;
+use mail_store::{Edges, Folder, StoreFault};
 
-/// A folder that passes its first calls on to another one and then refuses every call, so that each
-/// place where a call of a folder can fail can be tried.
+/// A folder, or the two of a Maildir, that passes its first calls on to another one and then refuses
+/// every call, so that each place where a call can fail can be tried.
 #[derive(Drop)]
 pub struct FusedFolder<F> {
     folder: F,
@@ -65,20 +66,6 @@ impl<F: FileFolder> FileFolder for FusedFolder<F> {
     ghost directory = { λ f. F.directory f.folder };
 
     ghost sound = { λ f. F.sound f.folder };
-
-    fn list(&mut self) -> Result<Vec<String>, StoreFault> {
-        if self.blows() {
-            return Err(StoreFault::Refused);
-        }
-        self.folder.list()
-    }
-
-    fn has(&mut self, name: &str) -> Result<bool, StoreFault> {
-        if self.blows() {
-            return Err(StoreFault::Refused);
-        }
-        self.folder.has(name)
-    }
 
     fn make(&mut self, name: &str) -> Result<(), StoreFault> {
         if self.blows() {
@@ -186,6 +173,92 @@ impl<F: FileFolder> FileFolder for FusedFolder<F> {
             return Err(StoreFault::Refused);
         }
         let _ = self.folder.flush_names();
+        Err(StoreFault::Refused)
+    }
+}
+
+impl<F: MailFolders> MailFolders for FusedFolder<F> {
+    ghost directories = { λ f. F.directories f.folder };
+
+    ghost sound = { λ f. F.sound f.folder };
+
+    fn check(&mut self, folder: Folder) -> Result<(), StoreFault> {
+        if self.blows() {
+            return Err(StoreFault::Refused);
+        }
+        self.folder.check(folder)
+    }
+
+    fn list(&mut self, folder: Folder) -> Result<Vec<String>, StoreFault> {
+        if self.blows() {
+            return Err(StoreFault::Refused);
+        }
+        self.folder.list(folder)
+    }
+
+    fn rests(&mut self, folder: Folder) -> Result<bool, StoreFault> {
+        if self.blows() {
+            return Err(StoreFault::Refused);
+        }
+        self.folder.rests(folder)
+    }
+
+    fn may_list_again(&mut self, times: u32) -> bool {
+        self.folder.may_list_again(times)
+    }
+
+    fn has(&mut self, name: &str) -> Result<bool, StoreFault> {
+        if self.blows() {
+            return Err(StoreFault::Refused);
+        }
+        self.folder.has(name)
+    }
+
+    fn make(&mut self, name: &str) -> Result<(), StoreFault> {
+        if self.blows() {
+            return Err(StoreFault::Refused);
+        }
+        self.folder.make(name)
+    }
+
+    fn write(&mut self, bytes: &[u8]) -> Result<(), StoreFault> {
+        if self.blows() {
+            return Err(StoreFault::Refused);
+        }
+        self.folder.write(bytes)
+    }
+
+    fn flush_made(&mut self) -> Result<(), StoreFault> {
+        if self.blows() {
+            self.folder.discard();
+            return Err(StoreFault::Refused);
+        }
+        self.folder.flush_made()
+    }
+
+    fn put(&mut self, name: &str) -> Result<(), StoreFault> {
+        if !self.blows() {
+            return self.folder.put(name);
+        }
+        if !self.takes_effect() {
+            return Err(StoreFault::Refused);
+        }
+        let _ = self.folder.put(name);
+        Err(StoreFault::Refused)
+    }
+
+    fn discard(&mut self) {
+        self.folder.discard()
+    }
+
+    fn flush_names(&mut self, folder: Folder) -> Result<(), StoreFault> {
+        if !self.blows() {
+            return self.folder.flush_names(folder);
+        }
+        if !self.takes_effect() {
+            return Err(StoreFault::Refused);
+        }
+        let _ = self.folder.flush_names(folder);
         Err(StoreFault::Refused)
     }
 }

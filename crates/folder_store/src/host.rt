@@ -7,7 +7,7 @@ ghost use Rattle.folder_store.specs.FileFolder.{unknown_directory};
 use crate::device::FileFolder;
 use crate::process_mark::ProcessMark;
 use crate::system::{flush_folder, folder_of, make_file, sweep};
-use folder_names::list_names;
+use folder_names::{FolderNames, list_names};
 use mail_store::{Edges, StoreFault};
 use std::alloc::Global;
 use std::fs::{Metadata, OpenFile, OpenOptions};
@@ -24,7 +24,7 @@ struct Made<F: Drop> {
     path: String,
 }
 
-/// The handle by which a file was changed, and the file's name.
+/// The handle by which a file is changed, which appends, and the file's name.
 #[derive(Drop)]
 struct Changed<F: Drop> {
     file: F,
@@ -51,6 +51,10 @@ pub struct HostFolder<'a, R: Files + Clock + AllocGlobal + Clone + Drop> {
     mark: ProcessMark,
     made: Option<Made<R::File>>,
     changed: Option<Changed<R::File>>,
+    /// Whether the handle of the file that was changed last is kept for its next change.
+    keeps_handle: bool,
+    /// The folder itself, from its first flush on.
+    names: Option<R::File>,
 }
 
 impl<'a, R: Files + Clock + AllocGlobal + Clone + Drop> HostFolder<'a, R> {
@@ -73,12 +77,20 @@ impl<'a, R: Files + Clock + AllocGlobal + Clone + Drop> HostFolder<'a, R> {
             mark,
             made: None,
             changed: None,
+            keeps_handle: false,
+            names: None,
         }
     }
 
     /// The folder that holds the file at a path, absolute or taken from the working folder. Files are
-    /// made in it too, with `.tmp` and the process's mark after their names.
-    pub fn around(rt: &'a R, path: &'a str, mark: ProcessMark) -> HostFolder<'a, R>
+    /// made in it too, with `.tmp` and the process's mark after their names. If `keeps_handle` is true,
+    /// a file that was changed stays open for its next change: for a file that nobody else replaces.
+    pub fn around(
+        rt: &'a R,
+        path: &'a str,
+        mark: ProcessMark,
+        keeps_handle: bool,
+    ) -> HostFolder<'a, R>
         ensures { ⟦<HostFolder<'a, R> as FileFolder>⟧.directory result ≡ unknown_directory }
     {
         HostFolder {
@@ -90,6 +102,8 @@ impl<'a, R: Files + Clock + AllocGlobal + Clone + Drop> HostFolder<'a, R> {
             mark,
             made: None,
             changed: None,
+            keeps_handle,
+            names: None,
         }
     }
 
@@ -146,12 +160,26 @@ impl<'a, R: Files + Clock + AllocGlobal + Clone + Drop> HostFolder<'a, R> {
     // The names of the folder's files. A name that begins with a full stop or isn't UTF-8 is skipped,
     // and so is a folder. The system is asked what each name stands for only if a folder may be
     // among them, since that takes longer than all else.
-    fn read_names(&self) -> io::Result<Vec<String>> {
-        let found = list_names(self.rt, self.folder_path(self.folder)?.as_str())?;
+    pub(crate) fn read_names(&self) -> io::Result<FolderNames> {
+        let mut found = list_names(self.rt, self.folder_path(self.folder)?.as_str())?;
         if may_hold_folders(&found.folder) {
-            return self.files_among(found.names);
+            found.names = self.files_among(found.names)?;
         }
-        Ok(found.names)
+        Ok(found)
+    }
+
+    // The folder's metadata.
+    pub(crate) fn look_at_folder(&self) -> io::Result<Metadata> {
+        fs::metadata(self.rt, self.folder_path(self.folder)?)
+    }
+
+    // Whether a name leads to a file.
+    pub(crate) fn has(&self, name: &str) -> Result<bool, StoreFault> {
+        match told(self.look_up(name)) {
+            Ok(_) => Ok(true),
+            Err(StoreFault::Missing) => Ok(false),
+            Err(fault) => Err(fault),
+        }
     }
 
     // The names that stand for no folder. What has vanished counts as a file: a reader may have
@@ -187,6 +215,7 @@ impl<'a, R: Files + Clock + AllocGlobal + Clone + Drop> HostFolder<'a, R> {
         let Some(made) = &self.made else {
             return Err(io::Error::from(ErrorKind::InvalidInput));
         };
+        self.changed = None;
         fs::rename(self.rt, made.path.as_str(), to)?;
         self.made = None;
         Ok(())
@@ -222,46 +251,76 @@ impl<'a, R: Files + Clock + AllocGlobal + Clone + Drop> HostFolder<'a, R> {
         Ok(count)
     }
 
-    fn measure(&self, name: &str) -> io::Result<u64> {
-        Ok(fs::metadata(self.rt, self.path_of(name)?)?.len())
+    // The handle kept from the file's last change, or a new one.
+    fn handle_of(&mut self, name: &str) -> io::Result<Changed<R::File>> {
+        if let Some(changed) = self.changed.take() {
+            if self.keeps_handle && changed.name.as_str() == name {
+                return Ok(changed);
+            }
+        }
+        let title = String::from_str(self.rt.alloc(), name)?;
+        let file = OpenOptions::new()
+            .append(true)
+            .open(self.rt, self.regular_path(name)?)?;
+        Ok(Changed { file, name: title })
+    }
+
+    // A handle that is kept tells the size too, and whether the file was removed meanwhile: nothing
+    // is written to one that has no name any more.
+    fn measure(&mut self, name: &str) -> io::Result<u64> {
+        if !self.keeps_handle {
+            return Ok(fs::metadata(self.rt, self.path_of(name)?)?.len());
+        }
+        let changed = self.handle_of(name)?;
+        let found = changed.file.metadata()?;
+        if found.nlink() == 0 {
+            return Err(io::Error::from(ErrorKind::NotFound));
+        }
+        self.changed = Some(changed);
+        Ok(found.len())
     }
 
     fn write_behind(&mut self, name: &str, bytes: &[u8]) -> io::Result<()> {
-        let title = String::from_str(self.rt.alloc(), name)?;
-        let mut file = OpenOptions::new()
-            .append(true)
-            .open(self.rt, self.regular_path(name)?)?;
-        let answer = file.write_all(bytes);
-        self.changed = Some(Changed { file, name: title });
+        let mut changed = self.handle_of(name)?;
+        let answer = changed.file.write_all(bytes);
+        self.changed = Some(changed);
         answer
     }
 
     fn set_len(&mut self, name: &str, len: u64) -> io::Result<()> {
-        let title = String::from_str(self.rt.alloc(), name)?;
-        let file = OpenOptions::new()
-            .write(true)
-            .open(self.rt, self.regular_path(name)?)?;
-        if file.metadata()?.len() < len {
+        let changed = self.handle_of(name)?;
+        if changed.file.metadata()?.len() < len {
             return Err(io::Error::from(ErrorKind::InvalidInput));
         }
-        let answer = file.set_len(len);
-        self.changed = Some(Changed { file, name: title });
+        let answer = changed.file.set_len(len);
+        self.changed = Some(changed);
         answer
     }
 
     // The file that was changed last is flushed by the handle that changed it: the system may
-    // report a fault to no other.
+    // report a fault to no other. After a fault that handle isn't used again.
     fn sync(&mut self, name: &str) -> io::Result<()> {
         if let Some(changed) = self.changed.take() {
             if changed.name.as_str() == name {
-                return changed.file.sync_all();
+                changed.file.sync_all()?;
+                if self.keeps_handle {
+                    self.changed = Some(changed);
+                }
+                return Ok(());
             }
         }
         fs::open(self.rt, self.regular_path(name)?)?.sync_all()
     }
 
-    fn sync_names(&self) -> io::Result<()> {
-        flush_folder(self.rt, self.folder_path(self.folder)?.as_str())
+    // The folder is opened once, and again after a fault.
+    pub(crate) fn sync_names(&mut self) -> io::Result<()> {
+        let folder = match self.names.take() {
+            Some(folder) => folder,
+            None => fs::open(self.rt, self.folder_path(self.folder)?)?,
+        };
+        flush_folder(&folder)?;
+        self.names = Some(folder);
+        Ok(())
     }
 }
 
@@ -282,7 +341,7 @@ fn is_folder(answer: io::Result<Metadata>) -> io::Result<bool> {
 }
 
 /// What the system answered.
-fn told<T>(answer: io::Result<T>) -> Result<T, StoreFault>
+pub(crate) fn told<T>(answer: io::Result<T>) -> Result<T, StoreFault>
     ensures same { IfOk result (λ value. answer ≡ Ok value) }
     ensures fault { IfErr result IsDeviceFault }
 {
@@ -300,18 +359,6 @@ impl<'a, R: Files + Clock + AllocGlobal + Clone + Drop> FileFolder for HostFolde
 
     // Of the file system nothing is known.
     ghost sound = { λ _. ⊥ };
-
-    fn list(&mut self) -> Result<Vec<String>, StoreFault> {
-        told(self.read_names())
-    }
-
-    fn has(&mut self, name: &str) -> Result<bool, StoreFault> {
-        match told(self.look_up(name)) {
-            Ok(_) => Ok(true),
-            Err(StoreFault::Missing) => Ok(false),
-            Err(fault) => Err(fault),
-        }
-    }
 
     fn make(&mut self, name: &str) -> Result<(), StoreFault> {
         told(self.make_marked(name))

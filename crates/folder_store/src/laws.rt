@@ -1,8 +1,10 @@
-//! Laws of what a loss of power leaves of a folder: a function here does nothing, and its contract is
+//! Laws of what readers do and of what a loss of power leaves: a function here does nothing, and its contract is
 //! the law.
 
-ghost use Rattle.folder_store.specs.PowerLoss.{DiskIsKnown, DiskStands, FrontsOutlivePower, MakingLeaves};
-ghost use Rattle.folder_store.specs.PowerLoss.{NamesOutlivePower, OutlivesPower, PowerCanBeLost};
+ghost use Rattle.std.specs.Prelude.{List};
+ghost use Rattle.folder_store.specs.PowerLoss.{DiskIsKnown, DiskStands, FrontsOutlivePower, OutlivesPower, PowerCanBeLost};
+ghost use Rattle.folder_store.specs.MailFolders.{Directories, MailFile, Moved, OneMoves};
+ghost use Rattle.folder_store.specs.MailPower.{LeftMailIsOnDisk, MailCanLosePower, MailOnDiskIsLeft, OutlivingMailIsLeft, StayingMailIsLeft};
 
 /// Power can be lost in each state of a folder.
 pub fn power_can_be_lost()
@@ -24,17 +26,32 @@ pub fn fronts_outlive_power()
     ensures { FrontsOutlivePower }
 {}
 
-/// A name that no loss of power takes away leads to a file after one.
-pub fn names_outlive_power()
-    ensures { NamesOutlivePower }
-{}
-
 /// What is on the disk is known to be there, whether or not a device knows it.
 pub fn disk_is_known()
     ensures { DiskIsKnown }
 {}
 
-/// What is made and has no name yet adds nothing to what a loss of power may leave.
-pub fn making_leaves()
-    ensures { MakingLeaves }
+/// Readers may do nothing, move or mark a file, and do so again.
+pub fn readers_move()
+    ensures rest { (d : Directories) → Moved d d }
+    ensures one { (old : Directories) (front back : List MailFile) (s t : MailFile) (new : Directories) → OneMoves old front back s t new → Moved old new }
+    ensures on { (a b c : Directories) → Moved a b → Moved b c → Moved a c }
+{}
+
+/// Power can be lost in each state of the folders of a Maildir.
+pub fn mail_can_lose_power()
+    ensures { MailCanLosePower }
+{}
+
+/// A file that stays, and one that outlives a loss of power, is there after one; and if all is on the
+/// disk, so are all.
+pub fn mail_outlives_power()
+    ensures stays { StayingMailIsLeft }
+    ensures outlives { OutlivingMailIsLeft }
+    ensures all { MailOnDiskIsLeft }
+{}
+
+/// After a loss of power all that is left of a Maildir is on the disk.
+pub fn left_mail_is_on_disk()
+    ensures { LeftMailIsOnDisk }
 {}

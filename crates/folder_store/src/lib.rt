@@ -5,9 +5,13 @@ mod device;
 mod file;
 mod fused;
 mod host;
+mod host_folders;
 mod laws;
+mod mail_folders;
+mod mail_steps;
 mod maildir;
 mod memory;
+mod memory_folders;
 mod process_mark;
 mod reading;
 mod steps;
@@ -18,11 +22,14 @@ pub use device::FileFolder;
 pub use file::HostFile;
 pub use fused::FusedFolder;
 pub use host::HostFolder;
+pub use host_folders::HostFolders;
 pub use laws::{
-    disk_is_known, disk_stands, making_leaves, names_outlive_power, outlives_power,
-    power_can_be_lost,
+    disk_is_known, disk_stands, left_mail_is_on_disk, mail_can_lose_power, mail_outlives_power,
+    outlives_power, power_can_be_lost, readers_move,
 };
+pub use mail_folders::MailFolders;
 pub use maildir::FolderMaildir;
 pub use memory::{Left, MemoryFolder};
+pub use memory_folders::{MailLeft, MemoryFolders, ReaderStep};
 pub use process_mark::ProcessMark;
 pub use steps::Appending;

@@ -57,7 +57,6 @@ impl Model for MemoryFolder {
     ghost use Rattle.folder_store.specs.MemoryFolder.{blob_of, entries_of, older_of};
 
     ghost view = { λ m. record {
-      is_there = true;
       can_make = true;
       entries = entries_of m.files.items;
       older = map older_of m.older.items;
@@ -80,17 +79,6 @@ fn place_of(files: &[(String, Kept)], name: &str) -> Option<usize>
         }
     }
     None
-}
-
-/// The names of some files.
-fn names_of(alloc: Global, files: &[(String, Kept)]) -> Result<Vec<String>, AllocError>
-    ensures { IfOk result (λ names. map string_bytes names.items ≡ names_in (entries_of files.now)) }
-{
-    let mut names = Vec::new(alloc);
-    for (name, _) in files {
-        names.push(name.clone()?)?;
-    }
-    Ok(names)
 }
 
 /// The file of this name, if there is one.
@@ -299,7 +287,7 @@ impl MemoryFolder {
 
     /// A folder without files.
     pub fn new(alloc: Global) -> MemoryFolder
-        ensures { result ≡ record { is_there = true; can_make = true; entries = []; older = []; made = None } }
+        ensures { result ≡ record { can_make = true; entries = []; older = []; made = None } }
     {
         MemoryFolder {
             alloc,
@@ -360,17 +348,6 @@ impl FileFolder for MemoryFolder {
     ghost directory = { λ m. m };
 
     ghost sound = { λ _. Unit {0} };
-
-    fn list(&mut self) -> Result<Vec<String>, StoreFault> {
-        match names_of(self.alloc, &self.files) {
-            Ok(names) => Ok(names),
-            Err(_) => Err(StoreFault::Refused),
-        }
-    }
-
-    fn has(&mut self, name: &str) -> Result<bool, StoreFault> {
-        Ok(kept_at(&self.files, name).is_some())
-    }
 
     fn make(&mut self, _name: &str) -> Result<(), StoreFault> {
         self.made = Some(Kept::empty(self.alloc));

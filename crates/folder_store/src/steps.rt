@@ -1,10 +1,8 @@
 //! What the devices do to a folder in several calls.
 
-ghost use Rattle.std.specs.Prelude.{◌≡◌, Contains, IfErr, None, OnErr, OnOk, true};
-ghost use Rattle.mail_store.specs.Fault.{IsDeviceFault};
-ghost use Rattle.folder_store.specs.FolderMaildir.{AnswersNames, PutsFlushed};
-ghost use Rattle.folder_store.specs.FileFolder.{find, names_in};
-ghost use Rattle.folder_store.specs.HostFile.{AppendsPiece, AppendsFlushed, CutsFlushed, Flushes, ReplacesFlushed};
+ghost use Rattle.std.specs.Prelude.{◌≡◌, None, OnErr, OnOk};
+ghost use Rattle.folder_store.specs.FileFolder.{find};
+ghost use Rattle.folder_store.specs.HostFile.{AppendsPiece, AppendsFlushed, CutsFlushed, Flushes, PutsFlushed, ReplacesFlushed};
 ghost use Rattle.folder_store.specs.PowerLoss.{FrontStands, IsOnDisk, IsSure};
 ghost use Rattle.mail_store.specs.Power.{KeepsBytes};
 
@@ -23,38 +21,12 @@ pub enum Appending {
     ByPages,
 }
 
-/// The names of a folder, once they are on the disk.
-pub fn told_names<F: FileFolder>(folder: &mut F) -> Result<Vec<String>, StoreFault>
-    ensures tells { F.sound folder.new → F.sound folder.old
-        × AnswersNames (F.directory folder.old) result (F.directory folder.new) }
-    ensures fault { IfErr result IsDeviceFault }
-{
-    let names = folder.list()?;
-    match folder.flush_names() {
-        Ok(()) => Ok(names),
-        Err(_) => Err(StoreFault::Refused),
-    }
-}
-
 /// Flushes the file made, puts it under a name, and flushes the names.
 fn put_flushed<F: FileFolder>(folder: &mut F, name: &str) -> Result<(), StoreFault>
     ensures { F.sound folder.new → F.sound folder.old
         × PutsFlushed (F.directory folder.old) name.now result (F.directory folder.new) }
 {
     folder.flush_made()?;
-    folder.put(name)?;
-    folder.flush_names()
-}
-
-/// The same, but refused if a file has the name.
-pub fn put_where_none<F: FileFolder>(folder: &mut F, name: &str) -> Result<(), StoreFault>
-    ensures puts { F.sound folder.new → F.sound folder.old
-        × PutsFlushed (F.directory folder.old) name.now result (F.directory folder.new) }
-    ensures was_free { F.sound folder.new → OnOk result (Contains (names_in (F.directory folder.old).entries) name.now → ⊥) }
-{
-    if folder.flush_made().is_err() || folder.has(name)? {
-        return Err(StoreFault::Refused);
-    }
     folder.put(name)?;
     folder.flush_names()
 }

@@ -24,8 +24,8 @@ pub fn make_file<R: Files>(rt: &R, path: &str) -> io::Result<R::File> {
 
 /// Flushes the names of a folder to the disk, so that they outlive a loss of power. A system that
 /// flushes no folders answers Ok.
-pub fn flush_folder<R: Files>(rt: &R, path: &str) -> io::Result<()> {
-    match fs::open(rt, path)?.sync_all() {
+pub fn flush_folder<F: OpenFile>(folder: &F) -> io::Result<()> {
+    match folder.sync_all() {
         Err(fault) if fault.kind() == ErrorKind::InvalidInput => Ok(()),
         Err(fault) if fault.kind() == ErrorKind::Unsupported => Ok(()),
         answer => answer,

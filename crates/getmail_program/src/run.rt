@@ -10,7 +10,7 @@ use crate::setup::{Setup, account_of};
 use crate::shown_wire::ShownWire;
 use fetch_rules::{Dest, Settings};
 use fetch_session::{Account, Store};
-use folder_store::{FolderMaildir, HostFile, HostFolder, ProcessMark};
+use folder_store::{FolderMaildir, HostFile, HostFolder, HostFolders, ProcessMark};
 use mail_store::{FlatFile, MaildirDisk};
 use pop3_wire::Wire;
 use std::alloc::Global;
@@ -43,7 +43,7 @@ fn screen_of<R, E: Write + IsTerminal + Copy>(
 }
 
 /// The Maildir of a run.
-type HostMaildir<'a, R> = FolderMaildir<HostFolder<'a, R>>;
+type HostMaildir<'a, R> = FolderMaildir<HostFolders<'a, R>>;
 
 /// The mboxrd file or the record of a run.
 type HostRecord<'a, R> = HostFile<'a, HostFolder<'a, R>>;

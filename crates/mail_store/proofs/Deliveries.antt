@@ -3,17 +3,17 @@ use Rattle.std.proofs.Common.{◌≡◌, ℕ, List, [], Some, Result, Ok, Err, i
 use Rattle.std.specs.Prelude.{IfErr}
 use Rattle.mail_store.specs.declared.fault.StoreFault.{StoreFault}
 use Rattle.mail_store.specs.declared.fault.StoreFault.TheVariants.{Missing, Refused, NotMbox, NoMemory}
-use Rattle.mail_store.specs.Maildir.{Maildir, File, file, IsInNew, Adds, Settles, Delivers, counted, dropped, with_file}
+use Rattle.mail_store.specs.Maildir.{Maildir, File, file, mail, IsThere, Adds, Settles, Delivers, counted, dropped, with_file}
 
 -- a file of these bytes was begun under any name, and settled under this one
 pub delivered : {T : Type 0} (old m new : Maildir) (title name bytes : List ℕ) (r : Result T StoreFault)
-    → m ≡ record old { begun = Some (file title bytes) } → IfErr r (λ e. e ≡ Refused) → Settles m name r new → Delivers old (file name bytes) r new
+    → m ≡ record old { begun = Some (file title bytes) } → IfErr r (λ e. e ≡ Refused) → Settles m name r new → Delivers old (mail name bytes) r new
 delivered old m new title name bytes (Ok done) e fault s =
-    s (file title bytes) (ap (λ (d : Maildir). d.begun) e) ∙ ap (λ (d : Maildir). with_file d (file name bytes)) e
+    s (file title bytes) (ap (λ (d : Maildir). d.begun) e) ∙ ap (λ (d : Maildir). with_file d (mail name bytes)) e
 delivered old m new title name bytes (Err Refused) e fault s =
     elim (s (file title bytes) (ap (λ (d : Maildir). d.begun) e)) [
       | inl h ↦ inl (h ∙ ap (λ (d : Maildir). counted (dropped d)) e)
-      | inr h ↦ inr (h ∙ ap (λ (d : Maildir). counted (with_file d (file name bytes))) e)
+      | inr h ↦ inr (h ∙ ap (λ (d : Maildir). counted (with_file d (mail name bytes))) e)
     ]
 delivered old m new title name bytes (Err Missing) e fault s = absurd (missing_is_not_refused fault)
   where
@@ -37,6 +37,6 @@ written old m new name bytes e a =
 
 -- no file has the name, if none had it before another was begun
 pub still_free : (old m : Maildir) (f : File) (name text : List ℕ) → m ≡ record old { begun = Some f } → text ≡ name
-    → (IsInNew old name → ⊥) → IsInNew m text → ⊥
+    → (IsThere old name → ⊥) → IsThere m text → ⊥
 still_free old m f name text e same free h =
-    free (subst (λ (d : Maildir). IsInNew d name) e (subst (λ (n : List ℕ). IsInNew m n) same h))
+    free (subst (λ (d : Maildir). IsThere d name) e (subst (λ (n : List ℕ). IsThere m n) same h))

@@ -26,5 +26,5 @@ nothing_added {T} m bytes n answer fault e =
     subst (λ (r : Result T StoreFault). Adds (record m { failures = n }) bytes r (record m { failures = n + 1 })) (sym e)
     (λ f h. (
       f.content,
-      ap (λ (b : Option File). record { there = m.there; in_new = m.in_new; in_cur = m.in_cur; begun = b; failures = n + 1 }) h,
+      ap (λ (b : Option File). record { there = m.there; files = m.files; begun = b; failures = n + 1 }) h,
     ))

@@ -4,18 +4,18 @@ use Rattle.std.specs.Prelude.{◌||◌, ◌&&◌, bytes_eq, Contains, IsPermutat
 use Rattle.std.specs.List.{list_any}
 use Rattle.std.proofs.lemmas.Cmp.{nat_list_eq_equiv}
 use Rattle.std.proofs.lemmas.Bool.Decides.{same_from_decides}
-use Rattle.std.proofs.Math.Bool.{and_comm, and-false, or_assoc, or_comm, or-false, or-true}
+use Rattle.std.proofs.Math.Bool.{and_comm, and-false, or_assoc, or-false, or-true}
 use Rattle.std.proofs.lemmas.List.{append_cancel_left, take_more, map-append, length-map, get_or-map}
 use Rattle.std.proofs.lemmas.List.Folds.{list_any-append, list_any_at}
 use Rattle.std.proofs.lemmas.List.Sorted.{Contains-permutation, list_any-IsPermutation}
 use Rattle.std.proofs.lemmas.Slice.Eq.{bytes_eq-Decides}
 use Rattle.mail_terms.specs.Listing.{Item, has_item, is_flagged}
 use Rattle.mail_terms.specs.UniqueId.{IsLegalId}
-use Rattle.mail_store.specs.declared.maildir.disk.Folder.TheVariants.{New, Cur}
-use Rattle.mail_store.specs.Maildir.{Maildir, File, Lists, file, name_in, names_of, IsInNew, with_file}
+use Rattle.mail_terms.specs.MaildirName.{base}
+use Rattle.mail_store.specs.Maildir.{Maildir, File, ListsAll, file, bases_told, name_in, names_of, IsThere, with_file}
 use Rattle.mail_store.specs.FileName.{mail_file, name_of, stem, stem_of, names_id, is_held, IsAccountText}
 use Rattle.hex.specs.Hex.{encode_lower}
-use Rattle.mail_store.proofs.NameLemmas.{HaveRanges, stem-name_of, stem_of-injective}
+use Rattle.mail_store.proofs.NameLemmas.{HaveRanges, stem-base, stem-name_of, stem_of-injective}
 use Rattle.mail_store.specs.Held.{any_name, flags_of}
 use Rattle.mail_store.specs.Power.{AllStay}
 
@@ -71,70 +71,63 @@ map_same : {A B : Type 0} (f g : A → B) (xs : List A) → ((x : A) → f x ≡
 map_same f g [] same = refl
 map_same f g (x ∷ xs) same = ap (λ y. y ∷ map f xs) (same x) ∙ ap (λ ys. g x ∷ ys) (map_same f g xs same)
 
--- a name that a device returned passes a test exactly if one of its files' names does
+-- a name that a device told passes a test of its base exactly if one of its files' names does
 names_tell : {Z : Type 0} (test : List ℕ → Bool) (files : List File) (names : List (String Z))
-    → IsPermutation (names_of files) (map string_bytes names)
-    → list_any (λ name. test (string_bytes name)) names ≡ list_any (λ (f : File). test f.name) files
+    → IsPermutation (names_of files) (bases_told names)
+    → list_any (λ name. test (base (string_bytes name))) names ≡ list_any (λ (f : File). test f.name) files
 names_tell test files names p =
-    sym (any_map test string_bytes names) ∙ sym (list_any-IsPermutation test (names_of files) (map string_bytes names) p)
+    sym (any_map test (λ name. base (string_bytes name)) names) ∙ sym (list_any-IsPermutation test (names_of files) (bases_told names) p)
     ∙ any_map test name_in files
 
--- the digits in the stems of the names of both folders show which items are held
+any_same : {A : Type 0} (f g : A → Bool) (xs : List A) → ((x : A) → f x ≡ g x) → list_any f xs ≡ list_any g xs
+any_same f g [] same = refl
+any_same f g (x ∷ xs) same = ap (λ b. b || list_any f xs) (same x) ∙ ap (λ b. g x || b) (any_same f g xs same)
+
+-- the digits in the stems of the names show which items are held
 pub flags_found : {Z : Type 0} (account : List ℕ) (maildir : Maildir) (items : List Item) (flags : List Bool) (found : List ℕ → Bool)
-    (new cur : List (String Z)) → ((q : List ℕ) → found q ≡ (any_name account q new || any_name account q cur))
-    → IsPermutation (names_of maildir.in_new) (map string_bytes new)
-    → IsPermutation (names_of maildir.in_cur) (map string_bytes cur)
+    (names : List (String Z)) → ((q : List ℕ) → found q ≡ any_name account q names)
+    → IsPermutation (names_of maildir.files) (bases_told names)
     → flags ≡ map (λ (item : Item). found (encode_lower item.uid)) items → flags ≡ flags_of account maildir items
-flags_found account maildir items flags found new cur texts in_new in_cur told =
-    told ∙ map_same (λ (item : Item). found (encode_lower item.uid)) (λ (item : Item). is_held account maildir item.uid) items (λ item. held item.uid)
+flags_found account maildir items flags found names texts told flagged =
+    flagged ∙ map_same (λ (item : Item). found (encode_lower item.uid)) (λ (item : Item). is_held account maildir item.uid) items (λ item. held item.uid)
   where
     held : (uid : List ℕ) → found (encode_lower uid) ≡ is_held account maildir uid
     held uid =
         let test : List ℕ → Bool = λ name. bytes_eq (stem_of account uid) (stem name) in
         texts (encode_lower uid)
-        ∙ ap (λ b. b || any_name account (encode_lower uid) cur) (names_tell test maildir.in_new new in_new)
-        ∙ ap (λ b. list_any (λ (f : File). test f.name) maildir.in_new || b) (names_tell test maildir.in_cur cur in_cur)
-        ∙ sym (list_any-append (λ (f : File). names_id account uid f.name) maildir.in_new maildir.in_cur)
+        ∙ any_same (λ name. test (string_bytes name)) (λ name. test (base (string_bytes name))) names
+        (λ name. ap (bytes_eq (stem_of account uid)) (sym (stem-base (string_bytes name))))
+        ∙ names_tell test maildir.files names told
 
--- ---- names in `new`
+-- ---- names that are there
 
--- an id is held if a file of `new` has its name
-pub held_where_in_new : (account uid : List ℕ) (size : ℕ) (maildir : Maildir) → IsAccountText account → IsInNew maildir (name_of account uid size)
+-- an id is held if a file has its name
+pub held_where_there : (account uid : List ℕ) (size : ℕ) (maildir : Maildir) → IsAccountText account → IsThere maildir (name_of account uid size)
     → is_held account maildir uid ≡ true
-held_where_in_new account uid size maildir a c =
+held_where_there account uid size maildir a c =
     let q = name_of account uid size in
     let test : File → Bool = λ f. names_id account uid f.name in
     let nothing : File = file [] [] in
-    let inside : c.0 < length maildir.in_new = omega (arith, c.1, length-map maildir.in_new name_in) in
-    let named : (get_or maildir.in_new c.0 nothing).name ≡ q = sym (get_or-map name_in maildir.in_new c.0 nothing q inside) ∙ c.2 in
-    let found : test (get_or maildir.in_new c.0 nothing) ≡ true =
-    ap (names_id account uid) named ∙ (bytes_eq-Decides (stem_of account uid) (stem q)).1 (sym (stem-name_of account uid size a)) in
-    list_any-append test maildir.in_new maildir.in_cur
-    ∙ ap (λ b. b || list_any test maildir.in_cur) (list_any_at test maildir.in_new c.0 nothing inside found)
-
--- ---- one more file
+    let inside : c.0 < length maildir.files = omega (arith, c.1, length-map maildir.files name_in) in
+    let named : (get_or maildir.files c.0 nothing).name ≡ base q = sym (get_or-map name_in maildir.files c.0 nothing (base q) inside) ∙ c.2 in
+    let found : test (get_or maildir.files c.0 nothing) ≡ true =
+    ap (names_id account uid) named ∙ (bytes_eq-Decides (stem_of account uid) (stem (base q))).1 (sym (stem-base q ∙ stem-name_of account uid size a)) in
+    list_any_at test maildir.files c.0 nothing inside found
 
 stem_eq : HaveRanges → (account a b : List ℕ) → IsLegalId a → IsLegalId b → bytes_eq (stem_of account b) (stem_of account a) ≡ bytes_eq b a
 stem_eq ranges account a b la lb = bytes_eq-made (stem_of account) b a (stem_of-injective ranges account b a lb la)
 
-or_shuffle : (n e c : Bool) → ((n || (e || false)) || c) ≡ ((n || c) || e)
-or_shuffle true e c = refl
-or_shuffle false e c = ap (λ b. b || c) (or-false e) ∙ or_comm e c
-
--- a file that came into `new` under an id's name makes that id held, and no other
+-- a file that came under an id's name makes that id held, and no other
 pub held_with_file : HaveRanges → (account a b content : List ℕ) (maildir : Maildir) → IsAccountText account → IsLegalId a → IsLegalId b
     → is_held account (with_file maildir (mail_file account a content)) b ≡ (is_held account maildir b || bytes_eq b a)
 held_with_file ranges account a b content maildir h la lb =
     let test : File → Bool = λ (f : File). names_id account b f.name in
     let f = mail_file account a content in
-    let N = maildir.in_new in
-    let C = maildir.in_cur in
-    let one : test f ≡ bytes_eq b a = ap (bytes_eq (stem_of account b)) (stem-name_of account a (length content) h) ∙ stem_eq ranges account a b la lb in
-    list_any-append test (N ++ f ∷ []) C
-    ∙ ap (λ k. k || list_any test C) (list_any-append test N (f ∷ []))
-    ∙ ap (λ e. (list_any test N || (e || false)) || list_any test C) one
-    ∙ or_shuffle (list_any test N) (bytes_eq b a) (list_any test C)
-    ∙ ap (λ k. k || bytes_eq b a) (sym (list_any-append test N C))
+    let one : test f ≡ bytes_eq b a =
+    ap (bytes_eq (stem_of account b)) (stem-base (name_of account a (length content)) ∙ stem-name_of account a (length content) h) ∙ stem_eq ranges account a b la lb in
+    list_any-append test maildir.files (f ∷ [])
+    ∙ ap (λ e. list_any test maildir.files || (e || false)) one
+    ∙ ap (λ e. list_any test maildir.files || e) (or-false (bytes_eq b a))
 
 -- ---- flags of a listing
 
@@ -156,14 +149,10 @@ flagged_where_held account maildir (item ∷ items) uid =
 
 -- ---- names that stay
 
--- the names of both folders were returned, and each returned name stays
-pub all_stay : {A B : Type 0} (stays : List ℕ → Type 0) (before mid after : Maildir) (new cur : Vec (String A) B)
-    → Lists before New (Ok new) mid → Lists mid Cur (Ok cur) after
-    → ((name : List ℕ) → Contains (map string_bytes new.items) name → stays name)
-    → ((name : List ℕ) → Contains (map string_bytes cur.items) name → stays name) → AllStay after stays
-all_stay stays before mid after new cur lists_new lists_cur in_new in_cur New name inside =
-    in_new name (Contains-permutation (names_of before.in_new) (map string_bytes new.items) name lists_new.1
-    (subst (λ (m : Maildir). Contains (names_of m.in_new) name) (lists_cur.2 ∙ lists_new.2) inside))
-all_stay stays before mid after new cur lists_new lists_cur in_new in_cur Cur name inside =
-    in_cur name (Contains-permutation (names_of mid.in_cur) (map string_bytes cur.items) name lists_cur.1
-    (subst (λ (m : Maildir). Contains (names_of m.in_cur) name) lists_cur.2 inside))
+-- the names were told, and each name that was told stays
+pub all_stay : {A B : Type 0} (stays : List ℕ → Type 0) (before after : Maildir) (names : Vec (String A) B)
+    → ListsAll before (Ok names) after
+    → ((name : List ℕ) → Contains (bases_told names.items) name → stays name) → AllStay after stays
+all_stay stays before after names lists told name inside =
+    told name (Contains-permutation (names_of before.files) (bases_told names.items) name lists.2
+    (subst (λ (m : Maildir). Contains (names_of m.files) name) lists.3 inside))

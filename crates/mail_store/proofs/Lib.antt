@@ -1,6 +1,5 @@
 mod AccountLemmas
 mod Deliveries
-mod DistinctNames
 mod FusedCalls
 mod HeldLemmas
 mod MboxAppends

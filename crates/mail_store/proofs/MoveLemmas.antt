@@ -1,10 +1,19 @@
--- A file that a reader takes from `new` to `cur`.
-use Rattle.std.proofs.Common.{◌≡◌, ℕ, zero, suc, ◌<◌, List, [], ◌∷◌, ◌++◌, length, take, drop, get_or, map, sym, ap, ◌∙◌, subst, arith, Option, Some, None, Bool, String, Vec, string_bytes}
-use Rattle.std.specs.Prelude.{All, HoldsAt, Contains, ◌≢◌, ◌↔◌, IsTrue, is_some, IfSome, IfNone, remove}
+-- Files that a Maildir in memory keeps in two folders, and that its calls in a reader's place move.
+use Rattle.std.proofs.Common.{◌≡◌, ℕ, zero, suc, ◌+◌, ◌-◌, ◌<◌, ◌≤◌, List, [], ◌∷◌, ◌++◌, length, take, drop, get_or, map, refl, sym, ap, ◌∙◌, subst, arith, Option, Some, None, Bool, true, false, inl, inr, String, Vec, string_bytes, remove, insert, set}
+use Rattle.std.specs.Prelude.{◌⊎◌, All, HoldsAt, Contains, ◌≢◌, ◌↔◌, IsTrue, is_some, IfSome, IfNone, IsPermutation}
 use Rattle.std.proofs.lemmas.Bool.{both_ways}
-use Rattle.std.proofs.lemmas.List.{map-append}
-use Rattle.std.proofs.Math.Seq.{split_at}
-use Rattle.mail_store.specs.Maildir.{Maildir, File, Folders, file, file_of, names_of, Takes}
+use Rattle.std.proofs.Math.Bool.{beq}
+use Rattle.std.proofs.lemmas.List.{map-append, length-map, length-append, take_more, get_or-map, get_or_default, length-take-le, take-append-drop}
+use Rattle.std.proofs.lemmas.List.Edits.{length-insert, length-remove}
+use Rattle.std.proofs.lemmas.List.Elements.{Contains-append_left, Contains-append_right, Contains-append_cases}
+use Rattle.std.proofs.lemmas.List.Sorted.{IsPermutation-refl, IsPermutation-cons, IsPermutation-map, IsPermutation-middle, IsPermutation-sym, IsPermutation-trans, Contains-permutation}
+use Rattle.mail_terms.specs.MaildirName.{base}
+use Rattle.mail_store.specs.Maildir.{Maildir, File, file, mail, with_file, file_of, name_in, names_of, bases_told, is_there, all_there, AreTheirs}
+use Rattle.mail_store.specs.declared.maildir.disk.Folder.{Folder}
+use Rattle.mail_store.specs.declared.maildir.disk.Folder.TheVariants.{New, Cur}
+use Rattle.mail_store.specs.MemoryMaildir.{Kept, Takes, Renames, count, kept_in, merged, shown}
+
+-- ---- names that are looked up
 
 module _ {Z Y : Type 0} where
   -- if no pair has the name, no file has it
@@ -27,47 +36,24 @@ module _ {Z Y : Type 0} where
       let rest = named pairs name i (omega arith) at in
       (suc rest.0, omega (arith, rest.1), rest.2)
 
-  pub taken : (there : Folders) (begun : Option File) (failures : ℕ) (new cur new' cur' : List (String Z × Vec ℕ Y)) (i : ℕ)
-      (found made : String Z × Vec ℕ Y) (name suffix : List ℕ)
-      → i < length new → HoldsAt (λ p. string_bytes p.0 ≡ name) new i → found ≡ get_or new i found
-      → new' ≡ remove new i → cur' ≡ cur ++ made ∷ [] → string_bytes made.0 ≡ name ++ suffix → made.1.items ≡ found.1.items
-      → (Contains (names_of (map file_of cur)) (name ++ suffix) → ⊥)
-      → Takes (record { there = there; in_new = map file_of new; in_cur = map file_of cur; begun = begun; failures = failures }) name suffix
-      (record { there = there; in_new = map file_of new'; in_cur = map file_of cur'; begun = begun; failures = failures })
-  taken there begun failures new cur new' cur' i found made name suffix below at is removed pushed named_so same free =
-      let titled : string_bytes found.0 ≡ name = ap (λ (p : String Z × Vec ℕ Y). string_bytes p.0) is ∙ at found in
-      let whole : new ≡ take i new ++ found ∷ drop (suc i) new =
-      split_at new i found below ∙ ap (λ (p : String Z × Vec ℕ Y). take i new ++ p ∷ drop (suc i) new) (sym is) in
-      record {
-        front = map file_of (take i new);
-        back = map file_of (drop (suc i) new);
-        content = found.1.items;
-        was = ap (map file_of) whole ∙ map-append file_of (take i new) (found ∷ drop (suc i) new)
-            ∙ ap (λ (n : List ℕ). map file_of (take i new) ++ file n found.1.items ∷ map file_of (drop (suc i) new)) titled;
-        free = free;
-        is = ap (λ (files : List File). record { there = there; in_new = files; in_cur = map file_of cur'; begun = begun; failures = failures })
-            (ap (map file_of) removed ∙ map-append file_of (take i new) (drop (suc i) new))
-            ∙ ap (λ (files : List File). record { there = there; in_new = map file_of (take i new) ++ map file_of (drop (suc i) new); in_cur = files; begun = begun; failures = failures })
-            (ap (map file_of) pushed ∙ map-append file_of cur (made ∷ [])
-            ∙ ap (λ (n : List ℕ). map file_of cur ++ file n made.1.items ∷ []) named_so
-            ∙ ap (λ (bytes : List ℕ). map file_of cur ++ file (name ++ suffix) bytes ∷ []) same);
-      }
+  -- the same of a name's base
+  pub not_based : (pairs : List (String Z × Vec ℕ Y)) (front : List ℕ) → All (λ p. base (string_bytes p.0) ≢ front) pairs
+      → Contains (names_of (map shown (map file_of pairs))) front → ⊥
+  not_based [] front none c = absurd (omega (arith, c.1))
+  not_based (p ∷ pairs) front none c = by (not_based pairs front (λ j d inside. none (suc j) d (omega arith))) c.0 c.1 c.2
+    where
+      by : (Contains (names_of (map shown (map file_of pairs))) front → ⊥)
+          → (k : ℕ) → k < length (names_of (map shown (map file_of (p ∷ pairs)))) → get_or (names_of (map shown (map file_of (p ∷ pairs)))) k front ≡ front → ⊥
+      by later zero below is = none 0 p (omega arith) is
+      by later (suc k) below is = later (k, omega arith, is)
 
--- a fact about the names of some pairs, as a fact about the device's `cur`
-pub about_cur : {Z Y : Type 0} (view now : Maildir) (pairs items : List (String Z × Vec ℕ Y)) (text name : List ℕ) (P : List (List ℕ) → List ℕ → Type 0)
-    → view ≡ now → view.in_cur ≡ map file_of items → pairs ≡ items → text ≡ name
-    → P (names_of (map file_of pairs)) text → P (names_of now.in_cur) name
-about_cur view now pairs items text name P seen is same titled h =
-    subst (λ (m : Maildir). P (names_of m.in_cur) name) seen
-    (subst (λ (files : List File). P (names_of files) name) (ap (map file_of) same ∙ sym is)
-    (subst (λ (n : List ℕ). P (names_of (map file_of pairs)) n) titled h))
-
-pub about_new : {Z Y : Type 0} (view now : Maildir) (pairs items : List (String Z × Vec ℕ Y)) (name : List ℕ) (P : List (List ℕ) → List ℕ → Type 0)
-    → view ≡ now → view.in_new ≡ map file_of items → pairs ≡ items
-    → P (names_of (map file_of pairs)) name → P (names_of now.in_new) name
-about_new view now pairs items name P seen is same h =
-    subst (λ (m : Maildir). P (names_of m.in_new) name) seen
-    (subst (λ (files : List File). P (names_of files) name) (ap (map file_of) same ∙ sym is) h)
+  pub based : (pairs : List (String Z × Vec ℕ Y)) (front : List ℕ) (i : ℕ) → i < length pairs → HoldsAt (λ p. base (string_bytes p.0) ≡ front) pairs i
+      → Contains (names_of (map shown (map file_of pairs))) front
+  based [] front i below at = absurd (omega arith)
+  based (p ∷ pairs) front zero below at = (0, omega arith, at p)
+  based (p ∷ pairs) front (suc i) below at =
+      let rest = based pairs front i (omega arith) at in
+      (suc rest.0, omega (arith, rest.1), rest.2)
 
 -- a look-up finds a place exactly if a file has the name
 pub found_iff : {Z Y : Type 0} (pairs : List (String Z × Vec ℕ Y)) (name : List ℕ) (place : Option ℕ) (b : Bool) → b ≡ is_some place
@@ -76,3 +62,376 @@ pub found_iff : {Z Y : Type 0} (pairs : List (String Z × Vec ℕ Y)) (name : Li
     → IsTrue b ↔ Contains (names_of (map file_of pairs)) name
 found_iff pairs name (Some i) b e some none = (λ _. named pairs name i some.0 some.1, λ _. e)
 found_iff pairs name None b e some none = (λ t. absurd (both_ways b e t), λ h. absurd (none h))
+
+-- ---- flags and folders
+
+-- each flag is one of the two
+pub counts_total : (flags : List Bool) → count true flags + count false flags ≡ length flags
+counts_total [] = refl
+counts_total (true ∷ flags) = let rest = counts_total flags in omega (arith, rest)
+counts_total (false ∷ flags) = let rest = counts_total flags in omega (arith, rest)
+
+pub count-append : (flag : Bool) (front back : List Bool) → count flag (front ++ back) ≡ count flag front + count flag back
+count-append flag [] back = omega arith
+count-append true (true ∷ front) back = let rest = count-append true front back in omega (arith, rest)
+count-append true (false ∷ front) back = count-append true front back
+count-append false (true ∷ front) back = count-append false front back
+count-append false (false ∷ front) back = let rest = count-append false front back in omega (arith, rest)
+
+-- one flag of the two became the other
+pub counts_set : (flags : List Bool) (i : ℕ) → i < length flags
+    → (HoldsAt (λ b. b ≡ true) flags i → (count true (set flags i false) + 1 ≡ count true flags) × (count false (set flags i false) ≡ count false flags + 1))
+    × (HoldsAt (λ b. b ≡ false) flags i → (count false (set flags i true) + 1 ≡ count false flags) × (count true (set flags i true) ≡ count true flags + 1))
+counts_set [] i below = absurd (omega arith)
+counts_set (true ∷ flags) zero below = (λ h. (omega arith, omega arith), λ h. absurd (both_ways true (h true) refl))
+counts_set (false ∷ flags) zero below = (λ h. absurd (both_ways true (sym (h true)) refl), λ h. (omega arith, omega arith))
+counts_set (true ∷ flags) (suc i) below =
+    let rest = counts_set flags i (omega arith) in (
+      λ h. (let r = rest.0 h in (omega (arith, r.0), omega (arith, r.1))),
+      λ h. (let r = rest.1 h in (omega (arith, r.0), omega (arith, r.1))),
+    )
+counts_set (false ∷ flags) (suc i) below =
+    let rest = counts_set flags i (omega arith) in (
+      λ h. (let r = rest.0 h in (omega (arith, r.0), omega (arith, r.1))),
+      λ h. (let r = rest.1 h in (omega (arith, r.0), omega (arith, r.1))),
+    )
+
+-- ---- the two folders together
+
+-- the flags tell of just these files
+abbrev pub Fit : {A : Type 0} → List Bool → List A → List A → Type 0
+Fit flags new cur = (count true flags ≡ length new) × (count false flags ≡ length cur)
+
+module _ {A : Type 0} where
+  pub merged_all : (flags : List Bool) (new cur : List A) → Fit flags new cur → IsPermutation (merged flags new cur) (new ++ cur)
+  merged_all [] [] [] fit = IsPermutation-refl []
+  merged_all [] [] (g ∷ cur) fit = absurd (omega (arith, fit.1))
+  merged_all [] (f ∷ new) cur fit = absurd (omega (arith, fit.0))
+  merged_all (true ∷ flags) [] cur fit = absurd (omega (arith, fit.0))
+  merged_all (true ∷ flags) (f ∷ new) cur fit =
+      IsPermutation-cons f (merged flags new cur) (new ++ cur) (merged_all flags new cur (omega (arith, fit.0), fit.1))
+  merged_all (false ∷ flags) new [] fit = absurd (omega (arith, fit.1))
+  merged_all (false ∷ flags) new (f ∷ cur) fit =
+      let rest = merged_all flags new cur (fit.0, omega (arith, fit.1)) in
+      IsPermutation-trans (f ∷ merged flags new cur) (f ∷ (new ++ cur)) (new ++ f ∷ cur) (IsPermutation-cons f (merged flags new cur) (new ++ cur) rest)
+      (IsPermutation-sym (new ++ f ∷ cur) (f ∷ (new ++ cur)) (IsPermutation-middle new f cur))
+
+  -- a file came to the first folder
+  pub merged_push : (flags : List Bool) (new cur : List A) (f : A) → Fit flags new cur
+      → merged (flags ++ true ∷ []) (new ++ f ∷ []) cur ≡ merged flags new cur ++ f ∷ []
+  merged_push [] [] [] f fit = refl
+  merged_push [] [] (g ∷ cur) f fit = absurd (omega (arith, fit.1))
+  merged_push [] (g ∷ new) cur f fit = absurd (omega (arith, fit.0))
+  merged_push (true ∷ flags) [] cur f fit = absurd (omega (arith, fit.0))
+  merged_push (true ∷ flags) (g ∷ new) cur f fit = ap (λ (fs : List A). g ∷ fs) (merged_push flags new cur f (omega (arith, fit.0), fit.1))
+  merged_push (false ∷ flags) new [] f fit = absurd (omega (arith, fit.1))
+  merged_push (false ∷ flags) new (g ∷ cur) f fit = ap (λ (fs : List A). g ∷ fs) (merged_push flags new cur f (fit.0, omega (arith, fit.1)))
+
+-- a file went from the first folder to the second, and shows as before
+pub moved_to_cur : (flags : List Bool) (new cur : List File) (place : ℕ) (g d : File) → Fit flags new cur → place < length flags
+    → HoldsAt (λ b. b ≡ true) flags place → shown g ≡ shown (get_or new (count true (take place flags)) d)
+    → map shown (merged (set flags place false) (remove new (count true (take place flags))) (insert cur (count false (take place flags)) g))
+    ≡ map shown (merged flags new cur)
+moved_to_cur [] new cur place g d fit below at same = absurd (omega arith)
+moved_to_cur (true ∷ flags) [] cur place g d fit below at same = absurd (omega (arith, fit.0))
+moved_to_cur (true ∷ flags) (f ∷ new) cur zero g d fit below at same = ap (λ (s : File). s ∷ map shown (merged flags new cur)) same
+moved_to_cur (true ∷ flags) (f ∷ new) cur (suc place) g d fit below at same =
+    ap (λ (fs : List File). shown f ∷ fs) (moved_to_cur flags new cur place g d (omega (arith, fit.0), fit.1) (omega arith) at same)
+moved_to_cur (false ∷ flags) new cur zero g d fit below at same = absurd (both_ways true (sym (at true)) refl)
+moved_to_cur (false ∷ flags) new [] (suc place) g d fit below at same = absurd (omega (arith, fit.1))
+moved_to_cur (false ∷ flags) new (f ∷ cur) (suc place) g d fit below at same =
+    ap (λ (fs : List File). shown f ∷ fs) (moved_to_cur flags new cur place g d (fit.0, omega (arith, fit.1)) (omega arith) at same)
+
+-- a file went from the second folder to the first, and shows as before
+pub moved_to_new : (flags : List Bool) (new cur : List File) (place : ℕ) (g d : File) → Fit flags new cur → place < length flags
+    → HoldsAt (λ b. b ≡ false) flags place → shown g ≡ shown (get_or cur (count false (take place flags)) d)
+    → map shown (merged (set flags place true) (insert new (count true (take place flags)) g) (remove cur (count false (take place flags))))
+    ≡ map shown (merged flags new cur)
+moved_to_new [] new cur place g d fit below at same = absurd (omega arith)
+moved_to_new (false ∷ flags) new [] place g d fit below at same = absurd (omega (arith, fit.1))
+moved_to_new (false ∷ flags) new (f ∷ cur) zero g d fit below at same = ap (λ (s : File). s ∷ map shown (merged flags new cur)) same
+moved_to_new (false ∷ flags) new (f ∷ cur) (suc place) g d fit below at same =
+    ap (λ (fs : List File). shown f ∷ fs) (moved_to_new flags new cur place g d (fit.0, omega (arith, fit.1)) (omega arith) at same)
+moved_to_new (true ∷ flags) new cur zero g d fit below at same = absurd (both_ways true (at true) refl)
+moved_to_new (true ∷ flags) [] cur (suc place) g d fit below at same = absurd (omega (arith, fit.0))
+moved_to_new (true ∷ flags) (f ∷ new) cur (suc place) g d fit below at same =
+    ap (λ (fs : List File). shown f ∷ fs) (moved_to_new flags new cur place g d (omega (arith, fit.0), fit.1) (omega arith) at same)
+
+-- a file of the second folder has another name, and shows as before
+pub marked_again : (flags : List Bool) (new cur : List File) (i : ℕ) (g d : File) → i < length cur → shown g ≡ shown (get_or cur i d)
+    → map shown (merged flags new (set cur i g)) ≡ map shown (merged flags new cur)
+marked_again [] new cur i g d below same = refl
+marked_again (true ∷ flags) [] cur i g d below same = refl
+marked_again (true ∷ flags) (f ∷ new) cur i g d below same = ap (λ (fs : List File). shown f ∷ fs) (marked_again flags new cur i g d below same)
+marked_again (false ∷ flags) new [] i g d below same = absurd (omega arith)
+marked_again (false ∷ flags) new (f ∷ cur) zero g d below same = ap (λ (s : File). s ∷ map shown (merged flags new cur)) same
+marked_again (false ∷ flags) new (f ∷ cur) (suc i) g d below same =
+    ap (λ (fs : List File). shown f ∷ fs) (marked_again flags new cur i g d (omega arith) same)
+
+-- a file is shown under the base of its name, in one of the two folders
+pub shown_all : {Z Y : Type 0} (flags : List Bool) (new cur : List (String Z × Vec ℕ Y)) → Fit flags new cur
+    → IsPermutation (map shown (merged flags (map file_of new) (map file_of cur))) (map shown (map file_of new ++ map file_of cur))
+shown_all flags new cur fit =
+    IsPermutation-map shown (merged flags (map file_of new) (map file_of cur)) (map file_of new ++ map file_of cur)
+    (merged_all flags (map file_of new) (map file_of cur) (fit.0 ∙ sym (length-map new file_of), fit.1 ∙ sym (length-map cur file_of)))
+
+-- one more flag was counted, or passed over
+counted_at : (flags : List Bool) (flag : Bool) (i : ℕ) → i < length flags
+    → count flag (take (i + 1) flags) ≡ count flag (take i flags) + count flag (get_or flags i false ∷ [])
+counted_at flags flag i below = ap (count flag) (take_more flags i false below) ∙ count-append flag (take i flags) (get_or flags i false ∷ [])
+
+counts_itself : (is flag : Bool) → beq is flag ≡ true → count flag (is ∷ []) ≡ 1
+counts_itself true true same = refl
+counts_itself true false same = absurd (both_ways false refl same)
+counts_itself false true same = absurd (both_ways false refl same)
+counts_itself false false same = refl
+
+counts_no_other : (is flag : Bool) → beq is flag ≡ false → count flag (is ∷ []) ≡ 0
+counts_no_other true true other = absurd (both_ways true other refl)
+counts_no_other true false other = refl
+counts_no_other false true other = refl
+counts_no_other false false other = absurd (both_ways true other refl)
+
+pub one_counted : (flags : List Bool) (flag : Bool) (i before : ℕ) → i < length flags → beq (get_or flags i false) flag ≡ true
+    → before ≡ count flag (take i flags) → before + 1 ≡ count flag (take (i + 1) flags)
+one_counted flags flag i before below same so_far =
+    omega (arith, so_far, counted_at flags flag i below, counts_itself (get_or flags i false) flag same)
+
+pub other_passed : (flags : List Bool) (flag : Bool) (i before : ℕ) → i < length flags → beq (get_or flags i false) flag ≡ false
+    → before ≡ count flag (take i flags) → before ≡ count flag (take (i + 1) flags)
+other_passed flags flag i before below other so_far =
+    omega (arith, so_far, counted_at flags flag i below, counts_no_other (get_or flags i false) flag other)
+
+-- ---- what calls leave
+
+pub is_all_there : (folder : Folder) → is_there all_there folder ≡ true
+is_all_there New = refl
+is_all_there Cur = refl
+
+map_remove : {A B : Type 0} (f : A → B) (xs : List A) (i : ℕ) → map f (remove xs i) ≡ remove (map f xs) i
+map_remove f [] zero = refl
+map_remove f [] (suc i) = refl
+map_remove f (x ∷ xs) zero = refl
+map_remove f (x ∷ xs) (suc i) = ap (λ ys. f x ∷ ys) (map_remove f xs i)
+
+map_insert : {A B : Type 0} (f : A → B) (xs : List A) (i : ℕ) (y : A) → map f (insert xs i y) ≡ insert (map f xs) i (f y)
+map_insert f [] zero y = refl
+map_insert f [] (suc i) y = refl
+map_insert f (x ∷ xs) zero y = refl
+map_insert f (x ∷ xs) (suc i) y = ap (λ ys. f x ∷ ys) (map_insert f xs i y)
+
+map_set : {A B : Type 0} (f : A → B) (xs : List A) (i : ℕ) (y : A) → map f (set xs i y) ≡ set (map f xs) i (f y)
+map_set f [] i y = refl
+map_set f (x ∷ xs) zero y = refl
+map_set f (x ∷ xs) (suc i) y = ap (λ ys. f x ∷ ys) (map_set f xs i y)
+
+-- how many flags of each kind come before a place
+pub before_place : (flags : List Bool) (place : ℕ) → place < length flags → count true (take place flags) + count false (take place flags) ≡ place
+before_place flags place inside = counts_total (take place flags) ∙ length-take-le place flags (omega (arith, inside))
+
+-- a flag's count before a place is within its whole count
+pub within : (flag : Bool) (flags : List Bool) (place : ℕ) → count flag (take place flags) ≤ count flag flags
+within flag flags place =
+    let parts = count-append flag (take place flags) (drop place flags) in
+    let whole = ap (count flag) (take-append-drop place flags) in
+    omega (arith, parts, whole)
+
+-- the file at a place, by what its pair is
+module _ {Z Y : Type 0} where
+  file_at : (pairs : List (String Z × Vec ℕ Y)) (i : ℕ) (p : String Z × Vec ℕ Y) (name : List ℕ) → i < length pairs → p ≡ get_or pairs i p
+      → HoldsAt (λ q. string_bytes q.0 ≡ name) pairs i → (d : File) → get_or (map file_of pairs) i d ≡ file name p.1.items
+  file_at pairs i p name inside at named d =
+      get_or-map file_of pairs i p d inside ∙ ap file_of (sym at) ∙ ap (λ (n : List ℕ). file n p.1.items) (ap (λ (q : String Z × Vec ℕ Y). string_bytes q.0) at ∙ named p)
+
+  -- a file went from `new` to `cur`
+  pub taken_to_cur : (flags : List Bool) (new cur : List (String Z × Vec ℕ Y)) {flags' : List Bool} {new' cur' : List (String Z × Vec ℕ Y)} (place i : ℕ) (found made : String Z × Vec ℕ Y)
+      (name moved : List ℕ) → Fit flags new cur → i < length new → HoldsAt (λ p. string_bytes p.0 ≡ name) new i → found ≡ get_or new i found
+      → place < length flags → HoldsAt (λ b. b ≡ true) flags place → count true (take place flags) ≡ i
+      → flags' ≡ set flags place false → new' ≡ remove new i → cur' ≡ insert cur (place - i) made
+      → string_bytes made.0 ≡ moved → made.1.items ≡ found.1.items → base moved ≡ base name
+      → (Contains (names_of (map file_of cur)) moved → ⊥)
+      → (map shown (merged flags' (map file_of new') (map file_of cur')) ≡ map shown (merged flags (map file_of new) (map file_of cur)))
+      × Takes (map file_of new) (map file_of cur) name moved (map file_of new') (map file_of cur') × Fit flags' new' cur'
+  taken_to_cur flags new cur {flags'} {new'} {cur'} place i found made name moved fit inside titled_at at below is_new counted flagged removed inserted titled same alike free =
+      let i_is : count true (take place flags) ≡ i = counted in
+      let total = before_place flags place below in
+      let others : place - i ≡ count false (take place flags) = omega (arith, total, counted) in
+      let room = within false flags place in
+      let g : File = file moved found.1.items in
+      let g_is : file_of made ≡ g = ap (λ (n : List ℕ). file n made.1.items) titled ∙ ap (λ (bytes : List ℕ). file moved bytes) same in
+      let went = moved_to_cur flags (map file_of new) (map file_of cur) place g (file name found.1.items)
+          (fit.0 ∙ sym (length-map new file_of), fit.1 ∙ sym (length-map cur file_of)) below is_new
+          (ap (λ (n : List ℕ). file n found.1.items) alike ∙ ap shown (sym (file_at new i found name inside at titled_at (file name found.1.items)))
+          ∙ ap (λ (k : ℕ). shown (get_or (map file_of new) k (file name found.1.items))) (sym counted)) in
+      let new_is : map file_of new' ≡ remove (map file_of new) i = ap (map file_of) removed ∙ map_remove file_of new i in
+      let cur_is : map file_of cur' ≡ insert (map file_of cur) (place - i) g =
+          ap (map file_of) inserted ∙ map_insert file_of cur (place - i) made ∙ ap (λ (f : File). insert (map file_of cur) (place - i) f) g_is in
+      let flags_are = (counts_set flags place below).0 is_new in
+      let left = ap length removed in
+      let shorter = length-remove new i inside in
+      let came = ap length inserted in
+      let longer = length-insert cur (place - i) made (omega (arith, others, room, fit.1)) in
+      let trues = ap (count true) flagged in
+      let falses = ap (count false) flagged in (
+        ap (λ (fs : List File). map shown (merged flags' fs (map file_of cur'))) (new_is ∙ ap (remove (map file_of new)) (sym counted))
+            ∙ ap (λ (fs : List File). map shown (merged flags' (remove (map file_of new) (count true (take place flags))) fs))
+            (cur_is ∙ ap (λ (k : ℕ). insert (map file_of cur) k g) others)
+            ∙ ap (λ (bs : List Bool). map shown (merged bs (remove (map file_of new) (count true (take place flags))) (insert (map file_of cur) (count false (take place flags)) g))) flagged
+            ∙ went,
+        record { at = i; place = place - i; content = found.1.items; inside = omega (arith, inside, length-map new file_of);
+                 was = λ d. file_at new i found name inside at titled_at d; left = new_is; came = cur_is; free = free },
+        (omega (arith, trues, flags_are.0, left, shorter, fit.0), omega (arith, falses, flags_are.1, came, longer, fit.1)),
+      )
+
+  -- a file went from `cur` to `new`
+  pub taken_to_new : (flags : List Bool) (new cur : List (String Z × Vec ℕ Y)) {flags' : List Bool} {new' cur' : List (String Z × Vec ℕ Y)} (place i : ℕ) (found made : String Z × Vec ℕ Y)
+      (name moved : List ℕ) → Fit flags new cur → i < length cur → HoldsAt (λ p. string_bytes p.0 ≡ name) cur i → found ≡ get_or cur i found
+      → place < length flags → HoldsAt (λ b. b ≡ false) flags place → count false (take place flags) ≡ i
+      → flags' ≡ set flags place true → cur' ≡ remove cur i → new' ≡ insert new (place - i) made
+      → string_bytes made.0 ≡ moved → made.1.items ≡ found.1.items → base moved ≡ base name
+      → (Contains (names_of (map file_of new)) moved → ⊥)
+      → (map shown (merged flags' (map file_of new') (map file_of cur')) ≡ map shown (merged flags (map file_of new) (map file_of cur)))
+      × Takes (map file_of cur) (map file_of new) name moved (map file_of cur') (map file_of new') × Fit flags' new' cur'
+  taken_to_new flags new cur {flags'} {new'} {cur'} place i found made name moved fit inside titled_at at below is_new counted flagged removed inserted titled same alike free =
+      let total = before_place flags place below in
+      let others : place - i ≡ count true (take place flags) = omega (arith, total, counted) in
+      let room = within true flags place in
+      let g : File = file moved found.1.items in
+      let g_is : file_of made ≡ g = ap (λ (n : List ℕ). file n made.1.items) titled ∙ ap (λ (bytes : List ℕ). file moved bytes) same in
+      let went = moved_to_new flags (map file_of new) (map file_of cur) place g (file name found.1.items)
+          (fit.0 ∙ sym (length-map new file_of), fit.1 ∙ sym (length-map cur file_of)) below is_new
+          (ap (λ (n : List ℕ). file n found.1.items) alike ∙ ap shown (sym (file_at cur i found name inside at titled_at (file name found.1.items)))
+          ∙ ap (λ (k : ℕ). shown (get_or (map file_of cur) k (file name found.1.items))) (sym counted)) in
+      let cur_is : map file_of cur' ≡ remove (map file_of cur) i = ap (map file_of) removed ∙ map_remove file_of cur i in
+      let new_is : map file_of new' ≡ insert (map file_of new) (place - i) g =
+          ap (map file_of) inserted ∙ map_insert file_of new (place - i) made ∙ ap (λ (f : File). insert (map file_of new) (place - i) f) g_is in
+      let flags_are = (counts_set flags place below).1 is_new in
+      let left = ap length removed in
+      let shorter = length-remove cur i inside in
+      let came = ap length inserted in
+      let longer = length-insert new (place - i) made (omega (arith, others, room, fit.0)) in
+      let trues = ap (count true) flagged in
+      let falses = ap (count false) flagged in (
+        ap (λ (fs : List File). map shown (merged flags' (map file_of new') fs)) (cur_is ∙ ap (remove (map file_of cur)) (sym counted))
+            ∙ ap (λ (fs : List File). map shown (merged flags' fs (remove (map file_of cur) (count false (take place flags)))))
+            (new_is ∙ ap (λ (k : ℕ). insert (map file_of new) k g) others)
+            ∙ ap (λ (bs : List Bool). map shown (merged bs (insert (map file_of new) (count true (take place flags)) g) (remove (map file_of cur) (count false (take place flags))))) flagged
+            ∙ went,
+        record { at = i; place = place - i; content = found.1.items; inside = omega (arith, inside, length-map cur file_of);
+                 was = λ d. file_at cur i found name inside at titled_at d; left = cur_is; came = new_is; free = free },
+        (omega (arith, trues, flags_are.1, came, longer, fit.0), omega (arith, falses, flags_are.0, left, shorter, fit.1)),
+      )
+
+  -- a file of `cur` has another name
+  pub named_again : (flags : List Bool) (new cur : List (String Z × Vec ℕ Y)) {cur' : List (String Z × Vec ℕ Y)} (i : ℕ) (found made : String Z × Vec ℕ Y)
+      (name marked : List ℕ) → i < length cur → HoldsAt (λ p. string_bytes p.0 ≡ name) cur i → found ≡ get_or cur i found
+      → cur' ≡ set cur i made → string_bytes made.0 ≡ marked → made.1.items ≡ found.1.items → base marked ≡ base name
+      → (Contains (names_of (map file_of cur)) marked → ⊥)
+      → (map shown (merged flags (map file_of new) (map file_of cur')) ≡ map shown (merged flags (map file_of new) (map file_of cur)))
+      × Renames (map file_of cur) name marked (map file_of cur')
+  named_again flags new cur {cur'} i found made name marked inside titled_at at changed titled same alike free =
+      let g : File = file marked found.1.items in
+      let g_is : file_of made ≡ g = ap (λ (n : List ℕ). file n made.1.items) titled ∙ ap (λ (bytes : List ℕ). file marked bytes) same in
+      let cur_is : map file_of cur' ≡ set (map file_of cur) i g =
+          ap (map file_of) changed ∙ map_set file_of cur i made ∙ ap (λ (f : File). set (map file_of cur) i f) g_is in
+      let was = file_at cur i found name inside at titled_at in (
+        ap (λ (fs : List File). map shown (merged flags (map file_of new) fs)) cur_is
+            ∙ marked_again flags (map file_of new) (map file_of cur) i g (file name found.1.items) (omega (arith, inside, length-map cur file_of))
+            (ap (λ (n : List ℕ). file n found.1.items) alike ∙ ap shown (sym (was (file name found.1.items)))),
+        record { at = i; content = found.1.items; inside = omega (arith, inside, length-map cur file_of); was = λ d. was d; is = cur_is; free = free },
+      )
+
+  -- a file came to `new`
+  pub settled : (flags : List Bool) (new cur : List (String Z × Vec ℕ Y)) {flags' : List Bool} {new' : List (String Z × Vec ℕ Y)} (p : String Z × Vec ℕ Y)
+      → Fit flags new cur → flags' ≡ flags ++ true ∷ [] → new' ≡ new ++ p ∷ []
+      → (map shown (merged flags' (map file_of new') (map file_of cur)) ≡ map shown (merged flags (map file_of new) (map file_of cur)) ++ shown (file_of p) ∷ [])
+      × Fit flags' new' cur
+  settled flags new cur {flags'} {new'} p fit flagged pushed =
+      let trues = ap (count true) flagged ∙ count-append true flags (true ∷ []) in
+      let falses = ap (count false) flagged ∙ count-append false flags (true ∷ []) in
+      let longer = ap length pushed ∙ length-append new (p ∷ []) in (
+        ap (λ (bs : List Bool). map shown (merged bs (map file_of new') (map file_of cur))) flagged
+            ∙ ap (λ (fs : List File). map shown (merged (flags ++ true ∷ []) fs (map file_of cur))) (ap (map file_of) pushed ∙ map-append file_of new (p ∷ []))
+            ∙ ap (map shown) (merged_push flags (map file_of new) (map file_of cur) (file_of p) (fit.0 ∙ sym (length-map new file_of), fit.1 ∙ sym (length-map cur file_of)))
+            ∙ map-append shown (merged flags (map file_of new) (map file_of cur)) (file_of p ∷ []),
+        (omega (arith, trues, longer, fit.0), omega (arith, falses, fit.1)),
+      )
+
+-- ---- names that are told
+
+Contains-map : {A B : Type 0} (f : A → B) (xs : List A) (x : A) → Contains xs x → Contains (map f xs) (f x)
+Contains-map f xs x c = (c.0, omega (arith, c.1, length-map xs f), get_or-map f xs c.0 x (f x) c.1 ∙ ap f c.2)
+
+-- names of a folder are those of files that are shown
+pub theirs_of : {Z : Type 0} (kept : Kept) (folder : Folder) (names : List (String Z))
+    → IsPermutation kept.maildir.files (map shown (kept.in_new ++ kept.in_cur)) → map string_bytes names ≡ names_of (kept_in kept folder)
+    → AreTheirs kept.maildir.files names
+unfolding AreTheirs
+theirs_of kept folder names both told = λ k d inside.
+    let files = kept_in kept folder in
+    let name = string_bytes (get_or names k d) in
+    let f : File = get_or files k (file [] []) in
+    let count_told = ap length told in
+    let below : k < length files = omega (arith, inside, count_told, length-map names string_bytes, length-map files name_in) in
+    let titled : f.name ≡ name =
+        sym (get_or-map name_in files k (file [] []) name below) ∙ ap (λ (ns : List (List ℕ)). get_or ns k name) (sym told) ∙ get_or-map string_bytes names k d name inside in
+    let there : Contains files f = (k, below, get_or_default files k f (file [] []) below) in
+    subst (λ (n : List ℕ). Contains (names_of kept.maildir.files) (base n)) titled
+    (Contains-map name_in kept.maildir.files (shown f)
+    (Contains-permutation (map shown (kept.in_new ++ kept.in_cur)) kept.maildir.files (shown f)
+    (IsPermutation-sym kept.maildir.files (map shown (kept.in_new ++ kept.in_cur)) both)
+    (Contains-map shown (kept.in_new ++ kept.in_cur) f (in_both folder f there))))
+  where
+    in_both : (folder : Folder) (f : File) → Contains (kept_in kept folder) f → Contains (kept.in_new ++ kept.in_cur) f
+    in_both New f c = Contains-append_left kept.in_new kept.in_cur f c
+    in_both Cur f c = Contains-append_right kept.in_new kept.in_cur f c
+
+bases : {Z : Type 0} (names : List (String Z)) → bases_told names ≡ map base (map string_bytes names)
+bases [] = refl
+bases (name ∷ names) = ap (λ (rest : List (List ℕ)). base (string_bytes name) ∷ rest) (bases names)
+
+names_shown : (files : List File) → names_of (map shown files) ≡ map base (names_of files)
+names_shown [] = refl
+names_shown (f ∷ files) = ap (λ (rest : List (List ℕ)). base f.name ∷ rest) (names_shown files)
+
+-- the names of both folders tell all that is shown
+pub names_tell_both : {Z : Type 0} (files in_new in_cur : List File) (names : List (String Z)) → IsPermutation files (map shown (in_new ++ in_cur))
+    → map string_bytes names ≡ names_of in_new ++ names_of in_cur → IsPermutation (names_of files) (bases_told names)
+names_tell_both files in_new in_cur names both told =
+    subst (λ (bs : List (List ℕ)). IsPermutation (names_of files) bs)
+    (names_shown (in_new ++ in_cur) ∙ ap (map base) (map-append name_in in_new in_cur ∙ sym told) ∙ sym (bases names))
+    (IsPermutation-map name_in files (map shown (in_new ++ in_cur)) both)
+
+-- what is shown under a name is in one of the folders
+pub shown_iff : {Z Y : Type 0} (files : List File) (new cur : List (String Z × Vec ℕ Y)) (front : List ℕ)
+    → IsPermutation files (map shown (map file_of new ++ map file_of cur))
+    → (Contains (names_of (map shown (map file_of new))) front ⊎ Contains (names_of (map shown (map file_of cur))) front) ↔ Contains (names_of files) front
+shown_iff files new cur front both = (λ either. back (one either), λ there. Contains-append_cases _ _ front (subst (λ (ns : List (List ℕ)). Contains ns front) parts
+    (Contains-permutation (names_of files) (names_of (map shown (map file_of new ++ map file_of cur))) front
+    (IsPermutation-map name_in files (map shown (map file_of new ++ map file_of cur)) both) there)))
+  where
+    parts : names_of (map shown (map file_of new ++ map file_of cur)) ≡ names_of (map shown (map file_of new)) ++ names_of (map shown (map file_of cur))
+    parts = ap names_of (map-append shown (map file_of new) (map file_of cur)) ∙ map-append name_in (map shown (map file_of new)) (map shown (map file_of cur))
+
+    one : Contains (names_of (map shown (map file_of new))) front ⊎ Contains (names_of (map shown (map file_of cur))) front
+        → Contains (names_of (map shown (map file_of new)) ++ names_of (map shown (map file_of cur))) front
+    one (inl c) = Contains-append_left (names_of (map shown (map file_of new))) (names_of (map shown (map file_of cur))) front c
+    one (inr c) = Contains-append_right (names_of (map shown (map file_of new))) (names_of (map shown (map file_of cur))) front c
+
+    back : Contains (names_of (map shown (map file_of new)) ++ names_of (map shown (map file_of cur))) front → Contains (names_of files) front
+    back c =
+        let there = subst (λ (ns : List (List ℕ)). Contains ns front) (sym parts) c in
+        Contains-permutation (names_of (map shown (map file_of new ++ map file_of cur))) (names_of files) front
+        (IsPermutation-sym (names_of files) (names_of (map shown (map file_of new ++ map file_of cur)))
+        (IsPermutation-map name_in files (map shown (map file_of new ++ map file_of cur)) both)) there
+
+-- what a device in memory is after a file came
+pub came_to : (old : Maildir) (files files' : List File) (was begun : Option File) (failures : ℕ) (title name bytes content : List ℕ)
+    → record { there = all_there; files = files; begun = was; failures = failures } ≡ old → files' ≡ files ++ mail title bytes ∷ []
+    → title ≡ name → bytes ≡ content → begun ≡ None
+    → record { there = all_there; files = files'; begun = begun; failures = failures } ≡ with_file old (mail name content)
+came_to old files files' was begun failures title name bytes content is came titled same none =
+    ap (λ (fs : List File). record { there = all_there; files = fs; begun = begun; failures = failures })
+    (came ∙ ap (λ (f : File). files ++ f ∷ []) (ap (λ (n : List ℕ). mail n bytes) titled ∙ ap (mail name) same))
+    ∙ ap (λ (b : Option File). record { there = all_there; files = files ++ mail name content ∷ []; begun = b; failures = failures }) none
+    ∙ ap (λ (m : Maildir). with_file m (mail name content)) is

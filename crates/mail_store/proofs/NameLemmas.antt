@@ -161,6 +161,11 @@ stem-name_of account uid size h =
 pub base-marked : (name marks : List ℕ) → base (name ++ 58 ∷ marks) ≡ base name
 base-marked name marks = before_first-cut is_colon name marks 58 refl
 
+-- a suffix that begins with a colon is no part of the base
+pub base-suffixed : (name suffix : List ℕ) → slice_index suffix 0 ≡ 58 → base (name ++ suffix) ≡ base name
+base-suffixed name [] first = absurd (omega (arith, first))
+base-suffixed name (colon ∷ marks) first = ap (λ (b : ℕ). base (name ++ b ∷ marks)) first ∙ base-marked name marks
+
 -- a base has no more to cut off
 pub base_base : (name : List ℕ) → base (base name) ≡ base name
 base_base [] = refl
@@ -169,6 +174,10 @@ base_base (x ∷ xs) = ap base (before_first-cons is_colon x xs) ∙ by (is_colo
     by : (b : Bool) → is_colon x ≡ b → base (base xs) ≡ base xs → base (cond b [] (x ∷ base xs)) ≡ cond b [] (x ∷ base xs)
     by true e ih = refl
     by false e ih = before_first-cons is_colon x (base xs) ∙ ap (λ b. cond b [] (x ∷ base (base xs))) e ∙ ap (λ t. x ∷ t) ih
+
+-- a base has the stem of the name
+pub stem-base : (name : List ℕ) → stem (base name) ≡ stem name
+stem-base name = ap (before_first is_comma) (base_base name)
 
 -- ---- different names
 

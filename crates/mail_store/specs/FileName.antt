@@ -7,7 +7,7 @@ use Rattle.hex.specs.Hex.{encode_lower}
 use Rattle.sha2.specs.Sha256.{sha256}
 use Rattle.mail_terms.specs.MaildirName.{base}
 use Rattle.mail_terms.specs.UniqueId.{IsLegalId}
-use Rattle.mail_store.specs.Maildir.{Maildir, File, file}
+use Rattle.mail_store.specs.Maildir.{Maildir, File, mail}
 
 -- the text by which accounts are told apart: the digest of server, NUL, port, NUL, user name in
 -- lower-case hexadecimal
@@ -44,7 +44,7 @@ name_of account uid size = sized (stem_of account uid) size
 
 -- a text in a file whose name is this stem and the text's length, and the file of an id's text
 abbrev pub sized_file : List ℕ → List ℕ → File
-sized_file front text = file (sized front (length text)) text
+sized_file front text = mail (sized front (length text)) text
 
 abbrev pub mail_file : List ℕ → List ℕ → List ℕ → File
 mail_file account uid text = sized_file (stem_of account uid) text
@@ -83,5 +83,4 @@ names_id account uid name = bytes_eq (stem_of account uid) (stem name)
 
 -- whether a file of `new` or `cur` holds the id
 abbrev pub is_held : List ℕ → Maildir → List ℕ → Bool
-is_held account maildir uid =
-    list_any (λ (f : File). names_id account uid f.name) (maildir.in_new ++ maildir.in_cur)
+is_held account maildir uid = list_any (λ (f : File). names_id account uid f.name) maildir.files

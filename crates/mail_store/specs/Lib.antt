@@ -7,5 +7,6 @@ pub mod Held
 pub mod Mboxrd
 pub mod MboxCalls
 pub mod MboxScan
+pub mod MemoryMaildir
 pub mod Power
 pub mod Settling

@@ -1,29 +1,28 @@
 -- What outlives a loss of power, as each device defines it.
-use Rattle.std.specs.Prelude.{◌≡◌, ◌≤◌, ℕ, List, length, Option, Some, Result, Ok, Err, Vec, String, string_bytes, map, Contains}
+use Rattle.std.specs.Prelude.{◌≡◌, ◌≤◌, ℕ, List, length, Option, Some, Result, Ok, Err, Vec, String, Contains}
 use Rattle.mail_store.specs.declared.fault.StoreFault.{StoreFault}
 use Rattle.mail_store.specs.declared.fault.StoreFault.TheVariants.{Missing, Refused, NotMbox, NoMemory}
-use Rattle.mail_store.specs.Maildir.{Maildir, File, file, names_of, files_in}
-use Rattle.mail_store.specs.declared.maildir.disk.Folder.{Folder}
+use Rattle.mail_store.specs.Maildir.{Maildir, File, mail, names_of, bases_told}
 
--- ---- a Maildir: names that stay in `new` or `cur`, and whole files that outlive a loss of power
+-- ---- a Maildir: names, without their marks, that stay in `new` or `cur`, and whole files that outlive a loss of power
 
 -- what a loss of power would have left before, it would still leave
 abbrev pub KeepsMail : (List ℕ → Type 0) → (File → Type 0) → (List ℕ → Type 0) → (File → Type 0) → Type 0
 KeepsMail stays outlives stays' outlives' = ((name : List ℕ) → stays name → stays' name) × ((f : File) → outlives f → outlives' f)
 
--- `names`: each name that is returned stays
+-- `all_names`: each name that is returned stays
 abbrev pub ToldStay : {A B : Type 0} → Result (Vec (String A) B) StoreFault → (List ℕ → Type 0) → Type 0
-ToldStay (Ok names) stays = (name : List ℕ) → Contains (map string_bytes names.items) name → stays name
+ToldStay (Ok names) stays = (name : List ℕ) → Contains (bases_told names.items) name → stays name
 ToldStay (Err fault) stays = Unit {0}
 
 -- `settle`: the file outlives a loss of power
 abbrev pub SettledOutlives : {T : Type 0} → Maildir → List ℕ → Result T StoreFault → (File → Type 0) → Type 0
-SettledOutlives old name (Ok done) outlives = (f : File) → old.begun ≡ Some f → outlives (file name f.content)
+SettledOutlives old name (Ok done) outlives = (f : File) → old.begun ≡ Some f → outlives (mail name f.content)
 SettledOutlives old name (Err fault) outlives = Unit {0}
 
 -- each name that calls see stays
 abbrev pub AllStay : Maildir → (List ℕ → Type 0) → Type 0
-AllStay maildir stays = (folder : Folder) (name : List ℕ) → Contains (names_of (files_in maildir folder)) name → stays name
+AllStay maildir stays = (name : List ℕ) → Contains (names_of maildir.files) name → stays name
 
 -- ---- a file: bytes with which it still begins after a loss of power
 

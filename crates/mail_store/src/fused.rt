@@ -102,11 +102,10 @@ impl<D> Fused<D> {
 }
 
 impl<D: MaildirDisk> MaildirDisk for Fused<D> {
-    ghost use Rattle.std.specs.Prelude.{◌≡◌, ◌<◌, IfErr, IfOk, IsSome, OnErr, OnOk, Some, None, map, string_bytes};
+    ghost use Rattle.std.specs.Prelude.{◌≡◌, ◌<◌, IfErr, IsSome, OnErr, OnOk, Some, None};
     ghost use Rattle.mail_terms.specs.FailureCount.{Tallies, refuses, greatest_count};
-    ghost use Rattle.mail_terms.specs.Distinct.{AreDistinct};
     ghost use Rattle.mail_store.specs.Fault.{IsDeviceFault};
-    ghost use Rattle.mail_store.specs.Maildir.{IsInNew, Lists, Begins, Adds, Settles, dropped, name_begun};
+    ghost use Rattle.mail_store.specs.Maildir.{IsThere, Lists, ListsAll, Checks, Begins, Adds, Settles, dropped, name_begun};
     ghost use Rattle.mail_store.specs.Power.{KeepsMail, SettledOutlives, ToldStay};
     ghost use Rattle.mail_store.specs.Fuse.{device_of, passes_left, effect_is_due, refusals, fused_maildir};
     ghost use Rattle.mail_store.specs.Fuse.{FusedIsSound, Burns, SettlesBehind};
@@ -122,7 +121,22 @@ impl<D: MaildirDisk> MaildirDisk for Fused<D> {
     fn names(&mut self, folder: Folder) -> Result<Vec<String>, StoreFault>
         ensures lists { FusedIsSound D.sound self.new → FusedIsSound D.sound self.old
             × Lists (fused_maildir D.maildir self.old) folder result (fused_maildir D.maildir self.new) }
-        ensures once { FusedIsSound D.sound self.new → IfOk result (λ names. AreDistinct (map string_bytes names.items)) }
+        ensures fault { IfErr result IsDeviceFault }
+        ensures lasts { FusedIsSound D.sound self.new → KeepsMail (D.stays (device_of self.old)) (D.outlives (device_of self.old))
+            (D.stays (device_of self.new)) (D.outlives (device_of self.new)) }
+        ensures count { Tallies (refuses is_refusal result) (refusals self.old) (refusals self.new) }
+        ensures burns { refusals self.old < greatest_count → Burns (λ d. (D.maildir d).failures) self.old result self.new }
+        ensures behind { passes_left self.old ≡ 0 → device_of self.new ≡ device_of self.old }
+    {
+        admit(&self.failures)?;
+        self.pass()?;
+        let answer = self.device.names(folder);
+        self.tally(answer)
+    }
+
+    fn all_names(&mut self) -> Result<Vec<String>, StoreFault>
+        ensures lists { FusedIsSound D.sound self.new → FusedIsSound D.sound self.old
+            × ListsAll (fused_maildir D.maildir self.old) result (fused_maildir D.maildir self.new) }
         ensures fault { IfErr result IsDeviceFault }
         ensures lasts { FusedIsSound D.sound self.new → KeepsMail (D.stays (device_of self.old)) (D.outlives (device_of self.old))
             (D.stays (device_of self.new)) (D.outlives (device_of self.new))
@@ -133,7 +147,23 @@ impl<D: MaildirDisk> MaildirDisk for Fused<D> {
     {
         admit(&self.failures)?;
         self.pass()?;
-        let answer = self.device.names(folder);
+        let answer = self.device.all_names();
+        self.tally(answer)
+    }
+
+    fn check(&mut self, folder: Folder) -> Result<(), StoreFault>
+        ensures checks { FusedIsSound D.sound self.new → FusedIsSound D.sound self.old
+            × Checks (fused_maildir D.maildir self.old) folder result (fused_maildir D.maildir self.new) }
+        ensures fault { IfErr result IsDeviceFault }
+        ensures lasts { FusedIsSound D.sound self.new → KeepsMail (D.stays (device_of self.old)) (D.outlives (device_of self.old))
+            (D.stays (device_of self.new)) (D.outlives (device_of self.new)) }
+        ensures count { Tallies (refuses is_refusal result) (refusals self.old) (refusals self.new) }
+        ensures burns { refusals self.old < greatest_count → Burns (λ d. (D.maildir d).failures) self.old result self.new }
+        ensures behind { passes_left self.old ≡ 0 → device_of self.new ≡ device_of self.old }
+    {
+        admit(&self.failures)?;
+        self.pass()?;
+        let answer = self.device.check(folder);
         self.tally(answer)
     }
 
@@ -176,7 +206,7 @@ impl<D: MaildirDisk> MaildirDisk for Fused<D> {
 
     fn settle(&mut self, name: &str) -> Result<(), StoreFault>
         requires begun { FusedIsSound D.sound self.old → IsSome (D.maildir (device_of self.old)).begun }
-        requires not_there { FusedIsSound D.sound self.old → IsInNew (D.maildir (device_of self.old)) name.now → ⊥ }
+        requires not_there { FusedIsSound D.sound self.old → IsThere (D.maildir (device_of self.old)) name.now → ⊥ }
         ensures settles { FusedIsSound D.sound self.new → FusedIsSound D.sound self.old
             × Settles (fused_maildir D.maildir self.old) name.now result (fused_maildir D.maildir self.new) }
         ensures none_begun { (D.maildir (device_of self.new)).begun ≡ None }
@@ -254,6 +284,22 @@ impl<D: FlatFile> FlatFile for Fused<D> {
         admit(&self.failures)?;
         self.pass()?;
         let answer = self.device.load();
+        self.tally(answer)
+    }
+
+    fn peek(&mut self) -> Result<Vec<u8>, StoreFault>
+        ensures loads { FusedIsSound D.sound self.new → FusedIsSound D.sound self.old
+            × Loads (fused_file D.stored self.old) result (fused_file D.stored self.new) }
+        ensures fault { IfErr result IsDeviceFault }
+        ensures keeps { FusedIsSound D.sound self.new → KeepsBytes (D.outlives (device_of self.old)) (D.outlives (device_of self.new)) }
+        ensures sure { FusedIsSound D.sound self.new → D.is_sure (device_of self.old) → D.is_sure (device_of self.new) }
+        ensures count { Tallies (refuses is_refusal result) (refusals self.old) (refusals self.new) }
+        ensures burns { refusals self.old < greatest_count → Burns (λ d. (D.stored d).failures) self.old result self.new }
+        ensures behind { passes_left self.old ≡ 0 → device_of self.new ≡ device_of self.old }
+    {
+        admit(&self.failures)?;
+        self.pass()?;
+        let answer = self.device.peek();
         self.tally(answer)
     }
 

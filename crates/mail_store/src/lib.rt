@@ -20,7 +20,7 @@ pub use maildir::held::{flags_tell_what_is_held, held};
 pub use maildir::memory::MemoryMaildir;
 pub use maildir::names::{
     add_size, file_name, file_stem, marks_keep_the_base, names_are_bases, names_have_stems,
-    one_more_is_held, stem, stems_are_stems, stems_differ, uid_of, unheld_ids_are_not_in_new,
+    one_more_is_held, stem, stems_are_stems, stems_differ, uid_of, unheld_ids_are_not_there,
 };
 pub use mboxrd::entry::{
     append_entry, check_mbox, entries_add_texts, entries_may_follow_texts, entry_len,

@@ -1,13 +1,17 @@
 -- The laws of the crates below that are used here: of names, plans and records.
-use Rattle.std.proofs.Common.{◌≡◌, ℕ, List, ◌∷◌, ◌++◌, Bool, ◌&&◌, ◌||◌}
+use Rattle.std.proofs.Common.{◌≡◌, ℕ, List, Bool, ◌&&◌, ◌||◌}
 use Rattle.std.specs.Prelude.{bytes_eq}
 use Rattle.mail_terms.specs.Listing.{Item, has_item, is_flagged}
 use Rattle.mail_terms.specs.MaildirName.{base}
 use Rattle.fetch_rules.specs.Record.{Row, has_row, is_delivered, marked, merged}
 use Rattle.fetch_rules.specs.Wanted.{DistinctAreFiltered}
 use Rattle.mail_store.specs.Maildir.{Maildir}
-use Rattle.mail_store.specs.FileName.{NamesAreBases, NamesHaveStems, StemsDiffer, is_held}
+use Rattle.mail_store.specs.FileName.{NamesHaveStems, StemsDiffer, is_held, stem}
 use Rattle.mail_store.specs.Held.{flags_of}
+
+-- of names without their marks
+abbrev pub StemsOfBases : Type 0
+StemsOfBases = (name : List ℕ) → stem (base name) ≡ stem name
 
 -- of a record after a merge and after a mark
 abbrev pub MergedIsDelivered : Type 0
@@ -25,17 +29,11 @@ pub record Records : Type 0 where
       → is_flagged items (flags_of account maildir items) uid ≡ (has_item items uid && is_held account maildir uid)
   pub marks : MarkedIsDelivered
 
--- of the flags that a reader puts after names
-pub record Marks : Type 0 where
-  pub kept : (name marks : List ℕ) → base (name ++ 58 ∷ marks) ≡ base name
-  pub own : (name : List ℕ) → base (base name) ≡ base name
-
--- of all that a session stores and a reader moves
+-- of all that a session stores
 pub record Below : Type 0 where
   pub differ : StemsDiffer
   pub stems : NamesHaveStems
-  pub bases : NamesAreBases
-  pub marks : Marks
+  pub own : StemsOfBases
   pub filtered : DistinctAreFiltered
   pub records : Records
 

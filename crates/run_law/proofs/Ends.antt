@@ -60,15 +60,14 @@ can_end filtered frame before settings come now is same =
     let new : List File = map (file_for frame.account) (filter (is_unheld frame.account before.account.maildir) (zip (take n wants) effect.texts)) in
     let after : Account = record {
       rows = marked_all rows (ids_wanted (take n wants));
-      maildir = record before.account.maildir { in_new = before.account.maildir.in_new ++ new };
+      maildir = record before.account.maildir { files = before.account.maildir.files ++ new };
     } in
     let stores : Stores settings frame.account before.account effect after = record {
       stored = n;
       recorded = n;
       order = omega arith;
       fetched = omega arith;
-      in_new = refl;
-      in_cur = refl;
+      came = refl;
       rows = inr refl;
       begun = tt;
       ended = λ e. omega (arith, can.count);

@@ -44,8 +44,7 @@ honest_session laws settings account before sent got effect after drop marks hon
       inr (record {
         listing = is.listing;
         gained = _;
-        in_new = stores.in_new;
-        in_cur = stores.in_cur;
+        came = stores.came;
         each = all_mapped (IsFileOf account drop) (file_for account) (filter (is_unheld account before.maildir) (zip (take stores.stored (wanted_at settings account before effect)) effect.texts))
             (all_filter (IsPair account drop) (is_unheld account before.maildir) (zip (take stores.stored (wanted_at settings account before effect)) effect.texts)
             (pairs account drop (wanted_at settings account before effect) effect.texts stores.stored

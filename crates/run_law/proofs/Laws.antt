@@ -11,18 +11,18 @@ use Rattle.mail_store.specs.FileName.{is_held, stem_of}
 use Rattle.run_law.specs.Mails.{ids_of, is_selected, selected, texts_of}
 use Rattle.run_law.specs.Accounts.{Account, files, copies, count_files}
 use Rattle.run_law.specs.Steps.{Effect, Leaves}
-use Rattle.run_law.specs.Runs.{Frame, IsFrame, Situation, Visit, Event, Visited, Moved, Between, Expired, TakenAway, Happens, Visits, Run, HoldsOf, Kept, LeavesMail, after_event, Promises, ReadOnlyNew, KeptStaysKept, KeptHoldsWhatIsLeft, NothingTakenHoldsExactly, TakenStaysAway, MovesLeaveMail}
-use Rattle.run_law.proofs.Below.{Below, Marks}
+use Rattle.run_law.specs.Runs.{Frame, IsFrame, Situation, Visit, Event, Visited, Between, Expired, TakenAway, Happens, Visits, Run, HoldsOf, Kept, LeavesMail, after_event, Promises, ReadOnlyNew, KeptStaysKept, KeptHoldsWhatIsLeft, NothingTakenHoldsExactly, TakenStaysAway}
+use Rattle.run_law.proofs.Below.{Below}
 use Rattle.run_law.proofs.Lists.{front_is}
 use Rattle.run_law.proofs.Holds.{held_is_done, one_file, between_kept, expired_kept, taken_kept}
 use Rattle.run_law.proofs.Ids.{Distinct, distinct_is, distinct_take, distinct_filter, bytes_same, none_vanish}
-use Rattle.run_law.proofs.Files.{held_done, one_moves, OneMoves, copies_after, moves_keep}
+use Rattle.run_law.proofs.Files.{held_done}
 use Rattle.run_law.proofs.VisitKept.{visit_kept, deletes_held, keeps_others, leaves_out, stores_only_new}
 
 -- ---- an account whose files and rows stay
 
 same_files : (before : Account) (effect : Effect) (after : Account) → Leaves before effect after → files after ≡ files before
-same_files before effect after h = ap (λ c. c ++ after.maildir.in_new) h.in_cur ∙ ap (λ n. before.maildir.in_cur ++ n) h.in_new
+same_files before effect after h = h.same
 
 left_leaves : (account : List ℕ) (before : Account) (effect : Effect) (after : Account) → Leaves before effect after → LeavesMail account before after
 left_leaves account before effect after h = record { rows = h.rows; same = λ id l. ap (λ f. copies f (stem_of account id)) (same_files before effect after h) }
@@ -52,18 +52,6 @@ done_distinct frame is done rest e =
 one_copy : (frame : Frame) (state : Situation) → IsFrame frame → (kept : Kept frame state) → (id : List ℕ) → is_legal_id id ≡ true → length (copies (files state.account) (stem_of frame.account id)) ≤ 1
 one_copy frame state is kept id l = one_file frame state kept.done id (done_distinct frame is kept.done kept.rest kept.prefix) (kept.holds id l)
 
-move_leaves : (frame : Frame) (before : Situation) (after : Account) → IsFrame frame → Kept frame before → OneMoves before.account after → LeavesMail frame.account before.account after
-move_leaves frame before after is kept o = record {
-  rows = o.rows;
-  same = λ id l. copies_after before.account after o (stem_of frame.account id) (one_copy frame before is kept id l);
-}
-
-pub moves_leave_mail : Marks → MovesLeaveMail
-moves_leave_mail marks frame before after is kept moves = move_leaves frame before after is kept (one_moves marks before.account after moves)
-
-moved_kept : (frame : Frame) (before : Situation) (after : Account) → IsFrame frame → Kept frame before → OneMoves before.account after → Kept frame (after_event before (Moved after))
-moved_kept frame before after is kept o = between_kept frame before after kept (move_leaves frame before after is kept o)
-
 -- ---- one event
 
 visited : Below → (frame : Frame) (before : Situation) (v : Visit) → IsFrame frame → Kept frame before → Visits frame before v
@@ -84,9 +72,6 @@ visited laws frame before v is kept h = elim h.step [
 happened : Below → (frame : Frame) (before : Situation) (event : Event) → IsFrame frame → Kept frame before → Run frame before (event ∷ [])
     → Kept frame (after_event before event) × Promises frame before event
 happened laws frame before (Visited v) is kept h = visited laws frame before v is kept h.0
-happened laws frame before (Moved after) is kept h =
-    let o = one_moves laws.marks before.account after h.0 in
-    (moved_kept frame before after is kept o, moves_keep frame.account before.account after o)
 happened laws frame before (Between after) is kept h = (between_kept frame before after kept h.0, tt)
 happened laws frame before (Expired ids) is kept h = (expired_kept frame before ids kept h.0, tt)
 happened laws frame before (TakenAway id after) is kept h = (taken_kept frame before id after kept h.0, tt)
@@ -130,9 +115,6 @@ still_away : Below → (frame : Frame) (before : Situation) (event : Event) (id 
 still_away laws frame before (Visited v) id is kept h new l recorded none =
     let promised = (visited laws frame before v is kept h).1.3 new.0 id l recorded in
     (promised.1, promised.0 ∙ none)
-still_away laws frame before (Moved after) id is kept h new l recorded none =
-    let same = moves_leave_mail laws.marks frame before after is kept h in
-    (ap (λ r. is_delivered r id) same.rows ∙ recorded, same.same id l ∙ none)
 still_away laws frame before (Between after) id is kept h new l recorded none = (ap (λ r. is_delivered r id) h.rows ∙ recorded, h.same id l ∙ none)
 still_away laws frame before (Expired ids) id is kept h new l recorded none = (recorded, none)
 still_away laws frame before (TakenAway other after) id is kept h new l recorded none = (

@@ -17,6 +17,7 @@ mod Planned
 mod Records
 mod Replied
 mod Safety
+mod Taking
 mod Tells
 mod VisitKept
 mod Wants

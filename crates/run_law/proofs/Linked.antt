@@ -13,7 +13,7 @@ use Rattle.mail_terms.specs.UniqueId.{has_id}
 use Rattle.run_law.specs.Mails.{item_of, listing_of}
 use Rattle.run_law.specs.Steps.{Effect, Leaves, Stores, IsHonest, AreTexts, wanted_at}
 use Rattle.run_law.specs.Readings.{AreGranted, IsNumbered, HonestIsGranted, ListingIsMaildrop, MarksAreAsked, TextsAreMessages}
-use Rattle.run_law.specs.Runs.{Frame, IsFrame, Situation, Visit, Event, Visited, Moved, Run, Kept, after_event, Promises, KeptStaysKept}
+use Rattle.run_law.specs.Runs.{Frame, IsFrame, Situation, Visit, Event, Visited, Run, Kept, after_event, Promises, KeptStaysKept}
 use Rattle.mail_store.specs.Settling.{FrontsAreSettled}
 use Rattle.run_law.specs.Mboxes.{mbox_wanted, entries, MboxLeaves, MboxStores}
 use Rattle.run_law.specs.MboxRuns.{MboxFrame, MboxSituation, MboxKept, MboxVisited, MboxKeptStaysKept}
@@ -22,7 +22,7 @@ use Rattle.run_law.proofs.Below.{RowLaws}
 use Rattle.run_law.proofs.Lists.{all_map}
 use Rattle.run_law.proofs.MboxKept.{settle}
 use Rattle.run_law.proofs.Safety.{tail_of}
-use Rattle.run_law.specs.Sessions.{IsBegun, Reads, IsMarked, Served, Link, Linked, Shifted, after_link, LinksAreVisits, LinksKeep}
+use Rattle.run_law.specs.Sessions.{IsBegun, Reads, IsMarked, Served, Link, after_link, LinksAreVisits, LinksKeep}
 
 -- ---- marks
 
@@ -161,12 +161,9 @@ happened stays frame before event is kept run =
 
 pub links_keep : KeptStaysKept → LinksAreVisits → LinksKeep
 links_keep stays visited frame start [] is kept run = kept
-links_keep stays visited frame start (Linked link ∷ events) is kept run =
+links_keep stays visited frame start (link ∷ links) is kept run =
     let one = happened stays frame start (Visited (visit_of link run.0.effect)) is kept (visited frame start link run.0, tt) in
-    (kept, (run.0.effect, run.0.session, one.1), links_keep stays visited frame (after_link start (Linked link)) events is one.0 run.1)
-links_keep stays visited frame start (Shifted after ∷ events) is kept run =
-    let one = happened stays frame start (Moved after) is kept (run.0, tt) in
-    (kept, one.1, links_keep stays visited frame (after_link start (Shifted after)) events is one.0 run.1)
+    (kept, (run.0.effect, run.0.session, one.1), links_keep stays visited frame (after_link start link) links is one.0 run.1)
 
 -- ---- with an mboxrd
 

@@ -96,8 +96,7 @@ KeptBy settings account before effect gained id = (is_delivered before.rows id �
 -- the files are still there, and each id for which a DELE was begun is kept
 record KeepsAll (settings : Settings) (account : List ℕ) (before : Account) (effect : Effect) (after : Account) : Type 0 where
   gained : List File
-  in_new : after.maildir.in_new ≡ before.maildir.in_new ++ gained
-  in_cur : after.maildir.in_cur ≡ before.maildir.in_cur
+  came : after.maildir.files ≡ before.maildir.files ++ gained
   begun : AllByRecursion (KeptBy settings account before effect gained) effect.begun
 
 -- the files of texts whose ids aren't held
@@ -157,16 +156,14 @@ module _ (laws : Records) (settings : Settings) (account : List ℕ) (before : A
   kept_all : KeepsAll settings account before effect after
   kept_all = record {
     gained = gained;
-    in_new = stores.in_new;
-    in_cur = stores.in_cur;
+    came = stores.came;
     begun = all_map (λ id. is_delivered after.rows id ≡ true) (KeptBy settings account before effect gained) kept_ids effect.begun stores.begun;
   }
 
 kept_none : (settings : Settings) (account : List ℕ) (before : Account) (effect : Effect) (after : Account) → Leaves before effect after → KeepsAll settings account before effect after
 kept_none settings account before effect after leaves = record {
   gained = [];
-  in_new = leaves.in_new ∙ sym (append-nil before.maildir.in_new);
-  in_cur = leaves.in_cur;
+  came = leaves.same ∙ sym (append-nil before.maildir.files);
   begun = subst (λ (ids : List (List ℕ)). AllByRecursion (KeptBy settings account before effect []) ids) (sym leaves.begun) tt;
 }
 
@@ -195,8 +192,7 @@ sessions_are_safe laws settings account before sent got effect after session =
     let deletes = deletes_kept settings account before effect after keeps in
     record {
       gained = keeps.gained;
-      in_new = keeps.in_new;
-      in_cur = keeps.in_cur;
+      came = keeps.came;
       commands = session.commands;
       asked = session.asked;
       deletes = all_map (IsBegun effect.listing effect.begun) (DeletesKept settings account before effect keeps.gained) deletes session.commands session.begun;

@@ -1,5 +1,5 @@
 -- One session that stored something, from a kept state, leaves a kept state and keeps its promises.
-use Rattle.std.proofs.Common.{◌≡◌, ◌⊎◌, inl, inr, ℕ, List, [], ◌++◌, Bool, true, false, not, cond, ◌&&◌, ◌||◌, length, take, map, refl, sym, ◌∙◌, ap, subst, arith, append_assoc}
+use Rattle.std.proofs.Common.{◌≡◌, ◌⊎◌, inl, inr, ℕ, List, [], ◌++◌, Bool, true, false, not, cond, ◌&&◌, ◌||◌, length, take, map, refl, sym, ◌∙◌, ap, subst, arith}
 use Rattle.std.specs.Prelude.{zip}
 use Rattle.std.specs.List.{filter, AllByRecursion}
 use Rattle.std.proofs.lemmas.Bool.{both_ways, or_left, cases_Bool, false_from_ne_true, cond_both}
@@ -75,22 +75,21 @@ module _ (laws : Below) (frame : Frame) (is : IsFrame frame) (before : Situation
   legal_delivered : AllByRecursion IsLegal delivered
   legal_delivered = all_filter IsLegal (λ (m : Message). not (held m.uid)) got (all_take IsLegal s.stored (fetched scene) (core.legal_fetched scene is_scene))
 
-  new_is : v.after.maildir.in_new ≡ before.account.maildir.in_new ++ map (message_file frame.account) delivered
-  new_is = s.in_new
-      ∙ ap (λ l. before.account.maildir.in_new ++ map (file_for frame.account) (filter (is_unheld frame.account before.account.maildir) l)) zipped_is
-      ∙ ap (λ l. before.account.maildir.in_new ++ l) (stored_files frame.account before.account.maildir (take s.stored (wants_by_number v.settings rows here))
+  new_is : v.after.maildir.files ≡ before.account.maildir.files ++ map (message_file frame.account) delivered
+  new_is = s.came
+      ∙ ap (λ l. before.account.maildir.files ++ map (file_for frame.account) (filter (is_unheld frame.account before.account.maildir) l)) zipped_is
+      ∙ ap (λ l. before.account.maildir.files ++ l) (stored_files frame.account before.account.maildir (take s.stored (wants_by_number v.settings rows here))
       ∙ ap (λ l. map (message_file frame.account) (filter (λ (m : Message). not (held m.uid)) l)) (core.taken_is scene is_scene s.stored))
 
   files_are : files v.after ≡ files before.account ++ map (message_file frame.account) delivered
-  files_are = ap (λ c. c ++ v.after.maildir.in_new) s.in_cur ∙ ap (λ n. before.account.maildir.in_cur ++ n) new_is
-      ∙ sym (append_assoc before.account.maildir.in_cur before.account.maildir.in_new (map (message_file frame.account) delivered))
+  files_are = new_is
 
   copies_are : (id : List ℕ) → is_legal_id id ≡ true → copies (files v.after) (stem_of frame.account id)
       ≡ copies (files before.account) (stem_of frame.account id) ++ cond (not (held id)) (texts_of got id) []
   copies_are id l = ap (λ f. copies f (stem_of frame.account id)) files_are
       ∙ copies-append (files before.account) (map (message_file frame.account) delivered) (stem_of frame.account id)
       ∙ ap (λ t. copies (files before.account) (stem_of frame.account id) ++ t)
-      (copies_messages laws.differ laws.stems frame.account delivered id is.account l legal_delivered
+      (copies_messages laws.differ laws.stems laws.own frame.account delivered id is.account l legal_delivered
       ∙ texts_filtered (λ x. not (held x)) got id)
 
   texts_after : (id : List ℕ) → texts_of (kept.done ++ stored) id ≡ texts_of kept.done id ++ cond (not (core.is_done scene id)) (texts_of got id) []
@@ -149,7 +148,7 @@ module _ (laws : Below) (frame : Frame) (is : IsFrame frame) (before : Situation
   deletes_held = all_map (λ id. is_done_after id ≡ true) (λ id. (is_held frame.account v.after.maildir id ≡ true) ⊎ (has_id before.taken id ≡ true)) held_after v.effect.begun begun_done
 
   pub keeps_others : KeepsOthers frame.account before.account v.after
-  keeps_others = deliveries_keep laws.stems laws.bases frame.account before.account v.after delivered is.account legal_delivered files_are
+  keeps_others = deliveries_keep laws.stems laws.own frame.account before.account v.after delivered is.account legal_delivered files_are
 
   pub stores_only_new : StoresOnlyNew frame before v
   stores_only_new only_new id l recorded = (

@@ -21,8 +21,7 @@ IsFileOf account drop f = (place : ℕ) × (message : Message) × (slice_get dro
 pub record BringsMessages (account : List ℕ) (drop : List Message) (before : Account) (effect : Effect) (after : Account) : Type 0 where
   pub listing : effect.listing ≡ listing_of drop
   pub gained : List File
-  pub in_new : after.maildir.in_new ≡ before.maildir.in_new ++ gained
-  pub in_cur : after.maildir.in_cur ≡ before.maildir.in_cur
+  pub came : after.maildir.files ≡ before.maildir.files ++ gained
   pub each : AllByRecursion (IsFileOf account drop) gained
 
 -- a law: if the conversation is honest, a session left the account as it was, or brought messages of the

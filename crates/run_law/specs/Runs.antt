@@ -1,16 +1,17 @@
 -- Sessions over one world, what happens between them, and the states that they keep.
-use Rattle.std.specs.Prelude.{◌≡◌, ◌⊎◌, ◌≤◌, ℕ, true, false, List, [], ◌∷◌, ◌++◌, map, take, drop, length, if◌then◌else◌, ◌==◌, bytes_eq}
-use Rattle.std.specs.List.{AllByRecursion}
+use Rattle.std.specs.Prelude.{◌≡◌, ◌⊎◌, ◌≤◌, ℕ, true, false, not, List, [], ◌∷◌, ◌++◌, map, take, drop, length, if◌then◌else◌, ◌==◌, bytes_eq}
+use Rattle.std.specs.List.{AllByRecursion, filter}
 use Rattle.fetch_rules.specs.Record.{is_delivered, merged}
 use Rattle.mail_terms.specs.Listing.{Item}
 use Rattle.fetch_rules.specs.Wanted.{at_most, candidates, wanted}
 use Rattle.rc_file.specs.declared.settings.Settings.{Settings}
-use Rattle.mail_store.specs.FileName.{stem_of, is_held, IsAccountText}
+use Rattle.mail_store.specs.Maildir.{File}
+use Rattle.mail_store.specs.FileName.{stem_of, is_held, names_id, IsAccountText}
 use Rattle.mail_store.specs.Held.{flags_of}
 use Rattle.mail_terms.specs.UniqueId.{is_legal_id, has_id}
 use Rattle.pop3_wire.specs.World.{Message, IsWorld, maildrop_of}
 use Rattle.run_law.specs.Mails.{ids_of, listing_of, is_selected, selected, texts_of}
-use Rattle.run_law.specs.Accounts.{Account, files, copies, Moves, KeepsOthers}
+use Rattle.run_law.specs.Accounts.{Account, files, copies, KeepsOthers}
 use Rattle.run_law.specs.Steps.{Effect, Leaves, Stores, IsHonest, merged_rows, wanted_at, ids_wanted}
 
 -- an account, the ids that are gone from the server, and those of the messages that were ever taken away from
@@ -29,18 +30,16 @@ pub record Visit : Type 0 where
   pub vanished : List (List ℕ)
   pub after : Account
 
--- a session; a reader's move; anything else that leaves the record and the messages of the account as they are;
+-- a session; anything that leaves the record and the messages of the account as they are;
 -- messages that the server removes by itself; and a message that its reader throws away or files elsewhere
 pub data Event : Type 0 where
   Visited : Visit → Event
-  Moved : Account → Event
   Between : Account → Event
   Expired : List (List ℕ) → Event
   TakenAway : List ℕ → Account → Event
 
 abbrev pub after_event : Situation → Event → Situation
 after_event before (Visited visit) = record before { account = visit.after; gone = before.gone ++ visit.vanished }
-after_event before (Moved after) = record before { account = after }
 after_event before (Between after) = record before { account = after }
 after_event before (Expired ids) = record before { gone = before.gone ++ ids }
 after_event before (TakenAway id after) = record before { account = after; taken = id ∷ before.taken }
@@ -88,7 +87,6 @@ pub record TakesAway (account : List ℕ) (before : Account) (id : List ℕ) (af
 
 abbrev pub Happens : Frame → Situation → Event → Type 0
 Happens frame before (Visited visit) = Visits frame before visit
-Happens frame before (Moved after) = Moves before.account after
 Happens frame before (Between after) = LeavesMail frame.account before.account after
 Happens frame before (Expired ids) = AllByRecursion (IsHeldOrTaken frame.account before) ids
 Happens frame before (TakenAway id after) = TakesAway frame.account before.account id after
@@ -145,11 +143,10 @@ StoresOnlyNew frame before visit = visit.settings.read_all ≡ false → (id : L
     ≡ copies (files before.account) (stem_of frame.account id))
     × (is_delivered visit.after.rows id ≡ true)
 
--- nothing is promised of what others do, except that a reader's moves leave files of other names
+-- nothing is promised of what others do
 abbrev pub Promises : Frame → Situation → Event → Type 0
 Promises frame before (Visited visit) = LeavesOut frame before visit × DeletesHeld frame before visit
     × KeepsOthers frame.account before.account visit.after × StoresOnlyNew frame before visit
-Promises frame before (Moved after) = KeepsOthers frame.account before.account after
 Promises frame before _ = Unit {0}
 
 -- each event keeps its promises, and each state is kept
@@ -205,10 +202,18 @@ TakenStaysAway = (frame : Frame) (start : Situation) (events : List Event) (id :
     → copies (files start.account) (stem_of frame.account id) ≡ []
     → copies (files (after_events start events).account) (stem_of frame.account id) ≡ []
 
--- in a kept state a reader's move leaves the record and the messages of the account as they are
-abbrev pub MovesLeaveMail : Type 0
-MovesLeaveMail = (frame : Frame) (state : Situation) (after : Account) → IsFrame frame → Kept frame state
-    → Moves state.account after → LeavesMail frame.account state.account after
+-- the account without the files of an id
+abbrev pub without : List ℕ → List ℕ → Account → Account
+without account id before = record before {
+  maildir = record before.maildir { files = filter (λ (f : File). not (names_id account id f.name)) before.maildir.files };
+}
+
+-- a law: taking the files of a held id away, at any moment after the last call that lists files, is the event `TakenAway`
+-- after the session
+abbrev pub TakingIsAnEvent : Type 0
+TakingIsAnEvent = (frame : Frame) (state : Situation) (id : List ℕ) → is_legal_id id ≡ true
+    → is_held frame.account state.account.maildir id ≡ true
+    → Happens frame state (TakenAway id (without frame.account id state.account))
 
 -- an account with an empty record and no file of its own is kept, if nothing is gone
 abbrev pub StartsKept : Type 0

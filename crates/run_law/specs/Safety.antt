@@ -41,8 +41,7 @@ DeletesKept settings account before effect gained _ = Unit {0}
 pub record IsSafe (settings : Settings) (account : List ℕ) (before : Account) (sent : List ℕ)
     (effect : Effect) (after : Account) : Type 0 where
   pub gained : List File
-  pub in_new : after.maildir.in_new ≡ before.maildir.in_new ++ gained
-  pub in_cur : after.maildir.in_cur ≡ before.maildir.in_cur
+  pub came : after.maildir.files ≡ before.maildir.files ++ gained
   pub commands : List Command
   pub asked : Asked commands sent
   pub deletes : AllByRecursion (DeletesKept settings account before effect gained) commands

@@ -10,11 +10,11 @@ use Rattle.pop3_wire.specs.World.{Message, maildrop_of}
 use Rattle.mail_terms.specs.Listing.{Item, is_first, is_last}
 use Rattle.rc_file.specs.declared.settings.Settings.{Settings}
 use Rattle.mail_terms.specs.UniqueId.{has_id}
-use Rattle.run_law.specs.Accounts.{Account, Moves}
+use Rattle.run_law.specs.Accounts.{Account}
 use Rattle.run_law.specs.Steps.{Effect, Leaves, Stores, wanted_at}
 use Rattle.pop3_wire.specs.Reading.{WholeReply}
 use Rattle.run_law.specs.Readings.{Talked, Retrieves, IsListed}
-use Rattle.run_law.specs.Runs.{Frame, IsFrame, Situation, Visits, Visited, Moved, Kept, Promises}
+use Rattle.run_law.specs.Runs.{Frame, IsFrame, Situation, Visits, Visited, Kept, Promises}
 
 -- a DELE's number counts from 1, the id of its message is among those begun, and no other message of the
 -- listing has that id
@@ -78,13 +78,8 @@ pub record Link : Type 0 where
   pub vanished : List (List ℕ)
   pub after : Account
 
-pub data LinkEvent : Type 0 where
-  Linked : Link → LinkEvent
-  Shifted : Account → LinkEvent
-
-abbrev pub after_link : Situation → LinkEvent → Situation
-after_link before (Linked link) = record before { account = link.after; gone = before.gone ++ link.vanished }
-after_link before (Shifted after) = record before { account = after }
+abbrev pub after_link : Situation → Link → Situation
+after_link before link = record before { account = link.after; gone = before.gone ++ link.vanished }
 
 -- a session of the code, over an honest link
 pub record Links (frame : Frame) (before : Situation) (link : Link) : Type 0 where
@@ -93,16 +88,15 @@ pub record Links (frame : Frame) (before : Situation) (link : Link) : Type 0 whe
   pub session : Session link.settings frame.account before.account link.sent link.got effect link.after
   pub served : Served (maildrop_of frame.all link.come before.gone) link.sent link.got link.vanished
 
--- each event begins where the one before ended
-abbrev pub LinkRun : Frame → Situation → List LinkEvent → Type 0
+-- each session begins where the one before ended
+abbrev pub LinkRun : Frame → Situation → List Link → Type 0
 LinkRun frame before [] = Unit {0}
-LinkRun frame before (Linked link ∷ events) = Links frame before link × LinkRun frame (after_link before (Linked link)) events
-LinkRun frame before (Shifted after ∷ events) = Moves before.account after × LinkRun frame (after_link before (Shifted after)) events
+LinkRun frame before (link ∷ links) = Links frame before link × LinkRun frame (after_link before link) links
 
 -- each session has an effect that keeps its promises, and each state is kept
-abbrev pub AllKept : Frame → Situation → List LinkEvent → Type 0
+abbrev pub AllKept : Frame → Situation → List Link → Type 0
 AllKept frame before [] = Kept frame before
-AllKept frame before (Linked link ∷ events) = Kept frame before
+AllKept frame before (link ∷ links) = Kept frame before
     × ((effect : Effect) × Session link.settings frame.account before.account link.sent link.got effect link.after
     × Promises frame before (Visited (record {
       settings = link.settings;
@@ -111,14 +105,12 @@ AllKept frame before (Linked link ∷ events) = Kept frame before
       vanished = link.vanished;
       after = link.after;
     })))
-    × AllKept frame (after_link before (Linked link)) events
-AllKept frame before (Shifted after ∷ events) = Kept frame before × Promises frame before (Moved after)
-    × AllKept frame (after_link before (Shifted after)) events
+    × AllKept frame (after_link before link) links
 
 -- the law over links
 abbrev pub LinksKeep : Type 0
-LinksKeep = (frame : Frame) (start : Situation) (events : List LinkEvent) → IsFrame frame → Kept frame start
-    → LinkRun frame start events → AllKept frame start events
+LinksKeep = (frame : Frame) (start : Situation) (links : List Link) → IsFrame frame → Kept frame start
+    → LinkRun frame start links → AllKept frame start links
 
 -- a law: a session over an honest link is a visit of the law over runs
 abbrev pub LinksAreVisits : Type 0

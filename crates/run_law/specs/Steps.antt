@@ -47,8 +47,7 @@ is_unheld account maildir pair = not (is_held account maildir pair.0.1.uid)
 -- nothing of the account was changed
 pub record Leaves (before : Account) (effect : Effect) (after : Account) : Type 0 where
   pub rows : after.rows ≡ before.rows
-  pub in_new : after.maildir.in_new ≡ before.maildir.in_new
-  pub in_cur : after.maildir.in_cur ≡ before.maildir.in_cur
+  pub same : after.maildir.files ≡ before.maildir.files
   pub begun : effect.begun ≡ []
   pub ended : effect.ended ≡ false
 
@@ -59,10 +58,9 @@ pub record Stores (settings : Settings) (account : List ℕ) (before : Account) 
   pub recorded : ℕ
   pub order : recorded ≤ stored
   pub fetched : stored ≤ length effect.texts
-  pub in_new : after.maildir.in_new ≡ before.maildir.in_new
+  pub came : after.maildir.files ≡ before.maildir.files
       ++ map (file_for account)
       (filter (is_unheld account before.maildir) (zip (take stored (wanted_at settings account before effect)) effect.texts))
-  pub in_cur : after.maildir.in_cur ≡ before.maildir.in_cur
   pub rows : (after.rows ≡ before.rows)
       ⊎ (after.rows ≡ marked_all (merged_rows account before effect)
       (ids_wanted (take recorded (wanted_at settings account before effect))))

@@ -6,9 +6,9 @@ use Rattle.rc_file.specs.declared.settings.Settings.{Settings}
 use Rattle.run_law.specs.Accounts.{Account}
 use Rattle.run_law.specs.Steps.{Effect, Stores, file_for, is_unheld, wanted_at, merged_rows, ids_wanted}
 
--- `new` gained the files of the first n of the wanted messages that weren't held
+-- there came the files of the first n of the wanted messages that weren't held
 abbrev pub Adds : Settings → List ℕ → Account → Effect → ℕ → Account → Type 0
-Adds settings account before effect n after = after.maildir.in_new ≡ before.maildir.in_new
+Adds settings account before effect n after = after.maildir.files ≡ before.maildir.files
     ++ map (file_for account)
     (filter (is_unheld account before.maildir) (zip (take n (wanted_at settings account before effect)) effect.texts))
 
@@ -24,7 +24,6 @@ pub record Told (settings : Settings) (account : List ℕ) (before : Account) (e
   pub number : (k ≡ length effect.texts) ⊎ (k + 1 ≡ length effect.texts)
   pub maildir : Adds settings account before effect k after
       ⊎ ((k + 1 ≡ length effect.texts) × Adds settings account before effect (k + 1) after)
-  pub in_cur : after.maildir.in_cur ≡ before.maildir.in_cur
   pub marks : (j ≡ k) ⊎ (j + 1 ≡ k)
   pub rows : Records settings account before effect j after ⊎ (after.rows ≡ before.rows)
   pub begun : AllByRecursion (λ id. is_delivered after.rows id ≡ true) effect.begun

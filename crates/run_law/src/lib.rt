@@ -1,7 +1,7 @@
-//! Laws over runs of sessions: every list of sessions and moves leads from a kept state to a kept one.
+//! Laws over runs of sessions: every list of sessions leads from a kept state to a kept one.
 #![tactic(auto)]
 
-ghost use Rattle.run_law.specs.Runs.{CanEnd, KeptHoldsWhatIsLeft, KeptStaysKept, MovesLeaveMail};
+ghost use Rattle.run_law.specs.Runs.{CanEnd, KeptHoldsWhatIsLeft, KeptStaysKept, TakingIsAnEvent};
 ghost use Rattle.run_law.specs.Runs.{NothingTakenHoldsExactly, StartsKept, TakenStaysAway, WantsNext};
 ghost use Rattle.run_law.specs.Readings.{HonestIsGranted, ListingIsMaildrop, MarksAreAsked, TextsAreMessages};
 ghost use Rattle.run_law.specs.Chains.{ChainsKeep};
@@ -21,7 +21,7 @@ use fetch_rules::{
 };
 use mail_store::{
     entries_add_texts, flags_tell_what_is_held, fronts_of_entries_are_settled, marks_keep_the_base,
-    names_are_bases, names_have_stems, stems_differ,
+    names_have_stems, stems_differ,
 };
 use pop3_wire::{
     only_one_body, only_one_line, only_one_list_of_commands, only_one_list_of_lines,
@@ -35,7 +35,6 @@ pub fn kept_states()
 {
     stems_differ();
     names_have_stems();
-    names_are_bases();
     marks_keep_the_base();
     distinct_messages_are_filtered();
     held_is_delivered();
@@ -64,7 +63,6 @@ pub fn taken_stays_away()
 {
     stems_differ();
     names_have_stems();
-    names_are_bases();
     marks_keep_the_base();
     distinct_messages_are_filtered();
     held_is_delivered();
@@ -72,11 +70,11 @@ pub fn taken_stays_away()
     marked_is_delivered();
 }
 
-/// In a kept state a reader's move leaves the record and the messages of the account as they are.
-pub fn moves_leave_mail()
-    ensures { MovesLeaveMail }
+/// Taking the files of a held id away is the event by which a run says so.
+pub fn taking_is_an_event()
+    ensures { TakingIsAnEvent }
 {
-    marks_keep_the_base();
+    stems_differ();
 }
 
 /// An account with an empty record and no file of its own is kept, if nothing is gone from the server.

@@ -8,7 +8,7 @@ ghost use Rattle.std.specs.Prelude.{◌≡◌, IfOk, length};
 mod mbox;
 
 use anyhow::{Result, ensure};
-use folder_store::{FolderMaildir, HostFile, HostFolder, ProcessMark};
+use folder_store::{FolderMaildir, HostFile, HostFolder, HostFolders, ProcessMark};
 use mail_store::{FlatFile, MaildirDisk, account_id, deliver, file_stem, held};
 use mail_terms::{Listing, ScanRow, UidRow, have_legal_ids, is_legal_id};
 use std::alloc::Global;
@@ -64,7 +64,7 @@ impl Stopwatch {
 }
 
 /// A Maildir in a folder.
-type HostMaildir<'a> = FolderMaildir<HostFolder<'a, HostRuntime>>;
+type HostMaildir<'a> = FolderMaildir<HostFolders<'a, HostRuntime>>;
 
 /// A file in a folder.
 type RealFile<'a> = HostFile<'a, HostFolder<'a, HostRuntime>>;

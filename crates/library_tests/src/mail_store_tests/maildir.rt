@@ -2,7 +2,7 @@
 
 use crate::mail_store_tests::file::{mark_of, text_of};
 use folder_store::FolderMaildir;
-use mail_store::{Folder, Fused, MaildirDisk, MemoryMaildir, StoreFault, deliver, held};
+use mail_store::{Folder, MaildirDisk, MemoryMaildir, StoreFault, deliver, held};
 use std::fs;
 use std::test::Fail;
 use test_support::{fred, listing_of, make_maildir, name_of, stem_of};
@@ -41,18 +41,18 @@ fn finds_what_a_reader_has_moved(rt: HostRuntime) -> Result<(), Fail> {
 }
 
 #[test]
-fn moves_no_file_over_another(rt: HostRuntime) -> Result<(), Fail> {
+fn a_reader_moves_a_file_to_cur_and_back(rt: HostRuntime) -> Result<(), Fail> {
     let mut disk = MemoryMaildir::new(rt.alloc());
-    for place in 0..2u64 {
-        disk.abandon();
-        disk.begin("x")?;
-        assert!(rt; disk.is_begun() && !disk.has_file(Folder::New, "one"));
-        disk.settle("one")?;
-        assert!(rt; !disk.move_to_cur("two", ":2,S")?);
-        assert_eq!(rt; disk.files(Folder::New).len(), 1);
-        assert_eq!(rt; disk.move_to_cur("one", ":2,S")?, place == 0);
-    }
-    assert_eq!(rt; disk.files(Folder::New).len(), 1);
+    disk.begin("x")?;
+    assert!(rt; disk.is_begun() && !disk.has_file("one"));
+    disk.settle("one")?;
+    assert!(rt; !disk.move_to_cur("two", ":2,S")?);
+    assert!(rt; disk.move_to_cur("one", ":2,S")?);
+    assert!(rt; disk.has_file("one") && disk.files(Folder::New).is_empty());
+    assert!(rt; !disk.move_to_new("one")?);
+    assert!(rt; disk.move_to_new("one:2,S")?);
+    assert_eq!(rt; disk.files(Folder::New)[0].0.as_str(), "one");
+    assert!(rt; disk.files(Folder::Cur).is_empty());
     Ok(())
 }
 
@@ -196,14 +196,16 @@ fn misses_the_folder_where_a_file_begins(rt: HostRuntime) -> Result<(), Fail> {
 }
 
 #[test]
-fn looks_into_new_before_cur(rt: HostRuntime) -> Result<(), Fail> {
-    make_maildir(&rt, "folder_order", &[])?;
-    fs::remove_dir(&rt, "folder_order/new")?;
-    let folder = FolderMaildir::at(&rt, "folder_order", mark_of(&rt)?);
-    let mut disk = Fused::new(folder, 1, false);
+fn misses_either_folder(rt: HostRuntime) -> Result<(), Fail> {
     let listing = listing_of(rt.alloc(), &[("a", 5), ("b", 5)])?;
-    let found = held(rt.alloc(), &mut disk, &fred(), &listing).err();
-    assert_eq!(rt; found, Some(StoreFault::Missing));
-    fs::remove_dir_all(&rt, "folder_order")?;
+    for folder in ["new", "cur"] {
+        make_maildir(&rt, "one_folder", &[])?;
+        let path = format!(in rt.alloc(); "one_folder/{folder}")?;
+        fs::remove_dir(&rt, path.as_str())?;
+        let mut disk = FolderMaildir::at(&rt, "one_folder", mark_of(&rt)?);
+        let found = held(rt.alloc(), &mut disk, &fred(), &listing).err();
+        assert_eq!(rt; found, Some(StoreFault::Missing), "without {folder}");
+        fs::remove_dir_all(&rt, "one_folder")?;
+    }
     Ok(())
 }

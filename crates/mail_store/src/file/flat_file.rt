@@ -44,6 +44,16 @@ pub trait FlatFile {
             → UnlessRefused result (is_sure self.new × LastsWhole (stored self.new).content (outlives self.new)) }
         ensures count { Tallies (refuses is_refusal result) (stored self.old).failures (stored self.new).failures };
 
+    /// The bytes of the file, as `load` gives them, but nothing is flushed: a loss of power may take
+    /// back what was read. Missing if there is none, else Refused.
+    fn peek(&mut self) -> Result<Vec<u8>, StoreFault>
+        ensures loads { sound self.new → sound self.old
+            × Loads (stored self.old) result (stored self.new) }
+        ensures fault { IfErr result IsDeviceFault }
+        ensures keeps { sound self.new → KeepsBytes (outlives self.old) (outlives self.new) }
+        ensures sure { sound self.new → is_sure self.old → is_sure self.new }
+        ensures count { Tallies (refuses is_refusal result) (stored self.old).failures (stored self.new).failures };
+
     /// The size of the file, its first five bytes and its last two. Missing if there is none, else
     /// Refused.
     fn edges(&mut self) -> Result<Edges, StoreFault>

@@ -147,6 +147,10 @@ impl FlatFile for MemoryFile {
         }
     }
 
+    fn peek(&mut self) -> Result<Vec<u8>, StoreFault> {
+        self.load()
+    }
+
     // It takes no memory, so below the greatest count it isn't refused.
     fn edges(&mut self) -> Result<Edges, StoreFault>
         ensures measures { self.new.failures < greatest_count → (self.old.failures < greatest_count)

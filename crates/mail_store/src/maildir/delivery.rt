@@ -3,7 +3,7 @@
 ghost use Rattle.std.specs.Prelude.{◌≡◌, ◌≢◌, None, length};
 ghost use Rattle.mail_terms.specs.FailureCount.{Tallies, refuses};
 ghost use Rattle.mail_store.specs.Fault.{is_refusal};
-ghost use Rattle.mail_store.specs.Maildir.{IsInNew, Delivers};
+ghost use Rattle.mail_store.specs.Maildir.{IsThere, Delivers};
 ghost use Rattle.mail_store.specs.FileName.{sized, sized_file};
 
 use crate::fault::StoreFault;
@@ -13,11 +13,11 @@ use std::alloc::Global;
 
 /// Puts a text into `new`, under a name made of this stem and the text's length. NoMemory, with
 /// nothing changed, if there is none for the name; Missing if `tmp` isn't there, else Refused: the
-/// file is then not in `new`, or in `new` and whole. No other file of `new` or `cur` changes, and
+/// file is then not there, or there and whole. No other file of `new` or `cur` changes, and
 /// none is begun afterwards.
 ///
-/// No file may be begun already (see `abandon`), and the name must not be in `new` (see `names`,
-/// and `held` for the stem of an id).
+/// No file may be begun already (see `abandon`), and no file of `new` or `cur` may have the name,
+/// with whatever marks (see `names`, and `held` for the stem of an id).
 pub fn deliver<D: MaildirDisk>(
     alloc: Global,
     disk: &mut D,
@@ -25,7 +25,7 @@ pub fn deliver<D: MaildirDisk>(
     text: &[u8],
 ) -> Result<(), StoreFault>
     requires none_begun { D.sound disk.old → (D.maildir disk.old).begun ≡ None }
-    requires not_there { D.sound disk.old → IsInNew (D.maildir disk.old) (sized stem.now (length text.now)) → ⊥ }
+    requires not_there { D.sound disk.old → IsThere (D.maildir disk.old) (sized stem.now (length text.now)) → ⊥ }
     ensures delivers { D.sound disk.new → D.sound disk.old
         × Delivers (D.maildir disk.old) (sized_file stem.now text.now) result (D.maildir disk.new) }
     ensures none_begun { (D.maildir disk.old).begun ≡ None → (D.maildir disk.new).begun ≡ None }

@@ -15,37 +15,57 @@ pub enum Folder {
 ///
 /// A file is begun in `tmp`, written there by any number of `add`, and then settled: only then is
 /// it in `new`, whole, under the name that `settle` takes. No other call changes `new` or `cur`.
+///
+/// A mail reader may move files between `new` and `cur` and change the marks after the first colon
+/// of a name at any moment, also while a call runs: what calls see of a file is its name before that
+/// colon and its bytes, and neither its folder nor its marks.
 pub trait MaildirDisk {
-    ghost use Rattle.std.specs.Prelude.{◌≡◌, ℕ, List, IfErr, IfOk, IsSome, OnErr, OnOk, Some, None, map, string_bytes};
+    ghost use Rattle.std.specs.Prelude.{◌≡◌, ℕ, List, IfErr, IsSome, OnErr, OnOk, Some, None};
     ghost use Rattle.mail_terms.specs.FailureCount.{Tallies, refuses};
-    ghost use Rattle.mail_terms.specs.Distinct.{AreDistinct};
     ghost use Rattle.mail_store.specs.Fault.{is_refusal, IsDeviceFault};
-    ghost use Rattle.mail_store.specs.Maildir.{Maildir, File, IsInNew, Lists, Begins, Adds, Settles, dropped, name_begun};
+    ghost use Rattle.mail_store.specs.Maildir.{Maildir, File, IsThere, Lists, ListsAll, Checks, Begins, Adds, Settles, dropped, name_begun};
     ghost use Rattle.mail_store.specs.Power.{KeepsMail, SettledOutlives, ToldStay};
 
     // What is known of the Maildir. Whether a file is begun, its name and the count of refusals are
     // known even if the device isn't sound.
     ghost maildir: { Self → Maildir };
 
-    // A loss of power leaves a file of this name in `new` or in `cur`.
+    // A loss of power leaves a file of this name, with whatever marks, in `new` or in `cur`.
     ghost stays: { Self → List ℕ → Type 0 };
 
-    // A loss of power leaves this file in `new`, whole.
+    // A loss of power leaves this file in `new` or in `cur`, whole.
     ghost outlives: { Self → File → Type 0 };
 
     // The premise: so far the device did what this trait says, and its count is below its greatest
     // value. If it holds after a call, it held before it.
     ghost sound: { Self → Type 0 };
 
-    /// The names of the files of a folder, each once, in any order. Missing if the folder isn't
-    /// there, else Refused.
+    /// The names of the files of a folder, in any order. While a reader moves files, each name is
+    /// that of a file which is there, in this folder or already in the other one; `all_names` tells
+    /// of every file. Missing if the folder isn't there, else Refused.
     fn names(&mut self, folder: Folder) -> Result<Vec<String>, StoreFault>
         ensures lists { sound self.new → sound self.old
             × Lists (maildir self.old) folder result (maildir self.new) }
-        ensures once { sound self.new → IfOk result (λ names. AreDistinct (map string_bytes names.items)) }
+        ensures fault { IfErr result IsDeviceFault }
+        ensures lasts { sound self.new → KeepsMail (stays self.old) (outlives self.old) (stays self.new) (outlives self.new) }
+        ensures count { Tallies (refuses is_refusal result) (maildir self.old).failures (maildir self.new).failures };
+
+    /// The names of the files of `new` and `cur`, in any order: each file once, even if a reader
+    /// moves it meanwhile. Missing if `new` or `cur` isn't there, else Refused.
+    fn all_names(&mut self) -> Result<Vec<String>, StoreFault>
+        ensures lists { sound self.new → sound self.old
+            × ListsAll (maildir self.old) result (maildir self.new) }
         ensures fault { IfErr result IsDeviceFault }
         ensures lasts { sound self.new → KeepsMail (stays self.old) (outlives self.old) (stays self.new) (outlives self.new)
             × ToldStay result (stays self.new) }
+        ensures count { Tallies (refuses is_refusal result) (maildir self.old).failures (maildir self.new).failures };
+
+    /// Whether a folder is there: Missing if it isn't, else Refused. Its names aren't read or flushed.
+    fn check(&mut self, folder: Folder) -> Result<(), StoreFault>
+        ensures checks { sound self.new → sound self.old
+            × Checks (maildir self.old) folder result (maildir self.new) }
+        ensures fault { IfErr result IsDeviceFault }
+        ensures lasts { sound self.new → KeepsMail (stays self.old) (outlives self.old) (stays self.new) (outlives self.new) }
         ensures count { Tallies (refuses is_refusal result) (maildir self.old).failures (maildir self.new).failures };
 
     /// Begins an empty file of this name in `tmp`; an older file of that name there is replaced. None
@@ -72,12 +92,12 @@ pub trait MaildirDisk {
         ensures lasts { sound self.new → KeepsMail (stays self.old) (outlives self.old) (stays self.new) (outlives self.new) }
         ensures count { Tallies (refuses is_refusal result) (maildir self.old).failures (maildir self.new).failures };
 
-    /// Puts the file begun into `new` under this name, which must not be there yet (see `names`).
-    /// The only fault is Refused: the file is then not in `new`, or in `new` and whole. Either way
-    /// none is begun afterwards.
+    /// Puts the file begun into `new` under this name. No file of `new` or `cur` may have it, with
+    /// whatever marks (see `all_names`). The only fault is Refused: the file is then not there, or there
+    /// and whole. Either way none is begun afterwards.
     fn settle(&mut self, name: &str) -> Result<(), StoreFault>
         requires begun { sound self.old → IsSome (maildir self.old).begun }
-        requires not_there { sound self.old → IsInNew (maildir self.old) name.now → ⊥ }
+        requires not_there { sound self.old → IsThere (maildir self.old) name.now → ⊥ }
         ensures settles { sound self.new → sound self.old
             × Settles (maildir self.old) name.now result (maildir self.new) }
         ensures none_begun { (maildir self.new).begun ≡ None }

@@ -12,7 +12,7 @@ ghost use Rattle.mail_store.specs.Power.{AllStay, KeepsMail};
 
 use crate::account::AccountId;
 use crate::fault::StoreFault;
-use crate::maildir::disk::{Folder, MaildirDisk};
+use crate::maildir::disk::MaildirDisk;
 use crate::maildir::names;
 use mail_terms::Listing;
 use std::alloc::{AllocError, Global};
@@ -49,19 +49,16 @@ fn add_digits<'a>(
     Ok(())
 }
 
-/// The digits of the ids in the stems of the account's names in `new` and in `cur`.
+/// The digits of the ids in the stems of the account's names among these.
 fn digits_of<'a>(
     alloc: Global,
     account: &str,
-    new: &'a [String],
-    cur: &'a [String],
+    names: &'a [String],
 ) -> Result<BTreeSet<&'a str>, AllocError>
-    ensures { IfOk result (λ found. (q : List ℕ)
-        → has_text found q ≡ (any_name account.now q new.now || any_name account.now q cur.now)) }
+    ensures { IfOk result (λ found. (q : List ℕ) → has_text found q ≡ any_name account.now q names.now) }
 {
     let mut found = BTreeSet::new(alloc);
-    add_digits(&mut found, account, new)?;
-    add_digits(&mut found, account, cur)?;
+    add_digits(&mut found, account, names)?;
     Ok(found)
 }
 
@@ -92,8 +89,7 @@ pub fn flags_tell_what_is_held()
 /// there, Refused if the device refused, NoMemory if memory runs out. The Maildir stays as it was,
 /// and if flags are returned, each of its names outlives a loss of power.
 ///
-/// `new` is read before `cur`, so that a file which a reader moves from one to the other in between
-/// is seen. With m files and n items the time grows as (m + n) log m.
+/// With m files and n items the time grows as (m + n) log m.
 pub fn held<D: MaildirDisk>(
     alloc: Global,
     disk: &mut D,
@@ -108,9 +104,8 @@ pub fn held<D: MaildirDisk>(
     ensures length { IfOk result (λ flags. vec_len flags ≡ length listing.now) }
     ensures fault { result ≢ Err StoreFault.NotMbox }
 {
-    let new = disk.names(Folder::New)?;
-    let cur = disk.names(Folder::Cur)?;
+    let names = disk.all_names()?;
     // All of the account's names begin alike, so only what follows is compared.
-    let found = digits_of(alloc, account.as_str(), &new, &cur)?;
+    let found = digits_of(alloc, account.as_str(), &names)?;
     Ok(flags_of(alloc, &found, listing)?)
 }

@@ -1,13 +1,14 @@
 //! A Maildir in memory.
 
-ghost use Rattle.std.specs.Prelude.{map, length, ◌<◌, ◌↔◌, Contains, HoldsAt, IsTrue, IfOk, IfSome, IfNone, ◌≡◌};
+ghost use Rattle.std.specs.Prelude.{map, take, length, ◌<◌, ◌↔◌, ◌++◌, Contains, HoldsAt, IsTrue, IfOk, OnOk, IfSome, IfNone, ◌≡◌};
 ghost use Rattle.std.specs.String.{string_bytes};
 ghost use Rattle.mail_store.specs.Maildir.{names_of, file_of};
+ghost use Rattle.mail_store.specs.MemoryMaildir.{count, shown};
 
 use crate::fault::StoreFault;
 use crate::maildir::disk::{Folder, MaildirDisk};
 use crate::refusal::{admit, refuse};
-use mail_terms::FailureCount;
+use mail_terms::{FailureCount, base};
 use std::alloc::{AllocError, Global};
 use std::marker::Model;
 
@@ -17,51 +18,64 @@ pub struct MemoryMaildir {
     alloc: Global,
     in_new: Vec<(String, Vec<u8>)>,
     in_cur: Vec<(String, Vec<u8>)>,
+    // Of each file, in the order in which they came, whether it is in `new`. Each folder's files
+    // have that order too.
+    are_new: Vec<bool>,
     begun: Option<(String, Vec<u8>)>,
     failures: FailureCount,
 }
 
 impl Model for MemoryMaildir {
-    ghost use Rattle.std.specs.Prelude.{map, option_map};
-    ghost use Rattle.mail_store.specs.Maildir.{Maildir, file_of, all_there, HaveDistinctNames};
+    ghost use Rattle.std.specs.Prelude.{◌≡◌, length, map, option_map, true, false};
+    ghost use Rattle.mail_store.specs.Maildir.{Maildir, file_of, all_there};
+    ghost use Rattle.mail_store.specs.MemoryMaildir.{Kept, count, merged, shown};
 
-    ghost Value = { Maildir };
+    ghost Value = { Kept };
 
     ghost view = { λ d. record {
-      there = all_there;
+      maildir = record {
+        there = all_there;
+        files = map shown (merged d.are_new.items (map file_of d.in_new.items) (map file_of d.in_cur.items));
+        begun = option_map file_of d.begun;
+        failures = d.failures;
+      };
       in_new = map file_of d.in_new.items;
       in_cur = map file_of d.in_cur.items;
-      begun = option_map file_of d.begun;
-      failures = d.failures;
     } };
 
-    ghost invariant = { λ d. HaveDistinctNames d.in_new.items × HaveDistinctNames d.in_cur.items };
+    ghost invariant = { λ d. (count true d.are_new.items ≡ length d.in_new.items)
+        × (count false d.are_new.items ≡ length d.in_cur.items) };
 }
 
 impl MemoryMaildir {
-    ghost use Rattle.std.specs.Prelude.{◌≡◌, ◌<◌, ◌+◌, ◌↔◌, [], None, map, slice_index, Contains, IsTrue, IsSome};
-    ghost use Rattle.mail_terms.specs.FailureCount.{greatest_count};
-    ghost use Rattle.mail_store.specs.Maildir.{Maildir, File, HaveDistinctNames, file_of, files_in, names_of, all_there, counted, Moves};
+    ghost use Rattle.std.specs.Prelude.{◌≡◌, ◌<◌, ◌↔◌, ◌++◌, [], None, map, slice_index, IsTrue, IsSome, IsPermutation};
+    ghost use Rattle.mail_terms.specs.MaildirName.{base};
+    ghost use Rattle.mail_store.specs.Maildir.{Maildir, File, IsThere, all_there, file_of};
+    ghost use Rattle.mail_store.specs.MemoryMaildir.{Kept, kept_in, shown, Moves, Marks};
 
     /// A Maildir without files.
     pub fn new(alloc: Global) -> MemoryMaildir
-        ensures maildir { result ≡ record { there = all_there; in_new = []; in_cur = []; begun = None; failures = 0 } }
+        ensures maildir { result ≡ record {
+          maildir = record { there = all_there; files = []; begun = None; failures = 0 };
+          in_new = [];
+          in_cur = [];
+        } }
         ensures sound { ⟦<MemoryMaildir as MaildirDisk>⟧.sound result }
     {
         MemoryMaildir {
             alloc,
             in_new: Vec::new(alloc),
             in_cur: Vec::new(alloc),
+            are_new: Vec::new(alloc),
             begun: None,
             failures: FailureCount::new(),
         }
     }
 
     /// The files of a folder, each with its name and its bytes, in the order in which they came.
-    /// No two of them have the same name.
     pub fn files(&self, folder: Folder) -> &[(String, Vec<u8>)]
-        ensures files { map file_of result.now ≡ files_in self.now folder }
-        ensures distinct { HaveDistinctNames result.now }
+        ensures files { map file_of result.now ≡ kept_in self.now folder }
+        ensures both { IsPermutation self.now.maildir.files (map shown (self.now.in_new ++ self.now.in_cur)) }
     {
         match folder {
             Folder::New => self.in_new.as_slice(),
@@ -69,19 +83,17 @@ impl MemoryMaildir {
         }
     }
 
-    /// Whether a file of the folder has this name.
-    pub fn has_file(&self, folder: Folder, name: &str) -> bool
-        ensures { IsTrue result ↔ Contains (names_of (files_in self.now folder)) name.now }
+    /// Whether a file of `new` or `cur` has this name, with whatever marks.
+    pub fn has_file(&self, name: &str) -> bool
+        ensures { IsTrue result ↔ IsThere self.now.maildir name.now }
     {
-        match folder {
-            Folder::New => has_name(&self.in_new, name),
-            Folder::Cur => has_name(&self.in_cur, name),
-        }
+        let front = base(name);
+        has_base(&self.in_new, front) || has_base(&self.in_cur, front)
     }
 
     /// Whether a file is begun.
     pub fn is_begun(&self) -> bool
-        ensures { IsTrue result ↔ IsSome self.now.begun }
+        ensures { IsTrue result ↔ IsSome self.now.maildir.begun }
     {
         self.begun.is_some()
     }
@@ -91,19 +103,64 @@ impl MemoryMaildir {
     /// file of `new` has the name, or a file of `cur` has the name that would result.
     pub fn move_to_cur(&mut self, name: &str, suffix: &str) -> Result<bool, AllocError>
         requires { slice_index suffix.now 0 ≡ 58 }
-        ensures { Moves self.old name.now suffix.now result self.new }
+        ensures same { self.new.maildir ≡ self.old.maildir }
+        ensures moves { Moves self.old.in_new self.old.in_cur name.now (name.now ++ suffix.now) result self.new.in_new self.new.in_cur }
     {
         let mut moved = String::from_str(self.alloc, name)?;
         moved.push_str(suffix)?;
         if has_name(&self.in_cur, moved.as_str()) {
             return Ok(false);
         }
-        let Some(place) = place_of(&self.in_new, name) else {
+        let Some(at) = place_of(&self.in_new, name) else {
             return Ok(false);
         };
         self.in_cur.reserve(1)?;
-        let (_, content) = self.in_new.remove(place);
-        self.in_cur.push((moved, content)).unwrap();
+        let place = place_in_order(&self.are_new, true, at);
+        let (_, content) = self.in_new.remove(at);
+        self.in_cur.insert(place - at, (moved, content)).unwrap();
+        self.are_new[place] = false;
+        Ok(true)
+    }
+
+    /// Moves a file from `cur` back to `new`, without its marks. False, with nothing changed, if no
+    /// file of `cur` has the name, or a file of `new` has the name that would result.
+    pub fn move_to_new(&mut self, name: &str) -> Result<bool, AllocError>
+        ensures same { self.new.maildir ≡ self.old.maildir }
+        ensures moves { Moves self.old.in_cur self.old.in_new name.now (base name.now) result self.new.in_cur self.new.in_new }
+    {
+        let moved = String::from_str(self.alloc, base(name))?;
+        if has_name(&self.in_new, moved.as_str()) {
+            return Ok(false);
+        }
+        let Some(at) = place_of(&self.in_cur, name) else {
+            return Ok(false);
+        };
+        self.in_new.reserve(1)?;
+        let place = place_in_order(&self.are_new, false, at);
+        let (_, content) = self.in_cur.remove(at);
+        self.in_new.insert(place - at, (moved, content)).unwrap();
+        self.are_new[place] = true;
+        Ok(true)
+    }
+
+    /// Gives a file of `cur` this suffix, which must begin with a colon, in place of its marks.
+    /// False, with nothing changed, if no file of `cur` has the name, or one has the name that would
+    /// result.
+    pub fn mark_again(&mut self, name: &str, suffix: &str) -> Result<bool, AllocError>
+        requires { slice_index suffix.now 0 ≡ 58 }
+        ensures same { self.new.maildir ≡ self.old.maildir }
+        ensures new { self.new.in_new ≡ self.old.in_new }
+        ensures marks { Marks self.old.in_cur name.now (base name.now ++ suffix.now) result self.new.in_cur }
+    {
+        let mut marked = String::from_str(self.alloc, base(name))?;
+        marked.push_str(suffix)?;
+        if has_name(&self.in_cur, marked.as_str()) {
+            return Ok(false);
+        }
+        let Some(at) = place_of(&self.in_cur, name) else {
+            return Ok(false);
+        };
+        self.in_cur[at].0 = marked;
         Ok(true)
     }
 }
@@ -128,14 +185,65 @@ fn has_name(files: &[(String, Vec<u8>)], name: &str) -> bool
     place_of(files, name).is_some()
 }
 
+/// Whether one of the files has a name of this base.
+fn has_base(files: &[(String, Vec<u8>)], front: &str) -> bool
+    ensures { IsTrue result ↔ Contains (names_of (map shown (map file_of files.now))) front.now }
+{
+    for (name, _) in files {
+        if base(name.as_str()) == front {
+            return true;
+        }
+    }
+    false
+}
+
+/// Where the file that has this place in its own folder comes among all.
+fn place_in_order(are_new: &[bool], folder_is_new: bool, at: usize) -> usize
+    requires { at < count folder_is_new are_new.now }
+    ensures found { (result < length are_new.now) × HoldsAt (λ is_new. is_new ≡ folder_is_new) are_new.now result }
+    ensures before { count folder_is_new (take result are_new.now) ≡ at }
+{
+    let mut before = 0;
+    for (place, is_new) in are_new.iter().enumerate() {
+        if *is_new == folder_is_new {
+            if before == at {
+                return place;
+            }
+            before += 1;
+        }
+    }
+    unreachable!()
+}
+
+/// Adds the names of some files.
+fn add_names(names: &mut Vec<String>, files: &[(String, Vec<u8>)]) -> Result<(), AllocError>
+    ensures { OnOk result (map string_bytes names.new.items ≡ map string_bytes names.old.items ++ names_of (map file_of files.now)) }
+{
+    for (name, _) in files {
+        names.push(name.clone()?)?;
+    }
+    Ok(())
+}
+
 /// The names of some files.
 fn names_of(alloc: Global, files: &[(String, Vec<u8>)]) -> Result<Vec<String>, AllocError>
     ensures { IfOk result (λ names. map string_bytes names.items ≡ names_of (map file_of files.now)) }
 {
     let mut names = Vec::new(alloc);
-    for (name, _) in files {
-        names.push(name.clone()?)?;
-    }
+    add_names(&mut names, files)?;
+    Ok(names)
+}
+
+/// The names of the files of two folders.
+fn names_of_both(
+    alloc: Global,
+    new: &[(String, Vec<u8>)],
+    cur: &[(String, Vec<u8>)],
+) -> Result<Vec<String>, AllocError>
+    ensures { IfOk result (λ names. map string_bytes names.items ≡ names_of (map file_of new.now) ++ names_of (map file_of cur.now)) }
+{
+    let mut names = names_of(alloc, new)?;
+    add_names(&mut names, cur)?;
     Ok(names)
 }
 
@@ -143,14 +251,14 @@ impl MaildirDisk for MemoryMaildir {
     ghost use Rattle.std.specs.Prelude.{◌<◌};
     ghost use Rattle.mail_terms.specs.FailureCount.{greatest_count};
 
-    ghost maildir = { λ d. d };
+    ghost maildir = { λ d. d.maildir };
 
     // As long as the program runs, no loss of power reaches what is in memory.
     ghost stays = { λ d name. Unit {0} };
 
     ghost outlives = { λ d f. Unit {0} };
 
-    ghost sound = { λ d. d.failures < greatest_count };
+    ghost sound = { λ d. d.maildir.failures < greatest_count };
 
     fn names(&mut self, folder: Folder) -> Result<Vec<String>, StoreFault> {
         admit(&self.failures)?;
@@ -158,6 +266,18 @@ impl MaildirDisk for MemoryMaildir {
             Ok(names) => Ok(names),
             Err(_) => Err(refuse(&mut self.failures)),
         }
+    }
+
+    fn all_names(&mut self) -> Result<Vec<String>, StoreFault> {
+        admit(&self.failures)?;
+        match names_of_both(self.alloc, &self.in_new, &self.in_cur) {
+            Ok(names) => Ok(names),
+            Err(_) => Err(refuse(&mut self.failures)),
+        }
+    }
+
+    fn check(&mut self, _folder: Folder) -> Result<(), StoreFault> {
+        admit(&self.failures)
     }
 
     fn begin(&mut self, name: &str) -> Result<(), StoreFault> {
@@ -193,10 +313,11 @@ impl MaildirDisk for MemoryMaildir {
         let Ok(name) = String::from_str(self.alloc, name) else {
             return Err(refuse(&mut self.failures));
         };
-        match self.in_new.push((name, content)) {
-            Ok(()) => Ok(()),
-            Err(_) => Err(refuse(&mut self.failures)),
+        if self.are_new.reserve(1).is_err() || self.in_new.push((name, content)).is_err() {
+            return Err(refuse(&mut self.failures));
         }
+        self.are_new.push(true).unwrap();
+        Ok(())
     }
 
     fn abandon(&mut self) {

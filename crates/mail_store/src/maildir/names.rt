@@ -8,7 +8,7 @@ ghost use Rattle.mail_terms.specs.MaildirName.{base};
 ghost use Rattle.mail_store.specs.FileName.{HasRoomForSize, IsAccountText, NamesAreBases, NamesHaveStems};
 ghost use Rattle.mail_store.specs.FileName.{StemsAreStems, StemsDiffer, is_held, longest_name, longest_stem};
 ghost use Rattle.mail_store.specs.FileName.{mail_file, name_of, sized, stem, stem_of};
-ghost use Rattle.mail_store.specs.Maildir.{Maildir, IsInNew, with_file};
+ghost use Rattle.mail_store.specs.Maildir.{Maildir, IsThere, with_file};
 
 use crate::account::AccountId;
 use hex::FromHexError;
@@ -103,13 +103,15 @@ pub fn names_are_bases()
     ensures { NamesAreBases }
 {}
 
-/// Marks after a name, from a colon on, don't change its base; and a base is its own base.
+/// Marks after a name, from a colon on, don't change its base; a base is its own base, and has the
+/// stem of the name.
 pub fn marks_keep_the_base()
     ensures kept { (name marks : List ℕ) → base (name ++ 58 ∷ marks) ≡ base name }
     ensures own { (name : List ℕ) → base (base name) ≡ base name }
+    ensures stems { (name : List ℕ) → stem (base name) ≡ stem name }
 {}
 
-/// A file that comes into `new` under an id's name makes that id held, and no other.
+/// A file that comes under an id's name makes that id held, and no other.
 pub fn one_more_is_held()
     ensures { (account a b content : List ℕ) (maildir : Maildir) → IsAccountText account → IsLegalId a → IsLegalId b
         → is_held account (with_file maildir (mail_file account a content)) b ≡ (is_held account maildir b || bytes_eq b a) }
@@ -117,10 +119,10 @@ pub fn one_more_is_held()
     legal_ids_have_ranges();
 }
 
-/// No file of `new` has a name of an id that isn't held, so a text may be delivered under one.
-pub fn unheld_ids_are_not_in_new()
+/// No file has a name of an id that isn't held, so a text may be delivered under one.
+pub fn unheld_ids_are_not_there()
     ensures { (account uid : List ℕ) (size : ℕ) (maildir : Maildir) → IsAccountText account → is_held account maildir uid ≡ false
-        → IsInNew maildir (name_of account uid size) → ⊥ }
+        → IsThere maildir (name_of account uid size) → ⊥ }
 {}
 
 /// What follows `front` in bytes that begin with it.

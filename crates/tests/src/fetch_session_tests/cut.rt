@@ -52,7 +52,7 @@ fn after_name(rt: &(impl Abort + AllocGlobal), name: &str) -> Result<String, Fai
     let mut maildir = MemoryMaildir::new(alloc);
     maildir.begin("a")?;
     maildir.add(b"one\n")?;
-    assert!(rt; maildir.is_begun() && !maildir.has_file(Folder::New, name));
+    assert!(rt; maildir.is_begun() && !maildir.has_file(name));
     maildir.settle(name)?;
     assert!(rt; maildir.move_to_cur(name, ":2,S")?);
     let kept = Kept {

@@ -1,19 +1,20 @@
-use Rattle.std.proofs.Common.{List, ℕ, Ok, Err, arith, refl, sym, ap, subst, ◌∙◌, inl, string_bytes}
+use Rattle.std.proofs.Common.{List, ℕ, Ok, Err, refl, sym, ap, subst, ◌∙◌, string_bytes}
 use Rattle.fetch_rules.specs.Record.{Row, Held, has_row, none_open, marked}
 use Rattle.fetch_session.specs.Record.{Saves, Steady}
-use Rattle.fetch_session.proofs.RecordLemmas.{held_is, none_or_of}
+use Rattle.fetch_session.proofs.RecordLemmas.{held_is}
 use Rattle.pop3_client.specs.Turns.{retr}
 use Rattle.pop3_client.specs.Client.{place_of}
-use Rattle.mail_store.specs.Maildir.{IsInNew}
-use Rattle.mail_store.specs.FileName.{sized, stem_of}
+use Rattle.mail_store.specs.Maildir.{IsThere}
+use Rattle.mail_store.specs.FileName.{sized, sized_file, stem_of}
 use Rattle.fetch_session.specs.Store.{Grows}
 use Rattle.fetch_session.specs.Target.{AsFiles, in_maildir}
 use Rattle.fetch_session.specs.Task.{stores}
+use Rattle.fetch_session.proofs.LastLemmas.{came_outlives}
 use Rattle.fetch_session.proofs.StoreLemmas.{stores_grows}
 use Rattle.fetch_session.proofs.TakeLemmas.{text_broken, text_wanting, text_stops, text_stored, text_not_saved}
-use Rattle.fetch_session.proofs.IntakeLemmas.{takes_plain, took_broke, took_nothing, took_less, takes_text, takes_stopped}
+use Rattle.fetch_session.proofs.IntakeLemmas.{takes_plain, took_broke, takes_text, takes_stopped}
 use Rattle.fetch_session.proofs.SceneLemmas.{all_sound}
-use Rattle.fetch_session.proofs.RefusalLemmas.{before_cut, cut_by}
+use Rattle.fetch_session.proofs.RefusalLemmas.{cut_by}
 use Rattle.pop3_client.proofs.ClientLemmas.{and_then, did_both, did_so}
 use Rattle.fetch_session.proofs.step.take_into_maildir.Given.{Over}
 use Rattle.fetch_session.proofs.step.take_into_maildir.Goals.{After-store_text}
@@ -31,8 +32,8 @@ returns-in-Err-clause-takes g c = λ w d f. (
 
 pub store_text-requires-clause-not_there : goal.store_text-requires-clause-not_there
 store_text-requires-clause-not_there g c = λ kept size there.
-    c.unheld_ids_are_not_in_new.ensures c.args.account.now c.args.uid.now size (g.D.MaildirDisk.maildir c.args.disk.now) c.requires.digits (c.requires.free kept)
-    (subst (λ (stem : List ℕ). IsInNew (g.D.MaildirDisk.maildir c.args.disk.now) (sized stem size)) c.in-Ok.ensures.stem there)
+    c.unheld_ids_are_not_there.ensures c.args.account.now c.args.uid.now size (g.D.MaildirDisk.maildir c.args.disk.now) c.requires.digits (c.requires.free kept)
+    (subst (λ (stem : List ℕ). IsThere (g.D.MaildirDisk.maildir c.args.disk.now) (sized stem size)) c.in-Ok.ensures.stem there)
 
 pub returns-in-Err-store_text-clause-takes : goal.returns-in-Err-store_text-clause-takes
 returns-in-Err-store_text-clause-takes g c =
@@ -127,3 +128,12 @@ returns-in-Err-open-clause-counted g c =
 pub returns-in-Ok-remember-clause-rows : goal.returns-in-Ok-remember-clause-rows
 returns-in-Ok-remember-clause-rows g c = λ other has.
     ap (λ (r : List Row). has_row r other) c.in-Ok-remember.ensures.rows ∙ c.marked_keeps_rows.ensures c.args.ledger.now.seen.rows c.args.uid.now other ∙ has
+
+pub returns-in-Ok-remember-clause-lasts : goal.returns-in-Ok-remember-clause-lasts
+returns-in-Ok-remember-clause-lasts g c = λ d f safe.
+    let stores = c.in-Ok-store_text.ensures.stores in
+    let is = (stores.1 d).1.0 in (
+      c.in-Ok-remember.ensures.lasts f safe,
+      came_outlives (g.D.MaildirDisk.maildir c.args.disk.now) (g.D.MaildirDisk.maildir c.store_text.new.disk) (sized_file (string_bytes c.in-Ok.stem) stores.0)
+          (g.D.MaildirDisk.outlives c.store_text.new.disk) is (c.in-Ok-store_text.ensures.lasts d stores.0 is),
+    )

@@ -1,7 +1,7 @@
 use Rattle.std.proofs.Common.{rules, ◌≡◌, List, ℕ, ◌≢◌, Ok, inr, ◌<◌, ◌+◌, [], ◌++◌, length, take, arith, sym, ap, subst, ◌∙◌, inl, refl}
 use Rattle.std.proofs.lemmas.Bool.{false≢true}
 use Rattle.pop3_client.specs.Client.{place_of}
-use Rattle.mail_store.specs.Maildir.{Maildir, IsInNew, file}
+use Rattle.mail_store.specs.Maildir.{Maildir, IsThere, file}
 use Rattle.pop3_wire.specs.declared.unstuffer.Spot.TheVariants.{Done}
 use Rattle.fetch_session.specs.Store.{Puts, begun_with}
 use Rattle.mail_store.specs.FileName.{sized}
@@ -82,7 +82,7 @@ settle_file-requires-clause-begun g c = λ d. ap (λ (m : Maildir). is_some m.be
 pub settle_file-requires-clause-not_there : goal.settle_file-requires-clause-not_there
 settle_file-requires-clause-not_there g c = λ d there.
     let now = put g (goal.at.settle_file-requires-clause-not_there g c).After-put_piece (c.in_default-put_piece.ensures.puts d) in
-    c.requires.not_there now.0 _ (subst (λ (m : Maildir). IsInNew m (sized (string_bytes c.args.stem) (c.pieces.length + c.in-Ok.piece.put))) now.1 there)
+    c.requires.not_there now.0 _ (subst (λ (m : Maildir). IsThere m (sized (string_bytes c.args.stem) (c.pieces.length + c.in-Ok.piece.put))) now.1 there)
 
 pub returns-in-Ok-settle_file-clause-stores : goal.returns-in-Ok-settle_file-clause-stores
 returns-in-Ok-settle_file-clause-stores g c =

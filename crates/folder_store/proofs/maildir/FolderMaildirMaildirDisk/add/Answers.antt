@@ -1,12 +1,39 @@
-use Rattle.std.proofs.Common.{rules, refl}
-use Rattle.folder_store.proofs.Directories.{refused_add}
+use Rattle.std.proofs.Common.{string_bytes}
+use Rattle.std.specs.Prelude.{option_map}
+use Rattle.folder_store.proofs.MailWriting.{added, added_brings, not_added, changes_bring}
 use Rattle.folder_store.proofs.maildir.FolderMaildirMaildirDisk.add.Goals as goal
 
+pub returns-in-Ok-clause-adds : goal.returns-in-Ok-clause-adds
+returns-in-Ok-clause-adds g c = λ s.
+    let b = g.F.MailFolders.directories in
+    let t = c.in-Ok.ensures s.0 in
+    ((t.0, s.1), added (b c.args.self.now.folders) (b c.write.new.self) (option_map string_bytes c.args.self.now.begun) c.args.bytes.now c.args.self.now.failures t.1)
+
+pub returns-in-Ok-clause-lasts : goal.returns-in-Ok-clause-lasts
+returns-in-Ok-clause-lasts g c = λ s.
+    let b = g.F.MailFolders.directories in
+    (added_brings (b c.args.self.now.folders) (b c.write.new.self) c.args.bytes.now (c.in-Ok.ensures s.0).1).keeps
+
 pub returns-in-Err-clause-adds : goal.returns-in-Err-clause-adds
-returns-in-Err-clause-adds g c = search (rules, refused_add)
+returns-in-Err-clause-adds g c = λ s.
+    let b = g.F.MailFolders.directories in
+    let t = c.in-Err.ensures s.0 in (
+      (t.0, c.in_ok-admit.ensures.admitted),
+      not_added (b c.args.self.now.folders) (b c.write.new.self) (option_map string_bytes c.args.self.now.begun) c.args.self.now.failures
+          c.refuse-in-Err.new.failures c.refuse-in-Err.ensures.counted t.1,
+    )
 
-pub returns-in_err-admit-clause-still : goal.returns-in_err-admit-clause-still
-returns-in_err-admit-clause-still g c = λ s. ((g.F.FileFolder.directory c.args.self.now.new_folder).made, refl)
+pub returns-in-Err-clause-lasts : goal.returns-in-Err-clause-lasts
+returns-in-Err-clause-lasts g c = λ s.
+    let b = g.F.MailFolders.directories in
+    (changes_bring (b c.args.self.now.folders) (b c.write.new.self) (c.in-Err.ensures s.0).1).keeps
 
-pub returns-then-is_none-clause-still : goal.returns-then-is_none-clause-still
-returns-then-is_none-clause-still g c = λ s. ((g.F.FileFolder.directory c.args.self.now.new_folder).made, refl)
+pub returns-in-Ok-clause-leaves : goal.returns-in-Ok-clause-leaves
+returns-in-Ok-clause-leaves g c = λ s.
+    let b = g.F.MailFolders.directories in
+    (added_brings (b c.args.self.now.folders) (b c.write.new.self) c.args.bytes.now (c.in-Ok.ensures s).1).leaves
+
+pub returns-in-Err-clause-leaves : goal.returns-in-Err-clause-leaves
+returns-in-Err-clause-leaves g c = λ s.
+    let b = g.F.MailFolders.directories in
+    (changes_bring (b c.args.self.now.folders) (b c.write.new.self) (c.in-Err.ensures s).1).leaves

@@ -1,77 +1,98 @@
-use Rattle.std.proofs.Common.{◌≡◌, ◌∙◌, ap, subst, sym, string_bytes, Ok}
+use Rattle.std.proofs.Common.{◌≡◌, ◌∙◌, inl, ℕ, ap, subst, sym, string_bytes}
 use Rattle.std.specs.Prelude.{option_map, ◌⊎◌}
-use Rattle.mail_store.specs.Maildir.{with_file, counted, dropped, file}
-use Rattle.folder_store.specs.FolderMaildir.{maildir_in}
-use Rattle.folder_store.proofs.Directories.{settled, not_settled, begun_has}
-use Rattle.folder_store.proofs.Lasting.{not_put_keeps, puts_keep}
-use Rattle.folder_store.proofs.PowerLoss.{settles_for_good, not_settled_for_good}
+use Rattle.mail_store.specs.Maildir.{with_file, counted, dropped, mail}
+use Rattle.folder_store.specs.MailFolders.{maildir_in}
+use Rattle.folder_store.proofs.MailWriting.{brought_leaves, gives_up, maildir_dropped, not_settled, not_settled_brings, not_settled_keeps, settled, settled_brings, settled_outlives}
 use Rattle.folder_store.proofs.maildir.FolderMaildirMaildirDisk.settle.Goals as goal
 
 pub returns-in-Ok-clause-settles : goal.returns-in-Ok-clause-settles
 returns-in-Ok-clause-settles g c = λ s.
-    let told = c.in-Ok.ensures.puts s.0 in
+    let b = g.F.MailFolders.directories in
     let now = c.args.self.now in
-    let new = g.F.FileFolder.directory now.new_folder in
-    let cur = g.F.FileFolder.directory now.cur_folder in
-    let begun = option_map string_bytes now.begun in (
-      (told.0, s.1, s.2),
-      λ f h. ap (λ b. maildir_in (g.F.FileFolder.directory c.put_where_none.new.folder) cur (option_map string_bytes b) now.failures) c.take-begun.ensures.after
-          ∙ settled new (g.F.FileFolder.directory c.put_where_none.new.folder) cur begun c.args.name.now now.failures told.1 f h
-          (c.requires.not_there (told.0, s.1, s.2)),
+    let t = c.in-Ok.ensures s.0 in (
+      (t.0, s.1),
+      λ f h. ap (λ o. maildir_in (b c.put_for_good.new.folders) (option_map string_bytes o) now.failures) c.take-begun.ensures.after
+          ∙ settled (b now.folders) (b c.put_for_good.new.folders) (option_map string_bytes now.begun) c.args.name.now now.failures t.1 (c.requires.not_there (t.0, s.1)) f h,
+    )
+
+pub returns-in-Ok-clause-lasts : goal.returns-in-Ok-clause-lasts
+returns-in-Ok-clause-lasts g c = λ s.
+    let b = g.F.MailFolders.directories in
+    let now = c.args.self.now in
+    let t = c.in-Ok.ensures s.0 in
+    let unknown = c.requires.not_there (t.0, s.1) in (
+      (t.1.2 unknown).0.keeps,
+      settled_outlives (b now.folders) (b c.put_for_good.new.folders) (option_map string_bytes now.begun) c.args.name.now now.failures t.1 unknown,
     )
 
 pub returns-clause-settles : goal.returns-clause-settles
 returns-clause-settles g c = λ s.
-    let gone = c.discard-in-Err-put_where_none.ensures s.0 in
-    let told = c.in-Err-put_where_none.ensures.puts gone.0 in
+    let b = g.F.MailFolders.directories in
     let now = c.args.self.now in
-    let new = g.F.FileFolder.directory now.new_folder in
-    let cur = g.F.FileFolder.directory now.cur_folder in
+    let gone = c.discard-in-Err-put_for_good.ensures s.0 in
+    let t = c.in-Err-put_for_good.ensures gone.0 in
     let begun = option_map string_bytes now.begun in
     let below = c.in_default.ensures.admitted in
-    let m = c.refuse-in-Err-put_where_none.new.failures in
-    let after = g.F.FileFolder.directory c.discard-in-Err-put_where_none.new.self in (
-      (told.0, s.1, below),
-      λ f h. subst (λ b. (maildir_in after cur (option_map string_bytes b) m ≡ counted (dropped (maildir_in new cur begun now.failures)))
-          ⊎ (maildir_in after cur (option_map string_bytes b) m ≡ counted (with_file (maildir_in new cur begun now.failures) (file c.args.name.now f.content)))) (sym c.take-begun.ensures.after)
-          (not_settled new (g.F.FileFolder.directory c.put_where_none.new.folder) after cur begun c.args.name.now now.failures m
-          c.in-Err-put_where_none.field-0 c.refuse-in-Err-put_where_none.ensures.counted told.1 gone.1 f h
-          (c.requires.not_there (told.0, s.1, below))),
-    )
-
-pub returns-in-Ok-clause-power : goal.returns-in-Ok-clause-power
-returns-in-Ok-clause-power g c = λ s f h.
-    let now = c.args.self.now in
-    let d = g.F.FileFolder.directory in
-    settles_for_good (d now.new_folder) (d c.put_where_none.new.folder) c.args.name.now f.content (Ok tt)
-    (begun_has (d now.new_folder) (d now.cur_folder) (option_map string_bytes now.begun) now.failures f h) (c.in-Ok.ensures.puts s.0).1
-
-pub returns-clause-power : goal.returns-clause-power
-returns-clause-power g c = λ s f h.
-    let gone = c.discard-in-Err-put_where_none.ensures s.0 in
-    let now = c.args.self.now in
-    let d = g.F.FileFolder.directory in
-    not_settled_for_good (d now.new_folder) (d c.put_where_none.new.folder) (d c.discard-in-Err-put_where_none.new.self) c.args.name.now f.content
-    c.in-Err-put_where_none.field-0 _ (begun_has (d now.new_folder) (d now.cur_folder) (option_map string_bytes now.begun) now.failures f h)
-    (c.in-Err-put_where_none.ensures.puts gone.0).1 gone.1
-
-pub returns-in-Ok-clause-lasts : goal.returns-in-Ok-clause-lasts
-returns-in-Ok-clause-lasts g c = λ s.
-    let d = g.F.FileFolder.directory in
-    let now = c.args.self.now in
-    let told = c.in-Ok.ensures.puts s.0 in (
-      puts_keep (d now.new_folder) (d c.put_where_none.new.folder) (d now.cur_folder) c.args.name.now (Ok tt) (c.requires.not_there (told.0, s.1, s.2)) told.1,
-      λ f h. (settles_for_good (d now.new_folder) (d c.put_where_none.new.folder) c.args.name.now f.content (Ok tt)
-          (begun_has (d now.new_folder) (d now.cur_folder) (option_map string_bytes now.begun) now.failures f h) told.1).outlives,
+    let k = c.refuse-in-Err-put_for_good.new.failures in
+    let after = b c.discard-in-Err-put_for_good.new.self in (
+      (t.0, below),
+      λ f h. subst (λ o. (maildir_in after (option_map string_bytes o) k ≡ counted (dropped (maildir_in (b now.folders) begun now.failures)))
+          ⊎ (maildir_in after (option_map string_bytes o) k ≡ counted (with_file (maildir_in (b now.folders) begun now.failures) (mail c.args.name.now f.content))))
+          (sym c.take-begun.ensures.after)
+          (not_settled (b now.folders) (b c.put_for_good.new.folders) after begun c.args.name.now now.failures k c.in-Err-put_for_good.field-0
+          c.refuse-in-Err-put_for_good.ensures.counted t.1 gone.1 (c.requires.not_there (t.0, below)) f h),
     )
 
 pub returns-clause-lasts : goal.returns-clause-lasts
 returns-clause-lasts g c = λ s.
-    let d = g.F.FileFolder.directory in
+    let b = g.F.MailFolders.directories in
     let now = c.args.self.now in
-    let gone = c.discard-in-Err-put_where_none.ensures s.0 in
-    let told = c.in-Err-put_where_none.ensures.puts gone.0 in (
-      not_put_keeps (d now.new_folder) (d c.put_where_none.new.folder) (d c.discard-in-Err-put_where_none.new.self) (d now.cur_folder) c.args.name.now
-          c.in-Err-put_where_none.field-0 (c.requires.not_there (told.0, s.1, c.in_default.ensures.admitted)) told.1 gone.1,
+    let gone = c.discard-in-Err-put_for_good.ensures s.0 in
+    let t = c.in-Err-put_for_good.ensures gone.0 in (
+      not_settled_keeps (b now.folders) (b c.put_for_good.new.folders) (b c.discard-in-Err-put_for_good.new.self) c.args.name.now c.in-Err-put_for_good.field-0
+          t.1 gone.1 (c.requires.not_there (t.0, c.in_default.ensures.admitted)),
       tt,
     )
+
+pub returns-in-Ok-clause-leaves : goal.returns-in-Ok-clause-leaves
+returns-in-Ok-clause-leaves g c = λ s f h.
+    let b = g.F.MailFolders.directories in
+    let now = c.args.self.now in
+    let t = c.in-Ok.ensures s.0 in
+    (settled_brings (b now.folders) (b c.put_for_good.new.folders) (option_map string_bytes now.begun) c.args.name.now now.failures t.1 (c.requires.not_there (t.0, s.1)) f h).leaves
+
+pub returns-clause-leaves : goal.returns-clause-leaves
+returns-clause-leaves g c = λ s f h.
+    let b = g.F.MailFolders.directories in
+    let now = c.args.self.now in
+    let gone = c.discard-in-Err-put_for_good.ensures s.0 in
+    let t = c.in-Err-put_for_good.ensures gone.0 in
+    let after = b c.discard-in-Err-put_for_good.new.self in
+    brought_leaves (b now.folders) after (mail c.args.name.now f.content)
+    (not_settled_brings (b now.folders) (b c.put_for_good.new.folders) after (option_map string_bytes now.begun) c.args.name.now now.failures
+    c.in-Err-put_for_good.field-0 t.1 gone.1 (c.requires.not_there (t.0, c.in_default.ensures.admitted)) f h)
+
+pub returns-then-is_none-clause-settles : goal.returns-then-is_none-clause-settles
+returns-then-is_none-clause-settles g c = λ s.
+    let b = g.F.MailFolders.directories in
+    let now = c.args.self.now in
+    let begun = option_map string_bytes now.begun in
+    let gone = c.discard.ensures s.0 in
+    let below = c.in_default.ensures.admitted in
+    let k = c.refuse.new.failures in (
+      (gone.0, below),
+      λ f h. inl (ap (λ o. maildir_in (b c.discard.new.self) (option_map string_bytes o) k) c.take-begun.ensures.after
+          ∙ maildir_dropped (b now.folders) (b c.discard.new.self) begun now.failures k (gives_up (b now.folders) (b c.discard.new.self) gone.1)
+          ∙ ap (λ (x : ℕ). record (dropped (maildir_in (b now.folders) begun now.failures)) { failures = x }) c.refuse.ensures.counted),
+    )
+
+pub returns-then-is_none-clause-lasts : goal.returns-then-is_none-clause-lasts
+returns-then-is_none-clause-lasts g c = λ s.
+    let b = g.F.MailFolders.directories in
+    ((gives_up (b c.args.self.now.folders) (b c.discard.new.self) (c.discard.ensures s.0).1).keeps, tt)
+
+pub returns-then-is_none-clause-leaves : goal.returns-then-is_none-clause-leaves
+returns-then-is_none-clause-leaves g c = λ s f h.
+    let b = g.F.MailFolders.directories in
+    brought_leaves (b c.args.self.now.folders) (b c.discard.new.self) (mail c.args.name.now f.content)
+    (inl (gives_up (b c.args.self.now.folders) (b c.discard.new.self) (c.discard.ensures s.0).1))

@@ -1,7 +1,7 @@
 use Rattle.std.proofs.Common.{◌≡◌, [], length, rules, subst, sym, ◌∙◌}
 use Rattle.std.proofs.lemmas.Bool.{eqb-true}
 use Rattle.std.proofs.lemmas.List.{nil_from_length}
-use Rattle.mail_store.specs.Maildir.{Delivers, file}
+use Rattle.mail_store.specs.Maildir.{Delivers, file, mail}
 use Rattle.mail_store.specs.FileName.{sized}
 use Rattle.mail_store.proofs.Deliveries.{delivered, written, still_free}
 use Rattle.mail_store.proofs.maildir.delivery.deliver.Goals as goal
@@ -13,8 +13,8 @@ returns-then-is_empty-clause-delivers g c = λ k.
     let named : c.as_str.result.now ≡ sized c.args.stem.now (length c.args.text.now) = search rules in
     let empty : [] ≡ c.args.text.now = sym (nil_from_length c.args.text.now (eqb-true (length c.args.text.now) 0 (sym c.is_empty.ensures ∙ c.if-is_empty.true))) in (
       begun.0,
-      subst (λ bytes. Delivers (g.D.MaildirDisk.maildir c.args.disk.now) (file (sized c.args.stem.now (length c.args.text.now)) bytes) c.settle.result (g.D.MaildirDisk.maildir c.settle.new.self)) empty
-          (subst (λ name. Delivers (g.D.MaildirDisk.maildir c.args.disk.now) (file name []) c.settle.result (g.D.MaildirDisk.maildir c.settle.new.self)) named
+      subst (λ bytes. Delivers (g.D.MaildirDisk.maildir c.args.disk.now) (mail (sized c.args.stem.now (length c.args.text.now)) bytes) c.settle.result (g.D.MaildirDisk.maildir c.settle.new.self)) empty
+          (subst (λ name. Delivers (g.D.MaildirDisk.maildir c.args.disk.now) (mail name []) c.settle.result (g.D.MaildirDisk.maildir c.settle.new.self)) named
           (delivered (g.D.MaildirDisk.maildir c.args.disk.now) (g.D.MaildirDisk.maildir c.begin.new.self) (g.D.MaildirDisk.maildir c.settle.new.self)
           c.args.stem.now c.as_str.result.now [] c.settle.result begun.1.1 c.settle.ensures.fault settled.1)),
     )
@@ -38,7 +38,7 @@ returns-clause-delivers g c = λ k.
     let written_to = g.D.MaildirDisk.maildir c.add.new.self in
     let named : c.as_str-2.result.now ≡ sized c.args.stem.now (length c.args.text.now) = search rules in (
       begun.0,
-      subst (λ name. Delivers before (file name c.args.text.now) c.settle-2.result (g.D.MaildirDisk.maildir c.settle-2.new.self)) named
+      subst (λ name. Delivers before (mail name c.args.text.now) c.settle-2.result (g.D.MaildirDisk.maildir c.settle-2.new.self)) named
           (delivered before written_to (g.D.MaildirDisk.maildir c.settle-2.new.self) c.args.stem.now c.as_str-2.result.now c.args.text.now c.settle-2.result
           (written before (g.D.MaildirDisk.maildir c.begin.new.self) written_to c.args.stem.now c.args.text.now begun.1.1 added.1)
           c.settle-2.ensures.fault settled.1),

@@ -10,5 +10,4 @@ pub returns : goal.returns
 returns c = λ q.
     let none : has_text c.new-found.result q ≡ false =
     ap (λ (keys : List (Bor (List ℕ))). list_any (λ key. is_eq (slice_cmp nat_cmp q key.now)) keys) c.new-found.ensures.empty in
-    c.in_ok-add_digits-2.ensures q
-    ∙ ap (λ b. b || any_name c.args.account.now q c.args.cur.now) (c.in_ok-add_digits.ensures q ∙ ap (λ b. b || any_name c.args.account.now q c.args.new.now) none)
+    c.in_ok-add_digits.ensures q ∙ ap (λ b. b || any_name c.args.account.now q c.args.names.now) none

@@ -1,6 +1,14 @@
-use Rattle.std.proofs.Common.{List, ℕ, sym, subst}
-use Rattle.mail_terms.specs.Distinct.{AreDistinct}
+use Rattle.std.proofs.Common.{◌≡◌, ◌∙◌, refl, true, subst}
+use Rattle.mail_store.specs.Maildir.{is_there, names_of}
+use Rattle.mail_store.specs.MemoryMaildir.{Kept}
+use Rattle.mail_store.proofs.MoveLemmas.{is_all_there, theirs_of}
+use Rattle.std.proofs.Common.{ap}
 use Rattle.mail_store.proofs.maildir.memory.MemoryMaildirMaildirDisk.names.Goals as goal
 
-pub returns-in-Ok-clause-once : goal.returns-in-Ok-clause-once
-returns-in-Ok-clause-once c = λ k. subst (λ (names : List (List ℕ)). AreDistinct names) (sym c.in-Ok.ensures) c.files.ensures.distinct
+pub returns-in-Ok-clause-lists : goal.returns-in-Ok-clause-lists
+returns-in-Ok-clause-lists c = λ k. (
+  k,
+  (subst (λ (kept : Kept). is_there kept.maildir.there c.args.folder ≡ true) c.self.view_is (is_all_there c.args.folder),
+  theirs_of c.args.self.now c.args.folder c.in-Ok.names.items c.files.ensures.both (c.in-Ok.ensures ∙ ap names_of c.files.ensures.files),
+  refl),
+)

@@ -1,16 +1,25 @@
-use Rattle.std.proofs.Common.{rules, ◌≡◌, ◌<◌, ◌++◌, ◌∷◌, [], ℕ, List, refl, sym, subst, String, Vec, Global, string_bytes}
-use Rattle.mail_terms.specs.FailureCount.{greatest_count}
-use Rattle.mail_store.specs.Maildir.{HaveDistinctNames}
-use Rattle.mail_store.proofs.DistinctNames.{HaveDistinctNames-push, name_is_new}
+use Rattle.std.proofs.Common.{rules, ◌≡◌, ◌++◌, ◌∷◌, [], true, ap, option_map, None, string_bytes}
+use Rattle.mail_store.specs.Maildir.{file_of}
+use Rattle.mail_store.specs.MemoryMaildir.{Kept}
+use Rattle.mail_store.proofs.MoveLemmas.{came_to, settled}
 use Rattle.mail_store.proofs.maildir.memory.MemoryMaildirMaildirDisk.settle.Goals as goal
 
-pub invariant_of-self-in-Ok-push : goal.invariant_of-self-in-Ok-push
-invariant_of-self-in-Ok-push c =
-    let below : c.args.self.now.failures < greatest_count = search rules in
+pub invariant_of-self-2 : goal.invariant_of-self-2
+invariant_of-self-2 c =
     let pushed : c.push.new.self.items ≡ c.self.inside.in_new.items ++ (c.in-Ok.name, c.in-Some.content) ∷ [] = search rules in
-    let named : string_bytes c.in-Ok.name ≡ c.args.name.now = search rules in (
-      subst (λ (pairs : List (String Global × Vec ℕ Global)). HaveDistinctNames pairs) (sym pushed)
-          (HaveDistinctNames-push c.self.inside.in_new.items (c.in-Ok.name, c.in-Some.content) c.self.invariant.0
-          (name_is_new _ _ c.self.inside.in_new.items c.args.name.now (string_bytes c.in-Ok.name) c.self.view_is refl named (c.requires.not_there below))),
-      c.self.invariant.1,
+    let flagged : c.push-2.new.self.items ≡ c.self.inside.are_new.items ++ true ∷ [] = search rules in
+    (settled c.self.inside.are_new.items c.self.inside.in_new.items c.self.inside.in_cur.items (c.in-Ok.name, c.in-Some.content) c.self.invariant flagged pushed).1
+
+pub returns-clause-settles : goal.returns-clause-settles
+returns-clause-settles c = λ k.
+    let pushed : c.push.new.self.items ≡ c.self.inside.in_new.items ++ (c.in-Ok.name, c.in-Some.content) ∷ [] = search rules in
+    let flagged : c.push-2.new.self.items ≡ c.self.inside.are_new.items ++ true ∷ [] = search rules in
+    let came = (settled c.self.inside.are_new.items c.self.inside.in_new.items c.self.inside.in_cur.items (c.in-Ok.name, c.in-Some.content) c.self.invariant flagged pushed).0 in
+    let named : string_bytes c.in-Ok.name ≡ c.args.name.now = search rules in
+    let none : c.take.new.self ≡ None = search rules in (
+      search rules,
+      λ f is.
+          let content : c.in-Some.content.items ≡ f.content = search rules in
+          came_to c.args.self.now.maildir _ _ _ (option_map file_of c.take.new.self) c.self.inside.failures (string_bytes c.in-Ok.name) c.args.name.now
+          c.in-Some.content.items f.content (ap (λ (kept : Kept). kept.maildir) c.self.view_is) came named content (ap (option_map file_of) none),
     )

@@ -1,0 +1,133 @@
+-- What is ready if the store needn't be asked what it holds.
+use Rattle.std.proofs.Common.{◌≡◌, ◌≢◌, ℕ, suc, Bool, true, false, List, [], ◌∷◌, ◌++◌, length, map, Option, None, Some, Ok, Err, refl, sym, ap, subst, ◌∙◌, arith}
+use Rattle.std.specs.Prelude.{All, Result, IfOk, IfSome, OnOk}
+use Rattle.std.specs.List.{AllByRecursion}
+use Rattle.std.proofs.lemmas.List.{length-map}
+use Rattle.mail_terms.specs.Listing.{Item}
+use Rattle.rc_file.specs.declared.settings.Settings.{Settings}
+use Rattle.fetch_rules.specs.Record.{Row, Held, IsRecord, Loaded, has_row, is_delivered, merged, none_open}
+use Rattle.fetch_rules.specs.Plan.{IsQuiet, planned}
+use Rattle.fetch_rules.specs.declared.steps.Step.{Step}
+use Rattle.mail_store.specs.FlatFile.{Stored}
+use Rattle.mail_store.specs.FileName.{is_held}
+use Rattle.mail_store.specs.declared.maildir.disk.MaildirDisk.{Ghosts as DiskGhosts}
+use Rattle.mail_store.specs.declared.file.flat_file.FlatFile.{Ghosts as FileGhosts}
+use Rattle.pop3_client.specs.declared.fault.Fault.{Fault}
+use Rattle.pop3_client.specs.declared.fault.Fault.TheVariants.{NoMemory, StoreRefused}
+use Rattle.pop3_client.specs.declared.fault.Why.TheVariants as why
+use Rattle.mail_store.specs.Maildir.{Maildir}
+use Rattle.fetch_session.specs.declared.account.Store.{Store}
+use Rattle.fetch_session.specs.declared.account.Store.TheVariants.{Maildir as InMaildir, Mboxrd as InMbox}
+use Rattle.fetch_session.specs.declared.readiness.Ready.{Ready}
+use Rattle.fetch_session.specs.Readiness.{AreAsHeld, FindsRefused, IsIdle, IsReady, Readies, Rests, Settles, Unready, merged_in}
+use Rattle.fetch_session.specs.Record.{ReadAs, Steady, held_in}
+use Rattle.fetch_session.specs.Target.{Kind, Files, Entries, Target, AsFiles, AsEntries, Stores, flags_in, in_maildir, kind_of, none_held, rows_in, stores_of, target_of}
+use Rattle.fetch_session.specs.Task.{Task, fetching, deleting, tasks_in, tasks_planned}
+use Rattle.fetch_session.proofs.ReadyLemmas.{not_found, unread}
+use Rattle.fetch_session.proofs.RecordLemmas.{read_keeps, read_steady}
+
+-- steps that fetch nothing ask for the same, whatever is held
+quiet_step : (step : Step) (item : Item) (x y : Bool) → step.retrieve ≡ false → tasks_in step item x ≡ tasks_in step item y
+quiet_step step item x y quiet = ap (λ (tasks : List Task). tasks ++ deleting step.delete step.number) (by step.retrieve quiet)
+  where
+    by : (retrieve : Bool) → retrieve ≡ false → fetching retrieve x step.number item.uid item.size ≡ fetching retrieve y step.number item.uid item.size
+    by true is = absurd (cc is)
+    by false is = refl
+
+pub quiet_same : (steps : List Step) (items : List Item) (xs ys : List Bool) → All IsQuiet steps → length xs ≡ length items → length ys ≡ length items → AreAsHeld steps items xs ys
+quiet_same [] items xs ys quiet ones others = refl
+quiet_same (s ∷ ss) [] xs ys quiet ones others = refl
+quiet_same (s ∷ ss) (i ∷ is) [] ys quiet ones others = absurd (omega (arith, ones))
+quiet_same (s ∷ ss) (i ∷ is) (x ∷ xs) [] quiet ones others = absurd (omega (arith, others))
+quiet_same (s ∷ ss) (i ∷ is) (x ∷ xs) (y ∷ ys) quiet ones others =
+    ap (λ (tasks : List Task). tasks ++ tasks_planned ss is xs) (quiet_step s i x y (quiet 0 s (omega arith)).0)
+    ∙ ap (λ (tasks : List Task). tasks_in s i y ++ tasks)
+    (quiet_same ss is xs ys (λ k d inside. quiet (suc k) d (omega (arith, inside))) (omega (arith, ones)) (omega (arith, others)))
+
+flags_length : (target : Target) (store : Stores) (items : List Item) → length (flags_in target store items) ≡ length items
+flags_length (AsFiles account) store items = length-map items (λ (item : Item). is_held account store.maildir item.uid)
+flags_length AsEntries store items = length-map items (λ (item : Item). false)
+
+module _ {D F : Type 0} (disk : DiskGhosts D) (files : FileGhosts F) (account : List ℕ) where
+  -- a Maildir that wasn't asked
+  settles_same : (store : Store D F) (was : Held) (new : Stores) → kind_of store ≡ Files → new ≡ stores_of disk files store → Settles (target_of store account) was (stores_of disk files store) new
+  settles_same (InMaildir device) was new kind same = same
+  settles_same (InMbox device) was new kind same = absurd (cc kind)
+
+  rows_same : (store : Store D F) (was : Held) → kind_of store ≡ Files → rows_in (target_of store account) (stores_of disk files store) was ≡ was.rows
+  rows_same (InMaildir device) was kind = refl
+  rows_same (InMbox device) was kind = absurd (cc kind)
+
+  pub rests_ok : {settings : Settings} {items : List Item} {now : ℕ} (store : Store D F) (new : Stores) (file read : Stored) (loaded : Loaded) (ready : Ready)
+      → ((rows : List Row) (listing : List Item) (held : List Bool) (now : ℕ) → IsRecord rows → All (λ (item : Item). is_delivered rows item.uid ≡ true) listing → merged rows listing held now ≡ rows)
+      → kind_of store ≡ Files → Rests (stores_of disk files store) (Ok ready) new → ReadAs file.content loaded → read ≡ file → loaded.stale ≡ false
+      → IsIdle settings loaded.rows items now ready.steps.items → length ready.held.items ≡ length items
+      → IsReady settings (target_of store account) items now (stores_of disk files store) file ready loaded.rows new read
+  rests_ok {settings} {items} {now} store new file read loaded ready law kind same stood read_is fresh idle counted = record {
+    was = held_in loaded;
+    stood = read_keeps file.content loaded stood;
+    held = quiet_same ready.steps.items items ready.held.items (flags_in (target_of store account) (stores_of disk files store) items) idle.quiet counted (flags_length (target_of store account) (stores_of disk files store) items);
+    rows = sym (law loaded.rows items (flags_in (target_of store account) (stores_of disk files store) items) now idle.is_record idle.known)
+        ∙ ap (λ (rows : List Row). merged rows items (flags_in (target_of store account) (stores_of disk files store) items) now) (sym (rows_same store (held_in loaded) kind));
+    steps = idle.planned;
+    saved = subst (λ (s : Stored). Steady s.content (none_open loaded.rows)) (sym read_is) (read_steady file.content loaded stood fresh).0;
+    file_count = ap (λ (s : Stored). s.failures) read_is;
+    settles = settles_same store (held_in loaded) new kind same;
+  }
+
+  pub rests_refused : (items : List Item) (now : ℕ) (store : Store D F) (new : Stores) (file read : Stored) (loaded : Loaded) (fault : Fault)
+      → kind_of store ≡ Files → Rests (stores_of disk files store) (Err fault) new → ReadAs file.content loaded → read ≡ file
+      → Unready (target_of store account) items now (stores_of disk files store) file fault new read
+  rests_refused items now (InMaildir device) new file read loaded fault kind finds stood same = not_found (AsFiles account) items now (in_maildir (disk.maildir device)) new file read loaded fault stood same finds
+  rests_refused items now (InMbox device) new file read loaded fault kind finds stood same = absurd (cc kind)
+
+  -- memory ran out before the store was asked
+  pub unasked : (items : List Item) (now : ℕ) (store : Store D F) (file read : Stored) (loaded : Loaded) → read ≡ file
+      → Unready (target_of store account) items now (stores_of disk files store) file NoMemory (stores_of disk files store) read
+  unasked items now store file read loaded same = unread (target_of store account) items now (stores_of disk files store) file read loaded NoMemory same
+
+-- each listed id has a row
+pub known_have_rows : ((rows : List Row) (uid : List ℕ) → is_delivered rows uid ≡ true → has_row rows uid ≡ true) → (rows : List Row) (items : List Item)
+    → All (λ (item : Item). is_delivered rows item.uid ≡ true) items → AllByRecursion (λ (item : Item). has_row rows item.uid ≡ true) items
+known_have_rows law rows [] known = tt
+known_have_rows law rows (item ∷ items) known =
+    (law rows item.uid (known 0 item (omega arith)), known_have_rows law rows items (λ k d inside. known (suc k) d (omega (arith, inside))))
+
+-- ---- whatever came of it
+
+pub whole : {A E : Type 0} {P : Type 0} (r : Result A E) → P → OnOk r P
+whole (Ok value) p = p
+whole (Err fault) p = tt
+
+pub rest_lengths : (r : Result Ready Fault) (steps : List Step) (items : List Item) → length steps ≡ length items
+    → IfOk r (λ ready. ready.steps.items ≡ steps) → IfOk r (λ ready. length ready.held.items ≡ length items)
+    → IfOk r (λ ready. (length ready.steps.items ≡ length items) × (length ready.held.items ≡ length items))
+rest_lengths (Ok ready) steps items counted same held = (ap length same ∙ counted, held)
+rest_lengths (Err fault) steps items counted same held = tt
+
+none_begun : (old new : Stores) (fault : Fault) → FindsRefused old.maildir fault new.maildir → new.maildir.begun ≡ old.maildir.begun
+none_begun old new (StoreRefused why.Missing) is = ap (λ (m : Maildir). m.begun) is.1
+none_begun old new (StoreRefused why.Refused) is = ap (λ (m : Maildir). m.begun) is
+none_begun old new NoMemory is = ap (λ (m : Maildir). m.begun) is
+none_begun old new _ never = absurd never
+
+pub rest_stays : (r : Result Ready Fault) (target : Target) (steps : List Step) (items : List Item) (old new : Stores) → All IsQuiet steps
+    → IfOk r (λ ready. ready.steps.items ≡ steps) → IfOk r (λ ready. length ready.held.items ≡ length items) → Rests old r new
+    → (new.maildir.begun ≡ old.maildir.begun) × IfOk r (λ ready. AreAsHeld ready.steps.items items ready.held.items (flags_in target new items))
+rest_stays (Ok ready) target steps items old new quiet same held rests =
+    (ap (λ (s : Stores). s.maildir.begun) rests, quiet_same ready.steps.items items ready.held.items (flags_in target new items) (subst (λ (ss : List Step). All IsQuiet ss) (sym same) quiet) held (flags_length target new items))
+rest_stays (Err fault) target steps items old new quiet same held rests = (none_begun old new fault rests, tt)
+
+pub rested : {D F : Type 0} (disk : DiskGhosts D) (files : FileGhosts F) (account : List ℕ) {settings : Settings} {items : List Item} {now : ℕ} (store : Store D F) (new : Stores) (file read : Stored) (loaded : Loaded)
+    (r : Result Ready Fault) (steps : List Step)
+    → ((rows : List Row) (listing : List Item) (held : List Bool) (now : ℕ) → IsRecord rows → All (λ (item : Item). is_delivered rows item.uid ≡ true) listing → merged rows listing held now ≡ rows)
+    → kind_of store ≡ Files → Rests (stores_of disk files store) r new → ReadAs file.content loaded → read ≡ file → loaded.stale ≡ false
+    → IsIdle settings loaded.rows items now steps → IfOk r (λ ready. ready.steps.items ≡ steps) → IfOk r (λ ready. length ready.held.items ≡ length items)
+    → Readies settings (target_of store account) items now (stores_of disk files store) file r loaded.rows new read
+rested disk files account {settings} {items} {now} store new file read loaded (Ok ready) steps law kind rests stood same fresh idle are held =
+    rests_ok disk files account store new file read loaded ready law kind rests stood same fresh (subst (λ (ss : List Step). IsIdle settings loaded.rows items now ss) (sym are) idle) held
+rested disk files account {settings} {items} {now} store new file read loaded (Err fault) steps law kind rests stood same fresh idle are held =
+    rests_refused disk files account items now store new file read loaded fault kind rests stood same
+
+pub from_some : {A : Type 0} (P : A → Type 0) {o : Option A} {x : A} → o ≡ Some x → IfSome o P → P x
+from_some {A} P {o} {x} is p = subst (λ (option : Option A). IfSome option P) is p

@@ -1,0 +1,248 @@
+-- What others' moves and flushes of names leave as it was.
+use Rattle.std.proofs.Common.{◌≡◌, ◌<◌, inl, inr, ℕ, zero, suc, Bool, true, false, not, List, [], ◌∷◌, ◌++◌, length, map, get_or, Option, refl, sym, ap, subst, ◌∙◌, arith, option_map, append_assoc}
+use Rattle.std.specs.Prelude.{◌||◌, ◌⊎◌, Contains}
+use Rattle.std.specs.List.{AllByRecursion}
+use Rattle.std.proofs.Math.Bool.{or-true}
+use Rattle.std.proofs.lemmas.Bool.{cases_Bool}
+use Rattle.std.proofs.lemmas.List.{append-nil}
+use Rattle.mail_terms.specs.MaildirName.{base}
+use Rattle.mail_store.specs.declared.maildir.disk.Folder.{Folder}
+use Rattle.mail_store.specs.declared.maildir.disk.Folder.TheVariants.{New, Cur}
+use Rattle.mail_store.specs.Maildir.{Maildir, File, Folders, file, names_of}
+use Rattle.folder_store.specs.MailFolders.{MailFile, Draft, Directories, KeepsFile, MovesFile, RestsFile, Each, Moved, mail_at, files_at, name_at, entries_in, touches_new, touches_cur, maildir_in, content_made}
+use Rattle.folder_store.specs.MailPower.{AreLeftAs, IsLeftAs, LeavesMail, IsPart, StaysIn, OutlivesIn, AllNamed}
+use Rattle.folder_store.specs.MailCalls.{Leads, named_by, names_flushed_in, listed}
+
+-- ---- files that keep their names up to the colon and their bytes
+
+pub same_mail : (s t : MailFile) → KeepsFile s t → mail_at t ≡ mail_at s
+same_mail s t m = ap (λ (n : List ℕ). file n t.content) m.title ∙ ap (λ (c : List ℕ). file (base s.name) c) m.content
+
+pub files_kept : (a b : List MailFile) → Each KeepsFile a b → files_at b ≡ files_at a
+files_kept [] [] h = refl
+files_kept [] (t ∷ ts) h = absurd h
+files_kept (s ∷ ss) [] h = absurd h
+files_kept (s ∷ ss) (t ∷ ts) h =
+    ap (λ (f : File). f ∷ files_at ts) (same_mail s t h.0) ∙ ap (λ (fs : List File). mail_at s ∷ fs) (files_kept ss ts h.1)
+
+stays_kept : (a b : List MailFile) → Each KeepsFile a b → (name : List ℕ) → StaysIn a name → StaysIn b name
+stays_kept [] b h name is = absurd is
+stays_kept (s ∷ ss) [] h name is = absurd h
+stays_kept (s ∷ ss) (t ∷ ts) h name (inl (is, named)) = inl (h.0.title ∙ is, h.0.named named)
+stays_kept (s ∷ ss) (t ∷ ts) h name (inr is) = inr (stays_kept ss ts h.1 name is)
+
+outlives_kept : (a b : List MailFile) → Each KeepsFile a b → (f : File) → OutlivesIn a f → OutlivesIn b f
+outlives_kept [] b h f is = absurd is
+outlives_kept (s ∷ ss) [] h f is = absurd h
+outlives_kept (s ∷ ss) (t ∷ ts) h f (inl (is, named, flushed)) = inl (same_mail s t h.0 ∙ is, h.0.named named, h.0.flushed ∙ flushed)
+outlives_kept (s ∷ ss) (t ∷ ts) h f (inr is) = inr (outlives_kept ss ts h.1 f is)
+
+-- what a loss of power leaves of a file could be left of it before, where it was
+abbrev where_it_was : MailFile → MailFile → MailFile
+where_it_was s u = record u { is_new = s.is_new }
+
+left_before : (s t u : MailFile) → KeepsFile s t → IsLeftAs t u → IsLeftAs s (where_it_was s u)
+left_before s t u k l = record {
+  title = l.title ∙ k.title;
+  in_new = λ new. ap (λ (b : Bool). b || s.left_new) new;
+  in_cur = λ cur. ap (λ (b : Bool). not b || s.left_cur) cur;
+  content = λ flushed. l.content (k.flushed ∙ flushed) ∙ k.content;
+  flushed = l.flushed;
+  named = l.named;
+  firm = l.firm;
+}
+
+not_named : (s t : MailFile) → KeepsFile s t → t.is_named ≡ false → s.is_named ≡ false
+not_named s t k gone = by (cases_Bool s.is_named)
+  where
+    by : (s.is_named ≡ true) ⊎ (s.is_named ≡ false) → s.is_named ≡ false
+    by (inl named) = absurd (let is = k.named named in cc)
+    by (inr none) = none
+
+-- what a loss of power leaves of files could be left of them before
+abbrev WereLeft : List MailFile → List MailFile → Type 0
+WereLeft ss left = (before : List MailFile) × AreLeftAs ss before × (files_at left ≡ files_at before)
+
+one_more : (s t u : MailFile) (ss left rest : List MailFile) → KeepsFile s t → left ≡ u ∷ rest → IsLeftAs t u → WereLeft ss rest → WereLeft (s ∷ ss) left
+one_more s t u ss left rest k e l (before, were, same) = (
+  where_it_was s u ∷ before,
+  inr (where_it_was s u, before, refl, left_before s t u k l, were),
+  ap files_at e ∙ ap (λ (fs : List File). mail_at u ∷ fs) same,
+)
+
+were_left : (a b : List MailFile) → Each KeepsFile a b → (left : List MailFile) → AreLeftAs b left → WereLeft a left
+were_left [] [] h left e = ([], refl, ap files_at e)
+were_left [] (t ∷ ts) h left l = absurd h
+were_left (s ∷ ss) [] h left l = absurd h
+were_left (s ∷ ss) (t ∷ ts) h left (inl (gone, l)) =
+    let r = were_left ss ts h.1 left l in
+    (r.0, inl (not_named s t h.0 gone, r.1), r.2)
+were_left (s ∷ ss) (t ∷ ts) h left (inr (u, rest, e, is, l)) = one_more s t u ss left rest h.0 e is (were_left ss ts h.1 rest l)
+
+pub leaves_kept : (a b : Directories) → b.there ≡ a.there → Each KeepsFile a.entries b.entries → LeavesMail a [] b
+leaves_kept a b there keeps = λ left loses.
+    let r = were_left a.entries b.entries keeps left.entries loses.each in
+    record {
+      before = record left { there = a.there; entries = r.0 };
+      part = [];
+      loses = record { there = refl; each = r.1; made = loses.made };
+      is_part = refl;
+      files = r.2 ∙ sym (append-nil (files_at r.0));
+    }
+
+pub keeps_leads : (a b : Directories) → b.there ≡ a.there → b.made ≡ a.made → Each KeepsFile a.entries b.entries → Leads a b
+keeps_leads a b there made keeps = record {
+  there = there;
+  made = made;
+  files = files_kept a.entries b.entries keeps;
+  keeps = (stays_kept a.entries b.entries keeps, outlives_kept a.entries b.entries keeps);
+  leaves = leaves_kept a b there keeps;
+}
+
+-- ---- others' moves, flushes of names, and listings
+
+each_keeps : (a b : List MailFile) → Each MovesFile a b → Each KeepsFile a b
+each_keeps [] [] h = tt
+each_keeps [] (t ∷ ts) h = absurd h
+each_keeps (s ∷ ss) [] h = absurd h
+each_keeps (s ∷ ss) (t ∷ ts) h = (h.0.keeps, each_keeps ss ts h.1)
+
+pub moved_leads : (a b : Directories) → Moved a b → Leads a b
+moved_leads a b m = keeps_leads a b m.there m.made (each_keeps a.entries b.entries m.moves)
+
+still_named : (folder : Folder) (s : MailFile) → s.is_named ≡ true → (named_by folder s).is_named ≡ true
+still_named New s named = ap (λ (b : Bool). b || touches_new s) named
+still_named Cur s named = ap (λ (b : Bool). b || touches_cur s) named
+
+flush_keeps : (folder : Folder) (s : MailFile) → KeepsFile s (named_by folder s)
+flush_keeps New s = record { title = refl; content = refl; flushed = refl; named = still_named New s }
+flush_keeps Cur s = record { title = refl; content = refl; flushed = refl; named = still_named Cur s }
+
+each_flushed : (folder : Folder) (ss : List MailFile) → Each KeepsFile ss (map (named_by folder) ss)
+each_flushed folder [] = tt
+each_flushed folder (s ∷ ss) = (flush_keeps folder s, each_flushed folder ss)
+
+pub flush_leads : (folder : Folder) (a : Directories) → Leads a (names_flushed_in folder a)
+flush_leads folder a = keeps_leads a (names_flushed_in folder a) refl refl (each_flushed folder a.entries)
+
+pub same_keeps : (s : MailFile) → KeepsFile s s
+same_keeps s = record { title = refl; content = refl; flushed = refl; named = λ h. h }
+
+pub each_same : (Does : MailFile → MailFile → Type 0) → ((s : MailFile) → Does s s) → (ss : List MailFile) → Each Does ss ss
+each_same Does same [] = tt
+each_same Does same (s ∷ ss) = (same s, each_same Does same ss)
+
+pub leads_same : (a : Directories) → Leads a a
+leads_same a = keeps_leads a a refl refl (each_same KeepsFile same_keeps a.entries)
+
+pub listed_leads : (folder : Folder) (a : Directories) → Leads a (listed folder a)
+listed_leads New a = keeps_leads a (listed New a) refl refl (each_same KeepsFile same_keeps a.entries)
+listed_leads Cur a = keeps_leads a (listed Cur a) refl refl (each_same KeepsFile same_keeps a.entries)
+
+-- ---- one after another
+
+pub part_on : (xs ys p q : List File) → IsPart xs p → IsPart ys q → IsPart (xs ++ ys) (p ++ q)
+part_on [] ys p q first then = subst (λ (z : List File). IsPart ys (z ++ q)) (sym first) then
+part_on (x ∷ xs) ys p q (inl first) then = inl (part_on xs ys p q first then)
+part_on (x ∷ xs) ys p q (inr (rest, e, first)) then =
+    inr (rest ++ q, ap (λ (z : List File). z ++ q) e, part_on xs ys rest q first then)
+
+pub leaves_on : (a b c : Directories) (xs ys : List File) → LeavesMail a xs b → LeavesMail b ys c → LeavesMail a (xs ++ ys) c
+leaves_on a b c xs ys first then = λ left loses.
+    let two = then left loses in
+    let one = first two.before two.loses in
+    record {
+      before = one.before;
+      part = one.part ++ two.part;
+      loses = one.loses;
+      is_part = part_on xs ys one.part two.part one.is_part two.is_part;
+      files = two.files ∙ ap (λ (fs : List File). fs ++ two.part) one.files ∙ append_assoc (files_at one.before.entries) one.part two.part;
+    }
+
+pub leads_on : (a b c : Directories) → Leads a b → Leads b c → Leads a c
+leads_on a b c first then = record {
+  there = then.there ∙ first.there;
+  made = then.made ∙ first.made;
+  files = then.files ∙ first.files;
+  keeps = (λ name is. then.keeps.0 name (first.keeps.0 name is), λ f is. then.keeps.1 f (first.keeps.1 f is));
+  leaves = leaves_on a b c [] [] first.leaves then.leaves;
+}
+
+-- the Maildir is as it was
+pub leads_maildir : (a b : Directories) (begun : Option (List ℕ)) (n : ℕ) → Leads a b → maildir_in b begun n ≡ maildir_in a begun n
+leads_maildir a b begun n l =
+    ap (λ (t : Folders). let m : Maildir = record {
+      there = t;
+      files = files_at b.entries;
+      begun = option_map (λ (name : List ℕ). file name (content_made b.made)) begun;
+      failures = n;
+    } in m) l.there
+    ∙ ap (λ (fs : List File). let m : Maildir = record {
+      there = a.there;
+      files = fs;
+      begun = option_map (λ (name : List ℕ). file name (content_made b.made)) begun;
+      failures = n;
+    } in m) l.files
+    ∙ ap (λ (d : Option Draft). let m : Maildir = record {
+      there = a.there;
+      files = files_at a.entries;
+      begun = option_map (λ (name : List ℕ). file name (content_made d)) begun;
+      failures = n;
+    } in m) l.made
+
+-- ---- names on the disk
+
+-- a flush of `cur` makes it last, or it lasts
+abbrev pub Near : MailFile → Type 0
+Near s = (s.is_named ≡ true) ⊎ (touches_cur s ≡ true)
+
+near_one : (s : MailFile) → Near (named_by New s)
+near_one s = by s.is_new refl
+  where
+    by : (b : Bool) → s.is_new ≡ b → Near (named_by New s)
+    by true e = inl (ap (λ (b : Bool). s.is_named || (b || s.left_new)) e ∙ or-true s.is_named)
+    by false e = inr (ap (λ (b : Bool). not b || s.left_cur) e)
+
+pub near_new : (ss : List MailFile) → AllByRecursion Near (map (named_by New) ss)
+near_new [] = tt
+near_new (s ∷ ss) = (near_one s, near_new ss)
+
+pub near_moved : (a b : List MailFile) → Each MovesFile a b → AllByRecursion Near a → AllByRecursion Near b
+near_moved [] [] h near = tt
+near_moved [] (t ∷ ts) h near = absurd h
+near_moved (s ∷ ss) [] h near = absurd h
+near_moved (s ∷ ss) (t ∷ ts) h (inl named, near) = (inl (h.0.keeps.named named), near_moved ss ts h.1 near)
+near_moved (s ∷ ss) (t ∷ ts) h (inr touches, near) = (inr (h.0.cur touches), near_moved ss ts h.1 near)
+
+pub named_cur : (ss : List MailFile) → AllByRecursion Near ss → AllNamed (map (named_by Cur) ss)
+named_cur [] near = tt
+named_cur (s ∷ ss) (inl named, near) = (still_named Cur s named, named_cur ss near)
+named_cur (s ∷ ss) (inr touches, near) = (ap (λ (b : Bool). s.is_named || b) touches ∙ or-true s.is_named, named_cur ss near)
+
+pub named_moved : (a b : List MailFile) → Each MovesFile a b → AllNamed a → AllNamed b
+named_moved [] [] h named = tt
+named_moved [] (t ∷ ts) h named = absurd h
+named_moved (s ∷ ss) [] h named = absurd h
+named_moved (s ∷ ss) (t ∷ ts) h named = (h.0.keeps.named named.0, named_moved ss ts h.1 named.1)
+
+-- each name stays
+pub named_stays : (ss : List MailFile) (name : List ℕ) → AllNamed ss → Contains (names_of (files_at ss)) name → StaysIn ss name
+named_stays [] name named c = absurd (omega (arith, c.1))
+named_stays (s ∷ ss) name named c = by (named_stays ss name named.1) c.0 c.1 c.2
+  where
+    by : (Contains (names_of (files_at ss)) name → StaysIn ss name) → (k : ℕ) → k < length (names_of (files_at (s ∷ ss))) → get_or (names_of (files_at (s ∷ ss))) k name ≡ name → StaysIn (s ∷ ss) name
+    by later zero below is = inl (is, named.0)
+    by later (suc k) below is = inr (later (k, omega arith, is))
+
+-- ---- `new` at rest
+
+pub rests_new : (a b : List MailFile) → Each (RestsFile New) a b → map name_at (entries_in New b) ≡ map name_at (entries_in New a)
+rests_new [] [] h = refl
+rests_new [] (t ∷ ts) h = absurd h
+rests_new (s ∷ ss) [] h = absurd h
+rests_new (s ∷ ss) (t ∷ ts) h = by (rests_new ss ts h.1) s.is_new refl
+  where
+    by : map name_at (entries_in New ts) ≡ map name_at (entries_in New ss) → (b : Bool) → s.is_new ≡ b
+        → map name_at (entries_in New (t ∷ ts)) ≡ map name_at (entries_in New (s ∷ ss))
+    by rest true e = let name = h.0.name e in let there = h.0.place in grind (arith, e, there, name, rest)
+    by rest false e = let there = h.0.place in grind (arith, e, there, rest)

@@ -1,0 +1,10 @@
+use Rattle.std.proofs.Common.{ap, subst}
+use Rattle.folder_store.proofs.MailReaders.{rest}
+use Rattle.folder_store.proofs.fused.FusedFolderMailFolders.write.Goals as goal
+
+pub returns-then-blows : goal.returns-then-blows
+returns-then-blows g c = λ s.
+    let d = g.F.MailFolders.directories in
+    let was = d c.args.self.now.folder in
+    let same = c.blows.ensures in
+    (subst (λ folder. g.F.MailFolders.sound folder) same s, (was, rest was, (was.made, ap (λ folder. d folder) same)))

@@ -1,0 +1,190 @@
+-- What each call does to the folders of a Maildir, once others have moved files.
+use Rattle.std.specs.Prelude.{◌≡◌, ◌≢◌, ◌⊎◌, ◌||◌, ◌↔◌, ℕ, Bool, true, false, IsTrue, List, [], ◌∷◌, ◌++◌, map, Option, Some, None, Result, Ok, Err, Vec, String, string_bytes, IsPermutation, Contains}
+use Rattle.std.specs.List.{AllByRecursion}
+use Rattle.mail_terms.specs.MaildirName.{base}
+use Rattle.mail_store.specs.declared.fault.StoreFault.{StoreFault}
+use Rattle.mail_store.specs.declared.fault.StoreFault.TheVariants.{Missing, Refused, NotMbox, NoMemory}
+use Rattle.mail_store.specs.declared.maildir.disk.Folder.{Folder}
+use Rattle.mail_store.specs.declared.maildir.disk.Folder.TheVariants.{New, Cur}
+use Rattle.mail_store.specs.Maildir.{File, mail, bases_told, names_of, is_there, AreTheirs}
+use Rattle.mail_store.specs.Power.{KeepsMail, ToldStay}
+use Rattle.folder_store.specs.MailFolders.{Directories, MailFile, Draft, Moved, files_at, name_at, entries_in, rests_in, touches_new, touches_cur}
+use Rattle.folder_store.specs.MailPower.{AllNamed, StaysIn, OutlivesIn, LeavesMail}
+
+-- others moved files, and then the call did this
+abbrev pub Then : (Directories → Directories → Type 0) → Directories → Directories → Type 0
+Then Does old new = (mid : Directories) × Moved old mid × Does mid new
+
+-- the call changed only the file made
+abbrev pub ChangesMade : Directories → Directories → Type 0
+ChangesMade old new = (m : Option Draft) × (new ≡ record old { made = m })
+
+-- a call that needs a folder answered a fault, and nothing changed
+abbrev pub Lacks : Directories → Folder → StoreFault → Directories → Type 0
+Lacks old folder Missing new = (is_there old.there folder ≡ false) × (new ≡ old)
+Lacks old folder Refused new = new ≡ old
+Lacks old folder NotMbox new = ⊥
+Lacks old folder NoMemory new = ⊥
+
+-- a folder was listed, and has rested since
+abbrev pub listed : Folder → Directories → Directories
+listed New d = record d { new_rests = true }
+listed Cur d = record d { cur_rests = true }
+
+-- `check`: the folder is there
+abbrev pub ChecksIn : {T : Type 0} → Folder → Result T StoreFault → Directories → Directories → Type 0
+ChecksIn folder (Ok done) old new = (is_there old.there folder ≡ true) × (new ≡ old)
+ChecksIn folder (Err fault) old new = Lacks old folder fault new
+
+-- `list`: the names of the files of a folder, in any order
+abbrev pub ListsIn : {A B : Type 0} → Folder → Result (Vec (String A) B) StoreFault → Directories → Directories → Type 0
+ListsIn folder (Ok names) old new = (is_there old.there folder ≡ true)
+    × IsPermutation (map name_at (entries_in folder old.entries)) (map string_bytes names.items) × (new ≡ listed folder old)
+ListsIn folder (Err fault) old new = Lacks old folder fault new
+
+-- `rests`: if the answer is true, the folder has rested since it was last listed
+abbrev pub TellsRest : Folder → Result Bool StoreFault → Directories → Directories → Type 0
+TellsRest folder (Ok rests) old new = (IsTrue rests → rests_in folder old ≡ true) × (new ≡ old)
+TellsRest folder (Err fault) old new = Lacks old folder fault new
+
+-- `has`: whether a file of `new` has the name
+abbrev pub LooksUpNew : List ℕ → Result Bool StoreFault → Directories → Directories → Type 0
+LooksUpNew name (Ok found) old new = (IsTrue found ↔ Contains (map name_at (entries_in New old.entries)) name) × (new ≡ old)
+LooksUpNew name (Err fault) old new = new ≡ old
+
+-- `make`: a file without bytes and without a name
+abbrev pub MakesDraft : {T : Type 0} → Result T StoreFault → Directories → Directories → Type 0
+MakesDraft (Ok done) old new = (old.there.tmp ≡ true) × (new ≡ record old { made = Some (record { content = []; is_flushed = false }) })
+MakesDraft (Err Missing) old new = (old.there.tmp ≡ false) × (new ≡ old)
+MakesDraft (Err Refused) old new = ChangesMade old new
+MakesDraft (Err NotMbox) old new = ⊥
+MakesDraft (Err NoMemory) old new = ⊥
+
+-- `write`: the bytes are appended to the file made
+abbrev pub WritesDraft : {T : Type 0} → List ℕ → Result T StoreFault → Directories → Directories → Type 0
+WritesDraft bytes (Ok done) old new = (d : Draft) × (old.made ≡ Some d)
+    × (new ≡ record old { made = Some (record { content = d.content ++ bytes; is_flushed = false }) })
+WritesDraft bytes (Err fault) old new = ChangesMade old new
+
+-- `flush_made`: the bytes of the file made are on the disk; a refused call gives the file up
+abbrev pub FlushesDraft : {T : Type 0} → Result T StoreFault → Directories → Directories → Type 0
+FlushesDraft (Ok done) old new = (d : Draft) × (old.made ≡ Some d) × (new ≡ record old { made = Some (record d { is_flushed = true }) })
+FlushesDraft (Err fault) old new = new ≡ record old { made = None }
+
+-- `discard`: no file is made
+abbrev pub GivesUp : Directories → Directories → Type 0
+GivesUp old new = new ≡ record old { made = None }
+
+-- the file made, in `new`
+abbrev pub put_as : List ℕ → Draft → MailFile
+put_as name d = record {
+  is_new = true;
+  name = name;
+  content = d.content;
+  is_flushed = d.is_flushed;
+  is_named = false;
+  left_new = false;
+  left_cur = false;
+}
+
+-- no file of `new` has the name
+abbrev pub IsFree : List ℕ → Directories → Type 0
+IsFree name d = AllByRecursion (λ (s : MailFile). s.is_new ≡ true → s.name ≢ name) d.entries
+
+-- the file made is put into `new`, if no file there has the name
+pub record PutsIntoNew (name : List ℕ) (old new : Directories) : Type 0 where
+  pub draft : Draft
+  pub made : old.made ≡ Some draft
+  pub is : IsFree name old → new ≡ record old { entries = old.entries ++ put_as name draft ∷ []; new_rests = false; made = None }
+
+-- `put`: a refused call did it, or changed only the file made
+abbrev pub PutsDraft : {T : Type 0} → List ℕ → Result T StoreFault → Directories → Directories → Type 0
+PutsDraft name (Ok done) old new = PutsIntoNew name old new
+PutsDraft name (Err fault) old new = ChangesMade old new ⊎ PutsIntoNew name old new
+
+-- a file once the names of a folder were flushed: if it is in this folder, or left it since they last were, some name
+-- of it is on the disk
+abbrev pub named_by : Folder → MailFile → MailFile
+named_by New s = record s { is_named = s.is_named || touches_new s; left_new = false }
+named_by Cur s = record s { is_named = s.is_named || touches_cur s; left_cur = false }
+
+abbrev pub names_flushed_in : Folder → Directories → Directories
+names_flushed_in folder d = record d { entries = map (named_by folder) d.entries }
+
+-- `flush_names`: the names of a folder are on the disk; a refused call did it, or nothing
+abbrev pub FlushesNamesIn : {T : Type 0} → Folder → Result T StoreFault → Directories → Directories → Type 0
+FlushesNamesIn folder (Ok done) old new = new ≡ names_flushed_in folder old
+FlushesNamesIn folder (Err Missing) old new = (is_there old.there folder ≡ false) × (new ≡ old)
+FlushesNamesIn folder (Err Refused) old new = (new ≡ old) ⊎ (new ≡ names_flushed_in folder old)
+FlushesNamesIn folder (Err NotMbox) old new = ⊥
+FlushesNamesIn folder (Err NoMemory) old new = ⊥
+
+-- ---- several calls
+
+-- these files came after the others, what stayed and outlived still does, and a loss of power leaves at most these
+-- files besides what it could have left before
+pub record Brings (old : Directories) (added : List File) (new : Directories) : Type 0 where
+  pub there : new.there ≡ old.there
+  pub files : files_at new.entries ≡ files_at old.entries ++ added
+  pub keeps : KeepsMail (StaysIn old.entries) (OutlivesIn old.entries) (StaysIn new.entries) (OutlivesIn new.entries)
+  pub leaves : LeavesMail old added new
+
+-- all that calls see of the folders is as it was, and so is what a loss of power leaves at most
+pub record Leads (old new : Directories) : Type 0 where
+  pub there : new.there ≡ old.there
+  pub made : new.made ≡ old.made
+  pub files : files_at new.entries ≡ files_at old.entries
+  pub keeps : KeepsMail (StaysIn old.entries) (OutlivesIn old.entries) (StaysIn new.entries) (OutlivesIn new.entries)
+  pub leaves : LeavesMail old [] new
+
+-- the names of both folders at one moment, each of a file that has a name on the disk
+pub record ToldBoth {A : Type 0} (names : List (String A)) (d : Directories) : Type 0 where
+  pub new_is_there : d.there.new ≡ true
+  pub cur_is_there : d.there.cur ≡ true
+  pub lists : IsPermutation (names_of (files_at d.entries)) (bases_told names)
+  pub named : AllNamed d.entries
+
+-- a look at both folders: None if `new` changed meanwhile
+abbrev pub LooksAtBoth : {A B : Type 0} → Directories → Result (Option (Vec (String A) B)) StoreFault → Directories → Type 0
+LooksAtBoth old (Ok None) new = Leads old new
+LooksAtBoth old (Ok (Some names)) new = Leads old new × ToldBoth names.items new
+LooksAtBoth old (Err Missing) new = Leads old new × ((new.there.new ≡ false) ⊎ (new.there.cur ≡ false))
+LooksAtBoth old (Err Refused) new = Leads old new
+LooksAtBoth old (Err NotMbox) new = ⊥
+LooksAtBoth old (Err NoMemory) new = ⊥
+
+-- the names of both folders were told
+abbrev pub TellsBoth : {A B : Type 0} → Directories → Result (Vec (String A) B) StoreFault → Directories → Type 0
+TellsBoth old (Ok names) new = Leads old new × ToldBoth names.items new
+TellsBoth old (Err Missing) new = Leads old new × ((new.there.new ≡ false) ⊎ (new.there.cur ≡ false))
+TellsBoth old (Err Refused) new = Leads old new
+TellsBoth old (Err NotMbox) new = ⊥
+TellsBoth old (Err NoMemory) new = ⊥
+
+-- the names of one folder were told: each is that of a file that is there, in this folder or already in the other
+-- one, and stays
+abbrev pub TellsOne : {A B : Type 0} → Directories → Folder → Result (Vec (String A) B) StoreFault → Directories → Type 0
+TellsOne old folder (Ok names) new =
+    Leads old new × (is_there new.there folder ≡ true) × AreTheirs (files_at new.entries) names.items
+    × ToldStay (Ok names) (StaysIn new.entries)
+TellsOne old folder (Err Missing) new = Leads old new × (is_there new.there folder ≡ false)
+TellsOne old folder (Err Refused) new = Leads old new
+TellsOne old folder (Err NotMbox) new = ⊥
+TellsOne old folder (Err NoMemory) new = ⊥
+
+-- ---- settling
+
+-- no file of `new` or `cur` has the name, with whatever marks
+abbrev pub IsUnknown : List ℕ → Directories → Type 0
+IsUnknown name d = Contains (names_of (files_at d.entries)) (base name) → ⊥
+
+-- the file made was flushed and is in one of the folders, if no file had its name
+abbrev pub StandsIn : Directories → List ℕ → Directories → Type 0
+StandsIn old name new = (d : Draft) × (old.made ≡ Some d) × (IsUnknown name old → Brings old (mail name d.content ∷ []) new)
+
+-- the file made was flushed, put under the name, and then the names of `new` were flushed; a refused call did a part
+-- of this
+abbrev pub PutsForGood : {T : Type 0} → Directories → List ℕ → Result T StoreFault → Directories → Type 0
+PutsForGood old name (Ok done) new = (d : Draft) × (old.made ≡ Some d)
+    × (IsUnknown name old → Brings old (mail name d.content ∷ []) new × OutlivesIn new.entries (mail name d.content))
+PutsForGood old name (Err fault) new = Brings old [] new ⊎ StandsIn old name new

@@ -1,0 +1,147 @@
+-- The folders `new` and `cur` of a Maildir, in which mail readers move files at any moment.
+use Rattle.std.specs.Prelude.{◌≡◌, ◌||◌, ℕ, Bool, true, false, not, List, [], ◌∷◌, ◌++◌, map, Option, Some, None, option_map}
+use Rattle.std.specs.List.{filter}
+use Rattle.mail_terms.specs.MaildirName.{base}
+use Rattle.mail_store.specs.declared.maildir.disk.Folder.{Folder}
+use Rattle.mail_store.specs.declared.maildir.disk.Folder.TheVariants.{New, Cur}
+use Rattle.mail_store.specs.Maildir.{Maildir, File, Folders, file, mail}
+
+-- a file of one of the two folders: whether it is in `new`, its name with its marks, and its bytes; whether its
+-- bytes are on the disk, and whether some name of it in one of the folders is; and whether it left `new`, or `cur`,
+-- since the names of that folder were last flushed
+pub record MailFile : Type 0 where
+  pub is_new : Bool
+  pub name : List ℕ
+  pub content : List ℕ
+  pub is_flushed : Bool
+  pub is_named : Bool
+  pub left_new : Bool
+  pub left_cur : Bool
+
+-- a file that was made and has no name in the folders yet
+pub record Draft : Type 0 where
+  pub content : List ℕ
+  pub is_flushed : Bool
+
+-- which of the folders are there; the files of `new` and `cur` in the order in which they came; whether `new`, and
+-- `cur`, have rested since they were last listed: no file came, went or got another name there; and the file that
+-- was made
+pub record Directories : Type 0 where
+  pub there : Folders
+  pub entries : List MailFile
+  pub new_rests : Bool
+  pub cur_rests : Bool
+  pub made : Option Draft
+
+-- what a flush of the names of `new`, or of `cur`, makes last
+abbrev pub touches_new : MailFile → Bool
+touches_new s = s.is_new || s.left_new
+
+abbrev pub touches_cur : MailFile → Bool
+touches_cur s = not s.is_new || s.left_cur
+
+abbrev pub touches : Folder → MailFile → Bool
+touches New s = touches_new s
+touches Cur s = touches_cur s
+
+-- ---- the files of a folder
+
+abbrev pub name_at : MailFile → List ℕ
+name_at s = s.name
+
+abbrev pub is_in_new : MailFile → Bool
+is_in_new s = s.is_new
+
+abbrev pub is_in_cur : MailFile → Bool
+is_in_cur s = not s.is_new
+
+abbrev pub is_in : Folder → MailFile → Bool
+is_in New s = s.is_new
+is_in Cur s = not s.is_new
+
+abbrev pub entries_in : Folder → List MailFile → List MailFile
+entries_in New entries = filter is_in_new entries
+entries_in Cur entries = filter is_in_cur entries
+
+-- whether a folder has rested since it was last listed
+abbrev pub rests_in : Folder → Directories → Bool
+rests_in New d = d.new_rests
+rests_in Cur d = d.cur_rests
+
+-- ---- what readers do
+
+-- a file keeps its name up to the first colon, its bytes, and what of them is on the disk
+pub record KeepsFile (s t : MailFile) : Type 0 where
+  pub title : base t.name ≡ base s.name
+  pub content : t.content ≡ s.content
+  pub flushed : t.is_flushed ≡ s.is_flushed
+  pub named : s.is_named ≡ true → t.is_named ≡ true
+
+-- a file was moved and marked any number of times
+pub record MovesFile (s t : MailFile) : Type 0 where
+  pub keeps : KeepsFile s t
+  pub new : touches_new s ≡ true → touches_new t ≡ true
+  pub cur : touches_cur s ≡ true → touches_cur t ≡ true
+
+-- it is in the same folder, and if it is in this one, under the same name
+pub record RestsFile (folder : Folder) (s t : MailFile) : Type 0 where
+  pub place : t.is_new ≡ s.is_new
+  pub name : is_in folder s ≡ true → t.name ≡ s.name
+
+-- each of these files, in order
+abbrev pub Each : (MailFile → MailFile → Type 0) → List MailFile → List MailFile → Type 0
+Each Does [] [] = Unit {0}
+Each Does [] (t ∷ ts) = ⊥
+Each Does (s ∷ ss) [] = ⊥
+Each Does (s ∷ ss) (t ∷ ts) = Does s t × Each Does ss ts
+
+-- others moved and marked files; a folder that still rests wasn't touched
+pub record Moved (old new : Directories) : Type 0 where
+  pub there : new.there ≡ old.there
+  pub made : new.made ≡ old.made
+  pub moves : Each MovesFile old.entries new.entries
+  pub rests : (folder : Folder) → rests_in folder new ≡ true
+      → (rests_in folder old ≡ true) × Each (RestsFile folder) old.entries new.entries
+
+-- a reader moved or marked one file; each folder that it touched no longer rests
+pub record OneMoves (old : Directories) (front back : List MailFile) (s t : MailFile) (new : Directories) : Type 0 where
+  pub there : new.there ≡ old.there
+  pub made : new.made ≡ old.made
+  pub before : old.entries ≡ front ++ s ∷ back
+  pub after : new.entries ≡ front ++ t ∷ back
+  pub moves : MovesFile s t
+  pub rests : (folder : Folder) → rests_in folder new ≡ true → (rests_in folder old ≡ true) × RestsFile folder s t
+
+-- ---- what is seen of them
+
+abbrev pub mail_at : MailFile → File
+mail_at s = mail s.name s.content
+
+abbrev pub files_at : List MailFile → List File
+files_at entries = map mail_at entries
+
+abbrev pub content_made : Option Draft → List ℕ
+content_made None = []
+content_made (Some d) = d.content
+
+abbrev pub maildir_in : Directories → Option (List ℕ) → ℕ → Maildir
+maildir_in d begun failures = record {
+  there = d.there;
+  files = files_at d.entries;
+  begun = option_map (λ name. file name (content_made d.made)) begun;
+  failures = failures;
+}
+
+-- folders of which nothing is known
+abbrev pub unknown_directories : Directories
+unknown_directories = record {
+  there = record { tmp = false; new = false; cur = false };
+  entries = [];
+  new_rests = false;
+  cur_rests = false;
+  made = None;
+}
+
+-- a Maildir of which nothing is known; no file is being written and no call was refused
+abbrev pub unknown_maildir : Maildir
+unknown_maildir = maildir_in unknown_directories None 0

@@ -1,0 +1,141 @@
+//! The folders of a Maildir in the machine's file system.
+
+ghost use Rattle.std.specs.Prelude.{◌≡◌};
+ghost use Rattle.folder_store.specs.MailFolders.{unknown_directories};
+
+use crate::device::FileFolder;
+use crate::host::{HostFolder, told};
+use crate::mail_folders::MailFolders;
+use crate::process_mark::ProcessMark;
+use folder_names::{ChangeTime, FolderNames};
+use mail_store::{Folder, StoreFault};
+use std::rt::Files;
+use std::time::{Clock, Duration};
+
+/// For how many seconds the folders are listed again while readers change them all the time.
+const MOST_SECONDS: u64 = 4;
+
+/// A folder, and its time of change when it was last listed.
+#[derive(Drop)]
+struct ListedFolder<'a, R: Files + Clock + AllocGlobal + Clone + Drop> {
+    host: HostFolder<'a, R>,
+    change: Option<ChangeTime>,
+}
+
+/// The folders `new` and `cur` of a Maildir in the machine's file system; files are made in `tmp`.
+/// Nothing is known of what the system does. Each call asks the system for one or two things, so that
+/// a reader can compare it with what the trait says.
+#[derive(Drop)]
+pub struct HostFolders<'a, R: Files + Clock + AllocGlobal + Clone + Drop> {
+    rt: &'a R,
+    new_folder: ListedFolder<'a, R>,
+    cur_folder: ListedFolder<'a, R>,
+    /// When the folders were first listed for the present answer, by the clock that never goes back.
+    start: Duration,
+}
+
+impl<'a, R: Files + Clock + AllocGlobal + Clone + Drop> ListedFolder<'a, R> {
+    fn of_maildir(rt: &'a R, path: &'a str, folder: &'a str, mark: ProcessMark) -> Self {
+        ListedFolder {
+            host: HostFolder::of_maildir(rt, path, folder, mark),
+            change: None,
+        }
+    }
+}
+
+impl<'a, R: Files + Clock + AllocGlobal + Clone + Drop> HostFolders<'a, R> {
+    /// The folders of the Maildir at a path, absolute or taken from the working folder.
+    pub fn of_maildir(rt: &'a R, path: &'a str, mark: ProcessMark) -> HostFolders<'a, R>
+        ensures { ⟦<HostFolders<'a, R> as MailFolders>⟧.directories result ≡ unknown_directories }
+    {
+        HostFolders {
+            rt,
+            new_folder: ListedFolder::of_maildir(rt, path, "new", mark),
+            cur_folder: ListedFolder::of_maildir(rt, path, "cur", mark),
+            start: Duration::ZERO,
+        }
+    }
+
+    /// Removes the files of `tmp` whose names begin with `front` that killed runs left behind: those
+    /// that weren't changed for an hour. What can't be removed stays.
+    pub fn sweep(&self, front: &str) {
+        self.new_folder.host.sweep(front);
+    }
+
+    fn folder_mut(&mut self, folder: Folder) -> &mut ListedFolder<'a, R> {
+        match folder {
+            Folder::New => &mut self.new_folder,
+            Folder::Cur => &mut self.cur_folder,
+        }
+    }
+}
+
+impl<'a, R: Files + Clock + AllocGlobal + Clone + Drop> MailFolders for HostFolders<'a, R> {
+    ghost use Rattle.folder_store.specs.MailFolders.{unknown_directories};
+
+    ghost directories = { λ _. unknown_directories };
+
+    // Of the file system nothing is known.
+    ghost sound = { λ _. ⊥ };
+
+    fn check(&mut self, folder: Folder) -> Result<(), StoreFault> {
+        match told(self.folder_mut(folder).host.look_at_folder()) {
+            Ok(found) if found.is_dir() => Ok(()),
+            Ok(_) => Err(StoreFault::Refused),
+            Err(fault) => Err(fault),
+        }
+    }
+
+    fn list(&mut self, folder: Folder) -> Result<Vec<String>, StoreFault> {
+        let listed = self.folder_mut(folder);
+        let FolderNames { names, folder } = told(listed.host.read_names())?;
+        listed.change = Some(ChangeTime::of(&folder));
+        Ok(names)
+    }
+
+    // The time of change that a listing gives had rested for a step of the clock, so that each later
+    // change gives the folder another one.
+    fn rests(&mut self, folder: Folder) -> Result<bool, StoreFault> {
+        let listed = self.folder_mut(folder);
+        let found = told(listed.host.look_at_folder())?;
+        Ok(listed.change == Some(ChangeTime::of(&found)))
+    }
+
+    fn may_list_again(&mut self, times: u32) -> bool {
+        let Ok(now) = self.rt.monotonic() else {
+            return times == 0;
+        };
+        if times == 0 {
+            self.start = now;
+        }
+        now.saturating_sub(self.start) < Duration::from_secs(MOST_SECONDS)
+    }
+
+    fn has(&mut self, name: &str) -> Result<bool, StoreFault> {
+        self.new_folder.host.has(name)
+    }
+
+    fn make(&mut self, name: &str) -> Result<(), StoreFault> {
+        self.new_folder.host.make(name)
+    }
+
+    fn write(&mut self, bytes: &[u8]) -> Result<(), StoreFault> {
+        self.new_folder.host.write(bytes)
+    }
+
+    fn flush_made(&mut self) -> Result<(), StoreFault> {
+        self.new_folder.host.flush_made()
+    }
+
+    fn put(&mut self, name: &str) -> Result<(), StoreFault> {
+        self.new_folder.host.put(name)
+    }
+
+    fn discard(&mut self) {
+        self.new_folder.host.discard()
+    }
+
+    fn flush_names(&mut self, folder: Folder) -> Result<(), StoreFault> {
+        told(self.folder_mut(folder).host.sync_names())
+    }
+}

@@ -1,0 +1,84 @@
+//! What a Maildir asks of the file system that keeps it.
+
+use mail_store::{Folder, StoreFault};
+
+/// The folders `new` and `cur` of a Maildir, any of whose calls may be refused. Mail readers may move
+/// files between the two and change their marks at any moment: what a call does, it does to what they
+/// left.
+///
+/// A file is made without a name in the two, at a place that no other call sees, and then put into
+/// `new` at one step. No call removes a file that has a name.
+pub trait MailFolders {
+    ghost use Rattle.std.specs.Prelude.{◌≡◌, IfErr};
+    ghost use Rattle.mail_store.specs.Fault.{IsDeviceFault};
+    ghost use Rattle.folder_store.specs.MailFolders.{Directories};
+    ghost use Rattle.folder_store.specs.MailCalls.{ChecksIn, FlushesDraft, FlushesNamesIn, GivesUp, ListsIn, LooksUpNew, MakesDraft};
+    ghost use Rattle.folder_store.specs.MailCalls.{PutsDraft, TellsRest, Then, WritesDraft};
+
+    // What calls see of the folders, and what is on the disk.
+    ghost directories: { Self → Directories };
+
+    // The premise: so far the file system did what this trait says, and others did nothing but move
+    // and mark files. If it holds after a call, it held before.
+    ghost sound: { Self → Type 0 };
+
+    /// Whether a folder is there: Missing if it isn't.
+    fn check(&mut self, folder: Folder) -> Result<(), StoreFault>
+        ensures checks { sound self.new → sound self.old
+            × Then (ChecksIn folder result) (directories self.old) (directories self.new) }
+        ensures fault { IfErr result IsDeviceFault };
+
+    /// The names of a folder's files at one moment, in any order. Missing if it isn't there.
+    fn list(&mut self, folder: Folder) -> Result<Vec<String>, StoreFault>
+        ensures lists { sound self.new → sound self.old
+            × Then (ListsIn folder result) (directories self.old) (directories self.new) }
+        ensures fault { IfErr result IsDeviceFault };
+
+    /// Whether a folder has rested since it was last listed: no file came, went or got another name
+    /// there. False if that isn't known.
+    fn rests(&mut self, folder: Folder) -> Result<bool, StoreFault>
+        ensures tells { sound self.new → sound self.old
+            × Then (TellsRest folder result) (directories self.old) (directories self.new) }
+        ensures fault { IfErr result IsDeviceFault };
+
+    /// Whether the folders may be listed once more for one answer, after this many times.
+    fn may_list_again(&mut self, times: u32) -> bool
+        ensures { sound self.new → sound self.old × (directories self.new ≡ directories self.old) };
+
+    /// Whether a name leads to a file of `new`.
+    fn has(&mut self, name: &str) -> Result<bool, StoreFault>
+        ensures { sound self.new → sound self.old
+            × Then (LooksUpNew name.now result) (directories self.old) (directories self.new) };
+
+    /// Makes a file, which its owner alone can read. The name tells it from others that were made.
+    /// Missing if the place for such files isn't there.
+    fn make(&mut self, name: &str) -> Result<(), StoreFault>
+        ensures makes { sound self.new → sound self.old
+            × Then (MakesDraft result) (directories self.old) (directories self.new) }
+        ensures fault { IfErr result IsDeviceFault };
+
+    /// Appends bytes to the file made.
+    fn write(&mut self, bytes: &[u8]) -> Result<(), StoreFault>
+        ensures { sound self.new → sound self.old
+            × Then (WritesDraft bytes.now result) (directories self.old) (directories self.new) };
+
+    /// Flushes the bytes of the file made. If refused, gives the file up.
+    fn flush_made(&mut self) -> Result<(), StoreFault>
+        ensures { sound self.new → sound self.old
+            × Then (FlushesDraft result) (directories self.old) (directories self.new) };
+
+    /// Puts the file made into `new`.
+    fn put(&mut self, name: &str) -> Result<(), StoreFault>
+        ensures { sound self.new → sound self.old
+            × Then (PutsDraft name.now result) (directories self.old) (directories self.new) };
+
+    /// Gives up the file made, if there is one.
+    fn discard(&mut self)
+        ensures { sound self.new → sound self.old × Then GivesUp (directories self.old) (directories self.new) };
+
+    /// Flushes the names of a folder. Missing if it isn't there.
+    fn flush_names(&mut self, folder: Folder) -> Result<(), StoreFault>
+        ensures flushes { sound self.new → sound self.old
+            × Then (FlushesNamesIn folder result) (directories self.old) (directories self.new) }
+        ensures fault { IfErr result IsDeviceFault };
+}

@@ -1,0 +1,77 @@
+//! What a Maildir does to its folders in several calls.
+
+ghost use Rattle.std.specs.Prelude.{◌≡◌, ◌++◌, IfErr, IfOk};
+ghost use Rattle.mail_store.specs.Fault.{IsDeviceFault};
+ghost use Rattle.folder_store.specs.MailCalls.{LooksAtBoth, PutsForGood, TellsBoth, TellsOne};
+
+use crate::mail_folders::MailFolders;
+use mail_store::{Folder, StoreFault};
+
+/// How many times the folders are listed for one answer.
+const MOST_LOOKS: u32 = 100;
+
+/// The names of both folders, once they are on the disk. None if `new` changed meanwhile: a reader may
+/// then have moved a file from the folder that wasn't listed yet to the one that was.
+fn look_at_both<F: MailFolders>(folders: &mut F) -> Result<Option<Vec<String>>, StoreFault>
+    ensures looks { F.sound folders.new → F.sound folders.old
+        × LooksAtBoth (F.directories folders.old) result (F.directories folders.new) }
+    ensures fault { IfErr result IsDeviceFault }
+{
+    folders.flush_names(Folder::New)?;
+    folders.flush_names(Folder::Cur)?;
+    let mut names = folders.list(Folder::New)?;
+    let mut in_cur = folders.list(Folder::Cur)?;
+    if !folders.rests(Folder::New)? {
+        return Ok(None);
+    }
+    match names.append(&mut in_cur) {
+        Ok(()) => Ok(Some(names)),
+        Err(_) => Err(StoreFault::Refused),
+    }
+}
+
+/// The names of the files of `new` and `cur` at one moment, once they are on the disk. Refused if
+/// readers change `new` all the time.
+pub fn told_names<F: MailFolders>(folders: &mut F) -> Result<Vec<String>, StoreFault>
+    ensures tells { F.sound folders.new → F.sound folders.old
+        × TellsBoth (F.directories folders.old) result (F.directories folders.new) }
+    ensures fault { IfErr result IsDeviceFault }
+{
+    for times in 0..MOST_LOOKS {
+        if !folders.may_list_again(times) {
+            break;
+        }
+        if let Some(names) = look_at_both(folders)? {
+            return Ok(names);
+        }
+    }
+    Err(StoreFault::Refused)
+}
+
+/// The names of a folder's files, once they are on the disk.
+pub fn told_names_of<F: MailFolders>(
+    folders: &mut F,
+    folder: Folder,
+) -> Result<Vec<String>, StoreFault>
+    ensures tells { F.sound folders.new → F.sound folders.old
+        × TellsOne (F.directories folders.old) folder result (F.directories folders.new) }
+    ensures fault { IfErr result IsDeviceFault }
+{
+    let names = folders.list(folder)?;
+    folders.flush_names(folder)?;
+    Ok(names)
+}
+
+/// Flushes the file made, puts it into `new` under a name, and flushes the names of `new`. Refused if
+/// a file of `new` has the name.
+pub fn put_for_good<F: MailFolders>(folders: &mut F, name: &str) -> Result<(), StoreFault>
+    ensures { F.sound folders.new → F.sound folders.old
+        × PutsForGood (F.directories folders.old) name.now result (F.directories folders.new) }
+{
+    folders.flush_made()?;
+    if folders.has(name)? {
+        return Err(StoreFault::Refused);
+    }
+    folders.put(name)?;
+    folders.flush_names(Folder::New)
+}

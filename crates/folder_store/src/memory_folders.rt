@@ -1,0 +1,496 @@
+//! The folders of a Maildir in memory.
+
+ghost use Rattle.std.specs.Prelude.{◌≡◌, ◌↔◌, ◌++◌, [], ◌∷◌, Contains, IfOk, IsTrue, OnOk, false, if◌then◌else◌, true, map, option_map, string_bytes};
+ghost use Rattle.mail_terms.specs.MaildirName.{base};
+ghost use Rattle.folder_store.specs.MailCalls.{named_by};
+ghost use Rattle.folder_store.specs.MailFolders.{entries_in, is_in, name_at};
+ghost use Rattle.folder_store.specs.MailPower.{AreLeftAs};
+ghost use Rattle.folder_store.specs.MemoryFolders.{list_of, mail_file};
+
+use crate::mail_folders::MailFolders;
+use mail_store::{Folder, StoreFault, marks_keep_the_base};
+use mail_terms::base;
+use std::alloc::{AllocError, Global};
+use std::marker::Model;
+
+/// A file of one of the folders, and what of it is on the disk.
+#[derive(Drop)]
+struct KeptMail {
+    is_new: bool,
+    name: String,
+    content: Vec<u8>,
+    is_flushed: bool,
+    is_named: bool,
+    left_new: bool,
+    left_cur: bool,
+}
+
+/// What a reader does before a call, to the file that came at a place.
+#[derive(Clone, Copy)]
+pub enum ReaderStep {
+    /// Nothing.
+    Rest,
+    /// Moves it to `new`, without marks.
+    ToNew(usize),
+    /// Moves it to `cur`, and marks it as seen.
+    ToCur(usize),
+}
+
+/// What a loss of power leaves of a file.
+#[derive(Clone, Copy)]
+pub enum MailLeft {
+    /// It is where calls see it.
+    Here,
+    /// It is in the other folder, if it left that one since the names there were last flushed.
+    Elsewhere,
+    /// It is gone, if no name of it is on the disk.
+    Gone,
+    /// Its first octets, as many as this number, unless it was flushed.
+    Front(usize),
+}
+
+/// The folders of a Maildir in memory, and a reader that moves files before each call. A call is
+/// refused only if memory runs out, or if no file was made.
+#[derive(Drop)]
+pub struct MemoryFolders {
+    alloc: Global,
+    files: Vec<KeptMail>,
+    new_rests: bool,
+    cur_rests: bool,
+    made: Option<(Vec<u8>, bool)>,
+    steps: Vec<ReaderStep>,
+    next: usize,
+}
+
+impl Model for MemoryFolders {
+    ghost use Rattle.std.specs.Prelude.{map, option_map};
+    ghost use Rattle.mail_store.specs.Maildir.{all_there};
+    ghost use Rattle.folder_store.specs.MailFolders.{Directories};
+    ghost use Rattle.folder_store.specs.MemoryFolders.{draft_of, mail_file};
+
+    ghost Value = { Directories };
+
+    ghost view = { λ m. record {
+      there = all_there;
+      entries = map mail_file m.files.items;
+      new_rests = m.new_rests;
+      cur_rests = m.cur_rests;
+      made = option_map draft_of m.made;
+    } };
+}
+
+/// Appends the name of a file, if it is in the folder.
+fn add_name(names: &mut Vec<String>, file: &KeptMail, folder: Folder) -> Result<(), AllocError>
+    ensures { OnOk result (map string_bytes names.new.items ≡ map string_bytes names.old.items
+        ++ (if is_in folder (mail_file file.now) then string_bytes file.now.name ∷ [] else [])) }
+{
+    if file.is_in(folder) {
+        names.push(file.name.clone()?)?;
+    }
+    Ok(())
+}
+
+/// The names of the files of a folder.
+fn names_in(alloc: Global, files: &[KeptMail], folder: Folder) -> Result<Vec<String>, AllocError>
+    ensures { IfOk result (λ names. map string_bytes names.items ≡ map name_at (entries_in folder (map mail_file files.now))) }
+{
+    let mut names = Vec::new(alloc);
+    for file in files {
+        add_name(&mut names, file, folder)?;
+    }
+    Ok(names)
+}
+
+/// Whether one of some names is this one.
+fn is_among(names: &[String], name: &str) -> bool
+    ensures { IsTrue result ↔ Contains (map string_bytes names.now) name.now }
+{
+    for other in names {
+        if other.as_str() == name {
+            return true;
+        }
+    }
+    false
+}
+
+/// The files with what a flush of the names of a folder makes last.
+fn named_files(
+    alloc: Global,
+    files: &[KeptMail],
+    folder: Folder,
+) -> Result<Vec<KeptMail>, AllocError>
+    ensures { IfOk result (λ named. map mail_file named.items ≡ map (named_by folder) (map mail_file files.now)) }
+{
+    let mut named = Vec::new(alloc);
+    for file in files {
+        named.push(file.named_by(folder)?)?;
+    }
+    Ok(named)
+}
+
+/// What is left of some files, one by one.
+fn files_left(
+    alloc: Global,
+    files: &[KeptMail],
+    choices: &[MailLeft],
+) -> Result<Vec<KeptMail>, AllocError>
+    ensures { IfOk result (λ left. AreLeftAs (map mail_file files.now) (map mail_file left.items)) }
+{
+    let mut left = Vec::new(alloc);
+    for (i, file) in files.iter().enumerate() {
+        let choice = choices.get(i).copied().unwrap_or(MailLeft::Here);
+        let rest = file.left(choice)?;
+        keep_left(&mut left, rest)?;
+    }
+    Ok(left)
+}
+
+/// Appends what is left of a file, if anything is.
+fn keep_left(left: &mut Vec<KeptMail>, file: Option<KeptMail>) -> Result<(), AllocError>
+    ensures { OnOk result (map mail_file left.new.items ≡ map mail_file left.old.items ++ list_of (option_map mail_file file)) }
+{
+    match file {
+        Some(file) => {
+            left.push(file)?;
+            Ok(())
+        }
+        None => Ok(()),
+    }
+}
+
+/// Whether a folder still rests once a file was moved: it did, and the file wasn't and isn't there.
+fn still_rests(rests: bool, was_there: bool, is_there: bool) -> bool
+    ensures { IsTrue result → (rests ≡ true) × (was_there ≡ false) × (is_there ≡ false) }
+{
+    rests && !was_there && !is_there
+}
+
+/// The base of a name, with the mark of a file that was seen after it, unless it is for `new`.
+fn name_for(alloc: Global, name: &str, is_new: bool) -> Result<String, AllocError>
+    ensures { IfOk result (λ text. base (string_bytes text) ≡ base name.now) }
+{
+    marks_keep_the_base();
+    let mut text = String::from_str(alloc, base(name))?;
+    if is_new {
+        return Ok(text);
+    }
+    text.push_str(":2,S")?;
+    Ok(text)
+}
+
+impl KeptMail {
+    ghost use Rattle.std.specs.Prelude.{◌≡◌, ◌||◌, IfOk, if◌then◌else◌, option_map};
+    ghost use Rattle.folder_store.specs.MailCalls.{named_by};
+    ghost use Rattle.folder_store.specs.MailFolders.{MovesFile, is_in, touches};
+    ghost use Rattle.folder_store.specs.MemoryFolders.{MayBeLeftAs, left_with, mail_file};
+
+    fn is_in(&self, folder: Folder) -> bool
+        ensures { result ≡ is_in folder (mail_file self.now) }
+    {
+        match folder {
+            Folder::New => self.is_new,
+            Folder::Cur => !self.is_new,
+        }
+    }
+
+    // Whether it is in the folder, or left it since the names there were last flushed.
+    fn touches(&self, folder: Folder) -> bool
+        ensures { result ≡ touches folder (mail_file self.now) }
+    {
+        match folder {
+            Folder::New => self.is_new || self.left_new,
+            Folder::Cur => !self.is_new || self.left_cur,
+        }
+    }
+
+    // Whether a flush of the names of the folder leaves a name of it on the disk.
+    fn is_named_by(&self, folder: Folder) -> bool
+        ensures { result ≡ (self.now.is_named || touches folder (mail_file self.now)) }
+    {
+        self.is_named || self.touches(folder)
+    }
+
+    // The file once the names of a folder were flushed.
+    fn named_by(&self, folder: Folder) -> Result<KeptMail, AllocError>
+        ensures { IfOk result (λ kept. mail_file kept ≡ named_by folder (mail_file self.now)) }
+    {
+        let name = self.name.clone()?;
+        let content = self.content.clone()?;
+        let is_named = self.is_named_by(folder);
+        let (left_new, left_cur) = match folder {
+            Folder::New => (false, self.left_cur),
+            Folder::Cur => (self.left_new, false),
+        };
+        Ok(KeptMail {
+            is_new: self.is_new,
+            name,
+            content,
+            is_flushed: self.is_flushed,
+            is_named,
+            left_new,
+            left_cur,
+        })
+    }
+
+    // The file once a reader moved it to `new`, or to `cur` with a mark.
+    fn moved(&self, alloc: Global, is_new: bool) -> Result<KeptMail, AllocError>
+        ensures moves { IfOk result (λ kept. MovesFile (mail_file self.now) (mail_file kept)) }
+        ensures place { IfOk result (λ kept. kept.is_new ≡ is_new) }
+    {
+        let name = name_for(alloc, self.name.as_str(), is_new)?;
+        let content = self.content.clone()?;
+        Ok(KeptMail {
+            is_new,
+            name,
+            content,
+            is_flushed: self.is_flushed,
+            is_named: self.is_named,
+            left_new: self.touches(Folder::New),
+            left_cur: self.touches(Folder::Cur),
+        })
+    }
+
+    // The file after a loss of power, all of it on the disk.
+    fn kept(&self, is_new: bool, content: Vec<u8>) -> Result<KeptMail, AllocError>
+        ensures { IfOk result (λ kept. mail_file kept ≡ left_with is_new content.items (mail_file self.now)) }
+    {
+        Ok(KeptMail {
+            is_new,
+            name: self.name.clone()?,
+            content,
+            is_flushed: true,
+            is_named: true,
+            left_new: false,
+            left_cur: false,
+        })
+    }
+
+    // Whether it may be in the other folder: it left that one since the names there were last flushed.
+    fn may_be_elsewhere(&self) -> bool
+        ensures { result ≡ (if self.now.is_new then self.now.left_cur else self.now.left_new) }
+    {
+        if self.is_new {
+            self.left_cur
+        } else {
+            self.left_new
+        }
+    }
+
+    fn front(&self, len: usize) -> Result<Vec<u8>, AllocError> {
+        let mut bytes = self.content.clone()?;
+        bytes.truncate(len);
+        Ok(bytes)
+    }
+
+    // What is left of the file, as the choice says.
+    fn left(&self, choice: MailLeft) -> Result<Option<KeptMail>, AllocError>
+        ensures { IfOk result (λ left. MayBeLeftAs (mail_file self.now) (option_map mail_file left)) }
+    {
+        match choice {
+            MailLeft::Gone if !self.is_named => Ok(None),
+            MailLeft::Elsewhere if self.may_be_elsewhere() => {
+                Ok(Some(self.kept(!self.is_new, self.content.clone()?)?))
+            }
+            MailLeft::Front(len) if !self.is_flushed => {
+                Ok(Some(self.kept(self.is_new, self.front(len)?)?))
+            }
+            _ => Ok(Some(self.kept(self.is_new, self.content.clone()?)?)),
+        }
+    }
+}
+
+impl MemoryFolders {
+    ghost use Rattle.std.specs.Prelude.{◌≡◌, ◌≤◌, [], HoldsAt, IfNone, IfSome, None, OnErr, OnOk, false, length};
+    ghost use Rattle.mail_store.specs.Maildir.{all_there};
+    ghost use Rattle.folder_store.specs.MailFolders.{Moved};
+    ghost use Rattle.folder_store.specs.MailPower.{LosesMail};
+
+    /// Folders without files, and what a reader does before each of the calls that follow.
+    pub fn new(alloc: Global, steps: Vec<ReaderStep>) -> MemoryFolders
+        ensures { result ≡ record { there = all_there; entries = []; new_rests = false; cur_rests = false; made = None } }
+    {
+        MemoryFolders {
+            alloc,
+            files: Vec::new(alloc),
+            new_rests: false,
+            cur_rests: false,
+            made: None,
+            steps,
+            next: 0,
+        }
+    }
+
+    /// The bytes of the file that came at this place among those that are there.
+    pub fn content_at(&self, place: usize) -> Option<&[u8]>
+        ensures some { IfSome result (λ bytes. HoldsAt (λ s. s.content ≡ bytes.now) self.now.entries place) }
+        ensures none { IfNone result (length self.now.entries ≤ place) }
+    {
+        match self.files.get(place) {
+            Some(file) => Some(file.content.as_slice()),
+            None => None,
+        }
+    }
+
+    /// Loses the power: what is left of each file is what its choice says, or what calls see if it
+    /// has none. The choices are in the order in which the files came. The file that was made is
+    /// gone. Refused if memory runs out: then nothing is lost.
+    pub fn lose_power(&mut self, choices: &[MailLeft]) -> Result<(), StoreFault>
+        ensures ok { OnOk result (LosesMail self.old self.new) }
+        ensures err { OnErr result (self.new ≡ self.old) }
+    {
+        match files_left(self.alloc, &self.files, choices) {
+            Ok(files) => {
+                self.files = files;
+                self.made = None;
+                Ok(())
+            }
+            Err(_) => Err(StoreFault::Refused),
+        }
+    }
+
+    // What the reader does before a call.
+    fn let_reader_move(&mut self)
+        ensures { Moved self.old self.new }
+    {
+        let step = self
+            .steps
+            .get(self.next)
+            .copied()
+            .unwrap_or(ReaderStep::Rest);
+        self.next = self.next.saturating_add(1);
+        match step {
+            ReaderStep::Rest => {}
+            ReaderStep::ToNew(place) => self.move_file(place, true),
+            ReaderStep::ToCur(place) => self.move_file(place, false),
+        }
+    }
+
+    // Moves a file to `new` or to `cur`. If there is none at the place, or memory runs out, nothing is
+    // moved.
+    fn move_file(&mut self, place: usize, is_new: bool)
+        ensures { Moved self.old self.new }
+    {
+        if place >= self.files.len() {
+            return;
+        }
+        let file = &self.files[place];
+        let was_new = file.is_new;
+        let Ok(moved) = file.moved(self.alloc, is_new) else {
+            return;
+        };
+        self.new_rests = still_rests(self.new_rests, was_new, is_new);
+        self.cur_rests = still_rests(self.cur_rests, !was_new, !is_new);
+        self.files[place] = moved;
+    }
+}
+
+impl MailFolders for MemoryFolders {
+    ghost directories = { λ m. m };
+
+    ghost sound = { λ _. Unit {0} };
+
+    fn check(&mut self, _folder: Folder) -> Result<(), StoreFault> {
+        self.let_reader_move();
+        let _ = self.files.len();
+        Ok(())
+    }
+
+    fn list(&mut self, folder: Folder) -> Result<Vec<String>, StoreFault> {
+        self.let_reader_move();
+        let Ok(names) = names_in(self.alloc, &self.files, folder) else {
+            return Err(StoreFault::Refused);
+        };
+        match folder {
+            Folder::New => self.new_rests = true,
+            Folder::Cur => self.cur_rests = true,
+        }
+        Ok(names)
+    }
+
+    fn rests(&mut self, folder: Folder) -> Result<bool, StoreFault> {
+        self.let_reader_move();
+        match folder {
+            Folder::New => Ok(self.new_rests),
+            Folder::Cur => Ok(self.cur_rests),
+        }
+    }
+
+    fn may_list_again(&mut self, _times: u32) -> bool {
+        true
+    }
+
+    fn has(&mut self, name: &str) -> Result<bool, StoreFault> {
+        self.let_reader_move();
+        match names_in(self.alloc, &self.files, Folder::New) {
+            Ok(names) => Ok(is_among(&names, name)),
+            Err(_) => Err(StoreFault::Refused),
+        }
+    }
+
+    fn make(&mut self, _name: &str) -> Result<(), StoreFault> {
+        self.let_reader_move();
+        self.made = Some((Vec::new(self.alloc), false));
+        Ok(())
+    }
+
+    fn write(&mut self, bytes: &[u8]) -> Result<(), StoreFault> {
+        self.let_reader_move();
+        let Some((mut content, _)) = self.made.take() else {
+            return Err(StoreFault::Refused);
+        };
+        if content.extend_from_slice(bytes).is_err() {
+            return Err(StoreFault::Refused);
+        }
+        self.made = Some((content, false));
+        Ok(())
+    }
+
+    fn flush_made(&mut self) -> Result<(), StoreFault> {
+        self.let_reader_move();
+        let Some((content, _)) = self.made.take() else {
+            return Err(StoreFault::Refused);
+        };
+        self.made = Some((content, true));
+        Ok(())
+    }
+
+    fn put(&mut self, name: &str) -> Result<(), StoreFault> {
+        self.let_reader_move();
+        let Some((content, is_flushed)) = self.made.take() else {
+            return Err(StoreFault::Refused);
+        };
+        let Ok(name) = String::from_str(self.alloc, name) else {
+            return Err(StoreFault::Refused);
+        };
+        let file = KeptMail {
+            is_new: true,
+            name,
+            content,
+            is_flushed,
+            is_named: false,
+            left_new: false,
+            left_cur: false,
+        };
+        if self.files.push(file).is_err() {
+            return Err(StoreFault::Refused);
+        }
+        self.new_rests = false;
+        Ok(())
+    }
+
+    fn discard(&mut self) {
+        self.let_reader_move();
+        self.made = None;
+    }
+
+    fn flush_names(&mut self, folder: Folder) -> Result<(), StoreFault> {
+        self.let_reader_move();
+        match named_files(self.alloc, &self.files, folder) {
+            Ok(files) => {
+                self.files = files;
+                Ok(())
+            }
+            Err(_) => Err(StoreFault::Refused),
+        }
+    }
+}

@@ -1,0 +1,25 @@
+use Rattle.std.proofs.Common.{◌∙◌, List, [], Bool, true, false, map, None, length, String, Vec, Global, ℕ, ap, sym}
+use Rattle.mail_store.specs.Maildir.{all_there, file_of}
+use Rattle.mail_store.specs.MemoryMaildir.{Kept, count, merged, shown}
+use Rattle.mail_store.proofs.maildir.memory.MemoryMaildir.new.Goals as goal
+
+pub invariant_of-result : goal.invariant_of-result
+invariant_of-result c = (
+  ap (count true) c.new-3.ensures.items ∙ sym (ap length c.new.ensures.items),
+  ap (count false) c.new-3.ensures.items ∙ sym (ap length c.new-2.ensures.items),
+)
+
+-- what is known of a device with these fields
+kept_of : List Bool → List (String Global × Vec ℕ Global) → List (String Global × Vec ℕ Global) → ℕ → Kept
+kept_of flags new cur failures = record {
+  maildir = record { there = all_there; files = map shown (merged flags (map file_of new) (map file_of cur)); begun = None; failures = failures };
+  in_new = map file_of new;
+  in_cur = map file_of cur;
+}
+
+pub returns-clause-maildir : goal.returns-clause-maildir
+unfolding kept_of
+returns-clause-maildir c =
+    ap (λ flags. kept_of flags c.new.result.items c.new-2.result.items c.new-4.result) c.new-3.ensures.items
+    ∙ ap (λ new. kept_of [] new c.new-2.result.items c.new-4.result) c.new.ensures.items
+    ∙ ap (λ cur. kept_of [] [] cur c.new-4.result) c.new-2.ensures.items ∙ ap (kept_of [] [] []) c.new-4.ensures
