@@ -27,4 +27,6 @@ pub use seen::{
     Intent, Seen, SeenFault, appended_counts, bytes_have_one_meaning, bytes_stand, cut_is_ignored,
     files_stand_for_one_record, older_files_are_read, open_intents_have_rows,
 };
-pub use steps::{SECONDS_PER_DAY, Step, ask_nothing, distinct_messages_are_filtered, plan, plan_of_known};
+pub use steps::{
+    SECONDS_PER_DAY, Step, ask_nothing, distinct_messages_are_filtered, plan, plan_of_known,
+};

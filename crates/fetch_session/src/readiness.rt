@@ -21,7 +21,9 @@ use fetch_rules::{
     Listing, Seen, SeenFault, Step, ask_nothing, delivered_has_row, known_listings_change_nothing,
     listed_has_row, plan, plan_of_known,
 };
-use mail_store::{AccountId, FlatFile, Folder, MaildirDisk, StoreFault, check_mbox, held, settle_file};
+use mail_store::{
+    AccountId, FlatFile, Folder, MaildirDisk, StoreFault, check_mbox, held, settle_file,
+};
 use pop3_client::{Fault, Why};
 use std::alloc::{AllocError, Global};
 use std::hash::BuildHasher;

@@ -260,12 +260,12 @@ module _ {Z Y : Type 0} where
       let g : File = file moved found.1.items in
       let g_is : file_of made ≡ g = ap (λ (n : List ℕ). file n made.1.items) titled ∙ ap (λ (bytes : List ℕ). file moved bytes) same in
       let went = moved_to_cur flags (map file_of new) (map file_of cur) place g (file name found.1.items)
-          (fit.0 ∙ sym (length-map new file_of), fit.1 ∙ sym (length-map cur file_of)) below is_new
-          (ap (λ (n : List ℕ). file n found.1.items) alike ∙ ap shown (sym (file_at new i found name inside at titled_at (file name found.1.items)))
-          ∙ ap (λ (k : ℕ). shown (get_or (map file_of new) k (file name found.1.items))) (sym counted)) in
+      (fit.0 ∙ sym (length-map new file_of), fit.1 ∙ sym (length-map cur file_of)) below is_new
+      (ap (λ (n : List ℕ). file n found.1.items) alike ∙ ap shown (sym (file_at new i found name inside at titled_at (file name found.1.items)))
+      ∙ ap (λ (k : ℕ). shown (get_or (map file_of new) k (file name found.1.items))) (sym counted)) in
       let new_is : map file_of new' ≡ remove (map file_of new) i = ap (map file_of) removed ∙ map_remove file_of new i in
       let cur_is : map file_of cur' ≡ insert (map file_of cur) (place - i) g =
-          ap (map file_of) inserted ∙ map_insert file_of cur (place - i) made ∙ ap (λ (f : File). insert (map file_of cur) (place - i) f) g_is in
+      ap (map file_of) inserted ∙ map_insert file_of cur (place - i) made ∙ ap (λ (f : File). insert (map file_of cur) (place - i) f) g_is in
       let flags_are = (counts_set flags place below).0 is_new in
       let left = ap length removed in
       let shorter = length-remove new i inside in
@@ -278,8 +278,16 @@ module _ {Z Y : Type 0} where
             (cur_is ∙ ap (λ (k : ℕ). insert (map file_of cur) k g) others)
             ∙ ap (λ (bs : List Bool). map shown (merged bs (remove (map file_of new) (count true (take place flags))) (insert (map file_of cur) (count false (take place flags)) g))) flagged
             ∙ went,
-        record { at = i; place = place - i; content = found.1.items; inside = omega (arith, inside, length-map new file_of);
-                 was = λ d. file_at new i found name inside at titled_at d; left = new_is; came = cur_is; free = free },
+        record {
+          at = i;
+          place = place - i;
+          content = found.1.items;
+          inside = omega (arith, inside, length-map new file_of);
+          was = λ d. file_at new i found name inside at titled_at d;
+          left = new_is;
+          came = cur_is;
+          free = free;
+        },
         (omega (arith, trues, flags_are.0, left, shorter, fit.0), omega (arith, falses, flags_are.1, came, longer, fit.1)),
       )
 
@@ -299,12 +307,12 @@ module _ {Z Y : Type 0} where
       let g : File = file moved found.1.items in
       let g_is : file_of made ≡ g = ap (λ (n : List ℕ). file n made.1.items) titled ∙ ap (λ (bytes : List ℕ). file moved bytes) same in
       let went = moved_to_new flags (map file_of new) (map file_of cur) place g (file name found.1.items)
-          (fit.0 ∙ sym (length-map new file_of), fit.1 ∙ sym (length-map cur file_of)) below is_new
-          (ap (λ (n : List ℕ). file n found.1.items) alike ∙ ap shown (sym (file_at cur i found name inside at titled_at (file name found.1.items)))
-          ∙ ap (λ (k : ℕ). shown (get_or (map file_of cur) k (file name found.1.items))) (sym counted)) in
+      (fit.0 ∙ sym (length-map new file_of), fit.1 ∙ sym (length-map cur file_of)) below is_new
+      (ap (λ (n : List ℕ). file n found.1.items) alike ∙ ap shown (sym (file_at cur i found name inside at titled_at (file name found.1.items)))
+      ∙ ap (λ (k : ℕ). shown (get_or (map file_of cur) k (file name found.1.items))) (sym counted)) in
       let cur_is : map file_of cur' ≡ remove (map file_of cur) i = ap (map file_of) removed ∙ map_remove file_of cur i in
       let new_is : map file_of new' ≡ insert (map file_of new) (place - i) g =
-          ap (map file_of) inserted ∙ map_insert file_of new (place - i) made ∙ ap (λ (f : File). insert (map file_of new) (place - i) f) g_is in
+      ap (map file_of) inserted ∙ map_insert file_of new (place - i) made ∙ ap (λ (f : File). insert (map file_of new) (place - i) f) g_is in
       let flags_are = (counts_set flags place below).1 is_new in
       let left = ap length removed in
       let shorter = length-remove cur i inside in
@@ -317,8 +325,16 @@ module _ {Z Y : Type 0} where
             (new_is ∙ ap (λ (k : ℕ). insert (map file_of new) k g) others)
             ∙ ap (λ (bs : List Bool). map shown (merged bs (insert (map file_of new) (count true (take place flags)) g) (remove (map file_of cur) (count false (take place flags))))) flagged
             ∙ went,
-        record { at = i; place = place - i; content = found.1.items; inside = omega (arith, inside, length-map cur file_of);
-                 was = λ d. file_at cur i found name inside at titled_at d; left = cur_is; came = new_is; free = free },
+        record {
+          at = i;
+          place = place - i;
+          content = found.1.items;
+          inside = omega (arith, inside, length-map cur file_of);
+          was = λ d. file_at cur i found name inside at titled_at d;
+          left = cur_is;
+          came = new_is;
+          free = free;
+        },
         (omega (arith, trues, flags_are.1, came, longer, fit.0), omega (arith, falses, flags_are.0, left, shorter, fit.1)),
       )
 
@@ -333,7 +349,7 @@ module _ {Z Y : Type 0} where
       let g : File = file marked found.1.items in
       let g_is : file_of made ≡ g = ap (λ (n : List ℕ). file n made.1.items) titled ∙ ap (λ (bytes : List ℕ). file marked bytes) same in
       let cur_is : map file_of cur' ≡ set (map file_of cur) i g =
-          ap (map file_of) changed ∙ map_set file_of cur i made ∙ ap (λ (f : File). set (map file_of cur) i f) g_is in
+      ap (map file_of) changed ∙ map_set file_of cur i made ∙ ap (λ (f : File). set (map file_of cur) i f) g_is in
       let was = file_at cur i found name inside at titled_at in (
         ap (λ (fs : List File). map shown (merged flags (map file_of new) fs)) cur_is
             ∙ marked_again flags (map file_of new) (map file_of cur) i g (file name found.1.items) (omega (arith, inside, length-map cur file_of))
@@ -374,7 +390,7 @@ theirs_of kept folder names both told = λ k d inside.
     let count_told = ap length told in
     let below : k < length files = omega (arith, inside, count_told, length-map names string_bytes, length-map files name_in) in
     let titled : f.name ≡ name =
-        sym (get_or-map name_in files k (file [] []) name below) ∙ ap (λ (ns : List (List ℕ)). get_or ns k name) (sym told) ∙ get_or-map string_bytes names k d name inside in
+    sym (get_or-map name_in files k (file [] []) name below) ∙ ap (λ (ns : List (List ℕ)). get_or ns k name) (sym told) ∙ get_or-map string_bytes names k d name inside in
     let there : Contains files f = (k, below, get_or_default files k f (file [] []) below) in
     subst (λ (n : List ℕ). Contains (names_of kept.maildir.files) (base n)) titled
     (Contains-map name_in kept.maildir.files (shown f)
@@ -406,9 +422,12 @@ names_tell_both files in_new in_cur names both told =
 pub shown_iff : {Z Y : Type 0} (files : List File) (new cur : List (String Z × Vec ℕ Y)) (front : List ℕ)
     → IsPermutation files (map shown (map file_of new ++ map file_of cur))
     → (Contains (names_of (map shown (map file_of new))) front ⊎ Contains (names_of (map shown (map file_of cur))) front) ↔ Contains (names_of files) front
-shown_iff files new cur front both = (λ either. back (one either), λ there. Contains-append_cases _ _ front (subst (λ (ns : List (List ℕ)). Contains ns front) parts
-    (Contains-permutation (names_of files) (names_of (map shown (map file_of new ++ map file_of cur))) front
-    (IsPermutation-map name_in files (map shown (map file_of new ++ map file_of cur)) both) there)))
+shown_iff files new cur front both = (
+  λ either. back (one either),
+  λ there. Contains-append_cases _ _ front (subst (λ (ns : List (List ℕ)). Contains ns front) parts
+      (Contains-permutation (names_of files) (names_of (map shown (map file_of new ++ map file_of cur))) front
+      (IsPermutation-map name_in files (map shown (map file_of new ++ map file_of cur)) both) there)),
+)
   where
     parts : names_of (map shown (map file_of new ++ map file_of cur)) ≡ names_of (map shown (map file_of new)) ++ names_of (map shown (map file_of cur))
     parts = ap names_of (map-append shown (map file_of new) (map file_of cur)) ∙ map-append name_in (map shown (map file_of new)) (map shown (map file_of cur))

@@ -29,13 +29,13 @@ marks_of : (c : goal.After-drop-index_mut)
 marks_of c =
     let made : Pair = (c.push_str.new.self, c.index_mut.result.now.1) in
     let titled : string_bytes made.0 ≡ base c.args.name.now ++ c.args.suffix.now =
-        c.in_ok-push_str.ensures.bytes ∙ ap (λ (xs : List ℕ). xs ++ c.args.suffix.now) (c.in_ok-marked.ensures.ok ∙ c.base.ensures) in
+    c.in_ok-push_str.ensures.bytes ∙ ap (λ (xs : List ℕ). xs ++ c.args.suffix.now) (c.in_ok-marked.ensures.ok ∙ c.base.ensures) in
     let found = subst (λ (pairs : List Pair). (c.in-Some.at < length pairs) × HoldsAt (λ (p : Pair). string_bytes p.0 ≡ c.args.name.now) pairs c.in-Some.at)
-        c.deref-2.ensures.value c.in-Some.ensures.some in
+    c.deref-2.ensures.value c.in-Some.ensures.some in
     let free : Contains (names_of (map file_of c.self.inside.in_cur.items)) (base c.args.name.now ++ c.args.suffix.now) → ⊥ = λ h.
-        both_ways c.has_name.result c.if-has_name.false (c.has_name.ensures.1
-        (subst (λ (n : List ℕ). Contains (names_of (map file_of c.deref.result.now)) n) (sym (c.as_str.ensures.value ∙ titled))
-        (subst (λ (pairs : List Pair). Contains (names_of (map file_of pairs)) (base c.args.name.now ++ c.args.suffix.now)) (sym c.deref.ensures.value) h))) in
+    both_ways c.has_name.result c.if-has_name.false (c.has_name.ensures.1
+    (subst (λ (n : List ℕ). Contains (names_of (map file_of c.deref.result.now)) n) (sym (c.as_str.ensures.value ∙ titled))
+    (subst (λ (pairs : List Pair). Contains (names_of (map file_of pairs)) (base c.args.name.now ++ c.args.suffix.now)) (sym c.deref.ensures.value) h))) in
     named_again c.self.inside.are_new.items c.self.inside.in_new.items c.self.inside.in_cur.items c.in-Some.at c.index_mut.result.now made c.args.name.now
     (base c.args.name.now ++ c.args.suffix.now) found.0 found.1 c.index_mut.ensures.value refl titled refl
     (base-suffixed (base c.args.name.now) c.args.suffix.now c.requires ∙ base_base c.args.name.now) free

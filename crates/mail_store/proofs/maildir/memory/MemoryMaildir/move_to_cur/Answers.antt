@@ -37,8 +37,14 @@ pub insert-requires : goal.insert-requires
 insert-requires c =
     let found = found_of c in
     let room = within false c.self.inside.are_new.items c.place_in_order-place.result in
-    omega (arith, found.0, before_place c.self.inside.are_new.items c.place_in_order-place.result found.1, room, c.self.invariant.1,
-    ap length c.in_ok-reserve.ensures.items)
+    omega (
+      arith,
+      found.0,
+      before_place c.self.inside.are_new.items c.place_in_order-place.result found.1,
+      room,
+      c.self.invariant.1,
+      ap length c.in_ok-reserve.ensures.items,
+    )
 
 -- what the call did to the folders
 moves_of : (c : goal.After-self-1)
@@ -53,16 +59,16 @@ moves_of c =
     let room = c.reserve.new.self.items in
     let titled : string_bytes made.0 ≡ (c.args.name.now ++ c.args.suffix.now) = c.in_ok-push_str.ensures.bytes ∙ ap (λ (xs : List ℕ). xs ++ c.args.suffix.now) c.in_ok-moved.ensures.ok in
     let inserted : c.insert.new.self.items ≡ insert c.self.inside.in_cur.items (place - c.in-Some.at) made =
-        c.insert.ensures.items ∙ ap (λ r. cond (is_ok r) (insert room (place - c.in-Some.at) made) room) c.unwrap.ensures
-        ∙ ap (λ (xs : List Pair). insert xs (place - c.in-Some.at) made) c.in_ok-reserve.ensures.items in
+    c.insert.ensures.items ∙ ap (λ r. cond (is_ok r) (insert room (place - c.in-Some.at) made) room) c.unwrap.ensures
+    ∙ ap (λ (xs : List Pair). insert xs (place - c.in-Some.at) made) c.in_ok-reserve.ensures.items in
     let found = subst (λ (pairs : List Pair). (c.in-Some.at < length pairs) × HoldsAt (λ (p : Pair). string_bytes p.0 ≡ c.args.name.now) pairs c.in-Some.at)
-        c.deref-2.ensures.value c.in-Some.ensures.some in
+    c.deref-2.ensures.value c.in-Some.ensures.some in
     let at = subst (λ (bs : List Bool). (place < length bs) × HoldsAt (λ (b : Bool). b ≡ true) bs place × (count true (take place bs) ≡ c.in-Some.at))
-        c.deref-3.ensures.value (c.place_in_order-place.ensures.found.0, c.place_in_order-place.ensures.found.1, c.place_in_order-place.ensures.before) in
+    c.deref-3.ensures.value (c.place_in_order-place.ensures.found.0, c.place_in_order-place.ensures.found.1, c.place_in_order-place.ensures.before) in
     let free : Contains (names_of (map file_of c.self.inside.in_cur.items)) (c.args.name.now ++ c.args.suffix.now) → ⊥ = λ h.
-        both_ways c.has_name.result c.if-has_name.false (c.has_name.ensures.1
-        (subst (λ (n : List ℕ). Contains (names_of (map file_of c.deref.result.now)) n) (sym (c.as_str.ensures.value ∙ titled))
-        (subst (λ (pairs : List Pair). Contains (names_of (map file_of pairs)) (c.args.name.now ++ c.args.suffix.now)) (sym c.deref.ensures.value) h))) in
+    both_ways c.has_name.result c.if-has_name.false (c.has_name.ensures.1
+    (subst (λ (n : List ℕ). Contains (names_of (map file_of c.deref.result.now)) n) (sym (c.as_str.ensures.value ∙ titled))
+    (subst (λ (pairs : List Pair). Contains (names_of (map file_of pairs)) (c.args.name.now ++ c.args.suffix.now)) (sym c.deref.ensures.value) h))) in
     taken_to_cur flags c.self.inside.in_new.items c.self.inside.in_cur.items place c.in-Some.at c.remove-content.result made c.args.name.now (c.args.name.now ++ c.args.suffix.now)
     c.self.invariant found.0 found.1 c.remove-content.ensures.value at.0 at.1 at.2 refl c.remove-content.ensures.items inserted titled refl
     (base-suffixed c.args.name.now c.args.suffix.now c.requires) free

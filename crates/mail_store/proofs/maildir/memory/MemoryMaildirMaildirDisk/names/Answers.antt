@@ -8,7 +8,9 @@ use Rattle.mail_store.proofs.maildir.memory.MemoryMaildirMaildirDisk.names.Goals
 pub returns-in-Ok-clause-lists : goal.returns-in-Ok-clause-lists
 returns-in-Ok-clause-lists c = λ k. (
   k,
-  (subst (λ (kept : Kept). is_there kept.maildir.there c.args.folder ≡ true) c.self.view_is (is_all_there c.args.folder),
-  theirs_of c.args.self.now c.args.folder c.in-Ok.names.items c.files.ensures.both (c.in-Ok.ensures ∙ ap names_of c.files.ensures.files),
-  refl),
+  (
+    subst (λ (kept : Kept). is_there kept.maildir.there c.args.folder ≡ true) c.self.view_is (is_all_there c.args.folder),
+    theirs_of c.args.self.now c.args.folder c.in-Ok.names.items c.files.ensures.both (c.in-Ok.ensures ∙ ap names_of c.files.ensures.files),
+    refl,
+  ),
 )
