@@ -88,7 +88,8 @@ class Session(unittest.TestCase):
         run = self.session("--trace", "-d")
         told = ["S: +OK ready", "C: USER u", "S: +OK", "C: PASS *", "S: +OK", "C: STAT", "S: +OK 2 13",
                 "C: UIDL", "S: +OK", "S: (2 lines, 10 octets)", "C: LIST", "S: +OK", "S: (2 lines, 10 octets)",
-                self.missing_record(), "C: RETR 1", "S: +OK", "S: (1 lines, 5 octets)", "C: DELE 1", "S: +OK",
+                self.missing_record(), self.missing_record(),
+                "C: RETR 1", "S: +OK", "S: (1 lines, 5 octets)", "C: DELE 1", "S: +OK",
                 "C: RETR 2", "S: +OK", "S: (2 lines, 9 octets)", "C: DELE 2", "S: +OK", "C: QUIT", "S: +OK"]
         self.assertEqual(run.status, 0)
         self.assertEqual(sorted(lines_of(run)), sorted(told))
@@ -128,7 +129,7 @@ class Session(unittest.TestCase):
         shutil.rmtree(self.account.maildir / "new")
         run = self.session("--trace")
         self.assertEqual((run.status, lines_of(run)[-1]), (1, "getmail: destination missing"))
-        self.assertIn(f"trace: stat {self.account.maildir}/new: {NO_MEMBER}", lines_of(run))
+        self.assertIn(f"trace: open {self.account.maildir}/new: {NO_MEMBER}", lines_of(run))
 
     def test_an_rc_file_that_is_not_there(self):
         os.remove(self.account.rcfile)

@@ -392,10 +392,10 @@ class Listings(unittest.TestCase):
                 os.utime(self.maildir.folder / part, ns=(stands.st_atime_ns, stands.st_mtime_ns))
                 self.assertEqual(len(self.sizes(service)), count + 1)
 
-    def test_a_file_that_comes_while_it_is_listed(self):
+    def test_a_file_that_comes_while_sizes_are_counted(self):
         """It is in the next listing, however long the folder has been at rest by then."""
         coming = self.maildir.add("tmp", "c", b"")
-        meddling = {"at": f"{self.maildir.folder / 'cur'}/", "from": coming, "to": self.maildir.folder / "new" / "c"}
+        meddling = {"at": self.path, "from": coming, "to": self.maildir.folder / "new" / "c"}
         with self.clocked(**meddling) as service:
             self.set_clock(100)
             self.assertEqual(self.sizes(service), [b"1 5", b"2 12"])
