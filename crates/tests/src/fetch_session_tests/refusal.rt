@@ -74,10 +74,10 @@ fn takes_back_marks_after_a_refused_begin(rt: HostRuntime) -> Result<(), Fail> {
 #[test]
 fn mends_a_record_whose_append_was_refused(rt: HostRuntime) -> Result<(), Fail> {
     let alloc = rt.alloc();
-    // the record is loaded and replaced, and then half of the first group is appended
+    // the record is read, flushed and replaced, and then half of the first group is appended
     let mut refusing = Visit::new(alloc, "", 0, &[LISTED, ONE, "+OK|+OK|"])?;
     refusing.record = Fuse {
-        passes: 2,
+        passes: 3,
         takes_effect: true,
     };
     let next = Visit::new(alloc, "", 0, &[LISTED, TWO, THREE, "+OK|"])?;

@@ -96,12 +96,12 @@ fn stores_each_message_once_whichever_call_is_refused(rt: HostRuntime) -> Result
     let rows = [
         // the greeting, and nine commands with their replies, or twelve
         (Refusing::Link, 19, 25),
-        // two calls on what is held, and three for each text
-        (Refusing::Maildir(false), 11, 11),
-        (Refusing::Maildir(true), 11, 11),
-        // a load, a replace and three appends
-        (Refusing::Record(false), 5, 5),
-        (Refusing::Record(true), 5, 5),
+        // one call on what is held, and three for each text
+        (Refusing::Maildir(false), 10, 10),
+        (Refusing::Maildir(true), 10, 10),
+        // a look, a flush, a replace and three appends
+        (Refusing::Record(false), 6, 6),
+        (Refusing::Record(true), 6, 6),
     ];
     for (refusing, calls, calls_with_deletion) in rows {
         assert_eq!(rt; cut_at_each_call(&rt, refusing, PLAIN)?, calls);
