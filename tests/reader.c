@@ -5,8 +5,8 @@
 
    Just before the third call, here, by which the program reads entries of a folder, each file of the Maildir's `new`
    is moved to `cur`, and each file of `cur` whose name ends in `:2,` gets `:2,S` there, and the other way round. With
-   READER_BACK each file of `cur` is put back into `new` instead, without flags. The file `note` is made at that moment,
-   so that the caller can tell a run with fewer calls. With READER_CALL=0 this is done before each call. */
+   READER_BACK each file of `cur` is put back into `new` instead, with its flags, as mutt does. The file `note` is made
+   at that moment, so that the caller can tell a run with fewer calls. With READER_CALL=0 this is done before each call. */
 
 #define _GNU_SOURCE
 #include <dirent.h>
@@ -59,7 +59,7 @@ static void move_all(const char *maildir, const char *part, const char *target)
     count = names_in(folder, names);
     for (place = 0; place < count; place++) {
         if (strcmp(target, "new") == 0)
-            snprintf(other, sizeof other, "%.*s", (int)strcspn(names[place], ":"), names[place]);
+            snprintf(other, sizeof other, "%s", names[place]);
         else
             flag(names[place], other);
         snprintf(from, sizeof from, "%s/%s", folder, names[place]);

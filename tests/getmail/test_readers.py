@@ -26,9 +26,9 @@ def other_name(name):
 
 def burst(maildir, part, target, order):
     """Marks each message of a folder as read, or as unread if it is read; a new one is moved to `cur`. Or puts each one
-    back into `new`."""
+    back into `new`, with its flags, as mutt does."""
     for name in order:
-        other = name.partition(":")[0] if target == "new" else other_name(name)
+        other = name if target == "new" else other_name(name)
         os.rename(f"{maildir}/{part}/{name}", f"{maildir}/{target}/{other}")
 
 
