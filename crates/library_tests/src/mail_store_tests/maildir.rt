@@ -51,7 +51,9 @@ fn a_reader_moves_a_file_to_cur_and_back(rt: HostRuntime) -> Result<(), Fail> {
     assert!(rt; disk.has_file("one") && disk.files(Folder::New).is_empty());
     assert!(rt; !disk.move_to_new("one")?);
     assert!(rt; disk.move_to_new("one:2,S")?);
-    assert_eq!(rt; disk.files(Folder::New)[0].0.as_str(), "one");
+    let files = disk.files(Folder::New);
+    assert_eq!(rt; files.len(), 1);
+    assert_eq!(rt; files[0].0.as_str(), "one");
     assert!(rt; disk.files(Folder::Cur).is_empty());
     Ok(())
 }
