@@ -124,7 +124,7 @@ fn cut_in_second_row(rt: HostRuntime) -> Result<(), Fail> {
 #[test]
 fn record_append_refused_row(rt: HostRuntime) -> Result<(), Fail> {
     let mut visit = Visit::new(rt.alloc(), "", 0, &[LISTED, ONE, "+OK|+OK|"])?;
-    visit.record.passes = 2;
+    visit.record.passes = 3;
     visit.record.takes_effect = true;
     let kept = visit_once(&rt, nothing_kept(rt.alloc()), &visit)?;
     complete(&rt, kept, "")
