@@ -16,9 +16,9 @@
 SHELL := /bin/bash
 .SHELLFLAGS := -eu -o pipefail -c
 
-.PHONY: all demo check quick test dist bench install uninstall clean getmail popd store_bench record_bench libraries
-.PHONY: test-getmail test-popd test-store_bench test-record_bench test-libraries
-.PHONY: bench-getmail bench-popd bench-client_bench bench-record_bench bench-store_bench
+.PHONY: all demo check quick test dist bench install uninstall clean getmail popd probe libraries
+.PHONY: test-getmail test-popd test-probe test-libraries
+.PHONY: bench-getmail bench-popd bench-probe
 .NOTPARALLEL:
 
 all:
@@ -42,15 +42,15 @@ quick:
 	@python3 tests/test_sample.py
 	@python3 tests/test_documents.py
 
-# The tests from outside also run the small programs of the stores' benchmark and of the record's.
-store_bench record_bench:
+# The tests from outside and the benchmarks also run a small program that makes the libraries' calls one by one.
+probe:
 	@./build.py $@
 
 libraries:
 	cd crates/tests && rt test > /dev/null
 
 test:
-	@./build.py getmail popd store_bench record_bench
+	@./build.py getmail popd probe
 	cd crates/library_tests && rt test > /dev/null
 	cd crates/tests && rt test > /dev/null
 	python3 tests/test_sample.py
@@ -58,10 +58,10 @@ test:
 	python3 tests/run.py
 
 test-getmail: popd
-test-getmail test-popd test-store_bench test-record_bench test-libraries: test-%: %
+test-getmail test-popd test-probe test-libraries: test-%: %
 	python3 tests/run.py --only $* $(WORDS)
 
-bench: bench-getmail bench-popd bench-store_bench bench-record_bench bench-client_bench
+bench: bench-getmail bench-popd bench-probe
 
 bench-getmail: getmail popd
 	@python3 bench/rehearsal.py
@@ -71,15 +71,9 @@ bench-getmail: getmail popd
 bench-popd: popd
 	@python3 bench/popd.py
 
-# The client's conversation, the rules and the stores are measured through small programs of their own.
-bench-client_bench:
-	cd crates/client_bench && rt run > /dev/null
+bench-probe: probe
 	@python3 bench/pop3_client.py
-
-bench-record_bench: record_bench
 	@python3 bench/fetch_rules.py
-
-bench-store_bench: store_bench
 	@python3 bench/mail_store.py
 	@python3 bench/mboxrd.py
 

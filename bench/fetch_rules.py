@@ -1,5 +1,5 @@
 #!/usr/bin/env python3
-"""Benchmark of `fetch_rules` by the program in `crates/record_bench`, which makes the calls of one session.
+"""Benchmark of `fetch_rules` by the program in `crates/probe`, which makes the calls of one session.
 
 `join`, `read`, `merge`, `plan` and `bytes` over 2,000, 20,000 and 100,000 messages and a record of as many rows, which
 knows half of the messages: microseconds of the processor, the least of some runs. To be reached: from 2,000 to 20,000
@@ -15,7 +15,7 @@ import subprocess
 
 import measure
 
-PROGRAM = measure.small_program("record_bench")
+PROGRAM = measure.small_program("probe")
 RUNS = 15
 FEW, SOME, MANY = 2_000, 20_000, 100_000
 MOST_GROWTH = 13

@@ -18,9 +18,9 @@ from pathlib import Path
 
 import measure
 from harness.maildir import make_maildir
-from store_bench.watched import name_of
+from probe.watched import name_of
 
-PROGRAM = measure.small_program("store_bench")
+PROGRAM = measure.small_program("probe")
 RUNS = 5
 
 

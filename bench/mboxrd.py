@@ -14,7 +14,7 @@ from pathlib import Path
 
 from measure import MEBIBYTE, cost_of, print_head, print_row, small_program
 
-PROGRAM = small_program("store_bench")
+PROGRAM = small_program("probe")
 SEPARATOR = b"From MAILER-DAEMON Thu Jan  1 00:00:00 1970\n"
 SIZE = 64 * MEBIBYTE
 RUNS = 5

@@ -1,5 +1,5 @@
 #!/usr/bin/env python3
-"""Benchmark of `pop3_client` by the program in `crates/client_bench`, which holds a conversation with its standard input.
+"""Benchmark of `pop3_client` by the program in `crates/probe`, which holds a conversation with its standard input.
 
 A text of 64 MiB taken piece by piece, in three shapes, beside `tr -d '\\r'` over the same bytes: octets a second of both
 and their ratio, the best of some turns taken one after the other, the ratio of their processor times, and the peak of
@@ -13,7 +13,7 @@ from pathlib import Path
 import measure
 import rehearsal
 
-PROGRAM = measure.small_program("client_bench")
+PROGRAM = measure.small_program("probe")
 TURNS = 5
 LEAST_RATIO = 0.5
 MOST_MEMORY = 32 * measure.MEBIBYTE
@@ -32,7 +32,7 @@ def measure_text(name, piece, folder):
     """Measures one text, prints its row, and answers whether it reached its marks."""
     conversation = Path(folder) / "conversation"
     length = rehearsal.write_conversation(conversation, piece)
-    ours, theirs = best_of([PROGRAM], conversation), best_of(["tr", "-d", "\\r"], conversation)
+    ours, theirs = best_of([PROGRAM, "client"], conversation), best_of(["tr", "-d", "\\r"], conversation)
     ratio = theirs.seconds / ours.seconds
     measure.print_row(name, f"{length / ours.seconds / 1e6:,.0f} MB/s", f"{length / theirs.seconds / 1e6:,.0f} MB/s",
                       f"{ratio:.2f}", f"{theirs.processor / ours.processor:.2f}",
@@ -52,7 +52,7 @@ def measure_listing(rows, folder):
         server.write(b".\r\n")
         server.writelines(b"+OK\r\n.\r\n" for _ in numbers)
         server.write(b"+OK bye\r\n")
-    cost = best_of([PROGRAM], conversation)
+    cost = best_of([PROGRAM, "client"], conversation)
     print(f"  {rows} rows: {cost.seconds * 1000:.0f} ms, of processor time {cost.processor * 1000:.0f} ms", flush=True)
     return cost.processor
 

@@ -2,7 +2,7 @@
 
 from getmail.account import Account
 from harness.mboxrd import entries, entry
-from record_bench import grammar
+from probe import grammar
 
 MAILDIR_LINES = "type = Maildir\npath = ~/Maildir/\n"
 MBOXRD_LINES = "type = Mboxrd\npath = ~/mbox\n"

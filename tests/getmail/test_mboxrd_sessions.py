@@ -8,7 +8,7 @@ from getmail.model import Kept
 from getmail.test_sessions import Life, check_seed, libraries
 from harness import preload
 from harness.mboxrd import SEPARATOR, entries, entry
-from record_bench import grammar
+from probe import grammar
 
 SEEDS = 150
 # A session's steps between the listings and the end, with a few messages.

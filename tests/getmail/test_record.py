@@ -8,7 +8,7 @@ from getmail.account import Account
 from getmail.server import Server
 from harness import programs
 from harness.kernel import LOOPBACK
-from record_bench import files, grammar
+from probe import grammar, record_files
 
 THREE = [(b"a", b"one\n"), (b"b", b"two\n"), (b"c", b"three\n")]
 LOGIN = ["USER u", "PASS p", "STAT", "UIDL", "LIST"]
@@ -128,7 +128,7 @@ class Records(unittest.TestCase):
 
     def test_an_outgrown_record(self):
         """A large file with more octets after its first rows than in them is written anew, and stands for the same."""
-        given = files.large_file(65_537, 32_762)
+        given = record_files.large_file(65_537, 32_762)
         rows = grammar.record_of(given).rows
         for messages in ([], THREE):
             with self.subTest(messages=len(messages)):
@@ -148,7 +148,7 @@ class Records(unittest.TestCase):
         """One that is a little smaller, or has as many octets in its first rows, is only appended to."""
         for size, part in ((65_536, 65_521), (65_537, 32_761)):
             with self.subTest(size=size):
-                given = files.large_file(size, part)
+                given = record_files.large_file(size, part)
                 self.account.record.write_bytes(given)
                 self.session(1, 2, 3)
                 left = self.account.record.read_bytes()
@@ -175,7 +175,7 @@ class RandomFiles(unittest.TestCase):
 
     def test_random_files(self):
         for seed in range(RANDOM_FILES):
-            data = files.random_file(random.Random(seed))
+            data = record_files.random_file(random.Random(seed))
             with self.subTest(seed=seed, data=data):
                 try:
                     record = grammar.record_of(data)

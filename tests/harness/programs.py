@@ -11,7 +11,7 @@ from dataclasses import dataclass
 from pathlib import Path
 
 ROOT = Path(__file__).resolve().parents[2]
-NAMES = ("getmail", "popd", "store_bench", "record_bench", "libraries")
+NAMES = ("getmail", "popd", "probe", "libraries")
 
 # Bounds on time, far above what is needed whatever else the machine does: on one run of a program or one connection,
 # and on the wait for the next output of a program that has all it needs for it.

@@ -2,7 +2,8 @@
 ghost use Rattle.std.specs.Prelude.{IfOk};
 ghost use Rattle.mail_terms.specs.Text.{IsWhole};
 
-use crate::{Stopwatch, mark_of};
+use crate::stopwatch::Stopwatch;
+use crate::stores::mark_of;
 use anyhow::{Result, ensure};
 use folder_store::HostFile;
 use mail_store::{FlatFile, append_entry, is_whole, quote, read_mbox};

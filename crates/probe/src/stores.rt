@@ -1,19 +1,12 @@
-//! Times calls of `mail_store` on a Maildir in a folder, for `bench/mail_store.py`, and on an mboxrd
-//! file, for `bench/mboxrd.py`; appends to such a file, and rewrites a file. The tests in
-//! `tests/store_bench` watch its system calls.
-#![tactic(auto)]
-
+//! Calls of `mail_store` on a Maildir in a folder and on a file.
 ghost use Rattle.std.specs.Prelude.{◌≡◌, IfOk, length};
 
-mod mbox;
-
+use crate::stopwatch::Stopwatch;
 use anyhow::{Result, ensure};
 use folder_store::{FolderMaildir, HostFile, HostFolder, HostFolders, ProcessMark};
 use mail_store::{FlatFile, MaildirDisk, account_id, deliver, file_stem, held};
 use mail_terms::{Listing, ScanRow, UidRow, have_legal_ids, is_legal_id};
 use std::alloc::Global;
-use std::env;
-use std::time::{CpuClock, Duration, Instant};
 
 /// The id of message `number`, as the driver names its files.
 fn id_of(alloc: Global, number: u32) -> Result<String> {
@@ -21,7 +14,7 @@ fn id_of(alloc: Global, number: u32) -> Result<String> {
 }
 
 /// The mark of this process.
-fn mark_of(rt: &HostRuntime) -> Result<ProcessMark> {
+pub fn mark_of(rt: &HostRuntime) -> Result<ProcessMark> {
     Ok(ProcessMark::new(rt.process(), rt)?)
 }
 
@@ -40,29 +33,6 @@ fn listing_of(alloc: Global, count: u32) -> Result<Listing>
     Ok(Listing::join(alloc, count, &uids, &sizes)?)
 }
 
-/// The clock and the processor time when a measurement began.
-#[derive(Clone, Copy)]
-struct Stopwatch {
-    start: Instant,
-    used: Duration,
-}
-
-impl Stopwatch {
-    fn new(rt: &HostRuntime) -> Result<Stopwatch> {
-        let start = Instant::now(rt)?;
-        let used = rt.process_cpu_time()?;
-        Ok(Stopwatch { start, used })
-    }
-
-    /// Prints a count, and the microseconds of clock and processor time since the start.
-    fn tell(&self, rt: &HostRuntime, count: usize) -> Result<()> {
-        let used = rt.process_cpu_time()?.saturating_sub(self.used);
-        let passed = self.start.elapsed(rt)?;
-        println!(rt; "{count} {} {}", passed.as_micros(), used.as_micros())?;
-        Ok(())
-    }
-}
-
 /// A Maildir in a folder.
 type HostMaildir<'a> = FolderMaildir<HostFolders<'a, HostRuntime>>;
 
@@ -70,7 +40,7 @@ type HostMaildir<'a> = FolderMaildir<HostFolders<'a, HostRuntime>>;
 type RealFile<'a> = HostFile<'a, HostFolder<'a, HostRuntime>>;
 
 /// Asks once which of `count` messages the Maildir holds. Prints how many, and the time.
-fn time_held(rt: &HostRuntime, path: &str, count: u32) -> Result<()> {
+pub fn time_held(rt: &HostRuntime, path: &str, count: u32) -> Result<()> {
     let listing = listing_of(rt.alloc(), count)?;
     let mut disk = FolderMaildir::at(rt, path, mark_of(rt)?);
     let watch = Stopwatch::new(rt)?;
@@ -93,7 +63,7 @@ fn deliver_one(alloc: Global, disk: &mut HostMaildir<'_>, number: u32) -> Result
 }
 
 /// Delivers `count` texts of 2,048 bytes. Prints how many, and the time.
-fn time_deliver(rt: &HostRuntime, path: &str, count: u32) -> Result<()> {
+pub fn time_deliver(rt: &HostRuntime, path: &str, count: u32) -> Result<()> {
     let mut disk = FolderMaildir::at(rt, path, mark_of(rt)?);
     let watch = Stopwatch::new(rt)?;
     for number in 1..=count {
@@ -111,7 +81,7 @@ fn rewrite_once(file: &mut RealFile<'_>) -> Result<()> {
 }
 
 /// Rewrites a file `count` times.
-fn rewrite(rt: &HostRuntime, path: &str, count: u32) -> Result<()> {
+pub fn rewrite(rt: &HostRuntime, path: &str, count: u32) -> Result<()> {
     let mut file = HostFile::at(rt, path, mark_of(rt)?);
     for _ in 0..count {
         rewrite_once(&mut file)?;
@@ -128,7 +98,7 @@ fn append_once<F: FlatFile>(alloc: Global, file: &mut F, count: u32) -> Result<(
 }
 
 /// Appends one text of `count` bytes to a file, page by page as to a record.
-fn append_pages(rt: &HostRuntime, path: &str, count: u32) -> Result<()> {
+pub fn append_pages(rt: &HostRuntime, path: &str, count: u32) -> Result<()> {
     let mut file = HostFile::by_pages(rt, path, mark_of(rt)?);
     append_once(rt.alloc(), &mut file, count)?;
     println!(rt; "{count}")?;
@@ -143,36 +113,9 @@ fn sweep_record(rt: &HostRuntime, path: &str, mark: ProcessMark) -> Result<()> {
 }
 
 /// Removes what killed runs left in a Maildir and beside the record in it.
-fn sweep(rt: &HostRuntime, path: &str) -> Result<()> {
+pub fn sweep(rt: &HostRuntime, path: &str) -> Result<()> {
     let mark = mark_of(rt)?;
     sweep_record(rt, path, mark)?;
     FolderMaildir::at(rt, path, mark).sweep(&account_id("bench", 110, "bench"));
     Ok(())
-}
-
-fn tell_usage(rt: &HostRuntime) -> Result<()> {
-    println!(rt;
-        "usage: store_bench held|deliver|rewrite|append|pages|sweep|texts|quote PATH COUNT"
-    )?;
-    Ok(())
-}
-
-fn main(rt: HostRuntime) -> Result<()> {
-    let words: Vec<String> = env::args(&rt)?.collect(rt.alloc())?;
-    if words.len() != 4 {
-        return tell_usage(&rt);
-    }
-    let path = words[2].as_str();
-    let count: u32 = words[3].as_str().parse()?;
-    match words[1].as_str() {
-        "held" => time_held(&rt, path, count),
-        "deliver" => time_deliver(&rt, path, count),
-        "rewrite" => rewrite(&rt, path, count),
-        "append" => mbox::append(&rt, path, count),
-        "pages" => append_pages(&rt, path, count),
-        "sweep" => sweep(&rt, path),
-        "texts" => mbox::time_texts(&rt, path),
-        "quote" => mbox::time_quote(&rt, path),
-        _ => tell_usage(&rt),
-    }
 }

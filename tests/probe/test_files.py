@@ -8,7 +8,7 @@ import stat
 import unittest
 
 from harness import programs
-from store_bench.watched import SIZE, TEXT, folder_for, is_own, make_older, watcher_for, written
+from probe.watched import SIZE, TEXT, folder_for, is_own, make_older, watcher_for, written
 
 
 class Files(unittest.TestCase):
@@ -99,7 +99,7 @@ class Files(unittest.TestCase):
         for name in (marked, *stays):
             make_older(self.work / name, 1.1)
         make_older(self.work / "seen.tmp.P2R0123456789abcdef", 0.9)
-        run = programs.run("store_bench", "sweep", str(self.work), "1")
+        run = programs.run("probe", "sweep", str(self.work), "1")
         self.assertEqual((run.status, run.err), (0, b""))
         left = {file.name for file in self.work.iterdir()}
         self.assertEqual(left, {"seen.tmp.P2R0123456789abcdef", *stays})

@@ -1,7 +1,4 @@
-//! Holds a conversation with its standard input as the server, fetches each message piece by piece,
-//! and prints how many messages and how many octets of text there were. `bench/pop3_client.py` runs
-//! it.
-#![tactic(auto)]
+//! A conversation of `pop3_client` with standard input as the server.
 
 use anyhow::Result;
 use pop3_client::{Client, fault_number};
@@ -42,7 +39,9 @@ fn fetch_all<W: Wire>(alloc: Global, wire: &mut W) -> Result<(u32, u64), pop3_cl
     Ok((listing.len(), octets))
 }
 
-fn main(rt: HostRuntime) -> Result<()> {
+/// Fetches each message piece by piece, and prints how many messages and how many octets of text there
+/// were.
+pub fn fetch(rt: &HostRuntime) -> Result<()> {
     let mut wire = StreamWire::new(rt.stdin(), io::sink());
     match fetch_all(rt.alloc(), &mut wire) {
         Ok((messages, octets)) => println!(rt; "{messages} {octets}")?,

@@ -56,7 +56,7 @@ class Watcher:
         changes = {"LD_PRELOAD": str(self.library), "WATCH_NOTE": str(note)}
         if refused is not None:
             changes["WATCH_REFUSED"] = str(refused)
-        run = programs.run("store_bench", word, str(path), str(count), **changes)
+        run = programs.run("probe", word, str(path), str(count), **changes)
         lines = note.read_text().splitlines() if note.exists() else []
         return run, [tuple(part.removeprefix(f"{work}/") for part in line.split("\t") if part) for line in lines]
 

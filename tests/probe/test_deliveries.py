@@ -12,7 +12,7 @@ import unittest
 
 from harness import preload, programs
 from harness.maildir import make_maildir
-from store_bench.watched import ACCOUNT, SIZE, TEXT, folder_for, is_own, make_older, name_of, stem_of, watcher_for, written
+from probe.watched import ACCOUNT, SIZE, TEXT, folder_for, is_own, make_older, name_of, stem_of, watcher_for, written
 
 
 class Deliveries(unittest.TestCase):
@@ -108,7 +108,7 @@ class Deliveries(unittest.TestCase):
         with open(bytes(tmp) + b"/" + ACCOUNT.encode() + b".\xff", "wb"):
             pass
         make_older(self.maildir / "new" / name_of(1), 37)
-        run = programs.run("store_bench", "sweep", str(self.maildir), "1")
+        run = programs.run("probe", "sweep", str(self.maildir), "1")
         self.assertEqual((run.status, run.err), (0, b""))
         left = {name for name in os.listdir(tmp) if name.isascii()}
         self.assertEqual(left, {stem_of(3) + mark, link.name, *stays})
@@ -136,7 +136,7 @@ class Listings(unittest.TestCase):
         self.maildir = make_maildir(self.work / "maildir")
 
     def check_held(self, count, held):
-        run = programs.run("store_bench", "held", str(self.maildir), str(count))
+        run = programs.run("probe", "held", str(self.maildir), str(count))
         self.assertEqual((run.status, run.err), (0, b""))
         self.assertEqual(int(run.out.split()[0]), held)
 
@@ -165,7 +165,7 @@ class Listings(unittest.TestCase):
         """The run over a folder that changes while it is listed."""
         (self.maildir / "new" / name_of(1)).touch()
         restless = {"LD_PRELOAD": str(self.restless), "RESTLESS_FILE": str(self.maildir / "new" / "x"), **changes}
-        return programs.run("store_bench", "held", str(self.maildir), "2", **restless)
+        return programs.run("probe", "held", str(self.maildir), "2", **restless)
 
     def test_a_folder_that_changes_while_it_is_listed_is_listed_again(self):
         run = self.held_of_restless(RESTLESS_TIMES="7")

@@ -10,7 +10,7 @@ import tempfile
 import unittest
 
 from harness import programs
-from record_bench import files, grammar
+from probe import grammar, record_files
 
 COUNT = int(os.environ.get("RECORD_FILES", "5000"))
 AT_ONCE = 5_000
@@ -31,7 +31,7 @@ def answers(records):
     with tempfile.NamedTemporaryFile() as file:
         file.write(END.join(records))
         file.flush()
-        run = programs.run("record_bench", "judge", file.name)
+        run = programs.run("probe", "judge", file.name)
     assert (run.status, run.err) == (0, b""), run
     return run.out.split(END)[:-1]
 
@@ -62,7 +62,7 @@ class Records(unittest.TestCase):
         for size in (65_535, 65_536, 65_537, 65_538, 200_015):
             lines = size - len(b"getmail-seen 2\n")
             parts = (24, lines // 2 - 1, lines // 2, lines // 2 + 1, lines - 20, lines)
-            records = [files.large_file(size, appended) for appended in parts]
+            records = [record_files.large_file(size, appended) for appended in parts]
             self.assertEqual({len(record) for record in records}, {size})
             self.check(records)
             rewritten = [answer.split(b"\n")[0] == b"true" for answer in answers(records)]
@@ -72,6 +72,6 @@ class Records(unittest.TestCase):
         kinds = collections.Counter()
         for first in range(0, COUNT, AT_ONCE):
             seeds = range(first, min(COUNT, first + AT_ONCE))
-            kinds += self.check([files.random_file(random.Random(seed)) for seed in seeds])
+            kinds += self.check([record_files.random_file(random.Random(seed)) for seed in seeds])
         for kind in (b"true", b"false", b"not a record of this version", b"line  is no row", b"line  repeats an id"):
             self.assertGreater(kinds[kind], COUNT // 100, kind)

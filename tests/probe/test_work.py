@@ -19,7 +19,7 @@ LEAST = 2_000
 def times_of(what, count):
     """The microseconds of each call in one run, and those that a processor worked for it."""
     before = resource.getrusage(resource.RUSAGE_CHILDREN)
-    run = programs.run("record_bench", what, str(count))
+    run = programs.run("probe", what, str(count))
     after = resource.getrusage(resource.RUSAGE_CHILDREN)
     assert (run.status, run.err) == (0, b""), run
     times = {call: int(used) for call, used in (line.split() for line in run.out.decode().splitlines())}

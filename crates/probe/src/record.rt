@@ -1,13 +1,8 @@
-//! Times the calls of `fetch_rules` that a session makes over its record and its listing, for
-//! `bench/fetch_rules.py`, and prints what record files stand for, for the tests from outside.
-#![tactic(auto)]
-
-mod judging;
+//! The calls of `fetch_rules` that a session makes over its record and its listing.
 
 use anyhow::{Result, ensure};
 use fetch_rules::{Dest, Listing, ScanRow, Seen, Settings, UidRow, have_legal_ids, plan};
 use std::alloc::Global;
-use std::env;
 use std::hash::RandomState;
 use std::time::{CpuClock, Duration};
 
@@ -129,7 +124,7 @@ fn time_bytes(rt: &HostRuntime, least: usize, seen: &Seen<RandomState>) -> Resul
 
 /// Makes the calls of one session over `count` messages and a record of as many rows. The record
 /// knows half of the messages.
-fn time_session(rt: &HostRuntime, count: u32) -> Result<()> {
+pub fn time_session(rt: &HostRuntime, count: u32) -> Result<()> {
     let listing = time_join(rt, count)?;
     let file = file_of(rt.alloc(), count)?;
     let mut seen = time_reading(rt, &file)?;
@@ -139,28 +134,9 @@ fn time_session(rt: &HostRuntime, count: u32) -> Result<()> {
 }
 
 /// Reads a record of `count` rows.
-fn time_read(rt: &HostRuntime, count: u32) -> Result<()> {
+pub fn time_read(rt: &HostRuntime, count: u32) -> Result<()> {
     let file = file_of(rt.alloc(), count)?;
     let seen = time_reading(rt, &file)?;
     ensure!(!seen.needs_rewrite(), "whole");
     Ok(())
-}
-
-fn tell_usage(rt: &HostRuntime) -> Result<()> {
-    println!(rt; "usage: record_bench session|read COUNT, or judge FILE")?;
-    Ok(())
-}
-
-fn main(rt: HostRuntime) -> Result<()> {
-    let words: Vec<String> = env::args(&rt)?.collect(rt.alloc())?;
-    if words.len() != 3 {
-        return tell_usage(&rt);
-    }
-    let subject = words[2].as_str();
-    match words[1].as_str() {
-        "session" => time_session(&rt, subject.parse()?),
-        "read" => time_read(&rt, subject.parse()?),
-        "judge" => judging::judge(&rt, subject),
-        _ => tell_usage(&rt),
-    }
 }

@@ -5,7 +5,7 @@ import unittest
 
 from harness import preload, programs
 from harness.power import rows_of
-from store_bench.watched import folder_for
+from probe.watched import folder_for
 
 
 class Entries(unittest.TestCase):
@@ -33,7 +33,7 @@ class Entries(unittest.TestCase):
         changes = {"LD_PRELOAD": str(self.library), "CHANGES_NOTE": str(note)}
         if killed is not None:
             changes["CHANGES_KILLED"] = str(killed)
-        run = programs.run("store_bench", word, str(self.file), "1", **changes)
+        run = programs.run("probe", word, str(self.file), "1", **changes)
         self.assertEqual(run.status, 0 if killed is None else -signal.SIGKILL, run.err)
         rows = rows_of(note.read_bytes())
         note.unlink()

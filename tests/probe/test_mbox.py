@@ -7,7 +7,7 @@ import unittest
 
 from harness import programs
 from harness.mboxrd import SEPARATOR, entries, entry, quoted, unquoted
-from store_bench.watched import folder_for, watcher_for, written
+from probe.watched import folder_for, watcher_for, written
 
 TEXTS = (
     b"",
@@ -42,7 +42,7 @@ class Mbox(unittest.TestCase):
             self.assertEqual((run.status, run.err), (0, b""))
 
     def check_texts(self, count):
-        run = programs.run("store_bench", "texts", str(self.file), "1")
+        run = programs.run("probe", "texts", str(self.file), "1")
         self.assertEqual((run.status, run.err), (0, b""))
         self.assertEqual(int(run.out.split()[0]), count)
 
@@ -108,7 +108,7 @@ class Mbox(unittest.TestCase):
         self.file.write_bytes(SEPARATOR + b">" * 100_000_000 + b"From x\n\n")
         self.check_texts(1)
         self.file.write_bytes(SEPARATOR + b">" * 100_000_000 + b"From x\n")
-        run = programs.run("store_bench", "texts", str(self.file), "1")
+        run = programs.run("probe", "texts", str(self.file), "1")
         self.assertEqual(run.status, 1)
         self.assertIn(b"destination is no mbox", run.err)
         self.file.write_bytes(entry(b"From x\n") * 1_000_000)

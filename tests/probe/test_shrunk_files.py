@@ -5,7 +5,7 @@ import unittest
 
 from harness import preload, programs
 from harness.mboxrd import entry
-from store_bench.watched import folder_for
+from probe.watched import folder_for
 
 OLD = entry(b"an older text\n")
 
@@ -23,7 +23,7 @@ class ShrunkFiles(unittest.TestCase):
         file = work / "mbox"
         file.write_bytes(OLD)
         (work / "mbox.text").write_bytes(b"a text\n")
-        run = programs.run("store_bench", "append", str(file), "1", LD_PRELOAD=str(self.library),
+        run = programs.run("probe", "append", str(file), "1", LD_PRELOAD=str(self.library),
                            OTHER_SHRUNK=str(file), OTHER_LENGTH=str(len(OLD)))
         self.assertEqual(run.status, 1)
         self.assertIn(b"destination refused", run.err)
@@ -37,7 +37,7 @@ class ShrunkFiles(unittest.TestCase):
                 file = work / "mbox"
                 file.write_bytes(OLD)
                 (work / "mbox.text").write_bytes(b"a text\n")
-                run = programs.run("store_bench", how, str(file), str(count), LD_PRELOAD=str(self.library),
+                run = programs.run("probe", how, str(file), str(count), LD_PRELOAD=str(self.library),
                                    OTHER_GONE=str(file))
                 self.assertEqual((run.status, run.out), (1, b""))
                 self.assertIn(b"destination refused", run.err)

@@ -6,7 +6,7 @@ import unittest
 
 from harness import programs
 from harness.maildir import make_maildir
-from store_bench.watched import folder_for
+from probe.watched import folder_for
 
 COUNT = 200
 
@@ -14,7 +14,7 @@ COUNT = 200
 def told(word, path):
     """The count and the microseconds of clock and processor time that a run prints, and those that it took."""
     before, begun = resource.getrusage(resource.RUSAGE_CHILDREN), time.monotonic()
-    run = programs.run("store_bench", word, str(path), str(COUNT))
+    run = programs.run("probe", word, str(path), str(COUNT))
     passed = time.monotonic() - begun
     after = resource.getrusage(resource.RUSAGE_CHILDREN)
     assert (run.status, run.err) == (0, b""), run
