@@ -2,7 +2,6 @@
 
 use crate::no_memory_tests::watched::{begin, end, tell, tell_bytes, tell_no_memory};
 use pop3_wire::{EndlessWire, Wire, WireFault, stuff, unstuff};
-use std::alloc::AllocError;
 use std::test::Fail;
 
 /// Prints what a call answered.
