@@ -146,7 +146,6 @@ def pretended(kept):
 ROWS = {
     "wires::stuff_row": Row("stuff", ("a|..b|.|",)),
     "wires::unstuff_row": Row("unstuff", ("a/.b/",)),
-    "wires::read_body_row": Row("read_body", ("a/.b/",)),
     "wires::endless_wire_row": changing("EndlessWire::send", ("",), ("sent",), ("QUIT|",), (REFUSED,)),
     "settings::rc_text_row": Row("rc_text", ("retriever.port has a bad value",)),
     "settings::warning_text_row": Row("warning_text", ("warning: line 10: options.timeout has no effect",)),

@@ -9,7 +9,7 @@ use Rattle.fetch_session.specs.Account.{digits_of}
 use Rattle.fetch_session.specs.declared.report.Report.{Report}
 use Rattle.fetch_session.specs.Session.{Kept, MboxKept}
 use Rattle.fetch_runs.specs.declared.run.Visit.{Visit}
-use Rattle.run_law.specs.Chains.{Fact}
+use Rattle.run_law.specs.Sessions.{Fact}
 use Rattle.run_law.specs.MboxRuns.{MboxFrame}
 use Rattle.fetch_runs.specs.Headline.{AreSettings, World, IsSound, State, Fetched, after_event, IsKept, Headline}
 use Rattle.fetch_runs.specs.MboxHeadline.{MboxState, MboxHeadline, IsMboxKept, AreSettings as AreMboxSettings, Fetched as InMbox, after_event as after_mbox}

@@ -4,7 +4,7 @@ use Rattle.pop3_wire.specs.Link.{Link}
 use Rattle.rc_file.specs.declared.settings.Settings.{Settings}
 use Rattle.fetch_session.specs.declared.report.Report.{Report}
 use Rattle.fetch_session.specs.Session.{MboxKept, MboxSession}
-use Rattle.run_law.specs.Chains.{Fact}
+use Rattle.run_law.specs.Sessions.{Fact}
 use Rattle.run_law.specs.MboxRuns.{MboxFrame}
 use Rattle.fetch_runs.specs.declared.run.Visit.{Visit}
 use Rattle.fetch_runs.specs.MboxHeadline.{MboxState, MboxOccasion, Fetched, after_event, HoldsEntries, MboxPromised, IsMboxKept}

@@ -8,8 +8,7 @@ use Rattle.rc_file.specs.declared.settings.Settings.{Settings}
 use Rattle.fetch_session.specs.declared.report.Report.{Report}
 use Rattle.fetch_session.specs.Account.{digits_of}
 use Rattle.fetch_session.specs.Session.{Kept, Session}
-use Rattle.run_law.specs.Chains.{Fact}
-use Rattle.run_law.specs.Sessions.{Served}
+use Rattle.run_law.specs.Sessions.{Fact, Served}
 use Rattle.fetch_runs.specs.declared.run.Visit.{Visit}
 use Rattle.fetch_runs.specs.Headline.{World, State, Occasion, Fetched, after_event, HoldsAPrefix, Promised, IsKept}
 

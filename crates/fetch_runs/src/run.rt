@@ -8,7 +8,7 @@ ghost use Rattle.fetch_runs.specs.MboxHeadline.{AreSettings, IsMboxKept};
 ghost use Rattle.fetch_runs.specs.MboxRuns.{AreMboxPromised, MboxRuns, mbox_state};
 ghost use Rattle.fetch_runs.specs.Runs.{ArePromised, AreServed, AreSound, Runs, state_of, world_of};
 ghost use Rattle.pop3_wire.specs.World.{IsWorld, Message};
-ghost use Rattle.run_law.specs.Chains.{Fact};
+ghost use Rattle.run_law.specs.Sessions.{Fact};
 ghost use Rattle.run_law.specs.MboxRuns.{MboxFrame};
 
 use crate::laws::{headline, mbox_headline};

@@ -12,7 +12,6 @@ use Rattle.pop3_wire.specs.Fields.{number_and_size}
 use Rattle.pop3_wire.specs.Link.{Link}
 use Rattle.pop3_wire.specs.Place.{Place, GoesOn, Gains, HasLine}
 use Rattle.pop3_client.specs.declared.fault.Fault.{Fault}
-use Rattle.pop3_client.specs.declared.fault.Asked.TheVariants.{Quit as ByQuit}
 use Rattle.pop3_client.specs.declared.fault.Fault.TheVariants.{ConnectionEnded, ReadFailed, WriteFailed, ReplyTooLong}
 use Rattle.pop3_client.specs.declared.fault.Fault.TheVariants.{BadReply, Refused, TooMany, NoMemory}
 use Rattle.pop3_client.specs.Turns.{Turn, turn_bytes, asking, greeting, user, pass, stat, rset, quit, line_limit}
@@ -120,12 +119,6 @@ CountsMessages old (Err fault) new = Broke stat old new fault
 -- logging in
 abbrev pub login : List ℕ → List ℕ → List Turn
 login name password = greeting ∷ user name ∷ pass password ∷ []
-
--- the turns after a fault: QUIT after a refused command other than QUIT, else none
-abbrev pub tail_of : Fault → List Turn
-tail_of (Refused ByQuit) = []
-tail_of (Refused asked) = quit ∷ []
-tail_of _ = []
 
 -- the turns that unmark all messages and end the session
 abbrev pub undoing : List Turn

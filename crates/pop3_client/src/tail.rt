@@ -1,24 +1,13 @@
 //! The last turns of a session that was cut.
-ghost use Rattle.std.specs.Prelude.{◌≡◌, ◌∷◌, [], if◌then◌else◌, IfErr};
+ghost use Rattle.std.specs.Prelude.{IfErr};
 ghost use Rattle.pop3_client.specs.Client.{HasSameLink, CountsRefusals, WhereLinkSound};
 ghost use Rattle.pop3_client.specs.Fault.{IsOfConversation};
-ghost use Rattle.pop3_client.specs.Turns.{rset, quit as quit_turn};
-ghost use Rattle.pop3_client.specs.Conversation.{Completes, Talks, tail_of, undoing};
+ghost use Rattle.pop3_client.specs.Turns.{rset};
+ghost use Rattle.pop3_client.specs.Conversation.{Completes, Talks, undoing};
 
 use crate::client::Client;
 use crate::fault::{Asked, Fault};
 use pop3_wire::Wire;
-
-/// Whether QUIT is sent after a fault: after each refused command other than QUIT.
-fn says_quit(fault: Fault) -> bool
-    ensures { tail_of fault ≡ (if result then quit_turn ∷ [] else []) }
-{
-    match fault {
-        Fault::Refused(Asked::Quit) => false,
-        Fault::Refused(_) => true,
-        _ => false,
-    }
-}
 
 impl<'a, W: Wire> Client<'a, W> {
     /// Unmarks what was marked as deleted (RSET).
@@ -29,21 +18,6 @@ impl<'a, W: Wire> Client<'a, W> {
         ensures completes { WhereLinkSound W.Wire self.old self.new (λ old new. Completes rset old result new) }
     {
         self.ask(Asked::Quit, b"RSET\r\n")
-    }
-
-    /// Leaves after a fault of the conversation. After a refused command it sends QUIT and reads
-    /// the reply; after a refused QUIT and after any other fault it leaves the link alone. It
-    /// allocates nothing.
-    pub fn leave(&mut self, fault: Fault) -> Result<(), Fault>
-        ensures link { HasSameLink self.old self.new }
-        ensures counted { CountsRefusals W.Wire self.old result self.new }
-        ensures own { IfErr result IsOfConversation }
-        ensures talks { WhereLinkSound W.Wire self.old self.new (λ old new. Talks (tail_of fault) old result new) }
-    {
-        if says_quit(fault) {
-            return self.quit();
-        }
-        Ok(())
     }
 
     /// Leaves after a fault that isn't the conversation's own: sends RSET, so that no marked message is

@@ -72,7 +72,6 @@ impl<'a, W: Wire> Client<'a, W> {
             Err(BodyFault::Ended) => Err(Fault::ConnectionEnded),
             Err(BodyFault::Failed) => Err(Fault::ReadFailed),
             Err(BodyFault::TooLong) => Err(Fault::TextTooLong),
-            Err(BodyFault::NoMemory) => Err(Fault::NoMemory),
         }
     }
 

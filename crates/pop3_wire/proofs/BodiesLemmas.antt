@@ -6,7 +6,7 @@ use Rattle.pop3_wire.specs.Link.{Link}
 use Rattle.pop3_wire.specs.Place.{Place, at, GoesOn}
 use Rattle.pop3_wire.specs.Bodies.{Drew, DrawsNothing, BodyCause, LeavesRest, Rest, rest_of, UnderWay}
 use Rattle.pop3_wire.specs.declared.body_reader.BodyFault.{BodyFault}
-use Rattle.pop3_wire.specs.declared.body_reader.BodyFault.TheVariants.{Ended, Failed, TooLong, NoMemory}
+use Rattle.pop3_wire.specs.declared.body_reader.BodyFault.TheVariants.{Ended, Failed, TooLong}
 use Rattle.pop3_wire.specs.declared.unstuffer.Spot.{Spot}
 use Rattle.pop3_wire.specs.declared.unstuffer.Spot.TheVariants.{Start, Done}
 use Rattle.pop3_wire.specs.Unstuffing.{Reaches}
@@ -70,7 +70,6 @@ cause_of_nothing fault limit left spot a b c w gained used text reached other si
     cause Ended n = (drawn gained (append-nil gained) n.0, (none, short, n.1, n.2 ∙ steady.failures))
     cause Failed n = (drawn gained (append-nil gained) n.0, (none, short, n.1 ∙ steady.ended, n.2 ∙ ap (λ (k : ℕ). k + 1) steady.failures))
     cause TooLong n = absurd n
-    cause NoMemory n = absurd n
 
 -- the limit was reached before the body ended
 pub cause_of_limit : (limit : ℕ) (spot : Spot) (w gained used waits text : List ℕ) → Reaches spot used text → spot ≢ Done

@@ -1,13 +1,13 @@
 -- Taking one body from a link.
 use Rattle.std.specs.Prelude.{◌≡◌, ◌+◌, ◌<◌, ◌≤◌, ℕ, Bool, true, false, List, [], ◌++◌, length, take, Result, Ok, Err, Vec}
-use Rattle.pop3_wire.specs.Body.{Body, HasNoBody}
+use Rattle.pop3_wire.specs.Body.{HasNoBody}
 use Rattle.pop3_wire.specs.Link.{Link}
 use Rattle.pop3_wire.specs.Place.{Place, GoesOn}
 use Rattle.pop3_wire.specs.Unstuffing.{Reaches}
 use Rattle.pop3_wire.specs.declared.body_reader.Piece.{Piece}
 use Rattle.pop3_wire.specs.declared.unstuffer.Spot.{Spot}
 use Rattle.pop3_wire.specs.declared.body_reader.BodyFault.{BodyFault}
-use Rattle.pop3_wire.specs.declared.body_reader.BodyFault.TheVariants.{Ended, Failed, TooLong, NoMemory}
+use Rattle.pop3_wire.specs.declared.body_reader.BodyFault.TheVariants.{Ended, Failed, TooLong}
 
 -- nothing was sent, and these octets were got
 pub record Drew (old new : Link) (gained : List ℕ) : Type 0 where
@@ -19,14 +19,6 @@ abbrev pub DrawsNothing : BodyFault → Link → Link → Type 0
 DrawsNothing Ended old new = Drew old new [] × (new.ended ≡ true) × (new.failures ≡ old.failures)
 DrawsNothing Failed old new = Drew old new [] × (new.ended ≡ old.ended) × (new.failures ≡ old.failures + 1)
 DrawsNothing TooLong old new = ⊥
-DrawsNothing NoMemory old new = ⊥
-
--- a body of this text was taken from the octets that waited and those that were gained; the rest waits
-pub record TookBody (limit : ℕ) (old new : Place) (text gained : List ℕ) : Type 0 where
-  pub body : List ℕ
-  pub is : Body body text
-  pub within : length body ≤ limit
-  pub heard : old.waiting ++ gained ≡ body ++ new.waiting
 
 -- at most `limit` of the octets that waited and were gained were used, and all that follow them wait
 pub record LeavesRest (limit : ℕ) (old new : Place) : Type 0 where
@@ -36,20 +28,13 @@ pub record LeavesRest (limit : ℕ) (old new : Place) : Type 0 where
   pub within : length used ≤ limit
   pub heard : old.waiting ++ gained ≡ used ++ new.waiting
 
--- why there is no text, given the octets that have come: the link has ended, a call was refused, the limit is
--- reached, or memory ran out
+-- why there is no text, given the octets that have come: the link has ended, a call was refused, or the limit is
+-- reached
 abbrev pub BodyCause : ℕ → BodyFault → Link → Link → List ℕ → Type 0
 BodyCause limit Ended old new bytes = HasNoBody bytes × (length bytes < limit) × (new.ended ≡ true) × (new.failures ≡ old.failures)
 BodyCause limit Failed old new bytes = HasNoBody bytes × (length bytes < limit) × (new.ended ≡ old.ended)
     × (new.failures ≡ old.failures + 1)
 BodyCause limit TooLong old new bytes = HasNoBody (take limit bytes) × (limit ≤ length bytes) × GoesOn old new
-BodyCause limit NoMemory old new bytes = GoesOn old new
-
-abbrev pub ReadsBody : ℕ → Place → Result (List ℕ) BodyFault → Place → Type 0
-ReadsBody limit old (Ok text) new = (gained : List ℕ) × Drew old.link new.link gained
-    × GoesOn old.link new.link × TookBody limit old new text gained
-ReadsBody limit old (Err fault) new = (gained : List ℕ) × Drew old.link new.link gained
-    × BodyCause limit fault old.link new.link (old.waiting ++ gained)
 
 -- a reader's spot in a body, and how many octets it may still take
 pub record Rest : Type 0 where
@@ -86,4 +71,3 @@ abbrev pub is_refusal : BodyFault → Bool
 is_refusal Ended = false
 is_refusal Failed = true
 is_refusal TooLong = false
-is_refusal NoMemory = false

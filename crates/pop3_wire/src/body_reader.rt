@@ -1,7 +1,7 @@
 //! Taking one body from a link, into its text (RFC 1939, section 3).
 ghost use Rattle.std.specs.Prelude.{◌≡◌, ◌≢◌, ◌≤◌, ◌<◌, ◌+◌, ◌-◌, ◌++◌, ◌↔◌, ℕ, List, []};
 ghost use Rattle.std.specs.Prelude.{length, take, drop, min, IsTrue, IfOk, IfErr, OnOk, OnErr};
-ghost use Rattle.pop3_wire.specs.Bodies.{Drew, DrawsNothing, LeavesRest, ReadsBody, UnderWay, TakesPiece, rest_of, items_of, is_refusal};
+ghost use Rattle.pop3_wire.specs.Bodies.{Drew, DrawsNothing, UnderWay, TakesPiece, rest_of, is_refusal};
 ghost use Rattle.pop3_wire.specs.Link.{CountsRefusal, WhereSound};
 ghost use Rattle.pop3_wire.specs.Place.{Place, at, GoesOn};
 ghost use Rattle.pop3_wire.specs.Unstuffing.{Reaches};
@@ -10,7 +10,6 @@ ghost use Rattle.pop3_wire.specs.declared.unstuffer.Spot.TheVariants.{Start, Don
 use crate::line_reader::LineReader;
 use crate::unstuffer::{Fed, Unstuffer};
 use crate::wire::Wire;
-use std::alloc::{AllocError, Global};
 use std::marker::Model;
 use thiserror::Error;
 
@@ -30,26 +29,11 @@ pub enum BodyFault {
     /// No whole body ends within the limit.
     #[error("the body is too long")]
     TooLong,
-    /// Out of memory.
-    #[error("out of memory")]
-    NoMemory,
-}
-
-impl From<AllocError> for BodyFault {
-    ghost use Rattle.std.specs.Prelude.{◌≡◌};
-    ghost use Rattle.pop3_wire.specs.declared.body_reader.BodyFault.TheVariants.{NoMemory};
-
-    ghost from_gives = { λ _ e. e ≡ NoMemory };
-
-    fn from(_error: AllocError) -> BodyFault {
-        BodyFault::NoMemory
-    }
 }
 
 /// Takes octets from the link if none wait; after Ok some do.
 fn draw<W: Wire>(wire: &mut W, reader: &mut LineReader) -> Result<(), BodyFault>
     ensures counted { CountsRefusal is_refusal (W.history wire.old) result (W.history wire.new) }
-    ensures frugal { IfErr result (λ fault. fault ≢ BodyFault.NoMemory) }
     ensures ok { OnOk result ((gained : List ℕ) × (reader.new ≡ reader.old ++ gained) × (0 < length reader.new)
         × WhereSound W.sound W.leads_to wire.old wire.new
         (Drew (W.history wire.old) (W.history wire.new) gained × GoesOn (W.history wire.old) (W.history wire.new))) }
@@ -143,7 +127,6 @@ impl BodyReader {
         ensures fits { IfOk result (λ piece. piece.put ≤ length out.new) }
         ensures ended { IfOk result (λ piece. IsTrue piece.ended ↔ (self.new.spot ≡ Done)) }
         ensures less { OnOk result (self.new.spot ≢ Done → self.new.left < self.old.left) }
-        ensures frugal { IfErr result (λ fault. fault ≢ BodyFault.NoMemory) }
         ensures same { OnErr result (self.new ≡ self.old) }
         ensures takes { WhereSound W.sound W.leads_to wire.old wire.new
             ((limit : ℕ) (start : Place) (text : List ℕ) → UnderWay limit start (at (W.history wire.old) reader.old) self.old text
@@ -161,35 +144,5 @@ impl BodyReader {
             put: fed.put,
             ended: fed.ended,
         })
-    }
-}
-
-/// Takes one body from the link, end mark included, and returns its text. It asks the link for no
-/// more than the body needs, and the body may take at most `limit` octets. Whatever the result, no
-/// more than `limit` octets are used, and what the link gave beyond them waits.
-pub fn read_body<W: Wire>(
-    alloc: Global,
-    wire: &mut W,
-    reader: &mut LineReader,
-    limit: usize,
-) -> Result<Vec<u8>, BodyFault>
-    requires { 0 < limit }
-    ensures counted { CountsRefusal is_refusal (W.history wire.old) result (W.history wire.new) }
-    ensures read { WhereSound W.sound W.leads_to wire.old wire.new
-        (ReadsBody limit (at (W.history wire.old) reader.old) (items_of result) (at (W.history wire.new) reader.new)) }
-    ensures rest { W.sound wire.new → LeavesRest limit (at (W.history wire.old) reader.old) (at (W.history wire.new) reader.new) }
-{
-    let mut body = BodyReader::new(limit);
-    let mut out = [0u8; PIECE_ROOM];
-    let mut text = Vec::new(alloc);
-    'pieces: loop {
-        let piece = match body.next(wire, reader, &mut out) {
-            Ok(piece) => piece,
-            Err(fault) => return Err(fault),
-        };
-        text.extend_from_slice(&out[..piece.put])?;
-        if piece.ended {
-            return Ok(text);
-        }
     }
 }

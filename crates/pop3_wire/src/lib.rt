@@ -21,7 +21,7 @@ mod unstuffer;
 mod wire;
 
 pub use body::{is_end_mark, unstuff, without_dot};
-pub use body_reader::{BodyFault, BodyReader, PIECE_ROOM, Piece, read_body};
+pub use body_reader::{BodyFault, BodyReader, PIECE_ROOM, Piece};
 pub use command::{Command, command_bytes};
 pub use command_line::{
     commands_are_lines, fronts_are_asked, only_one_list_of_commands, read_as_written, read_command,

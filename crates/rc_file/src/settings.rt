@@ -1,9 +1,9 @@
 //! The settings: the account, where its messages go, and which of them are fetched.
-ghost use Rattle.std.specs.Prelude.{◌≡◌, ◌↔◌, ◌++◌, drop, if◌then◌else◌, IfOk, IsTrue};
+ghost use Rattle.std.specs.Prelude.{◌≡◌, ◌++◌, drop, if◌then◌else◌, IfOk};
 ghost use Rattle.std.specs.String.{string_bytes};
 ghost use Rattle.std.specs.List.{list_all};
 ghost use Rattle.rc_file.specs.Settings.{begins_at_home, is_server_byte, is_path_byte, is_server, is_path};
-ghost use Rattle.rc_file.specs.Settings.{is_maildir_path, is_mboxrd_path, is_destination, destination_of, IsValid};
+ghost use Rattle.rc_file.specs.Settings.{is_maildir_path, is_mboxrd_path};
 
 use mail_terms::is_credential;
 use std::alloc::{AllocError, Global};
@@ -11,8 +11,7 @@ use std::alloc::{AllocError, Global};
 /// The greatest value of [`Settings::delete_after`], in days.
 pub const DELETE_AFTER_LIMIT: u64 = 4_294_967_295;
 
-/// What the rc file and the command line ask for. Fields may have any values;
-/// [`Settings::is_valid`] says whether an rc file can give them.
+/// What the rc file and the command line ask for. Fields may have any values.
 #[derive(Drop)]
 pub struct Settings {
     /// The server's name or address: not empty, without LF and NUL.
@@ -47,21 +46,6 @@ pub enum Dest {
     Maildir(String),
     /// A file in the form mboxrd, whose path doesn't end in `/`.
     Mboxrd(String),
-}
-
-impl Settings {
-    /// Whether an rc file can give these settings.
-    pub fn is_valid(&self) -> bool
-        ensures { IsTrue result ↔ IsValid self.now }
-    {
-        is_server(self.server.as_str())
-            && self.port >= 1
-            && is_credential(self.username.as_bytes())
-            && is_credential(self.password.as_bytes())
-            && is_destination(&self.dest)
-            && self.delete_after <= DELETE_AFTER_LIMIT
-            && self.verbose <= 2
-    }
 }
 
 /// Whether the text may name a server.
@@ -107,15 +91,6 @@ pub(crate) fn is_mboxrd_path(path: &str) -> bool
     ensures { result ≡ is_mboxrd_path path.now }
 {
     is_path(path) && !path.as_bytes().ends_with(b"/")
-}
-
-fn is_destination(dest: &Dest) -> bool
-    ensures { result ≡ is_destination (destination_of dest.now) }
-{
-    match dest {
-        Dest::Maildir(path) => is_maildir_path(path.as_str()),
-        Dest::Mboxrd(path) => is_mboxrd_path(path.as_str()),
-    }
 }
 
 /// The whole path: for one that begins with `~/`, `home` followed by the path from its `/`; any other

@@ -2,7 +2,6 @@
 use Rattle.std.proofs.Common.{◌≡◌, ◌≤◌, ◌⊎◌, inl, inr, ℕ, List, [], ◌∷◌, ◌++◌, true, length, take, sym, ◌∙◌, ap, subst, arith, length-append}
 use Rattle.std.specs.List.{AllByRecursion}
 use Rattle.std.proofs.lemmas.Bool.{both_ways}
-use Rattle.std.specs.Prelude.{bytes_eq}
 use Rattle.std.proofs.lemmas.List.{append-nil}
 use Rattle.mail_terms.specs.UniqueId.{is_legal_id, has_id}
 use Rattle.pop3_wire.specs.World.{Message}
@@ -11,11 +10,11 @@ use Rattle.mail_store.specs.FileName.{is_held, stem_of}
 use Rattle.run_law.specs.Mails.{ids_of, is_selected, selected, texts_of}
 use Rattle.run_law.specs.Accounts.{Account, files, copies, count_files}
 use Rattle.run_law.specs.Steps.{Effect, Leaves}
-use Rattle.run_law.specs.Runs.{Frame, IsFrame, Situation, Visit, Event, Visited, Between, Expired, TakenAway, Happens, Visits, Run, HoldsOf, Kept, LeavesMail, after_event, Promises, ReadOnlyNew, KeptStaysKept, KeptHoldsWhatIsLeft, NothingTakenHoldsExactly, TakenStaysAway}
+use Rattle.run_law.specs.Runs.{Frame, IsFrame, Situation, Visit, Event, Visited, Between, Expired, TakenAway, Visits, Run, HoldsOf, Kept, LeavesMail, after_event, Promises, KeptStaysKept, KeptHoldsWhatIsLeft, NothingTakenHoldsExactly}
 use Rattle.run_law.proofs.Below.{Below}
 use Rattle.run_law.proofs.Lists.{front_is}
 use Rattle.run_law.proofs.Holds.{held_is_done, one_file, between_kept, expired_kept, taken_kept}
-use Rattle.run_law.proofs.Ids.{Distinct, distinct_is, distinct_take, distinct_filter, bytes_same, none_vanish}
+use Rattle.run_law.proofs.Ids.{Distinct, distinct_is, distinct_take, distinct_filter, none_vanish}
 use Rattle.run_law.proofs.Files.{held_done}
 use Rattle.run_law.proofs.VisitKept.{visit_kept, deletes_held, keeps_others, leaves_out, stores_only_new}
 
@@ -105,32 +104,3 @@ holds_exactly frame state holds none = record {
   where
     texts : (id : List ℕ) → is_legal_id id ≡ true → copies (files state.account) (stem_of frame.account id) ≡ texts_of (take holds.j (selected frame.max_size frame.all)) id
     texts id l = grind (arith, holds.contents id l, ap (λ ids. has_id ids id) none)
-
--- ---- what was taken away stays away
-
--- what is recorded and not held is so after each event
-still_away : Below → (frame : Frame) (before : Situation) (event : Event) (id : List ℕ) → IsFrame frame → Kept frame before → Happens frame before event
-    → ReadOnlyNew (event ∷ []) → is_legal_id id ≡ true → is_delivered before.account.rows id ≡ true → copies (files before.account) (stem_of frame.account id) ≡ []
-    → (is_delivered (after_event before event).account.rows id ≡ true) × (copies (files (after_event before event).account) (stem_of frame.account id) ≡ [])
-still_away laws frame before (Visited v) id is kept h new l recorded none =
-    let promised = (visited laws frame before v is kept h).1.3 new.0 id l recorded in
-    (promised.1, promised.0 ∙ none)
-still_away laws frame before (Between after) id is kept h new l recorded none = (ap (λ r. is_delivered r id) h.rows ∙ recorded, h.same id l ∙ none)
-still_away laws frame before (Expired ids) id is kept h new l recorded none = (recorded, none)
-still_away laws frame before (TakenAway other after) id is kept h new l recorded none = (
-  ap (λ r. is_delivered r id) h.rows ∙ recorded,
-  let same = λ (e : bytes_eq id other ≡ true). ap (λ (x : List ℕ). copies (files after) (stem_of frame.account x)) (bytes_same id other e) ∙ h.none in
-      let others = h.others id l in
-      grind (arith, same, others, none),
-)
-
-one_new : (event : Event) (events : List Event) → ReadOnlyNew (event ∷ events) → ReadOnlyNew (event ∷ []) × ReadOnlyNew events
-one_new (Visited v) events h = ((h.0, tt), h.1)
-one_new other events h = (tt, h)
-
-pub taken_stays_away : Below → TakenStaysAway
-taken_stays_away laws frame start [] id is kept run new l recorded none = none
-taken_stays_away laws frame start (event ∷ events) id is kept run new l recorded none =
-    let split = one_new event events new in
-    let away = still_away laws frame start event id is kept run.0 split.0 l recorded none in
-    taken_stays_away laws frame (after_event start event) events id is (happened laws frame start event is kept (run.0, tt)).0 run.1 split.1 l away.0 away.1

@@ -1,6 +1,5 @@
 mod Below
 mod Bridge
-mod Chained
 mod Core
 mod Ends
 mod Files
@@ -13,7 +12,6 @@ mod Listed
 mod Lists
 mod MboxKept
 mod Next
-mod Planned
 mod Records
 mod Replied
 mod Safety

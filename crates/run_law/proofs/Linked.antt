@@ -6,23 +6,18 @@ use Rattle.std.specs.Option.{option_map}
 use Rattle.std.proofs.lemmas.Option.{same_Some, slice_get-map}
 use Rattle.pop3_wire.specs.declared.command.Command.{Command}
 use Rattle.pop3_wire.specs.declared.command.Command.TheVariants.{User, Pass, Stat, UidlAll, ListAll, Dele, Rset}
-use Rattle.pop3_wire.specs.World.{Message, IsWorld, maildrop_of}
+use Rattle.pop3_wire.specs.World.{Message, maildrop_of}
 use Rattle.pop3_wire.specs.Honest.{Asked, Grants, Replies, no_marks, OneListOfCommands}
 use Rattle.mail_terms.specs.Listing.{Item}
 use Rattle.mail_terms.specs.UniqueId.{has_id}
 use Rattle.run_law.specs.Mails.{item_of, listing_of}
 use Rattle.run_law.specs.Steps.{Effect, Leaves, Stores, IsHonest, AreTexts, wanted_at}
 use Rattle.run_law.specs.Readings.{AreGranted, IsNumbered, HonestIsGranted, ListingIsMaildrop, MarksAreAsked, TextsAreMessages}
-use Rattle.run_law.specs.Runs.{Frame, IsFrame, Situation, Visit, Event, Visited, Run, Kept, after_event, Promises, KeptStaysKept}
-use Rattle.mail_store.specs.Settling.{FrontsAreSettled}
-use Rattle.run_law.specs.Mboxes.{mbox_wanted, entries, MboxLeaves, MboxStores}
-use Rattle.run_law.specs.MboxRuns.{MboxFrame, MboxSituation, MboxKept, MboxVisited, MboxKeptStaysKept}
-use Rattle.run_law.specs.MboxSessions.{MboxLink, MboxLinks, mbox_visit_of, after_mbox_link, SettlesFirst, MboxLinksAreVisits, MboxLinksKeep}
-use Rattle.run_law.proofs.Below.{RowLaws}
+use Rattle.run_law.specs.Runs.{Visit}
+use Rattle.run_law.specs.Mboxes.{mbox_wanted, MboxLeaves, MboxStores}
+use Rattle.run_law.specs.MboxSessions.{MboxLinksAreVisits}
 use Rattle.run_law.proofs.Lists.{all_map}
-use Rattle.run_law.proofs.MboxKept.{settle}
-use Rattle.run_law.proofs.Safety.{tail_of}
-use Rattle.run_law.specs.Sessions.{IsBegun, Reads, IsMarked, Served, Link, after_link, LinksAreVisits, LinksKeep}
+use Rattle.run_law.specs.Sessions.{IsBegun, Reads, IsMarked, Served, Link, LinksAreVisits}
 
 -- ---- marks
 
@@ -151,48 +146,3 @@ mbox_visits laws frame before link l = record { same = l.same; only_new = l.only
         (maildrop_of frame.all link.come before.gone) l.effect link.vanished
     visit = one_visit laws link.sent link.got l.effect (maildrop_of frame.all link.come before.gone) link.vanished l.session.commands l.session.asked l.session.begun l.served
         (mbox_wanted link.settings before.account l.effect) (λ left. left.0) (λ left. left.0.begun) l.session.step
-
--- one event, by the law over lists of them
-pub happened : KeptStaysKept → (frame : Frame) (before : Situation) (event : Event) → IsFrame frame → Kept frame before → Run frame before (event ∷ [])
-    → Kept frame (after_event before event) × Promises frame before event
-happened stays frame before event is kept run =
-    let one = stays frame before (event ∷ []) is kept run in
-    (one.0, one.1.0)
-
-pub links_keep : KeptStaysKept → LinksAreVisits → LinksKeep
-links_keep stays visited frame start [] is kept run = kept
-links_keep stays visited frame start (link ∷ links) is kept run =
-    let one = happened stays frame start (Visited (visit_of link run.0.effect)) is kept (visited frame start link run.0, tt) in
-    (kept, (run.0.effect, run.0.session, one.1), links_keep stays visited frame (after_link start link) links is one.0 run.1)
-
--- ---- with an mboxrd
-
-settles_first : FrontsAreSettled → RowLaws → (frame : MboxFrame) (before : MboxSituation) (link : MboxLink) (l : MboxLinks frame before link) → IsWorld frame.all → MboxKept frame before
-    → MboxStores link.settings before.account l.effect link.after → SettlesFirst frame before.account link.after
-settles_first fronts rows frame before link l world kept s =
-    let origin = settle fronts rows frame before world kept in
-    let tail = tail_of link.settings before.account l.effect link.after s in
-    record {
-      done = origin.done;
-      rest = origin.rest;
-      prefix = origin.prefix;
-      more = entries (take s.stored l.effect.texts) ++ tail.0;
-      file = tail.1 ∙ ap (λ f. f ++ (entries (take s.stored l.effect.texts) ++ tail.0)) origin.file;
-    }
-
-pub mbox_links_keep : MboxKeptStaysKept → MboxLinksAreVisits → FrontsAreSettled → RowLaws → MboxLinksKeep
-mbox_links_keep stays visited fronts rows frame start [] world kept run = kept
-mbox_links_keep stays visited fronts rows frame start (link ∷ links) world kept run =
-    let one = stays frame start (MboxVisited (mbox_visit_of link run.0.effect) ∷ []) world kept (visited frame start link run.0, tt) in (
-      kept,
-      record {
-        effect = run.0.effect;
-        session = run.0.session;
-        promises = one.1.0;
-        settles = elim run.0.session.step [
-          | inl (left, none) ↦ inl none
-          | inr (stores, reads) ↦ inr (settles_first fronts rows frame start link run.0 world kept stores)
-        ];
-      },
-      mbox_links_keep stays visited fronts rows frame (after_mbox_link start link) links world one.0 run.1,
-    )

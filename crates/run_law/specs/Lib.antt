@@ -1,5 +1,4 @@
 pub mod Accounts
-pub mod Chains
 pub mod HonestSession
 pub mod Mails
 pub mod MboxRuns

@@ -1,16 +1,15 @@
 -- Sessions with an mboxrd, given by what their links gained, and runs of them over one world.
-use Rattle.std.specs.Prelude.{◌≡◌, ◌⊎◌, ℕ, false, List, [], ◌∷◌, ◌++◌}
+use Rattle.std.specs.Prelude.{◌≡◌, ◌⊎◌, ℕ, false, List, ◌++◌}
 use Rattle.std.specs.List.{AllByRecursion}
 use Rattle.pop3_wire.specs.declared.command.Command.{Command}
 use Rattle.pop3_wire.specs.declared.command.Command.TheVariants.{Retr, Dele}
 use Rattle.pop3_wire.specs.Honest.{Asked}
-use Rattle.pop3_wire.specs.World.{Message, IsWorld, maildrop_of}
+use Rattle.pop3_wire.specs.World.{maildrop_of}
 use Rattle.rc_file.specs.declared.settings.Settings.{Settings}
-use Rattle.run_law.specs.Mails.{selected}
 use Rattle.run_law.specs.Steps.{Effect}
 use Rattle.run_law.specs.Sessions.{IsBegun, Reads, BeginsOne, Served}
 use Rattle.run_law.specs.Mboxes.{MboxAccount, mbox_wanted, MboxLeaves, MboxStores}
-use Rattle.run_law.specs.MboxRuns.{MboxFrame, MboxSituation, MboxVisit, MboxVisits, MboxKept, MboxPromises, entries_of}
+use Rattle.run_law.specs.MboxRuns.{MboxFrame, MboxSituation, MboxVisit, MboxVisits}
 
 -- neither RETR nor DELE
 abbrev pub AsksForNoMessage : Command → Type 0
@@ -63,37 +62,7 @@ mbox_visit_of link effect = record {
 abbrev pub after_mbox_link : MboxSituation → MboxLink → MboxSituation
 after_mbox_link before link = record { account = link.after; gone = before.gone ++ link.vanished }
 
-abbrev pub MboxLinkRun : MboxFrame → MboxSituation → List MboxLink → Type 0
-MboxLinkRun frame before [] = Unit {0}
-MboxLinkRun frame before (link ∷ links) = MboxLinks frame before link × MboxLinkRun frame (after_mbox_link before link) links
-
 -- a law: a session over an honest link is a visit of the law over runs
 abbrev pub MboxLinksAreVisits : Type 0
 MboxLinksAreVisits = (frame : MboxFrame) (before : MboxSituation) (link : MboxLink)
     → (l : MboxLinks frame before link) → MboxVisits frame before (mbox_visit_of link l.effect)
-
--- what an earlier session left of a next entry was cut off, or counts as a whole entry: what was appended
--- comes after whole entries
-pub record SettlesFirst (frame : MboxFrame) (before after : MboxAccount) : Type 0 where
-  pub done : List Message
-  pub rest : List Message
-  pub prefix : selected frame.max_size frame.all ≡ (frame.had ++ done) ++ rest
-  pub more : List ℕ
-  pub file : after.file ≡ (frame.start ++ entries_of done) ++ more
-
--- a session that asks for a message settles the account first
-pub record MboxSessionKept (frame : MboxFrame) (before : MboxSituation) (link : MboxLink) : Type 0 where
-  pub effect : Effect
-  pub session : MboxSession link.settings before.account link.sent link.got effect link.after
-  pub promises : MboxPromises frame before (mbox_visit_of link effect)
-  pub settles : AsksForNone session.commands session.asked.part ⊎ SettlesFirst frame before.account link.after
-
-abbrev pub AllMboxKept : MboxFrame → MboxSituation → List MboxLink → Type 0
-AllMboxKept frame before [] = MboxKept frame before
-AllMboxKept frame before (link ∷ links) = MboxKept frame before × MboxSessionKept frame before link
-    × AllMboxKept frame (after_mbox_link before link) links
-
--- the law over links
-abbrev pub MboxLinksKeep : Type 0
-MboxLinksKeep = (frame : MboxFrame) (start : MboxSituation) (links : List MboxLink) → IsWorld frame.all
-    → MboxKept frame start → MboxLinkRun frame start links → AllMboxKept frame start links

@@ -188,20 +188,6 @@ abbrev pub NothingTakenHoldsExactly : Type 0
 NothingTakenHoldsExactly = (frame : Frame) (state : Situation) → HoldsWhatIsLeft frame state
     → state.taken ≡ [] → HoldsExactly frame state.account
 
--- each of these sessions reads only what is new
-abbrev pub ReadOnlyNew : List Event → Type 0
-ReadOnlyNew [] = Unit {0}
-ReadOnlyNew (Visited visit ∷ events) = (visit.settings.read_all ≡ false) × ReadOnlyNew events
-ReadOnlyNew (_ ∷ events) = ReadOnlyNew events
-
--- then a message that is recorded as delivered and isn't held is never stored again
-abbrev pub TakenStaysAway : Type 0
-TakenStaysAway = (frame : Frame) (start : Situation) (events : List Event) (id : List ℕ) → IsFrame frame
-    → Kept frame start → Run frame start events → ReadOnlyNew events
-    → is_legal_id id ≡ true → is_delivered start.account.rows id ≡ true
-    → copies (files start.account) (stem_of frame.account id) ≡ []
-    → copies (files (after_events start events).account) (stem_of frame.account id) ≡ []
-
 -- the account without the files of an id
 abbrev pub without : List ℕ → List ℕ → Account → Account
 without account id before = record before {

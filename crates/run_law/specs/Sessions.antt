@@ -14,7 +14,7 @@ use Rattle.run_law.specs.Accounts.{Account}
 use Rattle.run_law.specs.Steps.{Effect, Leaves, Stores, wanted_at}
 use Rattle.pop3_wire.specs.Reading.{WholeReply}
 use Rattle.run_law.specs.Readings.{Talked, Retrieves, IsListed}
-use Rattle.run_law.specs.Runs.{Frame, IsFrame, Situation, Visits, Visited, Kept, Promises}
+use Rattle.run_law.specs.Runs.{Frame, Situation, Visits}
 
 -- a DELE's number counts from 1, the id of its message is among those begun, and no other message of the
 -- listing has that id
@@ -88,30 +88,6 @@ pub record Links (frame : Frame) (before : Situation) (link : Link) : Type 0 whe
   pub session : Session link.settings frame.account before.account link.sent link.got effect link.after
   pub served : Served (maildrop_of frame.all link.come before.gone) link.sent link.got link.vanished
 
--- each session begins where the one before ended
-abbrev pub LinkRun : Frame → Situation → List Link → Type 0
-LinkRun frame before [] = Unit {0}
-LinkRun frame before (link ∷ links) = Links frame before link × LinkRun frame (after_link before link) links
-
--- each session has an effect that keeps its promises, and each state is kept
-abbrev pub AllKept : Frame → Situation → List Link → Type 0
-AllKept frame before [] = Kept frame before
-AllKept frame before (link ∷ links) = Kept frame before
-    × ((effect : Effect) × Session link.settings frame.account before.account link.sent link.got effect link.after
-    × Promises frame before (Visited (record {
-      settings = link.settings;
-      come = link.come;
-      effect = effect;
-      vanished = link.vanished;
-      after = link.after;
-    })))
-    × AllKept frame (after_link before link) links
-
--- the law over links
-abbrev pub LinksKeep : Type 0
-LinksKeep = (frame : Frame) (start : Situation) (links : List Link) → IsFrame frame → Kept frame start
-    → LinkRun frame start links → AllKept frame start links
-
 -- a law: a session over an honest link is a visit of the law over runs
 abbrev pub LinksAreVisits : Type 0
 LinksAreVisits = (frame : Frame) (before : Situation) (link : Link) → (l : Links frame before link)
@@ -122,3 +98,8 @@ LinksAreVisits = (frame : Frame) (before : Situation) (link : Link) → (l : Lin
       vanished = link.vanished;
       after = link.after;
     })
+
+-- how much mail had come at a session, and which ids its QUIT removed from the server
+pub record Fact : Type 0 where
+  pub come : ℕ
+  pub vanished : List (List ℕ)

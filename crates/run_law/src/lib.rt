@@ -2,17 +2,15 @@
 #![tactic(auto)]
 
 ghost use Rattle.run_law.specs.Runs.{CanEnd, KeptHoldsWhatIsLeft, KeptStaysKept, TakingIsAnEvent};
-ghost use Rattle.run_law.specs.Runs.{NothingTakenHoldsExactly, StartsKept, TakenStaysAway, WantsNext};
+ghost use Rattle.run_law.specs.Runs.{NothingTakenHoldsExactly, StartsKept, WantsNext};
 ghost use Rattle.run_law.specs.Readings.{HonestIsGranted, ListingIsMaildrop, MarksAreAsked, TextsAreMessages};
-ghost use Rattle.run_law.specs.Chains.{ChainsKeep};
 ghost use Rattle.run_law.specs.HonestSession.{HonestSession};
-ghost use Rattle.run_law.specs.Plans.{PlanGivesNumbers};
 ghost use Rattle.run_law.specs.Safety.{SessionsAreSafe};
-ghost use Rattle.run_law.specs.Sessions.{LinksAreVisits, LinksKeep};
+ghost use Rattle.run_law.specs.Sessions.{LinksAreVisits};
 ghost use Rattle.run_law.specs.Told.{ToldStores};
 ghost use Rattle.run_law.specs.MboxRuns.{MboxCanEnd, MboxKeptStaysKept, MboxKeptHolds, MboxStartsKept};
 ghost use Rattle.run_law.specs.MboxSafety.{MboxSessionsAreSafe};
-ghost use Rattle.run_law.specs.MboxSessions.{MboxLinksAreVisits, MboxLinksKeep};
+ghost use Rattle.run_law.specs.MboxSessions.{MboxLinksAreVisits};
 ghost use Rattle.run_law.specs.MboxTold.{MboxToldStores};
 
 use fetch_rules::{
@@ -54,21 +52,6 @@ pub fn holds_what_is_left()
 pub fn holds_exactly()
     ensures { NothingTakenHoldsExactly }
 {}
-
-/// If each session reads only what is new, a message that is recorded as delivered and isn't held
-/// is never stored again.
-#[tactic(auto, using(crate::proofs::Laws::taken_stays_away))]
-pub fn taken_stays_away()
-    ensures { TakenStaysAway }
-{
-    stems_differ();
-    names_have_stems();
-    marks_keep_the_base();
-    distinct_messages_are_filtered();
-    held_is_delivered();
-    flags_tell_what_is_held();
-    marked_is_delivered();
-}
 
 /// Taking the files of a held id away is the event by which a run says so.
 pub fn taking_is_an_event()
@@ -115,15 +98,6 @@ pub fn marks_are_asked()
     ensures { MarksAreAsked }
 {}
 
-/// Over honest links every list of sessions and moves leads from a kept state through kept states.
-#[tactic(auto, using(crate::proofs::Linked::links_keep))]
-pub fn links_keep()
-    ensures { LinksKeep }
-{
-    kept_states();
-    links_are_visits();
-}
-
 /// A session over an honest link is a visit of the law over runs.
 pub fn links_are_visits()
     ensures { LinksAreVisits }
@@ -146,7 +120,7 @@ pub fn honest_sessions_bring_messages()
     listing_is_maildrop();
 }
 
-/// In every situation there is a session that ends.
+/// In every situation there is a session that ends, so the laws over runs aren't about nothing.
 pub fn can_end()
     ensures { CanEnd }
 {
@@ -162,19 +136,6 @@ pub fn wants_next()
     held_is_delivered();
     flags_tell_what_is_held();
     marked_is_delivered();
-}
-
-/// The texts that a session retrieves are those of the first of the wanted messages.
-pub fn plan_gives_numbers()
-    ensures { PlanGivesNumbers }
-{}
-
-/// Over honest links a list of sessions leads from a kept account to a kept account.
-pub fn chains_keep()
-    ensures { ChainsKeep }
-{
-    kept_states();
-    links_are_visits();
 }
 
 /// A session given by its numbers is one that the law over runs takes.
@@ -223,22 +184,6 @@ pub fn mbox_holds_exactly()
 pub fn mbox_starts_kept()
     ensures { MboxStartsKept }
 {}
-
-/// With an mboxrd: over honest links every list of sessions that read only what is new leads from
-/// a kept state through kept states, and a session that asks for a message has first cut off what
-/// was left of an entry, or counted it.
-#[tactic(auto, using(crate::proofs::Linked::mbox_links_keep))]
-pub fn mbox_links_keep()
-    ensures { MboxLinksKeep }
-{
-    mbox_states_are_kept();
-    mbox_links_are_visits();
-    fronts_of_entries_are_settled();
-    held_is_delivered();
-    listed_has_row();
-    marked_is_delivered();
-    marked_keeps_rows();
-}
 
 /// With an mboxrd: a session over an honest link is a visit of the law over runs.
 pub fn mbox_links_are_visits()

@@ -44,7 +44,7 @@ fn take_all(
     client.quit()
 }
 
-/// The number of the fault, or 0, what was sent, its tail included, and what was taken, if at
+/// The number of the fault, or 0, what was sent, and what was taken, if at
 /// most `cut` octets come at once.
 fn outcome(alloc: Global, replies: &[u8], cut: usize) -> Result<String, Fail>
     requires { 0 < cut }
@@ -55,7 +55,6 @@ fn outcome(alloc: Global, replies: &[u8], cut: usize) -> Result<String, Fail>
     let mut number = 0;
     if let Err(fault) = take_all(alloc, &mut client, &mut taken) {
         number = fault_number(fault);
-        let _ = client.leave(fault);
     }
     let sent = String::from_utf8_lossy(alloc, wire.sent())?;
     let taken = String::from_utf8_lossy(alloc, taken.as_slice())?;

@@ -1,10 +1,7 @@
 //! Bodies and links.
 
 use crate::no_memory_tests::watched::{begin, end, tell, tell_bytes, tell_no_memory};
-use pop3_wire::{
-    BodyFault, EndlessWire, LineReader, ScriptWire, Wire, WireFault, read_body, stuff, unstuff,
-};
-use std::alloc::AllocError;
+use pop3_wire::{EndlessWire, Wire, WireFault, stuff, unstuff};
 use std::test::Fail;
 
 /// Prints what a call answered.
@@ -44,28 +41,6 @@ fn unstuff_body(rt: &HostRuntime) {
 fn unstuff_row(rt: HostRuntime) {
     unstuff_body(&rt);
     unstuff_body(&rt);
-}
-
-fn take_body(rt: &HostRuntime) -> Result<(), AllocError> {
-    let alloc = rt.alloc();
-    let mut wire = ScriptWire::new(alloc, Vec::from_slice(alloc, b"a\r\n..b\r\n.\r\n")?, 4);
-    let mut reader = LineReader::new();
-    begin(rt);
-    let answer = read_body(alloc, &mut wire, &mut reader, 100);
-    end(rt);
-    match answer {
-        Ok(text) => tell_bytes(rt, &text),
-        Err(BodyFault::NoMemory) => tell_no_memory(rt),
-        Err(_) => tell(rt, "another fault"),
-    }
-    Ok(())
-}
-
-#[test]
-fn read_body_row(rt: HostRuntime) -> Result<(), Fail> {
-    take_body(&rt)?;
-    take_body(&rt)?;
-    Ok(())
 }
 
 fn send_to_endless(rt: &HostRuntime, wire: &mut EndlessWire) -> bool {
