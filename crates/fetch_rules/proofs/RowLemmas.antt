@@ -1,13 +1,15 @@
 -- The record's rows as the entries of a map.
 use Rattle.std.proofs.Common.{◌≡◌, ◌≢◌, ◌⊎◌, inl, inr, ◌<◌, ℕ, zero, suc, List, length, filter, [], ◌∷◌, ◌++◌, take, Option, Some, None, Bool, true, false, ◌&&◌, ◌||◌, not, cond, get_or, refl, sym, ◌∙◌, ap, subst, arith}
-use Rattle.std.specs.Prelude.{find, option_map, bytes_eq, is_some, String, string_bytes}
+use Rattle.std.specs.Prelude.{find, option_map, bytes_eq, is_some, position, HoldsAt, IfSome, IfNone, String, string_bytes}
 use Rattle.std.specs.List.{AllByRecursion, list_any}
 use Rattle.std.specs.Bool.{OnTrue}
 use Rattle.std.specs.Global.{Global}
-use Rattle.std.specs.Map.{lookup, set_value}
+use Rattle.std.specs.Map.{keys_of, lookup, set_value}
 use Rattle.std.proofs.Math.Bool.{or-false}
 use Rattle.std.proofs.lemmas.Bool.{true≢false, or_parts}
 use Rattle.std.proofs.lemmas.List.Elements.{All-from_get_or, recursion_from_All}
+use Rattle.std.proofs.lemmas.List.{length-map}
+use Rattle.std.proofs.lemmas.List.Quantifiers.{position-Some}
 use Rattle.std.proofs.lemmas.Option.{same_Some, none-some}
 use Rattle.mail_terms.specs.UniqueId.{IsLegalId}
 use Rattle.fetch_rules.specs.Record.{Row, Intent, IsRow, IsRecord, is_of, has_row, marked, with_delivered, is_delivered}
@@ -266,3 +268,38 @@ no_mark uid rows is bad = sym (unmarked uid rows (illegal uid rows (recursion_fr
 pub absent : (uid : List ℕ) (es : List (String Global × State)) (rows : List Row) (key : List ℕ) → rows_of es ≡ rows → key ≡ uid → list_any (is_of uid) rows ≡ false → lookup (λ other. bytes_eq key (string_bytes other)) es ≡ None
 absent uid es rows key rows_are key_is none =
     lookup_state key es ∙ ap (λ (rs : List Row). state_in rs key) rows_are ∙ ap (λ (u : List ℕ). state_in rows u) key_is ∙ state_in-none uid rows none
+
+-- ---- the place of a row
+
+uid_at : (es : List (String Global × State)) (i : ℕ) (d : Row) (key : String Global) → i < length (keys_of es) → (get_or (rows_of es) i d).uid ≡ string_bytes (get_or (keys_of es) i key)
+uid_at [] i d key inside = absurd (omega (arith, inside))
+uid_at (e ∷ es) zero d key inside = refl
+uid_at (e ∷ es) (suc i) d key inside = uid_at es i d key (omega (arith, inside))
+
+found_at : (uid : List ℕ) (es : List (String Global × State)) (i : ℕ) → position (λ key. bytes_eq uid (string_bytes key)) (keys_of es) ≡ Some i
+    → (i < length (rows_of es)) × HoldsAt (λ (row : Row). row.uid ≡ uid) (rows_of es) i
+found_at uid [] i found = absurd (none-some i found)
+found_at uid (e ∷ es) i found =
+    let at = position-Some (λ key. bytes_eq uid (string_bytes key)) (keys_of (e ∷ es)) i e.0 found in
+    let keys = length-map (e ∷ es) (λ (entry : String Global × State). entry.0) in
+    let rows = length-map (e ∷ es) row_of in
+    (omega (arith, at.0, keys, rows), λ d. uid_at (e ∷ es) i d e.0 at.0 ∙ sym (same_from_test uid (string_bytes (get_or (keys_of (e ∷ es)) i e.0)) at.1))
+
+pub place_found : (text uid : List ℕ) (es : List (String Global × State)) (rows : List Row) (place : Option ℕ) → rows_of es ≡ rows → text ≡ uid
+    → place ≡ position (λ key. bytes_eq text (string_bytes key)) (keys_of es) → IfSome place (λ i. (i < length rows) × HoldsAt (λ (row : Row). row.uid ≡ uid) rows i)
+place_found text uid es rows None rows_are text_is same = tt
+place_found text uid es rows (Some i) rows_are text_is same =
+    subst (λ (id : List ℕ). (i < length rows) × HoldsAt (λ (row : Row). row.uid ≡ id) rows i) text_is
+    (subst (λ (rs : List Row). (i < length rs) × HoldsAt (λ (row : Row). row.uid ≡ text) rs i) rows_are (found_at text es i (sym same)))
+
+pub no_place : (text uid : List ℕ) (es : List (String Global × State)) (rows : List Row) (place : Option ℕ) → rows_of es ≡ rows → text ≡ uid
+    → is_some place ≡ is_some (lookup (λ key. bytes_eq text (string_bytes key)) es) → IfNone place (has_row rows uid ≡ false)
+no_place text uid es rows (Some i) rows_are text_is same = tt
+no_place text uid es rows None rows_are text_is same =
+    sym (same ∙ ap is_some (lookup_state text es) ∙ is_some-state_in text (rows_of es) ∙ ap (λ (rs : List Row). has_row rs text) rows_are ∙ ap (has_row rows) text_is)
+
+pub is_delivered-found : (rows : List Row) (place : ℕ) (uid : List ℕ) (delivered : Bool) → IsRecord rows → place < length rows → HoldsAt (λ (row : Row). row.uid ≡ uid) rows place
+    → HoldsAt (λ (row : Row). row.delivered ≡ delivered) rows place → is_delivered rows uid ≡ delivered
+is_delivered-found [] place uid delivered is inside here so = absurd (omega (arith, inside))
+is_delivered-found (row ∷ rows) place uid delivered is inside here so =
+    ap (is_delivered (row ∷ rows)) (sym (here row)) ∙ is_delivered-at (row ∷ rows) place row is inside ∙ so row

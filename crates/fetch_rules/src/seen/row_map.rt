@@ -1,7 +1,7 @@
 //! The rows of a record as a map from id to what is known of its message, in order of first
 //! appearance.
 
-ghost use Rattle.std.specs.Prelude.{◌≡◌, ◌<◌, ◌++◌, [], ◌∷◌, false, length, take, OnOk, OnErr, HoldsAt};
+ghost use Rattle.std.specs.Prelude.{◌≡◌, ◌<◌, ◌++◌, [], ◌∷◌, false, length, take, OnOk, OnErr, HoldsAt, IfSome, IfNone};
 ghost use Rattle.mail_terms.specs.UniqueId.{IsLegalId};
 ghost use Rattle.fetch_rules.specs.Record.{IsRecord, has_row, is_delivered, marked};
 ghost use Rattle.fetch_rules.specs.Rows.{row_from, state_in};
@@ -79,6 +79,19 @@ impl<H: BuildHasher> RowMap<H> {
         ensures is_record { IsRecord self.now }
     {
         self.states.get(text_of(uid)?).copied()
+    }
+
+    /// The place of an id's row, if it has one. The row at the place `likely` is compared first, and the
+    /// id is hashed only if it is another's.
+    pub(crate) fn place_of(&self, uid: &[u8], likely: usize) -> Option<usize>
+        ensures found { IfSome result (λ place. (place < length self.now) × HoldsAt (λ row. row.uid ≡ uid.now) self.now place) }
+        ensures none { IfNone result (has_row self.now uid.now ≡ false) }
+        ensures is_record { IsRecord self.now }
+    {
+        if likely < self.len() && self.at(likely).0 == uid {
+            return Some(likely);
+        }
+        self.states.get_index_of(text_of(uid)?)
     }
 
     /// Whether an id is recorded as delivered.
