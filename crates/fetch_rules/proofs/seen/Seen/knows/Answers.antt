@@ -1,4 +1,4 @@
-use Rattle.std.proofs.Common.{◌≡◌, ◌∙◌, refl, ℕ, List, true, false, get_or, sym, ap, inl, inr, arith}
+use Rattle.std.proofs.Common.{◌∙◌, refl, ℕ, List, get_or, sym, ap, inl, inr, arith}
 use Rattle.std.proofs.lemmas.Bool.{cases_lt, true≢false, not-true, not-false}
 use Rattle.fetch_rules.specs.Record.{Row, Loaded, is_delivered}
 use Rattle.fetch_rules.proofs.OccurrenceLemmas.{nobody}

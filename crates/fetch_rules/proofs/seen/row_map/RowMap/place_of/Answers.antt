@@ -1,5 +1,4 @@
-use Rattle.std.proofs.Common.{◌∙◌, sym, subst}
-use Rattle.fetch_rules.specs.Record.{IsRecord}
+use Rattle.std.proofs.Common.{sym}
 use Rattle.fetch_rules.proofs.RowLemmas.{no_state, place_found, no_place}
 use Rattle.fetch_rules.proofs.TakeLemmas.{has_row-none}
 use Rattle.fetch_rules.proofs.seen.row_map.RowMap.place_of.Goals as goal
