@@ -1,20 +1,19 @@
 -- A listing whose ids are all recorded as delivered changes nothing, whatever is held.
 use Rattle.std.proofs.Common.{◌≡◌, ℕ, suc, arith, List, [], ◌∷◌, ◌++◌, Bool, true, false, ◌&&◌, ◌||◌, not, map, refl, sym, ◌∙◌, ap, inl, inr}
 use Rattle.std.specs.Prelude.{bytes_eq}
-use Rattle.std.specs.List.{list_any}
 use Rattle.std.specs.Prelude.{All}
 use Rattle.std.proofs.Math.Bool.{or-false, and-false}
-use Rattle.std.proofs.lemmas.Bool.{cases_Bool, true≢false, or_left, or_parts, and_parts, or_cases}
+use Rattle.std.proofs.lemmas.Bool.{true≢false, or_left, or_parts, and_parts, or_cases}
 use Rattle.std.proofs.lemmas.List.{append-nil}
 use Rattle.mail_terms.specs.Listing.{Item, has_item, is_first, is_last, is_flagged}
 use Rattle.mail_terms.specs.UniqueId.{has_id}
-use Rattle.fetch_rules.specs.Record.{Row, IsRecord, is_of, has_row, is_delivered, with_delivered, with_held, new_ids, merged}
+use Rattle.fetch_rules.specs.Record.{Row, IsRecord, has_row, is_delivered, with_delivered, new_ids, merged}
 use Rattle.fetch_rules.proofs.IdLemmas.{same_from_test, test_from_same}
 use Rattle.fetch_rules.proofs.RecordLemmas.{uid_of}
 use Rattle.fetch_rules.proofs.NewIdLemmas.{AreApart}
 use Rattle.rc_file.specs.declared.settings.Settings.{Settings}
 use Rattle.fetch_rules.specs.Wanted.{is_candidate, is_within}
-use Rattle.fetch_rules.specs.Due.{is_due, may_delete}
+use Rattle.fetch_rules.specs.Due.{may_delete}
 use Rattle.fetch_rules.specs.Plan.{is_deleted, seen_since}
 use Rattle.fetch_rules.proofs.PlanLemmas.{Message, never_due}
 use Rattle.fetch_rules.proofs.CountLemmas.{ids_apart}

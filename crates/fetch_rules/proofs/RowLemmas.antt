@@ -1,14 +1,18 @@
 -- The record's rows as the entries of a map.
-use Rattle.std.proofs.Common.{◌≡◌, ◌≢◌, ◌⊎◌, inl, inr, ◌<◌, ℕ, zero, suc, List, length, filter, [], ◌∷◌, ◌++◌, take, Option, Some, None, Bool, true, false, ◌&&◌, ◌||◌, not, cond, get_or, refl, sym, ◌∙◌, ap, subst, arith}
-use Rattle.std.specs.Prelude.{find, option_map, bytes_eq, is_some, String, string_bytes}
+use Rattle.std.proofs.Common.{◌≡◌, ◌≢◌, ◌⊎◌, inl, inr, ◌<◌, ℕ, zero, suc, List, length, filter, map, ◌^◌, [], ◌∷◌, ◌++◌, take, Option, Some, None, Bool, true, false, ◌&&◌, ◌||◌, not, cond, get_or, refl, sym, ◌∙◌, ap, subst, arith}
+use Rattle.std.specs.Prelude.{find, option_map, bytes_eq, is_some, position, HoldsAt, IfSome, IfNone, String, string_bytes}
 use Rattle.std.specs.List.{AllByRecursion, list_any}
 use Rattle.std.specs.Bool.{OnTrue}
 use Rattle.std.specs.Global.{Global}
-use Rattle.std.specs.Map.{lookup, set_value}
+use Rattle.std.specs.Map.{keys_of, lookup, set_value}
 use Rattle.std.proofs.Math.Bool.{or-false}
 use Rattle.std.proofs.lemmas.Bool.{true≢false, or_parts}
-use Rattle.std.proofs.lemmas.List.Elements.{All-from_get_or, recursion_from_All}
+use Rattle.std.proofs.lemmas.List.Elements.{All-from_get_or, recursion_from_All, All-from_recursion}
+use Rattle.std.proofs.lemmas.List.{length-map}
+use Rattle.std.proofs.lemmas.List.Quantifiers.{position-Some}
 use Rattle.std.proofs.lemmas.Option.{same_Some, none-some}
+use Rattle.indexmap.specs.IndexMap.{insert_entry}
+use Rattle.mail_terms.specs.Distinct.{AreDistinct}
 use Rattle.mail_terms.specs.UniqueId.{IsLegalId}
 use Rattle.fetch_rules.specs.Record.{Row, Intent, IsRow, IsRecord, is_of, has_row, marked, with_delivered, is_delivered}
 use Rattle.fetch_rules.specs.RecordFile.{changed, marking, written}
@@ -16,7 +20,7 @@ use Rattle.fetch_rules.specs.Intents.{has_intent}
 use Rattle.fetch_rules.specs.Rows.{row_from, row_of, rows_of, state_of, state_in}
 use Rattle.fetch_rules.specs.declared.seen.row_map.State.{State}
 use Rattle.fetch_rules.proofs.IdLemmas.{same_from_test, test_from_same, test_from_other}
-use Rattle.fetch_rules.proofs.RecordLemmas.{with_delivered-false, with_delivered-true, rows_differ, rest_of}
+use Rattle.fetch_rules.proofs.RecordLemmas.{with_delivered-false, with_delivered-true, rows_differ, rest_of, IsRecord-push}
 use Rattle.fetch_rules.proofs.DeliveredLemmas.{changed-same}
 
 pub lookup_state : (uid : List ℕ) (es : List (String Global × State)) → lookup (λ key. bytes_eq uid (string_bytes key)) es ≡ state_in (rows_of es) uid
@@ -266,3 +270,116 @@ no_mark uid rows is bad = sym (unmarked uid rows (illegal uid rows (recursion_fr
 pub absent : (uid : List ℕ) (es : List (String Global × State)) (rows : List Row) (key : List ℕ) → rows_of es ≡ rows → key ≡ uid → list_any (is_of uid) rows ≡ false → lookup (λ other. bytes_eq key (string_bytes other)) es ≡ None
 absent uid es rows key rows_are key_is none =
     lookup_state key es ∙ ap (λ (rs : List Row). state_in rs key) rows_are ∙ ap (λ (u : List ℕ). state_in rows u) key_is ∙ state_in-none uid rows none
+
+-- ---- the place of a row
+
+uid_at : (es : List (String Global × State)) (i : ℕ) (d : Row) (key : String Global) → i < length (keys_of es) → (get_or (rows_of es) i d).uid ≡ string_bytes (get_or (keys_of es) i key)
+uid_at [] i d key inside = absurd (omega (arith, inside))
+uid_at (e ∷ es) zero d key inside = refl
+uid_at (e ∷ es) (suc i) d key inside = uid_at es i d key (omega (arith, inside))
+
+found_at : (uid : List ℕ) (es : List (String Global × State)) (i : ℕ) → position (λ key. bytes_eq uid (string_bytes key)) (keys_of es) ≡ Some i
+    → (i < length (rows_of es)) × HoldsAt (λ (row : Row). row.uid ≡ uid) (rows_of es) i
+found_at uid [] i found = absurd (none-some i found)
+found_at uid (e ∷ es) i found =
+    let at = position-Some (λ key. bytes_eq uid (string_bytes key)) (keys_of (e ∷ es)) i e.0 found in
+    let keys = length-map (e ∷ es) (λ (entry : String Global × State). entry.0) in
+    let rows = length-map (e ∷ es) row_of in
+    (omega (arith, at.0, keys, rows), λ d. uid_at (e ∷ es) i d e.0 at.0 ∙ sym (same_from_test uid (string_bytes (get_or (keys_of (e ∷ es)) i e.0)) at.1))
+
+pub place_found : (text uid : List ℕ) (es : List (String Global × State)) (rows : List Row) (place : Option ℕ) → rows_of es ≡ rows → text ≡ uid
+    → place ≡ position (λ key. bytes_eq text (string_bytes key)) (keys_of es) → IfSome place (λ i. (i < length rows) × HoldsAt (λ (row : Row). row.uid ≡ uid) rows i)
+place_found text uid es rows None rows_are text_is same = tt
+place_found text uid es rows (Some i) rows_are text_is same =
+    subst (λ (id : List ℕ). (i < length rows) × HoldsAt (λ (row : Row). row.uid ≡ id) rows i) text_is
+    (subst (λ (rs : List Row). (i < length rs) × HoldsAt (λ (row : Row). row.uid ≡ text) rs i) rows_are (found_at text es i (sym same)))
+
+pub no_place : (text uid : List ℕ) (es : List (String Global × State)) (rows : List Row) (place : Option ℕ) → rows_of es ≡ rows → text ≡ uid
+    → is_some place ≡ is_some (lookup (λ key. bytes_eq text (string_bytes key)) es) → IfNone place (has_row rows uid ≡ false)
+no_place text uid es rows (Some i) rows_are text_is same = tt
+no_place text uid es rows None rows_are text_is same =
+    sym (same ∙ ap is_some (lookup_state text es) ∙ is_some-state_in text (rows_of es) ∙ ap (λ (rs : List Row). has_row rs text) rows_are ∙ ap (has_row rows) text_is)
+
+pub is_delivered-found : (rows : List Row) (place : ℕ) (uid : List ℕ) (delivered : Bool) → IsRecord rows → place < length rows → HoldsAt (λ (row : Row). row.uid ≡ uid) rows place
+    → HoldsAt (λ (row : Row). row.delivered ≡ delivered) rows place → is_delivered rows uid ≡ delivered
+is_delivered-found [] place uid delivered is inside here so = absurd (omega (arith, inside))
+is_delivered-found (row ∷ rows) place uid delivered is inside here so =
+    ap (is_delivered (row ∷ rows)) (sym (here row)) ∙ is_delivered-at (row ∷ rows) place row is inside ∙ so row
+
+-- ---- a row that is added or replaced
+
+abbrev is_key : String Global → String Global → Bool
+is_key key other = bytes_eq (string_bytes key) (string_bytes other)
+
+insert_is_set : (key : String Global) (old new : State) (es : List (String Global × State)) → lookup (is_key key) es ≡ Some old → insert_entry is_key es key new ≡ set_value (is_key key) es new
+insert_is_set key old new [] found = absurd (none-some old found)
+insert_is_set key old new (e ∷ es) found = by (is_key key e.0) found (λ at. insert_is_set key old new es at)
+  where
+    by : (here : Bool) → cond here (Some e.1) (lookup (is_key key) es) ≡ Some old → (lookup (is_key key) es ≡ Some old → insert_entry is_key es key new ≡ set_value (is_key key) es new)
+        → cond here ((e.0, new) ∷ es) (e ∷ insert_entry is_key es key new) ≡ cond here ((e.0, new) ∷ es) (e ∷ set_value (is_key key) es new)
+    by true at rest = refl
+    by false at rest = ap (λ (others : List (String Global × State)). e ∷ others) (rest at)
+
+each_set : (test : String Global → Bool) (new : State) (es : List (String Global × State)) → new.first_seen < 2 ^ 64 → AllByRecursion IsRow (rows_of es) → AllByRecursion IsRow (rows_of (set_value test es new))
+each_set test new [] fits each = tt
+each_set test new (e ∷ es) fits each = by (test e.0) (each_set test new es fits each.1)
+  where
+    by : (here : Bool) → AllByRecursion IsRow (rows_of (set_value test es new)) → AllByRecursion IsRow (rows_of (cond here ((e.0, new) ∷ es) (e ∷ set_value test es new)))
+    by true rest = (record { legal = each.0.legal; fits = fits }, each.1)
+    by false rest = (each.0, rest)
+
+ids_kept : (test : String Global → Bool) (new : State) (es : List (String Global × State)) → map (λ (row : Row). row.uid) (rows_of (set_value test es new)) ≡ map (λ (row : Row). row.uid) (rows_of es)
+ids_kept test new [] = refl
+ids_kept test new (e ∷ es) = by (test e.0) (ids_kept test new es)
+  where
+    by : (here : Bool) → map (λ (row : Row). row.uid) (rows_of (set_value test es new)) ≡ map (λ (row : Row). row.uid) (rows_of es)
+        → map (λ (row : Row). row.uid) (rows_of (cond here ((e.0, new) ∷ es) (e ∷ set_value test es new))) ≡ map (λ (row : Row). row.uid) (rows_of (e ∷ es))
+    by true rest = refl
+    by false rest = ap (λ (ids : List (List ℕ)). string_bytes e.0 ∷ ids) rest
+
+insert_is_push : (key : String Global) (new : State) (es : List (String Global × State)) → lookup (is_key key) es ≡ None → insert_entry is_key es key new ≡ es ++ (key, new) ∷ []
+insert_is_push key new [] none = refl
+insert_is_push key new (e ∷ es) none = by (is_key key e.0) none (λ at. insert_is_push key new es at)
+  where
+    by : (here : Bool) → cond here (Some e.1) (lookup (is_key key) es) ≡ None → (lookup (is_key key) es ≡ None → insert_entry is_key es key new ≡ es ++ (key, new) ∷ [])
+        → cond here ((e.0, new) ∷ es) (e ∷ insert_entry is_key es key new) ≡ e ∷ (es ++ (key, new) ∷ [])
+    by true at rest = absurd (none-some e.1 (sym at))
+    by false at rest = ap (λ (others : List (String Global × State)). e ∷ others) (rest at)
+
+-- the map is changed by one row
+pub record Puts (uid : List ℕ) (state : State) (es fs : List (String Global × State)) (rows : List Row) : Type 0 where
+  pub key : String Global
+  pub rows_are : rows_of es ≡ rows
+  pub key_is : string_bytes key ≡ uid
+  pub fs_is : fs ≡ insert_entry is_key es key state
+
+pub known_at : (uid : List ℕ) (state : State) (es fs : List (String Global × State)) (rows : List Row) (puts : Puts uid state es fs rows) → lookup (is_key puts.key) es ≡ state_in rows uid
+known_at uid state es fs rows puts =
+    lookup_state (string_bytes puts.key) es ∙ ap (λ (rs : List Row). state_in rs (string_bytes puts.key)) puts.rows_are ∙ ap (λ (id : List ℕ). state_in rows id) puts.key_is
+
+pub put_added : (uid : List ℕ) (state : State) (es fs : List (String Global × State)) (rows : List Row) (found : Option State) → Puts uid state es fs rows
+    → found ≡ state_in rows uid → IfNone found (rows_of fs ≡ rows ++ row_from uid state ∷ [])
+put_added uid state es fs rows (Some old) puts found_is = tt
+put_added uid state es fs rows None puts found_is =
+    pushed uid state es fs rows puts.key puts.rows_are puts.key_is (puts.fs_is ∙ insert_is_push puts.key state es (known_at uid state es fs rows puts ∙ sym found_is))
+
+pub put_marked : (uid : List ℕ) (state : State) (es fs : List (String Global × State)) (rows : List Row) (found : Option State) → Puts uid state es fs rows
+    → IsRecord rows → found ≡ state_in rows uid → IfSome found (λ old. state ≡ record old { delivered = true } → rows_of fs ≡ marked rows uid)
+put_marked uid state es fs rows None puts is found_is = tt
+put_marked uid state es fs rows (Some old) puts is found_is = λ state_is.
+    let at = known_at uid state es fs rows puts ∙ sym found_is in
+    ap rows_of (puts.fs_is ∙ insert_is_set puts.key old state es at)
+    ∙ set_here (string_bytes puts.key) es old state (subst IsRecord (sym puts.rows_are) is) at state_is
+    ∙ ap (λ (rs : List Row). marked rs (string_bytes puts.key)) puts.rows_are ∙ ap (marked rows) puts.key_is
+
+pub put_is_record : (uid : List ℕ) (state : State) (es fs : List (String Global × State)) (rows : List Row) (found : Option State) → Puts uid state es fs rows
+    → IsRecord rows → IsRow (row_from uid state) → found ≡ state_in rows uid → IsRecord (rows_of fs)
+put_is_record uid state es fs rows None puts is row_is found_is =
+    subst IsRecord (sym (put_added uid state es fs rows None puts found_is)) (IsRecord-push rows (row_from uid state) is row_is (sym (is_some-state_in uid rows) ∙ ap is_some (sym found_is)))
+put_is_record uid state es fs rows (Some old) puts is row_is found_is =
+    let at = known_at uid state es fs rows puts ∙ sym found_is in
+    let before = subst IsRecord (sym puts.rows_are) is in
+    subst (λ (entries : List (String Global × State)). IsRecord (rows_of entries)) (sym (puts.fs_is ∙ insert_is_set puts.key old state es at)) (record {
+      each = All-from_recursion IsRow _ (each_set (is_key puts.key) state es row_is.fits (recursion_from_All IsRow (rows_of es) before.each));
+      distinct = subst AreDistinct (sym (ids_kept (is_key puts.key) state es)) before.distinct;
+    })

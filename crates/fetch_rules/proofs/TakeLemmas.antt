@@ -1,8 +1,8 @@
 -- A row of the file, as the reader takes it.
-use Rattle.std.proofs.Common.{◌≡◌, ◌≢◌, ℕ, zero, suc, List, [], ◌∷◌, ◌++◌, Some, None, Bool, true, false, ◌&&◌, ◌||◌, not, cond, refl, sym, ◌∙◌, ap}
-use Rattle.std.specs.Prelude.{◌==◌, is_some}
+use Rattle.std.proofs.Common.{◌≡◌, ◌≢◌, ℕ, zero, suc, List, [], ◌∷◌, ◌++◌, Option, Some, None, Bool, true, false, ◌&&◌, ◌||◌, not, cond, refl, sym, ◌∙◌, ap, subst}
+use Rattle.std.specs.Prelude.{◌==◌, is_some, IfSome, IfNone}
 use Rattle.fetch_rules.specs.RecordFile.{Version}
-use Rattle.std.proofs.lemmas.Bool.{true≢false}
+use Rattle.std.proofs.lemmas.Bool.{true≢false, and_parts, eqb-true}
 use Rattle.fetch_rules.specs.Record.{Row, IsRecord, has_row, marked}
 use Rattle.fetch_rules.specs.RecordMeaning.{delivers, Progress, Judged, InBase, BetweenGroups, InGroup, Stands, Fails, line_after}
 use Rattle.fetch_rules.specs.Lines.{version_of, is_within, after_row, TakesRow, RefusesRow}
@@ -24,6 +24,20 @@ pub delivers-known : (older : Bool) (rows : List Row) (row : Row) (state : State
     → delivers (version_of older) rows row ≡ (row.delivered && (not (older && state.delivered) && (state.first_seen == row.first_seen)))
 delivers-known true rows row state is found = ap (λ (b : Bool). row.delivered && b) (any_of (λ s. not s.delivered && (s.first_seen == row.first_seen)) row.uid rows state is found)
 delivers-known false rows row state is found = ap (λ (b : Bool). row.delivered && b) (any_of (λ s. true && (s.first_seen == row.first_seen)) row.uid rows state is found)
+
+pub delivered_again : (older : Bool) (old new : State) → (new.delivered && (not (older && old.delivered) && (old.first_seen == new.first_seen))) ≡ true → new ≡ record old { delivered = true }
+delivered_again older old new so =
+    let parts = and_parts new.delivered (not (older && old.delivered) && (old.first_seen == new.first_seen)) so in
+    let seconds = eqb-true old.first_seen new.first_seen (and_parts (not (older && old.delivered)) (old.first_seen == new.first_seen) parts.1).1 in
+    ap (λ (n : ℕ). record new { first_seen = n }) (sym seconds) ∙ ap (λ (b : Bool). record old { delivered = b }) parts.0
+
+-- what the map becomes, by what was known of the id
+pub rows_added : (known : Option State) (rows new : List Row) (row : Row) → known ≡ None → IfNone known (new ≡ rows ++ row ∷ []) → new ≡ rows ++ row ∷ []
+rows_added known rows new row none added = subst (λ (k : Option State). IfNone k (new ≡ rows ++ row ∷ [])) none added
+
+pub rows_marked : (known : Option State) (uid : List ℕ) (rows new : List Row) (old state : State) → known ≡ Some old → IfSome known (λ was. state ≡ record was { delivered = true } → new ≡ marked rows uid)
+    → state ≡ record old { delivered = true } → new ≡ marked rows uid
+rows_marked known uid rows new old state found put again = subst (λ (k : Option State). IfSome k (λ was. state ≡ record was { delivered = true } → new ≡ marked rows uid)) found put again
 
 abbrev Tried : Version → List Row → Row → Progress → ℕ → Bool → Judged
 Tried version rows row next n b = cond b (Stands next) (Fails (RepeatedId (line_after n)))

@@ -222,7 +222,12 @@ impl<'a, R: Files + Clock + AllocGlobal + Clone + Drop> HostFolder<'a, R> {
     }
 
     fn read_all(&self, name: &str) -> io::Result<Vec<u8>> {
-        fs::read(self.rt, self.regular_path(name)?)
+        let mut file = fs::open(self.rt, self.regular_path(name)?)?;
+        // Room for all of it at once: a Vec that grows as it is read has up to twice the file's size.
+        let size = file.metadata()?.len() as usize;
+        let mut bytes = Vec::with_capacity(self.rt.alloc(), size.saturating_add(1))?;
+        file.read_to_end(&mut bytes)?;
+        Ok(bytes)
     }
 
     fn read_edges(&self, name: &str) -> io::Result<Edges> {

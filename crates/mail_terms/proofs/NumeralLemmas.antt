@@ -1,49 +1,57 @@
--- What `parse` reads from a numeral, and that a numeral is a text.
-use Rattle.std.proofs.Common.{◌≡◌, ℕ, ◌<◌, ◌≤◌, List, [], ◌∷◌, length, Bool, true, ◌&&◌, Some, Result, Ok, Err, nat_lt, nat_le, ap, refl, sym, ◌∙◌, arith, inl, inr}
-use Rattle.std.proofs.lemmas.Bool.{and_parts, cases_lt, le-leb, lt-leb, ltb-true}
+-- The value of the digits that were read so far.
+use Rattle.std.proofs.Common.{◌≡◌, ℕ, ◌+◌, ◌*◌, ◌-◌, ◌<◌, ◌≤◌, ◌==◌, List, length, take, get_or, Bool, true, false, ◌&&◌, Some, None, nat_lt, ap, sym, ◌∙◌, arith, if◌then◌else◌}
+use Rattle.std.proofs.Math.Bool.{and-false}
+use Rattle.std.proofs.lemmas.Bool.{le-leb, lt-leb}
 use Rattle.std.proofs.lemmas.Bool.Decides.{nat_tests}
-use Rattle.std.proofs.lemmas.Fmt.{IsAscii-from_digits}
-use Rattle.std.proofs.lemmas.Str.{IsUtf8-from_ascii}
-use Rattle.std.proofs.lemmas.Str.Parse.{numerals_by_value, tells_all_ascii_digits, parse_digits}
+use Rattle.std.proofs.lemmas.List.{take_all}
+use Rattle.std.proofs.lemmas.List.Folds.{list_all_more}
+use Rattle.std.proofs.lemmas.Int.Digits.{digits_value_more}
+use Rattle.std.proofs.lemmas.Str.Parse.{digits_value-take-le}
 use Rattle.std.specs.Char.{is_ascii_digit, digit_value}
 use Rattle.std.specs.List.{list_all}
-use Rattle.std.specs.Result.{result_ok}
-use Rattle.std.specs.Str.{all_ascii_digits, IsUtf8}
-use Rattle.std.specs.Str.Parse.{digits_value, AllDigits, ParsesUnsigned}
+use Rattle.std.specs.Str.Parse.{digits_value}
 use Rattle.mail_terms.specs.Numeral.{is_numeral, numeral_value}
 
-below_ten : (c : ℕ) → is_ascii_digit c ≡ true → digit_value c < 10
-below_ten c e = grind (arith, nat_tests)
+-- these octets are digits, and this is their value, which isn't too large
+pub record HasDigits (octets : List ℕ) (value : ℕ) : Type 0 where
+  pub digits : list_all is_ascii_digit octets ≡ true
+  pub is : value ≡ digits_value 10 octets
+  pub fits : value ≤ 18446744073709551615
 
-all_digits : (ds : List ℕ) → list_all is_ascii_digit ds ≡ true → AllDigits 10 ds
-all_digits [] e = tt
-all_digits (d ∷ ds) e =
-    let parts = and_parts (is_ascii_digit d) (list_all is_ascii_digit ds) e in
-    (below_ten d parts.0, all_digits ds parts.1)
+value_of : (byte : ℕ) → is_ascii_digit byte ≡ true → digit_value byte ≡ byte - 48
+value_of byte digit = grind (arith, nat_tests)
 
-pub numeral_is_text : (ds : List ℕ) → is_numeral ds ≡ true → IsUtf8 ds
-numeral_is_text ds numeral =
-    let parts = and_parts (nat_lt 0 (length ds) && nat_le (length ds) 20) (list_all is_ascii_digit ds) numeral in
-    IsUtf8-from_ascii ds (IsAscii-from_digits ds (all_digits ds parts.1))
+-- the value with one more digit
+one_more : (text : List ℕ) (i value : ℕ) → i < length text → HasDigits (take i text) value → is_ascii_digit (get_or text i 0) ≡ true
+    → digits_value 10 (take (i + 1) text) ≡ value * 10 + (get_or text i 0 - 48)
+one_more text i value inside read digit =
+    digits_value_more 10 text i inside ∙ ap (λ (n : ℕ). n * 10 + digit_value (get_or text i 0)) (sym read.is) ∙ ap (λ (n : ℕ). value * 10 + n) (value_of (get_or text i 0) digit)
 
--- what `parse` reads from digits
-digits_same : (ds : List ℕ) → list_all is_ascii_digit ds ≡ all_ascii_digits ds
-digits_same [] = refl
-digits_same (d ∷ ds) = ap (λ (b : Bool). is_ascii_digit d && b) (digits_same ds)
+pub HasDigits-more : (text : List ℕ) (i value next : ℕ) → i < length text → HasDigits (take i text) value → is_ascii_digit (get_or text i 0) ≡ true
+    → next ≡ value * 10 + (get_or text i 0 - 48) → next ≤ 18446744073709551615 → HasDigits (take (i + 1) text) next
+HasDigits-more text i value next inside read digit is fits = record {
+  digits = list_all_more is_ascii_digit text i 0 inside ∙ ap (λ (b : Bool). b && is_ascii_digit (get_or text i 0)) read.digits ∙ digit;
+  is = is ∙ sym (one_more text i value inside read digit);
+  fits = fits;
+}
 
-pub number_parsed : {E : Type 0} (ds : List ℕ) (r : Result ℕ E) → is_numeral ds ≡ true → ParsesUnsigned 64 10 ds r
-    → result_ok r ≡ numeral_value ds
-number_parsed {E} ds (Ok n) numeral h =
-    let parts = and_parts (nat_lt 0 (length ds) && nat_le (length ds) 20) (list_all is_ascii_digit ds) numeral in
-    let own = numerals_by_value (λ (l : List ℕ). all_ascii_digits l ≡ true) tells_all_ascii_digits in
-    let read = parse_digits own {E = E} 64 ds (Ok n) h (sym (digits_same ds) ∙ parts.1) in
-    let small : digits_value 10 ds ≤ 18446744073709551615 = omega (arith, read.0.1) in
-    rw (numeral, le-leb (digits_value 10 ds) 18446744073709551615 small) (ap (λ (k : ℕ). Some k) read.1)
-number_parsed {E} ds (Err e) numeral h =
-    let parts = and_parts (nat_lt 0 (length ds) && nat_le (length ds) 20) (list_all is_ascii_digit ds) numeral in
-    let own = numerals_by_value (λ (l : List ℕ). all_ascii_digits l ≡ true) tells_all_ascii_digits in
-    let read = parse_digits own {E = E} 64 ds (Err e) h (sym (digits_same ds) ∙ parts.1) in
-    let some : 0 < length ds = ltb-true 0 (length ds) (and_parts (nat_lt 0 (length ds)) (nat_le (length ds) 20) parts.0).0 in
-    let large : 18446744073709551615 < digits_value 10 ds =
-    elim (cases_lt 18446744073709551615 (digits_value 10 ds)) [ inl lt ↦ lt | inr le ↦ absurd (read (some, omega (arith, le))) ] in
-    rw (numeral, lt-leb (digits_value 10 ds) 18446744073709551615 large)
+-- no number that is too large has a value, nor one that begins with such a number
+pub no_value : (text : List ℕ) (i value : ℕ) → i < length text → HasDigits (take i text) value → is_ascii_digit (get_or text i 0) ≡ true
+    → 18446744073709551615 < value * 10 + (get_or text i 0 - 48) → numeral_value text ≡ None
+no_value text i value inside read digit large =
+    let less = digits_value-take-le 10 text (i + 1) (omega arith) in
+    ap (λ (b : Bool). if is_numeral text && b then Some (digits_value 10 text) else None)
+    (lt-leb (digits_value 10 text) 18446744073709551615 (omega (arith, large, less, one_more text i value inside read digit)))
+    ∙ ap (λ (b : Bool). if b then Some (digits_value 10 text) else None) (and-false (is_numeral text))
+
+some_length : (text : List ℕ) → (length text == 0) ≡ false → nat_lt 0 (length text) ≡ true
+some_length text some = grind (arith, nat_tests)
+
+-- all digits were read
+pub whole_value : (text : List ℕ) (i value : ℕ) → (length text == 0) ≡ false → length text ≤ 20 → length text ≤ i → HasDigits (take i text) value
+    → Some value ≡ numeral_value text
+whole_value text i value some short whole read =
+    let all = take_all i text whole in
+    let digits : list_all is_ascii_digit text ≡ true = ap (list_all is_ascii_digit) (sym all) ∙ read.digits in
+    let is : value ≡ digits_value 10 text = read.is ∙ ap (digits_value 10) all in
+    rw (some_length text some, le-leb (length text) 20 short, digits, le-leb (digits_value 10 text) 18446744073709551615 (omega (arith, read.fits, is))) (ap (λ (n : ℕ). Some n) is)

@@ -1,7 +1,8 @@
 -- Where a line ends, and that it ends at one place only.
-use Rattle.std.proofs.Common.{◌≡◌, ◌⊎◌, inl, inr, ℕ, ◌+◌, ◌≤◌, List, [], ◌∷◌, ◌++◌, length, take, drop, refl, sym, ap, subst, ◌∙◌, arith, append_assoc, take-append-drop, length-append, length-take-le}
+use Rattle.std.proofs.Common.{◌≡◌, ◌⊎◌, inl, inr, ℕ, zero, suc, Bool, ◌+◌, ◌-◌, ◌<◌, ◌≤◌, slice_index, List, [], ◌∷◌, ◌++◌, length, take, drop, refl, sym, ap, subst, ◌∙◌, arith, append_assoc, take-append-drop, length-append, length-take-le}
 use Rattle.std.proofs.Math.Seq.{drop-append_seam}
-use Rattle.memchr.specs.Find.{OccursAt, Nowhere, NoneBefore}
+use Rattle.std.proofs.lemmas.Bool.{eqb-true}
+use Rattle.memchr.specs.Find.{OccursAt, Nowhere, NoneBefore, Passes, is_byte}
 use Rattle.memchr.proofs.lemmas.MatchLemmas.{OccursAt-split, OccursAt-from_part}
 use Rattle.pop3_wire.specs.Line.{crlf, IsLine, OneLine}
 
@@ -54,6 +55,46 @@ line_found bytes k first occurs = (whole, split)
         let size : length (take k bytes) ≡ k = length-take-le k bytes (omega arith) in
         let sizes : length (take k bytes) ≡ length front + length (crlf ++ rest) = ap length e ∙ length-append front (crlf ++ rest) in
         first.before (length front) (omega arith) (omega arith) earlier
+
+-- ---- by the place of the first LF
+
+abbrev pub is_lf : ℕ → Bool
+is_lf byte = is_byte 10 byte
+
+-- where the pair occurs, LF comes next
+lf_follows : (bytes : List ℕ) (k : ℕ) → OccursAt bytes crlf k → Passes is_lf bytes (k + 1)
+lf_follows bytes k occurs = ap is_lf (occurs.reads 1 (omega arith))
+
+-- without LF there is no pair
+pub IsLine-without_lf : (bytes : List ℕ) → Nowhere (Passes is_lf bytes) 0 (length bytes) → IsLine bytes
+IsLine-without_lf bytes none = IsLine-nowhere bytes (λ k low high occurs. none (k + 1) (omega arith) (omega (arith, occurs.fits)) (lf_follows bytes k occurs))
+
+-- the first LF ends a line if CR stands before it
+pub line_by_lf : (bytes : List ℕ) (k : ℕ) → NoneBefore (Passes is_lf bytes) 0 (length bytes) k → Passes is_lf bytes k → 0 < k
+    → slice_index bytes (k - 1) ≡ 13 → IsLine (take (k - 1) bytes) × (bytes ≡ take (k - 1) bytes ++ (crlf ++ drop (k + 1) bytes))
+line_by_lf bytes k first found some cr =
+    let next : (k - 1) + 1 ≡ k = omega (arith, some) in
+    let after : (k - 1) + 2 ≡ k + 1 = omega (arith, some) in
+    let parts = line_found bytes (k - 1) none occurs in
+    (parts.0, parts.1 ∙ ap (λ (n : ℕ). take (k - 1) bytes ++ (crlf ++ drop n bytes)) after)
+  where
+    lf : slice_index bytes k ≡ 10
+    lf = eqb-true (slice_index bytes k) 10 found
+
+    reads : (j : ℕ) → j < 2 → slice_index bytes ((k - 1) + j) ≡ slice_index crlf j
+    reads zero within = ap (slice_index bytes) (omega arith) ∙ cr
+    reads (suc zero) within = ap (slice_index bytes) (omega (arith, some)) ∙ lf
+    reads (suc (suc j)) within = absurd (omega (arith, within))
+
+    occurs : OccursAt bytes crlf (k - 1)
+    occurs = record { fits = omega (arith, first.high, some); reads = reads }
+
+    none : NoneBefore (OccursAt bytes crlf) 0 (length bytes + 1) (k - 1)
+    none = record {
+      low = omega arith;
+      high = omega (arith, first.high);
+      before = λ j low high earlier. first.before (j + 1) (omega arith) (omega (arith, high, some)) (lf_follows bytes j earlier);
+    }
 
 pub same_cons : (b c : ℕ) (x y : List ℕ) → b ∷ x ≡ c ∷ y → (b ≡ c) × (x ≡ y)
 same_cons b c x y e = (cc, cc)

@@ -3,7 +3,7 @@
 ghost use Rattle.std.specs.Prelude.{◌≡◌, ◌≢◌, ◌↔◌, ℕ, ◌<◌, ◌≤◌, ◌^◌, ◌∷◌, ◌++◌, length, slice_index, All, IsTrue, IfSome, IfNone};
 ghost use Rattle.std.specs.Fmt.{decimal};
 
-use std::str;
+use mail_terms::read_numeral;
 
 /// What comes before the first separator, and what follows it.
 pub(super) fn cut_at(bytes: &[u8], separator: u8) -> Option<(&[u8], &[u8])>
@@ -36,11 +36,5 @@ pub(super) fn read_number(field: &[u8]) -> Option<u64>
     if !begins_as_numeral(field) {
         return None;
     }
-    let Ok(text) = str::from_utf8(field) else {
-        return None;
-    };
-    match text.parse() {
-        Ok(number) => Some(number),
-        Err(_) => None,
-    }
+    read_numeral(field)
 }

@@ -165,18 +165,18 @@ impl<H: BuildHasher> RowMap<H> {
             → RefusesRow older part self.old (row_from row.now.uid.now row.now.state) number fault) }
         ensures is_record { IsRecord self.new }
     {
-        let known = self.state(row.uid);
+        // For the proof alone: `len` says that the rows are a record.
+        let _ = self.len();
+        let known = self.put(row.uid, row.state)?;
         if let Part::Between = part {
             return Err(SeenFault::BadRow(number));
         }
         let Some(old) = known else {
-            self.add(row.uid, row.state)?;
             return Ok(part.after_row());
         };
         if !part.is_within() || !delivers(older, old, row.state) {
             return Err(SeenFault::RepeatedId(number));
         }
-        self.set_delivered(row.uid);
         Ok(part.after_row())
     }
 

@@ -1,7 +1,7 @@
 //! The rows of a record as a map from id to what is known of its message, in order of first
 //! appearance.
 
-ghost use Rattle.std.specs.Prelude.{◌≡◌, ◌<◌, ◌++◌, [], ◌∷◌, false, length, take, OnOk, OnErr, HoldsAt};
+ghost use Rattle.std.specs.Prelude.{◌≡◌, ◌<◌, ◌++◌, [], ◌∷◌, true, false, length, take, OnOk, OnErr, IfOk, HoldsAt, IfSome, IfNone};
 ghost use Rattle.mail_terms.specs.UniqueId.{IsLegalId};
 ghost use Rattle.fetch_rules.specs.Record.{IsRecord, has_row, is_delivered, marked};
 ghost use Rattle.fetch_rules.specs.Rows.{row_from, state_in};
@@ -81,6 +81,19 @@ impl<H: BuildHasher> RowMap<H> {
         self.states.get(text_of(uid)?).copied()
     }
 
+    /// The place of an id's row, if it has one. The row at the place `likely` is compared first, and the
+    /// id is hashed only if it is another's.
+    pub(crate) fn place_of(&self, uid: &[u8], likely: usize) -> Option<usize>
+        ensures found { IfSome result (λ place. (place < length self.now) × HoldsAt (λ row. row.uid ≡ uid.now) self.now place) }
+        ensures none { IfNone result (has_row self.now uid.now ≡ false) }
+        ensures is_record { IsRecord self.now }
+    {
+        if likely < self.len() && self.at(likely).0 == uid {
+            return Some(likely);
+        }
+        self.states.get_index_of(text_of(uid)?)
+    }
+
     /// Whether an id is recorded as delivered.
     pub(crate) fn is_delivered(&self, uid: &[u8]) -> bool
         ensures { result ≡ is_delivered self.now uid.now }
@@ -108,6 +121,23 @@ impl<H: BuildHasher> RowMap<H> {
         }
     }
 
+    /// Adds a row for an id, or replaces what is known of its message if it has one, and returns what
+    /// was known before.
+    pub(crate) fn put(&mut self, uid: &[u8], state: State) -> Result<Option<State>, AllocError>
+        requires legal { IsLegalId uid.now }
+        ensures old { IfOk result (λ old. old ≡ state_in self.old uid.now) }
+        ensures added { IfOk result (λ old. IfNone old (self.new ≡ self.old ++ row_from uid.now state ∷ [])) }
+        ensures marked { IfOk result (λ old. IfSome old (λ old. state ≡ record old { delivered = true } → self.new ≡ marked self.old uid.now)) }
+        ensures err { OnErr result (self.new ≡ self.old) }
+        ensures is_record { IsRecord self.new }
+    {
+        let Some(text) = text_of(uid) else {
+            unreachable!()
+        };
+        let id = String::from_str(self.alloc, text)?;
+        Ok(self.states.insert(id, state)?)
+    }
+
     /// Adds a row for an id that has none.
     pub(crate) fn add(&mut self, uid: &[u8], state: State) -> Result<(), AllocError>
         requires legal { IsLegalId uid.now }
@@ -116,11 +146,7 @@ impl<H: BuildHasher> RowMap<H> {
         ensures err { OnErr result (self.new ≡ self.old) }
         ensures is_record { IsRecord self.new }
     {
-        let Some(text) = text_of(uid) else {
-            unreachable!()
-        };
-        let id = String::from_str(self.alloc, text)?;
-        self.states.insert(id, state)?;
+        self.put(uid, state)?;
         Ok(())
     }
 

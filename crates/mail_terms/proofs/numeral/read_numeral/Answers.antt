@@ -1,16 +1,24 @@
-use Rattle.std.proofs.Common.{rules, ◌≡◌, ◌∙◌, ℕ, List, subst, true}
-use Rattle.std.specs.Str.Parse.{ParsesUnsigned}
-use Rattle.mail_terms.specs.Numeral.{is_numeral}
-use Rattle.mail_terms.proofs.NumeralLemmas.{number_parsed, numeral_is_text}
+use Rattle.std.proofs.Common.{◌∙◌, sym, refl, arith}
+use Rattle.mail_terms.proofs.NumeralLemmas.{HasDigits-more, no_value, whole_value}
 use Rattle.mail_terms.proofs.numeral.read_numeral.Goals as goal
 
-pub returns-in-Ok : goal.returns-in-Ok
-returns-in-Ok c =
-    let numeral : is_numeral c.args.text.now ≡ true = search rules in
-    let parsed = subst (λ (ds : List ℕ). ParsesUnsigned 64 10 ds c.parse.result) c.in-Ok.ensures.cases.0 c.parse.ensures.value.0 in
-    c.ok.ensures.value ∙ number_parsed c.args.text.now c.parse.result numeral parsed
+pub loop-byte-init : goal.loop-byte-init
+loop-byte-init c = record { digits = refl; is = refl; fits = omega arith }
 
-pub returns-in-Err : goal.returns-in-Err
-returns-in-Err c =
-    let numeral : is_numeral c.args.text.now ≡ true = search rules in
-    absurd (c.in-Err.ensures.cases.0 (numeral_is_text c.args.text.now numeral))
+pub returns-in_err-checked_mul : goal.returns-in_err-checked_mul
+returns-in_err-checked_mul c =
+    c.from_residual.ensures ∙ sym (no_value c.args.text.now c.loop-byte.byte-index c.loop-byte.value (omega arith) c.loop-byte.invariant
+    (sym c.is_ascii_digit.ensures.value ∙ c.if-not-is_ascii_digit.false) (omega arith))
+
+pub returns-in_err-value : goal.returns-in_err-value
+returns-in_err-value c =
+    c.from_residual-in_err-value.ensures ∙ sym (no_value c.args.text.now c.loop-byte.byte-index c.loop-byte.value (omega arith) c.loop-byte.invariant
+    (sym c.is_ascii_digit.ensures.value ∙ c.if-not-is_ascii_digit.false) (omega arith))
+
+pub loop-byte-preserved : goal.loop-byte-preserved
+loop-byte-preserved c =
+    HasDigits-more c.args.text.now c.loop-byte.byte-index c.loop-byte.value c.in_ok-value.value (omega arith) c.loop-byte.invariant
+    (sym c.is_ascii_digit.ensures.value ∙ c.if-not-is_ascii_digit.false) (omega arith) (omega arith)
+
+pub returns : goal.returns
+returns c = whole_value c.args.text.now c.loop-byte.byte-index c.loop-byte.value (sym c.is_empty.ensures ∙ c.if-is_empty.false) (omega arith) (omega arith) c.loop-byte.invariant
