@@ -1,5 +1,5 @@
 //! What a server does for each command: the table of states and commands (RFC 1939, sections 4 to 7).
-ghost use Rattle.std.specs.Prelude.{◌≡◌, ◌<◌, ◌-◌, ◌^◌, ℕ, Bool, List, Option, map, slice_get, Some};
+ghost use Rattle.std.specs.Prelude.{◌≡◌, ◌<◌, ◌-◌, ℕ, Bool, List, Option, map, slice_get, Some};
 ghost use Rattle.std.specs.Prelude.{None, IfOk, IfErr, IfSome, MatchResult, bytes_eq, codes, ◌++◌};
 ghost use Rattle.pop3_wire.specs.declared.command.Command.TheVariants.{Retr, Top, Dele, Rset};
 ghost use Rattle.pop3_server.specs.declared.rows.MessageRow.{MessageRow};
@@ -10,7 +10,7 @@ ghost use Rattle.pop3_server.specs.Maildrop.{HasPlace};
 ghost use Rattle.pop3_server.specs.ServerMachine.{Say, Open, Give, Leave, Answers, SamePlaces, Unanswered, Tied};
 ghost use Rattle.pop3_server.specs.ServerMachine.{Tries, Empties, with_marked, in_authorization, in_transaction};
 ghost use Rattle.pop3_server.specs.ServerMachine.{next_of, said, of_row, row_at, scan_line, uid_line, text_body};
-ghost use Rattle.pop3_server.specs.TextAnswer.{AnswersOrBegins};
+ghost use Rattle.pop3_server.specs.TextAnswer.{AnswersOrBegins, Follows};
 ghost use Rattle.pop3_server.specs.TextBody.{still};
 
 use crate::fault::ServerFault;
@@ -94,15 +94,13 @@ fn give<D: Maildrop>(
         → ((octets : List ℕ) → still text octets ≡ text_body top octets)
         → AnswersOrBegins D.sound D.mail (Give rows text.place reply.items top)
         drop.old given.0.items given.1 (Transaction rows) drop.new) }
-    ensures limited { IfOk result (λ given. IfSome given.1 (λ _. limit < 2 ^ 64 - 1)) }
+    ensures follows { IfOk result (λ given. IfSome given.1 (Follows limit)) }
     ensures same_places { D.sound drop.new → D.sound drop.old × ((D.mail drop.new).slots ≡ (D.mail drop.old).slots) }
     ensures err { IfErr result (λ e. (e ≡ ServerFault.NoMemory) × Unanswered D.sound D.mail drop.old drop.new) }
 {
     let unavailable = say(alloc, b"-ERR message unavailable")?;
-    let mut text = text;
     match text.put(drop, &mut reply, limit) {
-        Ok(true) => Ok((reply, Some(text))),
-        Ok(false) => Ok((reply, None)),
+        Ok(rest) => Ok((reply, rest)),
         Err(DropFault::NoMemory) => Err(ServerFault::NoMemory),
         Err(DropFault::Refused) => Ok((unavailable, None)),
     }
@@ -119,7 +117,7 @@ fn retr<D: Maildrop>(
     requires { Tied (D.sound drop.old) (D.mail drop.old) (Transaction rows.now) }
     ensures ok { IfOk result (λ given. AnswersOrBegins D.sound D.mail (in_transaction rows.now (Retr number))
         drop.old given.0.items given.1 (Transaction rows.now) drop.new) }
-    ensures limited { IfOk result (λ given. IfSome given.1 (λ _. limit < 2 ^ 64 - 1)) }
+    ensures follows { IfOk result (λ given. IfSome given.1 (Follows limit)) }
     ensures tied { Tied (D.sound drop.new) (D.mail drop.new) (Transaction rows.now) }
     ensures err { IfErr result (λ e. (e ≡ ServerFault.NoMemory) × Unanswered D.sound D.mail drop.old drop.new) }
 {
@@ -142,7 +140,7 @@ fn top<D: Maildrop>(
     requires { Tied (D.sound drop.old) (D.mail drop.old) (Transaction rows.now) }
     ensures ok { IfOk result (λ given. AnswersOrBegins D.sound D.mail (in_transaction rows.now (Top number count))
         drop.old given.0.items given.1 (Transaction rows.now) drop.new) }
-    ensures limited { IfOk result (λ given. IfSome given.1 (λ _. limit < 2 ^ 64 - 1)) }
+    ensures follows { IfOk result (λ given. IfSome given.1 (Follows limit)) }
     ensures tied { Tied (D.sound drop.new) (D.mail drop.new) (Transaction rows.now) }
     ensures err { IfErr result (λ e. (e ≡ ServerFault.NoMemory) × Unanswered D.sound D.mail drop.old drop.new) }
 {
@@ -321,7 +319,7 @@ pub fn transact<D: Maildrop>(
     requires { Tied (D.sound drop.old) (D.mail drop.old) (Transaction rows.old) }
     ensures ok { IfOk result (λ step. AnswersOrBegins D.sound D.mail (in_transaction rows.old command.now)
         drop.old step.bytes.items step.rest (next_of (Transaction rows.new) step.next) drop.new) }
-    ensures rest { IfOk result (λ step. IfSome step.rest (λ _. (limit < 2 ^ 64 - 1) × (step.next ≡ None) × (rows.new ≡ rows.old))) }
+    ensures follows { IfOk result (λ step. IfSome step.rest (Follows limit)) }
     ensures tied { MatchResult result
         (λ step. Tied (D.sound drop.new) (D.mail drop.new) (next_of (Transaction rows.new) step.next))
         (λ e. Tied (D.sound drop.new) (D.mail drop.new) (Transaction rows.new)) }
