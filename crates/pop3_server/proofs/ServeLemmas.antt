@@ -14,7 +14,7 @@ use Rattle.pop3_server.specs.declared.fault.ServerFault.TheVariants.{ReadFailed,
 use Rattle.pop3_server.specs.declared.state.State.{State}
 use Rattle.pop3_server.specs.declared.text_part.TextBody.{TextBody}
 use Rattle.pop3_server.specs.Maildrop.{Mail}
-use Rattle.pop3_server.specs.ServerMachine.{Machine, Deed, Say, Open, Give, Leave, Answers, greeting, said, is_open}
+use Rattle.pop3_server.specs.ServerMachine.{Machine, Action, Say, Open, Give, Leave, Answers, greeting, said, is_open}
 use Rattle.pop3_server.specs.LoopLaws.{runs_on}
 use Rattle.pop3_server.specs.AnswersLines.{AnswersLines, AnswersLine, MakesAnswer, SameServer}
 use Rattle.pop3_server.specs.Got.{Waiting}
@@ -238,11 +238,12 @@ long_turn sound mail server line opened long = record {
   was_open = opened;
   user = refl;
   pass = refl;
+  state = tt;
   answers = rw (long_command line long) (record { removals = refl; does = (refl, refl, refl) });
 }
 
 -- nothing is removed while the session goes on
-pub open_removals : {D : Type 0} (sound : D → Type 0) (mail : D → Mail) (asked : Deed) (old : D) (answer : List ℕ) (next : State) (new : D)
+pub open_removals : {D : Type 0} (sound : D → Type 0) (mail : D → Mail) (asked : Action) (old : D) (answer : List ℕ) (next : State) (new : D)
     → Answers sound mail asked old answer next new → is_open next ≡ true → (mail new).removals ≡ (mail old).removals
 open_removals sound mail (Say bytes state) old answer next new a opened = a.removals
 open_removals sound mail Open old answer next new a opened = a.removals

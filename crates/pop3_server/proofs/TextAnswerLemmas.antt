@@ -11,7 +11,7 @@ use Rattle.pop3_server.specs.declared.state.State.{State}
 use Rattle.pop3_server.specs.declared.state.State.TheVariants.{Authorization, Transaction, Closed}
 use Rattle.pop3_server.specs.declared.text_part.TextBody.{TextBody}
 use Rattle.pop3_server.specs.Maildrop.{Denies, GivesPart, HasPlace, Mail, is_refusal, there}
-use Rattle.pop3_server.specs.ServerMachine.{Answers, Deed, Give, Tied, Unanswered, text_body}
+use Rattle.pop3_server.specs.ServerMachine.{Answers, Action, Give, Tied, Unanswered, text_body}
 use Rattle.pop3_server.specs.TextAnswer.{BeginsAnswer, BeginsTextAt, OnlyReads, after_call}
 use Rattle.pop3_server.specs.TextBody.{belonging, still}
 use Rattle.pop3_server.specs.TextPiece.{is_open_after, sent_end, sent_piece}
@@ -41,6 +41,10 @@ denied NoMemory before after denies = denies
 call_slots : (refused : Bool) (before after : Mail) → after ≡ after_call refused before → after.slots ≡ before.slots
 call_slots true before after is = ap (λ (m : Mail). m.slots) is
 call_slots false before after is = ap (λ (m : Mail). m.slots) is
+
+-- what a reply has more, an answer has more
+longer : (sent earlier more octets : List ℕ) → octets ≡ earlier ++ more → (sent ++ earlier) ++ more ≡ sent ++ octets
+longer sent earlier more octets is = append_assoc sent earlier more ∙ ap (λ (l : List ℕ). sent ++ l) (sym is)
 
 module _ {D : Type 0} (sound : D → Type 0) (mail : D → Mail) where
   -- ---- calls that read
@@ -100,7 +104,7 @@ module _ {D : Type 0} (sound : D → Type 0) (mail : D → Mail) where
 
   -- ---- an answer with a text
 
-  pub begins_place : (asked : Deed) (old new : D) (made : List ℕ) (text : TextBody) (next : State) → BeginsAnswer sound mail asked old made text next new
+  pub begins_place : (asked : Action) (old new : D) (made : List ℕ) (text : TextBody) (next : State) → BeginsAnswer sound mail asked old made text next new
       → sound new → HasPlace (mail new) text.place
   begins_place asked old new made text next begins s =
       let first = begins.known s in
@@ -124,12 +128,12 @@ module _ {D : Type 0} (sound : D → Type 0) (mail : D → Mail) where
   }
 
   -- one more part was read
-  pub begins_on : (asked : Deed) (old b c : D) (x y : TextBody) (next : State) (n : ℕ) (made piece octets : List ℕ) → n ≤ length piece
+  pub begins_on : (asked : Action) (old b c : D) (x y : TextBody) (next : State) (n : ℕ) (sent earlier reply piece octets : List ℕ) → n ≤ length piece
       → y.place ≡ x.place → y.start ≡ x.start + n → ((rest : List ℕ) → belonging x.top (take n piece ++ rest) ≡ octets ++ belonging y.top rest)
       → y.stuffer.in_line ≡ is_open_after x.stuffer.in_line octets → OnlyReads sound mail false b c
-      → (sound c → sound b × GivesPart (mail b) x.place x.start (Ok n) piece (mail c))
-      → BeginsAnswer sound mail asked old made x next b → BeginsAnswer sound mail asked old (made ++ sent_piece x.stuffer.in_line octets) y next c
-  begins_on asked old b c x y next n made piece octets fits place start belong opened reads gives begins = record {
+      → (sound c → sound b × GivesPart (mail b) x.place x.start (Ok n) piece (mail c)) → reply ≡ earlier ++ sent_piece x.stuffer.in_line octets
+      → BeginsAnswer sound mail asked old (sent ++ earlier) x next b → BeginsAnswer sound mail asked old (sent ++ reply) y next c
+  begins_on asked old b c x y next n sent earlier reply piece octets fits place start belong opened reads gives is begins = record {
     rows = begins.rows;
     line = begins.line;
     top = begins.top;
@@ -139,8 +143,10 @@ module _ {D : Type 0} (sound : D → Type 0) (mail : D → Mail) where
     start = start ∙ ap (λ k. k + n) begins.start
         ∙ sym (length-append begins.read (take n piece) ∙ ap (λ k. length begins.read + k) (length-take-le n piece fits));
     goes_on = λ more. ap (λ (l : List ℕ). begins.line ++ text_body begins.top l) (append_assoc begins.read (take n piece) more)
-        ∙ begins.goes_on (take n piece ++ more) ∙ ap (λ (l : List ℕ). made ++ l) (still_on x y (take n piece) octets belong opened more)
-        ∙ sym (append_assoc made (sent_piece x.stuffer.in_line octets) (still y more));
+        ∙ begins.goes_on (take n piece ++ more)
+        ∙ ap (λ (l : List ℕ). (sent ++ earlier) ++ l) (still_on x y (take n piece) octets belong opened more)
+        ∙ sym (append_assoc (sent ++ earlier) (sent_piece x.stuffer.in_line octets) (still y more))
+        ∙ ap (λ (l : List ℕ). l ++ still y more) (longer sent earlier (sent_piece x.stuffer.in_line octets) reply is);
     reads = reads_on false old b c begins.reads reads;
     known = λ s.
         let part = gives s in
@@ -152,10 +158,10 @@ module _ {D : Type 0} (sound : D → Type 0) (mail : D → Mail) where
   }
 
   -- all of it was made: of what follows in the text, nothing belongs to its body
-  begins_end : (asked : Deed) (old b c : D) (x : TextBody) (next : State) (made : List ℕ) → OnlyReads sound mail false b c
+  begins_end : (asked : Action) (old b c : D) (x : TextBody) (next : State) (made : List ℕ) → OnlyReads sound mail false b c
       → (sound c → (message : Message) × (slice_get (mail b).slots x.place ≡ Some (Some message)) × (still x (drop x.start message.text) ≡ sent_end x.stuffer.in_line))
       → BeginsAnswer sound mail asked old made x next b → Answers sound mail asked old (made ++ sent_end x.stuffer.in_line) next c
-  begins_end asked old b c x next made reads past begins = subst (λ (d : Deed). Answers sound mail d old (made ++ sent_end x.stuffer.in_line) next c) (sym begins.gives) (record {
+  begins_end asked old b c x next made reads past begins = subst (λ (d : Action). Answers sound mail d old (made ++ sent_end x.stuffer.in_line) next c) (sym begins.gives) (record {
     removals = reads.removals ∙ begins.reads.removals;
     does = (
       begins.state,
@@ -193,15 +199,20 @@ module _ {D : Type 0} (sound : D → Type 0) (mail : D → Mail) where
           ∙ ap (λ (l : List ℕ). begins.line ++ text_body begins.top l) (append-nil begins.read)
 
   -- no more octets are there
-  pub ends_empty : (asked : Deed) (old b c : D) (x : TextBody) (next : State) (n : ℕ) (made piece : List ℕ) → n ≡ 0 → OnlyReads sound mail false b c
-      → (sound c → sound b × GivesPart (mail b) x.place x.start (Ok n) piece (mail c)) → BeginsAnswer sound mail asked old made x next b
-      → Answers sound mail asked old (made ++ sent_end x.stuffer.in_line) next c
-  ends_empty asked old b c x next n made piece none reads gives begins = begins_end asked old b c x next made reads
-      (λ s. let now = (gives s).1.1 in (now.0, now.1, ap (still x) (drop_all x.start now.0.text (now.3 none)) ∙ still_none x [] (none_belongs x.top))) begins
+  pub ends_empty : (asked : Action) (old b c : D) (x : TextBody) (next : State) (n : ℕ) (sent earlier octets piece : List ℕ) → n ≡ 0
+      → OnlyReads sound mail false b c → (sound c → sound b × GivesPart (mail b) x.place x.start (Ok n) piece (mail c))
+      → octets ≡ earlier ++ sent_end x.stuffer.in_line → BeginsAnswer sound mail asked old (sent ++ earlier) x next b
+      → Answers sound mail asked old (sent ++ octets) next c
+  ends_empty asked old b c x next n sent earlier octets piece none reads gives is begins =
+      subst (λ (l : List ℕ). Answers sound mail asked old l next c) (longer sent earlier (sent_end x.stuffer.in_line) octets is)
+      (begins_end asked old b c x next (sent ++ earlier) reads
+      (λ s. let now = (gives s).1.1 in (now.0, now.1, ap (still x) (drop_all x.start now.0.text (now.3 none)) ∙ still_none x [] (none_belongs x.top))) begins)
 
   -- none of what follows belongs to it
-  pub ends_whole : (asked : Deed) (old b : D) (x : TextBody) (next : State) (made : List ℕ) → (sound b → HasPlace (mail b) x.place)
-      → ((rest : List ℕ) → belonging x.top rest ≡ []) → BeginsAnswer sound mail asked old made x next b
-      → Answers sound mail asked old (made ++ sent_end x.stuffer.in_line) next b
-  ends_whole asked old b x next made has done begins = begins_end asked old b b x next made (reads_none b)
-      (λ s. let place = has s in (place.0, place.1, still_none x (drop x.start place.0.text) (done (drop x.start place.0.text)))) begins
+  pub ends_whole : (asked : Action) (old b : D) (x : TextBody) (next : State) (sent earlier octets : List ℕ) → (sound b → HasPlace (mail b) x.place)
+      → ((rest : List ℕ) → belonging x.top rest ≡ []) → octets ≡ earlier ++ sent_end x.stuffer.in_line
+      → BeginsAnswer sound mail asked old (sent ++ earlier) x next b → Answers sound mail asked old (sent ++ octets) next b
+  ends_whole asked old b x next sent earlier octets has done is begins =
+      subst (λ (l : List ℕ). Answers sound mail asked old l next b) (longer sent earlier (sent_end x.stuffer.in_line) octets is)
+      (begins_end asked old b b x next (sent ++ earlier) (reads_none b)
+      (λ s. let place = has s in (place.0, place.1, still_none x (drop x.start place.0.text) (done (drop x.start place.0.text)))) begins)

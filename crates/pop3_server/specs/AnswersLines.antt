@@ -1,9 +1,9 @@
 -- A server's answers to lines, in order.
-use Rattle.std.specs.Prelude.{◌≡◌, ℕ, true, List, [], ◌∷◌, ◌++◌, Option, None}
+use Rattle.std.specs.Prelude.{IfSome, ◌≡◌, ℕ, true, List, [], ◌∷◌, ◌++◌, Option, None}
 use Rattle.pop3_wire.specs.CommandLine.{command_of}
 use Rattle.pop3_server.specs.declared.text_part.TextBody.{TextBody}
 use Rattle.pop3_server.specs.Maildrop.{Mail}
-use Rattle.pop3_server.specs.ServerMachine.{Machine, Unanswered, deed, is_open}
+use Rattle.pop3_server.specs.ServerMachine.{Machine, Unanswered, action_of, is_open}
 use Rattle.pop3_server.specs.TextAnswer.{AnswersOrBegins, OnlyReads}
 
 -- an open server answered one line, which is given here without its CR LF, or began to if a text follows
@@ -12,7 +12,9 @@ pub record MakesAnswer {D : Type 0} (sound : D → Type 0) (mail : D → Mail) (
   pub was_open : is_open old.state ≡ true
   pub user : new.user ≡ old.user
   pub pass : new.pass ≡ old.pass
-  pub answers : AnswersOrBegins sound mail (deed old.user old.pass old.state (command_of line)) old.drop made rest new.state new.drop
+  -- a server that gives a text stays as it is
+  pub state : IfSome rest (λ text. new.state ≡ old.state)
+  pub answers : AnswersOrBegins sound mail (action_of old.user old.pass old.state (command_of line)) old.drop made rest new.state new.drop
 
 -- it answered the line, and nothing follows
 abbrev pub AnswersLine : {D : Type 0} → (D → Type 0) → (D → Mail) → Machine D → List ℕ → List ℕ → Machine D → Type 0

@@ -7,8 +7,8 @@ use Rattle.pop3_wire.specs.Link.{Link}
 use Rattle.pop3_wire.specs.Place.{HasLine}
 use Rattle.pop3_server.specs.declared.fault.ServerFault.{ServerFault}
 use Rattle.pop3_server.specs.declared.fault.ServerFault.TheVariants.{ReadFailed, WriteFailed, MaildropFailed, NoMemory}
-use Rattle.pop3_server.specs.declared.intake.Heard.{Heard}
-use Rattle.pop3_server.specs.declared.intake.Heard.TheVariants.{Line, LongLine, End}
+use Rattle.pop3_server.specs.declared.intake.NextLine.{NextLine}
+use Rattle.pop3_server.specs.declared.intake.NextLine.TheVariants.{Line, LongLine, End}
 use Rattle.pop3_server.specs.Maildrop.{Mail}
 use Rattle.pop3_server.specs.ServerMachine.{Machine, greeting, is_open}
 use Rattle.pop3_server.specs.AnswersLines.{AnswersLines, AnswersLine, MakesAnswer, RefusesPart, SameServer}
@@ -30,7 +30,7 @@ pub record Queues (before : Waiting) (dropped : List ℕ) (after : Waiting) (gai
   pub left : length gained + after.left ≡ before.left
 
 -- a line waits, one that is too long was dropped, or no whole line will come
-abbrev pub Hears : Link → Waiting → Result Heard ServerFault → Link → Waiting → Type 0
+abbrev pub Hears : Link → Waiting → Result NextLine ServerFault → Link → Waiting → Type 0
 Hears old before (Ok (Line n)) new after =
     (gained : List ℕ) × Drew old new gained × Queues before [] after gained × HasLine max_line after.octets n
 Hears old before (Ok LongLine) new after =
@@ -48,7 +48,7 @@ TakesMore (Ok false) left link = (link.ended ≡ true) ⊎ (left ≡ 0)
 TakesMore (Err fault) left link = Unit {0}
 
 -- if a line waits, it does so whatever is known of the link
-abbrev pub Found : Heard → Waiting → Type 0
+abbrev pub Found : NextLine → Waiting → Type 0
 Found (Line n) waiting = HasLine max_line waiting.octets n
 Found LongLine waiting = Unit {0}
 Found End waiting = Unit {0}

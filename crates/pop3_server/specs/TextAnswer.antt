@@ -7,7 +7,7 @@ use Rattle.pop3_server.specs.declared.state.State.{State}
 use Rattle.pop3_server.specs.declared.state.State.TheVariants.{Transaction}
 use Rattle.pop3_server.specs.declared.text_part.TextBody.{TextBody}
 use Rattle.pop3_server.specs.Maildrop.{Mail, refusing}
-use Rattle.pop3_server.specs.ServerMachine.{Answers, Deed, Give, Known, text_body}
+use Rattle.pop3_server.specs.ServerMachine.{Answers, Action, Give, Known, text_body}
 use Rattle.pop3_server.specs.TextBody.{still}
 
 -- a call was refused or not, and nothing else changed
@@ -26,7 +26,7 @@ abbrev pub BeginsTextAt : Mail → ℕ → List ℕ → Type 0
 BeginsTextAt mail i text = (message : Message) × (slice_get mail.slots i ≡ Some (Some message)) × (text ≡ take (length text) message.text)
 
 -- this much was made of an answer with a text, and the rest of the text is to be read
-pub record BeginsAnswer {D : Type 0} (sound : D → Type 0) (mail : D → Mail) (asked : Deed) (old : D)
+pub record BeginsAnswer {D : Type 0} (sound : D → Type 0) (mail : D → Mail) (asked : Action) (old : D)
     (made : List ℕ) (text : TextBody) (next : State) (new : D) : Type 0 where
   pub rows : List MessageRow
   pub line : List ℕ
@@ -41,13 +41,13 @@ pub record BeginsAnswer {D : Type 0} (sound : D → Type 0) (mail : D → Mail) 
   pub known : sound new → BeginsTextAt (mail old) text.place read
 
 -- an answer was made, or its beginning if a text follows
-abbrev pub AnswersOrBegins : {D : Type 0} → (D → Type 0) → (D → Mail) → Deed → D → List ℕ → Option TextBody → State → D → Type 0
+abbrev pub AnswersOrBegins : {D : Type 0} → (D → Type 0) → (D → Mail) → Action → D → List ℕ → Option TextBody → State → D → Type 0
 AnswersOrBegins sound mail asked old made None next new = Answers sound mail asked old made next new
 AnswersOrBegins sound mail asked old made (Some text) next new = BeginsAnswer sound mail asked old made text next new
 
 -- whatever answer the earlier octets of a reply begin, all of them begin it too, or are the whole
 abbrev pub GoesOn : {D : Type 0} → (D → Type 0) → (D → Mail) → D → List ℕ → TextBody → D → List ℕ → Option TextBody → Type 0
-GoesOn {D} sound mail before earlier text after octets rest = (asked : Deed) (old : D) (sent : List ℕ) (next : State)
+GoesOn {D} sound mail before earlier text after octets rest = (asked : Action) (old : D) (sent : List ℕ) (next : State)
     → BeginsAnswer sound mail asked old (sent ++ earlier) text next before
     → AnswersOrBegins sound mail asked old (sent ++ octets) rest next after
 

@@ -5,10 +5,10 @@ ghost use Rattle.pop3_server.specs.declared.state.State.TheVariants.{Authorizati
 ghost use Rattle.pop3_server.specs.AnswersLines.{AnswersLine, MakesAnswer, RefusesPart, SameServer};
 ghost use Rattle.pop3_server.specs.Events.{event_of};
 ghost use Rattle.pop3_server.specs.Maildrop.{HasPlace};
-ghost use Rattle.pop3_server.specs.ServerMachine.{Machine, deed, greeting, is_open, next_of};
+ghost use Rattle.pop3_server.specs.ServerMachine.{Machine, action_of, greeting, is_open, next_of};
 ghost use Rattle.pop3_server.specs.TextAnswer.{AnswersOrBegins, Follows, IsFurther};
 
-use crate::commands::{Step, authorize, transact};
+use crate::commands::{Outcome, authorize, transact};
 use crate::fault::ServerFault;
 use crate::journal::{Event, event_of};
 use crate::maildrop::{DropFault, Maildrop};
@@ -71,17 +71,17 @@ fn is_closed(state: &State) -> bool
     }
 }
 
-/// Goes to the state that a step leads to, and returns its answer. The maildrop refused `refused`
-/// calls in this step.
+/// Goes to the state that an outcome leads to, and returns its answer. The maildrop refused `refused`
+/// calls for it.
 #[tactic(auto, using(crate::proofs::EventLemmas::event_of_same))]
-fn take(state: &mut State, step: Step, refused: u64) -> Begun
-    ensures state { state.new ≡ next_of state.old step.next }
-    ensures bytes { result.answer.bytes.items ≡ step.bytes.items }
-    ensures rest { result.rest ≡ step.rest }
+fn take(state: &mut State, outcome: Outcome, refused: u64) -> Begun
+    ensures state { state.new ≡ next_of state.old outcome.next }
+    ensures bytes { result.answer.bytes.items ≡ outcome.bytes.items }
+    ensures rest { result.rest ≡ outcome.rest }
     ensures closing { result.answer.closing ≡ not (is_open state.new) }
     ensures event { result.answer.event ≡ event_of state.old state.new refused }
 {
-    let Step { bytes, next, rest } = step;
+    let Outcome { bytes, next, rest } = outcome;
     let mut event = None;
     if let Some(next) = next {
         event = event_of(state, &next, refused);
@@ -171,8 +171,8 @@ impl<D: Maildrop> Server<D> {
             Ok(command) => self.obey(command, limit),
             Err(WireFault::NoMemory) => Err(ServerFault::NoMemory),
             Err(_) => {
-                let step = Step::stay(say(self.alloc, b"-ERR bad command")?);
-                Ok(take(&mut self.state, step, 0))
+                let outcome = Outcome::stay(say(self.alloc, b"-ERR bad command")?);
+                Ok(take(&mut self.state, outcome, 0))
             }
         }
     }
@@ -182,16 +182,17 @@ impl<D: Maildrop> Server<D> {
         requires { is_open self.old.state ≡ true }
         ensures who { (self.new.user ≡ self.old.user) × (self.new.pass ≡ self.old.pass) }
         ensures ok { IfOk result (λ begun. AnswersOrBegins D.sound D.mail
-            (deed self.old.user self.old.pass self.old.state (Ok command))
+            (action_of self.old.user self.old.pass self.old.state (Ok command))
             self.old.drop begun.answer.bytes.items begun.rest self.new.state self.new.drop) }
-        ensures follows { IfOk result (λ begun. IfSome begun.rest (Follows limit)) }
+        ensures follows { IfOk result (λ begun. IfSome begun.rest
+            (λ text. Follows limit text × (self.new.state ≡ self.old.state))) }
         ensures closing { IfOk result (λ begun. begun.answer.closing ≡ not (is_open self.new.state)) }
         ensures event { IfOk result (λ begun. begun.answer.event ≡ event_of self.old.state self.new.state
             ((D.mail self.new.drop).failures - (D.mail self.old.drop).failures)) }
         ensures err { IfErr result (λ e. (e ≡ ServerFault.NoMemory) × SameServer D.sound D.mail self.old self.new) }
     {
         let failures = self.drop.failures();
-        let step = match &mut self.state {
+        let outcome = match &mut self.state {
             State::Authorization(kept) => authorize(
                 self.alloc,
                 &mut self.drop,
@@ -210,7 +211,7 @@ impl<D: Maildrop> Server<D> {
             State::Closed => unreachable!(),
         };
         let refused = self.drop.failures().saturating_sub(failures);
-        Ok(take(&mut self.state, step, refused))
+        Ok(take(&mut self.state, outcome, refused))
     }
 
     /// Puts what follows of a text into an empty reply, until the text has ended or the reply has more

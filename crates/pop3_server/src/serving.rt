@@ -5,7 +5,7 @@ ghost use Rattle.pop3_server.specs.ServerMachine.{is_open};
 ghost use Rattle.pop3_server.specs.Serving.{SendsAnswer, Served, is_refusal};
 
 use crate::fault::ServerFault;
-use crate::intake::{Heard, Intake};
+use crate::intake::{Intake, NextLine};
 use crate::journal::{Event, Journal, NoJournal};
 use crate::maildrop::Maildrop;
 use crate::server::{Begun, Server};
@@ -143,13 +143,13 @@ pub fn serve_and_note<D: Maildrop, W: Wire, J: Journal>(
             Err(fault) => return Err(fault),
         };
         match heard {
-            Heard::End => return Ok(()),
-            Heard::LongLine => {
+            NextLine::End => return Ok(()),
+            NextLine::LongLine => {
                 if let Err(fault) = send(wire, b"-ERR bad command\r\n") {
                     return Err(fault);
                 }
             }
-            Heard::Line(length) => {
+            NextLine::Line(length) => {
                 let line = &intake.waiting()[..length];
                 let closing = match answer_line(server, wire, journal, line) {
                     Ok(closing) => closing,
