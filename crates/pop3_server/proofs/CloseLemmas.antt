@@ -10,7 +10,7 @@ use Rattle.pop3_server.specs.declared.rows.MessageRow.{MessageRow}
 use Rattle.pop3_server.specs.declared.state.State.{State}
 use Rattle.pop3_server.specs.declared.state.State.TheVariants.{Authorization, Transaction, Closed}
 use Rattle.pop3_server.specs.Maildrop.{Mail}
-use Rattle.pop3_server.specs.ServerMachine.{Machine, Say, Open, Does, Opens, deed, is_open, in_authorization, in_transaction, give, dele, octets_line, row_at}
+use Rattle.pop3_server.specs.ServerMachine.{Machine, Say, Open, Does, Opens, action_of, is_open, in_authorization, in_transaction, give, dele, octets_line, row_at}
 use Rattle.pop3_server.specs.AnswersLines.{AnswersLines}
 use Rattle.pop3_server.specs.HonestServer.{IsOfSession, IsAsked, lines_of, IsClosedByQuit}
 
@@ -65,7 +65,7 @@ module _ (read : ReadAsWritten) {D : Type 0} (sound : D → Type 0) (mail : D �
   in_second rows Quit old answer next new asked does = inr refl
 
   one_answer : (user pass : List ℕ) (state : State) (c : Command) (old : D) (answer : List ℕ) (next : State) (new : D) → is_open state ≡ true → IsOfSession c
-      → Does sound mail (deed user pass state (Ok c)) old answer next new → (is_open next ≡ true) ⊎ (c ≡ Quit)
+      → Does sound mail (action_of user pass state (Ok c)) old answer next new → (is_open next ≡ true) ⊎ (c ≡ Quit)
   one_answer user pass (Authorization kept) c old answer next new was asked does = in_first user pass kept c old answer next new asked does
   one_answer user pass (Transaction rows) c old answer next new was asked does = in_second rows c old answer next new asked does
   one_answer user pass Closed c old answer next new was asked does = absurd (let e : false ≡ true = was in cc)
@@ -76,7 +76,7 @@ module _ (read : ReadAsWritten) {D : Type 0} (sound : D → Type 0) (mail : D �
   closed_by_quit [] old new answers was asked run = inl (ap (λ (m : Machine D). is_open m.state) run.1 ∙ was)
   closed_by_quit (c ∷ commands) old new answers was asked (first, rest, next, is, turn, run) =
       by (one_answer old.user old.pass old.state c old.drop first next.state next.drop was asked.0.of_session
-      (subst (λ (r : Result Command WireFault). Does sound mail (deed old.user old.pass old.state r) old.drop first next.state next.drop) (read c asked.0.numbers asked.0.sendable) turn.answers.does))
+      (subst (λ (r : Result Command WireFault). Does sound mail (action_of old.user old.pass old.state r) old.drop first next.state next.drop) (read c asked.0.numbers asked.0.sendable) turn.answers.does))
       (λ still. closed_by_quit commands next new rest still asked.1 run)
     where
       by : (is_open next.state ≡ true) ⊎ (c ≡ Quit) → (is_open next.state ≡ true → IsClosedByQuit new.state commands) → IsClosedByQuit new.state (c ∷ commands)

@@ -22,7 +22,7 @@ use Rattle.pop3_server.specs.declared.rows.MessageRow.{MessageRow}
 use Rattle.pop3_server.specs.declared.state.State.{State}
 use Rattle.pop3_server.specs.declared.state.State.TheVariants.{Authorization, Transaction, Closed}
 use Rattle.pop3_server.specs.Maildrop.{Mail, there}
-use Rattle.pop3_server.specs.ServerMachine.{Machine, Deed, Say, Open, Give, Leave, Does, Opens, RemovesMarked, deed, is_open, said, left_count, left_total, mark_at, unmarked, row_of, scan_line, uid_line, octets_line, give, dele, in_authorization, in_transaction, greeting}
+use Rattle.pop3_server.specs.ServerMachine.{Machine, Action, Say, Open, Give, Leave, Does, Opens, RemovesMarked, action_of, is_open, said, left_count, left_total, mark_at, unmarked, row_of, scan_line, uid_line, octets_line, give, dele, in_authorization, in_transaction, greeting}
 use Rattle.pop3_server.specs.AnswersLines.{AnswersLines}
 use Rattle.pop3_server.specs.HonestServer.{IsOfSession, IsAsked, lines_of, IsHonest, AreLeft, Gone}
 use Rattle.pop3_server.proofs.GoneLemmas.{none_gone, left_by_quit}
@@ -282,7 +282,7 @@ module _ (laws : Laws) where
   -- ---- all answers in order
 
   replied : {D : Type 0} (sound : D → Type 0) (mail : D → Mail) (ms : List Message) (marks : List Bool) (user pass : List ℕ) (state : State) (c : Command) (old : D) (answer : List ℕ) (next : State) (new : D)
-      → AllByRecursion IsMessage ms → is_open state ≡ true → Stands ms state (mail old) marks → sound new → IsOfSession c → Does sound mail (deed user pass state (Ok c)) old answer next new → Replied ms marks c answer next (mail new)
+      → AllByRecursion IsMessage ms → is_open state ≡ true → Stands ms state (mail old) marks → sound new → IsOfSession c → Does sound mail (action_of user pass state (Ok c)) old answer next new → Replied ms marks c answer next (mail new)
   replied sound mail ms marks user pass (Authorization kept) c old answer next new messages opened stands s asked does =
       subst (λ (bs : List Bool). Replied ms bs c answer next (mail new)) (sym stands.1) (in_auth laws sound mail ms user pass kept c old answer next new messages stands.0 s asked does)
   replied sound mail ms marks user pass (Transaction rows) c old answer next new messages opened stands s asked does =
@@ -290,7 +290,7 @@ module _ (laws : Laws) where
       (subst (λ (rs : List MessageRow). Does sound mail (in_transaction rs c) old answer next new) stands.2 does)
   replied sound mail ms marks user pass Closed c old answer next new messages opened stands s asked does = absurd (let e : false ≡ true = opened in cc)
 
-  did_sound : {D : Type 0} (sound : D → Type 0) (mail : D → Mail) (asked : Deed) (old : D) (answer : List ℕ) (next : State) (new : D) → Does sound mail asked old answer next new → sound new → sound old
+  did_sound : {D : Type 0} (sound : D → Type 0) (mail : D → Mail) (asked : Action) (old : D) (answer : List ℕ) (next : State) (new : D) → Does sound mail asked old answer next new → sound new → sound old
   did_sound sound mail (Say bytes state) old answer next new does s = subst sound does.2 s
   did_sound sound mail Open old answer next new (inl (is, state, known)) s = (known s).0
   did_sound sound mail Open old answer next new (inr (rows, limits, is, state, known)) s = (known s).0
@@ -310,7 +310,7 @@ module _ (laws : Laws) where
       (marks, (run.0, refl), subst (λ (m : Machine _). Stands ms m.state (mail m.drop) marks) (sym run.1) stands)
   all_replied sound mail ms marks (c ∷ commands) old new answers messages asked (first, rest, next, is, turn, run) s stands =
       let sound_next = run_sound sound mail next new (lines_of commands) rest run s in
-      let does = subst (λ (r : Result Command WireFault). Does sound mail (deed old.user old.pass old.state r) old.drop first next.state next.drop) (laws.read c asked.0.numbers asked.0.sendable) turn.answers.does in
+      let does = subst (λ (r : Result Command WireFault). Does sound mail (action_of old.user old.pass old.state r) old.drop first next.state next.drop) (laws.read c asked.0.numbers asked.0.sendable) turn.answers.does in
       let one = replied sound mail ms marks old.user old.pass old.state c old.drop first next.state next.drop messages turn.was_open stands sound_next asked.0.of_session does in
       let more = all_replied sound mail ms one.0 commands next new rest messages asked.1 run s one.2 in
       (more.0, (first, rest, one.0, is, one.1, more.1), more.2)

@@ -8,6 +8,7 @@ mod HonestTurns
 mod LeaveLemmas
 mod LoopLemmas
 mod OpenLemmas
+mod MakesAnswerLemmas
 mod RemovalLemmas
 mod RowLemmas
 mod ServeIntakeLemmas

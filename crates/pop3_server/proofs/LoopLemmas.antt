@@ -10,11 +10,10 @@ use Rattle.pop3_wire.specs.Link.{Link, with_failures}
 use Rattle.mail_terms.specs.FailureCount.{greatest_count, counted_up}
 use Rattle.pop3_wire.specs.Place.{HasLine}
 use Rattle.pop3_server.specs.Maildrop.{Mail}
-use Rattle.pop3_server.specs.ServerMachine.{Machine, Answers, deed, greeting, is_open}
+use Rattle.pop3_server.specs.ServerMachine.{Machine, greeting}
 use Rattle.pop3_server.specs.AnswersLines.{AnswersLine, SameServer}
 use Rattle.pop3_server.specs.LoopLink.{Loop, Serves, IsAnswered}
-use Rattle.pop3_server.proofs.ServeLemmas.{run_one, turn_of}
-use Rattle.pop3_wire.specs.CommandLine.{command_of}
+use Rattle.pop3_server.proofs.ServeLemmas.{run_one}
 
 -- a link by its own fields: how many octets sent are answered, and how many of the greeting and the answers
 -- were given
@@ -190,15 +189,13 @@ line_found seen sent line rest used same is cut =
     short = grind (arith, common_steps)
 
 -- the server answered that line
-pub turn_at : {D : Type 0} (sound : D → Type 0) (mail : D → Mail) (m n : Machine D) (seen sent : List ℕ) (used octets : ℕ) (answer bytes : List ℕ) → is_open m.state ≡ true
-    → (n.user ≡ m.user) × (n.pass ≡ m.pass) → Answers sound mail (deed m.user m.pass m.state (command_of (take (used + octets - used) (drop used seen)))) m.drop bytes n.state n.drop
-    → seen ≡ sent → answer ≡ bytes → AnswersLine sound mail m (take octets (drop used sent)) answer n
-turn_at sound mail m n seen sent used octets answer bytes opened who answers same is =
+pub turn_at : {D : Type 0} (sound : D → Type 0) (mail : D → Mail) (m n : Machine D) (seen sent : List ℕ) (used octets : ℕ) (answer bytes : List ℕ)
+    → AnswersLine sound mail m (take (used + octets - used) (drop used seen)) bytes n → seen ≡ sent → answer ≡ bytes → AnswersLine sound mail m (take octets (drop used sent)) answer n
+turn_at sound mail m n seen sent used octets answer bytes turn same is =
     let count : used + octets - used ≡ octets = omega arith in
-    turn_of sound mail m n (take octets (drop used sent)) answer bytes opened who
-    (subst (λ (l : List ℕ). Answers sound mail (deed m.user m.pass m.state (command_of l)) m.drop bytes n.state n.drop)
-    (ap (λ (k : ℕ). take k (drop used seen)) count ∙ ap (λ (l : List ℕ). take octets (drop used l)) same) answers)
-    is
+    subst (λ (l : List ℕ). AnswersLine sound mail m (take octets (drop used sent)) l n) (sym is)
+    (subst (λ (l : List ℕ). AnswersLine sound mail m l bytes n)
+    (ap (λ (k : ℕ). take k (drop used seen)) count ∙ ap (λ (l : List ℕ). take octets (drop used l)) same) turn)
 
 abbrev pub link_of : List ℕ → List ℕ → Bool → ℕ → Link
 link_of sent got over failures = record { sent = sent; got = got; ended = over; failures = failures }

@@ -1,5 +1,5 @@
 -- How far a server that serves a link has come, and why it ends.
-use Rattle.std.proofs.Common.{◌≡◌, inl, inr, ◌<◌, ◌+◌, ℕ, true, false, List, [], ◌∷◌, ◌++◌, length, take, drop, refl, sym, ap, subst, ◌∙◌, arith, append_assoc, length-append, Ok, Err}
+use Rattle.std.proofs.Common.{◌≡◌, inl, inr, ◌<◌, ◌+◌, ℕ, true, false, List, [], ◌∷◌, ◌++◌, length, take, drop, refl, sym, ap, subst, ◌∙◌, arith, append_assoc, length-append, Option, Some, Ok, Err}
 use Rattle.std.specs.Prelude.{codes}
 use Rattle.std.specs.List.{flat_map, AllByRecursion}
 use Rattle.std.proofs.lemmas.Bool.{cond-true, lt-ltb}
@@ -12,12 +12,13 @@ use Rattle.pop3_wire.specs.Place.{HasLine}
 use Rattle.pop3_server.specs.declared.fault.ServerFault.{ServerFault}
 use Rattle.pop3_server.specs.declared.fault.ServerFault.TheVariants.{ReadFailed, WriteFailed, MaildropFailed, NoMemory}
 use Rattle.pop3_server.specs.declared.state.State.{State}
+use Rattle.pop3_server.specs.declared.text_part.TextBody.{TextBody}
 use Rattle.pop3_server.specs.Maildrop.{Mail}
-use Rattle.pop3_server.specs.ServerMachine.{Machine, Deed, Say, Open, Give, Leave, Answers, deed, greeting, said, is_open}
+use Rattle.pop3_server.specs.ServerMachine.{Machine, Action, Say, Open, Give, Leave, Answers, greeting, said, is_open}
 use Rattle.pop3_server.specs.LoopLaws.{runs_on}
-use Rattle.pop3_server.specs.AnswersLines.{AnswersLines, AnswersLine, SameServer}
+use Rattle.pop3_server.specs.AnswersLines.{AnswersLines, AnswersLine, MakesAnswer, SameServer}
 use Rattle.pop3_server.specs.Got.{Waiting}
-use Rattle.pop3_server.specs.Serving.{Queues, AllSent, SendsAnswer, Served, WentOut}
+use Rattle.pop3_server.specs.Serving.{Queues, AllSent, LastSent, SendsAnswer, Served, WentOut}
 use Rattle.pop3_wire.specs.Bodies.{Drew}
 
 -- the greeting and the answers to all lines that came whole were sent
@@ -79,6 +80,21 @@ pub all_sent : {D : Type 0} (sound : D → Type 0) (mail : D → Mail) (old serv
     (p : Progress sound mail old before server link waiting) → AllSent sound mail old p.lines (greeting ++ p.answers) server
 all_sent sound mail old server before link waiting p = (p.answers, p.run, refl)
 
+last_sent : {D : Type 0} (sound : D → Type 0) (mail : D → Mail) (old server next : Machine D) (before link : Link) (waiting : Waiting) (line front unsent : List ℕ) (text : Option TextBody)
+    (p : Progress sound mail old before server link waiting) → MakesAnswer sound mail server line (front ++ unsent) text next
+    → LastSent sound mail old (p.lines ++ line ∷ []) ((greeting ++ p.answers) ++ front) unsent text next
+last_sent sound mail old server next before link waiting line front unsent text p makes = record {
+  before = p.lines;
+  line = line;
+  whole = greeting ++ p.answers;
+  front = front;
+  mid = server;
+  each = refl;
+  all = all_sent sound mail old server before link waiting p;
+  makes = makes;
+  out = refl;
+}
+
 -- a link that took more, within what may be taken
 within : {D : Type 0} (sound : D → Type 0) (mail : D → Mail) (old server : Machine D) (before link : Link) (waiting : Waiting) (g : List ℕ) (left : ℕ)
     (p : Progress sound mail old before server link waiting) → length g + left ≡ waiting.left → length (p.gained ++ g) + left ≡ 16777216
@@ -125,15 +141,20 @@ served_last sound mail old server next before link taken sent waiting after g li
       ends = λ e. cc;
     }
 
--- one more line came, and its answer was sent in part
-pub served_unsent : {D : Type 0} (sound : D → Type 0) (mail : D → Mail) (old server next : Machine D) (before link taken sent : Link) (waiting after : Waiting) (g line answer front rest : List ℕ) (count : ℕ)
+-- one more line came, and what was made of its answer was sent in part
+pub served_unsent : {D : Type 0} (sound : D → Type 0) (mail : D → Mail) (old server next : Machine D) (before link taken sent : Link) (waiting after : Waiting) (g line made front unsent : List ℕ) (text : Option TextBody) (count : ℕ)
     → Progress sound mail old before server link waiting → Drew link taken g → waiting.octets ++ g ≡ ended line ++ after.octets → length g + after.left ≡ waiting.left → IsLine line
-    → AnswersLine sound mail server line answer next → answer ≡ front ++ rest → sent ≡ record taken { sent = taken.sent ++ front; failures = count }
+    → MakesAnswer sound mail server line made text next → made ≡ front ++ unsent → sent ≡ record taken { sent = taken.sent ++ front; failures = count }
     → Served sound mail old before (Err WriteFailed) next sent
-served_unsent sound mail old server next before link taken sent waiting after g line answer front rest count p took octets left is turn part sends =
+served_unsent sound mail old server next before link taken sent waiting after g line made front unsent text count p took octets left is makes part sends =
     served_last sound mail old server next before link taken sent waiting after g line front WriteFailed p took octets left is
     (ap (λ (l : Link). l.got) sends) (ap (λ (l : Link). l.sent) sends)
-    (inl (inr (p.lines, line, greeting ++ p.answers, answer, front, rest, server, refl, all_sent sound mail old server before link waiting p, turn, part, refl)))
+    (inr (
+      unsent,
+      text,
+      last_sent sound mail old server next before link waiting line front unsent text p
+          (subst (λ (l : List ℕ). MakesAnswer sound mail server line l text next) part makes),
+    ))
 
 -- one more line came, and memory ran out for its answer
 served_unanswered : {D : Type 0} (sound : D → Type 0) (mail : D → Mail) (old server next : Machine D) (before link taken : Link) (waiting : Waiting) (g : List ℕ) (left : ℕ)
@@ -159,16 +180,17 @@ pub served_stopped : {D : Type 0} (sound : D → Type 0) (mail : D → Mail) (ol
     → Progress sound mail old before server link waiting → Drew link taken g → waiting.octets ++ g ≡ ended line ++ after.octets → length g + after.left ≡ waiting.left → IsLine line
     → SendsAnswer sound mail server line taken (Err fault) next sent → Served sound mail old before (Err fault) next sent
 served_stopped sound mail old server next before link taken sent waiting after g line ReadFailed p took octets left is went = absurd went
-served_stopped sound mail old server next before link taken sent waiting after g line WriteFailed p took octets left is (front, unsent, sends, inl turn) =
-    served_unsent sound mail old server next before link taken sent waiting after g line (front ++ unsent) front unsent (taken.failures + 1) p took octets left is turn refl sends
-served_stopped sound mail old server next before link taken sent waiting after g line WriteFailed p took octets left is (front, unsent, sends, inr begun) =
-    served_last sound mail old server next before link taken sent waiting after g line front WriteFailed p took octets left is
-    (ap (λ (l : Link). l.got) sends) (ap (λ (l : Link). l.sent) sends)
-    (inr (unsent, (p.lines, line, greeting ++ p.answers, front ++ unsent, server, refl, all_sent sound mail old server before link waiting p, begun, append_assoc (greeting ++ p.answers) front unsent)))
-served_stopped sound mail old server next before link taken sent waiting after g line MaildropFailed p took octets left is (answer, begun, sends) =
-    served_last sound mail old server next before link taken sent waiting after g line answer MaildropFailed p took octets left is
-    (ap (λ (l : Link). l.got) sends) (ap (λ (l : Link). l.sent) sends)
-    (p.lines, line, greeting ++ p.answers, answer, server, refl, all_sent sound mail old server before link waiting p, begun, refl)
+served_stopped sound mail old server next before link taken sent waiting after g line WriteFailed p took octets left is (front, unsent, text, makes, sends) =
+    served_unsent sound mail old server next before link taken sent waiting after g line (front ++ unsent) front unsent text (taken.failures + 1) p took octets left is makes refl sends
+served_stopped sound mail old server next before link taken sent waiting after g line MaildropFailed p took octets left is (made, text, last, makes, refuses, sends) =
+    served_last sound mail old server next before link taken sent waiting after g line made MaildropFailed p took octets left is
+    (ap (λ (l : Link). l.got) sends) (ap (λ (l : Link). l.sent) sends) (
+      text,
+      last,
+      last_sent sound mail old server last before link waiting line made [] (Some text) p
+          (subst (λ (l : List ℕ). MakesAnswer sound mail server line l (Some text) last) (sym (append-nil made)) makes),
+      refuses,
+    )
 served_stopped sound mail old server next before link taken sent waiting after g line NoMemory p took octets left is (same, none) =
     subst (λ (l : Link). Served sound mail old before (Err NoMemory) next l) (sym none)
     (served_unanswered sound mail old server next before link taken waiting g after.left p took left same)
@@ -201,7 +223,7 @@ served_ungreeted sound mail old server before link hello front rest count same i
   heard = refl;
   out = front;
   sent = ap (λ (l : Link). l.sent) sends;
-  answered = inl (inl (rest, sym is ∙ part, refl, same));
+  answered = inl (rest, sym is ∙ part, refl, same);
   ends = λ e. cc;
 }
 
@@ -216,11 +238,12 @@ long_turn sound mail server line opened long = record {
   was_open = opened;
   user = refl;
   pass = refl;
+  state = tt;
   answers = rw (long_command line long) (record { removals = refl; does = (refl, refl, refl) });
 }
 
 -- nothing is removed while the session goes on
-pub open_removals : {D : Type 0} (sound : D → Type 0) (mail : D → Mail) (asked : Deed) (old : D) (answer : List ℕ) (next : State) (new : D)
+pub open_removals : {D : Type 0} (sound : D → Type 0) (mail : D → Mail) (asked : Action) (old : D) (answer : List ℕ) (next : State) (new : D)
     → Answers sound mail asked old answer next new → is_open next ≡ true → (mail new).removals ≡ (mail old).removals
 open_removals sound mail (Say bytes state) old answer next new a opened = a.removals
 open_removals sound mail Open old answer next new a opened = a.removals
@@ -237,13 +260,3 @@ line_octets before mid after g seen n takes has same is = (
   ap (λ (w : Waiting). length g + w.left) is ∙ takes.left,
   subst (λ (l : List ℕ). IsLine (take n l)) (sym same) has.line,
 )
-
-pub turn_of : {D : Type 0} (sound : D → Type 0) (mail : D → Mail) (server next : Machine D) (line answer bytes : List ℕ) → is_open server.state ≡ true
-    → (next.user ≡ server.user) × (next.pass ≡ server.pass) → Answers sound mail (deed server.user server.pass server.state (command_of line)) server.drop bytes next.state next.drop
-    → answer ≡ bytes → AnswersLine sound mail server line answer next
-turn_of sound mail server next line answer bytes opened who answers same = record {
-  was_open = opened;
-  user = who.0;
-  pass = who.1;
-  answers = subst (λ (b : List ℕ). Answers sound mail (deed server.user server.pass server.state (command_of line)) server.drop b next.state next.drop) (sym same) answers;
-}

@@ -1,218 +1,218 @@
--- Answers with a text that are sent as the text is read.
-use Rattle.std.proofs.Common.{◌≡◌, ◌<◌, ◌+◌, ◌-◌, ◌^◌, ℕ, Bool, true, false, List, [], ◌++◌, length, take, drop, Option, Some, Result, Ok, Err, refl, sym, ap, subst, ◌∙◌, append_assoc, inl, inr, slice_get}
-use Rattle.std.proofs.lemmas.List.{append-nil}
-use Rattle.std.proofs.lemmas.Bool.{cases_Bool}
-use Rattle.std.specs.Prelude.{IfSome}
-use Rattle.pop3_wire.specs.CommandLine.{command_of}
-use Rattle.pop3_wire.specs.Link.{Link}
-use Rattle.pop3_server.specs.declared.fault.ServerFault.{ServerFault}
-use Rattle.pop3_server.specs.declared.fault.ServerFault.TheVariants.{ReadFailed, WriteFailed, MaildropFailed, NoMemory}
+-- Answers with a text, which are made and sent as the text is read.
+use Rattle.std.proofs.Common.{◌≡◌, ◌≤◌, ◌+◌, ℕ, Bool, true, false, List, [], ◌++◌, length, take, drop, Option, Some, Ok, refl, sym, ap, ap₂, subst, ◌∙◌, append_assoc, inr, slice_get, length-append, length-take-le, take-append-drop}
+use Rattle.std.proofs.Math.Seq.{take-add}
+use Rattle.std.proofs.lemmas.List.{append-nil, append_cancel_left, drop_all}
+use Rattle.mail_terms.specs.FailureCount.{Tallies}
+use Rattle.pop3_wire.specs.World.{Message}
+use Rattle.pop3_server.specs.declared.maildrop.DropFault.{DropFault}
+use Rattle.pop3_server.specs.declared.maildrop.DropFault.TheVariants.{Refused, NoMemory}
 use Rattle.pop3_server.specs.declared.rows.MessageRow.{MessageRow}
 use Rattle.pop3_server.specs.declared.state.State.{State}
-use Rattle.pop3_server.specs.declared.state.State.TheVariants.{Transaction}
+use Rattle.pop3_server.specs.declared.state.State.TheVariants.{Authorization, Transaction, Closed}
 use Rattle.pop3_server.specs.declared.text_part.TextBody.{TextBody}
-use Rattle.pop3_server.specs.AnswersLines.{AnswersLine, SameServer}
-use Rattle.pop3_server.specs.Maildrop.{HasPlace, Mail, there}
-use Rattle.pop3_server.specs.Serving.{SendsAnswer, SendsRest}
-use Rattle.pop3_server.specs.ServerMachine.{Answers, Deed, Say, Open, Give, Leave, Machine, deed, is_open, text_body}
-use Rattle.pop3_server.specs.TextAnswer.{AnswersOrBegins, BeginsAnswer, BeginsDeed, BeginsText}
-use Rattle.pop3_server.specs.TextBody.{GivesMore, GivesRest, still}
-use Rattle.pop3_server.specs.TextPart.{ArePart, BeginsTextAt}
-use Rattle.pop3_server.proofs.TextBodyLemmas.{gives_text, more_on, more_place, none_belongs, rest_on, still_none}
+use Rattle.pop3_server.specs.Maildrop.{Denies, GivesPart, HasPlace, Mail, is_refusal, there}
+use Rattle.pop3_server.specs.ServerMachine.{Answers, Action, Give, Tied, Unanswered, text_body}
+use Rattle.pop3_server.specs.TextAnswer.{BeginsAnswer, BeginsTextAt, OnlyReads, after_call}
+use Rattle.pop3_server.specs.TextBody.{belonging, still}
+use Rattle.pop3_server.specs.TextPiece.{is_open_after, sent_end, sent_piece}
+use Rattle.pop3_server.proofs.TextBodyLemmas.{none_belongs, still_none, still_on}
 
--- octets from the beginning of a text
-begins_at : (mail : Mail) (place i start : ℕ) (piece : List ℕ) → place ≡ i → start ≡ 0 → ArePart mail place start piece → BeginsTextAt mail i piece
-begins_at mail place i start piece same none (message, at, part) =
-    (message, ap (slice_get mail.slots) (sym same) ∙ at, part ∙ ap (λ k. take (length piece) (drop k message.text)) none)
+-- ---- octets of a text
 
--- a link that sent two pieces, the second not whole
-went_on : (before sent after : Link) (bytes front : List ℕ) → sent ≡ record before { sent = before.sent ++ bytes } → after ≡ record sent { sent = sent.sent ++ front; failures = sent.failures + 1 }
-    → after ≡ record before { sent = before.sent ++ (bytes ++ front); failures = before.failures + 1 }
-went_on before sent after bytes front first last =
-    last ∙ ap (λ (l : Link). record l { sent = l.sent ++ front; failures = l.failures + 1 }) first
-    ∙ ap (λ (l : List ℕ). record before { sent = l; failures = before.failures + 1 }) (append_assoc before.sent bytes front)
+same_message : (slot : Option (Option Message)) (one other : Message) → slot ≡ Some (Some one) → slot ≡ Some (Some other) → one ≡ other
+same_message slot one other p q = cc
 
--- a link that sent two pieces
-pub sent_on : (before sent after : Link) (bytes more reply : List ℕ) → sent ≡ record before { sent = before.sent ++ bytes } → more ≡ reply → after ≡ record sent { sent = sent.sent ++ more }
-    → after ≡ record before { sent = before.sent ++ (bytes ++ reply) }
-sent_on before sent after bytes more reply first same last =
-    last ∙ ap (λ (l : Link). record l { sent = l.sent ++ more }) first ∙ ap (λ (l : List ℕ). record before { sent = l }) (append_assoc before.sent bytes more)
-    ∙ ap (λ (l : List ℕ). record before { sent = before.sent ++ (bytes ++ l) }) same
+-- n more octets after those that were read
+read_on : (mail after : Mail) (i n : ℕ) (read piece : List ℕ) → n ≤ length piece → BeginsTextAt mail i read
+    → GivesPart mail i (length read) (Ok n) piece after → BeginsTextAt mail i (read ++ take n piece)
+read_on mail after i n read piece fits (message, at, begins) (same, (other, there, part, none)) =
+    let is : other ≡ message = same_message (slice_get mail.slots i) other message there at in (
+      message,
+      at,
+      ap₂ (λ (a b : List ℕ). a ++ b) begins (part ∙ ap (λ (m : Message). take n (drop (length read) m.text)) is)
+          ∙ sym (take-add (length read) n message.text)
+          ∙ ap (λ k. take k message.text) (sym (length-append read (take n piece) ∙ ap (λ k. length read + k) (length-take-le n piece fits))),
+    )
 
--- a call's result, by whether another call went well
-abbrev pub result_of : Result (Unit {0}) ServerFault → Bool → Result Bool ServerFault
-result_of (Ok done) closing = Ok closing
-result_of (Err fault) closing = Err fault
+denied : (fault : DropFault) (before after : Mail) → Denies before fault after → after ≡ after_call (is_refusal fault) before
+denied Refused before after denies = denies
+denied NoMemory before after denies = denies
 
--- a text follows what was made of an answer
-pub record Started {D : Type 0} (sound : D → Type 0) (mail : D → Mail) (old : Machine D) (line bytes : List ℕ) (text : TextBody) (mid : Machine D) : Type 0 where
-  pub was_open : is_open old.state ≡ true
-  pub user : mid.user ≡ old.user
-  pub pass : mid.pass ≡ old.pass
-  pub state : mid.state ≡ old.state
-  pub begun : BeginsDeed sound mail (deed old.user old.pass old.state (command_of line)) old.drop bytes text mid.state mid.drop
+call_slots : (refused : Bool) (before after : Mail) → after ≡ after_call refused before → after.slots ≡ before.slots
+call_slots true before after is = ap (λ (m : Mail). m.slots) is
+call_slots false before after is = ap (λ (m : Mail). m.slots) is
+
+-- what a reply has more, an answer has more
+longer : (sent earlier more octets : List ℕ) → octets ≡ earlier ++ more → (sent ++ earlier) ++ more ≡ sent ++ octets
+longer sent earlier more octets is = append_assoc sent earlier more ∙ ap (λ (l : List ℕ). sent ++ l) (sym is)
 
 module _ {D : Type 0} (sound : D → Type 0) (mail : D → Mail) where
-  -- what was asked for, if a text follows
-  begun_give : (asked : Deed) (old : D) (bytes : List ℕ) (text : TextBody) (next : State) (new : D) → BeginsDeed sound mail asked old bytes text next new
-      → (rows : List MessageRow) × (i : ℕ) × (head : List ℕ) × (top : Option ℕ) × (asked ≡ Give rows i head top) × (next ≡ Transaction rows)
-      × BeginsText sound mail i head top old bytes text new
-  begun_give (Say said state) old bytes text next new begun = absurd begun
-  begun_give Open old bytes text next new begun = absurd begun
-  begun_give (Give rows i head top) old bytes text next new begun = (rows, i, head, top, refl, begun.0, begun.1)
-  begun_give (Leave rows) old bytes text next new begun = absurd begun
+  -- ---- calls that read
 
-  -- a line was answered so far
-  begun_answer : (refused : Bool) (old new : Machine D) (line bytes given : List ℕ) (rows : List MessageRow) (i : ℕ) (head : List ℕ) (top : Option ℕ) (first next : TextBody)
-      → is_open old.state ≡ true → new.user ≡ old.user → new.pass ≡ old.pass → new.state ≡ old.state
-      → deed old.user old.pass old.state (command_of line) ≡ Give rows i head top → first.place ≡ i → first.start ≡ 0
-      → ((text : List ℕ) → still first text ≡ text_body top text) → GivesMore sound mail refused old.drop first given next new.drop → bytes ≡ head ++ given
-      → BeginsAnswer sound mail refused old line bytes new
-  begun_answer refused old new line bytes given rows i head top first next opened user pass state asked place start whole more made = record {
-    was_open = opened;
-    user = user;
-    pass = pass;
-    state = state;
-    rows = rows;
-    place = i;
-    first = head;
-    top = top;
-    asked = asked;
-    read = more.piece;
-    goes_on = λ rest. (still next rest, front rest);
-    ends = (
-      next.stuffer.in_line,
-      ap (λ (t : List ℕ). head ++ text_body top t) (sym (append-nil more.piece)) ∙ front []
-          ∙ ap (λ (l : List ℕ). bytes ++ l) (still_none next [] (none_belongs next.top)),
-    );
-    failures = more.failures;
-    removals = more.removals;
+  pub reads_none : (d : D) → OnlyReads sound mail false d d
+  reads_none d = record { failures = refl; removals = refl; known = λ s. (s, refl) }
+
+  pub reads_on : (refused : Bool) (a b c : D) → OnlyReads sound mail false a b → OnlyReads sound mail refused b c → OnlyReads sound mail refused a c
+  reads_on refused a b c first second = record {
+    failures = subst (λ k. Tallies refused k (mail c).failures) first.failures second.failures;
+    removals = second.removals ∙ first.removals;
     known = λ s.
-        let known = more.known s in
-        (known.0, (known.1.0, begins_at (mail old.drop) first.place i first.start more.piece place start known.1.1));
+        let later = second.known s in
+        let before = first.known later.0 in
+        (before.0, later.1 ∙ ap (after_call refused) before.1);
   }
+
+  pub reads_part : (a b : D) (i start n : ℕ) (piece : List ℕ) → (mail b).failures ≡ (mail a).failures → (mail b).removals ≡ (mail a).removals
+      → (sound b → sound a × GivesPart (mail a) i start (Ok n) piece (mail b)) → OnlyReads sound mail false a b
+  reads_part a b i start n piece failures removals gives = record {
+    failures = failures;
+    removals = removals;
+    known = λ s. let now = gives s in (now.0, now.1.0);
+  }
+
+  pub reads_denied : (a b : D) (fault : DropFault) → Tallies (is_refusal fault) (mail a).failures (mail b).failures → (mail b).removals ≡ (mail a).removals
+      → (sound b → sound a × Denies (mail a) fault (mail b)) → OnlyReads sound mail (is_refusal fault) a b
+  reads_denied a b fault tally removals denies = record {
+    failures = tally;
+    removals = removals;
+    known = λ s. let now = denies s in (now.0, denied fault (mail a) (mail b) now.1);
+  }
+
+  pub reads_slots : (refused : Bool) (a b : D) → OnlyReads sound mail refused a b → sound b → sound a × ((mail b).slots ≡ (mail a).slots)
+  reads_slots refused a b reads s = let now = reads.known s in (now.0, call_slots refused (mail a) (mail b) now.1)
+
+  pub reads_place : (a b : D) (i k : ℕ) → OnlyReads sound mail false a b → k ≡ i → (sound a → HasPlace (mail a) i) → sound b → HasPlace (mail b) k
+  reads_place a b i k reads same has s =
+      let now = reads_slots false a b reads s in
+      let place = has now.0 in
+      (place.0, ap (slice_get (mail b).slots) same ∙ ap (λ (slots : List (Option Message)). slice_get slots i) now.1 ∙ place.1)
+
+  pub reads_tied : (refused : Bool) (a b : D) (state : State) → OnlyReads sound mail refused a b → Tied (sound a) (mail a) state → Tied (sound b) (mail b) state
+  reads_tied refused a b (Authorization kept) reads tied = tt
+  reads_tied refused a b (Transaction rows) reads tied = λ s i row at.
+      let now = reads_slots refused a b reads s in
+      let place = tied now.0 i row at in
+      (place.0, ap (λ (slots : List (Option Message)). slice_get slots i) now.1 ∙ place.1)
+  reads_tied refused a b Closed reads tied = tt
+
+  pub reads_nothing : (a b : D) → OnlyReads sound mail false a b → Unanswered sound mail a b
+  reads_nothing a b reads = record {
+    failures = reads.failures;
+    removals = reads.removals;
+    messages = λ s. let now = reads.known s in (now.0, ap (λ (m : Mail). there m.slots) now.1);
+  }
+
+  -- ---- an answer with a text
+
+  pub begins_place : (asked : Action) (old new : D) (made : List ℕ) (text : TextBody) (next : State) → BeginsAnswer sound mail asked old made text next new
+      → sound new → HasPlace (mail new) text.place
+  begins_place asked old new made text next begins s =
+      let first = begins.known s in
+      (first.0, ap (λ (m : Mail). slice_get m.slots text.place) (begins.reads.known s).1 ∙ first.1)
+
+  -- its first line was made
+  pub begins_new : (d : D) (rows : List MessageRow) (line : List ℕ) (top : Option ℕ) (text : TextBody) → text.start ≡ 0
+      → (sound d → HasPlace (mail d) text.place) → ((octets : List ℕ) → still text octets ≡ text_body top octets)
+      → BeginsAnswer sound mail (Give rows text.place line top) d line text (Transaction rows) d
+  begins_new d rows line top text start has whole = record {
+    rows = rows;
+    line = line;
+    top = top;
+    gives = refl;
+    state = refl;
+    read = [];
+    start = start;
+    goes_on = λ more. ap (λ (l : List ℕ). line ++ l) (sym (whole more));
+    reads = reads_none d;
+    known = λ s. let place = has s in (place.0, place.1, refl);
+  }
+
+  -- one more part was read
+  pub begins_on : (asked : Action) (old b c : D) (x y : TextBody) (next : State) (n : ℕ) (sent earlier reply piece octets : List ℕ) → n ≤ length piece
+      → y.place ≡ x.place → y.start ≡ x.start + n → ((rest : List ℕ) → belonging x.top (take n piece ++ rest) ≡ octets ++ belonging y.top rest)
+      → y.stuffer.in_line ≡ is_open_after x.stuffer.in_line octets → OnlyReads sound mail false b c
+      → (sound c → sound b × GivesPart (mail b) x.place x.start (Ok n) piece (mail c)) → reply ≡ earlier ++ sent_piece x.stuffer.in_line octets
+      → BeginsAnswer sound mail asked old (sent ++ earlier) x next b → BeginsAnswer sound mail asked old (sent ++ reply) y next c
+  begins_on asked old b c x y next n sent earlier reply piece octets fits place start belong opened reads gives is begins = record {
+    rows = begins.rows;
+    line = begins.line;
+    top = begins.top;
+    gives = begins.gives ∙ ap (λ k. Give begins.rows k begins.line begins.top) (sym place);
+    state = begins.state;
+    read = begins.read ++ take n piece;
+    start = start ∙ ap (λ k. k + n) begins.start
+        ∙ sym (length-append begins.read (take n piece) ∙ ap (λ k. length begins.read + k) (length-take-le n piece fits));
+    goes_on = λ more. ap (λ (l : List ℕ). begins.line ++ text_body begins.top l) (append_assoc begins.read (take n piece) more)
+        ∙ begins.goes_on (take n piece ++ more)
+        ∙ ap (λ (l : List ℕ). (sent ++ earlier) ++ l) (still_on x y (take n piece) octets belong opened more)
+        ∙ sym (append_assoc (sent ++ earlier) (sent_piece x.stuffer.in_line octets) (still y more))
+        ∙ ap (λ (l : List ℕ). l ++ still y more) (longer sent earlier (sent_piece x.stuffer.in_line octets) reply is);
+    reads = reads_on false old b c begins.reads reads;
+    known = λ s.
+        let part = gives s in
+        let same = (begins.reads.known part.0).1 in
+        let next_part = subst (λ k. GivesPart (mail old) x.place k (Ok n) piece (mail c)) begins.start
+        (subst (λ (m : Mail). GivesPart m x.place x.start (Ok n) piece (mail c)) same part.1) in
+        subst (λ k. BeginsTextAt (mail old) k (begins.read ++ take n piece)) (sym place)
+        (read_on (mail old) (mail c) x.place n begins.read piece fits (begins.known part.0) next_part);
+  }
+
+  -- all of it was made: of what follows in the text, nothing belongs to its body
+  begins_end : (asked : Action) (old b c : D) (x : TextBody) (next : State) (made : List ℕ) → OnlyReads sound mail false b c
+      → (sound c → (message : Message) × (slice_get (mail b).slots x.place ≡ Some (Some message)) × (still x (drop x.start message.text) ≡ sent_end x.stuffer.in_line))
+      → BeginsAnswer sound mail asked old made x next b → Answers sound mail asked old (made ++ sent_end x.stuffer.in_line) next c
+  begins_end asked old b c x next made reads past begins = subst (λ (d : Action). Answers sound mail d old (made ++ sent_end x.stuffer.in_line) next c) (sym begins.gives) (record {
+    removals = reads.removals ∙ begins.reads.removals;
+    does = (
+      begins.state,
+      inr (
+        begins.read,
+        ends,
+        λ s.
+            let last = reads.known s in
+            let first = begins.reads.known last.0 in
+            let begun = begins.known last.0 in
+            let over = past s in
+            let same : over.0 ≡ begun.0 = same_message (slice_get (mail b).slots x.place) over.0 begun.0 over.1
+            (ap (λ (m : Mail). slice_get m.slots x.place) first.1 ∙ begun.1) in (
+              first.0,
+              (
+                last.1 ∙ first.1,
+                (
+                  begun.0,
+                  begun.1,
+                  append_cancel_left begins.line (text_body begins.top begins.read) (text_body begins.top begun.0.text)
+                      (sym ends ∙ ap (λ (l : List ℕ). made ++ l) (sym (ap (λ k. still x (drop k begun.0.text)) (sym begins.start)
+                      ∙ ap (λ (m : Message). still x (drop x.start m.text)) (sym same) ∙ over.2))
+                      ∙ sym (begins.goes_on (drop (length begins.read) begun.0.text))
+                      ∙ ap (λ (l : List ℕ). begins.line ++ text_body begins.top l)
+                      (ap (λ (l : List ℕ). l ++ drop (length begins.read) begun.0.text) begun.2 ∙ take-append-drop (length begins.read) begun.0.text)),
+                ),
+              ),
+            ),
+      ),
+    );
+  })
     where
-      front : (rest : List ℕ) → head ++ text_body top (more.piece ++ rest) ≡ bytes ++ still next rest
-      front rest =
-          ap (λ (l : List ℕ). head ++ l) (sym (whole (more.piece ++ rest)) ∙ more.goes_on rest) ∙ sym (append_assoc head given (still next rest))
-          ∙ ap (λ (l : List ℕ). l ++ still next rest) (sym made)
+      ends : made ++ sent_end x.stuffer.in_line ≡ begins.line ++ text_body begins.top begins.read
+      ends = ap (λ (l : List ℕ). made ++ l) (sym (still_none x [] (none_belongs x.top))) ∙ sym (begins.goes_on [])
+          ∙ ap (λ (l : List ℕ). begins.line ++ text_body begins.top l) (append-nil begins.read)
 
-  pub started_some : (old mid : Machine D) (line bytes : List ℕ) (text : TextBody) → Started sound mail old line bytes text mid → 0 < text.start
-  started_some old mid line bytes text started = (begun_give _ old.drop bytes text mid.state mid.drop started.begun).6.some
+  -- no more octets are there
+  pub ends_empty : (asked : Action) (old b c : D) (x : TextBody) (next : State) (n : ℕ) (sent earlier octets piece : List ℕ) → n ≡ 0
+      → OnlyReads sound mail false b c → (sound c → sound b × GivesPart (mail b) x.place x.start (Ok n) piece (mail c))
+      → octets ≡ earlier ++ sent_end x.stuffer.in_line → BeginsAnswer sound mail asked old (sent ++ earlier) x next b
+      → Answers sound mail asked old (sent ++ octets) next c
+  ends_empty asked old b c x next n sent earlier octets piece none reads gives is begins =
+      subst (λ (l : List ℕ). Answers sound mail asked old l next c) (longer sent earlier (sent_end x.stuffer.in_line) octets is)
+      (begins_end asked old b c x next (sent ++ earlier) reads
+      (λ s. let now = (gives s).1.1 in (now.0, now.1, ap (still x) (drop_all x.start now.0.text (now.3 none)) ∙ still_none x [] (none_belongs x.top))) begins)
 
-  pub started_place : (old mid : Machine D) (line bytes : List ℕ) (text : TextBody) → Started sound mail old line bytes text mid → sound mid.drop → HasPlace (mail mid.drop) text.place
-  started_place old mid line bytes text started s =
-      let begins = (begun_give _ old.drop bytes text mid.state mid.drop started.begun).6 in
-      more_place sound mail old.drop mid.drop begins.first text begins.given begins.gives s
-
-  pub started_same : (old mid : Machine D) (line bytes : List ℕ) (text : TextBody) → Started sound mail old line bytes text mid → SameServer sound mail old mid
-  started_same old mid line bytes text started =
-      let gives = (begun_give _ old.drop bytes text mid.state mid.drop started.begun).6.gives in
-      record {
-        user = started.user;
-        pass = started.pass;
-        state = started.state;
-        unanswered = record {
-          failures = gives.failures;
-          removals = gives.removals;
-          messages = λ s. let known = gives.known s in (known.0, ap (λ (m : Mail). there m.slots) known.1.0);
-        };
-      }
-
-  pub started_removals : (old mid : Machine D) (line bytes : List ℕ) (text : TextBody) → Started sound mail old line bytes text mid → (mail mid.drop).removals ≡ (mail old.drop).removals
-  started_removals old mid line bytes text started = (begun_give _ old.drop bytes text mid.state mid.drop started.begun).6.gives.removals
-
-  pub started_answer : (old mid : Machine D) (line bytes : List ℕ) (text : TextBody) → Started sound mail old line bytes text mid → BeginsAnswer sound mail false old line bytes mid
-  started_answer old mid line bytes text started =
-      let give = begun_give _ old.drop bytes text mid.state mid.drop started.begun in
-      let begins = give.6 in
-      begun_answer false old mid line bytes begins.given give.0 give.1 give.2 give.3 begins.first text started.was_open started.user started.pass started.state give.4
-      begins.place begins.start begins.whole begins.gives begins.made
-
-  pub started_of : (old mid : Machine D) (line bytes : List ℕ) (rest : Option TextBody) (text : TextBody) (limit : ℕ) → rest ≡ Some text → is_open old.state ≡ true
-      → (mid.user ≡ old.user) × (mid.pass ≡ old.pass) → AnswersOrBegins sound mail (deed old.user old.pass old.state (command_of line)) old.drop bytes rest mid.state mid.drop
-      → IfSome rest (λ _. (limit < 2 ^ 64 - 1) × (mid.state ≡ old.state)) → Started sound mail old line bytes text mid
-  started_of old mid line bytes rest text limit is opened who begun same = record {
-    was_open = opened;
-    user = who.0;
-    pass = who.1;
-    state = (subst (λ (r : Option TextBody). IfSome r (λ _. (limit < 2 ^ 64 - 1) × (mid.state ≡ old.state))) is same).1;
-    begun = subst (λ (r : Option TextBody). AnswersOrBegins sound mail (deed old.user old.pass old.state (command_of line)) old.drop bytes r mid.state mid.drop) is begun;
-  }
-
-  -- a prefix of the next octets of a text was sent
-  pub rest_unsent : (first here next : D) (x y z : TextBody) (given reply front unsent : List ℕ) (more : Bool) (before link sent : Link) → GivesMore sound mail false first x given y here
-      → (more ≡ true → GivesMore sound mail false here y reply z next) → (more ≡ false → GivesRest sound mail here y reply next)
-      → link ≡ record before { sent = before.sent ++ given } → reply ≡ front ++ unsent → sent ≡ record link { sent = link.sent ++ front; failures = link.failures + 1 }
-      → SendsRest sound mail first x before (Err WriteFailed) next sent
-  rest_unsent first here next x y z given reply front unsent more before link sent gives goes_on ends up part sends =
-      let octets : given ++ reply ≡ (given ++ front) ++ unsent = ap (λ (l : List ℕ). given ++ l) part ∙ sym (append_assoc given front unsent) in (
-        given ++ front,
-        unsent,
-        went_on before link sent given front up sends,
-        elim (cases_Bool more) [
-          | inl is_more ↦ inr (z, subst (λ (l : List ℕ). GivesMore sound mail false first x l z next) octets (more_on sound mail false first here next x y z given reply gives (goes_on is_more)))
-          | inr is_end ↦ inl (subst (λ (l : List ℕ). GivesRest sound mail first x l next) octets (rest_on sound mail first here next x y given reply gives (ends is_end)))
-        ],
-      )
-
-  -- more of it was given
-  pub started_more : (refused : Bool) (old mid new : Machine D) (line bytes more : List ℕ) (text next : TextBody) → Started sound mail old line bytes text mid → new ≡ record mid { drop = new.drop }
-      → GivesMore sound mail refused mid.drop text more next new.drop → BeginsAnswer sound mail refused old line (bytes ++ more) new
-  started_more refused old mid new line bytes more text next started others gives =
-      let give = begun_give _ old.drop bytes text mid.state mid.drop started.begun in
-      let begins = give.6 in
-      begun_answer refused old new line (bytes ++ more) (begins.given ++ more) give.0 give.1 give.2 give.3 begins.first next started.was_open
-      (ap (λ (m : Machine D). m.user) others ∙ started.user) (ap (λ (m : Machine D). m.pass) others ∙ started.pass) (ap (λ (m : Machine D). m.state) others ∙ started.state) give.4
-      begins.place begins.start begins.whole (more_on sound mail refused old.drop mid.drop new.drop begins.first text next begins.given more begins.gives gives)
-      (ap (λ (l : List ℕ). l ++ more) begins.made ∙ append_assoc give.2 begins.given more)
-
-  -- all of it was given
-  pub started_rest : (old mid new : Machine D) (line bytes more : List ℕ) (text : TextBody) → Started sound mail old line bytes text mid → new ≡ record mid { drop = new.drop }
-      → GivesRest sound mail mid.drop text more new.drop → AnswersLine sound mail old line (bytes ++ more) new
-  started_rest old mid new line bytes more text started others gives =
-      let give = begun_give _ old.drop bytes text mid.state mid.drop started.begun in
-      let begins = give.6 in
-      let rest = rest_on sound mail old.drop mid.drop new.drop begins.first text begins.given more begins.gives gives in
-      record {
-        was_open = started.was_open;
-        user = ap (λ (m : Machine D). m.user) others ∙ started.user;
-        pass = ap (λ (m : Machine D). m.pass) others ∙ started.pass;
-        answers = subst (λ (d : Deed). Answers sound mail d old.drop (bytes ++ more) new.state new.drop) (sym give.4) (record {
-          removals = rest.removals;
-          does = (
-            ap (λ (m : Machine D). m.state) others ∙ give.5,
-            gives_text sound mail give.1 give.2 give.3 old.drop new.drop begins.first (begins.given ++ more) (bytes ++ more) begins.place begins.start begins.whole rest
-                (ap (λ (l : List ℕ). l ++ more) begins.made ∙ append_assoc give.2 begins.given more),
-          );
-        });
-      }
-
-  -- the beginning of the answer was sent, and then what followed of the text, or not all of it
-  pub started_sent : (old mid new : Machine D) (line bytes : List ℕ) (text : TextBody) (before sent after : Link) (result : Result (Unit {0}) ServerFault) (closing : Bool)
-      → Started sound mail old line bytes text mid → new ≡ record mid { drop = new.drop } → sent ≡ record before { sent = before.sent ++ bytes }
-      → SendsRest sound mail mid.drop text sent result new.drop after → SendsAnswer sound mail old line before (result_of result closing) new after
-  started_sent old mid new line bytes text before sent after (Ok done) closing started others first (given, rest, last) = (
-    bytes ++ given,
-    started_rest old mid new line bytes given text started others rest,
-    last ∙ ap (λ (l : Link). record l { sent = l.sent ++ given }) first ∙ ap (λ (l : List ℕ). record before { sent = l }) (append_assoc before.sent bytes given),
-  )
-  started_sent old mid new line bytes text before sent after (Err ReadFailed) closing started others first rest = absurd rest
-  started_sent old mid new line bytes text before sent after (Err WriteFailed) closing started others first (front, unsent, last, inl rest) = (
-    bytes ++ front,
-    unsent,
-    went_on before sent after bytes front first last,
-    inl (subst (λ (l : List ℕ). AnswersLine sound mail old line l new) (sym (append_assoc bytes front unsent)) (started_rest old mid new line bytes (front ++ unsent) text started others rest)),
-  )
-  started_sent old mid new line bytes text before sent after (Err WriteFailed) closing started others first (front, unsent, last, inr (next, more)) = (
-    bytes ++ front,
-    unsent,
-    went_on before sent after bytes front first last,
-    inr (subst (λ (l : List ℕ). BeginsAnswer sound mail false old line l new) (sym (append_assoc bytes front unsent)) (started_more false old mid new line bytes (front ++ unsent) text next started others more)),
-  )
-  started_sent old mid new line bytes text before sent after (Err MaildropFailed) closing started others first (given, next, more, last) = (
-    bytes ++ given,
-    started_more true old mid new line bytes given text next started others more,
-    last ∙ ap (λ (l : Link). record l { sent = l.sent ++ given }) first ∙ ap (λ (l : List ℕ). record before { sent = l }) (append_assoc before.sent bytes given),
-  )
-  started_sent old mid new line bytes text before sent after (Err NoMemory) closing started others first rest = absurd rest
+  -- none of what follows belongs to it
+  pub ends_whole : (asked : Action) (old b : D) (x : TextBody) (next : State) (sent earlier octets : List ℕ) → (sound b → HasPlace (mail b) x.place)
+      → ((rest : List ℕ) → belonging x.top rest ≡ []) → octets ≡ earlier ++ sent_end x.stuffer.in_line
+      → BeginsAnswer sound mail asked old (sent ++ earlier) x next b → Answers sound mail asked old (sent ++ octets) next b
+  ends_whole asked old b x next sent earlier octets has done is begins =
+      subst (λ (l : List ℕ). Answers sound mail asked old l next b) (longer sent earlier (sent_end x.stuffer.in_line) octets is)
+      (begins_end asked old b b x next (sent ++ earlier) (reads_none b)
+      (λ s. let place = has s in (place.0, place.1, still_none x (drop x.start place.0.text) (done (drop x.start place.0.text)))) begins)

@@ -1,16 +1,24 @@
 -- A server's answers to lines, in order.
-use Rattle.std.specs.Prelude.{◌≡◌, ℕ, true, List, [], ◌∷◌, ◌++◌}
+use Rattle.std.specs.Prelude.{IfSome, ◌≡◌, ℕ, true, List, [], ◌∷◌, ◌++◌, Option, None}
 use Rattle.pop3_wire.specs.CommandLine.{command_of}
+use Rattle.pop3_server.specs.declared.text_part.TextBody.{TextBody}
 use Rattle.pop3_server.specs.Maildrop.{Mail}
-use Rattle.pop3_server.specs.ServerMachine.{Machine, Answers, Unanswered, deed, is_open}
+use Rattle.pop3_server.specs.ServerMachine.{Machine, Unanswered, action_of, is_open}
+use Rattle.pop3_server.specs.TextAnswer.{AnswersOrBegins, OnlyReads}
 
--- an open server answered one line, which is given here without its CR LF
-pub record AnswersLine {D : Type 0} (sound : D → Type 0) (mail : D → Mail) (old : Machine D)
-    (line answer : List ℕ) (new : Machine D) : Type 0 where
+-- an open server answered one line, which is given here without its CR LF, or began to if a text follows
+pub record MakesAnswer {D : Type 0} (sound : D → Type 0) (mail : D → Mail) (old : Machine D)
+    (line made : List ℕ) (rest : Option TextBody) (new : Machine D) : Type 0 where
   pub was_open : is_open old.state ≡ true
   pub user : new.user ≡ old.user
   pub pass : new.pass ≡ old.pass
-  pub answers : Answers sound mail (deed old.user old.pass old.state (command_of line)) old.drop answer new.state new.drop
+  -- a server that gives a text stays as it is
+  pub state : IfSome rest (λ text. new.state ≡ old.state)
+  pub answers : AnswersOrBegins sound mail (action_of old.user old.pass old.state (command_of line)) old.drop made rest new.state new.drop
+
+-- it answered the line, and nothing follows
+abbrev pub AnswersLine : {D : Type 0} → (D → Type 0) → (D → Mail) → Machine D → List ℕ → List ℕ → Machine D → Type 0
+AnswersLine sound mail old line answer new = MakesAnswer sound mail old line answer None new
 
 -- it answered these lines in order, and these are all its answers
 abbrev pub AnswersLines : {D : Type 0} → (D → Type 0) → (D → Mail) → Machine D → List (List ℕ) → List ℕ → Machine D → Type 0
@@ -25,3 +33,8 @@ pub record SameServer {D : Type 0} (sound : D → Type 0) (mail : D → Mail) (o
   pub pass : new.pass ≡ old.pass
   pub state : new.state ≡ old.state
   pub unanswered : Unanswered sound mail old.drop new.drop
+
+-- the same server, whose maildrop refused a part of a text
+pub record RefusesPart {D : Type 0} (sound : D → Type 0) (mail : D → Mail) (old new : Machine D) : Type 0 where
+  pub same : new ≡ record old { drop = new.drop }
+  pub reads : OnlyReads sound mail true old.drop new.drop

@@ -12,5 +12,4 @@ pub mod Serving
 pub mod Size
 pub mod TextAnswer
 pub mod TextBody
-pub mod TextPart
 pub mod TextPiece

@@ -115,17 +115,17 @@ text_body (Some n) text = stuffed_lines (top_lines n (lines_of_text text))
 
 -- ---- the table: what a state and a command ask for
 
-pub data Deed : Type 0 where
+pub data Action : Type 0 where
   -- this answer, and this next state; the maildrop isn't called
-  Say : List ℕ → State → Deed
+  Say : List ℕ → State → Action
   -- the maildrop is listed
-  Open : Deed
+  Open : Action
   -- the text at a place is given after a first line, all of it or its top
-  Give : List MessageRow → ℕ → List ℕ → Option ℕ → Deed
+  Give : List MessageRow → ℕ → List ℕ → Option ℕ → Action
   -- the marked messages are removed
-  Leave : List MessageRow → Deed
+  Leave : List MessageRow → Action
 
-abbrev pub in_authorization : List ℕ → List ℕ → Option (List ℕ) → Command → Deed
+abbrev pub in_authorization : List ℕ → List ℕ → Option (List ℕ) → Command → Action
 in_authorization user pass kept (User name) = Say (said (codes "+OK send PASS")) (Authorization (Some name))
 in_authorization user pass None (Pass word) = Say (said (codes "-ERR USER first")) (Authorization None)
 in_authorization user pass (Some name) (Pass word) =
@@ -133,18 +133,18 @@ in_authorization user pass (Some name) (Pass word) =
 in_authorization user pass kept Quit = Say (said (codes "+OK bye")) Closed
 in_authorization user pass kept command = Say (said (codes "-ERR not now")) (Authorization kept)
 
-abbrev pub give : List MessageRow → ℕ → Option MessageRow → (MessageRow → List ℕ) → Option ℕ → Deed
+abbrev pub give : List MessageRow → ℕ → Option MessageRow → (MessageRow → List ℕ) → Option ℕ → Action
 give rows k None line top = Say (said (codes "-ERR no such message")) (Transaction rows)
 give rows k (Some row) line top = Give rows (k - 1) (said (line row)) top
 
 abbrev pub octets_line : MessageRow → List ℕ
 octets_line row = codes "+OK " ++ decimal row.entry.size ++ codes " octets"
 
-abbrev pub dele : List MessageRow → ℕ → Option MessageRow → Deed
+abbrev pub dele : List MessageRow → ℕ → Option MessageRow → Action
 dele rows k None = Say (said (codes "-ERR no such message")) (Transaction rows)
 dele rows k (Some row) = Say (said (codes "+OK marked")) (Transaction (mark_at rows (k - 1)))
 
-abbrev pub in_transaction : List MessageRow → Command → Deed
+abbrev pub in_transaction : List MessageRow → Command → Action
 in_transaction rows (User name) = Say (said (codes "-ERR not now")) (Transaction rows)
 in_transaction rows (Pass word) = Say (said (codes "-ERR not now")) (Transaction rows)
 in_transaction rows Stat =
@@ -163,11 +163,11 @@ in_transaction rows Noop = Say (said (codes "+OK")) (Transaction rows)
 in_transaction rows Quit = Leave rows
 
 -- what a line asks for, given its command or its fault; a closed server isn't asked
-abbrev pub deed : List ℕ → List ℕ → State → Result Command WireFault → Deed
-deed user pass state (Err fault) = Say (said (codes "-ERR bad command")) state
-deed user pass (Authorization kept) (Ok command) = in_authorization user pass kept command
-deed user pass (Transaction rows) (Ok command) = in_transaction rows command
-deed user pass Closed (Ok command) = Say [] Closed
+abbrev pub action_of : List ℕ → List ℕ → State → Result Command WireFault → Action
+action_of user pass state (Err fault) = Say (said (codes "-ERR bad command")) state
+action_of user pass (Authorization kept) (Ok command) = in_authorization user pass kept command
+action_of user pass (Transaction rows) (Ok command) = in_transaction rows command
+action_of user pass Closed (Ok command) = Say [] Closed
 
 -- ---- what is done
 
@@ -195,7 +195,7 @@ with_marked [] count = count
 with_marked (row ∷ rows) count = with_marked rows (if row.marked then counted_up count else count)
 
 -- removals are asked for only at QUIT, one for each marked message; this holds of every maildrop
-abbrev pub AsksRemovals : Mail → Deed → Mail → Type 0
+abbrev pub AsksRemovals : Mail → Action → Mail → Type 0
 AsksRemovals old (Say bytes state) new = new.removals ≡ old.removals
 AsksRemovals old Open new = new.removals ≡ old.removals
 AsksRemovals old (Give rows i line top) new = new.removals ≡ old.removals
@@ -227,15 +227,15 @@ RemovesMarked sound mail rows old answer new =
     (all : Bool) × (answer ≡ said (if all then codes "+OK bye" else codes "-ERR some messages not removed"))
     × Known sound mail old new (λ before after. Empties 0 rows before all after)
 
-abbrev pub Does : {D : Type 0} → (D → Type 0) → (D → Mail) → Deed → D → List ℕ → State → D → Type 0
+abbrev pub Does : {D : Type 0} → (D → Type 0) → (D → Mail) → Action → D → List ℕ → State → D → Type 0
 Does sound mail (Say bytes state) old answer next new = (answer ≡ bytes) × (next ≡ state) × (new ≡ old)
 Does sound mail Open old answer next new = Opens sound mail old answer next new
 Does sound mail (Give rows i line top) old answer next new =
     (next ≡ Transaction rows) × GivesText sound mail i line top old answer new
 Does sound mail (Leave rows) old answer next new = (next ≡ Closed) × RemovesMarked sound mail rows old answer new
 
--- a deed was done: its answer, the next state, and the maildrop before and after
-pub record Answers {D : Type 0} (sound : D → Type 0) (mail : D → Mail) (asked_for : Deed) (old : D)
+-- an action was done: its answer, the next state, and the maildrop before and after
+pub record Answers {D : Type 0} (sound : D → Type 0) (mail : D → Mail) (asked_for : Action) (old : D)
     (answer : List ℕ) (next : State) (new : D) : Type 0 where
   pub removals : AsksRemovals (mail old) asked_for (mail new)
   pub does : Does sound mail asked_for old answer next new

@@ -1,5 +1,5 @@
 -- What serving a link does: lines come in, and their answers are sent.
-use Rattle.std.specs.Prelude.{◌≡◌, ◌⊎◌, ◌≤◌, ◌<◌, ◌+◌, ◌-◌, ℕ, Bool, true, false, List, [], ◌∷◌, ◌++◌, length, Result, Ok, Err}
+use Rattle.std.specs.Prelude.{◌≡◌, ◌⊎◌, ◌≤◌, ◌<◌, ◌+◌, ◌-◌, ℕ, Bool, true, false, List, [], ◌∷◌, ◌++◌, length, Option, Some, Result, Ok, Err}
 use Rattle.std.specs.List.{flat_map, AllByRecursion}
 use Rattle.pop3_wire.specs.Line.{IsLine, ended}
 use Rattle.pop3_wire.specs.Bodies.{Drew}
@@ -7,15 +7,13 @@ use Rattle.pop3_wire.specs.Link.{Link}
 use Rattle.pop3_wire.specs.Place.{HasLine}
 use Rattle.pop3_server.specs.declared.fault.ServerFault.{ServerFault}
 use Rattle.pop3_server.specs.declared.fault.ServerFault.TheVariants.{ReadFailed, WriteFailed, MaildropFailed, NoMemory}
-use Rattle.pop3_server.specs.declared.intake.Heard.{Heard}
-use Rattle.pop3_server.specs.declared.intake.Heard.TheVariants.{Line, LongLine, End}
+use Rattle.pop3_server.specs.declared.intake.NextLine.{NextLine}
+use Rattle.pop3_server.specs.declared.intake.NextLine.TheVariants.{Line, LongLine, End}
 use Rattle.pop3_server.specs.Maildrop.{Mail}
 use Rattle.pop3_server.specs.ServerMachine.{Machine, greeting, is_open}
-use Rattle.pop3_server.specs.AnswersLines.{AnswersLines, AnswersLine, SameServer}
+use Rattle.pop3_server.specs.AnswersLines.{AnswersLines, AnswersLine, MakesAnswer, RefusesPart, SameServer}
 use Rattle.pop3_server.specs.Got.{Waiting}
 use Rattle.pop3_server.specs.declared.text_part.TextBody.{TextBody}
-use Rattle.pop3_server.specs.TextAnswer.{BeginsAnswer}
-use Rattle.pop3_server.specs.TextBody.{GivesMore, GivesRest}
 
 -- how long a line may be, its CR LF included, and how many octets are read from one connection
 abbrev pub max_line : ℕ
@@ -32,7 +30,7 @@ pub record Queues (before : Waiting) (dropped : List ℕ) (after : Waiting) (gai
   pub left : length gained + after.left ≡ before.left
 
 -- a line waits, one that is too long was dropped, or no whole line will come
-abbrev pub Hears : Link → Waiting → Result Heard ServerFault → Link → Waiting → Type 0
+abbrev pub Hears : Link → Waiting → Result NextLine ServerFault → Link → Waiting → Type 0
 Hears old before (Ok (Line n)) new after =
     (gained : List ℕ) × Drew old new gained × Queues before [] after gained × HasLine max_line after.octets n
 Hears old before (Ok LongLine) new after =
@@ -50,7 +48,7 @@ TakesMore (Ok false) left link = (link.ended ≡ true) ⊎ (left ≡ 0)
 TakesMore (Err fault) left link = Unit {0}
 
 -- if a line waits, it does so whatever is known of the link
-abbrev pub Found : Heard → Waiting → Type 0
+abbrev pub Found : NextLine → Waiting → Type 0
 Found (Line n) waiting = HasLine max_line waiting.octets n
 Found LongLine waiting = Unit {0}
 Found End waiting = Unit {0}
@@ -61,20 +59,22 @@ Found End waiting = Unit {0}
 abbrev pub AllSent : {D : Type 0} → (D → Type 0) → (D → Mail) → Machine D → List (List ℕ) → List ℕ → Machine D → Type 0
 AllSent sound mail old lines sent last = (answers : List ℕ) × AnswersLines sound mail old lines answers last × (sent ≡ greeting ++ answers)
 
--- only a part of the greeting was sent; or the greeting and all answers were sent, but only a part of the last
-abbrev pub PartSent : {D : Type 0} → (D → Type 0) → (D → Mail) → Machine D → List (List ℕ) → List ℕ → Machine D → Type 0
-PartSent {D} sound mail old lines sent last =
-    ((rest : List ℕ) × (greeting ≡ sent ++ rest) × (lines ≡ []) × (last ≡ old))
-    ⊎ ((before : List (List ℕ)) × (line whole answer front rest : List ℕ) × (mid : Machine D)
-    × (lines ≡ before ++ line ∷ []) × AllSent sound mail old before whole mid × AnswersLine sound mail mid line answer last
-    × (answer ≡ front ++ rest) × (sent ≡ whole ++ front))
+-- only a part of the greeting was sent
+abbrev pub PartGreeted : {D : Type 0} → Machine D → List (List ℕ) → List ℕ → Machine D → Type 0
+PartGreeted old lines sent last = (rest : List ℕ) × (greeting ≡ sent ++ rest) × (lines ≡ []) × (last ≡ old)
 
--- the greeting and all answers were sent; the last has a text, of which all that was read was sent
-abbrev pub BegunSent : {D : Type 0} → (D → Type 0) → (D → Mail) → Bool → Machine D → List (List ℕ) → List ℕ → Machine D → Type 0
-BegunSent {D} sound mail refused old lines sent last =
-    (before : List (List ℕ)) × (line whole answer : List ℕ) × (mid : Machine D)
-    × (lines ≡ before ++ line ∷ []) × AllSent sound mail old before whole mid × BeginsAnswer sound mail refused mid line answer last
-    × (sent ≡ whole ++ answer)
+-- the greeting and all answers were sent, but the last only as far as it was made, without this end
+pub record LastSent {D : Type 0} (sound : D → Type 0) (mail : D → Mail) (old : Machine D) (lines : List (List ℕ))
+    (sent unsent : List ℕ) (rest : Option TextBody) (last : Machine D) : Type 0 where
+  pub before : List (List ℕ)
+  pub line : List ℕ
+  pub whole : List ℕ
+  pub front : List ℕ
+  pub mid : Machine D
+  pub each : lines ≡ before ++ line ∷ []
+  pub all : AllSent sound mail old before whole mid
+  pub makes : MakesAnswer sound mail mid line (front ++ unsent) rest last
+  pub out : sent ≡ whole ++ front
 
 -- what was sent for these lines, and the server that is left, if this rest was got after them
 abbrev pub WentOut : {D : Type 0} → (D → Type 0) → (D → Mail) → Machine D → List (List ℕ) → List ℕ → List ℕ
@@ -83,41 +83,29 @@ abbrev pub WentOut : {D : Type 0} → (D → Type 0) → (D → Mail) → Machin
 WentOut sound mail old lines rest sent (Ok done) new =
     AllSent sound mail old lines sent new × ((is_open new.state ≡ false) ⊎ IsLine rest)
 WentOut sound mail old lines rest sent (Err ReadFailed) new = AllSent sound mail old lines sent new
--- if a text follows, perhaps not all that was read of it was sent
 WentOut sound mail old lines rest sent (Err WriteFailed) new =
-    PartSent sound mail old lines sent new ⊎ ((unsent : List ℕ) × BegunSent sound mail false old lines (sent ++ unsent) new)
+    PartGreeted old lines sent new
+    ⊎ ((unsent : List ℕ) × (text : Option TextBody) × LastSent sound mail old lines sent unsent text new)
 -- the maildrop refused a part of a text after other parts of it were sent
-WentOut sound mail old lines rest sent (Err MaildropFailed) new = BegunSent sound mail true old lines sent new
+WentOut {D} sound mail old lines rest sent (Err MaildropFailed) new = (text : TextBody) × (last : Machine D)
+    × LastSent sound mail old lines sent [] (Some text) last × RefusesPart sound mail last new
 -- memory ran out for the greeting, or for one more answer
 WentOut {D} sound mail old lines rest sent (Err NoMemory) new =
     ((sent ≡ []) × (lines ≡ []) × (new ≡ old))
     ⊎ ((last : Machine D) × AllSent sound mail old lines sent last × SameServer sound mail last new)
 
--- what follows of a text was sent, or a prefix of it
-abbrev pub SendsRest : {D : Type 0} → (D → Type 0) → (D → Mail) → D → TextBody → Link → Result (Unit {0}) ServerFault → D → Link → Type 0
-SendsRest sound mail old text before (Ok done) new after =
-    (given : List ℕ) × GivesRest sound mail old text given new × (after ≡ record before { sent = before.sent ++ given })
-SendsRest sound mail old text before (Err ReadFailed) new after = ⊥
-SendsRest sound mail old text before (Err WriteFailed) new after =
-    (front unsent : List ℕ) × (after ≡ record before { sent = before.sent ++ front; failures = before.failures + 1 })
-    × (GivesRest sound mail old text (front ++ unsent) new
-    ⊎ ((next : TextBody) × GivesMore sound mail false old text (front ++ unsent) next new))
-SendsRest sound mail old text before (Err MaildropFailed) new after =
-    (given : List ℕ) × (next : TextBody) × GivesMore sound mail true old text given next new
-    × (after ≡ record before { sent = before.sent ++ given })
-SendsRest sound mail old text before (Err NoMemory) new after = ⊥
-
--- a line was answered, or a prefix of its answer was sent
+-- a line was answered, or a prefix of what was made of its answer was sent
 abbrev pub SendsAnswer : {D : Type 0} → (D → Type 0) → (D → Mail) → Machine D → List ℕ → Link
     → Result Bool ServerFault → Machine D → Link → Type 0
 SendsAnswer sound mail old line before (Ok closing) new after =
     (answer : List ℕ) × AnswersLine sound mail old line answer new × (after ≡ record before { sent = before.sent ++ answer })
 SendsAnswer sound mail old line before (Err ReadFailed) new after = ⊥
 SendsAnswer sound mail old line before (Err WriteFailed) new after =
-    (front unsent : List ℕ) × (after ≡ record before { sent = before.sent ++ front; failures = before.failures + 1 })
-    × (AnswersLine sound mail old line (front ++ unsent) new ⊎ BeginsAnswer sound mail false old line (front ++ unsent) new)
-SendsAnswer sound mail old line before (Err MaildropFailed) new after =
-    (answer : List ℕ) × BeginsAnswer sound mail true old line answer new × (after ≡ record before { sent = before.sent ++ answer })
+    (front unsent : List ℕ) × (rest : Option TextBody) × MakesAnswer sound mail old line (front ++ unsent) rest new
+    × (after ≡ record before { sent = before.sent ++ front; failures = before.failures + 1 })
+SendsAnswer {D} sound mail old line before (Err MaildropFailed) new after =
+    (made : List ℕ) × (text : TextBody) × (last : Machine D) × MakesAnswer sound mail old line made (Some text) last
+    × RefusesPart sound mail last new × (after ≡ record before { sent = before.sent ++ made })
 SendsAnswer sound mail old line before (Err NoMemory) new after = SameServer sound mail old new × (after ≡ before)
 
 -- the lines that were got were answered in order

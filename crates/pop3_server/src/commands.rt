@@ -1,5 +1,5 @@
 //! What a server does for each command: the table of states and commands (RFC 1939, sections 4 to 7).
-ghost use Rattle.std.specs.Prelude.{◌≡◌, ◌<◌, ◌-◌, ◌^◌, ℕ, Bool, List, Option, map, slice_get, Some};
+ghost use Rattle.std.specs.Prelude.{◌≡◌, ◌<◌, ◌-◌, ℕ, Bool, List, Option, map, slice_get, Some};
 ghost use Rattle.std.specs.Prelude.{None, IfOk, IfErr, IfSome, MatchResult, bytes_eq, codes, ◌++◌};
 ghost use Rattle.pop3_wire.specs.declared.command.Command.TheVariants.{Retr, Top, Dele, Rset};
 ghost use Rattle.pop3_server.specs.declared.rows.MessageRow.{MessageRow};
@@ -10,7 +10,7 @@ ghost use Rattle.pop3_server.specs.Maildrop.{HasPlace};
 ghost use Rattle.pop3_server.specs.ServerMachine.{Say, Open, Give, Leave, Answers, SamePlaces, Unanswered, Tied};
 ghost use Rattle.pop3_server.specs.ServerMachine.{Tries, Empties, with_marked, in_authorization, in_transaction};
 ghost use Rattle.pop3_server.specs.ServerMachine.{next_of, said, of_row, row_at, scan_line, uid_line, text_body};
-ghost use Rattle.pop3_server.specs.TextAnswer.{AnswersOrBegins};
+ghost use Rattle.pop3_server.specs.TextAnswer.{AnswersOrBegins, Follows};
 ghost use Rattle.pop3_server.specs.TextBody.{still};
 
 use crate::fault::ServerFault;
@@ -22,12 +22,9 @@ use crate::text_part::TextBody;
 use pop3_wire::{Bytes, Command};
 use std::alloc::Global;
 
-/// The octets of a reply, and the text that follows them if they aren't the whole reply.
-type Reply = (Vec<u8>, Option<TextBody>);
-
 /// The result of a command.
 #[derive(Drop)]
-pub struct Step {
+pub struct Outcome {
     /// The octets of the reply, or of its beginning if a text follows.
     pub bytes: Vec<u8>,
     /// The next state; none if the state stays.
@@ -36,12 +33,12 @@ pub struct Step {
     pub rest: Option<TextBody>,
 }
 
-impl Step {
+impl Outcome {
     /// A whole reply, after which the state stays.
-    pub fn stay(bytes: Vec<u8>) -> Step
+    pub fn stay(bytes: Vec<u8>) -> Outcome
         ensures { result ≡ record { bytes = bytes; next = None; rest = None } }
     {
-        Step {
+        Outcome {
             bytes,
             next: None,
             rest: None,
@@ -49,10 +46,10 @@ impl Step {
     }
 
     /// A whole reply, and the next state.
-    fn go(bytes: Vec<u8>, next: State) -> Step
+    fn go(bytes: Vec<u8>, next: State) -> Outcome
         ensures { result ≡ record { bytes = bytes; next = Some next; rest = None } }
     {
-        Step {
+        Outcome {
             bytes,
             next: Some(next),
             rest: None,
@@ -61,22 +58,22 @@ impl Step {
 }
 
 /// PASS with the right password: lists the maildrop.
-fn open<D: Maildrop>(alloc: Global, drop: &mut D) -> Result<Step, ServerFault>
-    ensures ok { IfOk result (λ step. (state : State) → AnswersOrBegins D.sound D.mail Open
-        drop.old step.bytes.items step.rest (next_of state step.next) drop.new) }
-    ensures tied { IfOk result (λ step. (state : State) → Tied (D.sound drop.new) (D.mail drop.new) (next_of state step.next)) }
-    ensures whole { IfOk result (λ step. step.rest ≡ None) }
+fn open<D: Maildrop>(alloc: Global, drop: &mut D) -> Result<Outcome, ServerFault>
+    ensures ok { IfOk result (λ outcome. (state : State) → AnswersOrBegins D.sound D.mail Open
+        drop.old outcome.bytes.items outcome.rest (next_of state outcome.next) drop.new) }
+    ensures tied { IfOk result (λ outcome. (state : State) → Tied (D.sound drop.new) (D.mail drop.new) (next_of state outcome.next)) }
+    ensures whole { IfOk result (λ outcome. outcome.rest ≡ None) }
     ensures err { IfErr result (λ e. (e ≡ ServerFault.NoMemory) × Unanswered D.sound D.mail drop.old drop.new) }
 {
     let unavailable = say(alloc, b"-ERR maildrop unavailable")?;
     let entries = match drop.entries() {
         Ok(entries) => entries,
         Err(DropFault::NoMemory) => return Err(ServerFault::NoMemory),
-        Err(DropFault::Refused) => return Ok(Step::go(unavailable, State::Authorization(None))),
+        Err(DropFault::Refused) => return Ok(Outcome::go(unavailable, State::Authorization(None))),
     };
     let rows = Rows::of(alloc, entries)?;
     let reply = say_count(alloc, rows.as_slice().len())?;
-    Ok(Step::go(reply, State::Transaction(rows)))
+    Ok(Outcome::go(reply, State::Transaction(rows)))
 }
 
 /// The reply with the text of the message at a place after its first line: all of the text, or
@@ -87,24 +84,26 @@ fn give<D: Maildrop>(
     mut reply: Vec<u8>,
     text: TextBody,
     limit: usize,
-) -> Result<Reply, ServerFault>
+) -> Result<Outcome, ServerFault>
     requires place { D.sound drop.old → HasPlace (D.mail drop.old) text.place }
     requires start { text.start ≡ 0 }
-    ensures ok { IfOk result (λ given. (rows : List MessageRow) (top : Option ℕ)
+    ensures ok { IfOk result (λ outcome. (rows : List MessageRow) (top : Option ℕ)
         → ((octets : List ℕ) → still text octets ≡ text_body top octets)
         → AnswersOrBegins D.sound D.mail (Give rows text.place reply.items top)
-        drop.old given.0.items given.1 (Transaction rows) drop.new) }
-    ensures limited { IfOk result (λ given. IfSome given.1 (λ _. limit < 2 ^ 64 - 1)) }
+        drop.old outcome.bytes.items outcome.rest (Transaction rows) drop.new) }
+    ensures stays { IfOk result (λ outcome. (outcome.next ≡ None) × IfSome outcome.rest (Follows limit)) }
     ensures same_places { D.sound drop.new → D.sound drop.old × ((D.mail drop.new).slots ≡ (D.mail drop.old).slots) }
     ensures err { IfErr result (λ e. (e ≡ ServerFault.NoMemory) × Unanswered D.sound D.mail drop.old drop.new) }
 {
     let unavailable = say(alloc, b"-ERR message unavailable")?;
-    let mut text = text;
     match text.put(drop, &mut reply, limit) {
-        Ok(true) => Ok((reply, Some(text))),
-        Ok(false) => Ok((reply, None)),
+        Ok(rest) => Ok(Outcome {
+            bytes: reply,
+            next: None,
+            rest,
+        }),
         Err(DropFault::NoMemory) => Err(ServerFault::NoMemory),
-        Err(DropFault::Refused) => Ok((unavailable, None)),
+        Err(DropFault::Refused) => Ok(Outcome::stay(unavailable)),
     }
 }
 
@@ -115,16 +114,16 @@ fn retr<D: Maildrop>(
     rows: &Rows,
     number: u32,
     limit: usize,
-) -> Result<Reply, ServerFault>
+) -> Result<Outcome, ServerFault>
     requires { Tied (D.sound drop.old) (D.mail drop.old) (Transaction rows.now) }
-    ensures ok { IfOk result (λ given. AnswersOrBegins D.sound D.mail (in_transaction rows.now (Retr number))
-        drop.old given.0.items given.1 (Transaction rows.now) drop.new) }
-    ensures limited { IfOk result (λ given. IfSome given.1 (λ _. limit < 2 ^ 64 - 1)) }
+    ensures ok { IfOk result (λ outcome. AnswersOrBegins D.sound D.mail (in_transaction rows.now (Retr number))
+        drop.old outcome.bytes.items outcome.rest (Transaction rows.now) drop.new) }
+    ensures stays { IfOk result (λ outcome. (outcome.next ≡ None) × IfSome outcome.rest (Follows limit)) }
     ensures tied { Tied (D.sound drop.new) (D.mail drop.new) (Transaction rows.now) }
     ensures err { IfErr result (λ e. (e ≡ ServerFault.NoMemory) × Unanswered D.sound D.mail drop.old drop.new) }
 {
     let Some(i) = rows.place(number) else {
-        return Ok((say(alloc, b"-ERR no such message")?, None));
+        return Ok(Outcome::stay(say(alloc, b"-ERR no such message")?));
     };
     let reply = begin_text(alloc, rows.row(i), limit)?;
     give(alloc, drop, reply, TextBody::new(i, None), limit)
@@ -138,16 +137,16 @@ fn top<D: Maildrop>(
     number: u32,
     count: u32,
     limit: usize,
-) -> Result<Reply, ServerFault>
+) -> Result<Outcome, ServerFault>
     requires { Tied (D.sound drop.old) (D.mail drop.old) (Transaction rows.now) }
-    ensures ok { IfOk result (λ given. AnswersOrBegins D.sound D.mail (in_transaction rows.now (Top number count))
-        drop.old given.0.items given.1 (Transaction rows.now) drop.new) }
-    ensures limited { IfOk result (λ given. IfSome given.1 (λ _. limit < 2 ^ 64 - 1)) }
+    ensures ok { IfOk result (λ outcome. AnswersOrBegins D.sound D.mail (in_transaction rows.now (Top number count))
+        drop.old outcome.bytes.items outcome.rest (Transaction rows.now) drop.new) }
+    ensures stays { IfOk result (λ outcome. (outcome.next ≡ None) × IfSome outcome.rest (Follows limit)) }
     ensures tied { Tied (D.sound drop.new) (D.mail drop.new) (Transaction rows.now) }
     ensures err { IfErr result (λ e. (e ≡ ServerFault.NoMemory) × Unanswered D.sound D.mail drop.old drop.new) }
 {
     let Some(i) = rows.place(number) else {
-        return Ok((say(alloc, b"-ERR no such message")?, None));
+        return Ok(Outcome::stay(say(alloc, b"-ERR no such message")?));
     };
     let reply = say(alloc, b"+OK")?;
     give(alloc, drop, reply, TextBody::new(i, Some(count)), limit)
@@ -205,21 +204,21 @@ pub fn authorize<D: Maildrop>(
     pass: &[u8],
     kept: &Option<Bytes>,
     command: Command,
-) -> Result<Step, ServerFault>
-    ensures ok { IfOk result (λ step. AnswersOrBegins D.sound D.mail
+) -> Result<Outcome, ServerFault>
+    ensures ok { IfOk result (λ outcome. AnswersOrBegins D.sound D.mail
         (in_authorization user.now pass.now kept.now command)
-        drop.old step.bytes.items step.rest (next_of (Authorization kept.now) step.next) drop.new) }
-    ensures whole { IfOk result (λ step. step.rest ≡ None) }
-    ensures tied { IfOk result (λ step. Tied (D.sound drop.new) (D.mail drop.new) (next_of (Authorization kept.now) step.next)) }
+        drop.old outcome.bytes.items outcome.rest (next_of (Authorization kept.now) outcome.next) drop.new) }
+    ensures whole { IfOk result (λ outcome. outcome.rest ≡ None) }
+    ensures tied { IfOk result (λ outcome. Tied (D.sound drop.new) (D.mail drop.new) (next_of (Authorization kept.now) outcome.next)) }
     ensures err { IfErr result (λ e. (e ≡ ServerFault.NoMemory) × Unanswered D.sound D.mail drop.old drop.new) }
 {
     match command {
-        Command::User(name) => Ok(Step::go(
+        Command::User(name) => Ok(Outcome::go(
             say(alloc, b"+OK send PASS")?,
             State::Authorization(Some(name)),
         )),
         Command::Pass(word) => match kept {
-            None => Ok(Step::stay(say(alloc, b"-ERR USER first")?)),
+            None => Ok(Outcome::stay(say(alloc, b"-ERR USER first")?)),
             Some(name) => {
                 // Both are compared, so that the time doesn't tell which of them differs.
                 let right_name = are_same(name.as_slice(), user);
@@ -227,11 +226,11 @@ pub fn authorize<D: Maildrop>(
                 if right_name & right_word {
                     open(alloc, drop)
                 } else {
-                    Ok(Step::go(say(alloc, b"-ERR refused")?, State::Authorization(None)))
+                    Ok(Outcome::go(say(alloc, b"-ERR refused")?, State::Authorization(None)))
                 }
             }
         },
-        Command::Quit => Ok(Step::go(say(alloc, b"+OK bye")?, State::Closed)),
+        Command::Quit => Ok(Outcome::go(say(alloc, b"+OK bye")?, State::Closed)),
         Command::Stat
         | Command::UidlAll
         | Command::UidlOne(_)
@@ -241,7 +240,7 @@ pub fn authorize<D: Maildrop>(
         | Command::Dele(_)
         | Command::Rset
         | Command::Noop
-        | Command::Top(_, _) => Ok(Step::stay(say(alloc, b"-ERR not now")?)),
+        | Command::Top(_, _) => Ok(Outcome::stay(say(alloc, b"-ERR not now")?)),
     }
 }
 
@@ -317,43 +316,30 @@ pub fn transact<D: Maildrop>(
     rows: &mut Rows,
     command: &Command,
     limit: usize,
-) -> Result<Step, ServerFault>
+) -> Result<Outcome, ServerFault>
     requires { Tied (D.sound drop.old) (D.mail drop.old) (Transaction rows.old) }
-    ensures ok { IfOk result (λ step. AnswersOrBegins D.sound D.mail (in_transaction rows.old command.now)
-        drop.old step.bytes.items step.rest (next_of (Transaction rows.new) step.next) drop.new) }
-    ensures rest { IfOk result (λ step. IfSome step.rest (λ _. (limit < 2 ^ 64 - 1) × (step.next ≡ None) × (rows.new ≡ rows.old))) }
+    ensures ok { IfOk result (λ outcome. AnswersOrBegins D.sound D.mail (in_transaction rows.old command.now)
+        drop.old outcome.bytes.items outcome.rest (next_of (Transaction rows.new) outcome.next) drop.new) }
+    ensures follows { IfOk result (λ outcome. IfSome outcome.rest
+        (λ text. Follows limit text × (outcome.next ≡ None) × (rows.new ≡ rows.old))) }
     ensures tied { MatchResult result
-        (λ step. Tied (D.sound drop.new) (D.mail drop.new) (next_of (Transaction rows.new) step.next))
+        (λ outcome. Tied (D.sound drop.new) (D.mail drop.new) (next_of (Transaction rows.new) outcome.next))
         (λ e. Tied (D.sound drop.new) (D.mail drop.new) (Transaction rows.new)) }
-    ensures keeps { IfOk result (λ step. IfSome step.next (λ next. rows.new ≡ rows.old)) }
+    ensures keeps { IfOk result (λ outcome. IfSome outcome.next (λ next. rows.new ≡ rows.old)) }
     ensures err { IfErr result (λ e. (e ≡ ServerFault.NoMemory) × (rows.new ≡ rows.old) × Unanswered D.sound D.mail drop.old drop.new) }
 {
     match command {
-        Command::User(_) | Command::Pass(_) => Ok(Step::stay(say(alloc, b"-ERR not now")?)),
-        Command::Stat => Ok(Step::stay(say_left(alloc, rows.as_slice())?)),
-        Command::ListAll => Ok(Step::stay(say_sizes(alloc, rows.as_slice())?)),
-        Command::UidlAll => Ok(Step::stay(say_uids(alloc, rows.as_slice())?)),
-        Command::ListOne(number) => Ok(Step::stay(list_one(alloc, rows, *number)?)),
-        Command::UidlOne(number) => Ok(Step::stay(uidl_one(alloc, rows, *number)?)),
-        Command::Retr(number) => {
-            let (bytes, rest) = retr(alloc, drop, rows, *number, limit)?;
-            Ok(Step {
-                bytes,
-                next: None,
-                rest,
-            })
-        }
-        Command::Top(number, count) => {
-            let (bytes, rest) = top(alloc, drop, rows, *number, *count, limit)?;
-            Ok(Step {
-                bytes,
-                next: None,
-                rest,
-            })
-        }
-        Command::Dele(number) => Ok(Step::stay(dele(alloc, rows, *number)?)),
-        Command::Rset => Ok(Step::stay(rset(alloc, rows)?)),
-        Command::Noop => Ok(Step::stay(say(alloc, b"+OK")?)),
-        Command::Quit => Ok(Step::go(quit(alloc, drop, rows.as_slice())?, State::Closed)),
+        Command::User(_) | Command::Pass(_) => Ok(Outcome::stay(say(alloc, b"-ERR not now")?)),
+        Command::Stat => Ok(Outcome::stay(say_left(alloc, rows.as_slice())?)),
+        Command::ListAll => Ok(Outcome::stay(say_sizes(alloc, rows.as_slice())?)),
+        Command::UidlAll => Ok(Outcome::stay(say_uids(alloc, rows.as_slice())?)),
+        Command::ListOne(number) => Ok(Outcome::stay(list_one(alloc, rows, *number)?)),
+        Command::UidlOne(number) => Ok(Outcome::stay(uidl_one(alloc, rows, *number)?)),
+        Command::Retr(number) => retr(alloc, drop, rows, *number, limit),
+        Command::Top(number, count) => top(alloc, drop, rows, *number, *count, limit),
+        Command::Dele(number) => Ok(Outcome::stay(dele(alloc, rows, *number)?)),
+        Command::Rset => Ok(Outcome::stay(rset(alloc, rows)?)),
+        Command::Noop => Ok(Outcome::stay(say(alloc, b"+OK")?)),
+        Command::Quit => Ok(Outcome::go(quit(alloc, drop, rows.as_slice())?, State::Closed)),
     }
 }

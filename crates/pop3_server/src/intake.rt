@@ -3,7 +3,7 @@ ghost use Rattle.std.specs.Prelude.{◌≡◌, ◌≤◌, ◌<◌, ◌+◌, ◌-
 ghost use Rattle.std.specs.Prelude.{drop, true, false, IfOk, IfErr, IfSome, IfNone, Ok, Err};
 ghost use Rattle.pop3_wire.specs.Link.{CountsFailure, WhereSound};
 ghost use Rattle.pop3_wire.specs.Place.{HasLine, HasNoLine};
-ghost use Rattle.pop3_server.specs.declared.intake.Heard.TheVariants.{LongLine};
+ghost use Rattle.pop3_server.specs.declared.intake.NextLine.TheVariants.{LongLine};
 ghost use Rattle.pop3_server.specs.Got.{Waiting};
 ghost use Rattle.pop3_server.specs.Serving.{Hears, TakesMore, Found};
 ghost use Rattle.pop3_wire.specs.Bodies.{Drew};
@@ -20,7 +20,7 @@ pub const MAX_LINE: usize = 512;
 
 /// What came from the link.
 #[derive(Clone, Copy)]
-pub enum Heard {
+pub enum NextLine {
     /// A line of this number of octets, without its CR LF, waits.
     Line(usize),
     /// A line longer than [`MAX_LINE`] was read to its CR LF and dropped.
@@ -38,7 +38,7 @@ pub struct Intake {
 }
 
 impl Model for Intake {
-    ghost use Rattle.pop3_server.specs.declared.intake.Heard.TheVariants.{LongLine};
+    ghost use Rattle.pop3_server.specs.declared.intake.NextLine.TheVariants.{LongLine};
     ghost use Rattle.pop3_server.specs.Got.{Waiting};
 
     ghost Value = { Waiting };
@@ -105,7 +105,7 @@ impl Intake {
     }
 
     /// Drops the rest of a line that is too long, and its CR LF.
-    fn long_line<W: Wire>(&mut self, wire: &mut W) -> Result<Heard, ServerFault>
+    fn long_line<W: Wire>(&mut self, wire: &mut W) -> Result<NextLine, ServerFault>
         requires none { HasNoLine MAX_LINE self.old.octets }
         requires long { MAX_LINE ≤ length self.old.octets }
         ensures counted { CountsFailure (W.history wire.old) result (W.history wire.new) }
@@ -119,7 +119,7 @@ impl Intake {
         loop {
             if let Some(length) = self.line_end() {
                 self.skip(length + 2);
-                return Ok(Heard::LongLine);
+                return Ok(NextLine::LongLine);
             }
             if self.waiting().len() >= MAX_LINE {
                 self.skip(MAX_LINE - 1);
@@ -130,14 +130,14 @@ impl Intake {
                 Err(fault) => return Err(fault),
             };
             if !came {
-                return Ok(Heard::End);
+                return Ok(NextLine::End);
             }
         }
     }
 
     /// Waits for the next line. A line longer than [`MAX_LINE`] is read to its CR LF and dropped.
     /// No `recv` is made while a whole line waits. The only fault is ReadFailed.
-    pub fn next<W: Wire>(&mut self, wire: &mut W) -> Result<Heard, ServerFault>
+    pub fn next<W: Wire>(&mut self, wire: &mut W) -> Result<NextLine, ServerFault>
         ensures counted { CountsFailure (W.history wire.old) result (W.history wire.new) }
         ensures err { IfErr result (λ e. e ≡ ServerFault.ReadFailed) }
         ensures found { IfOk result (λ heard. Found heard self.new) }
@@ -148,7 +148,7 @@ impl Intake {
     {
         loop {
             if let Some(length) = self.line_end() {
-                return Ok(Heard::Line(length));
+                return Ok(NextLine::Line(length));
             }
             if self.waiting().len() >= MAX_LINE {
                 return self.long_line(wire);
@@ -158,7 +158,7 @@ impl Intake {
                 Err(fault) => return Err(fault),
             };
             if !came {
-                return Ok(Heard::End);
+                return Ok(NextLine::End);
             }
         }
     }

@@ -1,6 +1,6 @@
 //! A link to a server in memory.
 ghost use Rattle.std.specs.Prelude.{◌≡◌, ◌≤◌, ◌<◌, ◌+◌, ◌++◌, ◌-◌, ◌^◌, ℕ, List, [], length};
-ghost use Rattle.std.specs.Prelude.{take, drop, true, false, IfOk, IfErr, IfSome, IfNone};
+ghost use Rattle.std.specs.Prelude.{take, drop, true, false, IfOk, IfErr, IfSome, IfNone, MatchResult};
 ghost use Rattle.pop3_wire.specs.Link.{Link, with_failures, CountsFailure, Sends, Receives, WhereSound};
 ghost use Rattle.mail_terms.specs.FailureCount.{greatest_count, counted_up};
 ghost use Rattle.pop3_wire.specs.Place.{HasLine};
@@ -210,8 +210,8 @@ impl<D: Maildrop> Wire for LoopWire<D> {
         ensures got { WhereSound (λ w. w.link.failures < greatest_count) (λ u v. Serves D.sound D.mail u v) self.old self.new
             (Receives self.old.link result buf.new self.new.link) }
         // It is refused only after a refused call, and 0 says that nothing is left.
-        ensures up { IfOk result (λ _. (self.old.down ≡ false) × (self.new.down ≡ false)) }
-        ensures down { IfErr result (λ _. (self.old.down ≡ true) × (self.new.down ≡ true)) }
+        ensures down { MatchResult result (λ _. (self.old.down ≡ false) × (self.new.down ≡ false))
+            (λ _. (self.old.down ≡ true) × (self.new.down ≡ true)) }
         ensures gives { IfOk result (λ n. self.old.left ≡ take n buf.new ++ self.new.left) }
         ensures ends { IfOk result (λ n. n ≡ 0 → self.new.left ≡ []) }
     {

@@ -1,16 +1,14 @@
 //! The server: it takes lines and gives answers (RFC 1939).
-ghost use Rattle.std.specs.Prelude.{◌≡◌, ◌≤◌, ◌<◌, ◌+◌, ◌-◌, ◌^◌, ℕ, not, true, false};
-ghost use Rattle.std.specs.Prelude.{None, Ok, IfOk, IfErr, IfSome, vec_len, vec_capacity};
-ghost use Rattle.mail_terms.specs.FailureCount.{counted_up};
-ghost use Rattle.pop3_wire.specs.CommandLine.{command_of};
+ghost use Rattle.std.specs.Prelude.{◌≡◌, ◌≤◌, ◌<◌, ◌+◌, ◌-◌, ◌++◌, ℕ, List, not, true};
+ghost use Rattle.std.specs.Prelude.{None, Some, Ok, IfOk, IfErr, IfSome, vec_len, vec_capacity};
 ghost use Rattle.pop3_server.specs.declared.state.State.TheVariants.{Authorization};
+ghost use Rattle.pop3_server.specs.AnswersLines.{AnswersLine, MakesAnswer, RefusesPart, SameServer};
 ghost use Rattle.pop3_server.specs.Events.{event_of};
-ghost use Rattle.pop3_server.specs.Maildrop.{HasPlace, refusing};
-ghost use Rattle.pop3_server.specs.ServerMachine.{Answers, Known, Unanswered, deed, greeting, is_open, next_of};
-ghost use Rattle.pop3_server.specs.TextAnswer.{AnswersOrBegins};
-ghost use Rattle.pop3_server.specs.TextBody.{GivesMore, GivesRest};
+ghost use Rattle.pop3_server.specs.Maildrop.{HasPlace};
+ghost use Rattle.pop3_server.specs.ServerMachine.{Machine, action_of, greeting, is_open, next_of};
+ghost use Rattle.pop3_server.specs.TextAnswer.{AnswersOrBegins, Follows, IsFurther};
 
-use crate::commands::{Step, authorize, transact};
+use crate::commands::{Outcome, authorize, transact};
 use crate::fault::ServerFault;
 use crate::journal::{Event, event_of};
 use crate::maildrop::{DropFault, Maildrop};
@@ -73,17 +71,17 @@ fn is_closed(state: &State) -> bool
     }
 }
 
-/// Goes to the state that a step leads to, and returns its answer. The maildrop refused `refused`
-/// calls in this step.
+/// Goes to the state that an outcome leads to, and returns its answer. The maildrop refused `refused`
+/// calls for it.
 #[tactic(auto, using(crate::proofs::EventLemmas::event_of_same))]
-fn take(state: &mut State, step: Step, refused: u64) -> Begun
-    ensures state { state.new ≡ next_of state.old step.next }
-    ensures bytes { result.answer.bytes.items ≡ step.bytes.items }
-    ensures rest { result.rest ≡ step.rest }
+fn take(state: &mut State, outcome: Outcome, refused: u64) -> Begun
+    ensures state { state.new ≡ next_of state.old outcome.next }
+    ensures bytes { result.answer.bytes.items ≡ outcome.bytes.items }
+    ensures rest { result.rest ≡ outcome.rest }
     ensures closing { result.answer.closing ≡ not (is_open state.new) }
     ensures event { result.answer.event ≡ event_of state.old state.new refused }
 {
-    let Step { bytes, next, rest } = step;
+    let Outcome { bytes, next, rest } = outcome;
     let mut event = None;
     if let Some(next) = next {
         event = event_of(state, &next, refused);
@@ -143,15 +141,11 @@ impl<D: Maildrop> Server<D> {
     /// and no message and no count has changed.
     pub fn answer(&mut self, line: &[u8]) -> Result<Answer, ServerFault>
         requires { is_open self.old.state ≡ true }
-        ensures who { (self.new.user ≡ self.old.user) × (self.new.pass ≡ self.old.pass) }
-        ensures ok { IfOk result (λ answer. Answers D.sound D.mail
-            (deed self.old.user self.old.pass self.old.state (command_of line.now))
-            self.old.drop answer.bytes.items self.new.state self.new.drop) }
+        ensures ok { IfOk result (λ answer. AnswersLine D.sound D.mail self.old line.now answer.bytes.items self.new) }
         ensures closing { IfOk result (λ answer. answer.closing ≡ not (is_open self.new.state)) }
         ensures event { IfOk result (λ answer. answer.event ≡ event_of self.old.state self.new.state
             ((D.mail self.new.drop).failures - (D.mail self.old.drop).failures)) }
-        ensures err { IfErr result (λ e. (e ≡ ServerFault.NoMemory) × (self.new.state ≡ self.old.state)
-            × Unanswered D.sound D.mail self.old.drop self.new.drop) }
+        ensures err { IfErr result (λ e. (e ≡ ServerFault.NoMemory) × SameServer D.sound D.mail self.old self.new) }
     {
         let Begun { answer, rest } = self.begin(line, usize::MAX)?;
         match rest {
@@ -165,23 +159,20 @@ impl<D: Maildrop> Server<D> {
     /// must be open, which `is_open` tests. NoMemory as for `answer`.
     pub fn begin(&mut self, line: &[u8], limit: usize) -> Result<Begun, ServerFault>
         requires { is_open self.old.state ≡ true }
-        ensures who { (self.new.user ≡ self.old.user) × (self.new.pass ≡ self.old.pass) }
-        ensures ok { IfOk result (λ begun. AnswersOrBegins D.sound D.mail
-            (deed self.old.user self.old.pass self.old.state (command_of line.now))
-            self.old.drop begun.answer.bytes.items begun.rest self.new.state self.new.drop) }
-        ensures rest { IfOk result (λ begun. IfSome begun.rest (λ _. (limit < 2 ^ 64 - 1) × (self.new.state ≡ self.old.state))) }
+        ensures ok { IfOk result (λ begun. MakesAnswer D.sound D.mail self.old line.now
+            begun.answer.bytes.items begun.rest self.new) }
+        ensures follows { IfOk result (λ begun. IfSome begun.rest (Follows limit)) }
         ensures closing { IfOk result (λ begun. begun.answer.closing ≡ not (is_open self.new.state)) }
         ensures event { IfOk result (λ begun. begun.answer.event ≡ event_of self.old.state self.new.state
             ((D.mail self.new.drop).failures - (D.mail self.old.drop).failures)) }
-        ensures err { IfErr result (λ e. (e ≡ ServerFault.NoMemory) × (self.new.state ≡ self.old.state)
-            × Unanswered D.sound D.mail self.old.drop self.new.drop) }
+        ensures err { IfErr result (λ e. (e ≡ ServerFault.NoMemory) × SameServer D.sound D.mail self.old self.new) }
     {
         match read_command(self.alloc, line) {
             Ok(command) => self.obey(command, limit),
             Err(WireFault::NoMemory) => Err(ServerFault::NoMemory),
             Err(_) => {
-                let step = Step::stay(say(self.alloc, b"-ERR bad command")?);
-                Ok(take(&mut self.state, step, 0))
+                let outcome = Outcome::stay(say(self.alloc, b"-ERR bad command")?);
+                Ok(take(&mut self.state, outcome, 0))
             }
         }
     }
@@ -191,17 +182,17 @@ impl<D: Maildrop> Server<D> {
         requires { is_open self.old.state ≡ true }
         ensures who { (self.new.user ≡ self.old.user) × (self.new.pass ≡ self.old.pass) }
         ensures ok { IfOk result (λ begun. AnswersOrBegins D.sound D.mail
-            (deed self.old.user self.old.pass self.old.state (Ok command))
+            (action_of self.old.user self.old.pass self.old.state (Ok command))
             self.old.drop begun.answer.bytes.items begun.rest self.new.state self.new.drop) }
-        ensures rest { IfOk result (λ begun. IfSome begun.rest (λ _. (limit < 2 ^ 64 - 1) × (self.new.state ≡ self.old.state))) }
+        ensures follows { IfOk result (λ begun. IfSome begun.rest
+            (λ text. Follows limit text × (self.new.state ≡ self.old.state))) }
         ensures closing { IfOk result (λ begun. begun.answer.closing ≡ not (is_open self.new.state)) }
         ensures event { IfOk result (λ begun. begun.answer.event ≡ event_of self.old.state self.new.state
             ((D.mail self.new.drop).failures - (D.mail self.old.drop).failures)) }
-        ensures err { IfErr result (λ e. (e ≡ ServerFault.NoMemory) × (self.new.state ≡ self.old.state)
-            × Unanswered D.sound D.mail self.old.drop self.new.drop) }
+        ensures err { IfErr result (λ e. (e ≡ ServerFault.NoMemory) × SameServer D.sound D.mail self.old self.new) }
     {
         let failures = self.drop.failures();
-        let step = match &mut self.state {
+        let outcome = match &mut self.state {
             State::Authorization(kept) => authorize(
                 self.alloc,
                 &mut self.drop,
@@ -220,34 +211,33 @@ impl<D: Maildrop> Server<D> {
             State::Closed => unreachable!(),
         };
         let refused = self.drop.failures().saturating_sub(failures);
-        Ok(take(&mut self.state, step, refused))
+        Ok(take(&mut self.state, outcome, refused))
     }
 
     /// Puts what follows of a text into an empty reply, until the text has ended or the reply has more
-    /// than `limit` octets; returns whether more may follow. The reply must have room for `limit` and
-    /// `ROOM` octets together. The only fault is MaildropFailed, if the maildrop refuses a part.
+    /// than `limit` octets; returns the text that follows then, if any. The reply must have room for
+    /// `limit` and `ROOM` octets together. The only fault is MaildropFailed, if the maildrop refuses
+    /// a part.
     pub fn go_on(
         &mut self,
-        text: &mut TextBody,
+        text: TextBody,
         reply: &mut Vec<u8>,
         limit: usize,
-    ) -> Result<bool, ServerFault>
-        requires place { D.sound self.old.drop → HasPlace (D.mail self.old.drop) text.old.place }
-        requires begun { 0 < text.old.start }
+    ) -> Result<Option<TextBody>, ServerFault>
+        requires place { D.sound self.old.drop → HasPlace (D.mail self.old.drop) text.place }
+        requires begun { 0 < text.start }
         requires empty { vec_len reply.old ≡ 0 }
         requires room { limit + ROOM ≤ vec_capacity reply.old }
-        ensures others { self.new ≡ record self.old { drop = self.new.drop } }
+        ensures same { self.new ≡ record self.old { drop = self.new.drop } }
+        ensures ok { IfOk result (λ rest. (old : Machine D) (line sent : List ℕ)
+            → MakesAnswer D.sound D.mail old line sent (Some text) self.old
+            → MakesAnswer D.sound D.mail old line (sent ++ reply.new.items) rest self.new) }
+        ensures further { IfOk result (λ rest. IfSome rest (IsFurther text)) }
+        ensures err { IfErr result (λ e. (e ≡ ServerFault.MaildropFailed) × RefusesPart D.sound D.mail self.old self.new) }
         ensures capacity { vec_capacity reply.old ≤ vec_capacity reply.new }
-        ensures more { result ≡ Ok true → GivesMore D.sound D.mail false self.old.drop text.old reply.new.items text.new self.new.drop }
-        ensures some { result ≡ Ok true → (text.old.start < text.new.start) × (text.new.start < 2 ^ 64) }
-        ensures end { result ≡ Ok false → GivesRest D.sound D.mail self.old.drop text.old reply.new.items self.new.drop }
-        ensures err { IfErr result (λ e. (e ≡ ServerFault.MaildropFailed)
-            × ((D.mail self.new.drop).failures ≡ counted_up (D.mail self.old.drop).failures)
-            × ((D.mail self.new.drop).removals ≡ (D.mail self.old.drop).removals)
-            × Known D.sound D.mail self.old.drop self.new.drop (λ before after. after ≡ refusing before)) }
     {
         match text.put(&mut self.drop, reply, limit) {
-            Ok(more) => Ok(more),
+            Ok(rest) => Ok(rest),
             Err(DropFault::Refused) => Err(ServerFault::MaildropFailed),
             Err(DropFault::NoMemory) => unreachable!(),
         }

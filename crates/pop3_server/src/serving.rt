@@ -1,12 +1,11 @@
 //! Serving a link: the greeting, and an answer to each line.
-ghost use Rattle.std.specs.Prelude.{◌≡◌, ◌≤◌, ◌<◌, ◌+◌, ◌*◌, ℕ, List, length, not, true, false, Ok, Err, IfOk, IfErr, IsOk, vec_capacity};
+ghost use Rattle.std.specs.Prelude.{◌≡◌, ◌≤◌, ◌+◌, not, true, IfOk, IfErr, IfSome, IsSome, vec_capacity};
 ghost use Rattle.pop3_wire.specs.Link.{CountsFailure, CountsRefusal, Sends, WhereSound};
 ghost use Rattle.pop3_server.specs.ServerMachine.{is_open};
-ghost use Rattle.pop3_server.specs.Maildrop.{HasPlace};
-ghost use Rattle.pop3_server.specs.Serving.{SendsAnswer, SendsRest, Served, is_refusal};
+ghost use Rattle.pop3_server.specs.Serving.{SendsAnswer, Served, is_refusal};
 
 use crate::fault::ServerFault;
-use crate::intake::{Heard, Intake};
+use crate::intake::{Intake, NextLine};
 use crate::journal::{Event, Journal, NoJournal};
 use crate::maildrop::Maildrop;
 use crate::server::{Begun, Server};
@@ -36,41 +35,24 @@ fn tell<J: Journal>(journal: &mut J, event: Option<Event>) {
     }
 }
 
-/// Sends what follows of a text as it is read, one buffer after another. The faults are
-/// WriteFailed, and MaildropFailed if the maildrop refused a part.
-fn send_rest<D: Maildrop, W: Wire>(
-    server: &mut Server<D>,
-    wire: &mut W,
-    text: TextBody,
-    buffer: Vec<u8>,
-) -> Result<(), ServerFault>
-    requires place { D.sound server.old.drop → HasPlace (D.mail server.old.drop) text.place }
-    requires begun { 0 < text.start }
-    requires room { CHUNK + ROOM ≤ vec_capacity buffer }
-    ensures others { server.new ≡ record server.old { drop = server.new.drop } }
-    ensures counted { CountsRefusal is_refusal (W.history wire.old) result (W.history wire.new) }
-    ensures removals { (D.mail server.new.drop).removals ≡ (D.mail server.old.drop).removals }
-    ensures sends { WhereSound W.sound W.leads_to wire.old wire.new
-        (SendsRest D.sound D.mail server.old.drop text (W.history wire.old) result server.new.drop (W.history wire.new)) }
+/// Reserves room in a buffer for what follows of a text, if one follows.
+fn make_room(buffer: &mut Vec<u8>, rest: &Option<TextBody>) -> Result<(), ServerFault>
+    ensures same { buffer.new.items ≡ buffer.old.items }
+    ensures room { IfOk result (λ _. IfSome rest.now (λ _. CHUNK + ROOM ≤ vec_capacity buffer.new)) }
+    ensures err { IfErr result (λ e. (e ≡ ServerFault.NoMemory) × IsSome rest.now) }
 {
-    let mut text = text;
-    let mut buffer = buffer;
-    loop {
-        buffer.clear();
-        let more = match server.go_on(&mut text, &mut buffer, CHUNK) {
-            Ok(more) => more,
-            Err(fault) => return Err(fault),
-        };
-        if let Err(fault) = send(wire, buffer.as_slice()) {
-            return Err(fault);
-        }
-        if !more {
-            return Ok(());
-        }
+    if rest.is_none() {
+        return Ok(());
+    }
+    let room = (CHUNK + ROOM).saturating_sub(buffer.len());
+    match buffer.reserve(room) {
+        Ok(()) => Ok(()),
+        Err(_) => Err(ServerFault::NoMemory),
     }
 }
 
-/// Answers a line, and returns whether the session is over. A long text is sent as it is read.
+/// Answers a line, and returns whether the session is over. A long text is sent as it is read, one
+/// buffer after another; room for them is reserved before anything is sent.
 fn answer_line<D: Maildrop, W: Wire, J: Journal>(
     server: &mut Server<D>,
     wire: &mut W,
@@ -92,23 +74,22 @@ fn answer_line<D: Maildrop, W: Wire, J: Journal>(
     tell(journal, answer.event);
     let closing = answer.closing;
     let mut bytes = answer.bytes;
-    let Some(text) = rest else {
-        return match send(wire, bytes.as_slice()) {
-            Ok(()) => Ok(closing),
-            Err(fault) => Err(fault),
-        };
-    };
-    // Room for what follows is reserved before anything is sent.
-    let room = (CHUNK + ROOM).saturating_sub(bytes.len());
-    if bytes.reserve(room).is_err() {
-        return Err(ServerFault::NoMemory);
-    }
-    if let Err(fault) = send(wire, bytes.as_slice()) {
+    let mut rest = rest;
+    if let Err(fault) = make_room(&mut bytes, &rest) {
         return Err(fault);
     }
-    match send_rest(server, wire, text, bytes) {
-        Ok(()) => Ok(closing),
-        Err(fault) => Err(fault),
+    loop {
+        if let Err(fault) = send(wire, bytes.as_slice()) {
+            return Err(fault);
+        }
+        let Some(text) = rest else {
+            return Ok(closing);
+        };
+        bytes.clear();
+        rest = match server.go_on(text, &mut bytes, CHUNK) {
+            Ok(rest) => rest,
+            Err(fault) => return Err(fault),
+        };
     }
 }
 
@@ -162,13 +143,13 @@ pub fn serve_and_note<D: Maildrop, W: Wire, J: Journal>(
             Err(fault) => return Err(fault),
         };
         match heard {
-            Heard::End => return Ok(()),
-            Heard::LongLine => {
+            NextLine::End => return Ok(()),
+            NextLine::LongLine => {
                 if let Err(fault) = send(wire, b"-ERR bad command\r\n") {
                     return Err(fault);
                 }
             }
-            Heard::Line(length) => {
+            NextLine::Line(length) => {
                 let line = &intake.waiting()[..length];
                 let closing = match answer_line(server, wire, journal, line) {
                     Ok(closing) => closing,

@@ -1,10 +1,11 @@
 //! Texts of a maildrop, read part by part.
 ghost use Rattle.std.specs.Prelude.{◌≡◌, ◌≤◌, ◌<◌, ◌+◌, ◌*◌, ◌^◌, ◌-◌, ◌++◌, ℕ, List, [], length};
-ghost use Rattle.std.specs.Prelude.{true, false, Ok, IsTrue, IfErr, vec_len, vec_capacity};
-ghost use Rattle.mail_terms.specs.FailureCount.{Tallies, refuses};
-ghost use Rattle.pop3_server.specs.Maildrop.{Denies, HasPlace, is_refusal};
-ghost use Rattle.pop3_server.specs.ServerMachine.{Known, text_body};
-ghost use Rattle.pop3_server.specs.TextBody.{GivesMore, GivesRest, belonging, still};
+ghost use Rattle.std.specs.Prelude.{IsTrue, IfOk, IfErr, IfSome, vec_len, vec_capacity};
+ghost use Rattle.mail_terms.specs.FailureCount.{refuses};
+ghost use Rattle.pop3_server.specs.Maildrop.{HasPlace, is_refusal};
+ghost use Rattle.pop3_server.specs.ServerMachine.{text_body};
+ghost use Rattle.pop3_server.specs.TextAnswer.{GoesOn, IsFurther, OnlyReads};
+ghost use Rattle.pop3_server.specs.TextBody.{belonging, still};
 
 use crate::maildrop::{DropFault, Maildrop};
 use crate::stuffer::Stuffer;
@@ -78,75 +79,68 @@ impl TextBody {
     }
 
     /// Asks for the next part of the text, and appends what it adds to the body to a reply;
-    /// returns whether more may follow. If nothing more follows, the body is ended.
+    /// returns the place after it, or None if the body has ended.
     fn put_part<D: Maildrop>(
-        &mut self,
+        self,
         drop: &mut D,
         part: &mut [u8],
         reply: &mut Vec<u8>,
-    ) -> Result<bool, DropFault>
-        requires place { D.sound drop.old → HasPlace (D.mail drop.old) self.old.place }
+    ) -> Result<Option<TextBody>, DropFault>
+        requires place { D.sound drop.old → HasPlace (D.mail drop.old) self.place }
         requires part { 0 < length part.old }
-        ensures removes_none { (D.mail drop.new).removals ≡ (D.mail drop.old).removals }
-        ensures tally { Tallies (refuses is_refusal result) (D.mail drop.old).failures (D.mail drop.new).failures }
-        ensures more { result ≡ Ok true → (given : List ℕ) × (reply.new.items ≡ reply.old.items ++ given)
-            × GivesMore D.sound D.mail false drop.old self.old given self.new drop.new }
-        ensures some { result ≡ Ok true → (self.old.start < self.new.start) × (self.new.start < 2 ^ 64) }
-        ensures end { result ≡ Ok false → (given : List ℕ) × (reply.new.items ≡ reply.old.items ++ given)
-            × GivesRest D.sound D.mail drop.old self.old given drop.new }
-        ensures err { IfErr result (λ fault. Known D.sound D.mail drop.old drop.new (λ before after. Denies before fault after)) }
+        ensures reads { OnlyReads D.sound D.mail (refuses is_refusal result) drop.old drop.new }
+        ensures goes_on { IfOk result (λ rest. GoesOn D.sound D.mail drop.old reply.old.items self drop.new reply.new.items rest) }
+        ensures further { IfOk result (λ rest. IfSome rest (λ next. IsFurther self next)) }
         ensures capacity { vec_capacity reply.old ≤ vec_capacity reply.new }
-        ensures room { vec_len reply.old + (2 * length part.old + 5) ≤ vec_capacity reply.old → 0 < self.old.start
+        ensures room { vec_len reply.old + (2 * length part.old + 5) ≤ vec_capacity reply.old → 0 < self.start
             → IfErr result (λ fault. fault ≡ DropFault.Refused) }
     {
         if self.is_whole() {
             self.stuffer.end(reply)?;
-            return Ok(false);
+            return Ok(None);
         }
         let n = drop.part(self.place, self.start, part)?;
         if n == 0 {
             self.stuffer.end(reply)?;
-            return Ok(false);
+            return Ok(None);
         }
-        let octets = self.take(&part[..n]);
-        self.stuffer.put(reply, octets)?;
-        self.start += n;
-        Ok(true)
+        let mut next = self;
+        let octets = next.take(&part[..n]);
+        next.stuffer.put(reply, octets)?;
+        next.start += n;
+        Ok(Some(next))
     }
 
     /// Asks for parts of the text, at least one, and appends the body to a reply, until it has
-    /// ended or the reply has more than `limit` octets; returns whether more may follow. No more
-    /// than one part of the text is kept at a time, and nothing is asked for after all that was
-    /// wanted has come. If a reply within the limit has room for `limit` and `ROOM` octets, and
-    /// this isn't the first part of the text, the only fault is a refusal by the maildrop.
+    /// ended or the reply has more than `limit` octets; returns the place after them, or None if
+    /// the body has ended. No more than one part of the text is kept at a time, and nothing is
+    /// asked for after all that was wanted has come. If a reply within the limit has room for
+    /// `limit` and `ROOM` octets, and this isn't the first part of the text, the only fault is a
+    /// refusal by the maildrop.
     pub fn put<D: Maildrop>(
-        &mut self,
+        self,
         drop: &mut D,
         reply: &mut Vec<u8>,
         limit: usize,
-    ) -> Result<bool, DropFault>
-        requires { D.sound drop.old → HasPlace (D.mail drop.old) self.old.place }
-        ensures removes_none { (D.mail drop.new).removals ≡ (D.mail drop.old).removals }
-        ensures tally { Tallies (refuses is_refusal result) (D.mail drop.old).failures (D.mail drop.new).failures }
-        ensures more { result ≡ Ok true → (given : List ℕ) × (reply.new.items ≡ reply.old.items ++ given)
-            × GivesMore D.sound D.mail false drop.old self.old given self.new drop.new }
-        ensures some { result ≡ Ok true → (self.old.start < self.new.start) × (self.new.start < 2 ^ 64) }
-        ensures limited { result ≡ Ok true → limit < 2 ^ 64 - 1 }
-        ensures end { result ≡ Ok false → (given : List ℕ) × (reply.new.items ≡ reply.old.items ++ given)
-            × GivesRest D.sound D.mail drop.old self.old given drop.new }
-        ensures err { IfErr result (λ fault. Known D.sound D.mail drop.old drop.new (λ before after. Denies before fault after)) }
+    ) -> Result<Option<TextBody>, DropFault>
+        requires { D.sound drop.old → HasPlace (D.mail drop.old) self.place }
+        ensures reads { OnlyReads D.sound D.mail (refuses is_refusal result) drop.old drop.new }
+        ensures goes_on { IfOk result (λ rest. GoesOn D.sound D.mail drop.old reply.old.items self drop.new reply.new.items rest) }
+        ensures further { IfOk result (λ rest. IfSome rest (λ next. IsFurther self next × (limit < 2 ^ 64 - 1))) }
         ensures capacity { vec_capacity reply.old ≤ vec_capacity reply.new }
-        ensures room { limit + ROOM ≤ vec_capacity reply.old → vec_len reply.old ≤ limit → 0 < self.old.start
+        ensures room { limit + ROOM ≤ vec_capacity reply.old → vec_len reply.old ≤ limit → 0 < self.start
             → IfErr result (λ fault. fault ≡ DropFault.Refused) }
     {
         let mut part = [0; PART];
+        let mut text = self;
         loop {
-            if !self.put_part(drop, &mut part, reply)? {
-                return Ok(false);
-            }
+            let Some(next) = text.put_part(drop, &mut part, reply)? else {
+                return Ok(None);
+            };
             if reply.len() > limit {
-                return Ok(true);
+                return Ok(Some(next));
             }
+            text = next;
         }
     }
 }

@@ -3,7 +3,7 @@ use Rattle.std.proofs.lemmas.Result.{err_from_is_err_and}
 use Rattle.std.specs.Prelude.{codes}
 use Rattle.std.specs.Fmt.{decimal}
 use Rattle.pop3_server.specs.ServerMachine.{said, Open, Tied, next_of}
-use Rattle.pop3_server.specs.declared.commands.Step.{Step}
+use Rattle.pop3_server.specs.declared.commands.Outcome.{Outcome}
 use Rattle.pop3_server.specs.TextAnswer.{AnswersOrBegins}
 use Rattle.pop3_server.proofs.OpenLemmas.{unanswered_listing, answers_open, tied_open}
 use Rattle.pop3_server.proofs.commands.open.Goals as goal
@@ -20,11 +20,11 @@ returns-in_err-reply-clause-err g c =
 
 pub returns-clause-ok : goal.returns-clause-ok
 returns-clause-ok g c = λ state.
-    subst (λ (step : Step). AnswersOrBegins g.D.Maildrop.sound g.D.Maildrop.mail Open c.args.drop.now step.bytes.items step.rest (next_of state step.next) c.entries.new.self) (sym c.go-2.ensures)
+    subst (λ (outcome : Outcome). AnswersOrBegins g.D.Maildrop.sound g.D.Maildrop.mail Open c.args.drop.now outcome.bytes.items outcome.rest (next_of state outcome.next) c.entries.new.self) (sym c.go-2.ensures)
     (answers_open g.D.Maildrop.sound g.D.Maildrop.mail c.args.drop.now c.entries.new.self c.in-Ok.entries c.in-Ok.ensures.lists c.in_ok-rows.rows c.in_ok-reply.reply.items c.in_ok-rows.ensures.rows c.in_ok-rows.ensures.limits c.in-Ok.ensures.removes_none
     (c.in_ok-reply.ensures.ok ∙ ap (λ rows. said (codes "+OK " ++ decimal (length rows) ++ codes " messages")) c.as_slice.ensures.value))
 
 pub returns-clause-tied : goal.returns-clause-tied
 returns-clause-tied g c = λ state.
-    subst (λ (step : Step). Tied (g.D.Maildrop.sound c.entries.new.self) (g.D.Maildrop.mail c.entries.new.self) (next_of state step.next)) (sym c.go-2.ensures)
+    subst (λ (outcome : Outcome). Tied (g.D.Maildrop.sound c.entries.new.self) (g.D.Maildrop.mail c.entries.new.self) (next_of state outcome.next)) (sym c.go-2.ensures)
     (tied_open g.D.Maildrop.sound g.D.Maildrop.mail c.args.drop.now c.entries.new.self c.in-Ok.entries c.in-Ok.ensures.lists c.in_ok-rows.rows c.in_ok-rows.ensures.rows)

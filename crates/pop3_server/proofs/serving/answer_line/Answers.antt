@@ -1,59 +1,58 @@
-use Rattle.std.proofs.Common.{◌≡◌, ◌++◌, List, ℕ, true, false, Ok, Err, inr, refl, sym, ap, subst, ◌∙◌}
-use Rattle.pop3_server.specs.TextAnswer.{BeginsAnswer}
-use Rattle.pop3_server.proofs.TextAnswerLemmas.{started_answer, started_of, started_same, started_sent}
+use Rattle.std.proofs.Common.{◌≡◌, ◌++◌, ℕ, List, [], Option, refl, sym, ap, subst, ◌∙◌, append_assoc}
+use Rattle.std.specs.Prelude.{vec_capacity}
+use Rattle.std.proofs.lemmas.List.{append-nil}
+use Rattle.pop3_server.specs.declared.text_part.TextBody.{TextBody}
+use Rattle.pop3_server.specs.AnswersLines.{MakesAnswer}
+use Rattle.pop3_server.proofs.MakesAnswerLemmas.{part_sent, room_for, sent_on}
 use Rattle.pop3_server.proofs.serving.answer_line.Goals as goal
 
-pub returns-then-is_err-clause-answers : goal.returns-then-is_err-clause-answers
-returns-then-is_err-clause-answers g c = λ s.
-    let bytes = c.in-Ok.begun.answer.bytes.items in
-    let started = started_of g.D.Maildrop.sound g.D.Maildrop.mail c.args.server.now c.begin.new.self c.args.line.now bytes c.in-Ok.begun.rest c.in-Some.text 65536 c.in-Some.is
-    c.requires c.in-Ok.ensures.who c.in-Ok.ensures.ok c.in-Ok.ensures.rest in
-    (s, g.met.W.Wire.leads_same c.args.wire.now, (started_same g.D.Maildrop.sound g.D.Maildrop.mail c.args.server.now c.begin.new.self c.args.line.now bytes c.in-Some.text started, refl))
-
-pub returns-in-Err-send-2-clause-answers : goal.returns-in-Err-send-2-clause-answers
-returns-in-Err-send-2-clause-answers g c = λ s.
-    let bytes = c.in-Ok.begun.answer.bytes.items in
-    let started = started_of g.D.Maildrop.sound g.D.Maildrop.mail c.args.server.now c.begin.new.self c.args.line.now bytes c.in-Ok.begun.rest c.in-Some.text 65536 c.in-Some.is
-    c.requires c.in-Ok.ensures.who c.in-Ok.ensures.ok c.in-Ok.ensures.rest in
-    let sent = c.in-Err-send-2.ensures.sends s in
-    let part : bytes ≡ sent.2.0 ++ sent.2.1 = sym (c.as_slice-2.ensures.value ∙ c.reserve.ensures.items) ∙ sent.2.2 in (
-      sent.0,
-      sent.1,
-      rw c.in-Err-send-2.ensures.err (
-        sent.2.0,
-        sent.2.1,
-        sent.2.3,
-        inr (subst (λ (l : List ℕ). BeginsAnswer g.D.Maildrop.sound g.D.Maildrop.mail false c.args.server.now c.args.line.now l c.begin.new.self) part
-            (started_answer g.D.Maildrop.sound g.D.Maildrop.mail c.args.server.now c.begin.new.self c.args.line.now bytes c.in-Some.text started)),
+pub loop-fault-init : goal.loop-fault-init
+loop-fault-init g c =
+    let before = g.W.Wire.history c.args.wire.now in (
+      refl,
+      c.in-Ok.ensures.closing,
+      room_for 65536 (vec_capacity c.make_room.new.buffer) c.in-Ok.begun.rest c.in-Ok.ensures.follows c.in_default.ensures.room,
+      (
+        [],
+        subst (λ (l : List ℕ). MakesAnswer g.D.Maildrop.sound g.D.Maildrop.mail c.args.server.now c.args.line.now l c.in-Ok.begun.rest c.begin.new.self)
+            (sym c.make_room.ensures.same) c.in-Ok.ensures.ok,
+        λ s. (s, g.met.W.Wire.leads_same c.args.wire.now, ap (λ (l : List ℕ). record before { sent = l }) (sym (append-nil before.sent))),
       ),
     )
 
-pub returns-in-Ok-send_rest-clause-answers : goal.returns-in-Ok-send_rest-clause-answers
-returns-in-Ok-send_rest-clause-answers g c = λ s.
-    let bytes = c.in-Ok.begun.answer.bytes.items in
-    let started = started_of g.D.Maildrop.sound g.D.Maildrop.mail c.args.server.now c.begin.new.self c.args.line.now bytes c.in-Ok.begun.rest c.in-Some.text 65536 c.in-Some.is
-    c.requires c.in-Ok.ensures.who c.in-Ok.ensures.ok c.in-Ok.ensures.rest in
-    let rest = c.in-Ok-send_rest.ensures.sends s in
-    let sent = c.in_default-send.ensures.sends rest.0 in
-    let before = g.W.Wire.history c.args.wire.now in (
-      sent.0,
-      g.met.W.Wire.leads_on _ _ _ sent.1 rest.1,
-      started_sent g.D.Maildrop.sound g.D.Maildrop.mail c.args.server.now c.begin.new.self c.send_rest.new.server c.args.line.now bytes c.in-Some.text before (g.W.Wire.history c.send-2.new.wire)
-          (g.W.Wire.history c.send_rest.new.wire) (Ok tt) true started c.in-Ok-send_rest.ensures.others
-          (sent.2 ∙ ap (λ (l : List ℕ). record before { sent = before.sent ++ l }) (c.as_slice-2.ensures.value ∙ c.reserve.ensures.items)) rest.2,
+pub returns-in-Err-send-clause-answers : goal.returns-in-Err-send-clause-answers
+returns-in-Err-send-clause-answers g c = λ s.
+    let sent = c.in-Err-send.ensures.sends s in
+    let before = c.loop-fault.invariant.3 in
+    let link = before.2 sent.0 in (
+      link.0,
+      g.met.W.Wire.leads_on _ _ _ link.1 sent.1,
+      rw c.in-Err-send.ensures.err (
+        before.0 ++ sent.2.0,
+        sent.2.1,
+        c.loop-fault.rest,
+        subst (λ (l : List ℕ). MakesAnswer g.D.Maildrop.sound g.D.Maildrop.mail c.args.server.now c.args.line.now l c.loop-fault.rest c.loop-fault.server)
+            (ap (λ (l : List ℕ). before.0 ++ l) (sym c.as_slice.ensures.value ∙ sent.2.2) ∙ sym (append_assoc before.0 sent.2.0 sent.2.1)) before.1,
+        part_sent (g.W.Wire.history c.args.wire.now) (g.W.Wire.history c.loop-fault.wire) (g.W.Wire.history c.send.new.wire) before.0 sent.2.0 link.2 sent.2.3,
+      ),
     )
 
-pub returns-in-Err-send_rest-clause-answers : goal.returns-in-Err-send_rest-clause-answers
-returns-in-Err-send_rest-clause-answers g c = λ s.
-    let bytes = c.in-Ok.begun.answer.bytes.items in
-    let started = started_of g.D.Maildrop.sound g.D.Maildrop.mail c.args.server.now c.begin.new.self c.args.line.now bytes c.in-Ok.begun.rest c.in-Some.text 65536 c.in-Some.is
-    c.requires c.in-Ok.ensures.who c.in-Ok.ensures.ok c.in-Ok.ensures.rest in
-    let rest = c.in-Err-send_rest.ensures.sends s in
-    let sent = c.in_default-send.ensures.sends rest.0 in
-    let before = g.W.Wire.history c.args.wire.now in (
-      sent.0,
-      g.met.W.Wire.leads_on _ _ _ sent.1 rest.1,
-      started_sent g.D.Maildrop.sound g.D.Maildrop.mail c.args.server.now c.begin.new.self c.send_rest.new.server c.args.line.now bytes c.in-Some.text before (g.W.Wire.history c.send-2.new.wire)
-          (g.W.Wire.history c.send_rest.new.wire) (Err c.in-Err-send_rest.fault) true started c.in-Err-send_rest.ensures.others
-          (sent.2 ∙ ap (λ (l : List ℕ). record before { sent = before.sent ++ l }) (c.as_slice-2.ensures.value ∙ c.reserve.ensures.items)) rest.2,
+pub returns-in-Err-go_on-clause-answers : goal.returns-in-Err-go_on-clause-answers
+returns-in-Err-go_on-clause-answers g c = λ s.
+    let sent = c.in_default-send.ensures.sends s in
+    let before = c.loop-fault.invariant.3 in
+    let link = before.2 sent.0 in
+    let fault = c.in-Err-go_on.ensures.err in (
+      link.0,
+      g.met.W.Wire.leads_on _ _ _ link.1 sent.1,
+      rw fault.0 (
+        before.0 ++ c.loop-fault.bytes.items,
+        c.in-Some.text,
+        c.loop-fault.server,
+        subst (λ (rest : Option TextBody). MakesAnswer g.D.Maildrop.sound g.D.Maildrop.mail c.args.server.now c.args.line.now (before.0 ++ c.loop-fault.bytes.items) rest c.loop-fault.server)
+            c.in-Some.is before.1,
+        fault.1,
+        subst (λ (l : List ℕ). g.W.Wire.history c.send.new.wire ≡ record (g.W.Wire.history c.args.wire.now) { sent = (g.W.Wire.history c.args.wire.now).sent ++ (before.0 ++ l) }) c.as_slice.ensures.value
+            (sent_on (g.W.Wire.history c.args.wire.now) (g.W.Wire.history c.loop-fault.wire) (g.W.Wire.history c.send.new.wire) before.0 c.as_slice.result.now link.2 sent.2),
+      ),
     )

@@ -1,4 +1,4 @@
-use Rattle.std.proofs.Common.{◌≡◌, ◌+◌, true, take, drop, refl, sym, ◌∙◌}
+use Rattle.std.proofs.Common.{◌≡◌, ◌+◌, true, take, drop, None, refl, sym, ◌∙◌}
 use Rattle.std.proofs.lemmas.Bool.{not-true, not-false}
 use Rattle.pop3_server.specs.ServerMachine.{is_open}
 use Rattle.pop3_server.specs.Got.{Waiting}
@@ -45,7 +45,7 @@ returns-in-Err-send-2-clause-served g c = λ s.
       inv.0,
       g.met.W.Wire.leads_on _ _ _ (g.met.W.Wire.leads_on _ _ _ inv.1 came.1) sent.1,
       rw c.in-Err-send-2.ensures.err (served_unsent g.D.Maildrop.sound g.D.Maildrop.mail c.args.server.now c.loop-heard.server c.loop-heard.server (g.W.Wire.history c.args.wire.now) (g.W.Wire.history c.loop-heard.wire)
-          (g.W.Wire.history c.next.new.wire) (g.W.Wire.history c.send-in-LongLine.new.wire) c.loop-heard.intake c.next.new.self heard.0 heard.1 _ sent.2.0 sent.2.1 ((g.W.Wire.history c.next.new.wire).failures + 1)
+          (g.W.Wire.history c.next.new.wire) (g.W.Wire.history c.send-in-LongLine.new.wire) c.loop-heard.intake c.next.new.self heard.0 heard.1 _ sent.2.0 sent.2.1 None ((g.W.Wire.history c.next.new.wire).failures + 1)
           inv.2 heard.2 heard.3.octets heard.3.left heard.4 turn sent.2.2 sent.2.3),
     )
 

@@ -2,18 +2,16 @@ use Rattle.std.proofs.Common.{◌≡◌, ◌+◌, ◌++◌, length, Bool, true, 
 use Rattle.pop3_wire.specs.Place.{HasLine}
 use Rattle.pop3_server.specs.LoopLink.{Loop, Serves}
 use Rattle.pop3_server.specs.LoopLaws.{same_refl}
-use Rattle.pop3_server.specs.ServerMachine.{is_open}
 use Rattle.pop3_server.proofs.LoopLemmas.{kept, serves_unanswered, serves_lost, serves_one, same_link, turn_at}
 use Rattle.pop3_server.proofs.loop_wire.LoopWire.answer_line.Goals as goal
 
 pub returns-in-Err-clause-serves : goal.returns-in-Err-clause-serves
 returns-in-Err-clause-serves g c =
     let r = c.self.inside in
-    let fault = c.in-Err.ensures.err in
     subst (λ (w : Loop _). Serves g.D.Maildrop.sound g.D.Maildrop.mail w (kept c.answer.new.self r.sent.items r.used r.answers.items r.given r.ended true r.failures)) c.self.view_is
     (serves_unanswered g.D.Maildrop.sound g.D.Maildrop.mail r.server c.answer.new.self r.sent.items r.used r.answers.items r.given r.ended r.down r.failures
     (ap (λ (w : Loop _). w.down) c.self.view_is ∙ c.requires.up)
-    (record { user = c.in-Err.ensures.who.0; pass = c.in-Err.ensures.who.1; state = fault.1; unanswered = fault.2 }))
+    c.in-Err.ensures.err.1)
 
 pub returns-then-is_err-clause-serves : goal.returns-then-is_err-clause-serves
 returns-then-is_err-clause-serves g c =
@@ -23,8 +21,7 @@ returns-then-is_err-clause-serves g c =
     (serves_lost g.D.Maildrop.sound g.D.Maildrop.mail r.server c.answer.new.self r.sent.items r.used c.args.octets r.answers.items c.extend_from_slice.new.self.items c.in-Ok.answer.bytes.items r.given r.ended r.down r.failures
     (same_refl _ _ _) (ap (λ (w : Loop _). w.down) c.self.view_is ∙ c.requires.up) items
     (subst (λ (w : Loop _). HasLine (length w.waiting) w.waiting c.args.octets) (sym c.self.view_is) c.requires.line)
-    (turn_at g.D.Maildrop.sound g.D.Maildrop.mail r.server c.answer.new.self c.deref.result.now r.sent.items r.used c.args.octets c.in-Ok.answer.bytes.items c.in-Ok.answer.bytes.items
-    (ap (λ (w : Loop _). is_open w.machine.state) c.self.view_is ∙ c.requires.opened) c.in-Ok.ensures.who c.in-Ok.ensures.ok c.deref.ensures.value refl))
+    (turn_at g.D.Maildrop.sound g.D.Maildrop.mail r.server c.answer.new.self c.deref.result.now r.sent.items r.used c.args.octets c.in-Ok.answer.bytes.items c.in-Ok.answer.bytes.items c.in-Ok.ensures.ok c.deref.ensures.value refl))
 
 pub returns-clause-link : goal.returns-clause-link
 returns-clause-link g c =
@@ -40,5 +37,4 @@ returns-clause-serves g c =
     (serves_one g.D.Maildrop.sound g.D.Maildrop.mail r.server c.answer.new.self r.sent.items r.used c.args.octets r.answers.items c.extend_from_slice.new.self.items c.as_slice.result.now r.given r.ended r.down r.failures
     (same_refl _ _ _) (ap (λ (w : Loop _). w.down) c.self.view_is ∙ c.requires.up) items
     (subst (λ (w : Loop _). HasLine (length w.waiting) w.waiting c.args.octets) (sym c.self.view_is) c.requires.line)
-    (turn_at g.D.Maildrop.sound g.D.Maildrop.mail r.server c.answer.new.self c.deref.result.now r.sent.items r.used c.args.octets c.as_slice.result.now c.in-Ok.answer.bytes.items
-    (ap (λ (w : Loop _). is_open w.machine.state) c.self.view_is ∙ c.requires.opened) c.in-Ok.ensures.who c.in-Ok.ensures.ok c.deref.ensures.value c.as_slice.ensures.value))
+    (turn_at g.D.Maildrop.sound g.D.Maildrop.mail r.server c.answer.new.self c.deref.result.now r.sent.items r.used c.args.octets c.as_slice.result.now c.in-Ok.answer.bytes.items c.in-Ok.ensures.ok c.deref.ensures.value c.as_slice.ensures.value))

@@ -2,7 +2,7 @@ use Rattle.std.proofs.Common.{◌≡◌, ◌∙◌, ◌-◌, ℕ, refl, ap, ap�
 use Rattle.pop3_server.specs.ServerMachine.{Machine, next_of}
 use Rattle.pop3_server.proofs.EventLemmas.{event_after, event_is}
 use Rattle.pop3_server.proofs.server.Server.obey.Goals as goal
-use Rattle.pop3_server.proofs.server.Server.obey.Goals.{in-Authorization+in_ok-step-in-Authorization, in-Transaction+in_ok-step-in-Transaction}
+use Rattle.pop3_server.proofs.server.Server.obey.Goals.{in-Authorization+in_ok-outcome-in-Authorization, in-Transaction+in_ok-outcome-in-Transaction}
 
 pub returns-clause-event : goal.returns-clause-event
 returns-clause-event g c =
@@ -10,10 +10,10 @@ returns-clause-event g c =
     c.saturating_sub-refused.ensures ∙ ap₂ (λ (m n : ℕ). m - n) c.failures.ensures (c.failures-failures.ensures ∙ ap (λ (m : Machine g.row.D.Denot). (g.D.Maildrop.mail m.drop).failures) c.self.view_is) in
     let kept : c.self.inside.state ≡ c.args.self.now.state = ap (λ (m : Machine g.row.D.Denot). m.state) c.self.view_is in
     elim c.match-self.branch [
-      | in-Authorization+in_ok-step-in-Authorization w ↦ event_is _ _ _ _ _ _ _ c.take.ensures.event (ap (λ s. s.state) w.self-inside-is ∙ sym w.in-Authorization.is ∙ kept) count
-      | in-Transaction+in_ok-step-in-Transaction w ↦
+      | in-Authorization+in_ok-outcome-in-Authorization w ↦ event_is _ _ _ _ _ _ _ c.take.ensures.event (ap (λ s. s.state) w.self-inside-is ∙ sym w.in-Authorization.is ∙ kept) count
+      | in-Transaction+in_ok-outcome-in-Transaction w ↦
           event_is _ _ _ _ _ _ _
-          (event_after _ _ _ _ w.in-Transaction.rows w.transact.new.rows w.in_ok-step-in-Transaction.step.next _ (ap (λ s. s.state) w.self-inside-is) (sym kept ∙ w.in-Transaction.is)
-          (c.take.ensures.state ∙ ap (λ step. next_of c.match-self.self-inside.state step.next) w.step-is) w.in_ok-step-in-Transaction.ensures.keeps c.take.ensures.event)
+          (event_after _ _ _ _ w.in-Transaction.rows w.transact.new.rows w.in_ok-outcome-in-Transaction.outcome.next _ (ap (λ s. s.state) w.self-inside-is) (sym kept ∙ w.in-Transaction.is)
+          (c.take.ensures.state ∙ ap (λ outcome. next_of c.match-self.self-inside.state outcome.next) w.outcome-is) w.in_ok-outcome-in-Transaction.ensures.keeps c.take.ensures.event)
           refl count
     ]

@@ -1,0 +1,56 @@
+-- An answer to a line that is made and sent in parts.
+use Rattle.std.proofs.Common.{◌≡◌, ◌≤◌, ◌<◌, ◌+◌, ◌-◌, ℕ, true, List, ◌++◌, Option, Some, None, ap, ◌∙◌, append_assoc}
+use Rattle.std.specs.Prelude.{IfSome}
+use Rattle.pop3_wire.specs.CommandLine.{command_of}
+use Rattle.pop3_wire.specs.Link.{Link}
+use Rattle.pop3_server.specs.declared.text_part.TextBody.{TextBody}
+use Rattle.pop3_server.specs.AnswersLines.{MakesAnswer, SameServer}
+use Rattle.pop3_server.specs.Maildrop.{HasPlace, Mail}
+use Rattle.pop3_server.specs.ServerMachine.{Machine, action_of, is_open}
+use Rattle.pop3_server.specs.TextAnswer.{Follows}
+use Rattle.pop3_server.proofs.ServeLemmas.{open_removals}
+use Rattle.pop3_server.proofs.TextAnswerLemmas.{begins_place, reads_nothing}
+
+module _ {D : Type 0} (sound : D → Type 0) (mail : D → Mail) where
+  pub makes_same : (old new : Machine D) (line made : List ℕ) (text : TextBody) → MakesAnswer sound mail old line made (Some text) new → SameServer sound mail old new
+  makes_same old new line made text makes = record {
+    user = makes.user;
+    pass = makes.pass;
+    state = makes.state;
+    unanswered = reads_nothing sound mail old.drop new.drop makes.answers.reads;
+  }
+
+  pub makes_place : (old new : Machine D) (line made : List ℕ) (text : TextBody) → MakesAnswer sound mail old line made (Some text) new → sound new.drop → HasPlace (mail new.drop) text.place
+  makes_place old new line made text makes =
+      begins_place sound mail (action_of old.user old.pass old.state (command_of line)) old.drop new.drop made text new.state makes.answers
+
+  pub makes_removals : (old new : Machine D) (line made : List ℕ) (rest : Option TextBody) → MakesAnswer sound mail old line made rest new → is_open new.state ≡ true
+      → (mail new.drop).removals ≡ (mail old.drop).removals
+  makes_removals old new line made None makes opened =
+      open_removals sound mail (action_of old.user old.pass old.state (command_of line)) old.drop made new.state new.drop makes.answers opened
+  makes_removals old new line made (Some text) makes opened = makes.answers.reads.removals
+
+-- a text that follows was begun, and there is room for more of it
+pub room_for : (limit capacity : ℕ) (rest : Option TextBody) → IfSome rest (Follows limit) → IfSome rest (λ text. 98309 ≤ capacity)
+    → IfSome rest (λ text. (0 < text.start) × (98309 ≤ capacity))
+room_for limit capacity None follows room = tt
+room_for limit capacity (Some text) follows room = (follows.0, room)
+
+-- how many more octets of a text may follow, and its end
+abbrev pub to_come : Option TextBody → ℕ
+to_come None = 0
+to_come (Some text) = 18446744073709551617 - text.start
+
+-- a link that sent two pieces
+pub sent_on : (before sent after : Link) (bytes more : List ℕ) → sent ≡ record before { sent = before.sent ++ bytes } → after ≡ record sent { sent = sent.sent ++ more }
+    → after ≡ record before { sent = before.sent ++ (bytes ++ more) }
+sent_on before sent after bytes more first last =
+    last ∙ ap (λ (l : Link). record l { sent = l.sent ++ more }) first ∙ ap (λ (l : List ℕ). record before { sent = l }) (append_assoc before.sent bytes more)
+
+-- the second not whole
+pub part_sent : (before sent after : Link) (bytes front : List ℕ) → sent ≡ record before { sent = before.sent ++ bytes }
+    → after ≡ record sent { sent = sent.sent ++ front; failures = sent.failures + 1 }
+    → after ≡ record before { sent = before.sent ++ (bytes ++ front); failures = before.failures + 1 }
+part_sent before sent after bytes front first last =
+    last ∙ ap (λ (l : Link). record l { sent = l.sent ++ front; failures = l.failures + 1 }) first
+    ∙ ap (λ (l : List ℕ). record before { sent = l; failures = before.failures + 1 }) (append_assoc before.sent bytes front)
