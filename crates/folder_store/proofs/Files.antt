@@ -212,11 +212,6 @@ make_refused old new name bytes Refused change = inl (keeps_making old new name 
 make_refused old new name bytes NotMbox t = absurd t
 make_refused old new name bytes NoMemory t = absurd t
 
-pub write_refused : (old mid new : Directory) (name bytes : List ℕ) (fault : StoreFault) → Makes {T = Unit {0}} old (Ok tt) mid
-    → Writes {T = Unit {0}} mid bytes (Err fault) new → ReplacesFlushed {T = Unit {0}} old name bytes (Err fault) new
-write_refused old mid new name bytes fault (can, e) (m, k) =
-    inl (holds_making mid new m name (find name old.entries) old.older k (keeps_making old mid name (Some empty_blob, e)))
-
 -- the file made has these bytes
 made_is : (old one two : Directory) (bytes : List ℕ) → Makes {T = Unit {0}} old (Ok tt) one → Writes {T = Unit {0}} one bytes (Ok tt) two
     → two ≡ making old (Some (appended empty_blob bytes))

@@ -159,14 +159,6 @@ cut_lasts is_flushed old new name len (Ok done) (b, c, at, is, h) known lasts =
     (lasts b.content (ap (option_map content_in) at)).named h)
 cut_lasts is_flushed old new name len (Err e) t known lasts = tt
 
--- there is no file
-pub none_lasts : (is_flushed : Bool) (old new : Directory) (name : List ℕ) → new ≡ old → content_at old name ≡ None → IsKnown is_flushed old name
-    → IsKnown is_flushed new name × LastsWhole (content_at new name) (FrontStands new name)
-none_lasts is_flushed old new name e none known = (
-  subst (λ (d : Directory). IsKnown is_flushed d name) (sym e) known,
-  λ bytes has. absurd (some_is_not_none bytes (content_at new name) (ap (λ (d : Directory). content_at d name) e ∙ none) has),
-)
-
 -- the law
 pub fronts_outlive_power : FrontsOutlivePower
 fronts_outlive_power old new name bytes f loses =

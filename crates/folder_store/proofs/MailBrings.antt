@@ -76,9 +76,6 @@ free_from [] name unknown = tt
 free_from (s ∷ ss) name unknown =
     (λ new same. unknown (0, omega arith, ap base same), free_from ss name (λ c. unknown (suc c.0, omega (arith, c.1), c.2)))
 
-unknown_after : (a b : Directories) (name : List ℕ) → Leads a b → IsUnknown name a → IsUnknown name b
-unknown_after a b name l unknown = λ c. unknown (subst (λ (fs : List File). Contains (names_of fs) (base name)) l.files c)
-
 -- one more file after others: a loss of power leaves these as before, and perhaps it, whole
 abbrev WereLeftBut : List MailFile → File → List MailFile → Type 0
 WereLeftBut ss f left = (before : List MailFile) × (part : List File) × AreLeftAs ss before × IsPart (f ∷ []) part × (files_at left ≡ files_at before ++ part)

@@ -76,10 +76,6 @@ one_leads a b folder (Err Refused) t = t
 one_leads a b folder (Err NotMbox) t = absurd t
 one_leads a b folder (Err NoMemory) t = absurd t
 
-pub those_stay : {A B : Type 0} (a b : Directories) (folder : Folder) (r : Result (Vec (String A) B) StoreFault) → TellsOne a folder r b → ToldStay r (StaysIn b.entries)
-those_stay a b folder (Ok names) (l, there, theirs, stay) = stay
-those_stay a b folder (Err fault) t = tt
-
 -- ---- whether a folder is there
 
 pub checked : {T : Type 0} (a b : Directories) (folder : Folder) (begun : Option (List ℕ)) (n m : ℕ) (r : Result T StoreFault) → Then (ChecksIn folder r) a b → Counted r n m

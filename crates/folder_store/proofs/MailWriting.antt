@@ -124,33 +124,11 @@ not_settled a b c begun name n k fault up (inr (d, made, put)) gives unknown f h
     ∙ ap (λ (x : ℕ). record (with_file (maildir_in a begun n) (mail name d.content)) { failures = x }) up
     ∙ ap (λ (xs : List ℕ). counted (with_file (maildir_in a begun n) (mail name xs))) (same_content a begun n f h d made))
 
--- a refused call, and then the file was given up
-pub not_settled_brings : (a b c : Directories) (begun : Option (List ℕ)) (name : List ℕ) (n : ℕ) (fault : StoreFault) → PutsForGood {T = Unit {0}} a name (Err fault) b → Then GivesUp b c
-    → IsUnknown name a → (f : File) → (maildir_in a begun n).begun ≡ Some f → Brings a [] c ⊎ Brings a (mail name f.content ∷ []) c
-not_settled_brings a b c begun name n fault (inl none) gives unknown f h = inl (brings_on a b c [] [] none (gives_up b c gives))
-not_settled_brings a b c begun name n fault (inr (d, made, put)) gives unknown f h =
-    inr (subst (λ (xs : List ℕ). Brings a (mail name xs ∷ []) c) (same_content a begun n f h d made)
-    (brings_on a b c (mail name d.content ∷ []) [] (put unknown) (gives_up b c gives)))
-
 -- the calls that a refusal may have stood for, as the Maildir sees them
 pub not_settled_keeps : (a b c : Directories) (name : List ℕ) (fault : StoreFault) → PutsForGood {T = Unit {0}} a name (Err fault) b → Then GivesUp b c → IsUnknown name a
     → KeepsMail (StaysIn a.entries) (OutlivesIn a.entries) (StaysIn c.entries) (OutlivesIn c.entries)
 not_settled_keeps a b c name fault (inl none) gives unknown = (brings_on a b c [] [] none (gives_up b c gives)).keeps
 not_settled_keeps a b c name fault (inr (d, made, put)) gives unknown = (brings_on a b c (mail name d.content ∷ []) [] (put unknown) (gives_up b c gives)).keeps
-
-leaves_more : (a b : Directories) (f : File) → LeavesMail a [] b → LeavesMail a (f ∷ []) b
-leaves_more a b f l = λ left loses.
-    let x = l left loses in
-    record { before = x.before; part = x.part; loses = x.loses; is_part = inl x.is_part; files = x.files }
-
-pub brought_leaves : (a b : Directories) (f : File) → Brings a [] b ⊎ Brings a (f ∷ []) b → LeavesMail a (f ∷ []) b
-brought_leaves a b f (inl h) = leaves_more a b f h.leaves
-brought_leaves a b f (inr h) = h.leaves
-
-pub settled_brings : (a b : Directories) (begun : Option (List ℕ)) (name : List ℕ) (n : ℕ) → PutsForGood {T = Unit {0}} a name (Ok tt) b → IsUnknown name a
-    → (f : File) → (maildir_in a begun n).begun ≡ Some f → Brings a (mail name f.content ∷ []) b
-settled_brings a b begun name n (d, made, put) unknown f h =
-    subst (λ (c : List ℕ). Brings a (mail name c ∷ []) b) (same_content a begun n f h d made) (put unknown).0
 
 -- ---- the calls of settling
 

@@ -139,13 +139,6 @@ entries_next files i x below is =
     ap (λ (n : ℕ). entries_of (take n files)) step ∙ ap entries_of (take-suc files i x below) ∙ map-append entry_of (take i files) (get_or files i x ∷ [])
     ∙ ap (λ (y : Pair). entries_of (take i files) ++ entry_of y ∷ []) (sym is)
 
-pub entries_pushed : (files : List Pair) (title : String Global) (kept : Kept) (name bytes : List ℕ) → string_bytes title ≡ name → blob_of kept ≡ secured bytes
-    → entries_of (files ++ (title, kept) ∷ []) ≡ entries_of files ++ entry name (secured bytes) ∷ []
-entries_pushed files title kept name bytes t k =
-    map-append entry_of files ((title, kept) ∷ [])
-    ∙ ap (λ (n : List ℕ). entries_of files ++ entry n (blob_of kept) ∷ []) t
-    ∙ ap (λ (b : Blob). entries_of files ++ entry name b ∷ []) k
-
 -- a name that led to no file leads to none
 survives_none : (older : List Older) (es left : List Entry) (name : List ℕ) → Survive older es left → find name es ≡ None → find name left ≡ None
 survives_none older [] left name is none = ap (find name) is

@@ -4,6 +4,7 @@ use Rattle.mail_store.specs.declared.fault.StoreFault.{StoreFault}
 use Rattle.mail_store.specs.FlatFile.{Stored}
 use Rattle.folder_store.specs.FileFolder.{Directory, Blob, Older, ChangesMade, find, appended, cut, doubted, flushed, names_flushed, put_in, secured}
 use Rattle.folder_store.specs.FileFolder.{content_at, unknown_directory}
+use Rattle.folder_store.specs.PowerLoss.{AppendsForGood, CutsForGood, ReplacesForGood}
 
 -- the file of this name
 abbrev pub stored_in : Directory → List ℕ → ℕ → Stored
@@ -88,3 +89,17 @@ ReplacesFlushed old name bytes (Err fault) new =
 -- what calls see of the file didn't change
 abbrev pub Flushes : Directory → List ℕ → Directory → Type 0
 Flushes old name new = content_at new name ≡ content_at old name
+
+-- ---- what a loss of power leaves after these, as laws
+
+abbrev pub AppendsLast : Type 0
+AppendsLast = (old new : Directory) (name bytes : List ℕ) (r : Result (Unit {0}) StoreFault) → AppendsFlushed old name bytes r new
+    → AppendsForGood old name bytes r new
+
+abbrev pub CutsLast : Type 0
+CutsLast = (old new : Directory) (name : List ℕ) (len : ℕ) (r : Result (Unit {0}) StoreFault) → CutsFlushed old name len r new
+    → CutsForGood old name len r new
+
+abbrev pub ReplacesLast : Type 0
+ReplacesLast = (old new : Directory) (name bytes : List ℕ) (r : Result (Unit {0}) StoreFault) → ReplacesFlushed old name bytes r new
+    → ReplacesForGood old name bytes r new

@@ -188,3 +188,13 @@ abbrev pub PutsForGood : {T : Type 0} → Directories → List ℕ → Result T 
 PutsForGood old name (Ok done) new = (d : Draft) × (old.made ≡ Some d)
     × (IsUnknown name old → Brings old (mail name d.content ∷ []) new × OutlivesIn new.entries (mail name d.content))
 PutsForGood old name (Err fault) new = Brings old [] new ⊎ StandsIn old name new
+
+-- ---- laws
+
+-- a call that changes only the file made brings no file
+abbrev pub MadeBringsNone : Type 0
+MadeBringsNone = (old new : Directories) → Then ChangesMade old new → Brings old [] new
+
+-- what two calls bring, one after the other
+abbrev pub BothBring : Type 0
+BothBring = (a b c : Directories) (xs ys : List File) → Brings a xs b → Brings b ys c → Brings a (xs ++ ys) c

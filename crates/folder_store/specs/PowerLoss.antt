@@ -94,10 +94,6 @@ pub record IsKnown (is_flushed : Bool) (d : Directory) (name : List ℕ) : Type 
 abbrev pub DiskIsKnown : Type 0
 DiskIsKnown = (is_flushed : Bool) (d : Directory) (name : List ℕ) → IsOnDisk d name → IsKnown is_flushed d name
 
--- `load`, `edges` and `read_at`: what they return of the file is on the disk
-abbrev pub IsTold : {T : Type 0} → Bool → Directory → List ℕ → Result T StoreFault → Directory → Type 0
-IsTold is_flushed old name r new = OnOk r (IsKnown is_flushed old name → IsOnDisk new name)
-
 -- what is left of a file after an append: the old bytes, and new ones, perhaps not all, each as it is, or zero, and
 -- then all after it in its page of the file are zeros too
 pub record IsTornBehind (was bytes left : List ℕ) : Type 0 where

@@ -1,8 +1,7 @@
 //! A file in a folder of a file system.
 
-ghost use Rattle.std.specs.Prelude.{◌≡◌, ◌⊎◌, ◌≤◌, ◌<◌, ◌+◌, false, length, IfErr, IfOk, IsSome, OnErr, OnOk};
-ghost use Rattle.mail_terms.specs.FailureCount.{Tallies, greatest_count, refuses};
-ghost use Rattle.mail_store.specs.Fault.{is_refusal, IsDeviceFault};
+ghost use Rattle.std.specs.Prelude.{◌≡◌, ◌<◌, ◌+◌, false, OnErr, OnOk};
+ghost use Rattle.mail_terms.specs.FailureCount.{greatest_count};
 
 use crate::device::FileFolder;
 use crate::host::HostFolder;
@@ -83,6 +82,16 @@ impl<'a, F: FileFolder + Drop> HostFile<'a, F> {
         self.is_flushed = true;
         Ok(())
     }
+
+    // Counts a refused call that writes: what it left may not be on the disk.
+    fn doubt(&mut self) -> StoreFault
+        requires { self.old.failures < greatest_count }
+        ensures fault { result ≡ StoreFault.Refused }
+        ensures doubted { self.new ≡ record self.old { is_flushed = false; failures = self.old.failures + 1 } }
+    {
+        self.is_flushed = false;
+        refuse(&mut self.failures)
+    }
 }
 
 impl<'a, R: Files + Clock + AllocGlobal + Clone + Drop> HostFile<'a, HostFolder<'a, R>> {
@@ -124,13 +133,10 @@ impl<'a, R: Files + Clock + AllocGlobal + Clone + Drop> HostFile<'a, HostFolder<
 }
 
 impl<'a, F: FileFolder + Drop> FlatFile for HostFile<'a, F> {
-    ghost use Rattle.std.specs.Prelude.{◌≡◌, ◌≤◌, ◌<◌, length, IfErr, IfOk, IsSome, OnOk};
-    ghost use Rattle.mail_terms.specs.FailureCount.{Tallies, greatest_count, refuses};
-    ghost use Rattle.mail_store.specs.Fault.{is_refusal, IsDeviceFault};
-    ghost use Rattle.mail_store.specs.FlatFile.{Appends, Cuts, HasBytes, Loads, Measures, ReadsAt, Replaces};
+    ghost use Rattle.std.specs.Prelude.{◌<◌};
+    ghost use Rattle.mail_terms.specs.FailureCount.{greatest_count};
     ghost use Rattle.folder_store.specs.HostFile.{stored_in};
-    ghost use Rattle.folder_store.specs.PowerLoss.{AppendsForGood, CutsForGood, FrontStands, IsKnown, IsTold, ReplacesForGood};
-    ghost use Rattle.mail_store.specs.Power.{KeepsBytes, KeepsFront, LastsWhole, UnlessRefused};
+    ghost use Rattle.folder_store.specs.PowerLoss.{FrontStands, IsKnown};
 
     ghost stored = { λ f. stored_in (F.directory f.folder) f.name.now f.failures };
 
@@ -140,21 +146,7 @@ impl<'a, F: FileFolder + Drop> FlatFile for HostFile<'a, F> {
 
     ghost sound = { λ f. F.sound f.folder × (f.failures < greatest_count) };
 
-    fn load(&mut self) -> Result<Vec<u8>, StoreFault>
-        ensures loads { ⟦<HostFile<'a, F> as FlatFile>⟧.sound self.new → ⟦<HostFile<'a, F> as FlatFile>⟧.sound self.old
-            × Loads (⟦<HostFile<'a, F> as FlatFile>⟧.stored self.old) result (⟦<HostFile<'a, F> as FlatFile>⟧.stored self.new) }
-        ensures fault { IfErr result IsDeviceFault }
-        ensures keeps { ⟦<HostFile<'a, F> as FlatFile>⟧.sound self.new
-            → KeepsBytes (⟦<HostFile<'a, F> as FlatFile>⟧.outlives self.old) (⟦<HostFile<'a, F> as FlatFile>⟧.outlives self.new) }
-        ensures lasts { ⟦<HostFile<'a, F> as FlatFile>⟧.sound self.new → ⟦<HostFile<'a, F> as FlatFile>⟧.is_sure self.old
-            → UnlessRefused result (⟦<HostFile<'a, F> as FlatFile>⟧.is_sure self.new
-            × LastsWhole (⟦<HostFile<'a, F> as FlatFile>⟧.stored self.new).content (⟦<HostFile<'a, F> as FlatFile>⟧.outlives self.new)) }
-        ensures count { Tallies (refuses is_refusal result) (⟦<HostFile<'a, F> as FlatFile>⟧.stored self.old).failures
-            (⟦<HostFile<'a, F> as FlatFile>⟧.stored self.new).failures }
-        ensures name { self.new.name ≡ self.old.name }
-        ensures power { F.sound self.new.folder → IsTold self.old.is_flushed (F.directory self.old.folder) self.old.name.now
-            result (F.directory self.new.folder) }
-    {
+    fn load(&mut self) -> Result<Vec<u8>, StoreFault> {
         admit(&self.failures)?;
         match self.folder.read(self.name) {
             Ok(bytes) => {
@@ -167,36 +159,12 @@ impl<'a, F: FileFolder + Drop> FlatFile for HostFile<'a, F> {
         }
     }
 
-    fn peek(&mut self) -> Result<Vec<u8>, StoreFault>
-        ensures loads { ⟦<HostFile<'a, F> as FlatFile>⟧.sound self.new → ⟦<HostFile<'a, F> as FlatFile>⟧.sound self.old
-            × Loads (⟦<HostFile<'a, F> as FlatFile>⟧.stored self.old) result (⟦<HostFile<'a, F> as FlatFile>⟧.stored self.new) }
-        ensures fault { IfErr result IsDeviceFault }
-        ensures keeps { ⟦<HostFile<'a, F> as FlatFile>⟧.sound self.new
-            → KeepsBytes (⟦<HostFile<'a, F> as FlatFile>⟧.outlives self.old) (⟦<HostFile<'a, F> as FlatFile>⟧.outlives self.new) }
-        ensures sure { ⟦<HostFile<'a, F> as FlatFile>⟧.sound self.new → ⟦<HostFile<'a, F> as FlatFile>⟧.is_sure self.old → ⟦<HostFile<'a, F> as FlatFile>⟧.is_sure self.new }
-        ensures count { Tallies (refuses is_refusal result) (⟦<HostFile<'a, F> as FlatFile>⟧.stored self.old).failures
-            (⟦<HostFile<'a, F> as FlatFile>⟧.stored self.new).failures }
-        ensures name { self.new.name ≡ self.old.name }
-    {
+    fn peek(&mut self) -> Result<Vec<u8>, StoreFault> {
         admit(&self.failures)?;
         tally(&mut self.failures, self.folder.read(self.name))
     }
 
-    fn edges(&mut self) -> Result<Edges, StoreFault>
-        ensures measures { ⟦<HostFile<'a, F> as FlatFile>⟧.sound self.new → ⟦<HostFile<'a, F> as FlatFile>⟧.sound self.old
-            × Measures (⟦<HostFile<'a, F> as FlatFile>⟧.stored self.old) result (⟦<HostFile<'a, F> as FlatFile>⟧.stored self.new) }
-        ensures fault { IfErr result IsDeviceFault }
-        ensures keeps { ⟦<HostFile<'a, F> as FlatFile>⟧.sound self.new
-            → KeepsBytes (⟦<HostFile<'a, F> as FlatFile>⟧.outlives self.old) (⟦<HostFile<'a, F> as FlatFile>⟧.outlives self.new) }
-        ensures lasts { ⟦<HostFile<'a, F> as FlatFile>⟧.sound self.new → ⟦<HostFile<'a, F> as FlatFile>⟧.is_sure self.old
-            → UnlessRefused result (⟦<HostFile<'a, F> as FlatFile>⟧.is_sure self.new
-            × LastsWhole (⟦<HostFile<'a, F> as FlatFile>⟧.stored self.new).content (⟦<HostFile<'a, F> as FlatFile>⟧.outlives self.new)) }
-        ensures count { Tallies (refuses is_refusal result) (⟦<HostFile<'a, F> as FlatFile>⟧.stored self.old).failures
-            (⟦<HostFile<'a, F> as FlatFile>⟧.stored self.new).failures }
-        ensures name { self.new.name ≡ self.old.name }
-        ensures power { F.sound self.new.folder → IsTold self.old.is_flushed (F.directory self.old.folder) self.old.name.now
-            result (F.directory self.new.folder) }
-    {
+    fn edges(&mut self) -> Result<Edges, StoreFault> {
         admit(&self.failures)?;
         match self.folder.edges(self.name) {
             Ok(edges) => {
@@ -209,23 +177,7 @@ impl<'a, F: FileFolder + Drop> FlatFile for HostFile<'a, F> {
         }
     }
 
-    fn read_at(&mut self, start: u64, buf: &mut [u8]) -> Result<usize, StoreFault>
-        ensures within { IfOk result (λ count. count ≤ length buf.new) }
-        ensures reads { ⟦<HostFile<'a, F> as FlatFile>⟧.sound self.new → ⟦<HostFile<'a, F> as FlatFile>⟧.sound self.old
-            × ReadsAt (⟦<HostFile<'a, F> as FlatFile>⟧.stored self.old) start result buf.new
-            (⟦<HostFile<'a, F> as FlatFile>⟧.stored self.new) }
-        ensures fault { IfErr result IsDeviceFault }
-        ensures keeps { ⟦<HostFile<'a, F> as FlatFile>⟧.sound self.new
-            → KeepsBytes (⟦<HostFile<'a, F> as FlatFile>⟧.outlives self.old) (⟦<HostFile<'a, F> as FlatFile>⟧.outlives self.new) }
-        ensures lasts { ⟦<HostFile<'a, F> as FlatFile>⟧.sound self.new → ⟦<HostFile<'a, F> as FlatFile>⟧.is_sure self.old
-            → UnlessRefused result (⟦<HostFile<'a, F> as FlatFile>⟧.is_sure self.new
-            × LastsWhole (⟦<HostFile<'a, F> as FlatFile>⟧.stored self.new).content (⟦<HostFile<'a, F> as FlatFile>⟧.outlives self.new)) }
-        ensures count { Tallies (refuses is_refusal result) (⟦<HostFile<'a, F> as FlatFile>⟧.stored self.old).failures
-            (⟦<HostFile<'a, F> as FlatFile>⟧.stored self.new).failures }
-        ensures name { self.new.name ≡ self.old.name }
-        ensures power { F.sound self.new.folder → IsTold self.old.is_flushed (F.directory self.old.folder) self.old.name.now
-            result (F.directory self.new.folder) }
-    {
+    fn read_at(&mut self, start: u64, buf: &mut [u8]) -> Result<usize, StoreFault> {
         admit(&self.failures)?;
         match self.folder.read_at(self.name, start, buf) {
             Ok(count) => {
@@ -238,86 +190,30 @@ impl<'a, F: FileFolder + Drop> FlatFile for HostFile<'a, F> {
         }
     }
 
-    fn append(&mut self, bytes: &[u8]) -> Result<(), StoreFault>
-        requires { ⟦<HostFile<'a, F> as FlatFile>⟧.sound self.old → IsSome (⟦<HostFile<'a, F> as FlatFile>⟧.stored self.old).content }
-        ensures appends { ⟦<HostFile<'a, F> as FlatFile>⟧.sound self.new → ⟦<HostFile<'a, F> as FlatFile>⟧.sound self.old
-            × Appends (⟦<HostFile<'a, F> as FlatFile>⟧.stored self.old) bytes.now result (⟦<HostFile<'a, F> as FlatFile>⟧.stored self.new) }
-        ensures fault { IfErr result (λ e. e ≡ StoreFault.Refused) }
-        ensures keeps { ⟦<HostFile<'a, F> as FlatFile>⟧.sound self.new
-            → KeepsBytes (⟦<HostFile<'a, F> as FlatFile>⟧.outlives self.old) (⟦<HostFile<'a, F> as FlatFile>⟧.outlives self.new) }
-        ensures lasts { ⟦<HostFile<'a, F> as FlatFile>⟧.sound self.new → ⟦<HostFile<'a, F> as FlatFile>⟧.is_sure self.old
-            → LastsWhole (⟦<HostFile<'a, F> as FlatFile>⟧.stored self.old).content (⟦<HostFile<'a, F> as FlatFile>⟧.outlives self.old)
-            → OnOk result (⟦<HostFile<'a, F> as FlatFile>⟧.is_sure self.new
-            × LastsWhole (⟦<HostFile<'a, F> as FlatFile>⟧.stored self.new).content (⟦<HostFile<'a, F> as FlatFile>⟧.outlives self.new)) }
-        ensures count { Tallies (refuses is_refusal result) (⟦<HostFile<'a, F> as FlatFile>⟧.stored self.old).failures
-            (⟦<HostFile<'a, F> as FlatFile>⟧.stored self.new).failures }
-        ensures doubted { OnErr result ((self.new.is_flushed ≡ false) ⊎ (self.new ≡ self.old)) }
-        ensures name { self.new.name ≡ self.old.name }
-        ensures power { F.sound self.new.folder → AppendsForGood (F.directory self.old.folder) self.old.name.now bytes.now
-            result (F.directory self.new.folder) }
-    {
+    fn append(&mut self, bytes: &[u8]) -> Result<(), StoreFault> {
         admit(&self.failures)?;
         match append_in(&mut self.folder, self.name, bytes, self.appending) {
             Ok(()) => Ok(()),
-            Err(_) => {
-                self.is_flushed = false;
-                Err(refuse(&mut self.failures))
-            }
+            Err(_) => Err(self.doubt()),
         }
     }
 
-    fn cut_to(&mut self, len: u64) -> Result<(), StoreFault>
-        requires { ⟦<HostFile<'a, F> as FlatFile>⟧.sound self.old → HasBytes (⟦<HostFile<'a, F> as FlatFile>⟧.stored self.old) len }
-        ensures cuts { ⟦<HostFile<'a, F> as FlatFile>⟧.sound self.new → ⟦<HostFile<'a, F> as FlatFile>⟧.sound self.old
-            × Cuts (⟦<HostFile<'a, F> as FlatFile>⟧.stored self.old) len result (⟦<HostFile<'a, F> as FlatFile>⟧.stored self.new) }
-        ensures fault { IfErr result (λ e. e ≡ StoreFault.Refused) }
-        ensures keeps { ⟦<HostFile<'a, F> as FlatFile>⟧.sound self.new
-            → KeepsFront len (⟦<HostFile<'a, F> as FlatFile>⟧.outlives self.old) (⟦<HostFile<'a, F> as FlatFile>⟧.outlives self.new) }
-        ensures lasts { ⟦<HostFile<'a, F> as FlatFile>⟧.sound self.new → ⟦<HostFile<'a, F> as FlatFile>⟧.is_sure self.old
-            → LastsWhole (⟦<HostFile<'a, F> as FlatFile>⟧.stored self.old).content (⟦<HostFile<'a, F> as FlatFile>⟧.outlives self.old)
-            → OnOk result (⟦<HostFile<'a, F> as FlatFile>⟧.is_sure self.new
-            × LastsWhole (⟦<HostFile<'a, F> as FlatFile>⟧.stored self.new).content (⟦<HostFile<'a, F> as FlatFile>⟧.outlives self.new)) }
-        ensures count { Tallies (refuses is_refusal result) (⟦<HostFile<'a, F> as FlatFile>⟧.stored self.old).failures
-            (⟦<HostFile<'a, F> as FlatFile>⟧.stored self.new).failures }
-        ensures doubted { OnErr result ((self.new.is_flushed ≡ false) ⊎ (self.new ≡ self.old)) }
-        ensures name { self.new.name ≡ self.old.name }
-        ensures power { F.sound self.new.folder → CutsForGood (F.directory self.old.folder) self.old.name.now len
-            result (F.directory self.new.folder) }
-    {
+    fn cut_to(&mut self, len: u64) -> Result<(), StoreFault> {
         admit(&self.failures)?;
         match cut_flushed(&mut self.folder, self.name, len) {
             Ok(()) => Ok(()),
-            Err(_) => {
-                self.is_flushed = false;
-                Err(refuse(&mut self.failures))
-            }
+            Err(_) => Err(self.doubt()),
         }
     }
 
-    fn replace(&mut self, bytes: &[u8]) -> Result<(), StoreFault>
-        ensures replaces { ⟦<HostFile<'a, F> as FlatFile>⟧.sound self.new → ⟦<HostFile<'a, F> as FlatFile>⟧.sound self.old
-            × Replaces (⟦<HostFile<'a, F> as FlatFile>⟧.stored self.old) bytes.now result
-            (⟦<HostFile<'a, F> as FlatFile>⟧.stored self.new) }
-        ensures fault { IfErr result (λ e. e ≡ StoreFault.Refused) }
-        ensures lasts { ⟦<HostFile<'a, F> as FlatFile>⟧.sound self.new → OnOk result (⟦<HostFile<'a, F> as FlatFile>⟧.is_sure self.new
-            × LastsWhole (⟦<HostFile<'a, F> as FlatFile>⟧.stored self.new).content (⟦<HostFile<'a, F> as FlatFile>⟧.outlives self.new)) }
-        ensures count { Tallies (refuses is_refusal result) (⟦<HostFile<'a, F> as FlatFile>⟧.stored self.old).failures
-            (⟦<HostFile<'a, F> as FlatFile>⟧.stored self.new).failures }
-        ensures doubted { OnErr result ((self.new.is_flushed ≡ false) ⊎ (self.new ≡ self.old)) }
-        ensures name { self.new.name ≡ self.old.name }
-        ensures power { F.sound self.new.folder → ReplacesForGood (F.directory self.old.folder) self.old.name.now bytes.now
-            result (F.directory self.new.folder) }
-    {
+    fn replace(&mut self, bytes: &[u8]) -> Result<(), StoreFault> {
         admit(&self.failures)?;
         match replace_flushed(&mut self.folder, self.name, bytes) {
             Ok(()) => {
                 self.is_flushed = true;
                 Ok(())
             }
-            Err(_) => {
-                self.is_flushed = false;
-                Err(refuse(&mut self.failures))
-            }
+            Err(_) => Err(self.doubt()),
         }
     }
 

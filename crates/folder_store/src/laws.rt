@@ -3,6 +3,8 @@
 
 ghost use Rattle.std.specs.Prelude.{List};
 ghost use Rattle.folder_store.specs.PowerLoss.{DiskIsKnown, DiskStands, FrontsOutlivePower, OutlivesPower, PowerCanBeLost};
+ghost use Rattle.folder_store.specs.HostFile.{AppendsLast, CutsLast, ReplacesLast};
+ghost use Rattle.folder_store.specs.MailCalls.{BothBring, MadeBringsNone};
 ghost use Rattle.folder_store.specs.MailFolders.{Directories, MailFile, Moved, OneMoves};
 ghost use Rattle.folder_store.specs.MailPower.{LeftMailIsOnDisk, MailCanLosePower, MailOnDiskIsLeft, OutlivingMailIsLeft, StayingMailIsLeft};
 
@@ -29,6 +31,19 @@ pub fn fronts_outlive_power()
 /// What is on the disk is known to be there, whether or not a device knows it.
 pub fn disk_is_known()
     ensures { DiskIsKnown }
+{}
+
+/// What a loss of power leaves of a file that was appended to, cut or replaced, whatever the call answered.
+pub fn writes_outlive_power()
+    ensures appends { AppendsLast }
+    ensures cuts { CutsLast }
+    ensures replaces { ReplacesLast }
+{}
+
+/// What calls on the folders of a Maildir bring, so what a loss of power leaves after several of them.
+pub fn calls_bring_mail()
+    ensures made { MadeBringsNone }
+    ensures both { BothBring }
 {}
 
 /// Readers may do nothing, move or mark a file, and do so again.

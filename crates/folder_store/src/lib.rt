@@ -13,7 +13,6 @@ mod maildir;
 mod memory;
 mod memory_folders;
 mod process_mark;
-mod reading;
 mod steps;
 mod system;
 mod tally;
@@ -24,8 +23,8 @@ pub use fused::FusedFolder;
 pub use host::HostFolder;
 pub use host_folders::HostFolders;
 pub use laws::{
-    disk_is_known, disk_stands, left_mail_is_on_disk, mail_can_lose_power, mail_outlives_power,
-    outlives_power, power_can_be_lost, readers_move,
+    calls_bring_mail, disk_is_known, disk_stands, left_mail_is_on_disk, mail_can_lose_power,
+    mail_outlives_power, outlives_power, power_can_be_lost, readers_move, writes_outlive_power,
 };
 pub use mail_folders::MailFolders;
 pub use maildir::FolderMaildir;

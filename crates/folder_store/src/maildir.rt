@@ -86,13 +86,10 @@ fn is_file_name(name: &str) -> bool {
 }
 
 impl<F: MailFolders + Drop> MaildirDisk for FolderMaildir<F> {
-    ghost use Rattle.std.specs.Prelude.{◌≡◌, ◌<◌, IfErr, IsSome, None, OnErr, OnOk, Some, [], ◌∷◌, option_map, string_bytes};
-    ghost use Rattle.mail_terms.specs.FailureCount.{Tallies, greatest_count, refuses};
-    ghost use Rattle.mail_store.specs.Fault.{is_refusal, IsDeviceFault};
-    ghost use Rattle.mail_store.specs.Maildir.{Adds, Begins, Checks, File, IsThere, Lists, ListsAll, Settles, dropped, mail, name_begun};
-    ghost use Rattle.mail_store.specs.Power.{KeepsMail, SettledOutlives, ToldStay};
+    ghost use Rattle.std.specs.Prelude.{◌<◌, option_map, string_bytes};
+    ghost use Rattle.mail_terms.specs.FailureCount.{greatest_count};
     ghost use Rattle.folder_store.specs.MailFolders.{maildir_in};
-    ghost use Rattle.folder_store.specs.MailPower.{LeavesMail, OutlivesIn, StaysIn};
+    ghost use Rattle.folder_store.specs.MailPower.{OutlivesIn, StaysIn};
 
     ghost maildir = { λ d. maildir_in (F.directories d.folders) (option_map string_bytes d.begun) d.failures };
 
@@ -102,37 +99,12 @@ impl<F: MailFolders + Drop> MaildirDisk for FolderMaildir<F> {
 
     ghost sound = { λ d. F.sound d.folders × (d.failures < greatest_count) };
 
-    fn names(&mut self, folder: Folder) -> Result<Vec<String>, StoreFault>
-        ensures lists { ⟦<FolderMaildir<F> as MaildirDisk>⟧.sound self.new → ⟦<FolderMaildir<F> as MaildirDisk>⟧.sound self.old
-            × Lists (⟦<FolderMaildir<F> as MaildirDisk>⟧.maildir self.old) folder result
-            (⟦<FolderMaildir<F> as MaildirDisk>⟧.maildir self.new) }
-        ensures fault { IfErr result IsDeviceFault }
-        ensures lasts { ⟦<FolderMaildir<F> as MaildirDisk>⟧.sound self.new
-            → KeepsMail (⟦<FolderMaildir<F> as MaildirDisk>⟧.stays self.old) (⟦<FolderMaildir<F> as MaildirDisk>⟧.outlives self.old)
-            (⟦<FolderMaildir<F> as MaildirDisk>⟧.stays self.new) (⟦<FolderMaildir<F> as MaildirDisk>⟧.outlives self.new) }
-        ensures count { Tallies (refuses is_refusal result) (⟦<FolderMaildir<F> as MaildirDisk>⟧.maildir self.old).failures
-            (⟦<FolderMaildir<F> as MaildirDisk>⟧.maildir self.new).failures }
-        ensures told { ⟦<FolderMaildir<F> as MaildirDisk>⟧.sound self.new
-            → ToldStay result (⟦<FolderMaildir<F> as MaildirDisk>⟧.stays self.new) }
-        ensures leaves { F.sound self.new.folders → LeavesMail (F.directories self.old.folders) [] (F.directories self.new.folders) }
-    {
+    fn names(&mut self, folder: Folder) -> Result<Vec<String>, StoreFault> {
         admit(&self.failures)?;
         tally(&mut self.failures, told_names_of(&mut self.folders, folder))
     }
 
-    fn all_names(&mut self) -> Result<Vec<String>, StoreFault>
-        ensures lists { ⟦<FolderMaildir<F> as MaildirDisk>⟧.sound self.new → ⟦<FolderMaildir<F> as MaildirDisk>⟧.sound self.old
-            × ListsAll (⟦<FolderMaildir<F> as MaildirDisk>⟧.maildir self.old) result
-            (⟦<FolderMaildir<F> as MaildirDisk>⟧.maildir self.new) }
-        ensures fault { IfErr result IsDeviceFault }
-        ensures lasts { ⟦<FolderMaildir<F> as MaildirDisk>⟧.sound self.new
-            → KeepsMail (⟦<FolderMaildir<F> as MaildirDisk>⟧.stays self.old) (⟦<FolderMaildir<F> as MaildirDisk>⟧.outlives self.old)
-            (⟦<FolderMaildir<F> as MaildirDisk>⟧.stays self.new) (⟦<FolderMaildir<F> as MaildirDisk>⟧.outlives self.new)
-            × ToldStay result (⟦<FolderMaildir<F> as MaildirDisk>⟧.stays self.new) }
-        ensures count { Tallies (refuses is_refusal result) (⟦<FolderMaildir<F> as MaildirDisk>⟧.maildir self.old).failures
-            (⟦<FolderMaildir<F> as MaildirDisk>⟧.maildir self.new).failures }
-        ensures leaves { F.sound self.new.folders → LeavesMail (F.directories self.old.folders) [] (F.directories self.new.folders) }
-    {
+    fn all_names(&mut self) -> Result<Vec<String>, StoreFault> {
         admit(&self.failures)?;
         tally(&mut self.failures, told_names(&mut self.folders))
     }
@@ -142,23 +114,7 @@ impl<F: MailFolders + Drop> MaildirDisk for FolderMaildir<F> {
         tally(&mut self.failures, self.folders.check(folder))
     }
 
-    fn begin(&mut self, name: &str) -> Result<(), StoreFault>
-        requires { ⟦<FolderMaildir<F> as MaildirDisk>⟧.sound self.old
-            → (⟦<FolderMaildir<F> as MaildirDisk>⟧.maildir self.old).begun ≡ None }
-        ensures begins { ⟦<FolderMaildir<F> as MaildirDisk>⟧.sound self.new → ⟦<FolderMaildir<F> as MaildirDisk>⟧.sound self.old
-            × Begins (⟦<FolderMaildir<F> as MaildirDisk>⟧.maildir self.old) name.now result
-            (⟦<FolderMaildir<F> as MaildirDisk>⟧.maildir self.new) }
-        ensures begun { OnOk result (name_begun (⟦<FolderMaildir<F> as MaildirDisk>⟧.maildir self.new) ≡ Some name.now) }
-        ensures not_begun { OnErr result ((⟦<FolderMaildir<F> as MaildirDisk>⟧.maildir self.new).begun
-            ≡ (⟦<FolderMaildir<F> as MaildirDisk>⟧.maildir self.old).begun) }
-        ensures fault { IfErr result IsDeviceFault }
-        ensures lasts { ⟦<FolderMaildir<F> as MaildirDisk>⟧.sound self.new
-            → KeepsMail (⟦<FolderMaildir<F> as MaildirDisk>⟧.stays self.old) (⟦<FolderMaildir<F> as MaildirDisk>⟧.outlives self.old)
-            (⟦<FolderMaildir<F> as MaildirDisk>⟧.stays self.new) (⟦<FolderMaildir<F> as MaildirDisk>⟧.outlives self.new) }
-        ensures count { Tallies (refuses is_refusal result) (⟦<FolderMaildir<F> as MaildirDisk>⟧.maildir self.old).failures
-            (⟦<FolderMaildir<F> as MaildirDisk>⟧.maildir self.new).failures }
-        ensures leaves { F.sound self.new.folders → LeavesMail (F.directories self.old.folders) [] (F.directories self.new.folders) }
-    {
+    fn begin(&mut self, name: &str) -> Result<(), StoreFault> {
         admit(&self.failures)?;
         if self.begun.is_some() || !is_file_name(name) {
             return Err(refuse(&mut self.failures));
@@ -176,22 +132,7 @@ impl<F: MailFolders + Drop> MaildirDisk for FolderMaildir<F> {
         }
     }
 
-    fn add(&mut self, bytes: &[u8]) -> Result<(), StoreFault>
-        requires { ⟦<FolderMaildir<F> as MaildirDisk>⟧.sound self.old
-            → IsSome (⟦<FolderMaildir<F> as MaildirDisk>⟧.maildir self.old).begun }
-        ensures adds { ⟦<FolderMaildir<F> as MaildirDisk>⟧.sound self.new → ⟦<FolderMaildir<F> as MaildirDisk>⟧.sound self.old
-            × Adds (⟦<FolderMaildir<F> as MaildirDisk>⟧.maildir self.old) bytes.now result
-            (⟦<FolderMaildir<F> as MaildirDisk>⟧.maildir self.new) }
-        ensures begun { name_begun
-            (⟦<FolderMaildir<F> as MaildirDisk>⟧.maildir self.new) ≡ name_begun (⟦<FolderMaildir<F> as MaildirDisk>⟧.maildir self.old) }
-        ensures fault { IfErr result (λ e. e ≡ StoreFault.Refused) }
-        ensures lasts { ⟦<FolderMaildir<F> as MaildirDisk>⟧.sound self.new
-            → KeepsMail (⟦<FolderMaildir<F> as MaildirDisk>⟧.stays self.old) (⟦<FolderMaildir<F> as MaildirDisk>⟧.outlives self.old)
-            (⟦<FolderMaildir<F> as MaildirDisk>⟧.stays self.new) (⟦<FolderMaildir<F> as MaildirDisk>⟧.outlives self.new) }
-        ensures count { Tallies (refuses is_refusal result) (⟦<FolderMaildir<F> as MaildirDisk>⟧.maildir self.old).failures
-            (⟦<FolderMaildir<F> as MaildirDisk>⟧.maildir self.new).failures }
-        ensures leaves { F.sound self.new.folders → LeavesMail (F.directories self.old.folders) [] (F.directories self.new.folders) }
-    {
+    fn add(&mut self, bytes: &[u8]) -> Result<(), StoreFault> {
         admit(&self.failures)?;
         if self.begun.is_none() {
             return Err(refuse(&mut self.failures));
@@ -202,27 +143,7 @@ impl<F: MailFolders + Drop> MaildirDisk for FolderMaildir<F> {
         }
     }
 
-    fn settle(&mut self, name: &str) -> Result<(), StoreFault>
-        requires begun { ⟦<FolderMaildir<F> as MaildirDisk>⟧.sound self.old
-            → IsSome (⟦<FolderMaildir<F> as MaildirDisk>⟧.maildir self.old).begun }
-        requires not_there { ⟦<FolderMaildir<F> as MaildirDisk>⟧.sound self.old
-            → IsThere (⟦<FolderMaildir<F> as MaildirDisk>⟧.maildir self.old) name.now → ⊥ }
-        ensures settles { ⟦<FolderMaildir<F> as MaildirDisk>⟧.sound self.new → ⟦<FolderMaildir<F> as MaildirDisk>⟧.sound self.old
-            × Settles (⟦<FolderMaildir<F> as MaildirDisk>⟧.maildir self.old) name.now result
-            (⟦<FolderMaildir<F> as MaildirDisk>⟧.maildir self.new) }
-        ensures none_begun { (⟦<FolderMaildir<F> as MaildirDisk>⟧.maildir self.new).begun ≡ None }
-        ensures fault { IfErr result (λ e. e ≡ StoreFault.Refused) }
-        ensures lasts { ⟦<FolderMaildir<F> as MaildirDisk>⟧.sound self.new
-            → KeepsMail (⟦<FolderMaildir<F> as MaildirDisk>⟧.stays self.old) (⟦<FolderMaildir<F> as MaildirDisk>⟧.outlives self.old)
-            (⟦<FolderMaildir<F> as MaildirDisk>⟧.stays self.new) (⟦<FolderMaildir<F> as MaildirDisk>⟧.outlives self.new)
-            × SettledOutlives (⟦<FolderMaildir<F> as MaildirDisk>⟧.maildir self.old) name.now result
-            (⟦<FolderMaildir<F> as MaildirDisk>⟧.outlives self.new) }
-        ensures count { Tallies (refuses is_refusal result) (⟦<FolderMaildir<F> as MaildirDisk>⟧.maildir self.old).failures
-            (⟦<FolderMaildir<F> as MaildirDisk>⟧.maildir self.new).failures }
-        ensures leaves { ⟦<FolderMaildir<F> as MaildirDisk>⟧.sound self.new → (f : File)
-            → (⟦<FolderMaildir<F> as MaildirDisk>⟧.maildir self.old).begun ≡ Some f
-            → LeavesMail (F.directories self.old.folders) (mail name.now f.content ∷ []) (F.directories self.new.folders) }
-    {
+    fn settle(&mut self, name: &str) -> Result<(), StoreFault> {
         if let Err(fault) = admit(&self.failures) {
             self.abandon();
             return Err(fault);
@@ -241,17 +162,7 @@ impl<F: MailFolders + Drop> MaildirDisk for FolderMaildir<F> {
         }
     }
 
-    fn abandon(&mut self)
-        ensures drops { ⟦<FolderMaildir<F> as MaildirDisk>⟧.sound self.new → ⟦<FolderMaildir<F> as MaildirDisk>⟧.sound self.old
-            × (⟦<FolderMaildir<F> as MaildirDisk>⟧.maildir self.new ≡ dropped (⟦<FolderMaildir<F> as MaildirDisk>⟧.maildir self.old)) }
-        ensures none_begun { (⟦<FolderMaildir<F> as MaildirDisk>⟧.maildir self.new).begun ≡ None }
-        ensures lasts { ⟦<FolderMaildir<F> as MaildirDisk>⟧.sound self.new
-            → KeepsMail (⟦<FolderMaildir<F> as MaildirDisk>⟧.stays self.old) (⟦<FolderMaildir<F> as MaildirDisk>⟧.outlives self.old)
-            (⟦<FolderMaildir<F> as MaildirDisk>⟧.stays self.new) (⟦<FolderMaildir<F> as MaildirDisk>⟧.outlives self.new) }
-        ensures count { (⟦<FolderMaildir<F> as MaildirDisk>⟧.maildir self.new).failures
-            ≡ (⟦<FolderMaildir<F> as MaildirDisk>⟧.maildir self.old).failures }
-        ensures leaves { F.sound self.new.folders → LeavesMail (F.directories self.old.folders) [] (F.directories self.new.folders) }
-    {
+    fn abandon(&mut self) {
         if self.begun.take().is_some() {
             self.folders.discard();
         }

@@ -6,8 +6,7 @@ ghost use Rattle.folder_store.specs.FileFolder.{find, names_in, placed};
 ghost use Rattle.folder_store.specs.MemoryFolder.{MayBeOf, Survive, blob_of, entries_of, entry_of, kept_of, older_of};
 
 use crate::device::FileFolder;
-use crate::reading::{bytes_from, edges_of, put_in_front};
-use mail_store::{Edges, StoreFault};
+use mail_store::{Edges, StoreFault, edges_of, read_piece};
 use std::alloc::{AllocError, Global};
 use std::marker::Model;
 use std::mem;
@@ -409,7 +408,7 @@ impl FileFolder for MemoryFolder {
 
     fn read_at(&mut self, name: &str, start: u64, buf: &mut [u8]) -> Result<usize, StoreFault> {
         match kept_at(&self.files, name) {
-            Some(file) => Ok(put_in_front(bytes_from(file.content.as_slice(), start), buf)),
+            Some(file) => Ok(read_piece(file.content.as_slice(), start, buf)),
             None => Err(StoreFault::Missing),
         }
     }

@@ -3,7 +3,6 @@ mod Deliveries
 mod FusedCalls
 mod HeldLemmas
 mod MboxAppends
-mod MboxFronts
 mod MboxGroups
 mod MboxLines
 mod MboxQuoting

@@ -143,6 +143,12 @@ entry_bytes text = ap (λ (l : List ℕ). separator ++ (l ++ 10 ∷ [])) (quoted
 pub entry_text : (text : List ℕ) → group_text (entry_group text) ≡ text
 entry_text text = lines_read (lines_of text) ∙ lines_joined text
 
+pub entry_lines : (text : List ℕ) → IsWhole text → lines_of (entry_of text) ≡ group_lines (entry_group text)
+entry_lines text whole =
+    let is = entry_is_group text whole in
+    ap lines_of (sym (entry_bytes text) ∙ sym (append-nil (group_bytes (entry_group text))))
+    ∙ group_first (entry_group text) [] is.0.0 (inner_lines (entry_group text).lines is.1) ∙ append-nil (group_lines (entry_group text))
+
 pub entry_adds_text : EntryAddsText
 entry_adds_text file text texts was whole =
     subst (λ (bytes : List ℕ). MboxFile (file ++ bytes) (texts ++ text ∷ [])) (entry_bytes text)

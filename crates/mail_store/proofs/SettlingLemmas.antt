@@ -19,8 +19,7 @@ use Rattle.mail_store.specs.MboxScan.{IsApart}
 use Rattle.mail_store.specs.Settling.{page_size, pages_from, is_hole, agree, begin_with, is_one_entry, ends_empty, are_unbroken, is_ours, is_entry, stands_whole, settled_file, FrontsAreSettled, IsLook, LooksBehind, SettlesFile}
 use Rattle.mail_store.proofs.Pages.{Fronts, next_page, page_words, begin_with_words}
 use Rattle.mail_store.proofs.OneEntry.{and_is, holds_needle, one_entry_is, needle_short, needle_in_front, window_first, window_next}
-use Rattle.mail_store.proofs.MboxGroups.{inner_apart, entry_group, entry_is_group, entry_adds_text, texts_go_on}
-use Rattle.mail_store.proofs.MboxFronts.{entry_lines}
+use Rattle.mail_store.proofs.MboxGroups.{inner_apart, entry_group, entry_lines, entry_is_group, entry_adds_text, texts_go_on}
 
 -- ---- windows
 

@@ -44,6 +44,11 @@ pub record Burns {D T : Type 0} (count : D → ℕ) (old : Fused D) (result : Re
   pub once : new.takes_effect ≡ (if old.passes_left == 0 then false else old.takes_effect)
   pub passed : 0 < old.passes_left → Tallies (refuses is_refusal result) (count old.device) (count new.device)
 
+-- the same, and a call for which no pass is left changes nothing behind the fuse
+abbrev pub Fuses : {D T : Type 0} → (D → ℕ) → Fused D → Result T StoreFault → Fused D → Type 0
+Fuses count old result new =
+    (old.failures < greatest_count → Burns count old result new) × (old.passes_left ≡ 0 → new.device ≡ old.device)
+
 -- a `settle` that the fuse refuses: the device settled the file, or gave it up
 abbrev pub SettlesBehind : Bool → Maildir → List ℕ → Maildir → Type 0
 SettlesBehind true old name new = (answer : Result (Unit {0}) StoreFault) × Settles old name answer new

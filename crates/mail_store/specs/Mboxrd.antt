@@ -1,5 +1,5 @@
 -- Texts in an mboxrd file: how a line is quoted, what an entry is, and which texts a file stands for.
-use Rattle.std.specs.Prelude.{◌≡◌, ◌⊎◌, ◌==◌, ◌&&◌, ℕ, Bool, false, List, [], ◌∷◌, ◌++◌, true, map, length, take}
+use Rattle.std.specs.Prelude.{◌≡◌, ◌⊎◌, ◌==◌, ◌&&◌, ℕ, Bool, false, List, [], ◌∷◌, ◌++◌, true, map}
 use Rattle.std.specs.Prelude.{if◌then◌else◌, codes, nat_eq}
 use Rattle.std.specs.List.{flat_map, onto_first, starts_with, AllByRecursion}
 use Rattle.mail_terms.specs.Text.{IsWhole, HasNoLf}
@@ -116,19 +116,3 @@ OneReading = (file : List ℕ) (texts others : List (List ℕ)) → MboxFile fil
 -- a law: an entry may follow each file that stands for texts
 abbrev pub TextsMayGoOn : Type 0
 TextsMayGoOn = (file : List ℕ) (texts : List (List ℕ)) → MboxFile file texts → MayGoOn file
-
--- a file that stands for texts, followed by a front of a text's entry: cut to its old size it is the
--- file again; if the front is empty, or as long as the entry, it is none or all of it; and if the file
--- then stands for any texts, they are the old ones, and perhaps a front of the text after them
-pub record LeavesFront (file text front : List ℕ) (texts : List (List ℕ)) : Type 0 where
-  pub cut : take (length file) (file ++ front) ≡ file
-  pub none : length front ≡ 0 → MboxFile (file ++ front) texts
-  pub all : length front ≡ length (entry_of text) → MboxFile (file ++ front) (texts ++ text ∷ [])
-  pub part : (others : List (List ℕ)) → MboxFile (file ++ front) others
-      → (others ≡ texts) ⊎ ((begun rest : List ℕ) × (text ≡ begun ++ rest) × (others ≡ texts ++ begun ∷ []))
-
--- a law: each front of an entry is one of these
-abbrev pub FrontsOfEntries : Type 0
-FrontsOfEntries = (file text front rest : List ℕ) (texts : List (List ℕ)) → MboxFile file texts → IsWhole text
-    → entry_of text ≡ front ++ rest
-    → LeavesFront file text front texts

@@ -2,3 +2,4 @@
 
 pub mod flat_file;
 pub mod memory;
+pub mod reading;

@@ -108,7 +108,7 @@ impl<D: MaildirDisk> MaildirDisk for Fused<D> {
     ghost use Rattle.mail_store.specs.Maildir.{IsThere, Lists, ListsAll, Checks, Begins, Adds, Settles, dropped, name_begun};
     ghost use Rattle.mail_store.specs.Power.{KeepsMail, SettledOutlives, ToldStay};
     ghost use Rattle.mail_store.specs.Fuse.{device_of, passes_left, effect_is_due, refusals, fused_maildir};
-    ghost use Rattle.mail_store.specs.Fuse.{FusedIsSound, Burns, SettlesBehind};
+    ghost use Rattle.mail_store.specs.Fuse.{FusedIsSound, Burns, Fuses, SettlesBehind};
 
     ghost maildir = { λ f. fused_maildir D.maildir f };
 
@@ -125,8 +125,7 @@ impl<D: MaildirDisk> MaildirDisk for Fused<D> {
         ensures lasts { FusedIsSound D.sound self.new → KeepsMail (D.stays (device_of self.old)) (D.outlives (device_of self.old))
             (D.stays (device_of self.new)) (D.outlives (device_of self.new)) }
         ensures count { Tallies (refuses is_refusal result) (refusals self.old) (refusals self.new) }
-        ensures burns { refusals self.old < greatest_count → Burns (λ d. (D.maildir d).failures) self.old result self.new }
-        ensures behind { passes_left self.old ≡ 0 → device_of self.new ≡ device_of self.old }
+        ensures fuse { Fuses (λ d. (D.maildir d).failures) self.old result self.new }
     {
         admit(&self.failures)?;
         self.pass()?;
@@ -142,8 +141,7 @@ impl<D: MaildirDisk> MaildirDisk for Fused<D> {
             (D.stays (device_of self.new)) (D.outlives (device_of self.new))
             × ToldStay result (D.stays (device_of self.new)) }
         ensures count { Tallies (refuses is_refusal result) (refusals self.old) (refusals self.new) }
-        ensures burns { refusals self.old < greatest_count → Burns (λ d. (D.maildir d).failures) self.old result self.new }
-        ensures behind { passes_left self.old ≡ 0 → device_of self.new ≡ device_of self.old }
+        ensures fuse { Fuses (λ d. (D.maildir d).failures) self.old result self.new }
     {
         admit(&self.failures)?;
         self.pass()?;
@@ -158,8 +156,7 @@ impl<D: MaildirDisk> MaildirDisk for Fused<D> {
         ensures lasts { FusedIsSound D.sound self.new → KeepsMail (D.stays (device_of self.old)) (D.outlives (device_of self.old))
             (D.stays (device_of self.new)) (D.outlives (device_of self.new)) }
         ensures count { Tallies (refuses is_refusal result) (refusals self.old) (refusals self.new) }
-        ensures burns { refusals self.old < greatest_count → Burns (λ d. (D.maildir d).failures) self.old result self.new }
-        ensures behind { passes_left self.old ≡ 0 → device_of self.new ≡ device_of self.old }
+        ensures fuse { Fuses (λ d. (D.maildir d).failures) self.old result self.new }
     {
         admit(&self.failures)?;
         self.pass()?;
@@ -171,14 +168,13 @@ impl<D: MaildirDisk> MaildirDisk for Fused<D> {
         requires { FusedIsSound D.sound self.old → (D.maildir (device_of self.old)).begun ≡ None }
         ensures begins { FusedIsSound D.sound self.new → FusedIsSound D.sound self.old
             × Begins (fused_maildir D.maildir self.old) name.now result (fused_maildir D.maildir self.new) }
-        ensures begun { OnOk result (name_begun (D.maildir (device_of self.new)) ≡ Some name.now) }
-        ensures not_begun { OnErr result ((D.maildir (device_of self.new)).begun ≡ (D.maildir (device_of self.old)).begun) }
+        ensures begun { OnOk result (name_begun (D.maildir (device_of self.new)) ≡ Some name.now)
+            × OnErr result ((D.maildir (device_of self.new)).begun ≡ (D.maildir (device_of self.old)).begun) }
         ensures fault { IfErr result IsDeviceFault }
         ensures lasts { FusedIsSound D.sound self.new → KeepsMail (D.stays (device_of self.old)) (D.outlives (device_of self.old))
             (D.stays (device_of self.new)) (D.outlives (device_of self.new)) }
         ensures count { Tallies (refuses is_refusal result) (refusals self.old) (refusals self.new) }
-        ensures burns { refusals self.old < greatest_count → Burns (λ d. (D.maildir d).failures) self.old result self.new }
-        ensures behind { passes_left self.old ≡ 0 → device_of self.new ≡ device_of self.old }
+        ensures fuse { Fuses (λ d. (D.maildir d).failures) self.old result self.new }
     {
         admit(&self.failures)?;
         self.pass()?;
@@ -195,8 +191,7 @@ impl<D: MaildirDisk> MaildirDisk for Fused<D> {
         ensures lasts { FusedIsSound D.sound self.new → KeepsMail (D.stays (device_of self.old)) (D.outlives (device_of self.old))
             (D.stays (device_of self.new)) (D.outlives (device_of self.new)) }
         ensures count { Tallies (refuses is_refusal result) (refusals self.old) (refusals self.new) }
-        ensures burns { refusals self.old < greatest_count → Burns (λ d. (D.maildir d).failures) self.old result self.new }
-        ensures behind { passes_left self.old ≡ 0 → device_of self.new ≡ device_of self.old }
+        ensures fuse { Fuses (λ d. (D.maildir d).failures) self.old result self.new }
     {
         admit(&self.failures)?;
         self.pass()?;
@@ -215,9 +210,9 @@ impl<D: MaildirDisk> MaildirDisk for Fused<D> {
             (D.stays (device_of self.new)) (D.outlives (device_of self.new))
             × SettledOutlives (fused_maildir D.maildir self.old) name.now result (D.outlives (device_of self.new)) }
         ensures count { Tallies (refuses is_refusal result) (refusals self.old) (refusals self.new) }
-        ensures burns { refusals self.old < greatest_count → Burns (λ d. (D.maildir d).failures) self.old result self.new }
-        ensures behind { passes_left self.old ≡ 0 → FusedIsSound D.sound self.new
-            → SettlesBehind (effect_is_due self.old) (D.maildir (device_of self.old)) name.now (D.maildir (device_of self.new)) }
+        ensures fuse { (refusals self.old < greatest_count → Burns (λ d. (D.maildir d).failures) self.old result self.new)
+            × (passes_left self.old ≡ 0 → FusedIsSound D.sound self.new
+            → SettlesBehind (effect_is_due self.old) (D.maildir (device_of self.old)) name.now (D.maildir (device_of self.new))) }
     {
         if let Err(fault) = admit(&self.failures) {
             self.abandon();
@@ -259,7 +254,7 @@ impl<D: FlatFile> FlatFile for Fused<D> {
     ghost use Rattle.mail_store.specs.FlatFile.{Loads, Measures, ReadsAt, Appends, Cuts, Replaces, HasBytes};
     ghost use Rattle.mail_store.specs.Power.{KeepsBytes, KeepsFront, LastsWhole, UnlessRefused};
     ghost use Rattle.mail_store.specs.Fuse.{device_of, passes_left, effect_is_due, refusals, fused_file};
-    ghost use Rattle.mail_store.specs.Fuse.{FusedIsSound, Burns, AppendsBehind, ReplacesBehind};
+    ghost use Rattle.mail_store.specs.Fuse.{FusedIsSound, Burns, Fuses, AppendsBehind, ReplacesBehind};
 
     ghost stored = { λ f. fused_file D.stored f };
 
@@ -278,8 +273,7 @@ impl<D: FlatFile> FlatFile for Fused<D> {
             → UnlessRefused result (D.is_sure (device_of self.new)
             × LastsWhole (fused_file D.stored self.new).content (D.outlives (device_of self.new))) }
         ensures count { Tallies (refuses is_refusal result) (refusals self.old) (refusals self.new) }
-        ensures burns { refusals self.old < greatest_count → Burns (λ d. (D.stored d).failures) self.old result self.new }
-        ensures behind { passes_left self.old ≡ 0 → device_of self.new ≡ device_of self.old }
+        ensures fuse { Fuses (λ d. (D.stored d).failures) self.old result self.new }
     {
         admit(&self.failures)?;
         self.pass()?;
@@ -294,8 +288,7 @@ impl<D: FlatFile> FlatFile for Fused<D> {
         ensures keeps { FusedIsSound D.sound self.new → KeepsBytes (D.outlives (device_of self.old)) (D.outlives (device_of self.new)) }
         ensures sure { FusedIsSound D.sound self.new → D.is_sure (device_of self.old) → D.is_sure (device_of self.new) }
         ensures count { Tallies (refuses is_refusal result) (refusals self.old) (refusals self.new) }
-        ensures burns { refusals self.old < greatest_count → Burns (λ d. (D.stored d).failures) self.old result self.new }
-        ensures behind { passes_left self.old ≡ 0 → device_of self.new ≡ device_of self.old }
+        ensures fuse { Fuses (λ d. (D.stored d).failures) self.old result self.new }
     {
         admit(&self.failures)?;
         self.pass()?;
@@ -312,8 +305,7 @@ impl<D: FlatFile> FlatFile for Fused<D> {
             → UnlessRefused result (D.is_sure (device_of self.new)
             × LastsWhole (fused_file D.stored self.new).content (D.outlives (device_of self.new))) }
         ensures count { Tallies (refuses is_refusal result) (refusals self.old) (refusals self.new) }
-        ensures burns { refusals self.old < greatest_count → Burns (λ d. (D.stored d).failures) self.old result self.new }
-        ensures behind { passes_left self.old ≡ 0 → device_of self.new ≡ device_of self.old }
+        ensures fuse { Fuses (λ d. (D.stored d).failures) self.old result self.new }
     {
         admit(&self.failures)?;
         self.pass()?;
@@ -322,17 +314,15 @@ impl<D: FlatFile> FlatFile for Fused<D> {
     }
 
     fn read_at(&mut self, start: u64, buf: &mut [u8]) -> Result<usize, StoreFault>
-        ensures within { IfOk result (λ count. count ≤ length buf.new) }
-        ensures reads { FusedIsSound D.sound self.new → FusedIsSound D.sound self.old
-            × ReadsAt (fused_file D.stored self.old) start result buf.new (fused_file D.stored self.new) }
+        ensures reads { IfOk result (λ count. count ≤ length buf.new) × (FusedIsSound D.sound self.new → FusedIsSound D.sound self.old
+            × ReadsAt (fused_file D.stored self.old) start result buf.new (fused_file D.stored self.new)) }
         ensures fault { IfErr result IsDeviceFault }
         ensures keeps { FusedIsSound D.sound self.new → KeepsBytes (D.outlives (device_of self.old)) (D.outlives (device_of self.new)) }
         ensures lasts { FusedIsSound D.sound self.new → D.is_sure (device_of self.old)
             → UnlessRefused result (D.is_sure (device_of self.new)
             × LastsWhole (fused_file D.stored self.new).content (D.outlives (device_of self.new))) }
         ensures count { Tallies (refuses is_refusal result) (refusals self.old) (refusals self.new) }
-        ensures burns { refusals self.old < greatest_count → Burns (λ d. (D.stored d).failures) self.old result self.new }
-        ensures behind { passes_left self.old ≡ 0 → device_of self.new ≡ device_of self.old }
+        ensures fuse { Fuses (λ d. (D.stored d).failures) self.old result self.new }
     {
         admit(&self.failures)?;
         self.pass()?;
@@ -351,9 +341,9 @@ impl<D: FlatFile> FlatFile for Fused<D> {
             → OnOk result (D.is_sure (device_of self.new)
             × LastsWhole (fused_file D.stored self.new).content (D.outlives (device_of self.new))) }
         ensures count { Tallies (refuses is_refusal result) (refusals self.old) (refusals self.new) }
-        ensures burns { refusals self.old < greatest_count → Burns (λ d. (D.stored d).failures) self.old result self.new }
-        ensures behind { passes_left self.old ≡ 0 → FusedIsSound D.sound self.new
-            → AppendsBehind (effect_is_due self.old) (D.stored (device_of self.old)) bytes.now (D.stored (device_of self.new)) }
+        ensures fuse { (refusals self.old < greatest_count → Burns (λ d. (D.stored d).failures) self.old result self.new)
+            × (passes_left self.old ≡ 0 → FusedIsSound D.sound self.new
+            → AppendsBehind (effect_is_due self.old) (D.stored (device_of self.old)) bytes.now (D.stored (device_of self.new))) }
     {
         admit(&self.failures)?;
         if self.passes_left == 0 && self.takes_effect {
@@ -376,8 +366,7 @@ impl<D: FlatFile> FlatFile for Fused<D> {
             → OnOk result (D.is_sure (device_of self.new)
             × LastsWhole (fused_file D.stored self.new).content (D.outlives (device_of self.new))) }
         ensures count { Tallies (refuses is_refusal result) (refusals self.old) (refusals self.new) }
-        ensures burns { refusals self.old < greatest_count → Burns (λ d. (D.stored d).failures) self.old result self.new }
-        ensures behind { passes_left self.old ≡ 0 → device_of self.new ≡ device_of self.old }
+        ensures fuse { Fuses (λ d. (D.stored d).failures) self.old result self.new }
     {
         admit(&self.failures)?;
         self.pass()?;
@@ -392,9 +381,9 @@ impl<D: FlatFile> FlatFile for Fused<D> {
         ensures lasts { FusedIsSound D.sound self.new → OnOk result (D.is_sure (device_of self.new)
             × LastsWhole (fused_file D.stored self.new).content (D.outlives (device_of self.new))) }
         ensures count { Tallies (refuses is_refusal result) (refusals self.old) (refusals self.new) }
-        ensures burns { refusals self.old < greatest_count → Burns (λ d. (D.stored d).failures) self.old result self.new }
-        ensures behind { passes_left self.old ≡ 0 → FusedIsSound D.sound self.new
-            → ReplacesBehind (effect_is_due self.old) (D.stored (device_of self.old)) bytes.now (D.stored (device_of self.new)) }
+        ensures fuse { (refusals self.old < greatest_count → Burns (λ d. (D.stored d).failures) self.old result self.new)
+            × (passes_left self.old ≡ 0 → FusedIsSound D.sound self.new
+            → ReplacesBehind (effect_is_due self.old) (D.stored (device_of self.old)) bytes.now (D.stored (device_of self.new))) }
     {
         admit(&self.failures)?;
         if self.passes_left == 0 && self.takes_effect {

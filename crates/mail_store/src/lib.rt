@@ -13,6 +13,7 @@ pub use account::{AccountId, account_id, account_texts_are_digits};
 pub use fault::StoreFault;
 pub use file::flat_file::{Edges, FlatFile};
 pub use file::memory::MemoryFile;
+pub use file::reading::{edges_of, read_piece};
 pub use fused::Fused;
 pub use maildir::delivery::deliver;
 pub use maildir::disk::{Folder, MaildirDisk};
@@ -24,7 +25,7 @@ pub use maildir::names::{
 };
 pub use mboxrd::entry::{
     append_entry, check_mbox, entries_add_texts, entries_may_follow_texts, entry_len,
-    files_have_one_reading, fronts_of_entries_are_cut_off,
+    files_have_one_reading,
 };
 pub use mboxrd::quoting::{is_whole, quote, unquote, unquoting_undoes_quoting};
 pub use mboxrd::reading::read_mbox;

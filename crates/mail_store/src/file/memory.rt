@@ -1,11 +1,11 @@
 //! A file in memory.
 
-ghost use Rattle.std.specs.Prelude.{◌≡◌, ◌≤◌, ◌<◌, ◌+◌, [], length, drop, take, slice_index, option_map};
+ghost use Rattle.std.specs.Prelude.{◌≡◌, ◌<◌, ◌+◌, [], option_map};
 ghost use Rattle.mail_terms.specs.FailureCount.{greatest_count};
-ghost use Rattle.mail_store.specs.FlatFile.{edges_of};
 
 use crate::fault::StoreFault;
 use crate::file::flat_file::{Edges, FlatFile};
+use crate::file::reading::{edges_of, read_piece};
 use crate::refusal::{admit, refuse};
 use mail_terms::FailureCount;
 use std::alloc::Global;
@@ -62,62 +62,6 @@ impl MemoryFile {
             None => None,
         }
     }
-}
-
-/// The byte at a place, or zero past the end.
-fn byte_at(bytes: &[u8], place: usize) -> u8
-    ensures { result ≡ slice_index bytes.now place }
-{
-    bytes.get(place).copied().unwrap_or(0)
-}
-
-/// The last two bytes, with zeros before them if there are fewer.
-fn tail_of(bytes: &[u8]) -> [u8; 2]
-    ensures { result ≡ (edges_of bytes.now).tail }
-{
-    match bytes.len() {
-        0 => [0, 0],
-        1 => [0, bytes[0]],
-        size => [bytes[size - 2], bytes[size - 1]],
-    }
-}
-
-/// The size of some bytes and their ends.
-fn edges_of(bytes: &[u8]) -> Edges
-    ensures { result ≡ edges_of bytes.now }
-{
-    Edges {
-        size: bytes.len() as u64,
-        head: [
-            byte_at(bytes, 0),
-            byte_at(bytes, 1),
-            byte_at(bytes, 2),
-            byte_at(bytes, 3),
-            byte_at(bytes, 4),
-        ],
-        tail: tail_of(bytes),
-    }
-}
-
-/// The bytes from a place on: none if it is at or past the end.
-pub fn bytes_from(bytes: &[u8], start: u64) -> &[u8]
-    ensures { result.now ≡ drop start bytes.now }
-{
-    if start >= bytes.len() as u64 {
-        return &[];
-    }
-    &bytes[start as usize..]
-}
-
-/// Copies bytes to the front of a buffer, as many as fit, and returns how many.
-fn put_in_front(bytes: &[u8], buf: &mut [u8]) -> usize
-    ensures within { result ≤ length buf.new }
-    ensures count { result ≡ length (take (length buf.new) bytes.now) }
-    ensures put { take result buf.new ≡ take (length buf.new) bytes.now }
-{
-    let count = bytes.len().min(buf.len());
-    buf[..count].copy_from_slice(&bytes[..count]);
-    count
 }
 
 impl FlatFile for MemoryFile {
@@ -187,7 +131,7 @@ impl FlatFile for MemoryFile {
     {
         admit(&self.failures)?;
         match &self.content {
-            Some(bytes) => Ok(put_in_front(bytes_from(bytes.as_slice(), start), buf)),
+            Some(bytes) => Ok(read_piece(bytes.as_slice(), start, buf)),
             None => Err(StoreFault::Missing),
         }
     }

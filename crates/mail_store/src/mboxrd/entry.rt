@@ -5,7 +5,7 @@ ghost use Rattle.mail_terms.specs.FailureCount.{Tallies, refuses};
 ghost use Rattle.mail_store.specs.Fault.{is_refusal};
 ghost use Rattle.mail_store.specs.FlatFile.{edges_of};
 ghost use Rattle.mail_terms.specs.Text.{IsWhole};
-ghost use Rattle.mail_store.specs.Mboxrd.{MayGoOn, entry_of, EntryAddsText, FrontsOfEntries, OneReading, TextsMayGoOn};
+ghost use Rattle.mail_store.specs.Mboxrd.{MayGoOn, entry_of, EntryAddsText, OneReading, TextsMayGoOn};
 ghost use Rattle.mail_store.specs.Power.{KeepsBytes, KeepsWhole, LastsWhole};
 ghost use Rattle.mail_store.specs.MboxCalls.{Looks, Checks, AppendsEntry, TalliesEntry};
 
@@ -120,12 +120,4 @@ pub fn files_have_one_reading()
 /// An entry may follow each file that stands for texts.
 pub fn entries_may_follow_texts()
     ensures { TextsMayGoOn }
-{}
-
-/// If a front of a text's entry follows a file that stands for texts, cutting the file to its old
-/// size restores it, and the front's length shows whether all of the entry is there. If the file
-/// stands for texts with only a part of the entry, they are the old ones, and perhaps a front of
-/// the text.
-pub fn fronts_of_entries_are_cut_off()
-    ensures { FrontsOfEntries }
 {}

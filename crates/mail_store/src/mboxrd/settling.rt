@@ -8,7 +8,7 @@ ghost use Rattle.mail_store.specs.Settling.{agree, is_hole, is_one_entry, Fronts
 
 use crate::fault::StoreFault;
 use crate::file::flat_file::{Edges, FlatFile};
-use crate::file::memory::bytes_from;
+use crate::file::reading::bytes_from;
 use crate::mboxrd::entry::SEPARATOR;
 use memchr::memmem;
 

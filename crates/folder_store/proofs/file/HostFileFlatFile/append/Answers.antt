@@ -1,18 +1,16 @@
-use Rattle.std.proofs.Common.{refl, Ok, Err}
+use Rattle.std.proofs.Common.{◌+◌, refl, Ok, Err}
 use Rattle.folder_store.proofs.Files.{appends}
 use Rattle.folder_store.proofs.Lasting.{append_lasts, appends_keep}
-use Rattle.folder_store.proofs.PowerLoss.{appends_for_good}
 use Rattle.folder_store.proofs.file.HostFileFlatFile.append.Goals as goal
 
 pub returns-in-Err-clause-appends : goal.returns-in-Err-clause-appends
-returns-in-Err-clause-appends g c = λ s.
+returns-in-Err-clause-appends g c = rw c.doubt.ensures.doubted (λ s.
     let told = c.in-Err.ensures s.0 in
     let now = c.args.self.now in
     let d = g.F.FileFolder.directory in (
       (told.0, c.in_ok-admit.ensures.admitted),
-      appends (d now.folder) (d c.append_in.new.folder) now.name.now c.args.bytes.now now.failures c.refuse.new.failures (Err c.in-Err.field-0) told.1
-          c.refuse.ensures.counted,
-    )
+      appends (d now.folder) (d c.append_in.new.folder) now.name.now c.args.bytes.now now.failures (now.failures + 1) (Err c.in-Err.field-0) told.1 refl,
+    ))
 
 pub returns-in-Ok-clause-appends : goal.returns-in-Ok-clause-appends
 returns-in-Ok-clause-appends g c = λ s.
@@ -23,20 +21,10 @@ returns-in-Ok-clause-appends g c = λ s.
       appends (d now.folder) (d c.append_in.new.folder) now.name.now c.args.bytes.now now.failures now.failures (Ok tt) told.1 refl,
     )
 
-pub returns-in-Ok-clause-power : goal.returns-in-Ok-clause-power
-returns-in-Ok-clause-power g c = λ s.
-    let d = g.F.FileFolder.directory in
-    appends_for_good (d c.args.self.now.folder) (d c.append_in.new.folder) c.args.self.now.name.now c.args.bytes.now (Ok tt) (c.in-Ok.ensures s).1
-
 pub returns-in-Ok-clause-keeps : goal.returns-in-Ok-clause-keeps
 returns-in-Ok-clause-keeps g c = λ s.
     let d = g.F.FileFolder.directory in
     appends_keep (d c.args.self.now.folder) (d c.append_in.new.folder) c.args.self.now.name.now c.args.bytes.now (Ok tt) (c.in-Ok.ensures s.0).1
-
-pub returns-in-Err-clause-power : goal.returns-in-Err-clause-power
-returns-in-Err-clause-power g c = λ s.
-    let d = g.F.FileFolder.directory in
-    appends_for_good (d c.args.self.now.folder) (d c.append_in.new.folder) c.args.self.now.name.now c.args.bytes.now (Err c.refuse.result) (c.in-Err.ensures s).1
 
 pub returns-in-Ok-clause-lasts : goal.returns-in-Ok-clause-lasts
 returns-in-Ok-clause-lasts g c = λ s.
@@ -44,6 +32,6 @@ returns-in-Ok-clause-lasts g c = λ s.
     append_lasts c.args.self.now.is_flushed (d c.args.self.now.folder) (d c.append_in.new.folder) c.args.self.now.name.now c.args.bytes.now (Ok tt) (c.in-Ok.ensures s.0).1
 
 pub returns-in-Err-clause-keeps : goal.returns-in-Err-clause-keeps
-returns-in-Err-clause-keeps g c = λ s.
+returns-in-Err-clause-keeps g c = rw c.doubt.ensures.doubted (λ s.
     let d = g.F.FileFolder.directory in
-    appends_keep (d c.args.self.now.folder) (d c.append_in.new.folder) c.args.self.now.name.now c.args.bytes.now (Err c.in-Err.field-0) (c.in-Err.ensures s.0).1
+    appends_keep (d c.args.self.now.folder) (d c.append_in.new.folder) c.args.self.now.name.now c.args.bytes.now (Err c.in-Err.field-0) (c.in-Err.ensures s.0).1)

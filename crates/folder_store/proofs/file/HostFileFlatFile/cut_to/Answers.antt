@@ -1,23 +1,16 @@
-use Rattle.std.proofs.Common.{Ok, Err}
+use Rattle.std.proofs.Common.{◌+◌, refl, Ok, Err}
 use Rattle.folder_store.proofs.Files.{cuts}
 use Rattle.folder_store.proofs.Lasting.{cut_lasts, cuts_keep}
-use Rattle.folder_store.proofs.PowerLoss.{cuts_for_good}
 use Rattle.folder_store.proofs.file.HostFileFlatFile.cut_to.Goals as goal
 
 pub returns-in-Err-clause-cuts : goal.returns-in-Err-clause-cuts
-returns-in-Err-clause-cuts g c = λ s.
+returns-in-Err-clause-cuts g c = rw c.doubt.ensures.doubted (λ s.
     let told = c.in-Err.ensures s.0 in
     let now = c.args.self.now in
     let d = g.F.FileFolder.directory in (
       (told.0, c.in_ok-admit.ensures.admitted),
-      cuts (d now.folder) (d c.cut_flushed.new.folder) now.name.now c.args.len now.failures c.refuse.new.failures (Err c.in-Err.field-0) told.1
-          c.refuse.ensures.counted,
-    )
-
-pub returns-in-Err-clause-power : goal.returns-in-Err-clause-power
-returns-in-Err-clause-power g c = λ s.
-    let d = g.F.FileFolder.directory in
-    cuts_for_good (d c.args.self.now.folder) (d c.cut_flushed.new.folder) c.args.self.now.name.now c.args.len (Err c.refuse.result) (c.in-Err.ensures s).1
+      cuts (d now.folder) (d c.cut_flushed.new.folder) now.name.now c.args.len now.failures (now.failures + 1) (Err c.in-Err.field-0) told.1 refl,
+    ))
 
 pub returns-in-Ok-clause-lasts : goal.returns-in-Ok-clause-lasts
 returns-in-Ok-clause-lasts g c = λ s.
@@ -30,6 +23,6 @@ returns-in-Ok-clause-keeps g c = λ s.
     cuts_keep (d c.args.self.now.folder) (d c.cut_flushed.new.folder) c.args.self.now.name.now c.args.len (Ok tt) (c.in-Ok.ensures s.0).1
 
 pub returns-in-Err-clause-keeps : goal.returns-in-Err-clause-keeps
-returns-in-Err-clause-keeps g c = λ s.
+returns-in-Err-clause-keeps g c = rw c.doubt.ensures.doubted (λ s.
     let d = g.F.FileFolder.directory in
-    cuts_keep (d c.args.self.now.folder) (d c.cut_flushed.new.folder) c.args.self.now.name.now c.args.len (Err c.in-Err.field-0) (c.in-Err.ensures s.0).1
+    cuts_keep (d c.args.self.now.folder) (d c.cut_flushed.new.folder) c.args.self.now.name.now c.args.len (Err c.in-Err.field-0) (c.in-Err.ensures s.0).1)

@@ -1,18 +1,17 @@
-use Rattle.std.proofs.Common.{true, Ok, Err}
+use Rattle.std.proofs.Common.{◌+◌, refl, true, Ok, Err}
 use Rattle.folder_store.proofs.Files.{replaces}
 use Rattle.folder_store.proofs.Lasting.{told_lasts}
 use Rattle.folder_store.proofs.PowerLoss.{replaces_for_good}
 use Rattle.folder_store.proofs.file.HostFileFlatFile.replace.Goals as goal
 
 pub returns-in-Err-clause-replaces : goal.returns-in-Err-clause-replaces
-returns-in-Err-clause-replaces g c = λ s.
+returns-in-Err-clause-replaces g c = rw c.doubt.ensures.doubted (λ s.
     let told = c.in-Err.ensures.replaces s.0 in
     let now = c.args.self.now in
     let d = g.F.FileFolder.directory in (
       (told.0, c.in_ok-admit.ensures.admitted),
-      replaces (d now.folder) (d c.replace_flushed.new.folder) now.name.now c.args.bytes.now now.failures c.refuse.new.failures (Err c.in-Err.field-0) told.1
-          c.refuse.ensures.counted,
-    )
+      replaces (d now.folder) (d c.replace_flushed.new.folder) now.name.now c.args.bytes.now now.failures (now.failures + 1) (Err c.in-Err.field-0) told.1 refl,
+    ))
 
 pub returns-in-Ok-clause-lasts : goal.returns-in-Ok-clause-lasts
 returns-in-Ok-clause-lasts g c = λ s.

@@ -18,8 +18,3 @@ pub returns-then-is_some-clause-lasts : goal.returns-then-is_some-clause-lasts
 returns-then-is_some-clause-lasts g c = λ s.
     let b = g.F.MailFolders.directories in
     (gives_up (b c.args.self.now.folders) (b c.discard.new.self) (c.discard.ensures s.0).1).keeps
-
-pub returns-then-is_some-clause-leaves : goal.returns-then-is_some-clause-leaves
-returns-then-is_some-clause-leaves g c = λ s.
-    let b = g.F.MailFolders.directories in
-    (gives_up (b c.args.self.now.folders) (b c.discard.new.self) (c.discard.ensures s).1).leaves

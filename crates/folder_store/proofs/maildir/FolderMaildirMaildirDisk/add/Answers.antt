@@ -27,13 +27,3 @@ pub returns-in-Err-clause-lasts : goal.returns-in-Err-clause-lasts
 returns-in-Err-clause-lasts g c = λ s.
     let b = g.F.MailFolders.directories in
     (changes_bring (b c.args.self.now.folders) (b c.write.new.self) (c.in-Err.ensures s.0).1).keeps
-
-pub returns-in-Ok-clause-leaves : goal.returns-in-Ok-clause-leaves
-returns-in-Ok-clause-leaves g c = λ s.
-    let b = g.F.MailFolders.directories in
-    (added_brings (b c.args.self.now.folders) (b c.write.new.self) c.args.bytes.now (c.in-Ok.ensures s).1).leaves
-
-pub returns-in-Err-clause-leaves : goal.returns-in-Err-clause-leaves
-returns-in-Err-clause-leaves g c = λ s.
-    let b = g.F.MailFolders.directories in
-    (changes_bring (b c.args.self.now.folders) (b c.write.new.self) (c.in-Err.ensures s).1).leaves

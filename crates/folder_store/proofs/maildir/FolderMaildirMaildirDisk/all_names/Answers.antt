@@ -28,8 +28,3 @@ returns-clause-lasts g c = λ s.
       subst (λ (r : Result (Vec (String Global) Global) StoreFault). ToldStay r (StaysIn (d c.told_names.new.folders).entries)) (sym c.tally.ensures.same)
           (all_stay (d c.args.self.now.folders) (d c.told_names.new.folders) c.told_names.result t.1),
     )
-
-pub returns-clause-leaves : goal.returns-clause-leaves
-returns-clause-leaves g c = λ s.
-    let d = g.F.MailFolders.directories in
-    (both_leads (d c.args.self.now.folders) (d c.told_names.new.folders) c.told_names.result (c.told_names.ensures.tells s).1).leaves

@@ -48,20 +48,3 @@ returns-clause-lasts g c = λ s.
     let b = g.F.MailFolders.directories in
     (changes_bring (b c.args.self.now.folders) (b c.make.new.self)
     (makes_change (b c.args.self.now.folders) (b c.make.new.self) c.in-Err.field-0 (c.in-Err.ensures.makes s.0).1)).keeps
-
-pub returns-in-Ok-make-clause-leaves : goal.returns-in-Ok-make-clause-leaves
-returns-in-Ok-make-clause-leaves g c = λ s.
-    let b = g.F.MailFolders.directories in
-    (made_anew (b c.args.self.now.folders) (b c.make.new.self) (c.in-Ok-make.ensures.makes s).1).leaves
-
-pub returns-in-Err-Missing-clause-leaves : goal.returns-in-Err-Missing-clause-leaves
-returns-in-Err-Missing-clause-leaves g c = λ s.
-    let b = g.F.MailFolders.directories in
-    (changes_bring (b c.args.self.now.folders) (b c.make.new.self)
-    (makes_change (b c.args.self.now.folders) (b c.make.new.self) c.in-Err-Missing.field-0 (c.in-Err-Missing.ensures.makes s).1)).leaves
-
-pub returns-clause-leaves : goal.returns-clause-leaves
-returns-clause-leaves g c = λ s.
-    let b = g.F.MailFolders.directories in
-    (changes_bring (b c.args.self.now.folders) (b c.make.new.self)
-    (makes_change (b c.args.self.now.folders) (b c.make.new.self) c.in-Err.field-0 (c.in-Err.ensures.makes s).1)).leaves

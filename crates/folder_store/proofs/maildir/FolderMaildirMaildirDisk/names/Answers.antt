@@ -2,10 +2,8 @@ use Rattle.std.proofs.Common.{Result, Vec, String, Global, sym, subst, string_by
 use Rattle.std.specs.Prelude.{option_map}
 use Rattle.mail_store.specs.declared.fault.StoreFault.{StoreFault}
 use Rattle.mail_store.specs.Maildir.{Lists}
-use Rattle.mail_store.specs.Power.{ToldStay}
 use Rattle.folder_store.specs.MailFolders.{maildir_in}
-use Rattle.folder_store.specs.MailPower.{StaysIn}
-use Rattle.folder_store.proofs.MailTelling.{one_leads, those_stay, told_those}
+use Rattle.folder_store.proofs.MailTelling.{one_leads, told_those}
 use Rattle.folder_store.proofs.maildir.FolderMaildirMaildirDisk.names.Goals as goal
 
 pub returns-clause-lists : goal.returns-clause-lists
@@ -24,14 +22,3 @@ pub returns-clause-lasts : goal.returns-clause-lasts
 returns-clause-lasts g c = λ s.
     let d = g.F.MailFolders.directories in
     (one_leads (d c.args.self.now.folders) (d c.told_names_of.new.folders) c.args.folder c.told_names_of.result (c.told_names_of.ensures.tells s.0).1).keeps
-
-pub returns-clause-told : goal.returns-clause-told
-returns-clause-told g c = λ s.
-    let d = g.F.MailFolders.directories in
-    subst (λ (r : Result (Vec (String Global) Global) StoreFault). ToldStay r (StaysIn (d c.told_names_of.new.folders).entries)) (sym c.tally.ensures.same)
-    (those_stay (d c.args.self.now.folders) (d c.told_names_of.new.folders) c.args.folder c.told_names_of.result (c.told_names_of.ensures.tells s.0).1)
-
-pub returns-clause-leaves : goal.returns-clause-leaves
-returns-clause-leaves g c = λ s.
-    let d = g.F.MailFolders.directories in
-    (one_leads (d c.args.self.now.folders) (d c.told_names_of.new.folders) c.args.folder c.told_names_of.result (c.told_names_of.ensures.tells s).1).leaves

@@ -2,7 +2,7 @@ use Rattle.std.proofs.Common.{◌≡◌, ◌∙◌, inl, ℕ, ap, subst, sym, st
 use Rattle.std.specs.Prelude.{option_map, ◌⊎◌}
 use Rattle.mail_store.specs.Maildir.{with_file, counted, dropped, mail}
 use Rattle.folder_store.specs.MailFolders.{maildir_in}
-use Rattle.folder_store.proofs.MailWriting.{brought_leaves, gives_up, maildir_dropped, not_settled, not_settled_brings, not_settled_keeps, settled, settled_brings, settled_outlives}
+use Rattle.folder_store.proofs.MailWriting.{gives_up, maildir_dropped, not_settled, not_settled_keeps, settled, settled_outlives}
 use Rattle.folder_store.proofs.maildir.FolderMaildirMaildirDisk.settle.Goals as goal
 
 pub returns-in-Ok-clause-settles : goal.returns-in-Ok-clause-settles
@@ -54,24 +54,6 @@ returns-clause-lasts g c = λ s.
       tt,
     )
 
-pub returns-in-Ok-clause-leaves : goal.returns-in-Ok-clause-leaves
-returns-in-Ok-clause-leaves g c = λ s f h.
-    let b = g.F.MailFolders.directories in
-    let now = c.args.self.now in
-    let t = c.in-Ok.ensures s.0 in
-    (settled_brings (b now.folders) (b c.put_for_good.new.folders) (option_map string_bytes now.begun) c.args.name.now now.failures t.1 (c.requires.not_there (t.0, s.1)) f h).leaves
-
-pub returns-clause-leaves : goal.returns-clause-leaves
-returns-clause-leaves g c = λ s f h.
-    let b = g.F.MailFolders.directories in
-    let now = c.args.self.now in
-    let gone = c.discard-in-Err-put_for_good.ensures s.0 in
-    let t = c.in-Err-put_for_good.ensures gone.0 in
-    let after = b c.discard-in-Err-put_for_good.new.self in
-    brought_leaves (b now.folders) after (mail c.args.name.now f.content)
-    (not_settled_brings (b now.folders) (b c.put_for_good.new.folders) after (option_map string_bytes now.begun) c.args.name.now now.failures
-    c.in-Err-put_for_good.field-0 t.1 gone.1 (c.requires.not_there (t.0, c.in_default.ensures.admitted)) f h)
-
 pub returns-then-is_none-clause-settles : goal.returns-then-is_none-clause-settles
 returns-then-is_none-clause-settles g c = λ s.
     let b = g.F.MailFolders.directories in
@@ -90,9 +72,3 @@ pub returns-then-is_none-clause-lasts : goal.returns-then-is_none-clause-lasts
 returns-then-is_none-clause-lasts g c = λ s.
     let b = g.F.MailFolders.directories in
     ((gives_up (b c.args.self.now.folders) (b c.discard.new.self) (c.discard.ensures s.0).1).keeps, tt)
-
-pub returns-then-is_none-clause-leaves : goal.returns-then-is_none-clause-leaves
-returns-then-is_none-clause-leaves g c = λ s f h.
-    let b = g.F.MailFolders.directories in
-    brought_leaves (b c.args.self.now.folders) (b c.discard.new.self) (mail c.args.name.now f.content)
-    (inl (gives_up (b c.args.self.now.folders) (b c.discard.new.self) (c.discard.ensures s.0).1))

@@ -1,9 +1,9 @@
-//! Reading the bytes of a file that is in memory.
+//! Reading the bytes of a file that is in memory: what devices in memory are made of.
 
 ghost use Rattle.std.specs.Prelude.{◌≡◌, ◌≤◌, length, drop, take, slice_index};
-ghost use Rattle.mail_store.specs.FlatFile.{edges_of};
+ghost use Rattle.mail_store.specs.FlatFile.{edges_of, piece_at};
 
-use mail_store::Edges;
+use crate::file::flat_file::Edges;
 
 /// The byte at a place, or zero past the end.
 fn byte_at(bytes: &[u8], place: usize) -> u8
@@ -50,13 +50,15 @@ pub fn bytes_from(bytes: &[u8], start: u64) -> &[u8]
     &bytes[start as usize..]
 }
 
-/// Puts bytes at the front of a buffer, as many as fit, and returns how many.
-pub fn put_in_front(bytes: &[u8], buf: &mut [u8]) -> usize
+/// Puts the bytes from a place on at the front of a buffer, as many as there are and fit, and returns how
+/// many.
+pub fn read_piece(bytes: &[u8], start: u64, buf: &mut [u8]) -> usize
     ensures within { result ≤ length buf.new }
-    ensures count { result ≡ length (take (length buf.new) bytes.now) }
-    ensures put { take result buf.new ≡ take (length buf.new) bytes.now }
+    ensures count { result ≡ length (piece_at start (length buf.new) bytes.now) }
+    ensures put { take result buf.new ≡ piece_at start (length buf.new) bytes.now }
 {
-    let count = bytes.len().min(buf.len());
-    buf[..count].copy_from_slice(&bytes[..count]);
+    let piece = bytes_from(bytes, start);
+    let count = piece.len().min(buf.len());
+    buf[..count].copy_from_slice(&piece[..count]);
     count
 }
