@@ -23,7 +23,7 @@ Options:
       --listen <ADDRESS>  Serve TCP connections to ADDRESS, HOST:PORT, one after the other [standard input and output]
       --connections <N>   End after N connections [4294967295]
       --rehearse...       Serve two small messages to user u with password p on standard input and output
-      --verbose...        Report logins, refused logins and removals on standard error
+      --verbose...        Report where it listens, logins, refused logins and removals on standard error
       --trace...          Show conversations and refused calls of the system on standard error
   -h, --help              Print help
   -V, --version           Print version

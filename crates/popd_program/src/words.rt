@@ -58,7 +58,7 @@ const REHEARSE: &str =
     "Serve two small messages to user u with password p on standard input and output";
 
 const VERBOSE: &str =
-    "Report logins, refused logins and removals on standard error";
+    "Report where it listens, logins, refused logins and removals on standard error";
 
 const TRACE: &str = "Show conversations and refused calls of the system on standard error";
 
