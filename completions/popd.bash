@@ -5,7 +5,7 @@ _popd() {
         --connections | --listen) COMPREPLY=(); return ;;
     esac
     case $word in
-        -*) mapfile -t COMPREPLY < <(compgen -W '--connections -h --help --listen --rehearse --trace --verbose' -- "$word") ;;
+        -*) mapfile -t COMPREPLY < <(compgen -W '--connections -h --help --listen --rehearse --trace --verbose -V --version' -- "$word") ;;
         *) mapfile -t COMPREPLY < <(compgen -f -- "$word") ;;
     esac
 }

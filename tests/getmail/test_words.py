@@ -1,5 +1,6 @@
 """The words of the command line, the rc file, and what is reported before there is a session."""
 
+import re
 import socket
 import unittest
 
@@ -85,13 +86,14 @@ Options:
   -g, --getmaildir <DIR>  Keep the rc file and the record in DIR [~/.getmail]
   -v, --verbose...        Report more, each time by one, up to 2
   -q, --quiet...          Write no report
-      --trace...          Show the conversation and refused calls of the system on standard error
+      --trace             Show the conversation and refused calls of the system on standard error
   -a, --all...            Fetch all messages, also those that were delivered before
   -n, --new...            Fetch only messages that were not delivered before
   -d, --delete...         Delete from the server what was delivered, held or not
   -l, --dont-delete...    Take delete as false; delete_after still deletes
-      --pretend...        Say what would be fetched and deleted, and do nothing
+      --pretend           Say what would be fetched and deleted, and do nothing
   -h, --help              Print help
+  -V, --version           Print version
 """
 
 
@@ -100,7 +102,7 @@ class Words(unittest.TestCase):
         lines = (["--rehears"], ["--rehearse", "x"], ["x", "--rehearse"], [""], ["-"], ["--rehearse="], ["--Rehearse"],
                  [" --rehearse"], ["--rehearse", ""], ["rehearse"], ["--rehearse\n"], ["x" * 100_000], [b"\xff"],
                  ["--rehearse", b"\xff"], ["-r"], ["-g"], ["-r", "a", "-r", "b"], ["-g", "a", "--getmaildir", "b"],
-                 ["--version"], ["-x"])
+                 ["--pretend", "--pretend"], ["--trace", "--trace"], ["-x"])
         for words in lines:
             with self.subTest(words):
                 run = programs.run("getmail", *words, given=b"+OK hi\r\n")
@@ -114,9 +116,16 @@ class Words(unittest.TestCase):
             self.assertTrue(run.out.startswith(b"Fetches mail from a POP3 server into a Maildir or an mboxrd file;"), run.out)
             self.assertIn(HELP, run.out)
 
+    def test_the_version_is_the_one_that_the_list_of_changes_begins_with(self):
+        version = re.search(r"^## (\S+),", (programs.ROOT / "CHANGELOG.md").read_text(), re.MULTILINE)[1]
+        for word in ("--version", "-V"):
+            self.assertEqual(programs.run("getmail", word), programs.Run(0, f"getmail {version}\n".encode(), b""))
+
     def test_help_that_cannot_be_shown_is_a_failure(self):
-        with open("/dev/full", "wb") as full:
-            self.assertEqual(programs.run("getmail", "--help", out=full).status, 1)
+        for word in ("--help", "--version"):
+            with open("/dev/full", "wb") as full:
+                run = programs.run("getmail", word, out=full)
+            self.assertEqual((run.status, run.err), (1, b"getmail: cannot write standard output\n"))
 
     def test_opposite_flags(self):
         wanted = programs.Run(2, b"", b"getmail: opposite flags\n")

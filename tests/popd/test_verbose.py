@@ -1,4 +1,4 @@
-"""`--verbose`: a line on standard error for each login, each refused one and each QUIT that removed messages."""
+"""`--verbose`: a line on standard error for where the server listens, each login, each refused one and each QUIT that removed messages."""
 
 import os
 import select
@@ -30,7 +30,8 @@ class Verbose(unittest.TestCase):
     def check_told(self, service, *told):
         """The server has ended and printed these lines, and no others."""
         status, err = service.finish()
-        self.assertEqual((status, err.decode().splitlines()), (0, [f"popd: {line}" for line in told]))
+        wanted = [f"popd: {line}" for line in (f"listening on {LOOPBACK}:{service.port}", *told)]
+        self.assertEqual((status, err.decode().splitlines()), (0, wanted))
 
     def test_a_login_and_removals(self):
         with self.service(3) as service:
@@ -41,12 +42,14 @@ class Verbose(unittest.TestCase):
                             f"{second}: logged in, 1 messages", f"{third}: logged in, 1 messages")
 
     def test_a_login_is_told_while_it_goes_on(self):
-        with self.service() as service, service.client() as client:
-            client.line()
-            client.ask(b"USER u")
-            client.ask(b"PASS secret")
-            self.assertTrue(select.select([service.process.stderr], [], [], programs.NEXT_OUTPUT_SECONDS)[0])
-            self.assertIn(b": logged in, 2 messages\n", service.process.stderr.readline())
+        with self.service() as service:
+            self.assertIn(b"popd: listening on ", service.process.stderr.readline())
+            with service.client() as client:
+                client.line()
+                client.ask(b"USER u")
+                client.ask(b"PASS secret")
+                self.assertTrue(select.select([service.process.stderr], [], [], programs.NEXT_OUTPUT_SECONDS)[0])
+                self.assertIn(b": logged in, 2 messages\n", service.process.stderr.readline())
 
     def test_refused_logins_show_nothing_of_what_was_tried(self):
         tried = ((b"u", b"secret "), (b"U", b"secret"), (b"secret", b"u"), (b"\x1b[2Jname", b"\x07word\x9b"),

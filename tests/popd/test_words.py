@@ -1,6 +1,7 @@
 """The words of the command line, the password file and the link: each fault with its line and its status, in order."""
 
 import os
+import re
 import socket
 import tempfile
 import unittest
@@ -22,9 +23,10 @@ Options:
       --listen <ADDRESS>  Serve TCP connections to ADDRESS, HOST:PORT, one after the other [standard input and output]
       --connections <N>   End after N connections [4294967295]
       --rehearse...       Serve two small messages to user u with password p on standard input and output
-      --verbose...        Report logins, refused logins and removals on standard error
+      --verbose...        Report where it listens, logins, refused logins and removals on standard error
       --trace...          Show conversations and refused calls of the system on standard error
   -h, --help              Print help
+  -V, --version           Print version
 """
 
 
@@ -49,10 +51,15 @@ class Words(unittest.TestCase):
                 self.assertIn(b"\nUsage: popd [OPTIONS] USER PASSFILE MAILDIR\n       popd --rehearse\n", run.out)
                 self.assertIn(HELP, run.out)
 
+    def test_the_version(self):
+        version = re.search(r"^## (\S+),", (programs.ROOT / "CHANGELOG.md").read_text(), re.MULTILINE)[1]
+        self.assertEqual(self.run_popd("--version"), programs.Run(0, f"popd {version}\n".encode(), b""))
+
     def test_help_that_cannot_be_written(self):
-        with open("/dev/full", "wb") as full:
-            run = programs.run("popd", "--help", out=full)
-        self.assertEqual(run, programs.Run(1, b"", b""))
+        for word in ("--help", "--version"):
+            with open("/dev/full", "wb") as full:
+                run = programs.run("popd", word, out=full)
+            self.assertEqual(run, programs.Run(1, b"", b"popd: cannot write standard output\n"))
 
     def test_words_that_are_refused(self):
         for words in (["--listens"], ["-x"], ["--connections", "x"], ["--connections", "-1"],

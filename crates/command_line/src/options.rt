@@ -1,10 +1,20 @@
-//! Options, flags and words, and adding them to a command.
+//! A program's command, options, flags and words, and adding them to a command.
 ghost use Rattle.std.specs.Prelude.{◌≡◌, IfOk, false};
 ghost use Rattle.clap.specs.Words.{app_of, rule_of, with_rule};
-ghost use Rattle.command_line.specs.Rules.{flag_rule, long_flag_rule, long_value_rule, value_rule, word_rule};
+ghost use Rattle.command_line.specs.Rules.{flag_rule, long_flag_rule, long_value_rule, program, switch_rule, value_rule, word_rule};
 
 use clap::{Arg, ArgAction, Command};
 use std::alloc::{AllocError, Global};
+
+/// The version of both programs, which CHANGELOG.md begins with.
+const VERSION: &str = "0.1.0";
+
+/// The command of a program of this name, with what it says of itself and `--version`.
+pub fn program<'a>(alloc: Global, name: &'a str, about: &'a str) -> Command<'a>
+    ensures { app_of result ≡ program name.entry.now }
+{
+    Command::new(alloc, name).about(about).version(VERSION)
+}
 
 /// An option with a value and no short form, given at most once.
 pub fn long_value_option<'a>(alloc: Global, name: &'a str, value: &'a str, help: &'a str) -> Arg<'a>
@@ -49,6 +59,17 @@ pub fn flag<'a>(alloc: Global, name: &'a str, short: char, help: &'a str) -> Arg
     ensures local { result.global ≡ false }
 {
     long_flag(alloc, name, help).short(short)
+}
+
+/// A flag with no short form, given at most once.
+pub fn switch<'a>(alloc: Global, name: &'a str, help: &'a str) -> Arg<'a>
+    ensures rule { rule_of result ≡ switch_rule name.entry.now }
+    ensures local { result.global ≡ false }
+{
+    Arg::new(alloc, name)
+        .long(name)
+        .help(help)
+        .action(ArgAction::SetTrue)
 }
 
 /// A word that is no option.

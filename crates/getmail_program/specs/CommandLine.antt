@@ -1,8 +1,8 @@
 -- The command line: its options and flags, and what words ask for.
 use Rattle.std.specs.Prelude.{◌≡◌, List, codes, option_map}
 use Rattle.std.specs.String.{string_bytes}
-use Rattle.clap.specs.Words.{App, Row, count_of, first_of, new_app, with_rule}
-use Rattle.command_line.specs.Rules.{flag_rule, is_given, long_flag_rule, value_rule}
+use Rattle.clap.specs.Words.{App, Row, count_of, first_of, with_rule}
+use Rattle.command_line.specs.Rules.{flag_rule, is_given, is_on, long_flag_rule, program, switch_rule, value_rule}
 use Rattle.rc_file.specs.declared.flags.Flags.{Flags}
 use Rattle.getmail_program.specs.declared.words.Words.{Words}
 
@@ -13,7 +13,7 @@ with_places app = with_rule (with_rule app (value_rule (codes "rcfile") 114)) (v
 -- -v, -q, --trace
 abbrev pub with_loudness : App → App
 with_loudness app =
-    with_rule (with_rule (with_rule app (flag_rule (codes "verbose") 118)) (flag_rule (codes "quiet") 113)) (long_flag_rule (codes "trace"))
+    with_rule (with_rule (with_rule app (flag_rule (codes "verbose") 118)) (flag_rule (codes "quiet") 113)) (switch_rule (codes "trace"))
 
 -- -a, -n, -d, -l
 abbrev pub with_choices : App → App
@@ -23,8 +23,8 @@ with_choices app =
 
 abbrev pub getmail : App
 getmail =
-    with_rule (with_rule (with_choices (with_loudness (with_places (new_app (codes "getmail")))))
-    (long_flag_rule (codes "pretend"))) (long_flag_rule (codes "rehearse"))
+    with_rule (with_rule (with_choices (with_loudness (with_places (program (codes "getmail")))))
+    (switch_rule (codes "pretend"))) (long_flag_rule (codes "rehearse"))
 
 -- the flags that were given
 abbrev pub flags_in : List Row → Flags
@@ -43,5 +43,5 @@ pub record AsksFor (rows : List Row) (words : Words) : Type 0 where
   pub dir : option_map string_bytes words.dir ≡ first_of (codes "getmaildir") rows
   pub flags : words.flags ≡ flags_in rows
   pub rehearse : words.rehearse ≡ is_given (codes "rehearse") rows
-  pub pretend : words.pretend ≡ is_given (codes "pretend") rows
-  pub trace : words.trace ≡ is_given (codes "trace") rows
+  pub pretend : words.pretend ≡ is_on (codes "pretend") rows
+  pub trace : words.trace ≡ is_on (codes "trace") rows

@@ -1,14 +1,16 @@
 //! The command line, read with clap.
-ghost use Rattle.std.specs.Prelude.{◌≡◌, ◌≢◌, ◌≤◌, IfOk, map};
+ghost use Rattle.std.specs.Prelude.{◌≡◌, ◌≤◌, true, false, IfOk, map};
 ghost use Rattle.std.specs.String.{string_bytes};
 ghost use Rattle.clap.specs.Values.{kind_of};
 ghost use Rattle.clap.specs.Words.{FailsBy, app_of, fault_of, found_of, matches_of, rows_of};
+ghost use Rattle.command_line.specs.Rules.{is_asked_for};
 ghost use Rattle.getmail_program.specs.CommandLine.{AsksFor, flags_in, getmail, with_choices, with_loudness, with_places};
 
 use crate::failure::{Failure, tell};
-use clap::error::ErrorKind;
 use clap::{ArgMatches, Command, Error};
-use command_line::{add, flag, is_given, long_flag, show, text, value_option};
+use command_line::{
+    add, flag, is_given, is_on, long_flag, program, show, switch, text, value_option,
+};
 use fetch_rules::Flags;
 use std::alloc::{AllocError, Global};
 
@@ -73,7 +75,7 @@ fn with_loudness<'a>(alloc: Global, command: Command<'a>) -> Result<Command<'a>,
 {
     let command = add(command, flag(alloc, "verbose", 'v', VERBOSE))?;
     let command = add(command, flag(alloc, "quiet", 'q', QUIET))?;
-    add(command, long_flag(alloc, "trace", TRACE))
+    add(command, switch(alloc, "trace", TRACE))
 }
 
 /// With the flags that say what is fetched and deleted.
@@ -90,11 +92,10 @@ fn with_choices<'a>(alloc: Global, command: Command<'a>) -> Result<Command<'a>, 
 fn command<'a>(alloc: Global) -> Result<Command<'a>, AllocError>
     ensures { IfOk result (λ command. app_of command ≡ getmail) }
 {
-    let command = Command::new(alloc, "getmail").about(ABOUT);
-    let command = with_places(alloc, command)?;
+    let command = with_places(alloc, program(alloc, "getmail", ABOUT))?;
     let command = with_loudness(alloc, command)?;
     let command = with_choices(alloc, command)?;
-    let command = add(command, long_flag(alloc, "pretend", PRETEND))?;
+    let command = add(command, switch(alloc, "pretend", PRETEND))?;
     // For developers: getmail(1) explains it.
     add(command, long_flag(alloc, "rehearse", REHEARSE).hide(true))
 }
@@ -122,13 +123,13 @@ fn words_of(alloc: Global, matches: &ArgMatches<'_>) -> Result<Words, AllocError
         dir: text(alloc, matches, "getmaildir")?,
         flags: flags_of(matches),
         rehearse: is_given(matches, "rehearse"),
-        pretend: is_given(matches, "pretend"),
-        trace: is_given(matches, "trace"),
+        pretend: is_on(matches, "pretend"),
+        trace: is_on(matches, "trace"),
     })
 }
 
-/// What these words ask for, the program's name first. Clap's error has the text of help or of the
-/// mistake, or its kind is OutOfMemory.
+/// What these words ask for, the program's name first. Clap's error has the text of help, of the version
+/// or of the mistake, or its kind is OutOfMemory.
 pub fn read_words(alloc: Global, words: &[String]) -> Result<Words, Error>
     ensures faults { FailsBy (fault_of getmail (map string_bytes words.now)) result }
     ensures asks { IfOk result (AsksFor (matches_of getmail (map string_bytes words.now))) }
@@ -139,14 +140,14 @@ pub fn read_words(alloc: Global, words: &[String]) -> Result<Words, Error>
     }
 }
 
-/// Shows why there are no words, and returns the exit status: 0 for help that was written, 1 for
-/// help that wasn't, 2 for a mistake or if memory ran out.
+/// Shows why there are no words, and returns the exit status: 0 for help or the version that was written,
+/// 1 for one that wasn't, 2 for a mistake or if memory ran out.
 pub fn explain<R: Print + Eprint + AllocGlobal>(rt: &R, error: &Error) -> u8
-    ensures help { kind_of error.now ≡ ErrorKind.DisplayHelp → result ≤ 1 }
-    ensures other { kind_of error.now ≢ ErrorKind.DisplayHelp → result ≡ 2 }
+    ensures text { is_asked_for (kind_of error.now) ≡ true → result ≤ 1 }
+    ensures other { is_asked_for (kind_of error.now) ≡ false → result ≡ 2 }
     ensures within { result ≤ 2 }
 {
-    match show(rt, error) {
+    match show(rt, "getmail", error) {
         Some(status) => status,
         None => tell(rt, Failure::NoMemory),
     }

@@ -3,10 +3,10 @@ use Rattle.std.specs.Prelude.{◌≡◌, ◌<◌, ◌^◌, ◌==◌, ◌&&◌, �
 use Rattle.std.specs.Prelude.{codes, is_some, length, map, option_map, pos, unwrap_or}
 use Rattle.std.specs.String.{string_bytes}
 use Rattle.std.specs.Str.Parse.{IsNumeral, digits_value, without_leading_plus}
-use Rattle.clap.specs.Words.{App, Row, Rule, all_of, first_of, new_app, new_rule, one_of, with_rule}
+use Rattle.clap.specs.Words.{App, Row, Rule, all_of, first_of, new_rule, one_of, with_rule}
 use Rattle.clap.specs.declared.builder.action.ArgAction.TheVariants.{Append}
 use Rattle.clap.specs.declared.builder.value_parser.ValueParser.TheVariants.{Signed}
-use Rattle.command_line.specs.Rules.{is_given, long_flag_rule, long_value_rule, word_rule}
+use Rattle.command_line.specs.Rules.{is_given, long_flag_rule, long_value_rule, program, word_rule}
 use Rattle.popd_program.specs.declared.words.Words.{Words}
 
 -- the greatest number of 32 bits: how many connections are served if no number is given
@@ -41,7 +41,7 @@ with_words app =
     (word_rule (codes "maildir"))
 
 abbrev pub popd : App
-popd = with_rule (with_words (with_flags (with_connections (new_app (codes "popd"))))) more_rule
+popd = with_rule (with_words (with_flags (with_connections (program (codes "popd"))))) more_rule
 
 -- how many connections: the number after the option, or the greatest if there is none
 abbrev pub Numbers : Option (List ℕ) → ℕ → Type 0

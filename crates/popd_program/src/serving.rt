@@ -5,7 +5,7 @@ ghost use Rattle.pop3_server.specs.ServerMachine.{is_open};
 use crate::account::Account;
 use crate::failure::{Failure, failure_of, tell};
 use crate::host::Host;
-use crate::telling::{Peer, Telling};
+use crate::telling::{Peer, Telling, tell_listening};
 use crate::waits::{BoundedStream, LoginJournal};
 use crate::warning::{Warning, warn};
 use crate::words::Words;
@@ -330,6 +330,9 @@ where
     ensures { IfErr result (λ f. (f ≡ Failure.CannotListen address.entry) ⊎ (f ≡ Failure.Fault ServerFault.NoMemory)) }
 {
     let listener = bind(host, address)?;
+    if words.verbose {
+        tell_listening(host.inner(), &listener);
+    }
     serve_clients(host, host, (&listener, address), words, account)?;
     Ok(())
 }

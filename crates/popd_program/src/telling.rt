@@ -1,7 +1,7 @@
 //! The lines of `--verbose` on standard error.
 use pop3_server::{Event, Journal};
 use std::fmt::{self, Display, Formatter, Write};
-use std::net::SocketAddr;
+use std::net::{SocketAddr, TcpListener};
 
 /// The client that is served.
 #[derive(Clone, Copy)]
@@ -51,5 +51,13 @@ impl<'a, R: Eprint> Journal for Telling<'a, R> {
                 "popd: {peer}: {removed} messages removed, {refused} not removed"
             )),
         };
+    }
+}
+
+/// Writes on which address and port clients are waited for, as the system has them: the port was chosen by
+/// it if 0 was asked for.
+pub fn tell_listening<R: Eprint>(rt: &R, listener: &TcpListener) {
+    if let Ok(address) = listener.local_addr() {
+        let _ = rt.eprintln(format_args!("popd: listening on {address}"));
     }
 }

@@ -6,7 +6,7 @@ ghost use Rattle.popd_program.specs.CommandLine.{AsksFor, connections_rule, is_b
 ghost use Rattle.popd_program.specs.CommandLine.{with_connections, with_flags, with_words, words_after};
 
 use clap::{Arg, ArgAction, ArgMatches, Command, Error, value_parser};
-use command_line::{add, is_given, long_flag, long_value_option, text, word};
+use command_line::{add, is_given, long_flag, long_value_option, program, text, word};
 use std::alloc::{AllocError, Global};
 
 /// What the command line asks for.
@@ -57,7 +57,8 @@ const CONNECTIONS: &str = "End after N connections [4294967295]";
 const REHEARSE: &str =
     "Serve two small messages to user u with password p on standard input and output";
 
-const VERBOSE: &str = "Report logins, refused logins and removals on standard error";
+const VERBOSE: &str =
+    "Report where it listens, logins, refused logins and removals on standard error";
 
 const TRACE: &str = "Show conversations and refused calls of the system on standard error";
 
@@ -119,9 +120,7 @@ fn with_words<'a>(alloc: Global, command: Command<'a>) -> Result<Command<'a>, Al
 pub fn command<'a>(alloc: Global) -> Result<Command<'a>, AllocError>
     ensures { IfOk result (λ command. app_of command ≡ popd) }
 {
-    let command = Command::new(alloc, "popd")
-        .about(ABOUT)
-        .override_usage(USAGE);
+    let command = program(alloc, "popd", ABOUT).override_usage(USAGE);
     let command = with_connections(alloc, command)?;
     let command = with_flags(alloc, command)?;
     let command = with_words(alloc, command)?;
@@ -166,8 +165,8 @@ fn words_of(alloc: Global, matches: &ArgMatches<'_>) -> Result<Words, AllocError
     })
 }
 
-/// What these words, the program's name first, ask for. Clap's error has the text of help or of the
-/// mistake, or its kind is OutOfMemory.
+/// What these words, the program's name first, ask for. Clap's error has the text of help, of the version
+/// or of the mistake, or its kind is OutOfMemory.
 pub fn read_words(alloc: Global, words: &[String]) -> Result<Words, Error>
     ensures faults { FailsBy (fault_of popd (map string_bytes words.now)) result }
     ensures asks { IfOk result (AsksFor (matches_of popd (map string_bytes words.now))) }

@@ -1,0 +1,14 @@
+use Rattle.std.proofs.Common.{◌∙◌, List, Option, ℕ, ap, codes, false}
+use Rattle.std.specs.Prelude.{bytes_eq}
+use Rattle.std.specs.Option.{option_map_or}
+use Rattle.clap.specs.Words.{found_of}
+use Rattle.clap.proofs.WalkLemmas.{first_value-rows}
+use Rattle.command_line.proofs.matched.is_on.Goals as goal
+
+pub returns-in-None : goal.returns-in-None
+returns-in-None c = ap (λ (first : Option (List ℕ)). option_map_or (λ text. bytes_eq text (codes "true")) first false)
+    (c.in-None.ensures ∙ first_value-rows (found_of c.args.matches.now) c.args.name.now)
+
+pub returns-in-Some : goal.returns-in-Some
+returns-in-Some c = c.eq.ensures ∙ ap (λ (first : Option (List ℕ)). option_map_or (λ text. bytes_eq text (codes "true")) first false)
+    (c.in-Some.ensures ∙ first_value-rows (found_of c.args.matches.now) c.args.name.now)
