@@ -1,5 +1,5 @@
 -- Which ids stay fresh while others are stored.
-use Rattle.std.proofs.Common.{◌≡◌, ◌≢◌, inl, inr, ◌<◌, ◌+◌, ℕ, zero, suc, Bool, true, false, List, [], ◌∷◌, ◌++◌, drop, get_or, length, None, refl, sym, ap, ◌∙◌, arith, append_assoc}
+use Rattle.std.proofs.Common.{◌≡◌, ◌≢◌, inl, inr, ◌<◌, ◌+◌, ℕ, suc, Bool, true, false, List, [], ◌∷◌, ◌++◌, drop, get_or, length, refl, sym, ap, ◌∙◌, arith, append_assoc}
 use Rattle.std.specs.Prelude.{◌||◌, bytes_eq}
 use Rattle.std.specs.List.{AllByRecursion, list_any}
 use Rattle.std.proofs.lemmas.Bool.{false_from_ne_true}
@@ -8,12 +8,11 @@ use Rattle.std.proofs.Math.Seq.{drop-cons}
 use Rattle.std.proofs.lemmas.Slice.Eq.{bytes_eq-Decides}
 use Rattle.mail_terms.specs.UniqueId.{IsLegalId}
 use Rattle.mail_terms.specs.Listing.{Item}
-use Rattle.fetch_rules.specs.Record.{Row, has_row}
 use Rattle.fetch_rules.specs.declared.steps.Step.{Step}
 use Rattle.mail_store.specs.Maildir.{Maildir, File, with_file}
 use Rattle.mail_store.specs.FileName.{mail_file, stem_of, names_id, is_held, IsAccountText}
 use Rattle.fetch_session.specs.Task.{Task, ids_in, ids_ahead, AreFresh, fetching, deleting, tasks_in, tasks_planned}
-use Rattle.fetch_session.specs.Store.{Grows, GrowsBy, Rests}
+use Rattle.fetch_session.specs.Store.{Grows}
 
 -- which ids are held depends only on the files
 held_by_files : (account uid : List ℕ) (a b : Maildir) → b.files ≡ a.files → is_held account b uid ≡ is_held account a uid
@@ -37,26 +36,11 @@ still_free law account uid other a b text legal legal' apart grows free =
           ∙ false_from_ne_true (bytes_eq other uid) (λ same. apart ((bytes_eq-Decides other uid).0 same))
     ]
 
-fresh_grows : OneMore → (account uid : List ℕ) (uids : List (List ℕ)) (a b : Maildir) → IsAccountText account → IsLegalId uid → AllByRecursion (λ (other : List ℕ). other ≢ uid) uids
+pub fresh_grows : OneMore → (account uid : List ℕ) (uids : List (List ℕ)) (a b : Maildir) → IsAccountText account → IsLegalId uid → AllByRecursion (λ (other : List ℕ). other ≢ uid) uids
     → Grows (stem_of account uid) a b → AreFresh account a uids → AreFresh account b uids
 fresh_grows law account uid [] a b text legal apart grows fresh = tt
 fresh_grows law account uid (x ∷ xs) a b text legal apart grows fresh =
     (fresh.0, still_free law account uid x a b text legal fresh.0 apart.0 grows fresh.1, fresh.2, fresh_grows law account uid xs a b text legal apart.1 grows fresh.3)
-
-fresh_rests : (account : List ℕ) (uids : List (List ℕ)) (a b : Maildir) → Rests a b → AreFresh account a uids → AreFresh account b uids
-fresh_rests account [] a b rests fresh = tt
-fresh_rests account (x ∷ xs) a b rests fresh =
-    (fresh.0, held_by_files account x a b rests.same ∙ fresh.1, fresh.2, fresh_rests account xs a b rests fresh.3)
-
-pub fresh_on : OneMore → (account : List ℕ) (uids later : List (List ℕ)) (a b : Maildir) → IsAccountText account → GrowsBy account uids a b → AreFresh account a (uids ++ later) → AreFresh account b later
-fresh_on law account [] later a b text grows fresh = fresh_rests account later a b grows fresh
-fresh_on law account (uid ∷ []) later a b text grows fresh = fresh_grows law account uid later a b text fresh.0 fresh.2 grows fresh.3
-fresh_on law account (uid ∷ other ∷ more) later a b text grows fresh = absurd grows
-
-pub grows_calm : (account : List ℕ) (uids : List (List ℕ)) (a b : Maildir) → GrowsBy account uids a b → b.begun ≡ None
-grows_calm account [] a b grows = grows.calm
-grows_calm account (uid ∷ []) a b grows = grows.calm
-grows_calm account (uid ∷ other ∷ more) a b grows = absurd grows
 
 no_ids_deleting : (delete : Bool) (number : ℕ) → ids_ahead (deleting delete number) ≡ []
 no_ids_deleting true number = refl
@@ -71,33 +55,8 @@ ahead step item held later =
     ∙ append_assoc (ids_ahead front) (ids_ahead (deleting step.delete step.number)) (ids_ahead later)
     ∙ ap (λ (l : List (List ℕ)). ids_ahead front ++ (l ++ ids_ahead later)) (no_ids_deleting step.delete step.number)
 
-fresh_first : (account : List ℕ) (retrieve held : Bool) (number : ℕ) (uid : List ℕ) (size : ℕ) (later : List (List ℕ)) (a : Maildir)
-    → AreFresh account a (ids_ahead (fetching retrieve held number uid size) ++ later) → AreFresh account a (ids_ahead (fetching retrieve held number uid size))
-fresh_first account true false number uid size later a fresh = (fresh.0, fresh.1, tt, tt)
-fresh_first account true true number uid size later a fresh = tt
-fresh_first account false held number uid size later a fresh = tt
-
--- one step's ids are fresh, and after it those of the others are
-pub fresh_step : (account : List ℕ) (step : Step) (item : Item) (held : Bool) (later : List Task) (a : Maildir) → AreFresh account a (ids_ahead (tasks_in step item held ++ later))
-    → AreFresh account a (ids_ahead (fetching step.retrieve held step.number item.uid item.size))
-fresh_step account step item held later a fresh =
-    fresh_first account step.retrieve held step.number item.uid item.size (ids_ahead later) a (rw (ahead step item held later) at fresh)
-
-pub fresh_later : OneMore → (account : List ℕ) (step : Step) (item : Item) (held : Bool) (later : List Task) (a b : Maildir) → IsAccountText account
-    → GrowsBy account (ids_ahead (fetching step.retrieve held step.number item.uid item.size)) a b → AreFresh account a (ids_ahead (tasks_in step item held ++ later))
-    → AreFresh account b (ids_ahead later)
-fresh_later law account step item held later a b text grows fresh =
-    fresh_on law account (ids_ahead (fetching step.retrieve held step.number item.uid item.size)) (ids_ahead later) a b text grows (rw (ahead step item held later) at fresh)
-
 pub no_item : Item
 no_item = record { uid = []; size = 0 }
-
--- the i-th message has a row, if all have one
-pub row_at : (rows : List Row) (items : List Item) (i : ℕ) → i < length items → AllByRecursion (λ (item : Item). has_row rows item.uid ≡ true) items
-    → has_row rows (get_or items i no_item).uid ≡ true
-row_at rows [] i within all = absurd (omega arith)
-row_at rows (item ∷ items) zero within all = all.0
-row_at rows (item ∷ items) (suc i) within all = row_at rows items i (omega arith) all.1
 
 -- the i-th step, and the tasks after it
 abbrev pub step_at : List Step → ℕ → Step
@@ -106,13 +65,16 @@ step_at steps i = get_or steps i (record { number = 0; retrieve = false; delete 
 abbrev pub later_at : List Step → List Item → List Bool → ℕ → List Task
 later_at steps items held i = tasks_planned (drop (i + 1) steps) (drop (i + 1) items) (drop (i + 1) held)
 
-pub tasks_left : (steps : List Step) (items : List Item) (held : List Bool) (i : ℕ) (item : Item) → i < length items → length steps ≡ length items
-    → length held ≡ length items → item.uid ≡ (get_or items i no_item).uid → item.size ≡ (get_or items i no_item).size
-    → tasks_planned (drop i steps) (drop i items) (drop i held) ≡ tasks_in (step_at steps i) item (get_or held i false) ++ later_at steps items held i
-tasks_left steps items held i item within all_steps all_flags u s =
+-- the tasks from the i-th step on; what is done first with its message is given
+pub tasks_left : (steps : List Step) (items : List Item) (held : List Bool) (i : ℕ) (uid : List ℕ) (size : ℕ) (first : Task) → i < length items → length steps ≡ length items
+    → length held ≡ length items → uid ≡ (get_or items i no_item).uid → size ≡ (get_or items i no_item).size
+    → fetching (step_at steps i).retrieve (get_or held i false) (step_at steps i).number uid size ≡ first ∷ []
+    → tasks_planned (drop i steps) (drop i items) (drop i held) ≡ (first ∷ deleting (step_at steps i).delete (step_at steps i).number) ++ later_at steps items held i
+tasks_left steps items held i uid size first within all_steps all_flags u s is =
     let next : suc i ≡ i + 1 = omega arith in
     let of_steps = drop-cons steps i (record { number = 0; retrieve = false; delete = false }) (omega (arith, within, all_steps)) in
     let of_items = drop-cons items i no_item within in
     let of_held = drop-cons held i false (omega (arith, within, all_flags)) in
     (λ j. tasks_planned (of_steps j) (of_items j) (of_held j))
     ∙ (λ j. tasks_in (step_at steps i) (record { uid = sym u j; size = sym s j }) (get_or held i false) ++ tasks_planned (drop (next j) steps) (drop (next j) items) (drop (next j) held))
+    ∙ ap (λ (front : List Task). (front ++ deleting (step_at steps i).delete (step_at steps i).number) ++ later_at steps items held i) is

@@ -1,5 +1,5 @@
 -- What a list of tasks leaves that outlives a loss of power, by what its single tasks leave.
-use Rattle.std.proofs.Common.{◌≡◌, ℕ, List, [], ◌∷◌, ◌++◌, Option, None, Some, Result, Ok, Err, true, false, Bool, refl, sym, ap, subst, ◌∙◌, inl, inr, append_assoc, arith, length, length-append, ◌≤◌}
+use Rattle.std.proofs.Common.{◌≡◌, ℕ, List, [], ◌∷◌, ◌++◌, Option, None, Some, Result, Ok, Err, refl, sym, ap, subst, ◌∙◌, inl, inr, append_assoc, length}
 use Rattle.std.proofs.lemmas.List.{append-nil, append_cancel_left}
 use Rattle.std.proofs.lemmas.Grind.{flat_map-append}
 use Rattle.std.proofs.lemmas.Option.{none-some}
@@ -18,13 +18,13 @@ use Rattle.fetch_session.specs.declared.account.Store.TheVariants.{Maildir as In
 use Rattle.fetch_session.specs.declared.fault.Cut.{Cut}
 use Rattle.fetch_session.specs.declared.work.Work.{Work}
 use Rattle.fetch_session.specs.Record.{Steady}
-use Rattle.fetch_session.specs.Scene.{Scene, scene, Went, AllWent, Fell, Does}
+use Rattle.fetch_session.specs.Scene.{Scene, scene, Went, AllWent}
 use Rattle.fetch_session.specs.Store.{Brings, Ends, begun_with}
 use Rattle.fetch_session.specs.Lasting.{DoesForGood, DonesLast, IsSafe, IsSafeStore, IsSafeWork, KeepsMailIn, KeepsWork, NewOutlive, RowsLast, TextsLast, front_in, outlives_in}
 use Rattle.fetch_session.specs.Target.{Kind, Target, AsFiles, AsEntries, Stores, kind_of, stores_of, target as target_at, target_of}
-use Rattle.fetch_session.specs.Task.{Task, Done, deletes, fetching, deleting, tasks_of, files_of, texts_of}
+use Rattle.fetch_session.specs.Task.{Task, Done, files_of, texts_of}
 use Rattle.fetch_session.proofs.StoreLemmas.{settled}
-use Rattle.fetch_session.proofs.SceneLemmas.{all_append, all_weaker, all_none, all_on, fell_before, fell_on, marked_on}
+use Rattle.fetch_session.proofs.SceneLemmas.{all_append, all_weaker, all_on, fell_before, fell_on, marked_on}
 
 -- what two calls one after the other keep
 pub keeps_mail_on : {s s' s'' : List ℕ → Type 0} {o o' o'' : File → Type 0} → KeepsMail s o s' o' → KeepsMail s' o' s'' o'' → KeepsMail s o s'' o''
@@ -110,33 +110,6 @@ module _ {D F : Type 0} {disk : DiskGhosts D} {file : FileGhosts F} {safe : Type
     lasts = λ s. record { texts = (does.lasts s).texts; rows = (does.lasts s).rows };
   }
 
--- what is left to do from here is all that there is to do
-pub record Leads {D F : Type 0} (disk : DiskGhosts D) (file : FileGhosts F) (safe : Type 0) (target : Target) (all : List Task) (start : Scene)
-    (left : List Task) (now : Scene) (mid : Store D F) : Type 0 where
-  pub on : (r : Result (Unit {0}) Cut) (new : Scene) (store : Store D F) (f : F) → KeepsMailIn disk mid store
-      → DoesForGood disk file safe target left now r new store f → DoesForGood disk file safe target all start r new store f
-
-module _ {D F : Type 0} {disk : DiskGhosts D} {file : FileGhosts F} {safe : Type 0} {target : Target} {all left : List Task} {start now : Scene} {before : Store D F} where
-  pub leads_on : (xs ys : List Task) {mid : Scene} {after : Store D F} {f : F} → left ≡ xs ++ ys → Leads disk file safe target all start left now before
-      → DoesForGood disk file safe target xs now (Ok tt) mid after f → KeepsMailIn disk before after → Leads disk file safe target all start ys mid after
-  leads_on xs ys {mid} {after} split leads does kept = record {
-    on = λ r new store f keeps then. leads.on r new store f (mail_on disk before after store kept keeps)
-        (subst (λ (ts : List Task). DoesForGood disk file safe target ts now r new store f) (sym split)
-        (good_more r after does.does (λ s. (does.lasts s).texts) keeps then));
-  }
-
-  pub leads_fell : (xs ys : List Task) {new : Scene} {cut : Cut} {store : Store D F} {f : F} → left ≡ xs ++ ys → Leads disk file safe target all start left now before
-      → DoesForGood disk file safe target xs now (Err cut) new store f → KeepsMailIn disk before store → DoesForGood disk file safe target all start (Err cut) new store f
-  leads_fell xs ys {new} {cut} {store} {f} split leads does keeps =
-      leads.on (Err cut) new store f keeps (subst (λ (ts : List Task). DoesForGood disk file safe target ts now (Err cut) new store f) (sym split) (good_before ys does))
-
-  pub leads_end : {f : F} → left ≡ [] → Leads disk file safe target all start left now before → (safe → DonesLast disk file target [] now before f)
-      → DoesForGood disk file safe target all start (Ok tt) now before f
-  unfolding all_none
-  leads_end {f} none leads last =
-      let here : DoesForGood disk file safe target [] now (Ok tt) now before f = record { does = all_none target now; lasts = last } in
-      leads.on (Ok tt) now before f (λ name s. s, λ g s. s) (subst (λ (ts : List Task). DoesForGood disk file safe target ts now (Ok tt) now before f) (sym none) here)
-
 -- ---- what is safe
 
 -- the record's file is safe and stands for the rows, so they outlive a loss of power
@@ -175,54 +148,6 @@ texts_ok disk file (AsFiles account) dones old new brings outlive safe = outlive
 texts_ok disk file AsEntries dones old new brings outlive safe = λ was is.
     whole_in disk file new safe (was ++ flat_map entry_of (texts_of dones))
     (content_is (stores_of disk file old).mbox.content (stores_of disk file new).mbox.content was (texts_of dones) is brings.content)
-
--- ---- one message
-
--- if at most one task was to be done, and it wasn't brought to its end, none was done
-none_done : (tasks : List Task) (dones : List Done) (next : Task) (later : List Task) → length tasks ≤ 1 → tasks ≡ tasks_of dones ++ (next ∷ later) → dones ≡ []
-none_done tasks [] next later few e = refl
-none_done tasks (d ∷ dones) next later few e = absurd (omega (arith, few, ap length e, length-append (tasks_of dones) (next ∷ later)))
-
-few_fetched : (retrieve held : Bool) (number : ℕ) (uid : List ℕ) (size : ℕ) → length (fetching retrieve held number uid size) ≤ 1
-few_fetched true true number uid size = omega arith
-few_fetched true false number uid size = omega arith
-few_fetched false held number uid size = omega arith
-
-few_deleted : (wanted : Bool) (number : ℕ) → length (deleting wanted number) ≤ 1
-few_deleted true number = omega arith
-few_deleted false number = omega arith
-
-module _ {D F : Type 0} {disk : DiskGhosts D} {file : FileGhosts F} {target : Target} {old : Scene} {store : Store D F} {f : F} where
-  -- a deletion stores nothing and marks nothing
-  deleted_only : (wanted : Bool) (number : ℕ) (dones : List Done) → deleting wanted number ≡ tasks_of dones → DonesLast disk file target [] old store f
-      → DonesLast disk file target dones old store f
-  deleted_only wanted number [] e last = last
-  deleted_only true number (d ∷ []) e last =
-      let is : deletes number ≡ d.task = cc e in
-      subst (λ (task : Task). DonesLast disk file target (record { task = task; replies = d.replies } ∷ []) old store f) is (record { texts = same target last.texts; rows = last.rows })
-    where
-      same : (target : Target) → TextsLast disk file target [] old.store store → TextsLast disk file target (record { task = deletes number; replies = d.replies } ∷ []) old.store store
-      same (AsFiles account) texts = texts
-      same AsEntries texts = texts
-  deleted_only _ number (d ∷ dones) e last = absurd (omega (arith, ap length e))
-
-module _ {D F : Type 0} {disk : DiskGhosts D} {file : FileGhosts F} {safe : Type 0} {target : Target} {old : Scene} {store : Store D F} {f : F} where
-  fell_few : {tasks : List Task} {new : Scene} {cut : Cut} → length tasks ≤ 1 → Fell target tasks old cut new → (safe → DonesLast disk file target [] old store f)
-      → DoesForGood disk file safe target tasks old (Err cut) new store f
-  fell_few {tasks} few fell last = record {
-    does = fell;
-    lasts = λ s. subst (λ (dones : List Done). DonesLast disk file target dones old store f) (sym (none_done tasks fell.dones fell.next fell.later few fell.split)) (last s);
-  }
-
-  pub good_deleted : (wanted : Bool) (number : ℕ) {new : Scene} (r : Result (Unit {0}) Cut) → Does target (deleting wanted number) old r new
-      → (safe → DonesLast disk file target [] old store f) → DoesForGood disk file safe target (deleting wanted number) old r new store f
-  good_deleted wanted number (Ok done) does last = record { does = does; lasts = λ s. deleted_only wanted number does.dones does.all (last s) }
-  good_deleted wanted number (Err cut) does last = fell_few (few_deleted wanted number) does last
-
-  -- the message wasn't fetched
-  pub not_fetched : (retrieve held : Bool) (number : ℕ) (uid : List ℕ) (size : ℕ) (more : List Task) {new : Scene} {cut : Cut} → Fell target (fetching retrieve held number uid size) old cut new
-      → (safe → DonesLast disk file target [] old store f) → DoesForGood disk file safe target (fetching retrieve held number uid size ++ more) old (Err cut) new store f
-  not_fetched retrieve held number uid size more fell last = good_before more (fell_few (few_fetched retrieve held number uid size) fell last)
 
 -- ---- if nothing is done
 

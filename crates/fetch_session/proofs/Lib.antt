@@ -5,6 +5,7 @@ mod IntakeLemmas
 mod LastLemmas
 mod MboxLemmas
 mod OpeningLemmas
+mod PartLemmas
 mod PlanLemmas
 mod PretendLemmas
 mod ProspectLemmas

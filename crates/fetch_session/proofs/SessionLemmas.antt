@@ -1,5 +1,5 @@
 -- How the parts of a session make the whole.
-use Rattle.std.proofs.Common.{◌≡◌, inl, inr, ℕ, Bool, true, false, List, [], length, Result, Ok, Err, sym, ap, subst}
+use Rattle.std.proofs.Common.{◌≡◌, inl, inr, ℕ, List, [], length, Result, Ok, Err}
 use Rattle.pop3_wire.specs.Link.{Link}
 use Rattle.pop3_wire.specs.Place.{Place, at}
 use Rattle.mail_terms.specs.Listing.{Item}
@@ -8,12 +8,11 @@ use Rattle.fetch_session.specs.declared.fault.Cut.{Cut}
 use Rattle.fetch_session.specs.declared.report.ReportLine.{ReportLine}
 use Rattle.fetch_session.specs.Plan.{Carries}
 use Rattle.fetch_session.specs.Session.{Dealt, Keeping, LeavesLink, Noted, Enters_with, Proceeds, SessionIn, outcome_of}
-use Rattle.std.proofs.lemmas.Bool.{true≢false}
 use Rattle.mail_store.specs.declared.maildir.disk.MaildirDisk.{Ghosts as DiskGhosts}
 use Rattle.mail_store.specs.declared.file.flat_file.FlatFile.{Ghosts as FileGhosts}
 use Rattle.fetch_session.specs.declared.account.Store.{Store}
 use Rattle.fetch_session.specs.declared.account.Store.TheVariants.{Maildir as InMaildir, Mboxrd as InMbox}
-use Rattle.fetch_session.specs.Target.{Kind, Files, Entries, Target, AsFiles, AsEntries, Stores, IsSoundMaildir, IsSoundMbox, in_maildir, in_mbox, is_sound, kind_of, maildir_of, mbox_of, stores_of, target_of}
+use Rattle.fetch_session.specs.Target.{Target, AsFiles, AsEntries, Stores, IsSoundMaildir, IsSoundMbox, in_maildir, in_mbox, is_sound, kind_of, maildir_of, mbox_of, stores_of, target_of}
 use Rattle.fetch_session.specs.Lasting.{CarriesForGood, DealtForGood, ProceedsForGood, SessionForGood}
 use Rattle.fetch_session.specs.Report.{Reports}
 use Rattle.fetch_session.specs.declared.report.Report.{Report}

@@ -1,14 +1,13 @@
 -- How one text is taken.
-use Rattle.std.proofs.Common.{◌≡◌, inl, inr, ℕ, Bool, true, false, List, [], ◌∷◌, ◌++◌, length, None, Some, Option, Ok, Err, refl, sym, ap, subst, ◌∙◌, arith}
+use Rattle.std.proofs.Common.{◌≡◌, inl, inr, ℕ, List, [], ◌∷◌, ◌++◌, None, Some, Option, Ok, Err, refl, ap, ◌∙◌, arith}
 use Rattle.pop3_wire.specs.Place.{Place}
 use Rattle.fetch_rules.specs.Record.{Row, none_open, marked}
-use Rattle.mail_store.specs.Maildir.{Maildir, File, with_file}
+use Rattle.mail_store.specs.Maildir.{Maildir}
 use Rattle.mail_store.specs.FlatFile.{Stored}
-use Rattle.mail_store.specs.FileName.{stem_of, sized_file, mail_file}
+use Rattle.mail_store.specs.FileName.{stem_of}
 use Rattle.pop3_client.specs.Turns.{Turn, retr, dele}
 use Rattle.pop3_wire.specs.Reading.{WholeReply}
 use Rattle.pop3_client.specs.Conversation.{Talked, Broke}
-use Rattle.pop3_client.specs.Texts.{body_text}
 use Rattle.pop3_client.specs.declared.fault.Fault.{Fault}
 use Rattle.pop3_client.specs.declared.fault.Fault.TheVariants.{NoMemory}
 use Rattle.fetch_session.specs.declared.fault.Cut.{Cut}
@@ -16,10 +15,10 @@ use Rattle.fetch_session.specs.declared.report.ReportLine.{ReportLine}
 use Rattle.fetch_session.specs.declared.report.ReportLine.TheVariants.{Delivered, Held, Skipped, Deleted}
 use Rattle.fetch_session.specs.Fault.{cut_of}
 use Rattle.pop3_wire.specs.Bodies.{Rest}
-use Rattle.fetch_session.specs.Task.{Task, stores, skips, rereads, deletes, turns_in, file_from, delivered, fetching, deleting}
-use Rattle.fetch_session.specs.Store.{RefusesText, StopsStoring, StoresText, StopsReading, ReadsText, PassesText}
-use Rattle.fetch_session.specs.Record.{Steady, Saves}
-use Rattle.fetch_session.specs.Scene.{scene, AllWent, Stops, TakesTask}
+use Rattle.fetch_session.specs.Task.{Task, stores, skips, rereads, deletes, turns_in, file_from}
+use Rattle.fetch_session.specs.Store.{StopsStoring, StoresText, StopsReading, ReadsText, PassesText}
+use Rattle.fetch_session.specs.Record.{Saves}
+use Rattle.fetch_session.specs.Scene.{scene, Stops, TakesTask}
 use Rattle.pop3_client.proofs.TalkLemmas.{talked_none}
 use Rattle.fetch_session.proofs.SceneLemmas.{brings_same}
 use Rattle.fetch_session.specs.Target.{Target, AsFiles, Stores, in_maildir}
@@ -102,21 +101,15 @@ module _ {account : List ℕ} {n : ℕ} {uid : List ℕ} {a b : Place} {maildir 
 
 -- nothing is done for a message passed over
 pub skipped : (target : Target) (number size : ℕ) (a : Place) (store : Stores) (file : Stored) (rows : List Row) (lines lines' : List ReportLine) → lines' ≡ lines ++ Skipped number size ∷ []
-    → AllWent target (skips number size ∷ []) (scene a store file rows lines) (scene a store file rows lines')
-skipped target number size a store file rows lines lines' told = record {
-  dones = record { task = skips number size; replies = [] } ∷ [];
-  all = refl;
-  went = record { talked = talked_none a; each = (tt, tt); stored = brings_same target (record { task = skips number size; replies = [] }) store (λ account. refl) refl; rows = refl; saved = λ stands. stands; file_count = omega arith; lines = told };
-}
+    → TakesTask target (skips number size) (scene a store file rows lines) (Ok tt) (scene a store file rows lines')
+skipped target number size a store file rows lines lines' told =
+    ([], record { talked = talked_none a; each = (tt, tt); stored = brings_same target (record { task = skips number size; replies = [] }) store (λ account. refl) refl; rows = refl; saved = λ stands. stands; file_count = omega arith; lines = told })
 
 pub deleted : (target : Target) (number : ℕ) (reply : WholeReply) (a b : Place) (store : Stores) (file : Stored) (rows : List Row) (lines lines' : List ReportLine) → Talked (dele number ∷ []) (reply ∷ []) a b
     → lines' ≡ lines ++ Deleted number ∷ []
-    → AllWent target (deletes number ∷ []) (scene a store file rows lines) (scene b store file rows lines')
-deleted target number reply a b store file rows lines lines' talked told = record {
-  dones = record { task = deletes number; replies = reply ∷ [] } ∷ [];
-  all = refl;
-  went = record { talked = talked; each = (talked.good, tt); stored = brings_same target (record { task = deletes number; replies = reply ∷ [] }) store (λ account. refl) refl; rows = refl; saved = λ stands. stands; file_count = omega arith; lines = told };
-}
+    → TakesTask target (deletes number) (scene a store file rows lines) (Ok tt) (scene b store file rows lines')
+deleted target number reply a b store file rows lines lines' talked told =
+    (reply ∷ [], record { talked = talked; each = (talked.good, tt); stored = brings_same target (record { task = deletes number; replies = reply ∷ [] }) store (λ account. refl) refl; rows = refl; saved = λ stands. stands; file_count = omega arith; lines = told })
 
 pub reread_taken : (target : Target) (number octets : ℕ) (uid : List ℕ) (a b : Place) (store : Stores) (file : Stored) (rows : List Row) (lines lines' : List ReportLine) → PassesText number a (Ok octets) b
     → lines' ≡ lines ++ Held number octets ∷ []

@@ -18,6 +18,7 @@ pub mod Text
 pub mod Intake
 pub mod Refusal
 pub mod Work
+pub mod Parts
 pub mod Prospect
 pub mod Pretend
 pub mod Telling

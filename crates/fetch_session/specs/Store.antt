@@ -14,7 +14,7 @@ use Rattle.pop3_client.specs.Turns.{retr}
 use Rattle.pop3_client.specs.Texts.{Fetching, Fetched, body_text}
 use Rattle.fetch_session.specs.declared.fault.Cut.{Cut}
 use Rattle.mail_store.specs.Maildir.{Maildir, File, file, mail, with_file, dropped, counted}
-use Rattle.mail_store.specs.FileName.{stem_of, sized_file}
+use Rattle.mail_store.specs.FileName.{sized_file}
 use Rattle.pop3_client.specs.declared.fault.Fault.{Fault}
 use Rattle.pop3_client.specs.declared.fault.Fault.TheVariants.{StoreRefused}
 use Rattle.pop3_client.specs.declared.fault.Why.TheVariants.{Missing, Refused}
@@ -40,17 +40,6 @@ Brings AsEntries dones old new = Appended old.mbox new.mbox (texts_of dones)
 pub record Grows (stem : List ℕ) (old new : Maildir) : Type 0 where
   pub calm : new.begun ≡ None
   pub came : (new.files ≡ old.files) ⊎ ((content : List ℕ) × (new.files ≡ old.files ++ sized_file stem content ∷ []))
-
--- no file came, and none is begun
-pub record Rests (old new : Maildir) : Type 0 where
-  pub calm : new.begun ≡ None
-  pub same : new.files ≡ old.files
-
--- at most a file of this id came, if there is one
-abbrev pub GrowsBy : List ℕ → List (List ℕ) → Maildir → Maildir → Type 0
-GrowsBy account [] old new = Rests old new
-GrowsBy account (uid ∷ []) old new = Grows (stem_of account uid) old new
-GrowsBy account (uid ∷ other ∷ more) old new = ⊥
 
 -- ---- a text, piece by piece
 

@@ -29,6 +29,10 @@ turns_in (stores number uid) = retr number ∷ []
 turns_in (rereads number uid) = retr number ∷ []
 turns_in (deletes number) = dele number ∷ []
 
+-- the turns that tasks will take, in order
+abbrev pub turns_ahead : List Task → List Turn
+turns_ahead tasks = flat_map turns_in tasks
+
 -- the id that a task marks
 abbrev pub ids_in : Task → List (List ℕ)
 ids_in (stores number uid) = uid ∷ []

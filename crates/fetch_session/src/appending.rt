@@ -16,13 +16,14 @@ ghost use Rattle.fetch_session.specs.Intake.{TookTillCut};
 ghost use Rattle.fetch_session.specs.Mbox.{AppendsText, HoldsText, IsStoreFault};
 ghost use Rattle.mail_store.specs.Power.{KeepsBytes, KeepsWhole};
 ghost use Rattle.fetch_session.specs.Lasting.{IsSafe};
+ghost use Rattle.fetch_session.specs.Parts.{KeepsLedger, KeepsLink};
 ghost use Rattle.fetch_session.specs.Record.{Steady, held_in};
 ghost use Rattle.fetch_session.specs.Refusal.{RefusesTillCut};
-ghost use Rattle.fetch_session.specs.Report.{HasRoom, Adds};
+ghost use Rattle.fetch_session.specs.Report.{HasRoom};
 ghost use Rattle.fetch_session.specs.Scene.{scene, TakesTask, WhereAllSound};
 ghost use Rattle.fetch_session.specs.Target.{AsEntries, in_mbox};
 ghost use Rattle.fetch_session.specs.Task.{stores};
-ghost use Rattle.fetch_session.specs.Work.{IsWritten, KeepsIds};
+ghost use Rattle.fetch_session.specs.Work.{IsWritten};
 
 use crate::fault::{Cut, plain};
 use crate::record::{intend, remember};
@@ -131,11 +132,8 @@ pub(crate) fn take_into_mbox<W: Wire, F: FlatFile, H: BuildHasher>(
     requires ready { IsWritten F.FlatFile ledger.old }
     requires legal { IsLegalId uid.now }
     requires row { has_row ledger.old.seen.rows uid.now ≡ true }
-    ensures link { HasSameLink client.old client.new }
-    ensures counted { RefusesTillCut (link_of W.Wire client.old) result (link_of W.Wire client.new) }
-    ensures few { Adds ledger.old.lines 1 ledger.new.lines }
-    ensures ready { OnOk result (IsWritten F.FlatFile ledger.new) }
-    ensures rows { OnOk result (KeepsIds ledger.old.seen.rows ledger.new.seen.rows) }
+    ensures link { KeepsLink W.Wire (TookTillCut (most (retr number))) client.old result client.new }
+    ensures ledger { KeepsLedger F.FlatFile ledger.old result ledger.new }
     ensures before { F.sound mbox.new → F.sound mbox.old }
     ensures takes { WhereAllSound W.sound W.leads_to F.sound F.sound client.old.wire.now client.new.wire.now mbox.old mbox.new
         ledger.old.file ledger.new.file (TakesTask AsEntries (stores number uid.now)
@@ -143,8 +141,6 @@ pub(crate) fn take_into_mbox<W: Wire, F: FlatFile, H: BuildHasher>(
         ledger.old.lines.items) result
         (scene (place_of W.Wire client.new) (in_mbox (F.stored mbox.new)) (F.stored ledger.new.file) ledger.new.seen.rows
         ledger.new.lines.items)) }
-    ensures took { W.sound client.new.wire.now → W.sound client.old.wire.now
-        × TookTillCut (most (retr number)) (place_of W.Wire client.old) result (place_of W.Wire client.new) }
     ensures keeps { F.sound mbox.new → F.sound ledger.new.file
         → KeepsWhole (F.stored mbox.old).content (F.outlives mbox.old) (F.outlives mbox.new)
         × KeepsBytes (F.outlives ledger.old.file) (F.outlives ledger.new.file) }

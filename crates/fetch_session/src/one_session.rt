@@ -1,6 +1,6 @@
 //! One session, from its greeting to its end.
 ghost use Rattle.std.specs.Prelude.{◌≡◌, ◌≤◌, ◌+◌, ◌*◌, [], None, length};
-ghost use Rattle.pop3_client.specs.Client.{HasSameLink, link_of, place_of};
+ghost use Rattle.pop3_client.specs.Client.{HasSameLink, link_of};
 ghost use Rattle.std.specs.Vec.{vec_len};
 ghost use Rattle.rc_file.specs.Settings.{IsValid};
 ghost use Rattle.mail_store.specs.FileName.{IsAccountText};
@@ -8,8 +8,9 @@ ghost use Rattle.fetch_session.specs.Scene.{WhereAllSound};
 ghost use Rattle.fetch_session.specs.Work.{WhereWorkSound};
 ghost use Rattle.fetch_session.specs.Account.{digits_of};
 ghost use Rattle.fetch_session.specs.Intake.{GotAtMost, session_limit, TookWithTail, opening_limit, step_limit, tail_limit};
-ghost use Rattle.fetch_session.specs.Refusal.{RefusesTillCut, RefusesByOutcome};
+ghost use Rattle.fetch_session.specs.Refusal.{RefusesByOutcome};
 ghost use Rattle.fetch_session.specs.Lasting.{ProceedsForGood, SessionForGood, is_sure};
+ghost use Rattle.fetch_session.specs.Parts.{KeepsLink, KeepsStore};
 ghost use Rattle.fetch_session.specs.Report.{Reports, most_lines};
 ghost use Rattle.fetch_session.specs.Session.{MboxSession, Session, keeping, kept, mbox_kept, noted};
 ghost use Rattle.fetch_session.specs.Target.{IsCalm, IsSoundMaildir, IsSoundMbox};
@@ -58,20 +59,14 @@ fn proceed<W: Wire, D: MaildirDisk, F: FlatFile, H: BuildHasher>(
     requires calm { IsCalm D.MaildirDisk F.FlatFile work.old.store }
     requires nothing { (counts.old.total ≡ 0) × (counts.old.skipped ≡ 0)
         × (work.old.ledger.lines.items ≡ []) × (vec_len work.old.ledger.lines ≡ 0) }
-    ensures link { HasSameLink client.old client.new }
-    ensures counted { RefusesTillCut (link_of W.Wire client.old) result (link_of W.Wire client.new) }
-    ensures few { vec_len work.new.ledger.lines ≤ most_lines }
-    ensures kind { kind_of work.new.store ≡ kind_of work.old.store }
-    ensures calm { is_sound D.MaildirDisk F.FlatFile work.new.store → is_sound D.MaildirDisk F.FlatFile work.old.store
-        × ((stores_of D.MaildirDisk F.FlatFile work.new.store).maildir.begun ≡ None) }
+    ensures link { KeepsLink W.Wire (TookWithTail (opening_limit + (counts.new.total * step_limit + tail_limit))) client.old result
+        client.new }
+    ensures store { KeepsStore D.MaildirDisk F.FlatFile most_lines work.old work.new }
     ensures proceeds { WhereWorkSound W.Wire D.MaildirDisk F.FlatFile client.old work.old client.new work.new
         (λ old new. ProceedsForGood D.MaildirDisk F.FlatFile (is_sure F.FlatFile work.old.store × F.is_sure work.old.ledger.file)
         terms.entry.settings.now (target_of work.old.store terms.entry.account.now) terms.entry.now old.place
         (keeping old.store old.file) result
         new.place (keeping new.store new.file) (noted counts.new.total counts.new.skipped new.lines) work.new.store work.new.ledger.file) }
-    ensures took { W.sound client.new.wire.now → W.sound client.old.wire.now
-        × TookWithTail (opening_limit + (counts.new.total * step_limit + tail_limit)) (place_of W.Wire client.old) result
-        (place_of W.Wire client.new) }
 {
     conversations_are_paced();
     let listing = match enter(work.ledger.alloc, terms.settings, client) {
@@ -102,23 +97,8 @@ fn session_over<W: Wire, D: MaildirDisk, F: FlatFile, H: BuildHasher>(
         account.old.settings (target_of account.old.store (digits_of account.old.settings)) now (link_of W.Wire client.old)
         (keeping (stores_of D.MaildirDisk F.FlatFile account.old.store) (F.stored account.old.file)) result (link_of W.Wire client.new)
         (keeping (stores_of D.MaildirDisk F.FlatFile account.new.store) (F.stored account.new.file)) account.new.store account.new.file) }
-    ensures files { WhereAllSound W.sound W.leads_to (IsSoundMaildir D.MaildirDisk) F.sound client.old.wire.now client.new.wire.now
-        account.old.store account.new.store account.old.file account.new.file
-        (Session account.old.settings (digits_of account.old.settings) now (link_of W.Wire client.old)
-        (kept (maildir_of D.MaildirDisk account.old.store) (F.stored account.old.file)) result (link_of W.Wire client.new)
-        (kept (maildir_of D.MaildirDisk account.new.store) (F.stored account.new.file))) }
-    ensures entries { WhereAllSound W.sound W.leads_to (IsSoundMbox F.FlatFile) F.sound client.old.wire.now client.new.wire.now
-        account.old.store account.new.store account.old.file account.new.file
-        (MboxSession account.old.settings now (link_of W.Wire client.old)
-        (mbox_kept (mbox_of F.FlatFile account.old.store) (F.stored account.old.file)) result (link_of W.Wire client.new)
-        (mbox_kept (mbox_of F.FlatFile account.new.store) (F.stored account.new.file))) }
     ensures bounded { W.sound client.new.wire.now
         → GotAtMost (session_limit result.total) (link_of W.Wire client.old) (link_of W.Wire client.new) }
-    ensures power { W.sound client.new.wire.now → is_sound D.MaildirDisk F.FlatFile account.new.store → F.sound account.new.file
-        → SessionForGood D.MaildirDisk F.FlatFile (is_sure F.FlatFile account.old.store × F.is_sure account.old.file)
-        account.old.settings (target_of account.old.store (digits_of account.old.settings)) now (link_of W.Wire client.old)
-        (keeping (stores_of D.MaildirDisk F.FlatFile account.old.store) (F.stored account.old.file)) result (link_of W.Wire client.new)
-        (keeping (stores_of D.MaildirDisk F.FlatFile account.new.store) (F.stored account.new.file)) account.new.store account.new.file }
 {
     conversations_are_paced();
     let mut counts = Counts {

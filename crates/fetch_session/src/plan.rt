@@ -1,16 +1,15 @@
 //! The part of a session after its listing.
-ghost use Rattle.std.specs.Prelude.{◌≡◌, ◌≤◌, ◌+◌, ◌*◌, None, length};
+ghost use Rattle.std.specs.Prelude.{◌≡◌, ◌≤◌, ◌+◌, ◌*◌, length};
 ghost use Rattle.std.specs.List.{AllByRecursion};
 ghost use Rattle.mail_terms.specs.Listing.{message_limit};
 ghost use Rattle.mail_terms.specs.UniqueId.{IsLegalId};
 ghost use Rattle.mail_store.specs.FileName.{IsAccountText};
-ghost use Rattle.pop3_client.specs.Client.{HasSameLink, place_of, link_of};
-ghost use Rattle.fetch_session.specs.Target.{IsCalm, is_sound, kind_of, stores_of, target_of};
+ghost use Rattle.fetch_session.specs.Target.{IsCalm, target_of};
 ghost use Rattle.fetch_session.specs.Work.{WhereWorkSound};
 ghost use Rattle.fetch_session.specs.Intake.{TookWithTail, step_limit, tail_limit};
 ghost use Rattle.fetch_session.specs.Lasting.{CarriesForGood, is_sure};
-ghost use Rattle.fetch_session.specs.Refusal.{RefusesTillCut};
-ghost use Rattle.fetch_session.specs.Report.{HasRoom, Adds};
+ghost use Rattle.fetch_session.specs.Parts.{KeepsLink, KeepsStore};
+ghost use Rattle.fetch_session.specs.Report.{HasRoom};
 
 use crate::fault::{Cut, plain};
 use crate::readiness::{Ready, prepare};
@@ -39,19 +38,13 @@ pub fn carry_out<W: Wire, D: MaildirDisk, F: FlatFile, H: BuildHasher>(
     requires legal { AllByRecursion (λ item. IsLegalId item.uid) listing.now }
     requires none_skipped { skipped.old ≡ 0 }
     requires few { length listing.now ≤ message_limit }
-    ensures link { HasSameLink client.old client.new }
-    ensures counted { RefusesTillCut (link_of W.Wire client.old) result (link_of W.Wire client.new) }
-    ensures few { Adds work.old.ledger.lines (2 * length listing.now) work.new.ledger.lines }
-    ensures kind { kind_of work.new.store ≡ kind_of work.old.store }
-    ensures calm { is_sound D.MaildirDisk F.FlatFile work.new.store → is_sound D.MaildirDisk F.FlatFile work.old.store
-        × ((stores_of D.MaildirDisk F.FlatFile work.new.store).maildir.begun ≡ None) }
+    ensures link { KeepsLink W.Wire (TookWithTail (length listing.now * step_limit + tail_limit)) client.old result client.new }
+    ensures store { KeepsStore D.MaildirDisk F.FlatFile (2 * length listing.now) work.old work.new }
     ensures carries { WhereWorkSound W.Wire D.MaildirDisk F.FlatFile client.old work.old client.new work.new
         (λ old new. CarriesForGood D.MaildirDisk F.FlatFile (is_sure F.FlatFile work.old.store × F.is_sure work.old.ledger.file)
         terms.entry.settings.now (target_of work.old.store terms.entry.account.now) listing.now terms.entry.now
         old.place old.store old.file old.lines result
         new.place new.store new.file new.lines skipped.new work.new.store work.new.ledger.file) }
-    ensures took { W.sound client.new.wire.now → W.sound client.old.wire.now
-        × TookWithTail (length listing.now * step_limit + tail_limit) (place_of W.Wire client.old) result (place_of W.Wire client.new) }
 {
     conversations_are_paced();
     firsts_are_fetched();

@@ -1,21 +1,38 @@
 //! How a text is taken: stored, or passed over if it is held already.
-ghost use Rattle.std.specs.Prelude.{◌≡◌, ◌≢◌, ◌≤◌, ℕ, List, [], None, Some, IsSome, OnOk, string_bytes};
+ghost use Rattle.std.specs.Prelude.{◌≡◌, ◌≢◌, ◌≤◌, ◌++◌, ℕ, List, [], None, Some, IsSome, OnOk, false, string_bytes};
+ghost use Rattle.std.specs.List.{AllByRecursion};
+ghost use Rattle.mail_terms.specs.UniqueId.{IsLegalId};
 ghost use Rattle.pop3_client.specs.Client.{HasSameLink, CountsRefusals, place_of, link_of};
 ghost use Rattle.pop3_wire.specs.Link.{WhereSound};
 ghost use Rattle.pop3_wire.specs.Place.{Place};
 ghost use Rattle.pop3_wire.specs.declared.unstuffer.Spot.TheVariants.{Done};
-ghost use Rattle.pop3_client.specs.Turns.{retr, text_limit};
+ghost use Rattle.pop3_client.specs.Turns.{most, retr, text_limit};
 ghost use Rattle.pop3_client.specs.Texts.{Fetching};
-ghost use Rattle.mail_store.specs.FileName.{HasRoomForSize, sized, sized_file};
+ghost use Rattle.mail_store.specs.FileName.{HasRoomForSize, IsAccountText, is_held, sized, sized_file, stem_of};
 ghost use Rattle.mail_store.specs.Maildir.{File, IsThere, file, mail, with_file};
-ghost use Rattle.mail_store.specs.Power.{KeepsMail};
+ghost use Rattle.mail_store.specs.Power.{KeepsBytes, KeepsMail};
+ghost use Rattle.fetch_session.specs.Intake.{TookTillCut};
+ghost use Rattle.fetch_session.specs.Lasting.{IsSafe};
+ghost use Rattle.fetch_session.specs.Parts.{KeepsLedger, KeepsLink};
 ghost use Rattle.fetch_session.specs.Refusal.{RefusesTillCut};
-ghost use Rattle.fetch_session.specs.Store.{Starts, Puts, Ends, StoresText, ReadsText, PassesText};
+ghost use Rattle.fetch_session.specs.Report.{HasRoom};
+ghost use Rattle.fetch_session.specs.Scene.{scene, TakesTask, WhereAllSound};
+ghost use Rattle.fetch_session.specs.Store.{Ends, Grows, PassesText, Puts, ReadsText, Starts, StoresText};
+ghost use Rattle.fetch_session.specs.Target.{AsFiles, in_maildir};
+ghost use Rattle.fetch_session.specs.Task.{stores};
+ghost use Rattle.fetch_session.specs.Work.{IsWritten};
 
 use crate::fault::{Cut, plain};
-use mail_store::{MaildirDisk, StoreFault, add_size};
-use pop3_client::{Client, Fault, Why};
+use crate::record::remember;
+use crate::report::{ReportLine, note};
+use crate::work::Ledger;
+use fetch_rules::marked_keeps_rows;
+use mail_store::{
+    AccountId, FlatFile, MaildirDisk, StoreFault, add_size, file_stem, unheld_ids_are_not_there,
+};
+use pop3_client::{Client, Fault, Why, conversations_are_paced};
 use pop3_wire::{BodyReader, PIECE_ROOM, Wire};
+use std::hash::BuildHasher;
 
 /// Begins an empty file of this name.
 fn begin_file<D: MaildirDisk>(disk: &mut D, name: &str) -> Result<(), Fault>
@@ -154,5 +171,59 @@ pub(crate) fn pass_text<W: Wire>(client: &mut Client<'_, W>, body: BodyReader) -
         if piece.ended {
             return Ok(length);
         }
+    }
+}
+
+/// Takes one text: it is read, stored in the Maildir and marked.
+pub(crate) fn take_into_maildir<W: Wire, D: MaildirDisk, F: FlatFile, H: BuildHasher>(
+    client: &mut Client<'_, W>,
+    disk: &mut D,
+    ledger: &mut Ledger<F, H>,
+    account: &AccountId,
+    number: u32,
+    uid: &[u8],
+) -> Result<(), Cut>
+    requires digits { IsAccountText account.now }
+    requires legal { IsLegalId uid.now }
+    requires room { HasRoom ledger.old.lines 1 }
+    requires calm { D.sound disk.old → (D.maildir disk.old).begun ≡ None }
+    requires ready { IsWritten F.FlatFile ledger.old }
+    requires free { D.sound disk.old → is_held account.now (D.maildir disk.old) uid.now ≡ false }
+    ensures link { KeepsLink W.Wire (TookTillCut (most (retr number))) client.old result client.new }
+    ensures ledger { KeepsLedger F.FlatFile ledger.old result ledger.new }
+    ensures grows { D.sound disk.new → D.sound disk.old
+        × Grows (stem_of account.now uid.now) (D.maildir disk.old) (D.maildir disk.new) }
+    ensures takes { WhereAllSound W.sound W.leads_to D.sound F.sound client.old.wire.now client.new.wire.now disk.old disk.new
+        ledger.old.file ledger.new.file (TakesTask (AsFiles account.now) (stores number uid.now)
+        (scene (place_of W.Wire client.old) (in_maildir (D.maildir disk.old)) (F.stored ledger.old.file) ledger.old.seen.rows
+        ledger.old.lines.items) result
+        (scene (place_of W.Wire client.new) (in_maildir (D.maildir disk.new)) (F.stored ledger.new.file) ledger.new.seen.rows
+        ledger.new.lines.items)) }
+    ensures keeps { D.sound disk.new → F.sound ledger.new.file
+        → KeepsMail (D.stays disk.old) (D.outlives disk.old) (D.stays disk.new) (D.outlives disk.new)
+        × KeepsBytes (F.outlives ledger.old.file) (F.outlives ledger.new.file) }
+    ensures lasts { D.sound disk.new → F.sound ledger.new.file → IsSafe F.FlatFile ledger.old.file
+        → OnOk result (IsSafe F.FlatFile ledger.new.file × ((files : List File)
+        → (D.maildir disk.new).files ≡ (D.maildir disk.old).files ++ files → AllByRecursion (D.outlives disk.new) files)) }
+{
+    conversations_are_paced();
+    marked_keeps_rows();
+    unheld_ids_are_not_there();
+    let stem = match file_stem(ledger.alloc, account, uid) {
+        Ok(stem) => stem,
+        Err(_) => return Err(plain(Fault::NoMemory)),
+    };
+    let body = match client.open(ledger.alloc, number) {
+        Ok(body) => body,
+        Err(fault) => return Err(plain(fault)),
+    };
+    let length = match store_text(client, disk, stem, body) {
+        Ok(length) => length,
+        Err(cut) => return Err(cut),
+    };
+    note(&mut ledger.lines, ReportLine::Delivered { number, length });
+    match remember(&mut ledger.file, &mut ledger.seen, uid) {
+        Ok(()) => Ok(()),
+        Err(fault) => Err(plain(fault)),
     }
 }

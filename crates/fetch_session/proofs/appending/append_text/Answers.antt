@@ -1,8 +1,3 @@
-use Rattle.std.proofs.Common.{List, Option, sym, subst, refl}
-use Rattle.fetch_rules.specs.Record.{Row, Intent}
-use Rattle.fetch_rules.specs.Intents.{IsNoneOrOf}
-use Rattle.fetch_session.specs.Record.{Steady, intent_at}
-use Rattle.fetch_session.proofs.RecordLemmas.{held as with_held}
 use Rattle.fetch_session.proofs.MboxLemmas.{appended_all, intended, not_appended, not_intended, not_measured}
 use Rattle.fetch_session.proofs.appending.append_text.Goals as goal
 

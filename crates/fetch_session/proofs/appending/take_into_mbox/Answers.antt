@@ -1,21 +1,24 @@
-use Rattle.std.proofs.Common.{◌≡◌, List, [], ◌∷◌, ◌++◌, ◌+◌, Vec, length, arith, sym, ap, subst, ◌∙◌, inl, refl}
+use Rattle.std.proofs.Common.{◌≡◌, List, [], ◌∷◌, ◌++◌, Vec, Ok, length, arith, sym, ap, subst, ◌∙◌, refl}
 use Rattle.std.proofs.lemmas.Bool.{true≢false}
 use Rattle.mail_terms.specs.Text.{IsWhole}
 use Rattle.fetch_rules.specs.Record.{Row, has_row}
 use Rattle.pop3_wire.specs.Link.{WhereSound}
-use Rattle.pop3_client.specs.Client.{place_of}
+use Rattle.pop3_client.specs.Client.{link_of, place_of}
 use Rattle.pop3_client.specs.Texts.{Fetched}
-use Rattle.pop3_client.specs.Turns.{line_limit, text_limit, retr}
+use Rattle.pop3_client.specs.Turns.{most, retr}
 use Rattle.fetch_session.specs.Target.{AsEntries, in_mbox}
-use Rattle.fetch_session.specs.Intake.{Took}
+use Rattle.fetch_session.specs.Intake.{TookTillCut}
 use Rattle.fetch_session.specs.Task.{stores}
 use Rattle.fetch_session.specs.declared.report.ReportLine.{ReportLine}
 use Rattle.fetch_session.specs.declared.report.ReportLine.TheVariants.{Delivered}
 use Rattle.fetch_session.proofs.TakeLemmas.{text_broken}
 use Rattle.fetch_session.proofs.MboxLemmas.{body_whole, entry_not_saved, entry_stored, not_held, text_refused}
-use Rattle.fetch_session.proofs.IntakeLemmas.{takes_plain, took_broke, takes_text, takes_held}
-use Rattle.fetch_session.proofs.RefusalLemmas.{before_cut, cut_by}
-use Rattle.pop3_client.proofs.ClientLemmas.{and_then, did_so}
+use Rattle.fetch_session.proofs.IntakeLemmas.{took_broke, takes_text, takes_held}
+use Rattle.fetch_session.proofs.PartLemmas.{ledger_idle, link_cut, link_then_cut}
+use Rattle.fetch_session.specs.Parts.{KeepsLink}
+use Rattle.fetch_session.specs.Report.{Adds}
+use Rattle.fetch_session.proofs.RefusalLemmas.{before_cut}
+use Rattle.pop3_client.proofs.ClientLemmas.{and_then, did_both, did_so}
 use Rattle.fetch_session.proofs.appending.take_into_mbox.Given.{Over}
 use Rattle.fetch_session.proofs.appending.take_into_mbox.Goals.{After-note, In-Ok-read_text}
 use Rattle.fetch_session.proofs.appending.take_into_mbox.Goals as goal
@@ -98,57 +101,77 @@ returns-clause-takes g c = λ w m f.
           c.deref-2.ensures.value (omega (arith, c.len-length.ensures, c.deref-2.ensures.len, ap length c.deref-2.ensures.value)) c.plain-in-Err-remember.ensures appends.2 c.append_text.ensures.rows saved.1 (told g (goal.at.returns-clause-takes g c).After-note),
     )
 
--- ---- ready for the next task
+-- ---- what is written down
 
-pub returns-in-Ok-remember-clause-ready : goal.returns-in-Ok-remember-clause-ready
-returns-in-Ok-remember-clause-ready g c = record {
-  closed = c.in-Ok-remember.ensures.closed;
-  steady = λ f. (c.in-Ok-remember.ensures.steady f).1;
+noted : (g : Over) (c : After-note g) → Adds c.args.ledger.now.lines 1 c.note.new.lines
+noted g c = subst (λ lines. Adds lines 1 c.note.new.lines) c.append_text.ensures.lines (omega (arith, c.note.ensures.len), c.note.ensures.capacity)
+
+pub returns-in-Err-clause-ledger : goal.returns-in-Err-clause-ledger
+returns-in-Err-clause-ledger g c = ledger_idle
+
+pub returns-in-Err-read_text-clause-ledger : goal.returns-in-Err-read_text-clause-ledger
+returns-in-Err-read_text-clause-ledger g c = ledger_idle
+
+pub returns-then-not-is_whole-clause-ledger : goal.returns-then-not-is_whole-clause-ledger
+returns-then-not-is_whole-clause-ledger g c = ledger_idle
+
+pub returns-in-Err-append_text-clause-ledger : goal.returns-in-Err-append_text-clause-ledger
+returns-in-Err-append_text-clause-ledger g c = record {
+  lines = rw c.append_text.ensures.lines (omega arith, omega arith);
+  sound = λ f. (c.append_text.ensures.steady f).0;
+  written = tt;
+  rows = tt;
 }
 
-pub returns-in-Ok-remember-clause-rows : goal.returns-in-Ok-remember-clause-rows
-returns-in-Ok-remember-clause-rows g c = λ other has.
-    ap (λ (r : List Row). has_row r other) (c.in-Ok-remember.ensures.rows)
-    ∙ c.marked_keeps_rows.ensures c.append_text.new.ledger.seen.rows c.args.uid.now other ∙ ap (λ (r : List Row). has_row r other) c.append_text.ensures.rows ∙ has
+pub returns-in-Ok-remember-clause-ledger : goal.returns-in-Ok-remember-clause-ledger
+returns-in-Ok-remember-clause-ledger g c = record {
+  lines = noted g (goal.at.returns-in-Ok-remember-clause-ledger g c).After-note;
+  sound = λ f. (c.append_text.ensures.steady (c.in-Ok-remember.ensures.saves f).0).0;
+  written = record { closed = c.in-Ok-remember.ensures.closed; steady = λ f. (c.in-Ok-remember.ensures.steady f).1 };
+  rows = λ other has. ap (λ (r : List Row). has_row r other) (c.in-Ok-remember.ensures.rows)
+      ∙ c.marked_keeps_rows.ensures c.append_text.new.ledger.seen.rows c.args.uid.now other ∙ ap (λ (r : List Row). has_row r other) c.append_text.ensures.rows ∙ has;
+}
 
--- ---- what was taken from the link
+pub returns-clause-ledger : goal.returns-clause-ledger
+returns-clause-ledger g c = record {
+  lines = noted g (goal.at.returns-clause-ledger g c).After-note;
+  sound = λ f. (c.append_text.ensures.steady (c.in-Err-remember.ensures.saves f).0).0;
+  written = tt;
+  rows = tt;
+}
 
-pub returns-in-Err-clause-took : goal.returns-in-Err-clause-took
-returns-in-Err-clause-took g c = did_so g.W.Wire c.in-Err.ensures.opens (λ opened.
-    takes_plain c.plain.ensures (took_broke c.conversations_are_paced.ensures (retr c.args.number) _ _ c.in-Err.fault opened))
+-- ---- the link
 
-pub returns-in-Err-read_text-clause-took : goal.returns-in-Err-read_text-clause-took
-returns-in-Err-read_text-clause-took g c = λ w.
-    let held = c.in-Err-read_text.ensures.holds w in
-    let opened = c.in-Ok.ensures.opens held.0 in
+pub returns-in-Err-clause-link : goal.returns-in-Err-clause-link
+returns-in-Err-clause-link g c = link_cut c.in-Err.fault c.open.ensures.link c.plain.ensures c.in-Err.ensures.counted
+    (did_so g.W.Wire c.in-Err.ensures.opens (took_broke c.conversations_are_paced.ensures (retr c.args.number) _ _ c.in-Err.fault))
+
+pub returns-in-Err-read_text-clause-link : goal.returns-in-Err-read_text-clause-link
+returns-in-Err-read_text-clause-link g c =
     let old = place_of g.W.Wire c.args.client.now in
-    (opened.0, takes_held c.conversations_are_paced.ensures c.args.number old c.in-Err-read_text.cut (place_of g.W.Wire c.read_text.new.client) (held.2 c.args.number old opened.2))
+    record {
+      same = c.read_text.ensures.link ∙ c.open.ensures.link;
+      counted = before_cut (link_of g.W.Wire c.args.client.now) (link_of g.W.Wire c.open.new.self) (link_of g.W.Wire c.read_text.new.client) c.in-Err-read_text.cut c.in-Ok.ensures.counted c.in-Err-read_text.ensures.counted;
+      took = did_both g.W.Wire c.in-Ok.ensures.opens c.in-Err-read_text.ensures.holds (λ opened held.
+          takes_held c.conversations_are_paced.ensures c.args.number old c.in-Err-read_text.cut (place_of g.W.Wire c.read_text.new.client) (held c.args.number old opened));
+    }
 
 -- the text was read
-took_read : (g : Over) (c : In-Ok-read_text g) → g.W.Wire.sound c.read_text.new.client.wire.now
-    → g.W.Wire.sound c.args.client.now.wire.now × Took (line_limit + text_limit) (place_of g.W.Wire c.args.client.now) (place_of g.W.Wire c.read_text.new.client)
-took_read g c = did_so g.W.Wire (read g c) (takes_text c.conversations_are_paced.ensures c.args.number _ c.in-Ok-read_text.text.items 0 _)
+took : (g : Over) (c : In-Ok-read_text g) → KeepsLink g.W.Wire (TookTillCut (most (retr c.args.number))) c.args.client.now (Ok tt) c.read_text.new.client
+took g c = record {
+  same = c.read_text.ensures.link ∙ c.open.ensures.link;
+  counted = c.in-Ok-read_text.ensures.counted ∙ c.in-Ok.ensures.counted;
+  took = did_so g.W.Wire (read g c) (takes_text c.conversations_are_paced.ensures c.args.number _ c.in-Ok-read_text.text.items 0 _);
+}
 
-pub returns-then-not-is_whole-clause-took : goal.returns-then-not-is_whole-clause-took
-returns-then-not-is_whole-clause-took g c = λ w.
-    let took = took_read g (goal.at.returns-then-not-is_whole-clause-took g c).In-Ok-read_text w in
-    (took.0, takes_plain c.plain-then-not-is_whole.ensures took.1)
+pub returns-then-not-is_whole-clause-link : goal.returns-then-not-is_whole-clause-link
+returns-then-not-is_whole-clause-link g c = link_then_cut c.plain-then-not-is_whole.ensures (took g (goal.at.returns-then-not-is_whole-clause-link g c).In-Ok-read_text)
 
-pub returns-in-Err-append_text-clause-took : goal.returns-in-Err-append_text-clause-took
-returns-in-Err-append_text-clause-took g c = λ w.
-    let took = took_read g (goal.at.returns-in-Err-append_text-clause-took g c).In-Ok-read_text w in
-    (took.0, takes_plain c.plain-in-Err-append_text.ensures took.1)
+pub returns-in-Err-append_text-clause-link : goal.returns-in-Err-append_text-clause-link
+returns-in-Err-append_text-clause-link g c = link_then_cut c.plain-in-Err-append_text.ensures (took g (goal.at.returns-in-Err-append_text-clause-link g c).In-Ok-read_text)
 
-pub returns-in-Ok-remember-clause-took : goal.returns-in-Ok-remember-clause-took
-returns-in-Ok-remember-clause-took g c = took_read g (goal.at.returns-in-Ok-remember-clause-took g c).In-Ok-read_text
+pub returns-in-Ok-remember-clause-link : goal.returns-in-Ok-remember-clause-link
+returns-in-Ok-remember-clause-link g c = took g (goal.at.returns-in-Ok-remember-clause-link g c).In-Ok-read_text
 
-pub returns-clause-took : goal.returns-clause-took
-returns-clause-took g c = λ w.
-    let took = took_read g (goal.at.returns-clause-took g c).In-Ok-read_text w in
-    (took.0, takes_plain c.plain-in-Err-remember.ensures took.1)
-
--- ---- refused calls of the link
-
-pub returns-in-Err-clause-counted : goal.returns-in-Err-clause-counted
-returns-in-Err-clause-counted g c =
-    cut_by c.in-Err.fault c.plain.result (g.W.Wire.history c.args.client.now.wire.now) (g.W.Wire.history c.open.new.self.wire.now) c.plain.ensures c.in-Err.ensures.counted
+pub returns-clause-link : goal.returns-clause-link
+returns-clause-link g c = link_then_cut c.plain-in-Err-remember.ensures (took g (goal.at.returns-clause-link g c).In-Ok-read_text)

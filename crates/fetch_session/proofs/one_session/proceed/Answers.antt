@@ -1,5 +1,5 @@
-use Rattle.std.proofs.Common.{◌+◌, ◌*◌, length, Ok, Err, arith, ◌∙◌, inl}
-use Rattle.pop3_client.specs.Client.{place_of}
+use Rattle.std.proofs.Common.{◌+◌, ◌*◌, length, Ok, Err, arith, refl, ◌∙◌, inl}
+use Rattle.pop3_client.specs.Client.{link_of, place_of}
 use Rattle.fetch_session.specs.Intake.{opening_limit, step_limit, tail_limit}
 use Rattle.fetch_session.specs.Session.{keeping, noted}
 use Rattle.fetch_session.specs.Target.{stores_of, target_of}
@@ -25,25 +25,51 @@ returns-clause-proceeds g c = λ w d f.
           c.in-Ok.listing (place_of g.W.Wire c.enter.new.client) c.reserve.new.self.items new.work.store new.work.ledger.file (c.reserve.ensures.items ∙ c.requires.nothing.2) entered.2 c.len-counts.ensures.count does.4,
     )
 
-pub returns-in-Err-clause-took : goal.returns-in-Err-clause-took
-returns-in-Err-clause-took g c = λ w.
-    let entered = c.in-Err.ensures.enters w in
-    (entered.0, with_plain_tail c.plain.ensures (took_entering c.conversations_are_paced.ensures _ _ _ _ (Err c.in-Err.fault) entered.2) (omega arith))
+-- ---- what is kept
 
-pub returns-in-Err-reserve-clause-took : goal.returns-in-Err-reserve-clause-took
-returns-in-Err-reserve-clause-took g c = λ w.
-    let entered = c.in-Ok.ensures.enters w in
-    (entered.0, with_plain_tail c.plain-in-Err-reserve.ensures (took_entering c.conversations_are_paced.ensures _ _ _ _ (Ok c.in-Ok.listing) entered.2) (omega arith))
+pub returns-in-Err-clause-link : goal.returns-in-Err-clause-link
+returns-in-Err-clause-link g c = record {
+  same = c.enter.ensures.link;
+  counted = cut_by c.in-Err.fault c.plain.result (link_of g.W.Wire c.args.client.now) (link_of g.W.Wire c.enter.new.client) c.plain.ensures c.in-Err.ensures.counted;
+  took = λ w.
+      let entered = c.in-Err.ensures.enters w in
+      (entered.0, with_plain_tail c.plain.ensures (took_entering c.conversations_are_paced.ensures _ _ _ _ (Err c.in-Err.fault) entered.2) (omega arith));
+}
 
-pub returns-clause-took : goal.returns-clause-took
-returns-clause-took g c = λ w.
-    let does = c.carry_out.ensures.took w in
-    let entered = c.in-Ok.ensures.enters does.0 in
-    let old = place_of g.W.Wire c.args.client.now in
-    let mid = place_of g.W.Wire c.enter.new.client in
-    let new = place_of g.W.Wire c.carry_out.new.client in
-    let n = length c.in-Ok.listing in (
-      entered.0,
-      with_tail_on (opening_limit + (c.len-counts.result * step_limit + tail_limit)) opening_limit (n * step_limit + tail_limit) old mid new c.carry_out.result
-          (omega (arith, c.len-counts.ensures.count)) (took_entering c.conversations_are_paced.ensures _ _ old mid (Ok c.in-Ok.listing) entered.2) does.1,
-    )
+pub returns-in-Err-reserve-clause-link : goal.returns-in-Err-reserve-clause-link
+returns-in-Err-reserve-clause-link g c = record {
+  same = c.enter.ensures.link;
+  counted = inl c.in-Ok.ensures.counted;
+  took = λ w.
+      let entered = c.in-Ok.ensures.enters w in
+      (entered.0, with_plain_tail c.plain-in-Err-reserve.ensures (took_entering c.conversations_are_paced.ensures _ _ _ _ (Ok c.in-Ok.listing) entered.2) (omega arith));
+}
+
+pub returns-clause-link : goal.returns-clause-link
+returns-clause-link g c =
+    let old = c.args.client.now in
+    let mid = c.enter.new.client in
+    let new = c.carry_out.new.client in
+    let n = length c.in-Ok.listing in
+    record {
+      same = c.carry_out.ensures.link.same ∙ c.enter.ensures.link;
+      counted = till_cut (link_of g.W.Wire old) (link_of g.W.Wire mid) (link_of g.W.Wire new) c.carry_out.result c.in-Ok.ensures.counted c.carry_out.ensures.link.counted;
+      took = λ w.
+          let does = c.carry_out.ensures.link.took w in
+          let entered = c.in-Ok.ensures.enters does.0 in (
+            entered.0,
+            with_tail_on (opening_limit + (c.len-counts.result * step_limit + tail_limit)) opening_limit (n * step_limit + tail_limit) (place_of g.W.Wire old) (place_of g.W.Wire mid) (place_of g.W.Wire new) c.carry_out.result
+                (omega (arith, c.len-counts.ensures.count)) (took_entering c.conversations_are_paced.ensures _ _ (place_of g.W.Wire old) (place_of g.W.Wire mid) (Ok c.in-Ok.listing) entered.2) does.1,
+          );
+    }
+
+pub returns-in-Err-clause-store : goal.returns-in-Err-clause-store
+returns-in-Err-clause-store g c = record { lines = (omega arith, omega arith); kind = refl; calm = λ d. (d, c.requires.calm d) }
+
+pub returns-in-Err-reserve-clause-store : goal.returns-in-Err-reserve-clause-store
+returns-in-Err-reserve-clause-store g c = record { lines = (omega arith, omega arith); kind = refl; calm = λ d. (d, c.requires.calm d) }
+
+pub returns-clause-store : goal.returns-clause-store
+returns-clause-store g c =
+    let kept = c.carry_out.ensures.store in
+    record { lines = (omega (arith, kept.lines.0), omega (arith, kept.lines.1)); kind = kept.kind; calm = kept.calm }

@@ -1,18 +1,22 @@
-use Rattle.std.proofs.Common.{◌+◌, ◌*◌, List, [], ◌∷◌, Bool, inl, inr, arith, length, Ok, Err, sym, ap, subst, ◌∙◌, refl}
-use Rattle.pop3_client.specs.Client.{place_of}
+use Rattle.std.proofs.Common.{◌≡◌, ◌+◌, ◌*◌, ℕ, List, [], ◌∷◌, true, inl, inr, arith, length, Ok, Err, ap, ◌∙◌}
+use Rattle.pop3_client.specs.Client.{link_of, place_of}
+use Rattle.mail_terms.specs.UniqueId.{IsLegalId}
 use Rattle.fetch_rules.specs.Plan.{planned}
+use Rattle.fetch_rules.specs.Record.{has_row}
 use Rattle.pop3_client.specs.Turns.{line_limit, quit}
-use Rattle.fetch_rules.specs.declared.steps.Step.{Step}
-use Rattle.mail_store.specs.Held.{flags_of}
-use Rattle.fetch_session.specs.Target.{Kind, flags_in, stores_of, target as target_at}
-use Rattle.fetch_session.specs.Task.{tasks_planned, ids_ahead, says, AreFresh}
+use Rattle.fetch_session.specs.Target.{stores_of}
+use Rattle.fetch_session.specs.Task.{says}
 use Rattle.fetch_session.specs.Report.{skipped_in}
-use Rattle.fetch_session.specs.Intake.{step_limit, tail_limit}
+use Rattle.fetch_session.specs.Intake.{TookTillCut, step_limit, tail_limit}
+use Rattle.fetch_session.specs.Parts.{KeepsLink, KeepsStore}
 use Rattle.fetch_session.proofs.PlanLemmas.{flags_same, fresh_firsts}
 use Rattle.fetch_session.proofs.CarryLemmas.{carried, firm_both, good_broke, good_quit, unprepared}
-use Rattle.fetch_session.proofs.IntakeLemmas.{took_nothing, took_less, took_on, with_any_tail, with_plain_tail, with_tail_on, took_completing, quit_broke}
+use Rattle.fetch_session.proofs.IntakeLemmas.{took_less, took_on, with_tail_on, took_completing, quit_broke}
+use Rattle.fetch_session.proofs.PartLemmas.{link_idle, link_less, link_with_tail, most_planned, planned_all, store_less}
 use Rattle.fetch_session.proofs.RefusalLemmas.{before_cut, cut_by}
 use Rattle.fetch_session.proofs.LastLemmas.{good_before, in_kind}
+use Rattle.fetch_session.proofs.plan.carry_out.Given.{Over}
+use Rattle.fetch_session.proofs.plan.carry_out.Goals.{After-do_steps, In_default}
 use Rattle.fetch_session.proofs.plan.carry_out.Goals as goal
 
 pub returns-in-Err-clause-carries : goal.returns-in-Err-clause-carries
@@ -21,20 +25,27 @@ returns-in-Err-clause-carries g c = λ w d f.
     (w, ready.0, ready.1, g.met.W.Wire.leads_same c.args.client.now.wire.now, ([], inl (c.requires.none_skipped, unprepared c.plain.ensures ready.2)))
 
 pub do_steps-requires-clause-ready : goal.do_steps-requires-clause-ready
-do_steps-requires-clause-ready g c = record {
-  calm = λ d. let stays = c.in-Ok.ensures.stays d in stays.1 ∙ c.requires.calm stays.0;
-  written = record { closed = c.in-Ok.ensures.closed; steady = λ f. (c.in-Ok.ensures.steady f).1 };
-}
-
-pub do_steps-requires-clause-free : goal.do_steps-requires-clause-free
-do_steps-requires-clause-free g c = λ kept.
-    let stays = c.in-Ok.ensures.stays kept in
+do_steps-requires-clause-ready g c =
     let account = c.args.terms.account.now in
     let items = c.args.listing.now in
     let rows = c.prepare.new.seen.rows in
-    rw (c.deref-2.ensures.value, c.deref-3.ensures.value, stays.2, c.in-Ok.ensures.plans, ← c.prepare.ensures.kind, flags_same g.D.MaildirDisk g.F.FlatFile c.prepare.new.store account items)
-    (fresh_firsts account (stores_of g.D.MaildirDisk g.F.FlatFile c.prepare.new.store).maildir [] (planned c.args.terms.settings.now rows items c.args.terms.now) items
-    (c.firsts_are_fetched.ensures c.args.terms.settings.now rows items c.args.terms.now) c.requires.legal)
+    let steps = c.deref-2.result.now in
+    let held = c.deref-3.result.now in
+    record {
+      digits = c.requires.digits;
+      room = omega (arith, c.requires.room, (most_planned steps items held).1);
+      ready = record {
+        calm = λ d. let stays = c.in-Ok.ensures.stays d in stays.1 ∙ c.requires.calm stays.0;
+        written = record { closed = c.in-Ok.ensures.closed; steady = λ f. (c.in-Ok.ensures.steady f).1 };
+      };
+      legal = planned_all IsLegalId steps items held c.requires.legal;
+      rows = planned_all (λ (uid : List ℕ). has_row rows uid ≡ true) steps items held c.in-Ok.ensures.rows;
+      free = λ kept.
+          let stays = c.in-Ok.ensures.stays kept in
+          rw (c.deref-2.ensures.value, c.deref-3.ensures.value, stays.2, c.in-Ok.ensures.plans, ← c.prepare.ensures.kind, flags_same g.D.MaildirDisk g.F.FlatFile c.prepare.new.store account items)
+          (fresh_firsts account (stores_of g.D.MaildirDisk g.F.FlatFile c.prepare.new.store).maildir [] (planned c.args.terms.settings.now rows items c.args.terms.now) items
+          (c.firsts_are_fetched.ensures c.args.terms.settings.now rows items c.args.terms.now) c.requires.legal);
+    }
 
 pub returns-in-Err-do_steps-clause-carries : goal.returns-in-Err-do_steps-clause-carries
 returns-in-Err-do_steps-clause-carries g c = λ w d f.
@@ -47,7 +58,7 @@ returns-in-Err-do_steps-clause-carries g c = λ w d f.
       (
         c.do_steps.new.work.ledger.seen.rows,
         inr (carried g.D.MaildirDisk g.F.FlatFile c.prepare.new.store c.deref-2.result.now c.deref-3.result.now ready.2 c.deref-2.ensures.value c.deref-3.ensures.value
-            (c.skipped_in.ensures ∙ ap skipped_in c.deref.ensures.value) (λ sure. (c.in-Ok.ensures.lasts done.1 sure.0).1) (λ sure. firm_both (c.in-Ok.ensures.file_lasts done.2 sure.1) (c.in-Ok.ensures.lasts done.1 sure.0).0) (c.do_steps.ensures.keeps w d f)
+            (c.skipped_in.ensures ∙ ap skipped_in c.deref.ensures.value) (λ sure. (c.in-Ok.ensures.lasts done.1 sure.0).1) (λ sure. firm_both (c.in-Ok.ensures.file_lasts done.2 sure.1) (c.in-Ok.ensures.lasts done.1 sure.0).0) (c.in-Err-do_steps.ensures.keeps.lasts d f).1
             (good_before (says quit ∷ []) (in_kind c.prepare.new.store c.args.work.now.store c.args.terms.account.now c.prepare.ensures.kind done.4
             (λ safe. safe)))),
       ),
@@ -65,7 +76,7 @@ returns-in-Ok-quit-clause-carries g c = λ w d f.
       (
         c.do_steps.new.work.ledger.seen.rows,
         (carried g.D.MaildirDisk g.F.FlatFile c.prepare.new.store c.deref-2.result.now c.deref-3.result.now ready.2 c.deref-2.ensures.value c.deref-3.ensures.value
-            (c.skipped_in.ensures ∙ ap skipped_in c.deref.ensures.value) (λ sure. (c.in-Ok.ensures.lasts done.1 sure.0).1) (λ sure. firm_both (c.in-Ok.ensures.file_lasts done.2 sure.1) (c.in-Ok.ensures.lasts done.1 sure.0).0) (c.do_steps.ensures.keeps completes.0 d f)
+            (c.skipped_in.ensures ∙ ap skipped_in c.deref.ensures.value) (λ sure. (c.in-Ok.ensures.lasts done.1 sure.0).1) (λ sure. firm_both (c.in-Ok.ensures.file_lasts done.2 sure.1) (c.in-Ok.ensures.lasts done.1 sure.0).0) (c.in_default.ensures.keeps.lasts d f).1
             (good_quit completes.2.0 (place_of g.W.Wire c.quit.new.self) (in_kind c.prepare.new.store c.args.work.now.store c.args.terms.account.now c.prepare.ensures.kind done.4
             (λ safe. safe)) completes.2.1)),
       ),
@@ -83,45 +94,77 @@ returns-clause-carries g c = λ w d f.
       (
         c.do_steps.new.work.ledger.seen.rows,
         inr (carried g.D.MaildirDisk g.F.FlatFile c.prepare.new.store c.deref-2.result.now c.deref-3.result.now ready.2 c.deref-2.ensures.value c.deref-3.ensures.value
-            (c.skipped_in.ensures ∙ ap skipped_in c.deref.ensures.value) (λ sure. (c.in-Ok.ensures.lasts done.1 sure.0).1) (λ sure. firm_both (c.in-Ok.ensures.file_lasts done.2 sure.1) (c.in-Ok.ensures.lasts done.1 sure.0).0) (c.do_steps.ensures.keeps completes.0 d f)
+            (c.skipped_in.ensures ∙ ap skipped_in c.deref.ensures.value) (λ sure. (c.in-Ok.ensures.lasts done.1 sure.0).1) (λ sure. firm_both (c.in-Ok.ensures.file_lasts done.2 sure.1) (c.in-Ok.ensures.lasts done.1 sure.0).0) (c.in_default.ensures.keeps.lasts d f).1
             (good_broke (place_of g.W.Wire c.quit.new.self) c.in-Err-quit.fault c.plain-in-Err-quit.result
             (in_kind c.prepare.new.store c.args.work.now.store c.args.terms.account.now c.prepare.ensures.kind done.4
             (λ safe. safe)) c.plain-in-Err-quit.ensures completes.2)),
       ),
     )
 
--- ---- what was taken from the link
+-- ---- what is kept
 
-pub returns-in-Err-clause-took : goal.returns-in-Err-clause-took
-returns-in-Err-clause-took g c = λ w. (w, with_plain_tail c.plain.ensures took_nothing (omega arith))
+pub returns-in-Err-clause-link : goal.returns-in-Err-clause-link
+returns-in-Err-clause-link g c = link_with_tail (link_idle {limit = length c.args.listing.now * step_limit} c.plain.ensures)
 
-pub returns-in-Err-do_steps-clause-took : goal.returns-in-Err-do_steps-clause-took
-returns-in-Err-do_steps-clause-took g c = λ w.
-    let done = c.in-Err-do_steps.ensures.took w in
-    (done.0, with_any_tail (length c.args.listing.now * step_limit) (place_of g.W.Wire c.args.client.now) (place_of g.W.Wire c.do_steps.new.client) c.in-Err-do_steps.cut done.1)
+pub returns-in-Err-clause-store : goal.returns-in-Err-clause-store
+returns-in-Err-clause-store g c = record {
+  lines = (omega arith, omega arith);
+  kind = c.prepare.ensures.kind;
+  calm = λ d. let stays = c.in-Err.ensures.stays d in (stays.0, stays.1 ∙ c.requires.calm stays.0);
+}
 
-pub returns-in-Ok-quit-clause-took : goal.returns-in-Ok-quit-clause-took
-returns-in-Ok-quit-clause-took g c = λ w.
-    let completes = c.in-Ok-quit.ensures.completes w in
-    let done = c.in_default.ensures.took completes.0 in
-    (done.0, took_less (took_on done.1 (took_completing c.conversations_are_paced.ensures quit _ _ (Ok tt) completes.2)) (omega arith))
+pub returns-in-Err-do_steps-clause-link : goal.returns-in-Err-do_steps-clause-link
+returns-in-Err-do_steps-clause-link g c = link_with_tail (link_less (length c.args.listing.now * step_limit)
+    (most_planned c.deref-2.result.now c.args.listing.now c.deref-3.result.now).0 c.in-Err-do_steps.ensures.keeps.talk)
 
-pub returns-clause-took : goal.returns-clause-took
-returns-clause-took g c = λ w.
-    let completes = c.in-Err-quit.ensures.completes w in
-    let done = c.in_default.ensures.took completes.0 in
+-- all steps were done
+did : (g : Over) (c : In_default g) → KeepsLink g.W.Wire (TookTillCut (length c.args.listing.now * step_limit)) c.args.client.now (Ok tt) c.do_steps.new.client
+did g c = link_less (length c.args.listing.now * step_limit) (most_planned c.deref-2.result.now c.args.listing.now c.deref-3.result.now).0 c.in_default.ensures.keeps.talk
+
+pub returns-in-Ok-quit-clause-link : goal.returns-in-Ok-quit-clause-link
+returns-in-Ok-quit-clause-link g c =
+    let done = did g (goal.at.returns-in-Ok-quit-clause-link g c).In_default in
+    record {
+      same = c.quit.ensures.link ∙ done.same;
+      counted = c.in-Ok-quit.ensures.counted ∙ done.counted;
+      took = λ w.
+          let completes = c.in-Ok-quit.ensures.completes w in
+          let took = done.took completes.0 in
+          (took.0, took_less (took_on took.1 (took_completing c.conversations_are_paced.ensures quit _ _ (Ok tt) completes.2)) (omega arith));
+    }
+
+pub returns-clause-link : goal.returns-clause-link
+returns-clause-link g c =
+    let done = did g (goal.at.returns-clause-link g c).In_default in
     let most = length c.args.listing.now * step_limit in
-    let mid = place_of g.W.Wire c.do_steps.new.client in
-    let new = place_of g.W.Wire c.quit.new.self in
-    let cut = c.plain-in-Err-quit.result in (
-      done.0,
-      with_tail_on (most + tail_limit) most line_limit (place_of g.W.Wire c.args.client.now) mid new (Err cut) (omega arith) done.1
-          (quit_broke c.conversations_are_paced.ensures mid new c.in-Err-quit.fault cut completes.2 c.plain-in-Err-quit.ensures),
-    )
+    let old = c.args.client.now in
+    let mid = c.do_steps.new.client in
+    let new = c.quit.new.self in
+    let cut = c.plain-in-Err-quit.result in
+    record {
+      same = c.quit.ensures.link ∙ done.same;
+      counted = before_cut (link_of g.W.Wire old) (link_of g.W.Wire mid) (link_of g.W.Wire new) cut done.counted
+          (cut_by c.in-Err-quit.fault cut (link_of g.W.Wire mid) (link_of g.W.Wire new) c.plain-in-Err-quit.ensures c.in-Err-quit.ensures.counted);
+      took = λ w.
+          let completes = c.in-Err-quit.ensures.completes w in
+          let took = done.took completes.0 in (
+            took.0,
+            with_tail_on (most + tail_limit) most line_limit (place_of g.W.Wire old) (place_of g.W.Wire mid) (place_of g.W.Wire new) (Err cut) (omega arith) took.1
+                (quit_broke c.conversations_are_paced.ensures (place_of g.W.Wire mid) (place_of g.W.Wire new) c.in-Err-quit.fault cut completes.2 c.plain-in-Err-quit.ensures),
+          );
+    }
 
--- ---- refused calls of the link
+-- the store was prepared, and then used
+stood : (g : Over) (c : After-do_steps g) → KeepsStore g.D.MaildirDisk g.F.FlatFile (2 * length c.args.listing.now) c.args.work.now c.do_steps.new.work
+stood g c =
+    let kept = store_less (most_planned c.deref-2.result.now c.args.listing.now c.deref-3.result.now).1 c.do_steps.ensures.keeps.store in
+    record { lines = kept.lines; kind = kept.kind ∙ c.prepare.ensures.kind; calm = λ d. ((c.in-Ok.ensures.stays (kept.calm d).0).0, (kept.calm d).1) }
 
-pub returns-clause-counted : goal.returns-clause-counted
-returns-clause-counted g c =
-    before_cut (g.W.Wire.history c.args.client.now.wire.now) (g.W.Wire.history c.do_steps.new.client.wire.now) (g.W.Wire.history c.quit.new.self.wire.now) c.plain-in-Err-quit.result c.in_default.ensures.counted
-    (cut_by c.in-Err-quit.fault c.plain-in-Err-quit.result (g.W.Wire.history c.do_steps.new.client.wire.now) (g.W.Wire.history c.quit.new.self.wire.now) c.plain-in-Err-quit.ensures c.in-Err-quit.ensures.counted)
+pub returns-in-Err-do_steps-clause-store : goal.returns-in-Err-do_steps-clause-store
+returns-in-Err-do_steps-clause-store g c = stood g (goal.at.returns-in-Err-do_steps-clause-store g c).After-do_steps
+
+pub returns-in-Ok-quit-clause-store : goal.returns-in-Ok-quit-clause-store
+returns-in-Ok-quit-clause-store g c = stood g (goal.at.returns-in-Ok-quit-clause-store g c).After-do_steps
+
+pub returns-clause-store : goal.returns-clause-store
+returns-clause-store g c = stood g (goal.at.returns-clause-store g c).After-do_steps

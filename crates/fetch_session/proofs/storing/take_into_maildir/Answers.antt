@@ -1,9 +1,9 @@
-use Rattle.std.proofs.Common.{List, ℕ, Ok, Err, refl, sym, ap, subst, ◌∙◌, string_bytes}
+use Rattle.std.proofs.Common.{List, ℕ, Ok, Err, arith, refl, sym, ap, subst, ◌∙◌, string_bytes}
 use Rattle.fetch_rules.specs.Record.{Row, Held, has_row, none_open, marked}
 use Rattle.fetch_session.specs.Record.{Saves, Steady}
 use Rattle.fetch_session.proofs.RecordLemmas.{held_is}
-use Rattle.pop3_client.specs.Turns.{retr}
-use Rattle.pop3_client.specs.Client.{place_of}
+use Rattle.pop3_client.specs.Turns.{most, retr}
+use Rattle.pop3_client.specs.Client.{link_of, place_of}
 use Rattle.mail_store.specs.Maildir.{IsThere}
 use Rattle.mail_store.specs.FileName.{sized, sized_file, stem_of}
 use Rattle.fetch_session.specs.Store.{Grows}
@@ -12,13 +12,17 @@ use Rattle.fetch_session.specs.Task.{stores}
 use Rattle.fetch_session.proofs.LastLemmas.{came_outlives}
 use Rattle.fetch_session.proofs.StoreLemmas.{stores_grows}
 use Rattle.fetch_session.proofs.TakeLemmas.{text_broken, text_wanting, text_stops, text_stored, text_not_saved}
-use Rattle.fetch_session.proofs.IntakeLemmas.{takes_plain, took_broke, takes_text, takes_stopped}
+use Rattle.fetch_session.proofs.IntakeLemmas.{took_broke, takes_text, takes_stopped}
+use Rattle.fetch_session.proofs.PartLemmas.{ledger_idle, link_cut, link_idle, link_then_cut}
+use Rattle.fetch_session.specs.Intake.{TookTillCut}
+use Rattle.fetch_session.specs.Parts.{KeepsLink}
+use Rattle.fetch_session.specs.Report.{Adds}
 use Rattle.fetch_session.proofs.SceneLemmas.{all_sound}
-use Rattle.fetch_session.proofs.RefusalLemmas.{cut_by}
+use Rattle.fetch_session.proofs.RefusalLemmas.{before_cut}
 use Rattle.pop3_client.proofs.ClientLemmas.{and_then, did_both, did_so}
-use Rattle.fetch_session.proofs.step.take_into_maildir.Given.{Over}
-use Rattle.fetch_session.proofs.step.take_into_maildir.Goals.{After-store_text}
-use Rattle.fetch_session.proofs.step.take_into_maildir.Goals as goal
+use Rattle.fetch_session.proofs.storing.take_into_maildir.Given.{Over}
+use Rattle.fetch_session.proofs.storing.take_into_maildir.Goals.{After-note, After-store_text, In-Ok-store_text}
+use Rattle.fetch_session.proofs.storing.take_into_maildir.Goals as goal
 
 pub returns-in-Err-clause-takes : goal.returns-in-Err-clause-takes
 returns-in-Err-clause-takes g c = λ w d f. (
@@ -78,10 +82,34 @@ pub remember-requires-clause-steady : goal.remember-requires-clause-steady
 remember-requires-clause-steady g c = λ f.
     subst (λ (h : Held). Steady (g.F.FlatFile.stored c.args.ledger.now.file).content h) (held_is c.args.ledger.now.seen c.requires.ready.closed) (c.requires.ready.steady f)
 
-pub returns-in-Ok-remember-clause-ready : goal.returns-in-Ok-remember-clause-ready
-returns-in-Ok-remember-clause-ready g c = record {
-  closed = c.in-Ok-remember.ensures.closed;
-  steady = λ f. (c.in-Ok-remember.ensures.steady f).1;
+-- a line is noted for the text
+noted : (g : Over) (c : After-note g) → Adds c.args.ledger.now.lines 1 c.note.new.lines
+noted g c = (omega (arith, c.note.ensures.len), c.note.ensures.capacity)
+
+pub returns-in-Err-clause-ledger : goal.returns-in-Err-clause-ledger
+returns-in-Err-clause-ledger g c = ledger_idle
+
+pub returns-in-Err-open-clause-ledger : goal.returns-in-Err-open-clause-ledger
+returns-in-Err-open-clause-ledger g c = ledger_idle
+
+pub returns-in-Err-store_text-clause-ledger : goal.returns-in-Err-store_text-clause-ledger
+returns-in-Err-store_text-clause-ledger g c = ledger_idle
+
+pub returns-in-Ok-remember-clause-ledger : goal.returns-in-Ok-remember-clause-ledger
+returns-in-Ok-remember-clause-ledger g c = record {
+  lines = noted g (goal.at.returns-in-Ok-remember-clause-ledger g c).After-note;
+  sound = λ f. (c.in-Ok-remember.ensures.saves f).0;
+  written = record { closed = c.in-Ok-remember.ensures.closed; steady = λ f. (c.in-Ok-remember.ensures.steady f).1 };
+  rows = λ other has. ap (λ (r : List Row). has_row r other) c.in-Ok-remember.ensures.rows
+      ∙ c.marked_keeps_rows.ensures c.args.ledger.now.seen.rows c.args.uid.now other ∙ has;
+}
+
+pub returns-in-Err-remember-clause-ledger : goal.returns-in-Err-remember-clause-ledger
+returns-in-Err-remember-clause-ledger g c = record {
+  lines = noted g (goal.at.returns-in-Err-remember-clause-ledger g c).After-note;
+  sound = λ f. (c.in-Err-remember.ensures.saves f).0;
+  written = tt;
+  rows = tt;
 }
 
 -- ---- what was taken from the link
@@ -97,37 +125,39 @@ returns-in-Err-open-clause-takes g c = λ w m f.
           c.in-Err-open.fault c.plain-in-Err-open.result refl c.plain-in-Err-open.ensures opened.2,
     )
 
-pub returns-in-Err-open-clause-took : goal.returns-in-Err-open-clause-took
-returns-in-Err-open-clause-took g c = did_so g.W.Wire c.in-Err-open.ensures.opens (λ opened.
-    takes_plain c.plain-in-Err-open.ensures (took_broke c.conversations_are_paced.ensures (retr c.args.number) _ _ c.in-Err-open.fault opened))
+pub returns-in-Err-clause-link : goal.returns-in-Err-clause-link
+returns-in-Err-clause-link g c = link_idle c.plain.ensures
 
-pub returns-in-Err-store_text-clause-took : goal.returns-in-Err-store_text-clause-took
-returns-in-Err-store_text-clause-took g c =
+pub returns-in-Err-open-clause-link : goal.returns-in-Err-open-clause-link
+returns-in-Err-open-clause-link g c = link_cut c.in-Err-open.fault c.open.ensures.link c.plain-in-Err-open.ensures c.in-Err-open.ensures.counted
+    (did_so g.W.Wire c.in-Err-open.ensures.opens (took_broke c.conversations_are_paced.ensures (retr c.args.number) _ _ c.in-Err-open.fault))
+
+pub returns-in-Err-store_text-clause-link : goal.returns-in-Err-store_text-clause-link
+returns-in-Err-store_text-clause-link g c =
     let stores = c.in-Err-store_text.ensures.stores in
-    did_both g.W.Wire c.in-Ok-open.ensures.opens stores.2 (λ opened link. takes_stopped c.conversations_are_paced.ensures c.args.number _ stores.0 c.in-Err-store_text.cut (place_of g.W.Wire c.store_text.new.client) (link c.args.number _ opened))
+    record {
+      same = c.store_text.ensures.link ∙ c.open.ensures.link;
+      counted = before_cut (link_of g.W.Wire c.args.client.now) (link_of g.W.Wire c.open.new.self) (link_of g.W.Wire c.store_text.new.client) c.in-Err-store_text.cut c.in-Ok-open.ensures.counted c.in-Err-store_text.ensures.counted;
+      took = did_both g.W.Wire c.in-Ok-open.ensures.opens stores.2 (λ opened link. takes_stopped c.conversations_are_paced.ensures c.args.number _ stores.0 c.in-Err-store_text.cut (place_of g.W.Wire c.store_text.new.client) (link c.args.number _ opened));
+    }
 
-pub returns-in-Ok-remember-clause-took : goal.returns-in-Ok-remember-clause-took
-returns-in-Ok-remember-clause-took g c =
+-- the text was read
+stored : (g : Over) (c : In-Ok-store_text g) → KeepsLink g.W.Wire (TookTillCut (most (retr c.args.number))) c.args.client.now (Ok tt) c.store_text.new.client
+stored g c =
     let stores = c.in-Ok-store_text.ensures.stores in
-    did_both g.W.Wire c.in-Ok-open.ensures.opens stores.2 (λ opened link. takes_text c.conversations_are_paced.ensures c.args.number _ stores.0 c.in-Ok-store_text.length _ (link c.args.number _ opened))
+    record {
+      same = c.store_text.ensures.link ∙ c.open.ensures.link;
+      counted = c.in-Ok-store_text.ensures.counted ∙ c.in-Ok-open.ensures.counted;
+      took = did_both g.W.Wire c.in-Ok-open.ensures.opens stores.2 (λ opened link. takes_text c.conversations_are_paced.ensures c.args.number _ stores.0 c.in-Ok-store_text.length _ (link c.args.number _ opened));
+    }
 
-pub returns-in-Err-remember-clause-took : goal.returns-in-Err-remember-clause-took
-returns-in-Err-remember-clause-took g c =
-    let stores = c.in-Ok-store_text.ensures.stores in
-    did_both g.W.Wire c.in-Ok-open.ensures.opens stores.2 (λ opened link.
-    takes_plain c.plain-in-Err-remember.ensures (takes_text c.conversations_are_paced.ensures c.args.number _ stores.0 c.in-Ok-store_text.length _ (link c.args.number _ opened)))
+pub returns-in-Ok-remember-clause-link : goal.returns-in-Ok-remember-clause-link
+returns-in-Ok-remember-clause-link g c = stored g (goal.at.returns-in-Ok-remember-clause-link g c).In-Ok-store_text
 
--- ---- refused calls of the link
+pub returns-in-Err-remember-clause-link : goal.returns-in-Err-remember-clause-link
+returns-in-Err-remember-clause-link g c = link_then_cut c.plain-in-Err-remember.ensures (stored g (goal.at.returns-in-Err-remember-clause-link g c).In-Ok-store_text)
 
-pub returns-in-Err-open-clause-counted : goal.returns-in-Err-open-clause-counted
-returns-in-Err-open-clause-counted g c =
-    cut_by c.in-Err-open.fault c.plain-in-Err-open.result (g.W.Wire.history c.args.client.now.wire.now) (g.W.Wire.history c.open.new.self.wire.now) c.plain-in-Err-open.ensures c.in-Err-open.ensures.counted
-
--- ---- ids that have a row keep one
-
-pub returns-in-Ok-remember-clause-rows : goal.returns-in-Ok-remember-clause-rows
-returns-in-Ok-remember-clause-rows g c = λ other has.
-    ap (λ (r : List Row). has_row r other) c.in-Ok-remember.ensures.rows ∙ c.marked_keeps_rows.ensures c.args.ledger.now.seen.rows c.args.uid.now other ∙ has
+-- ---- what outlives a loss of power
 
 pub returns-in-Ok-remember-clause-lasts : goal.returns-in-Ok-remember-clause-lasts
 returns-in-Ok-remember-clause-lasts g c = λ d f safe.

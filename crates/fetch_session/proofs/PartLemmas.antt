@@ -1,0 +1,308 @@
+-- What parts of a session keep and do, one after the other.
+use Rattle.std.proofs.Common.{◌≡◌, ◌≤◌, ◌+◌, ◌*◌, ℕ, Bool, true, false, List, [], ◌∷◌, ◌++◌, length, None, Result, Ok, Err, OnOk, refl, sym, ap, subst, ◌∙◌, inl, arith, append_assoc, length-append}
+use Rattle.std.proofs.lemmas.Grind.{flat_map-append}
+use Rattle.std.specs.List.{AllByRecursion}
+use Rattle.mail_terms.specs.Listing.{Item}
+use Rattle.mail_terms.specs.UniqueId.{IsLegalId}
+use Rattle.mail_store.specs.declared.file.flat_file.FlatFile.{Ghosts as FileGhosts}
+use Rattle.mail_store.specs.declared.maildir.disk.MaildirDisk.{Ghosts as DiskGhosts}
+use Rattle.mail_store.specs.FileName.{stem_of}
+use Rattle.mail_store.specs.Maildir.{Maildir}
+use Rattle.fetch_rules.specs.Record.{has_row, none_open}
+use Rattle.fetch_rules.specs.declared.steps.Step.{Step}
+use Rattle.mail_terms.specs.FailureCount.{Tallies}
+use Rattle.pop3_client.specs.Client.{HasSameLink, link_of, place_of}
+use Rattle.pop3_client.specs.Conversation.{is_refusal, most_of}
+use Rattle.pop3_client.specs.declared.fault.Fault.{Fault}
+use Rattle.pop3_client.specs.Turns.{Turn, line_limit, text_limit}
+use Rattle.pop3_client.specs.declared.client.Client.{Client}
+use Rattle.pop3_wire.specs.declared.wire.Wire.{Ghosts as WireGhosts}
+use Rattle.pop3_wire.specs.Place.{Place}
+use Rattle.fetch_session.specs.declared.fault.Cut.{Cut}
+use Rattle.fetch_session.specs.declared.work.Ledger.{Ledger}
+use Rattle.fetch_session.specs.declared.work.Work.{Work}
+use Rattle.fetch_session.specs.Fault.{cut_of}
+use Rattle.fetch_session.specs.Intake.{Took, TookTillCut, TookWithTail, step_limit, tail_limit}
+use Rattle.fetch_session.specs.Lasting.{DoesForGood, IsSafeWork, KeepsMailIn, KeepsWork, NewOutlive, RowsLast}
+use Rattle.fetch_session.specs.Parts.{DoesTasks, IsReadyFor, KeepsLedger, KeepsLink, KeepsSession, KeepsStore}
+use Rattle.fetch_session.specs.Record.{Steady}
+use Rattle.fetch_session.specs.Scene.{scene, TakesTask}
+use Rattle.fetch_session.specs.Store.{Grows}
+use Rattle.fetch_session.specs.Target.{Target, is_sound, kind_of, stores_of, target_of}
+use Rattle.fetch_session.specs.Task.{Task, stores, ids_in, ids_ahead, turns_in, turns_ahead, AreFresh, fetching, deleting, tasks_planned}
+use Rattle.fetch_session.specs.Work.{IsReady}
+use Rattle.fetch_session.proofs.FreshLemmas.{OneMore, ahead, fresh_grows}
+use Rattle.fetch_session.proofs.IntakeLemmas.{takes_on, takes_plain, took_less, took_nothing, with_any_tail}
+use Rattle.fetch_session.proofs.LastLemmas.{good_before, good_more, in_kind, keeps_same, mail_on, none_came, none_lasts, rows_last, texts_ok}
+use Rattle.fetch_session.proofs.RefusalLemmas.{cut_by, till_cut}
+use Rattle.fetch_session.proofs.SceneLemmas.{all_append, all_none, all_weaker, fell_first, on_any}
+
+pub on_map : {T E P Q : Type 0} (result : Result T E) → (P → Q) → OnOk result P → OnOk result Q
+on_map (Ok done) to p = to p
+on_map (Err fault) to p = tt
+
+on_both : {T E P Q R : Type 0} (result : Result T E) → (P → Q → R) → OnOk result P → OnOk result Q → OnOk result R
+on_both (Ok done) to p q = to p q
+on_both (Err fault) to p q = tt
+
+-- ---- bounds of tasks
+
+most_append : (xs ys : List Turn) → most_of (xs ++ ys) ≡ most_of xs + most_of ys
+most_append [] ys = omega arith
+most_append (x ∷ xs) ys = omega (arith, most_append xs ys)
+
+most_ahead : (xs ys : List Task) → most_of (turns_ahead (xs ++ ys)) ≡ most_of (turns_ahead xs) + most_of (turns_ahead ys)
+most_ahead xs ys = ap most_of (flat_map-append turns_in xs ys) ∙ most_append (turns_ahead xs) (turns_ahead ys)
+
+most_fetching : (retrieve held : Bool) (number : ℕ) (uid : List ℕ) (size : ℕ)
+    → (most_of (turns_ahead (fetching retrieve held number uid size)) ≤ line_limit + text_limit) × (length (fetching retrieve held number uid size) ≤ 1)
+most_fetching true true number uid size = (omega arith, omega arith)
+most_fetching true false number uid size = (omega arith, omega arith)
+most_fetching false held number uid size = (omega arith, omega arith)
+
+most_deleting : (delete : Bool) (number : ℕ) → (most_of (turns_ahead (deleting delete number)) ≤ line_limit) × (length (deleting delete number) ≤ 1)
+most_deleting true number = (omega arith, omega arith)
+most_deleting false number = (omega arith, omega arith)
+
+-- the tasks of steps
+pub most_planned : (steps : List Step) (items : List Item) (held : List Bool)
+    → (most_of (turns_ahead (tasks_planned steps items held)) ≤ length items * step_limit) × (length (tasks_planned steps items held) ≤ 2 * length items)
+most_planned [] items held = (omega arith, omega arith)
+most_planned (s ∷ ss) [] held = (omega arith, omega arith)
+most_planned (s ∷ ss) (i ∷ is) [] = (omega arith, omega arith)
+most_planned (s ∷ ss) (i ∷ is) (h ∷ hs) =
+    let first = fetching s.retrieve h s.number i.uid i.size in
+    let then = deleting s.delete s.number in
+    let later = tasks_planned ss is hs in
+    let a = most_fetching s.retrieve h s.number i.uid i.size in
+    let b = most_deleting s.delete s.number in
+    let more = most_planned ss is hs in
+    (omega (arith, most_ahead (first ++ then) later, most_ahead first then, a.0, b.0, more.0), omega (arith, length-append (first ++ then) later, length-append first then, a.1, b.1, more.1))
+
+fetched_all : (P : List ℕ → Type 0) (retrieve held : Bool) (number : ℕ) (uid : List ℕ) (size : ℕ) → (retrieve ≡ true → P uid) → AllByRecursion P (ids_ahead (fetching retrieve held number uid size))
+fetched_all P true true number uid size p = tt
+fetched_all P true false number uid size p = (p refl, tt)
+fetched_all P false held number uid size p = tt
+
+-- what holds of each listed id holds of each that will be marked
+pub planned_all : (P : List ℕ → Type 0) (steps : List Step) (items : List Item) (held : List Bool) → AllByRecursion (λ (item : Item). P item.uid) items
+    → AllByRecursion P (ids_ahead (tasks_planned steps items held))
+planned_all P [] items held all = tt
+planned_all P (s ∷ ss) [] held all = tt
+planned_all P (s ∷ ss) (i ∷ is) [] all = tt
+planned_all P (s ∷ ss) (i ∷ is) (h ∷ hs) all =
+    subst (λ (ids : List (List ℕ)). AllByRecursion P ids) (sym (ahead s i h (tasks_planned ss is hs)))
+    (all_append P (ids_ahead (fetching s.retrieve h s.number i.uid i.size)) (ids_ahead (tasks_planned ss is hs)) (fetched_all P s.retrieve h s.number i.uid i.size (λ _. all.0)) (planned_all P ss is hs all.1))
+
+-- ---- the first of these tasks
+
+all_front : {A : Type 0} (P : A → Type 0) (xs ys : List A) → AllByRecursion P (xs ++ ys) → AllByRecursion P xs
+all_front P [] ys all = tt
+all_front P (x ∷ xs) ys all = (all.0, all_front P xs ys all.1)
+
+fresh_front : (account : List ℕ) (maildir : Maildir) (xs ys : List (List ℕ)) → AreFresh account maildir (xs ++ ys) → AreFresh account maildir xs
+fresh_front account maildir [] ys fresh = tt
+fresh_front account maildir (x ∷ xs) ys fresh = (fresh.0, fresh.1, all_front _ xs ys fresh.2, fresh_front account maildir xs ys fresh.3)
+
+pub ready_front : {D F H Z : Type 0} {disk : DiskGhosts D} {file : FileGhosts F} {account : List ℕ} {work : Work D F H Z} (xs ys : List Task)
+    → IsReadyFor disk file account (xs ++ ys) work → IsReadyFor disk file account xs work
+ready_front {D} {F} {H} {Z} {disk} {file} {account} {work} xs ys ready =
+    let split = flat_map-append ids_in xs ys in
+    record {
+      digits = ready.digits;
+      room = omega (arith, ready.room, length-append xs ys);
+      ready = ready.ready;
+      legal = all_front IsLegalId (ids_ahead xs) (ids_ahead ys) (subst (λ (ids : List (List ℕ)). AllByRecursion IsLegalId ids) split ready.legal);
+      rows = all_front (λ (uid : List ℕ). has_row work.ledger.seen.rows uid ≡ true) (ids_ahead xs) (ids_ahead ys)
+          (subst (λ (ids : List (List ℕ)). AllByRecursion (λ (uid : List ℕ). has_row work.ledger.seen.rows uid ≡ true) ids) split ready.rows);
+      free = λ d. fresh_front account (stores_of disk file work.store).maildir (ids_ahead xs) (ids_ahead ys)
+          (subst (λ (ids : List (List ℕ)). AreFresh account (stores_of disk file work.store).maildir ids) split (ready.free d));
+    }
+
+-- ---- the link
+
+-- refused calls are counted, after none was
+pub tallies_after : (refused : Bool) (a b c : ℕ) → b ≡ a → Tallies refused b c → Tallies refused a c
+tallies_after refused a b c same counts = rw same at counts
+
+module _ {W : Type 0} {link : WireGhosts W} where
+  link_on : {m n : ℕ} (limit : ℕ) {a b c : Client W} {r : Result (Unit {0}) Cut} → m + n ≤ limit → KeepsLink link (TookTillCut m) a (Ok tt) b
+      → KeepsLink link (TookTillCut n) b r c → KeepsLink link (TookTillCut limit) a r c
+  link_on {m} {n} limit {a} {b} {c} {r} less first then = record {
+    same = then.same ∙ first.same;
+    counted = till_cut (link_of link a) (link_of link b) (link_of link c) r first.counted then.counted;
+    took = λ s.
+        let later = then.took s in
+        let before = first.took later.0 in
+        (before.0, takes_on limit m n (place_of link a) (place_of link b) (place_of link c) r less before.1 later.1);
+  }
+
+  pub link_still : {c : Client W} → KeepsLink link (TookTillCut 0) c (Ok tt) c
+  link_still = record { same = refl; counted = refl; took = λ s. (s, took_nothing) }
+
+  pub link_less : {m : ℕ} (limit : ℕ) {a b : Client W} {r : Result (Unit {0}) Cut} → m ≤ limit → KeepsLink link (TookTillCut m) a r b → KeepsLink link (TookTillCut limit) a r b
+  link_less limit less kept = link_on limit (omega (arith, less)) link_still kept
+
+  -- with what is said after the fault
+  pub link_with_tail : {limit : ℕ} {a b : Client W} {cut : Cut} → KeepsLink link (TookTillCut limit) a (Err cut) b → KeepsLink link (TookWithTail (limit + tail_limit)) a (Err cut) b
+  link_with_tail {limit} {a} {b} {cut} kept =
+      record { same = kept.same; counted = kept.counted; took = λ s. ((kept.took s).0, with_any_tail limit (place_of link a) (place_of link b) cut (kept.took s).1) }
+
+  pub link_cut : (fault : Fault) {limit : ℕ} {a b : Client W} {cut : Cut} → HasSameLink a b → cut ≡ cut_of fault None
+      → Tallies (is_refusal fault) (link_of link a).failures (link_of link b).failures → (link.sound b.wire.now → link.sound a.wire.now × Took limit (place_of link a) (place_of link b))
+      → KeepsLink link (TookTillCut limit) a (Err cut) b
+  link_cut fault {limit} {a} {b} {cut} same plain counts took = record {
+    same = same;
+    counted = cut_by fault cut (link_of link a) (link_of link b) plain counts;
+    took = λ s. ((took s).0, takes_plain plain (took s).1);
+  }
+
+  -- all went well with the link, and something else failed
+  pub link_then_cut : {fault : Fault} {limit : ℕ} {a b : Client W} {cut : Cut} → cut ≡ cut_of fault None → KeepsLink link (TookTillCut limit) a (Ok tt) b
+      → KeepsLink link (TookTillCut limit) a (Err cut) b
+  link_then_cut plain kept = record { same = kept.same; counted = inl kept.counted; took = λ s. ((kept.took s).0, takes_plain plain (kept.took s).1) }
+
+  -- no call was made
+  pub link_idle : {fault : Fault} {limit : ℕ} {a : Client W} {cut : Cut} → cut ≡ cut_of fault None → KeepsLink link (TookTillCut limit) a (Err cut) a
+  link_idle plain = record { same = refl; counted = inl refl; took = λ s. (s, takes_plain plain (took_less took_nothing (omega arith))) }
+
+-- nothing was written down
+pub ledger_idle : {F H Z : Type 0} {file : FileGhosts F} {ledger : Ledger F H Z} {cut : Cut} → KeepsLedger file ledger (Err cut) ledger
+ledger_idle = record { lines = (omega arith, omega arith); sound = λ f. f; written = tt; rows = tt }
+
+-- ---- the store
+
+module _ {D F H Z : Type 0} {disk : DiskGhosts D} {file : FileGhosts F} where
+  pub store_on : {m n limit : ℕ} {a b c : Work D F H Z} → m + n ≤ limit → KeepsStore disk file m a b → KeepsStore disk file n b c → KeepsStore disk file limit a c
+  store_on less first then = record {
+    lines = (omega (arith, first.lines.0, then.lines.0, less), omega (arith, first.lines.1, then.lines.1));
+    kind = then.kind ∙ first.kind;
+    calm = λ d. ((first.calm (then.calm d).0).0, (then.calm d).1);
+  }
+
+  pub store_less : {m limit : ℕ} {a b : Work D F H Z} → m ≤ limit → KeepsStore disk file m a b → KeepsStore disk file limit a b
+  store_less less kept = record { lines = (omega (arith, kept.lines.0, less), kept.lines.1); kind = kept.kind; calm = kept.calm }
+
+-- ---- parts one after the other
+
+module _ {W D F H Z : Type 0} {link : WireGhosts W} {disk : DiskGhosts D} {file : FileGhosts F} {account : List ℕ} where
+  pub kept_nothing : {c : Client W} {w : Work D F H Z} → IsReady disk file w → KeepsSession link disk file account [] c w (Ok tt) c w
+  kept_nothing ready = record {
+    talk = link_still;
+    store = record { lines = (omega arith, omega arith); kind = refl; calm = λ d. (d, ready.calm d) };
+    lasts = λ d f. (f, (λ name is. is, λ g is. is), λ safe. safe);
+    next = λ later ready. ready;
+  }
+
+  pub kept_on : (xs ys : List Task) {c c' c'' : Client W} {w w' w'' : Work D F H Z} (r : Result (Unit {0}) Cut) → KeepsSession link disk file account xs c w (Ok tt) c' w'
+      → KeepsSession link disk file account ys c' w' r c'' w'' → KeepsSession link disk file account (xs ++ ys) c w r c'' w''
+  kept_on xs ys {c} {c'} {c''} {w} {w'} {w''} r first then = record {
+    talk = link_on (most_of (turns_ahead (xs ++ ys))) (omega (arith, most_ahead xs ys)) first.talk then.talk;
+    store = store_on (omega (arith, length-append xs ys)) first.store then.store;
+    lasts = λ d f.
+        let later = then.lasts d f in
+        let before = first.lasts (then.store.calm d).0 later.0 in
+        (before.0, mail_on disk w.store w'.store w''.store before.1 later.1, λ safe. later.2 (before.2 safe));
+    next = on_map r (λ next later ready. next later (first.next (ys ++ later) (subst (λ (tasks : List Task). IsReadyFor disk file account tasks w) (append_assoc xs ys later) ready))) then.next;
+  }
+
+  pub kept_before : (xs ys : List Task) {c c' : Client W} {w w' : Work D F H Z} {cut : Cut} → KeepsSession link disk file account xs c w (Err cut) c' w'
+      → KeepsSession link disk file account (xs ++ ys) c w (Err cut) c' w'
+  kept_before xs ys kept = record {
+    talk = link_on (most_of (turns_ahead (xs ++ ys))) (omega (arith, most_ahead xs ys)) link_still kept.talk;
+    store = store_less (omega (arith, length-append xs ys)) kept.store;
+    lasts = kept.lasts;
+    next = tt;
+  }
+
+  pub does_nothing : ((w : W) → link.leads_to w w) → {c : Client W} {w : Work D F H Z} → KeepsSession link disk file account [] c w (Ok tt) c w → IsReady disk file w
+      → DoesTasks link disk file account [] c w (Ok tt) c w
+  unfolding all_none
+  does_nothing same {c} {w} kept ready = λ s d f. (
+    s,
+    d,
+    f,
+    same _,
+    record {
+      does = all_none (target_of w.store account) _;
+      lasts = λ safe. none_lasts disk file (target_of w.store account) (place_of link c) w w safe (keeps_same disk file w) (ready.written.steady f);
+    },
+  )
+
+  pub does_on : ((u v w : W) → link.leads_to u v → link.leads_to v w → link.leads_to u w) → (xs ys : List Task) {c c' c'' : Client W} {w w' w'' : Work D F H Z} (r : Result (Unit {0}) Cut)
+      → KeepsSession link disk file account xs c w (Ok tt) c' w' → DoesTasks link disk file account xs c w (Ok tt) c' w'
+      → KeepsSession link disk file account ys c' w' r c'' w'' → DoesTasks link disk file account ys c' w' r c'' w'' → DoesTasks link disk file account (xs ++ ys) c w r c'' w''
+  does_on on xs ys {c} {c'} {c''} {w} {w'} {w''} r kept did keeps does = λ s d f.
+      let later = does s d f in
+      let before = did later.0 later.1 later.2 in (
+        before.0,
+        before.1,
+        before.2,
+        on _ _ _ before.3 later.3,
+        good_more r w'.store before.4.does (λ safe. (before.4.lasts safe).texts) (keeps.lasts d f).1
+            (in_kind w'.store w.store account kept.store.kind later.4 (kept.lasts later.1 later.2).2),
+      )
+
+  pub does_before : (xs ys : List Task) {c c' : Client W} {w w' : Work D F H Z} {cut : Cut} → KeepsSession link disk file account xs c w (Err cut) c' w' → DoesTasks link disk file account xs c w (Err cut) c' w'
+      → DoesTasks link disk file account (xs ++ ys) c w (Err cut) c' w'
+  does_before xs ys kept did = λ s d f. let all = did s d f in (all.0, all.1, all.2, all.3, good_before ys all.4)
+
+  -- ---- one task
+
+  -- a text that is stored
+  pub kept_taking : OneMore → (number : ℕ) (uid : List ℕ) {c c' : Client W} {w w' : Work D F H Z} (r : Result (Unit {0}) Cut)
+      → KeepsLink link (TookTillCut (line_limit + text_limit)) c r c' → KeepsLedger file w.ledger r w'.ledger → kind_of w'.store ≡ kind_of w.store
+      → (is_sound disk file w'.store → is_sound disk file w.store × Grows (stem_of account uid) (stores_of disk file w.store).maildir (stores_of disk file w'.store).maildir)
+      → (is_sound disk file w'.store → file.sound w'.ledger.file → KeepsMailIn disk w.store w'.store)
+      → (is_sound disk file w'.store → file.sound w'.ledger.file → IsSafeWork file w → OnOk r (IsSafeWork file w'))
+      → KeepsSession link disk file account (stores number uid ∷ []) c w r c' w'
+  kept_taking law number uid {c} {c'} {w} {w'} r talk ledger kind grows mail safe = record {
+    talk = talk;
+    store = record { lines = ledger.lines; kind = kind; calm = λ d. ((grows d).0, (grows d).1.calm) };
+    lasts = λ d f. (ledger.sound f, mail d f, safe d f);
+    next = on_both r (λ written rows later before. record {
+      digits = before.digits;
+      room = omega (arith, before.room, ledger.lines.0, ledger.lines.1);
+      ready = record { calm = λ d. (grows d).1.calm; written = written };
+      legal = before.legal.1;
+      rows = all_weaker (λ (id : List ℕ). has_row w.ledger.seen.rows id ≡ true) (λ (id : List ℕ). has_row w'.ledger.seen.rows id ≡ true) (ids_ahead later) rows before.rows.1;
+      free = λ d.
+          let grew = grows d in
+          let fresh = before.free grew.0 in
+          fresh_grows law account uid (ids_ahead later) (stores_of disk file w.store).maildir (stores_of disk file w'.store).maildir before.digits fresh.0 fresh.2 grew.1 fresh.3;
+    }) ledger.written ledger.rows;
+  }
+
+module _ {D F H Z : Type 0} {disk : DiskGhosts D} {file : FileGhosts F} where
+  -- what a task did, and what of it outlives a loss of power
+  pub good_task : (target : Target) (task : Task) (a b : Place) (old new : Work D F H Z) (r : Result (Unit {0}) Cut)
+      → TakesTask target task (scene a (stores_of disk file old.store) (file.stored old.ledger.file) old.ledger.seen.rows old.ledger.lines.items) r
+      (scene b (stores_of disk file new.store) (file.stored new.ledger.file) new.ledger.seen.rows new.ledger.lines.items)
+      → KeepsWork disk file old new → Steady (file.stored old.ledger.file).content (none_open old.ledger.seen.rows)
+      → OnOk r (Steady (file.stored new.ledger.file).content (none_open new.ledger.seen.rows))
+      → (IsSafeWork file old → OnOk r (IsSafeWork file new × NewOutlive disk file old.store new.store))
+      → DoesForGood disk file (IsSafeWork file old) target (task ∷ []) (scene a (stores_of disk file old.store) (file.stored old.ledger.file) old.ledger.seen.rows old.ledger.lines.items) r
+      (scene b (stores_of disk file new.store) (file.stored new.ledger.file) new.ledger.seen.rows new.ledger.lines.items) new.store new.ledger.file
+  unfolding fell_first
+  good_task target task a b old new (Ok done) took keeps steady written lasts = record {
+    does = record { dones = record { task = task; replies = took.0 } ∷ []; all = refl; went = took.1 };
+    lasts = λ safe. record {
+      texts = texts_ok disk file target (record { task = task; replies = took.0 } ∷ []) old.store new.store took.1.stored (lasts safe).1 (lasts safe).0.1;
+      rows = subst (λ rows. RowsLast file new.ledger.file rows) took.1.rows (rows_last file new.ledger.file new.ledger.seen.rows (lasts safe).0.0 written);
+    };
+  }
+  good_task target task a b old new (Err cut) took keeps steady written lasts = record {
+    does = fell_first target task [] _ _ cut took;
+    lasts = λ safe. none_lasts disk file target a old new safe keeps steady;
+  }
+
+  -- the same for a task that stores nothing
+  pub good_talking : (target : Target) (task : Task) (a b : Place) (work new : Work D F H Z) (r : Result (Unit {0}) Cut)
+      → TakesTask target task (scene a (stores_of disk file work.store) (file.stored work.ledger.file) work.ledger.seen.rows work.ledger.lines.items) r
+      (scene b (stores_of disk file work.store) (file.stored work.ledger.file) work.ledger.seen.rows new.ledger.lines.items)
+      → IsReady disk file work → file.sound work.ledger.file
+      → DoesForGood disk file (IsSafeWork file work) target (task ∷ []) (scene a (stores_of disk file work.store) (file.stored work.ledger.file) work.ledger.seen.rows work.ledger.lines.items) r
+      (scene b (stores_of disk file work.store) (file.stored work.ledger.file) work.ledger.seen.rows new.ledger.lines.items) work.store work.ledger.file
+  good_talking target task a b work new r took ready f =
+      good_task target task a b work (record work { ledger = record work.ledger { lines = new.ledger.lines } }) r took (keeps_same disk file work) (ready.written.steady f) (on_any r (ready.written.steady f))
+      (λ safe. on_any r (safe, none_came disk file work.store))

@@ -1,0 +1,86 @@
+-- What each part of a session is ready for, what it keeps, and what it does.
+use Rattle.std.specs.Prelude.{◌≡◌, ℕ, true, List, ◌++◌, length, None, Result, OnOk}
+use Rattle.std.specs.List.{AllByRecursion}
+use Rattle.mail_terms.specs.UniqueId.{IsLegalId}
+use Rattle.mail_store.specs.declared.file.flat_file.FlatFile.{Ghosts as FileGhosts}
+use Rattle.mail_store.specs.declared.maildir.disk.MaildirDisk.{Ghosts as DiskGhosts}
+use Rattle.mail_store.specs.FileName.{IsAccountText}
+use Rattle.fetch_rules.specs.Record.{has_row}
+use Rattle.pop3_client.specs.Client.{HasSameLink, link_of, place_of}
+use Rattle.pop3_client.specs.Conversation.{most_of}
+use Rattle.pop3_client.specs.declared.client.Client.{Client}
+use Rattle.pop3_wire.specs.declared.wire.Wire.{Ghosts as WireGhosts}
+use Rattle.pop3_wire.specs.Place.{Place}
+use Rattle.fetch_session.specs.declared.fault.Cut.{Cut}
+use Rattle.fetch_session.specs.declared.step.Task.{Task as Planned}
+use Rattle.fetch_session.specs.declared.step.Task.TheVariants.{Store, Reread, Skip, Delete}
+use Rattle.fetch_session.specs.declared.work.Ledger.{Ledger}
+use Rattle.fetch_session.specs.declared.work.Work.{Work}
+use Rattle.fetch_session.specs.Intake.{TookTillCut}
+use Rattle.fetch_session.specs.Lasting.{DoesForGood, IsSafeWork, KeepsMailIn}
+use Rattle.fetch_session.specs.Refusal.{RefusesTillCut}
+use Rattle.fetch_session.specs.Report.{Adds, HasRoom}
+use Rattle.fetch_session.specs.Target.{is_sound, kind_of, stores_of, target_of}
+use Rattle.fetch_session.specs.Task.{Task, skips, stores, rereads, deletes, ids_ahead, turns_ahead, AreFresh}
+use Rattle.fetch_session.specs.Work.{IsReady, IsWritten, KeepsIds, WhereWorkSound}
+
+-- the task that is meant
+abbrev pub task_of : Planned → Task
+task_of (Store number uid) = stores number uid.now
+task_of (Reread number uid) = rereads number uid.now
+task_of (Skip number size) = skips number size
+task_of (Delete number) = deletes number
+
+-- ready for these tasks: there is room for their lines, no file is begun, all is written down, and each id that they will mark is
+-- legal, has a row and isn't held
+pub record IsReadyFor {D F H Z : Type 0} (disk : DiskGhosts D) (file : FileGhosts F) (account : List ℕ) (tasks : List Task)
+    (work : Work D F H Z) : Type 0 where
+  pub digits : IsAccountText account
+  pub room : HasRoom work.ledger.lines (length tasks)
+  pub ready : IsReady disk file work
+  pub legal : AllByRecursion IsLegalId (ids_ahead tasks)
+  pub rows : AllByRecursion (λ (uid : List ℕ). has_row work.ledger.seen.rows uid ≡ true) (ids_ahead tasks)
+  pub free : is_sound disk file work.store → AreFresh account (stores_of disk file work.store).maildir (ids_ahead tasks)
+
+-- ---- what is kept
+
+-- it is the same link, its refused calls are counted, and it took this
+pub record KeepsLink {W : Type 0} (link : WireGhosts W) (Took : Place → Result (Unit {0}) Cut → Place → Type 0) (old : Client W)
+    (result : Result (Unit {0}) Cut) (new : Client W) : Type 0 where
+  pub same : HasSameLink old new
+  pub counted : RefusesTillCut (link_of link old) result (link_of link new)
+  pub took : link.sound new.wire.now → link.sound old.wire.now × Took (place_of link old) result (place_of link new)
+
+-- at most one line was noted; and if all went well, all is written down, and ids that had a row keep one
+pub record KeepsLedger {F H Z : Type 0} (file : FileGhosts F) (old : Ledger F H Z) (result : Result (Unit {0}) Cut) (new : Ledger F H Z)
+    : Type 0 where
+  pub lines : Adds old.lines 1 new.lines
+  pub sound : file.sound new.file → file.sound old.file
+  pub written : OnOk result (IsWritten file new)
+  pub rows : OnOk result (KeepsIds old.seen.rows new.seen.rows)
+
+-- at most this many lines were noted, the store is of the same kind, and no file is begun in it
+pub record KeepsStore {D F H Z : Type 0} (disk : DiskGhosts D) (file : FileGhosts F) (most : ℕ) (old new : Work D F H Z) : Type 0 where
+  pub lines : Adds old.ledger.lines most new.ledger.lines
+  pub kind : kind_of new.store ≡ kind_of old.store
+  pub calm : is_sound disk file new.store → is_sound disk file old.store × ((stores_of disk file new.store).maildir.begun ≡ None)
+
+-- a part of a session that has these tasks: it takes and notes no more than they may, and what a loss of power would have left it still
+-- leaves; and if all went well, what was safe is safe, and what was ready for these tasks and others is ready for the others
+pub record KeepsSession {W D F H Z : Type 0} (link : WireGhosts W) (disk : DiskGhosts D) (file : FileGhosts F) (account : List ℕ)
+    (tasks : List Task) (client : Client W) (work : Work D F H Z) (result : Result (Unit {0}) Cut) (client' : Client W)
+    (work' : Work D F H Z) : Type 0 where
+  pub talk : KeepsLink link (TookTillCut (most_of (turns_ahead tasks))) client result client'
+  pub store : KeepsStore disk file (length tasks) work work'
+  pub lasts : is_sound disk file work'.store → file.sound work'.ledger.file → file.sound work.ledger.file
+      × KeepsMailIn disk work.store work'.store × (IsSafeWork file work → OnOk result (IsSafeWork file work'))
+  pub next : OnOk result ((later : List Task) → IsReadyFor disk file account (tasks ++ later) work → IsReadyFor disk file account later work')
+
+-- ---- what is done
+
+-- these tasks were done, or as far as went well, and if all was safe before, what was done outlives a loss of power
+abbrev pub DoesTasks : {W D F H Z : Type 0} → WireGhosts W → DiskGhosts D → FileGhosts F → List ℕ → List Task → Client W → Work D F H Z
+    → Result (Unit {0}) Cut → Client W → Work D F H Z → Type 0
+DoesTasks link disk file account tasks client work result client' work' = WhereWorkSound link disk file client work client' work'
+    (λ old new. DoesForGood disk file (IsSafeWork file work) (target_of work.store account) tasks old result new
+    work'.store work'.ledger.file)
