@@ -209,6 +209,22 @@ impl<'a, F: FileFolder + Drop> FlatFile for HostFile<'a, F> {
         }
     }
 
+    fn peek_edges(&mut self) -> Result<Edges, StoreFault>
+        ensures measures { ⟦<HostFile<'a, F> as FlatFile>⟧.sound self.new → ⟦<HostFile<'a, F> as FlatFile>⟧.sound self.old
+            × Measures (⟦<HostFile<'a, F> as FlatFile>⟧.stored self.old) result (⟦<HostFile<'a, F> as FlatFile>⟧.stored self.new) }
+        ensures fault { IfErr result IsDeviceFault }
+        ensures keeps { ⟦<HostFile<'a, F> as FlatFile>⟧.sound self.new
+            → KeepsBytes (⟦<HostFile<'a, F> as FlatFile>⟧.outlives self.old) (⟦<HostFile<'a, F> as FlatFile>⟧.outlives self.new) }
+        ensures sure { ⟦<HostFile<'a, F> as FlatFile>⟧.sound self.new → ⟦<HostFile<'a, F> as FlatFile>⟧.is_sure self.old
+            → ⟦<HostFile<'a, F> as FlatFile>⟧.is_sure self.new }
+        ensures count { Tallies (refuses is_refusal result) (⟦<HostFile<'a, F> as FlatFile>⟧.stored self.old).failures
+            (⟦<HostFile<'a, F> as FlatFile>⟧.stored self.new).failures }
+        ensures name { self.new.name ≡ self.old.name }
+    {
+        admit(&self.failures)?;
+        tally(&mut self.failures, self.folder.edges(self.name))
+    }
+
     fn read_at(&mut self, start: u64, buf: &mut [u8]) -> Result<usize, StoreFault>
         ensures within { IfOk result (λ count. count ≤ length buf.new) }
         ensures reads { ⟦<HostFile<'a, F> as FlatFile>⟧.sound self.new → ⟦<HostFile<'a, F> as FlatFile>⟧.sound self.old

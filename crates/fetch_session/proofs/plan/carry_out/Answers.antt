@@ -9,7 +9,7 @@ use Rattle.fetch_session.specs.Task.{tasks_planned, ids_ahead, says, AreFresh}
 use Rattle.fetch_session.specs.Report.{skipped_in}
 use Rattle.fetch_session.specs.Intake.{step_limit, tail_limit}
 use Rattle.fetch_session.proofs.PlanLemmas.{flags_same, fresh_firsts}
-use Rattle.fetch_session.proofs.CarryLemmas.{carried, firm_both, good_broke, good_quit, unprepared}
+use Rattle.fetch_session.proofs.CarryLemmas.{carried, firm_both, still, good_broke, good_quit, unprepared}
 use Rattle.fetch_session.proofs.IntakeLemmas.{took_nothing, took_less, took_on, with_any_tail, with_plain_tail, with_tail_on, took_completing, quit_broke}
 use Rattle.fetch_session.proofs.RefusalLemmas.{before_cut, cut_by}
 use Rattle.fetch_session.proofs.LastLemmas.{good_before, in_kind}
@@ -47,7 +47,7 @@ returns-in-Err-do_steps-clause-carries g c = λ w d f.
       (
         c.do_steps.new.work.ledger.seen.rows,
         inr (carried g.D.MaildirDisk g.F.FlatFile c.prepare.new.store c.deref-2.result.now c.deref-3.result.now ready.2 c.deref-2.ensures.value c.deref-3.ensures.value
-            (c.skipped_in.ensures ∙ ap skipped_in c.deref.ensures.value) (λ sure. (c.in-Ok.ensures.lasts done.1 sure.0).1) (λ sure. firm_both (c.in-Ok.ensures.file_lasts done.2 sure.1) (c.in-Ok.ensures.lasts done.1 sure.0).0) (c.do_steps.ensures.keeps w d f)
+            (c.skipped_in.ensures ∙ ap skipped_in c.deref.ensures.value) (λ sure. still (c.in-Ok.ensures.lasts done.1 sure.0)) (λ sure. firm_both (c.in-Ok.ensures.file_lasts done.2 sure.1) (c.in-Ok.ensures.lasts done.1 sure.0)) (c.do_steps.ensures.keeps w d f)
             (good_before (says quit ∷ []) (in_kind c.prepare.new.store c.args.work.now.store c.args.terms.account.now c.prepare.ensures.kind done.4
             (λ safe. safe)))),
       ),
@@ -65,7 +65,7 @@ returns-in-Ok-quit-clause-carries g c = λ w d f.
       (
         c.do_steps.new.work.ledger.seen.rows,
         (carried g.D.MaildirDisk g.F.FlatFile c.prepare.new.store c.deref-2.result.now c.deref-3.result.now ready.2 c.deref-2.ensures.value c.deref-3.ensures.value
-            (c.skipped_in.ensures ∙ ap skipped_in c.deref.ensures.value) (λ sure. (c.in-Ok.ensures.lasts done.1 sure.0).1) (λ sure. firm_both (c.in-Ok.ensures.file_lasts done.2 sure.1) (c.in-Ok.ensures.lasts done.1 sure.0).0) (c.do_steps.ensures.keeps completes.0 d f)
+            (c.skipped_in.ensures ∙ ap skipped_in c.deref.ensures.value) (λ sure. still (c.in-Ok.ensures.lasts done.1 sure.0)) (λ sure. firm_both (c.in-Ok.ensures.file_lasts done.2 sure.1) (c.in-Ok.ensures.lasts done.1 sure.0)) (c.do_steps.ensures.keeps completes.0 d f)
             (good_quit completes.2.0 (place_of g.W.Wire c.quit.new.self) (in_kind c.prepare.new.store c.args.work.now.store c.args.terms.account.now c.prepare.ensures.kind done.4
             (λ safe. safe)) completes.2.1)),
       ),
@@ -83,7 +83,7 @@ returns-clause-carries g c = λ w d f.
       (
         c.do_steps.new.work.ledger.seen.rows,
         inr (carried g.D.MaildirDisk g.F.FlatFile c.prepare.new.store c.deref-2.result.now c.deref-3.result.now ready.2 c.deref-2.ensures.value c.deref-3.ensures.value
-            (c.skipped_in.ensures ∙ ap skipped_in c.deref.ensures.value) (λ sure. (c.in-Ok.ensures.lasts done.1 sure.0).1) (λ sure. firm_both (c.in-Ok.ensures.file_lasts done.2 sure.1) (c.in-Ok.ensures.lasts done.1 sure.0).0) (c.do_steps.ensures.keeps completes.0 d f)
+            (c.skipped_in.ensures ∙ ap skipped_in c.deref.ensures.value) (λ sure. still (c.in-Ok.ensures.lasts done.1 sure.0)) (λ sure. firm_both (c.in-Ok.ensures.file_lasts done.2 sure.1) (c.in-Ok.ensures.lasts done.1 sure.0)) (c.do_steps.ensures.keeps completes.0 d f)
             (good_broke (place_of g.W.Wire c.quit.new.self) c.in-Err-quit.fault c.plain-in-Err-quit.result
             (in_kind c.prepare.new.store c.args.work.now.store c.args.terms.account.now c.prepare.ensures.kind done.4
             (λ safe. safe)) c.plain-in-Err-quit.ensures completes.2)),
