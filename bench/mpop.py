@@ -10,11 +10,18 @@ reached: at most 36 octets a message.
 
 Then fetches of 2,000, 20,000 and 100,000 messages of 400 octets from `popd` into a Maildir in memory (tmpfs, the folder
 /dev/shm or the first word), where no disk's waits count. To be reached: at most mpop's processor time.
+
+Then a fetch where each flush takes 5 ms, as on a slow disk: a library made here and preloaded waits in `fsync` and
+`fdatasync`. To be reached: at most twice mpop's time by the clock. Last, if strace is installed, the calls of the system of a
+poll of 200 held messages and of one message more that is fetched, and how many of them are flushes.
 """
 
+import contextlib
 import importlib.util
 import os
+import re
 import shutil
+import subprocess
 import sys
 import tempfile
 from pathlib import Path
@@ -38,6 +45,16 @@ REMEMBERED = 20_000
 MOST_REMEMBERED = 36
 MOST_MEMORY = 1.3
 MOST_GROWTH = 1.1
+SLOWED = 200
+MOST_SLOWED = 2.0
+SLOW_FLUSHES = """\
+#include <unistd.h>
+int fsync(int descriptor) { (void)descriptor; return usleep(5000); }
+int fdatasync(int descriptor) { return fsync(descriptor); }
+"""
+COUNTED = 200
+FEW, MORE = 10, 110
+CALL = re.compile(r"(\w+)\(")
 MPOP = ["mpop", "--file=/dev/null", "--user=u", "--passwordeval=echo p", "--tls=off", "--auth=user", "--quiet",
         "--received-header=off", "--pipelining=off", "--keep=on", "--only-new=on"]
 
@@ -134,19 +151,68 @@ def fresh_mpop(folder, port):
     return mpop_at(folder, port)
 
 
+@contextlib.contextmanager
+def fetchers(folder, count):
+    """Serves `count` messages; for each program what gives the words of its first run."""
+    ours.make_served(folder, count, OCTETS)
+    with ours.Service(folder) as service:
+        yield lambda: ours.account_at(folder, service.port), lambda: fresh_mpop(folder, service.port)
+
+
 def measure_fetches(folder):
     """Fetches into a Maildir in memory; answers whether all marks were reached."""
     reached = []
     for count in FETCHES:
-        ours.make_served(folder, count, OCTETS)
-        with ours.Service(folder) as service:
-            costs = in_turns(lambda port=service.port: ours.account_at(folder, port), lambda port=service.port: fresh_mpop(folder, port),
-                             TURNS if count < MANY else TURNS_OF_MANY)
+        with fetchers(folder, count) as both:
+            costs = in_turns(*both, TURNS if count < MANY else TURNS_OF_MANY)
         if any(len(os.listdir(maildir / "new")) != count for maildir in (folder / "account" / "mail", folder / "mpop")):
             sys.exit(f"{count}: not all was fetched")
         ratio, _ = print_costs(f"{count:,}", *costs)
         reached.append(ratio <= 1)
     return all(reached)
+
+
+@contextlib.contextmanager
+def slow_flushes(folder):
+    """Meanwhile each flush of a program that is run takes 5 ms and does nothing."""
+    source, library = folder / "slow_flushes.c", folder / "slow_flushes.so"
+    source.write_text(SLOW_FLUSHES)
+    subprocess.run(["cc", "-O1", "-shared", "-fPIC", "-o", library, source], check=True)
+    os.environ["LD_PRELOAD"] = str(library)
+    try:
+        yield
+    finally:
+        del os.environ["LD_PRELOAD"]
+
+
+def measure_slow_flushes(folder):
+    """A fetch with slow flushes; answers whether the mark was reached."""
+    with fetchers(folder, SLOWED) as both, slow_flushes(folder):
+        costs = in_turns(*both, TURNS_OF_MANY)
+    seconds, theirs = (min(cost.seconds for cost in each) for each in costs)
+    measure.print_row(f"{SLOWED}", f"{seconds:.2f} s", f"{theirs:.2f} s", f"{seconds / theirs:.2f}")
+    return seconds <= MOST_SLOWED * theirs
+
+
+def calls_of(folder, words):
+    """How many calls of the system a run makes, without those of its children, and how many of them are flushes."""
+    note = folder / "calls"
+    subprocess.run(["strace", "-o", note, *words], check=True, stdout=subprocess.DEVNULL)
+    calls = [found[1] for found in map(CALL.match, note.read_text(errors="replace").splitlines()) if found]
+    return len(calls), sum(name in ("fsync", "fdatasync") for name in calls)
+
+
+def count_calls(folder):
+    """Prints the calls of a poll and of a message."""
+    server = Letters(COUNTED)
+    known_to_mpop(folder, server)
+    polls = ours.account_knowing(folder, server, COUNTED, True), mpop_at(folder, server.port)
+    measure.print_row(f"poll of {COUNTED}, held", *(f"{number}" for words in polls for number in calls_of(folder, words)))
+    fetched = []
+    for count in (FEW, MORE):
+        with fetchers(folder, count) as both:
+            fetched.append([number for words in both for number in calls_of(folder, words())])
+    measure.print_row("a message", *(f"{(more - few) / (MORE - FEW):.1f}" for few, more in zip(*fetched)))
 
 
 def main():
@@ -162,6 +228,11 @@ def main():
         print(f"record: {measure.verdict(measure_records(Path(fast).resolve()))}")
         measure.print_head("fetch on tmpfs", *head)
         print(f"fetches: {measure.verdict(measure_fetches(Path(fast).resolve()))}")
+        measure.print_head("fetch, 5 ms a flush", "by the clock", "mpop's", "ratio")
+        print(f"slow flushes: {measure.verdict(measure_slow_flushes(Path(fast).resolve()))}")
+        if shutil.which("strace"):
+            measure.print_head("session", "calls of the system", "flushes", "mpop's calls", "flushes")
+            count_calls(Path(fast).resolve())
 
 
 if __name__ == "__main__":

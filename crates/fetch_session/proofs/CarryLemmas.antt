@@ -93,9 +93,14 @@ stay_from disk files (AsFiles account) was old (InMbox device) end settles all k
     nothing c = absurd (omega (arith, c.1))
 stay_from disk files AsEntries was old mid end settles all keeps = tt
 
-pub firm_both : {P A B : Type 0} → P ⊎ A → B → P ⊎ (A × B)
-firm_both (inl p) b = inl p
-firm_both (inr a) b = inr (a, b)
+pub firm_both : {P A B C : Type 0} → P ⊎ A → P ⊎ (B × C) → P ⊎ (A × B)
+firm_both (inl p) both = inl p
+firm_both (inr a) (inl p) = inl p
+firm_both (inr a) (inr both) = inr (a, both.0)
+
+pub still : {P B C : Type 0} → P ⊎ (B × C) → P ⊎ C
+still (inl p) = inl p
+still (inr both) = inr both.1
 
 -- the planned tasks and QUIT were done once the record was ready, or as far as went well
 pub carried : {D F : Type 0} (disk : DiskGhosts D) (files : FileGhosts F) {sure safe : Type 0} {settings : Settings} {target : Target} {items : List Item} {now : ℕ} {place : Place} {store : Stores} {file : Stored} {lines : List ReportLine} {ready : Ready} {after : List Row}

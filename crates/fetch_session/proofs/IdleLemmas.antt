@@ -1,11 +1,11 @@
 -- What is ready if the store needn't be asked what it holds.
-use Rattle.std.proofs.Common.{◌≡◌, ◌≢◌, ℕ, suc, Bool, true, false, List, [], ◌∷◌, ◌++◌, length, map, Option, None, Some, Ok, Err, refl, sym, ap, subst, ◌∙◌, arith}
+use Rattle.std.proofs.Common.{◌≡◌, ◌≢◌, ℕ, suc, Bool, true, false, List, [], ◌∷◌, ◌++◌, length, map, Option, None, Some, Ok, Err, refl, sym, ap, subst, ◌∙◌, inl, arith}
 use Rattle.std.specs.Prelude.{All, Result, IfOk, IfSome, OnOk}
 use Rattle.std.specs.List.{AllByRecursion}
 use Rattle.std.proofs.lemmas.List.{length-map}
 use Rattle.mail_terms.specs.Listing.{Item}
 use Rattle.rc_file.specs.declared.settings.Settings.{Settings}
-use Rattle.fetch_rules.specs.Record.{Row, Held, IsRecord, Loaded, has_row, is_delivered, merged, none_open}
+use Rattle.fetch_rules.specs.Record.{Row, Held, Intent, IsRecord, Loaded, has_row, is_delivered, merged, none_open}
 use Rattle.fetch_rules.specs.Plan.{IsQuiet, planned}
 use Rattle.fetch_rules.specs.declared.steps.Step.{Step}
 use Rattle.mail_store.specs.FlatFile.{Stored}
@@ -16,13 +16,17 @@ use Rattle.pop3_client.specs.declared.fault.Fault.{Fault}
 use Rattle.pop3_client.specs.declared.fault.Fault.TheVariants.{NoMemory, StoreRefused}
 use Rattle.pop3_client.specs.declared.fault.Why.TheVariants as why
 use Rattle.mail_store.specs.Maildir.{Maildir}
+use Rattle.mail_store.specs.declared.fault.StoreFault.{StoreFault}
+use Rattle.mail_store.specs.declared.fault.StoreFault.TheVariants as refused
 use Rattle.fetch_session.specs.declared.account.Store.{Store}
 use Rattle.fetch_session.specs.declared.account.Store.TheVariants.{Maildir as InMaildir, Mboxrd as InMbox}
 use Rattle.fetch_session.specs.declared.readiness.Ready.{Ready}
-use Rattle.fetch_session.specs.Readiness.{AreAsHeld, FindsRefused, IsIdle, IsReady, Readies, Rests, Settles, Unready, merged_in}
+use Rattle.fetch_session.specs.Mbox.{AsksMbox, IsStoreFault}
+use Rattle.fetch_session.specs.Readiness.{AreAsHeld, ChecksStore, IsIdle, IsReady, Readies, Rests, Settles, Unready, merged_in}
 use Rattle.fetch_session.specs.Record.{ReadAs, Steady, held_in}
-use Rattle.fetch_session.specs.Target.{Kind, Files, Entries, Target, AsFiles, AsEntries, Stores, flags_in, in_maildir, kind_of, none_held, rows_in, stores_of, target_of}
+use Rattle.fetch_session.specs.Target.{Kind, Files, Entries, Target, AsFiles, AsEntries, Stores, flags_in, in_maildir, in_mbox, kind_of, none_held, rows_in, stores_of, target_of}
 use Rattle.fetch_session.specs.Task.{Task, fetching, deleting, tasks_in, tasks_planned}
+use Rattle.fetch_session.proofs.MboxLemmas.{asks_refused, held_same}
 use Rattle.fetch_session.proofs.ReadyLemmas.{not_found, unread}
 use Rattle.fetch_session.proofs.RecordLemmas.{read_keeps, read_steady}
 
@@ -48,38 +52,62 @@ flags_length : (target : Target) (store : Stores) (items : List Item) → length
 flags_length (AsFiles account) store items = length-map items (λ (item : Item). is_held account store.maildir item.uid)
 flags_length AsEntries store items = length-map items (λ (item : Item). false)
 
-module _ {D F : Type 0} (disk : DiskGhosts D) (files : FileGhosts F) (account : List ℕ) where
-  -- a Maildir that wasn't asked
-  settles_same : (store : Store D F) (was : Held) (new : Stores) → kind_of store ≡ Files → new ≡ stores_of disk files store → Settles (target_of store account) was (stores_of disk files store) new
-  settles_same (InMaildir device) was new kind same = same
-  settles_same (InMbox device) was new kind same = absurd (cc kind)
+-- ---- what was looked at
 
-  rows_same : (store : Store D F) (was : Held) → kind_of store ≡ Files → rows_in (target_of store account) (stores_of disk files store) was ≡ was.rows
-  rows_same (InMaildir device) was kind = refl
-  rows_same (InMbox device) was kind = absurd (cc kind)
+same_stores : (a b : Stores) → a.maildir ≡ b.maildir → a.mbox ≡ b.mbox → a ≡ b
+same_stores a b maildir mbox = ap (λ (m : Maildir). let s : Stores = record { maildir = m; mbox = a.mbox } in s) maildir
+    ∙ ap (λ (f : Stored). let s : Stores = record { maildir = b.maildir; mbox = f } in s) mbox
+
+-- there is no place
+pub no_place : (kind : Kind) (items : List Item) (old new : Stores) (refusal : StoreFault) (fault : Fault) → ChecksStore {T = Unit {0}} kind old (Err refusal) new → IsStoreFault refusal fault
+    → Rests kind old items (Err fault) new
+no_place Files items old new refused.Missing fault is told = rw told is.0
+no_place Files items old new refused.Refused fault is told = rw told is.0
+no_place Files items old new refused.NotMbox fault is told = absurd is.0
+no_place Files items old new refused.NoMemory fault is told = absurd is.0
+no_place Entries items old new refusal fault is told = (asks_refused None old.mbox old.mbox new.mbox false items refusal fault (refl, refl) is.0 told, is.1)
+
+-- there is one, and memory ran out
+pub no_room : (kind : Kind) (items : List Item) (old new : Stores) → ChecksStore {T = Unit {0}} kind old (Ok tt) new → Rests kind old items (Err NoMemory) new
+no_room Files items old new is = is.0.2
+no_room Entries items old new is = ((ap (λ (s : Stored). s.failures) is.0.1, inl (ap (λ (s : Stored). s.content) is.0.1)), is.1)
+
+module _ {D F : Type 0} (disk : DiskGhosts D) (files : FileGhosts F) (account : List ℕ) where
+  -- a store that was only looked at
+  settles_same : (store : Store D F) (was : Held) (new : Stores) → was.intent ≡ None → ChecksStore {T = Unit {0}} (kind_of store) (stores_of disk files store) (Ok tt) new
+      → Settles (target_of store account) was (stores_of disk files store) new
+  settles_same (InMaildir device) was new closed ((news, curs, same), others) = same_stores new (in_maildir (disk.maildir device)) same others
+  settles_same (InMbox device) was new closed (((bytes, goes_on), same), others) =
+      rw closed (bytes, goes_on.0, same ∙ held_same (files.stored device) bytes goes_on.0, goes_on.1)
+
+  rows_same : (store : Store D F) (was : Held) → was.intent ≡ None → rows_in (target_of store account) (stores_of disk files store) was ≡ was.rows
+  rows_same (InMaildir device) was closed = refl
+  rows_same (InMbox device) was closed = rw closed refl
 
   pub rests_ok : {settings : Settings} {items : List Item} {now : ℕ} (store : Store D F) (new : Stores) (file read : Stored) (loaded : Loaded) (ready : Ready)
       → ((rows : List Row) (listing : List Item) (held : List Bool) (now : ℕ) → IsRecord rows → All (λ (item : Item). is_delivered rows item.uid ≡ true) listing → merged rows listing held now ≡ rows)
-      → kind_of store ≡ Files → Rests (stores_of disk files store) (Ok ready) new → ReadAs file.content loaded → read ≡ file → loaded.stale ≡ false
+      → loaded.intent ≡ None → Rests (kind_of store) (stores_of disk files store) items (Ok ready) new → ReadAs file.content loaded → read ≡ file → loaded.stale ≡ false
       → IsIdle settings loaded.rows items now ready.steps.items → length ready.held.items ≡ length items
       → IsReady settings (target_of store account) items now (stores_of disk files store) file ready loaded.rows new read
-  rests_ok {settings} {items} {now} store new file read loaded ready law kind same stood read_is fresh idle counted = record {
+  rests_ok {settings} {items} {now} store new file read loaded ready law closed rests stood read_is fresh idle counted = record {
     was = held_in loaded;
     stood = read_keeps file.content loaded stood;
     held = quiet_same ready.steps.items items ready.held.items (flags_in (target_of store account) (stores_of disk files store) items) idle.quiet counted (flags_length (target_of store account) (stores_of disk files store) items);
     rows = sym (law loaded.rows items (flags_in (target_of store account) (stores_of disk files store) items) now idle.is_record idle.known)
-        ∙ ap (λ (rows : List Row). merged rows items (flags_in (target_of store account) (stores_of disk files store) items) now) (sym (rows_same store (held_in loaded) kind));
+        ∙ ap (λ (rows : List Row). merged rows items (flags_in (target_of store account) (stores_of disk files store) items) now) (sym (rows_same store (held_in loaded) closed));
     steps = idle.planned;
     saved = subst (λ (s : Stored). Steady s.content (none_open loaded.rows)) (sym read_is) (read_steady file.content loaded stood fresh).0;
     file_count = ap (λ (s : Stored). s.failures) read_is;
-    settles = settles_same store (held_in loaded) new kind same;
+    settles = settles_same store (held_in loaded) new closed rests;
   }
 
   pub rests_refused : (items : List Item) (now : ℕ) (store : Store D F) (new : Stores) (file read : Stored) (loaded : Loaded) (fault : Fault)
-      → kind_of store ≡ Files → Rests (stores_of disk files store) (Err fault) new → ReadAs file.content loaded → read ≡ file
+      → loaded.intent ≡ None → Rests (kind_of store) (stores_of disk files store) items (Err fault) new → ReadAs file.content loaded → read ≡ file
       → Unready (target_of store account) items now (stores_of disk files store) file fault new read
-  rests_refused items now (InMaildir device) new file read loaded fault kind finds stood same = not_found (AsFiles account) items now (in_maildir (disk.maildir device)) new file read loaded fault stood same finds
-  rests_refused items now (InMbox device) new file read loaded fault kind finds stood same = absurd (cc kind)
+  rests_refused items now (InMaildir device) new file read loaded fault closed finds stood same = not_found (AsFiles account) items now (in_maildir (disk.maildir device)) new file read loaded fault stood same finds
+  rests_refused items now (InMbox device) new file read loaded fault closed finds stood same =
+      not_found AsEntries items now (in_mbox (files.stored device)) new file read loaded fault stood same
+      (subst (λ (intent : Option Intent). AsksMbox intent (files.stored device) items (Err fault) new.mbox) (sym closed) finds.0)
 
   -- memory ran out before the store was asked
   pub unasked : (items : List Item) (now : ℕ) (store : Store D F) (file read : Stored) (loaded : Loaded) → read ≡ file
@@ -105,29 +133,32 @@ pub rest_lengths : (r : Result Ready Fault) (steps : List Step) (items : List It
 rest_lengths (Ok ready) steps items counted same held = (ap length same ∙ counted, held)
 rest_lengths (Err fault) steps items counted same held = tt
 
-none_begun : (old new : Stores) (fault : Fault) → FindsRefused old.maildir fault new.maildir → new.maildir.begun ≡ old.maildir.begun
-none_begun old new (StoreRefused why.Missing) is = ap (λ (m : Maildir). m.begun) is.1
-none_begun old new (StoreRefused why.Refused) is = ap (λ (m : Maildir). m.begun) is
-none_begun old new NoMemory is = ap (λ (m : Maildir). m.begun) is
-none_begun old new _ never = absurd never
+none_begun : (kind : Kind) (items : List Item) (old new : Stores) (r : Result Ready Fault) → Rests kind old items r new → new.maildir.begun ≡ old.maildir.begun
+none_begun Files items old new (Ok ready) ((news, curs, same), others) = ap (λ (m : Maildir). m.begun) same
+none_begun Files items old new (Err (StoreRefused why.Missing)) is = ap (λ (m : Maildir). m.begun) is.1
+none_begun Files items old new (Err (StoreRefused why.Refused)) is = ap (λ (m : Maildir). m.begun) is
+none_begun Files items old new (Err NoMemory) is = ap (λ (m : Maildir). m.begun) is
+none_begun Files items old new (Err _) never = absurd never
+none_begun Entries items old new (Ok ready) is = ap (λ (m : Maildir). m.begun) is.1
+none_begun Entries items old new (Err fault) is = ap (λ (m : Maildir). m.begun) is.1
 
-pub rest_stays : (r : Result Ready Fault) (target : Target) (steps : List Step) (items : List Item) (old new : Stores) → All IsQuiet steps
-    → IfOk r (λ ready. ready.steps.items ≡ steps) → IfOk r (λ ready. length ready.held.items ≡ length items) → Rests old r new
+pub rest_stays : (r : Result Ready Fault) (kind : Kind) (target : Target) (steps : List Step) (items : List Item) (old new : Stores) → All IsQuiet steps
+    → IfOk r (λ ready. ready.steps.items ≡ steps) → IfOk r (λ ready. length ready.held.items ≡ length items) → Rests kind old items r new
     → (new.maildir.begun ≡ old.maildir.begun) × IfOk r (λ ready. AreAsHeld ready.steps.items items ready.held.items (flags_in target new items))
-rest_stays (Ok ready) target steps items old new quiet same held rests =
-    (ap (λ (s : Stores). s.maildir.begun) rests, quiet_same ready.steps.items items ready.held.items (flags_in target new items) (subst (λ (ss : List Step). All IsQuiet ss) (sym same) quiet) held (flags_length target new items))
-rest_stays (Err fault) target steps items old new quiet same held rests = (none_begun old new fault rests, tt)
+rest_stays (Ok ready) kind target steps items old new quiet same held rests =
+    (none_begun kind items old new (Ok ready) rests, quiet_same ready.steps.items items ready.held.items (flags_in target new items) (subst (λ (ss : List Step). All IsQuiet ss) (sym same) quiet) held (flags_length target new items))
+rest_stays (Err fault) kind target steps items old new quiet same held rests = (none_begun kind items old new (Err fault) rests, tt)
 
 pub rested : {D F : Type 0} (disk : DiskGhosts D) (files : FileGhosts F) (account : List ℕ) {settings : Settings} {items : List Item} {now : ℕ} (store : Store D F) (new : Stores) (file read : Stored) (loaded : Loaded)
     (r : Result Ready Fault) (steps : List Step)
     → ((rows : List Row) (listing : List Item) (held : List Bool) (now : ℕ) → IsRecord rows → All (λ (item : Item). is_delivered rows item.uid ≡ true) listing → merged rows listing held now ≡ rows)
-    → kind_of store ≡ Files → Rests (stores_of disk files store) r new → ReadAs file.content loaded → read ≡ file → loaded.stale ≡ false
+    → loaded.intent ≡ None → Rests (kind_of store) (stores_of disk files store) items r new → ReadAs file.content loaded → read ≡ file → loaded.stale ≡ false
     → IsIdle settings loaded.rows items now steps → IfOk r (λ ready. ready.steps.items ≡ steps) → IfOk r (λ ready. length ready.held.items ≡ length items)
     → Readies settings (target_of store account) items now (stores_of disk files store) file r loaded.rows new read
-rested disk files account {settings} {items} {now} store new file read loaded (Ok ready) steps law kind rests stood same fresh idle are held =
-    rests_ok disk files account store new file read loaded ready law kind rests stood same fresh (subst (λ (ss : List Step). IsIdle settings loaded.rows items now ss) (sym are) idle) held
-rested disk files account {settings} {items} {now} store new file read loaded (Err fault) steps law kind rests stood same fresh idle are held =
-    rests_refused disk files account items now store new file read loaded fault kind rests stood same
+rested disk files account {settings} {items} {now} store new file read loaded (Ok ready) steps law closed rests stood same fresh idle are held =
+    rests_ok disk files account store new file read loaded ready law closed rests stood same fresh (subst (λ (ss : List Step). IsIdle settings loaded.rows items now ss) (sym are) idle) held
+rested disk files account {settings} {items} {now} store new file read loaded (Err fault) steps law closed rests stood same fresh idle are held =
+    rests_refused disk files account items now store new file read loaded fault closed rests stood same
 
 pub from_some : {A : Type 0} (P : A → Type 0) {o : Option A} {x : A} → o ≡ Some x → IfSome o P → P x
 from_some {A} P {o} {x} is p = subst (λ (option : Option A). IfSome option P) is p

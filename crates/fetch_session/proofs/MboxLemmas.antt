@@ -43,7 +43,7 @@ either : (content : Option (List ℕ)) → (content ≡ None) ⊎ ((bytes : List
 either None = inl refl
 either (Some bytes) = inr (bytes, refl)
 
-held_same : (old : Stored) (bytes : List ℕ) → old.content ≡ Some bytes → old ≡ holding old bytes
+pub held_same : (old : Stored) (bytes : List ℕ) → old.content ≡ Some bytes → old ≡ holding old bytes
 held_same old bytes is = ap (λ (c : Option (List ℕ)). let s : Stored = record old { content = c } in s) is
 
 content_of : (a b : Stored) → a ≡ b → a.content ≡ b.content

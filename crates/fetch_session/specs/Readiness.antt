@@ -19,7 +19,8 @@ use Rattle.fetch_session.specs.declared.readiness.Found.{Found}
 use Rattle.fetch_session.specs.declared.readiness.Ready.{Ready}
 use Rattle.fetch_session.specs.Mbox.{AsksMbox, IsSettledAtMost}
 use Rattle.fetch_session.specs.Record.{Keeps, Steady, Misread}
-use Rattle.fetch_session.specs.Target.{Target, AsFiles, AsEntries, Stores, flags_in, rows_in, closed_file}
+use Rattle.mail_store.specs.MboxCalls.{Checks}
+use Rattle.fetch_session.specs.Target.{Kind, Files, Entries, Target, AsFiles, AsEntries, Stores, flags_in, rows_in, closed_file}
 
 -- a folder isn't there, or a call was refused, or memory ran out
 abbrev pub FindsRefused : Maildir → Fault → Maildir → Type 0
@@ -66,10 +67,16 @@ ChecksBoth old (Err refused.Refused) new = new ≡ Rattle.mail_store.specs.Maild
 ChecksBoth old (Err refused.NotMbox) new = ⊥
 ChecksBoth old (Err refused.NoMemory) new = ⊥
 
--- nothing was done to a store; or it was found that a folder of its Maildir isn't there
-abbrev pub Rests : Stores → Result Ready Fault → Stores → Type 0
-Rests old (Ok ready) new = new ≡ old
-Rests old (Err fault) new = FindsRefused old.maildir fault new.maildir
+-- a store was looked at: whether both folders of a Maildir are there, or whether an entry may follow an mboxrd file
+abbrev pub ChecksStore : {T : Type 0} → Kind → Stores → Result T StoreFault → Stores → Type 0
+ChecksStore Files old result new = ChecksBoth old.maildir result new.maildir × (new.mbox ≡ old.mbox)
+ChecksStore Entries old result new = Checks old.mbox result new.mbox × (new.maildir ≡ old.maildir)
+
+-- nothing was done to a store, in which there is a place for what may come; or why there is none
+abbrev pub Rests : Kind → Stores → List Item → Result Ready Fault → Stores → Type 0
+Rests kind old items (Ok ready) new = ChecksStore {T = Unit {0}} kind old (Ok tt) new
+Rests Files old items (Err fault) new = FindsRefused old.maildir fault new.maildir
+Rests Entries old items (Err fault) new = AsksMbox None old.mbox items (Err fault) new.mbox × (new.maildir ≡ old.maildir)
 
 -- the flags are those of the store, as far as the steps use them
 abbrev pub AreAsHeld : List Step → List Item → List Bool → List Bool → Type 0

@@ -21,7 +21,7 @@ use crate::tail::leave;
 use crate::terms::Terms;
 use crate::work::Work;
 use fetch_rules::{Listing, Seen, plan};
-use mail_store::{AccountId, FlatFile, MaildirDisk, check_mbox};
+use mail_store::{AccountId, FlatFile, MaildirDisk, peek_mbox};
 use pop3_client::{Client, Fault};
 use pop3_wire::Wire;
 use std::alloc::{AllocError, Global};
@@ -80,7 +80,7 @@ fn look_at_mbox<F: FlatFile, H: BuildHasher>(
     let None = seen.intent() else {
         return none_held(alloc, listing, true);
     };
-    if let Err(fault) = check_mbox(mbox) {
+    if let Err(fault) = peek_mbox(mbox) {
         return Err(refused(fault));
     }
     none_held(alloc, listing, false)

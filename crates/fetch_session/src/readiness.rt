@@ -9,8 +9,8 @@ ghost use Rattle.mail_store.specs.Fault.{IsDeviceFault};
 ghost use Rattle.fetch_session.specs.Mbox.{AsksMbox, SettlesIntent};
 ghost use Rattle.mail_store.specs.Power.{AllStay};
 ghost use Rattle.fetch_session.specs.Lasting.{AllStayIn, IsSafe, IsSafeStore, is_sure};
-ghost use Rattle.fetch_session.specs.Target.{Kind, flags_in, is_sound, kind_of, stores_of, target_of};
-ghost use Rattle.fetch_session.specs.Readiness.{AreAsHeld, ChecksBoth, FindsHeld, FindsIn, IsIdle, Readies, Rests};
+ghost use Rattle.fetch_session.specs.Target.{flags_in, is_sound, kind_of, stores_of, target_of};
+ghost use Rattle.fetch_session.specs.Readiness.{AreAsHeld, ChecksBoth, ChecksStore, FindsHeld, FindsIn, IsIdle, Readies, Rests};
 ghost use Rattle.fetch_session.specs.Record.{Gets, Reads, ReadAs, Merges, IsLineFault, IsSecured, Steady, bytes_in, held_in};
 
 use crate::account::Store;
@@ -22,7 +22,7 @@ use fetch_rules::{
     listed_has_row, plan, plan_of_known,
 };
 use mail_store::{
-    AccountId, FlatFile, Folder, MaildirDisk, StoreFault, check_mbox, held, settle_file,
+    AccountId, FlatFile, Folder, MaildirDisk, StoreFault, check_mbox, held, peek_mbox, settle_file,
 };
 use pop3_client::{Fault, Why};
 use std::alloc::{AllocError, Global};
@@ -241,22 +241,17 @@ fn take_in<F: FlatFile, H: BuildHasher>(
 /// The steps of the plan, if nothing that the store holds can change the record, its file or what
 /// is done: each listed id is recorded as delivered, nothing is to be fetched or deleted, and the
 /// file needs no change.
-fn idle_steps<D, F, H: BuildHasher>(
+fn idle_steps<H: BuildHasher>(
     alloc: Global,
     terms: Terms<'_>,
-    store: &Store<D, F>,
     seen: &Seen<H>,
     listing: &Listing,
 ) -> Result<Option<Vec<Step>>, AllocError>
-    ensures files { IfOk result (λ found. IfSome found (λ steps. kind_of store.now ≡ Kind.Files)) }
     ensures idle { IfOk result (λ found. IfSome found (λ steps.
         IsIdle terms.entry.settings.now seen.now.rows listing.now terms.entry.now steps.items)) }
     ensures fresh { IfOk result (λ found. IfSome found (λ steps. seen.now.stale ≡ false)) }
     ensures closed { IfOk result (λ found. IfSome found (λ steps. seen.now.intent ≡ None)) }
 {
-    if !matches!(store, Store::Maildir(_)) {
-        return Ok(None);
-    }
     if terms.settings.read_all || seen.needs_rewrite() || seen.intent().is_some() {
         return Ok(None);
     }
@@ -280,24 +275,34 @@ fn check_folders<D: MaildirDisk>(disk: &mut D) -> Result<(), StoreFault>
     disk.check(Folder::Cur)
 }
 
-/// What is ready if the Maildir needn't be asked what it holds: its folders must be there.
+/// Whether both folders of a Maildir are there, or an entry may follow an mboxrd file. Nothing is
+/// flushed.
+fn check_store<D: MaildirDisk, F: FlatFile>(store: &mut Store<D, F>) -> Result<(), StoreFault>
+    ensures kind { kind_of store.new ≡ kind_of store.old }
+    ensures checks { is_sound D.MaildirDisk F.FlatFile store.new → is_sound D.MaildirDisk F.FlatFile store.old
+        × ChecksStore (kind_of store.old) (stores_of D.MaildirDisk F.FlatFile store.old) result (stores_of D.MaildirDisk F.FlatFile store.new) }
+{
+    match store {
+        Store::Maildir(disk) => check_folders(disk),
+        Store::Mboxrd(mbox) => peek_mbox(mbox),
+    }
+}
+
+/// What is ready if the store needn't be asked what it holds. It is only checked.
 fn rest<D: MaildirDisk, F: FlatFile>(
     alloc: Global,
     store: &mut Store<D, F>,
     listing: &Listing,
     steps: Vec<Step>,
 ) -> Result<Ready, Fault>
-    requires files { kind_of store.old ≡ Kind.Files }
     ensures kind { kind_of store.new ≡ kind_of store.old }
     ensures length { IfOk result (λ ready. length ready.held.items ≡ length listing.now) }
     ensures steps { IfOk result (λ ready. ready.steps.items ≡ steps.items) }
     ensures finds { is_sound D.MaildirDisk F.FlatFile store.new → is_sound D.MaildirDisk F.FlatFile store.old
-        × Rests (stores_of D.MaildirDisk F.FlatFile store.old) result (stores_of D.MaildirDisk F.FlatFile store.new) }
+        × Rests (kind_of store.old) (stores_of D.MaildirDisk F.FlatFile store.old) listing.now result
+        (stores_of D.MaildirDisk F.FlatFile store.new) }
 {
-    let Store::Maildir(disk) = store else {
-        unreachable!()
-    };
-    if let Err(fault) = check_folders(disk) {
+    if let Err(fault) = check_store(store) {
         return Err(refused(fault));
     }
     let Ok(held) = vec![in alloc; false; listing.len() as usize] else {
@@ -357,7 +362,7 @@ fn prepare_by_store<D: MaildirDisk, F: FlatFile, H: BuildHasher>(
 }
 
 /// Reads the record, settles its open intent, merges the listing and what the store holds of it,
-/// saves the record if that changed it, and makes the plan. A Maildir isn't asked what it holds if
+/// saves the record if that changed it, and makes the plan. A store isn't asked what it holds if
 /// that can change nothing: then nothing is fetched, deleted, written or flushed.
 pub fn prepare<D: MaildirDisk, F: FlatFile, H: BuildHasher>(
     alloc: Global,
@@ -384,7 +389,8 @@ pub fn prepare<D: MaildirDisk, F: FlatFile, H: BuildHasher>(
         (stores_of D.MaildirDisk F.FlatFile store.old) (F.stored file.old) result seen.new.rows
         (stores_of D.MaildirDisk F.FlatFile store.new) (F.stored file.new) }
     ensures lasts { is_sound D.MaildirDisk F.FlatFile store.new → is_sure F.FlatFile store.old
-        → IfOk result (λ ready. IsSafeStore F.FlatFile store.new × (All IsQuiet ready.steps.items ⊎ AllStayIn D.MaildirDisk store.new)) }
+        → IfOk result (λ ready. All IsQuiet ready.steps.items
+        ⊎ (IsSafeStore F.FlatFile store.new × AllStayIn D.MaildirDisk store.new)) }
     ensures file_lasts { F.sound file.new → F.is_sure file.old
         → IfOk result (λ ready. All IsQuiet ready.steps.items ⊎ IsSafe F.FlatFile file.new) }
 {
@@ -394,7 +400,7 @@ pub fn prepare<D: MaildirDisk, F: FlatFile, H: BuildHasher>(
         Ok(is_new) => is_new,
         Err(fault) => return Err(fault),
     };
-    match idle_steps(alloc, terms, store, seen, listing) {
+    match idle_steps(alloc, terms, seen, listing) {
         Ok(Some(steps)) => return rest(alloc, store, listing, steps),
         Ok(None) => {}
         Err(_) => return Err(Fault::NoMemory),

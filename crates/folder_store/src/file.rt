@@ -177,6 +177,11 @@ impl<'a, F: FileFolder + Drop> FlatFile for HostFile<'a, F> {
         }
     }
 
+    fn peek_edges(&mut self) -> Result<Edges, StoreFault> {
+        admit(&self.failures)?;
+        tally(&mut self.failures, self.folder.edges(self.name))
+    }
+
     fn read_at(&mut self, start: u64, buf: &mut [u8]) -> Result<usize, StoreFault> {
         admit(&self.failures)?;
         match self.folder.read_at(self.name, start, buf) {

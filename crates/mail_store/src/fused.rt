@@ -313,6 +313,22 @@ impl<D: FlatFile> FlatFile for Fused<D> {
         self.tally(answer)
     }
 
+    fn peek_edges(&mut self) -> Result<Edges, StoreFault>
+        ensures measures { FusedIsSound D.sound self.new → FusedIsSound D.sound self.old
+            × Measures (fused_file D.stored self.old) result (fused_file D.stored self.new) }
+        ensures fault { IfErr result IsDeviceFault }
+        ensures keeps { FusedIsSound D.sound self.new → KeepsBytes (D.outlives (device_of self.old)) (D.outlives (device_of self.new)) }
+        ensures sure { FusedIsSound D.sound self.new → D.is_sure (device_of self.old) → D.is_sure (device_of self.new) }
+        ensures count { Tallies (refuses is_refusal result) (refusals self.old) (refusals self.new) }
+        ensures burns { refusals self.old < greatest_count → Burns (λ d. (D.stored d).failures) self.old result self.new }
+        ensures behind { passes_left self.old ≡ 0 → device_of self.new ≡ device_of self.old }
+    {
+        admit(&self.failures)?;
+        self.pass()?;
+        let answer = self.device.peek_edges();
+        self.tally(answer)
+    }
+
     fn read_at(&mut self, start: u64, buf: &mut [u8]) -> Result<usize, StoreFault>
         ensures reads { IfOk result (λ count. count ≤ length buf.new) × (FusedIsSound D.sound self.new → FusedIsSound D.sound self.old
             × ReadsAt (fused_file D.stored self.old) start result buf.new (fused_file D.stored self.new)) }

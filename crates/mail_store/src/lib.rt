@@ -25,7 +25,7 @@ pub use maildir::names::{
 };
 pub use mboxrd::entry::{
     append_entry, check_mbox, entries_add_texts, entries_may_follow_texts, entry_len,
-    files_have_one_reading,
+    files_have_one_reading, peek_mbox,
 };
 pub use mboxrd::quoting::{is_whole, quote, unquote, unquoting_undoes_quoting};
 pub use mboxrd::reading::read_mbox;

@@ -65,6 +65,16 @@ pub trait FlatFile {
             → UnlessRefused result (is_sure self.new × LastsWhole (stored self.new).content (outlives self.new)) }
         ensures count { Tallies (refuses is_refusal result) (stored self.old).failures (stored self.new).failures };
 
+    /// The size and the ends of the file, as `edges` gives them, but nothing is flushed. Missing if
+    /// there is none, else Refused.
+    fn peek_edges(&mut self) -> Result<Edges, StoreFault>
+        ensures measures { sound self.new → sound self.old
+            × Measures (stored self.old) result (stored self.new) }
+        ensures fault { IfErr result IsDeviceFault }
+        ensures keeps { sound self.new → KeepsBytes (outlives self.old) (outlives self.new) }
+        ensures sure { sound self.new → is_sure self.old → is_sure self.new }
+        ensures count { Tallies (refuses is_refusal result) (stored self.old).failures (stored self.new).failures };
+
     /// Reads the bytes of the file from `start` on into the front of a buffer, and returns how
     /// many: as many as there are and fit, so none if `start` is at or past the end. Missing if
     /// there is no file, else Refused. After a fault the buffer may hold anything.

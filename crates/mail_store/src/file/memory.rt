@@ -115,6 +115,10 @@ impl FlatFile for MemoryFile {
         }
     }
 
+    fn peek_edges(&mut self) -> Result<Edges, StoreFault> {
+        self.edges()
+    }
+
     // It takes no memory, so below the greatest count it isn't refused.
     fn read_at(&mut self, start: u64, buf: &mut [u8]) -> Result<usize, StoreFault>
         ensures within { IfOk result (λ count. count ≤ length buf.new) }

@@ -57,6 +57,22 @@ pub fn check_mbox<F: FlatFile>(file: &mut F) -> Result<(), StoreFault>
     Ok(())
 }
 
+/// Checks the same, but flushes nothing: a loss of power may take back what was seen.
+pub fn peek_mbox<F: FlatFile>(file: &mut F) -> Result<(), StoreFault>
+    ensures checks { F.sound file.new → F.sound file.old
+        × Checks (F.stored file.old) result (F.stored file.new) }
+    ensures fault { IfErr result (λ e. e ≢ StoreFault.NoMemory) }
+    ensures keeps { F.sound file.new → KeepsBytes (F.outlives file.old) (F.outlives file.new) }
+    ensures sure { F.sound file.new → F.is_sure file.old → F.is_sure file.new }
+    ensures count { Tallies (refuses is_refusal result) (F.stored file.old).failures (F.stored file.new).failures }
+{
+    let edges = file.peek_edges()?;
+    if !may_go_on(&edges) {
+        return Err(StoreFault::NotMbox);
+    }
+    Ok(())
+}
+
 /// How many bytes the entry of a text takes.
 fn entry_size(text: &[u8]) -> usize
     ensures { result ≡ length (entry_of text.now) }

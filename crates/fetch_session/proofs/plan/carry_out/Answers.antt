@@ -10,7 +10,7 @@ use Rattle.fetch_session.specs.Report.{skipped_in}
 use Rattle.fetch_session.specs.Intake.{TookTillCut, step_limit, tail_limit}
 use Rattle.fetch_session.specs.Parts.{KeepsLink, KeepsStore}
 use Rattle.fetch_session.proofs.PlanLemmas.{flags_same, fresh_firsts}
-use Rattle.fetch_session.proofs.CarryLemmas.{carried, firm_both, good_broke, good_quit, unprepared}
+use Rattle.fetch_session.proofs.CarryLemmas.{carried, firm_both, still, good_broke, good_quit, unprepared}
 use Rattle.fetch_session.proofs.IntakeLemmas.{took_less, took_on, with_tail_on, took_completing, quit_broke}
 use Rattle.fetch_session.proofs.PartLemmas.{link_idle, link_less, link_with_tail, most_planned, planned_all, store_less}
 use Rattle.fetch_session.proofs.RefusalLemmas.{before_cut, cut_by}
@@ -58,7 +58,7 @@ returns-in-Err-do_steps-clause-carries g c = λ w d f.
       (
         c.do_steps.new.work.ledger.seen.rows,
         inr (carried g.D.MaildirDisk g.F.FlatFile c.prepare.new.store c.deref-2.result.now c.deref-3.result.now ready.2 c.deref-2.ensures.value c.deref-3.ensures.value
-            (c.skipped_in.ensures ∙ ap skipped_in c.deref.ensures.value) (λ sure. (c.in-Ok.ensures.lasts done.1 sure.0).1) (λ sure. firm_both (c.in-Ok.ensures.file_lasts done.2 sure.1) (c.in-Ok.ensures.lasts done.1 sure.0).0) (c.in-Err-do_steps.ensures.keeps.lasts d f).1
+            (c.skipped_in.ensures ∙ ap skipped_in c.deref.ensures.value) (λ sure. still (c.in-Ok.ensures.lasts done.1 sure.0)) (λ sure. firm_both (c.in-Ok.ensures.file_lasts done.2 sure.1) (c.in-Ok.ensures.lasts done.1 sure.0)) (c.in-Err-do_steps.ensures.keeps.lasts d f).1
             (good_before (says quit ∷ []) (in_kind c.prepare.new.store c.args.work.now.store c.args.terms.account.now c.prepare.ensures.kind done.4
             (λ safe. safe)))),
       ),
@@ -76,7 +76,7 @@ returns-in-Ok-quit-clause-carries g c = λ w d f.
       (
         c.do_steps.new.work.ledger.seen.rows,
         (carried g.D.MaildirDisk g.F.FlatFile c.prepare.new.store c.deref-2.result.now c.deref-3.result.now ready.2 c.deref-2.ensures.value c.deref-3.ensures.value
-            (c.skipped_in.ensures ∙ ap skipped_in c.deref.ensures.value) (λ sure. (c.in-Ok.ensures.lasts done.1 sure.0).1) (λ sure. firm_both (c.in-Ok.ensures.file_lasts done.2 sure.1) (c.in-Ok.ensures.lasts done.1 sure.0).0) (c.in_default.ensures.keeps.lasts d f).1
+            (c.skipped_in.ensures ∙ ap skipped_in c.deref.ensures.value) (λ sure. still (c.in-Ok.ensures.lasts done.1 sure.0)) (λ sure. firm_both (c.in-Ok.ensures.file_lasts done.2 sure.1) (c.in-Ok.ensures.lasts done.1 sure.0)) (c.in_default.ensures.keeps.lasts d f).1
             (good_quit completes.2.0 (place_of g.W.Wire c.quit.new.self) (in_kind c.prepare.new.store c.args.work.now.store c.args.terms.account.now c.prepare.ensures.kind done.4
             (λ safe. safe)) completes.2.1)),
       ),
@@ -94,7 +94,7 @@ returns-clause-carries g c = λ w d f.
       (
         c.do_steps.new.work.ledger.seen.rows,
         inr (carried g.D.MaildirDisk g.F.FlatFile c.prepare.new.store c.deref-2.result.now c.deref-3.result.now ready.2 c.deref-2.ensures.value c.deref-3.ensures.value
-            (c.skipped_in.ensures ∙ ap skipped_in c.deref.ensures.value) (λ sure. (c.in-Ok.ensures.lasts done.1 sure.0).1) (λ sure. firm_both (c.in-Ok.ensures.file_lasts done.2 sure.1) (c.in-Ok.ensures.lasts done.1 sure.0).0) (c.in_default.ensures.keeps.lasts d f).1
+            (c.skipped_in.ensures ∙ ap skipped_in c.deref.ensures.value) (λ sure. still (c.in-Ok.ensures.lasts done.1 sure.0)) (λ sure. firm_both (c.in-Ok.ensures.file_lasts done.2 sure.1) (c.in-Ok.ensures.lasts done.1 sure.0)) (c.in_default.ensures.keeps.lasts d f).1
             (good_broke (place_of g.W.Wire c.quit.new.self) c.in-Err-quit.fault c.plain-in-Err-quit.result
             (in_kind c.prepare.new.store c.args.work.now.store c.args.terms.account.now c.prepare.ensures.kind done.4
             (λ safe. safe)) c.plain-in-Err-quit.ensures completes.2)),
