@@ -14,11 +14,13 @@
        flush-folder PATH 0     the same for a folder
        rename FROM TO 0        link FROM TO 0        unlink PATH 0
        send n                  n bytes were written to a socket or a pipe
+       list PATH 0             the names of a folder were asked for; only with CHANGES_LISTED=1
 
    A path that isn't absolute is taken from the working folder. After the fifth row, here, the program is killed;
    without CHANGES_KILLED it isn't. */
 
 #include "note.h"
+#include <dirent.h>
 #include <signal.h>
 #include <stdarg.h>
 #include <stdint.h>
@@ -236,4 +238,14 @@ int unlink(const char *path)
     if (answer == 0)
         add_row("", 0, "unlink\t%s", absolute(path, whole));
     return answer;
+}
+
+ssize_t getdents64(int folder, void *names, size_t size)
+{
+    NEXT(getdents64);
+    char path[PATH_MAX];
+
+    if (getenv("CHANGES_LISTED"))
+        add_row("", 0, "list\t%s", path_of(folder, path));
+    return next(folder, names, size);
 }

@@ -1,5 +1,5 @@
 -- What is ready if the store needn't be asked what it holds.
-use Rattle.std.proofs.Common.{◌≡◌, ◌≢◌, ℕ, suc, Bool, true, false, List, [], ◌∷◌, ◌++◌, length, map, Option, None, Some, Ok, Err, refl, sym, ap, subst, ◌∙◌, inl, arith}
+use Rattle.std.proofs.Common.{◌≡◌, ◌≢◌, ℕ, suc, Bool, true, false, List, [], ◌∷◌, ◌++◌, length, map, Option, None, Some, Ok, Err, refl, sym, ap, subst, ◌∙◌, arith}
 use Rattle.std.specs.Prelude.{All, Result, IfOk, IfSome, OnOk}
 use Rattle.std.specs.List.{AllByRecursion}
 use Rattle.std.proofs.lemmas.List.{length-map}
@@ -66,11 +66,6 @@ no_place Files items old new refused.Refused fault is told = rw told is.0
 no_place Files items old new refused.NotMbox fault is told = absurd is.0
 no_place Files items old new refused.NoMemory fault is told = absurd is.0
 no_place Entries items old new refusal fault is told = (asks_refused None old.mbox old.mbox new.mbox false items refusal fault (refl, refl) is.0 told, is.1)
-
--- there is one, and memory ran out
-pub no_room : (kind : Kind) (items : List Item) (old new : Stores) → ChecksStore {T = Unit {0}} kind old (Ok tt) new → Rests kind old items (Err NoMemory) new
-no_room Files items old new is = is.0.2
-no_room Entries items old new is = ((ap (λ (s : Stored). s.failures) is.0.1, inl (ap (λ (s : Stored). s.content) is.0.1)), is.1)
 
 module _ {D F : Type 0} (disk : DiskGhosts D) (files : FileGhosts F) (account : List ℕ) where
   -- a store that was only looked at

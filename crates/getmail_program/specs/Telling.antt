@@ -1,5 +1,5 @@
 -- What is reported of a session.
-use Rattle.std.specs.Prelude.{◌≡◌, ℕ, Bool, true, false, List, [], ◌++◌, Option, Result, Ok, Err, OnOk, codes}
+use Rattle.std.specs.Prelude.{◌≡◌, ℕ, Bool, true, false, ◌==◌, List, [], ◌++◌, Option, Result, Ok, Err, OnOk, codes}
 use Rattle.std.specs.Io.KnownBytes.{Appends}
 use Rattle.rc_file.specs.declared.settings.Settings.{Settings}
 use Rattle.pop3_client.specs.declared.fault.Fault.{Fault}
@@ -30,15 +30,17 @@ abbrev pub status_of : Fetched → ℕ
 status_of fetched = status_when fetched.outcome fetched.report
 
 -- the report was written to `out`, and the fault's line, if there is one, to `err`, and nothing else to
--- either, unless a write was refused
+-- either, unless a write was refused; and whether the plan passes over all that is listed
 pub record Tells (settings : Settings) (report : Report) (fetched : Fetched) (out out' err err' : Option (List ℕ)) : Type 0 where
   pub outcome : fetched.outcome ≡ report.outcome
+  pub idle : fetched.is_idle ≡ (report.skipped == report.total)
   pub reported : OnOk fetched.report (Appends out out' (report_text report settings))
   pub faulted : OnOk fetched.fault (Appends err err' (outcome_line report.outcome))
 
--- the same for what a run would do
+-- the same for what a run would do, which fetches nothing
 pub record TellsAhead (settings : Settings) (preview : Preview) (fetched : Fetched) (out out' err err' : Option (List ℕ)) : Type 0 where
   pub outcome : fetched.outcome ≡ preview.outcome
+  pub idle : fetched.is_idle ≡ true
   pub reported : OnOk fetched.report (Appends out out' (preview_text preview settings))
   pub faulted : OnOk fetched.fault (Appends err err' (outcome_line preview.outcome))
 

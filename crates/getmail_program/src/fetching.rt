@@ -28,6 +28,8 @@ use std::io::{self, Write};
 pub struct Fetched {
     /// How the session ended.
     pub outcome: Outcome,
+    /// Whether it had nothing to fetch.
+    pub is_idle: bool,
     /// Whether the report was written.
     pub report: io::Result<()>,
     /// Whether the line of the fault, if there is one, was written.
@@ -114,6 +116,7 @@ fn tell_report<O: Write, E: Write>(
     Fetched {
         report: write_report(alloc, &report, settings, out),
         fault: write_outcome(alloc, &report.outcome, err),
+        is_idle: report.skipped == report.total,
         outcome: report.outcome,
     }
 }
@@ -131,6 +134,7 @@ fn tell_preview<O: Write, E: Write>(
     Fetched {
         report: write_preview(alloc, &preview, settings, out),
         fault: write_outcome(alloc, &preview.outcome, err),
+        is_idle: true,
         outcome: preview.outcome,
     }
 }

@@ -3,9 +3,9 @@ ghost use Rattle.std.specs.Prelude.{◌≡◌, ◌≤◌};
 ghost use Rattle.rc_file.specs.Settings.{IsValid};
 ghost use Rattle.fetch_session.specs.Target.{IsCalm, kind_of};
 ghost use Rattle.getmail_program.specs.Places.{kind_in};
-ghost use Rattle.getmail_program.specs.Telling.{IsTold};
+ghost use Rattle.getmail_program.specs.Telling.{IsTold, status_of};
 
-use crate::fetching::{fetch_into, pretend_into};
+use crate::fetching::{Fetched, fetch_into, pretend_into};
 use crate::setup::{Setup, account_of};
 use crate::shown_wire::ShownWire;
 use fetch_rules::{Dest, Settings};
@@ -86,14 +86,14 @@ fn account_at<'a, R: Files + Clock + AllocGlobal + Clone + Drop, H: BuildHasher>
     Account::new(host.alloc(), settings, store, record, hasher)
 }
 
-/// Closes the account of a run, and removes what killed runs of it left, unless the run only showed
-/// what it would do.
+/// Closes the account of a run, and removes what killed runs of it left, unless the run had nothing
+/// to fetch.
 fn close<R: Files + Clock + AllocGlobal + Clone + Drop, H: BuildHasher + Drop>(
     account: HostAccount<'_, R, H>,
-    pretends: bool,
+    is_idle: bool,
 ) {
     let (settings, store, record) = account.into_parts();
-    if pretends {
+    if is_idle {
         return;
     }
     if let Store::Maildir(maildir) = &store {
@@ -109,7 +109,7 @@ struct Manner {
     pretends: bool,
 }
 
-/// Runs one session over a link, or only shows what it would do, and returns the exit status.
+/// Runs one session over a link, or only shows what it would do.
 fn hold<D: MaildirDisk, F: FlatFile, H: BuildHasher, W: Wire + Drop, O: Write, E: Write + Drop>(
     alloc: Global,
     account: &mut Account<D, F, H>,
@@ -117,14 +117,13 @@ fn hold<D: MaildirDisk, F: FlatFile, H: BuildHasher, W: Wire + Drop, O: Write, E
     manner: Manner,
     out: &mut O,
     mut err: E,
-) -> u8
-    ensures within { result ≤ 1 }
-    ensures tells { result ≡ 0 → IsTold manner.pretends account.old.settings (O.contents out.old) (O.contents out.new) }
+) -> Fetched
+    ensures { status_of result ≡ 0 → IsTold manner.pretends account.old.settings (O.contents out.old) (O.contents out.new) }
 {
     if manner.pretends {
-        pretend_into(alloc, account, &mut wire, manner.now, out, &mut err).status()
+        pretend_into(alloc, account, &mut wire, manner.now, out, &mut err)
     } else {
-        fetch_into(alloc, account, &mut wire, manner.now, out, &mut err).status()
+        fetch_into(alloc, account, &mut wire, manner.now, out, &mut err)
     }
 }
 
@@ -162,7 +161,7 @@ pub fn fetch_over<
         now: seconds_now(host),
         pretends,
     };
-    let status = hold(host.alloc(), &mut account, wire, manner, out, err);
-    close(account, pretends);
-    status
+    let fetched = hold(host.alloc(), &mut account, wire, manner, out, err);
+    close(account, fetched.is_idle);
+    fetched.status()
 }

@@ -1,5 +1,5 @@
 use Rattle.fetch_session.specs.Target.{kind_of, stores_of}
-use Rattle.fetch_session.proofs.IdleLemmas.{no_place, no_room}
+use Rattle.fetch_session.proofs.IdleLemmas.{no_place}
 use Rattle.fetch_session.proofs.readiness.rest.Goals as goal
 
 pub returns-in-Err-clause-finds : goal.returns-in-Err-clause-finds
