@@ -33,7 +33,7 @@ use Rattle.fetch_session.specs.Task.{Task, stores, ids_in, ids_ahead, turns_in, 
 use Rattle.fetch_session.specs.Work.{IsReady}
 use Rattle.fetch_session.proofs.FreshLemmas.{OneMore, ahead, fresh_grows}
 use Rattle.fetch_session.proofs.IntakeLemmas.{takes_on, takes_plain, took_less, took_nothing, with_any_tail}
-use Rattle.fetch_session.proofs.LastLemmas.{good_before, good_more, in_kind, keeps_same, mail_on, none_came, none_lasts, rows_last, texts_ok}
+use Rattle.fetch_session.proofs.LastLemmas.{good_before, good_more, in_kind, keeps_mail_on, keeps_same, none_came, none_lasts, rows_last, texts_ok}
 use Rattle.fetch_session.proofs.RefusalLemmas.{cut_by, till_cut}
 use Rattle.fetch_session.proofs.SceneLemmas.{all_append, all_none, all_weaker, fell_first, on_any}
 
@@ -202,7 +202,7 @@ module _ {W D F H Z : Type 0} {link : WireGhosts W} {disk : DiskGhosts D} {file 
     lasts = λ d f.
         let later = then.lasts d f in
         let before = first.lasts (then.store.calm d).0 later.0 in
-        (before.0, mail_on disk w.store w'.store w''.store before.1 later.1, λ safe. later.2 (before.2 safe));
+        (before.0, keeps_mail_on before.1 later.1, λ safe. later.2 (before.2 safe));
     next = on_map r (λ next later ready. next later (first.next (ys ++ later) (subst (λ (tasks : List Task). IsReadyFor disk file account tasks w) (append_assoc xs ys later) ready))) then.next;
   }
 
