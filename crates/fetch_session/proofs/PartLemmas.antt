@@ -19,7 +19,6 @@ use Rattle.pop3_client.specs.declared.client.Client.{Client}
 use Rattle.pop3_wire.specs.declared.wire.Wire.{Ghosts as WireGhosts}
 use Rattle.pop3_wire.specs.Place.{Place}
 use Rattle.fetch_session.specs.declared.fault.Cut.{Cut}
-use Rattle.fetch_session.specs.declared.work.Ledger.{Ledger}
 use Rattle.fetch_session.specs.declared.work.Work.{Work}
 use Rattle.fetch_session.specs.Fault.{cut_of}
 use Rattle.fetch_session.specs.Intake.{Took, TookTillCut, TookWithTail, step_limit, tail_limit}
@@ -165,10 +164,6 @@ module _ {W : Type 0} {link : WireGhosts W} where
   -- no call was made
   pub link_idle : {fault : Fault} {limit : ℕ} {a : Client W} {cut : Cut} → cut ≡ cut_of fault None → KeepsLink link (TookTillCut limit) a (Err cut) a
   link_idle plain = record { same = refl; counted = inl refl; took = λ s. (s, takes_plain plain (took_less took_nothing (omega arith))) }
-
--- nothing was written down
-pub ledger_idle : {F H Z : Type 0} {file : FileGhosts F} {ledger : Ledger F H Z} {cut : Cut} → KeepsLedger file ledger (Err cut) ledger
-ledger_idle = record { lines = (omega arith, omega arith); sound = λ f. f; written = tt; rows = tt }
 
 -- ---- the store
 

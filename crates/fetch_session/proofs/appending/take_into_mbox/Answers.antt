@@ -14,7 +14,7 @@ use Rattle.fetch_session.specs.declared.report.ReportLine.TheVariants.{Delivered
 use Rattle.fetch_session.proofs.TakeLemmas.{text_broken}
 use Rattle.fetch_session.proofs.MboxLemmas.{body_whole, entry_not_saved, entry_stored, not_held, text_refused}
 use Rattle.fetch_session.proofs.IntakeLemmas.{took_broke, takes_text, takes_held}
-use Rattle.fetch_session.proofs.PartLemmas.{ledger_idle, link_cut, link_then_cut}
+use Rattle.fetch_session.proofs.PartLemmas.{link_cut, link_then_cut}
 use Rattle.fetch_session.specs.Parts.{KeepsLink}
 use Rattle.fetch_session.specs.Report.{Adds}
 use Rattle.fetch_session.proofs.RefusalLemmas.{before_cut}
