@@ -75,9 +75,6 @@ dones_on disk file target xs ys a b mid new f went first keeps then = record {
   rows = simp (flat_map-append, marked_on) (rw went.rows at then.rows);
 }
 
-pub mail_on : {D F : Type 0} (disk : DiskGhosts D) (a b c : Store D F) → KeepsMailIn disk a b → KeepsMailIn disk b c → KeepsMailIn disk a c
-mail_on disk a b c first then = keeps_mail_on first then
-
 -- the same if another premise gives this one, and for another store of this kind
 pub in_kind : {D F : Type 0} {disk : DiskGhosts D} {file : FileGhosts F} {here safe : Type 0} {tasks : List Task} {old new : Scene}
     {r : Result (Unit {0}) Cut} {store : Store D F} {f : F} (a b : Store D F) (account : List ℕ) → kind_of a ≡ kind_of b

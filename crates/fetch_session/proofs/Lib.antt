@@ -13,7 +13,6 @@ mod ReadLemmas
 mod ReadyLemmas
 mod RecordLemmas
 mod RefusalLemmas
-mod ReportLemmas
 mod SceneLemmas
 mod SessionLemmas
 mod StoppingLemmas

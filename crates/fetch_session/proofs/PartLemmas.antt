@@ -19,7 +19,6 @@ use Rattle.pop3_client.specs.declared.client.Client.{Client}
 use Rattle.pop3_wire.specs.declared.wire.Wire.{Ghosts as WireGhosts}
 use Rattle.pop3_wire.specs.Place.{Place}
 use Rattle.fetch_session.specs.declared.fault.Cut.{Cut}
-use Rattle.fetch_session.specs.declared.work.Ledger.{Ledger}
 use Rattle.fetch_session.specs.declared.work.Work.{Work}
 use Rattle.fetch_session.specs.Fault.{cut_of}
 use Rattle.fetch_session.specs.Intake.{Took, TookTillCut, TookWithTail, step_limit, tail_limit}
@@ -33,7 +32,7 @@ use Rattle.fetch_session.specs.Task.{Task, stores, ids_in, ids_ahead, turns_in, 
 use Rattle.fetch_session.specs.Work.{IsReady}
 use Rattle.fetch_session.proofs.FreshLemmas.{OneMore, ahead, fresh_grows}
 use Rattle.fetch_session.proofs.IntakeLemmas.{takes_on, takes_plain, took_less, took_nothing, with_any_tail}
-use Rattle.fetch_session.proofs.LastLemmas.{good_before, good_more, in_kind, keeps_same, mail_on, none_came, none_lasts, rows_last, texts_ok}
+use Rattle.fetch_session.proofs.LastLemmas.{good_before, good_more, in_kind, keeps_mail_on, keeps_same, none_came, none_lasts, rows_last, texts_ok}
 use Rattle.fetch_session.proofs.RefusalLemmas.{cut_by, till_cut}
 use Rattle.fetch_session.proofs.SceneLemmas.{all_append, all_none, all_weaker, fell_first, on_any}
 
@@ -166,10 +165,6 @@ module _ {W : Type 0} {link : WireGhosts W} where
   pub link_idle : {fault : Fault} {limit : ℕ} {a : Client W} {cut : Cut} → cut ≡ cut_of fault None → KeepsLink link (TookTillCut limit) a (Err cut) a
   link_idle plain = record { same = refl; counted = inl refl; took = λ s. (s, takes_plain plain (took_less took_nothing (omega arith))) }
 
--- nothing was written down
-pub ledger_idle : {F H Z : Type 0} {file : FileGhosts F} {ledger : Ledger F H Z} {cut : Cut} → KeepsLedger file ledger (Err cut) ledger
-ledger_idle = record { lines = (omega arith, omega arith); sound = λ f. f; written = tt; rows = tt }
-
 -- ---- the store
 
 module _ {D F H Z : Type 0} {disk : DiskGhosts D} {file : FileGhosts F} where
@@ -202,7 +197,7 @@ module _ {W D F H Z : Type 0} {link : WireGhosts W} {disk : DiskGhosts D} {file 
     lasts = λ d f.
         let later = then.lasts d f in
         let before = first.lasts (then.store.calm d).0 later.0 in
-        (before.0, mail_on disk w.store w'.store w''.store before.1 later.1, λ safe. later.2 (before.2 safe));
+        (before.0, keeps_mail_on before.1 later.1, λ safe. later.2 (before.2 safe));
     next = on_map r (λ next later ready. next later (first.next (ys ++ later) (subst (λ (tasks : List Task). IsReadyFor disk file account tasks w) (append_assoc xs ys later) ready))) then.next;
   }
 

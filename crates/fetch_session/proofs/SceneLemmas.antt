@@ -13,7 +13,7 @@ use Rattle.fetch_session.specs.declared.fault.Cut.{Cut}
 use Rattle.fetch_session.specs.Task.{Task, Done, IsAnswered, files_in, texts_in, tasks_of, turns_of, replies_of, files_of, texts_of}
 use Rattle.fetch_session.specs.Store.{Gained, Appended, Brings}
 use Rattle.fetch_session.specs.Target.{Target, AsFiles, AsEntries, Stores}
-use Rattle.fetch_session.specs.Scene.{Scene, Went, AllWent, Fell, Stops, TakesTask, Does}
+use Rattle.fetch_session.specs.Scene.{Scene, Went, AllWent, Fell, Stops}
 
 pub gained_none : (m : Maildir) → Gained m m []
 gained_none m = record { came = sym (append-nil m.files); there = refl; calm = λ calm. calm; failures = omega arith }
@@ -124,10 +124,6 @@ all_on target xs ys a b c first then = record {
   all = simp (first.all, then.all, map-append);
   went = went_on target first.dones then.dones a b c first.went then.went;
 }
-
-pub takes_does : (target : Target) (task : Task) (a b : Scene) (r : Result (Unit {0}) Cut) → TakesTask target task a r b → Does target (task ∷ []) a r b
-takes_does target task a b (Ok done) took = record { dones = record { task = task; replies = took.0 } ∷ []; all = refl; went = took.1 }
-takes_does target task a b (Err f) took = fell_first target task [] a b f took
 
 pub on_any : {T E P : Type 0} (result : Result T E) → P → OnOk result P
 on_any (Ok done) p = p

@@ -1,22 +1,22 @@
 //! What is done with each message.
-ghost use Rattle.std.specs.Prelude.{◌≡◌, ◌∷◌, ◌++◌, [], ℕ, List, true, length};
+ghost use Rattle.std.specs.Prelude.{◌≡◌, ◌∷◌, [], List, length};
 ghost use Rattle.fetch_rules.specs.Record.{Row};
 ghost use Rattle.fetch_session.specs.Intake.{TookTillCut};
 ghost use Rattle.fetch_session.specs.Parts.{DoesTasks, IsReadyFor, KeepsLink, KeepsSession, task_of};
 ghost use Rattle.fetch_session.specs.Report.{Adds, HasRoom};
 ghost use Rattle.fetch_session.specs.Scene.{scene, TakesTask};
 ghost use Rattle.fetch_session.specs.Target.{Stores, Target};
-ghost use Rattle.fetch_session.specs.Task.{deletes, deleting, fetching, rereads, stores, tasks_planned};
+ghost use Rattle.fetch_session.specs.Task.{deletes, deleting, fetching, stores, tasks_planned};
 ghost use Rattle.mail_store.specs.FlatFile.{Stored};
 ghost use Rattle.pop3_client.specs.Client.{place_of};
-ghost use Rattle.pop3_client.specs.Turns.{dele, most, retr};
+ghost use Rattle.pop3_client.specs.Turns.{dele, most};
 ghost use Rattle.pop3_wire.specs.Link.{WhereSound};
 
 use crate::account::Store;
 use crate::appending::take_into_mbox;
 use crate::fault::{Cut, plain};
 use crate::report::{ReportLine, note};
-use crate::storing::{pass_text, take_into_maildir};
+use crate::storing::{reread, take_into_maildir};
 use crate::work::Work;
 use fetch_rules::{Listing, Step};
 use mail_store::{AccountId, FlatFile, MaildirDisk, one_more_is_held};
@@ -74,36 +74,6 @@ fn take<W: Wire, D: MaildirDisk, F: FlatFile, H: BuildHasher>(
             take_into_maildir(client, disk, &mut work.ledger, account, number, uid)
         }
         Store::Mboxrd(mbox) => take_into_mbox(client, mbox, &mut work.ledger, number, uid),
-    }
-}
-
-/// Takes one text that is held already: it is read.
-fn reread<W: Wire>(
-    alloc: Global,
-    client: &mut Client<'_, W>,
-    lines: &mut Vec<ReportLine>,
-    number: u32,
-) -> Result<(), Cut>
-    requires room { HasRoom lines.old 1 }
-    ensures link { KeepsLink W.Wire (TookTillCut (most (retr number))) client.old result client.new }
-    ensures few { Adds lines.old 1 lines.new }
-    ensures rereads { (target : Target) (uid : List ℕ) (store : Stores) (file : Stored) (rows : List Row)
-        → WhereSound W.sound W.leads_to client.old.wire.now client.new.wire.now
-        (TakesTask target (rereads number uid)
-        (scene (place_of W.Wire client.old) store file rows lines.old.items) result
-        (scene (place_of W.Wire client.new) store file rows lines.new.items)) }
-{
-    conversations_are_paced();
-    let body = match client.open(alloc, number) {
-        Ok(body) => body,
-        Err(fault) => return Err(plain(fault)),
-    };
-    match pass_text(client, body) {
-        Ok(length) => {
-            note(lines, ReportLine::Held { number, length });
-            Ok(())
-        }
-        Err(fault) => Err(plain(fault)),
     }
 }
 

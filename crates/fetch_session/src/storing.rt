@@ -8,6 +8,8 @@ ghost use Rattle.pop3_wire.specs.Place.{Place};
 ghost use Rattle.pop3_wire.specs.declared.unstuffer.Spot.TheVariants.{Done};
 ghost use Rattle.pop3_client.specs.Turns.{most, retr, text_limit};
 ghost use Rattle.pop3_client.specs.Texts.{Fetching};
+ghost use Rattle.fetch_rules.specs.Record.{Row};
+ghost use Rattle.mail_store.specs.FlatFile.{Stored};
 ghost use Rattle.mail_store.specs.FileName.{HasRoomForSize, IsAccountText, is_held, sized, sized_file, stem_of};
 ghost use Rattle.mail_store.specs.Maildir.{File, IsThere, file, mail, with_file};
 ghost use Rattle.mail_store.specs.Power.{KeepsBytes, KeepsMail};
@@ -15,11 +17,11 @@ ghost use Rattle.fetch_session.specs.Intake.{TookTillCut};
 ghost use Rattle.fetch_session.specs.Lasting.{IsSafe};
 ghost use Rattle.fetch_session.specs.Parts.{KeepsLedger, KeepsLink};
 ghost use Rattle.fetch_session.specs.Refusal.{RefusesTillCut};
-ghost use Rattle.fetch_session.specs.Report.{HasRoom};
+ghost use Rattle.fetch_session.specs.Report.{Adds, HasRoom};
 ghost use Rattle.fetch_session.specs.Scene.{scene, TakesTask, WhereAllSound};
 ghost use Rattle.fetch_session.specs.Store.{Ends, Grows, PassesText, Puts, ReadsText, Starts, StoresText};
-ghost use Rattle.fetch_session.specs.Target.{AsFiles, in_maildir};
-ghost use Rattle.fetch_session.specs.Task.{stores};
+ghost use Rattle.fetch_session.specs.Target.{AsFiles, Stores, Target, in_maildir};
+ghost use Rattle.fetch_session.specs.Task.{rereads, stores};
 ghost use Rattle.fetch_session.specs.Work.{IsWritten};
 
 use crate::fault::{Cut, plain};
@@ -32,7 +34,9 @@ use mail_store::{
 };
 use pop3_client::{Client, Fault, Why, conversations_are_paced};
 use pop3_wire::{BodyReader, PIECE_ROOM, Wire};
+use std::alloc::Global;
 use std::hash::BuildHasher;
+use std::vec::Vec;
 
 /// Begins an empty file of this name.
 fn begin_file<D: MaildirDisk>(disk: &mut D, name: &str) -> Result<(), Fault>
@@ -171,6 +175,36 @@ pub(crate) fn pass_text<W: Wire>(client: &mut Client<'_, W>, body: BodyReader) -
         if piece.ended {
             return Ok(length);
         }
+    }
+}
+
+/// Takes one text that is held already: it is read.
+pub(crate) fn reread<W: Wire>(
+    alloc: Global,
+    client: &mut Client<'_, W>,
+    lines: &mut Vec<ReportLine>,
+    number: u32,
+) -> Result<(), Cut>
+    requires room { HasRoom lines.old 1 }
+    ensures link { KeepsLink W.Wire (TookTillCut (most (retr number))) client.old result client.new }
+    ensures few { Adds lines.old 1 lines.new }
+    ensures rereads { (target : Target) (uid : List ℕ) (store : Stores) (file : Stored) (rows : List Row)
+        → WhereSound W.sound W.leads_to client.old.wire.now client.new.wire.now
+        (TakesTask target (rereads number uid)
+        (scene (place_of W.Wire client.old) store file rows lines.old.items) result
+        (scene (place_of W.Wire client.new) store file rows lines.new.items)) }
+{
+    conversations_are_paced();
+    let body = match client.open(alloc, number) {
+        Ok(body) => body,
+        Err(fault) => return Err(plain(fault)),
+    };
+    match pass_text(client, body) {
+        Ok(length) => {
+            note(lines, ReportLine::Held { number, length });
+            Ok(())
+        }
+        Err(fault) => Err(plain(fault)),
     }
 }
 

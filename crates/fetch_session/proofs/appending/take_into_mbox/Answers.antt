@@ -14,7 +14,7 @@ use Rattle.fetch_session.specs.declared.report.ReportLine.TheVariants.{Delivered
 use Rattle.fetch_session.proofs.TakeLemmas.{text_broken}
 use Rattle.fetch_session.proofs.MboxLemmas.{body_whole, entry_not_saved, entry_stored, not_held, text_refused}
 use Rattle.fetch_session.proofs.IntakeLemmas.{took_broke, takes_text, takes_held}
-use Rattle.fetch_session.proofs.PartLemmas.{ledger_idle, link_cut, link_then_cut}
+use Rattle.fetch_session.proofs.PartLemmas.{link_cut, link_then_cut}
 use Rattle.fetch_session.specs.Parts.{KeepsLink}
 use Rattle.fetch_session.specs.Report.{Adds}
 use Rattle.fetch_session.proofs.RefusalLemmas.{before_cut}
@@ -106,23 +106,6 @@ returns-clause-takes g c = λ w m f.
 noted : (g : Over) (c : After-note g) → Adds c.args.ledger.now.lines 1 c.note.new.lines
 noted g c = subst (λ lines. Adds lines 1 c.note.new.lines) c.append_text.ensures.lines (omega (arith, c.note.ensures.len), c.note.ensures.capacity)
 
-pub returns-in-Err-clause-ledger : goal.returns-in-Err-clause-ledger
-returns-in-Err-clause-ledger g c = ledger_idle
-
-pub returns-in-Err-read_text-clause-ledger : goal.returns-in-Err-read_text-clause-ledger
-returns-in-Err-read_text-clause-ledger g c = ledger_idle
-
-pub returns-then-not-is_whole-clause-ledger : goal.returns-then-not-is_whole-clause-ledger
-returns-then-not-is_whole-clause-ledger g c = ledger_idle
-
-pub returns-in-Err-append_text-clause-ledger : goal.returns-in-Err-append_text-clause-ledger
-returns-in-Err-append_text-clause-ledger g c = record {
-  lines = rw c.append_text.ensures.lines (omega arith, omega arith);
-  sound = λ f. (c.append_text.ensures.steady f).0;
-  written = tt;
-  rows = tt;
-}
-
 pub returns-in-Ok-remember-clause-ledger : goal.returns-in-Ok-remember-clause-ledger
 returns-in-Ok-remember-clause-ledger g c = record {
   lines = noted g (goal.at.returns-in-Ok-remember-clause-ledger g c).After-note;
@@ -132,19 +115,7 @@ returns-in-Ok-remember-clause-ledger g c = record {
       ∙ c.marked_keeps_rows.ensures c.append_text.new.ledger.seen.rows c.args.uid.now other ∙ ap (λ (r : List Row). has_row r other) c.append_text.ensures.rows ∙ has;
 }
 
-pub returns-clause-ledger : goal.returns-clause-ledger
-returns-clause-ledger g c = record {
-  lines = noted g (goal.at.returns-clause-ledger g c).After-note;
-  sound = λ f. (c.append_text.ensures.steady (c.in-Err-remember.ensures.saves f).0).0;
-  written = tt;
-  rows = tt;
-}
-
 -- ---- the link
-
-pub returns-in-Err-clause-link : goal.returns-in-Err-clause-link
-returns-in-Err-clause-link g c = link_cut c.in-Err.fault c.open.ensures.link c.plain.ensures c.in-Err.ensures.counted
-    (did_so g.W.Wire c.in-Err.ensures.opens (took_broke c.conversations_are_paced.ensures (retr c.args.number) _ _ c.in-Err.fault))
 
 pub returns-in-Err-read_text-clause-link : goal.returns-in-Err-read_text-clause-link
 returns-in-Err-read_text-clause-link g c =
@@ -175,3 +146,7 @@ returns-in-Ok-remember-clause-link g c = took g (goal.at.returns-in-Ok-remember-
 
 pub returns-clause-link : goal.returns-clause-link
 returns-clause-link g c = link_then_cut c.plain-in-Err-remember.ensures (took g (goal.at.returns-clause-link g c).In-Ok-read_text)
+
+pub returns-in-Err-clause-link : goal.returns-in-Err-clause-link
+returns-in-Err-clause-link g c = link_cut c.in-Err.fault c.open.ensures.link c.plain.ensures c.in-Err.ensures.counted
+    (did_so g.W.Wire c.in-Err.ensures.opens (took_broke c.conversations_are_paced.ensures (retr c.args.number) _ _ c.in-Err.fault))

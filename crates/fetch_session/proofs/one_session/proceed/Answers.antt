@@ -62,14 +62,3 @@ returns-clause-link g c =
                 (omega (arith, c.len-counts.ensures.count)) (took_entering c.conversations_are_paced.ensures _ _ (place_of g.W.Wire old) (place_of g.W.Wire mid) (Ok c.in-Ok.listing) entered.2) does.1,
           );
     }
-
-pub returns-in-Err-clause-store : goal.returns-in-Err-clause-store
-returns-in-Err-clause-store g c = record { lines = (omega arith, omega arith); kind = refl; calm = λ d. (d, c.requires.calm d) }
-
-pub returns-in-Err-reserve-clause-store : goal.returns-in-Err-reserve-clause-store
-returns-in-Err-reserve-clause-store g c = record { lines = (omega arith, omega arith); kind = refl; calm = λ d. (d, c.requires.calm d) }
-
-pub returns-clause-store : goal.returns-clause-store
-returns-clause-store g c =
-    let kept = c.carry_out.ensures.store in
-    record { lines = (omega (arith, kept.lines.0), omega (arith, kept.lines.1)); kind = kept.kind; calm = kept.calm }

@@ -103,16 +103,6 @@ returns-clause-carries g c = λ w d f.
 
 -- ---- what is kept
 
-pub returns-in-Err-clause-link : goal.returns-in-Err-clause-link
-returns-in-Err-clause-link g c = link_with_tail (link_idle {limit = length c.args.listing.now * step_limit} c.plain.ensures)
-
-pub returns-in-Err-clause-store : goal.returns-in-Err-clause-store
-returns-in-Err-clause-store g c = record {
-  lines = (omega arith, omega arith);
-  kind = c.prepare.ensures.kind;
-  calm = λ d. let stays = c.in-Err.ensures.stays d in (stays.0, stays.1 ∙ c.requires.calm stays.0);
-}
-
 pub returns-in-Err-do_steps-clause-link : goal.returns-in-Err-do_steps-clause-link
 returns-in-Err-do_steps-clause-link g c = link_with_tail (link_less (length c.args.listing.now * step_limit)
     (most_planned c.deref-2.result.now c.args.listing.now c.deref-3.result.now).0 c.in-Err-do_steps.ensures.keeps.talk)
@@ -168,3 +158,6 @@ returns-in-Ok-quit-clause-store g c = stood g (goal.at.returns-in-Ok-quit-clause
 
 pub returns-clause-store : goal.returns-clause-store
 returns-clause-store g c = stood g (goal.at.returns-clause-store g c).After-do_steps
+
+pub returns-in-Err-clause-link : goal.returns-in-Err-clause-link
+returns-in-Err-clause-link g c = link_with_tail (link_idle {limit = length c.args.listing.now * step_limit} c.plain.ensures)

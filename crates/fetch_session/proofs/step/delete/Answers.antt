@@ -21,7 +21,3 @@ returns-in-Ok-clause-link g c = record {
   counted = c.in-Ok.ensures.counted;
   took = did_so g.W.Wire c.in-Ok.ensures.completes (took_completing c.conversations_are_paced.ensures (dele c.args.number) _ _ (Ok tt));
 }
-
-pub returns-in-Err-clause-link : goal.returns-in-Err-clause-link
-returns-in-Err-clause-link g c = link_cut c.in-Err.fault c.delete.ensures.link c.plain.ensures c.in-Err.ensures.counted
-    (did_so g.W.Wire c.in-Err.ensures.completes (took_completing c.conversations_are_paced.ensures (dele c.args.number) _ _ (Err c.in-Err.fault)))

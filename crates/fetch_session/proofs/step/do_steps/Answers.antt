@@ -7,7 +7,7 @@ use Rattle.fetch_session.specs.Task.{Task, deleting, tasks_planned}
 use Rattle.fetch_session.proofs.FreshLemmas.{later_at, no_item, step_at, tasks_left}
 use Rattle.fetch_session.proofs.PartLemmas.{does_before, does_nothing, does_on, kept_before, kept_nothing, kept_on, ready_front}
 use Rattle.fetch_session.proofs.step.do_steps.Given.{Over}
-use Rattle.fetch_session.proofs.step.do_steps.Goals.{After-loop-i}
+use Rattle.fetch_session.proofs.step.do_steps.Goals.{After-first_task-first, After-loop-i}
 use Rattle.fetch_session.proofs.step.do_steps.Goals as goal
 
 pub loop-i-init : goal.loop-i-init
@@ -15,65 +15,50 @@ loop-i-init g c =
     let kept = kept_nothing c.requires.ready.ready in
     ([], refl, kept, does_nothing g.met.W.Wire.leads_same kept c.requires.ready.ready)
 
+-- what is done for the i-th message, and after it
+abbrev now : (g : Over) → After-first_task-first g → List Task
+now g c = task_of c.first_task-first.result ∷ deleting (step_at c.args.steps.now c.loop-i.i).delete (step_at c.args.steps.now c.loop-i.i).number
+
+abbrev later : (g : Over) → After-first_task-first g → List Task
+later g c = later_at c.args.steps.now c.args.listing.now c.args.held.now c.loop-i.i
+
+split : (g : Over) (c : After-first_task-first g) → tasks_planned c.args.steps.now c.args.listing.now c.args.held.now ≡ (c.loop-i.invariant.0 ++ now g c) ++ later g c
+split g c =
+    let done = c.loop-i.invariant.0 in
+    c.loop-i.invariant.1 ∙ ap (λ (ts : List Task). done ++ ts) (tasks_left c.args.steps.now c.args.listing.now c.args.held.now c.loop-i.i c.uid.result.now c.size.result (task_of c.first_task-first.result)
+    (omega (arith, c.loop-i-test.true, c.len-i-end.ensures.count)) c.requires.all_steps c.requires.all_flags (c.uid.ensures.value no_item) (c.size.ensures no_item) c.first_task-first.ensures)
+    ∙ sym (append_assoc done (now g c) (later g c))
+
 pub do_step-requires : goal.do_step-requires
 do_step-requires g c =
-    let i = c.loop-i.i in
-    let steps = c.args.steps.now in
-    let items = c.args.listing.now in
-    let held = c.args.held.now in
-    let first = task_of c.first_task-first.result in
-    let now = first ∷ deleting (step_at steps i).delete (step_at steps i).number in
-    let later = later_at steps items held i in
+    let d = (goal.at.do_step-requires g c).After-first_task-first in
     let inv = c.loop-i.invariant in
-    let left = tasks_left steps items held i c.uid.result.now c.size.result first (omega (arith, c.loop-i-test.true, c.len-i-end.ensures.count)) c.requires.all_steps c.requires.all_flags (c.uid.ensures.value no_item) (c.size.ensures no_item) c.first_task-first.ensures in
-    ready_front now later (inv.2.next (now ++ later) (subst (λ (ts : List Task). IsReadyFor g.D.MaildirDisk g.F.FlatFile c.args.account.now ts c.args.work.now) (inv.1 ∙ ap (λ (ts : List Task). inv.0 ++ ts) left) c.requires.ready))
+    ready_front (now g d) (later g d) (inv.2.next (now g d ++ later g d)
+    (subst (λ (ts : List Task). IsReadyFor g.D.MaildirDisk g.F.FlatFile c.args.account.now ts c.args.work.now) (split g d ∙ append_assoc inv.0 (now g d) (later g d)) c.requires.ready))
 
 pub loop-i-preserved : goal.loop-i-preserved
 loop-i-preserved g c =
-    let i = c.loop-i.i in
-    let steps = c.args.steps.now in
-    let items = c.args.listing.now in
-    let held = c.args.held.now in
-    let first = task_of c.first_task-first.result in
-    let now = first ∷ deleting (step_at steps i).delete (step_at steps i).number in
-    let later = later_at steps items held i in
+    let d = (goal.at.loop-i-preserved g c).After-first_task-first in
     let inv = c.loop-i.invariant in
-    let left = tasks_left steps items held i c.uid.result.now c.size.result first (omega (arith, c.loop-i-test.true, c.len-i-end.ensures.count)) c.requires.all_steps c.requires.all_flags (c.uid.ensures.value no_item) (c.size.ensures no_item) c.first_task-first.ensures in
-    let split = inv.1 ∙ ap (λ (ts : List Task). inv.0 ++ ts) left ∙ sym (append_assoc inv.0 now later) in
     let kept = c.in_ok-do_step.ensures.keeps in
-    (inv.0 ++ now, split, kept_on inv.0 now (Ok tt) inv.2 kept, does_on g.met.W.Wire.leads_on inv.0 now (Ok tt) inv.2 inv.3 kept c.in_ok-do_step.ensures.does)
+    (inv.0 ++ now g d, split g d, kept_on inv.0 (now g d) (Ok tt) inv.2 kept, does_on g.met.W.Wire.leads_on inv.0 (now g d) (Ok tt) inv.2 inv.3 kept c.in_ok-do_step.ensures.does)
 
 pub returns-in_err-do_step-clause-keeps : goal.returns-in_err-do_step-clause-keeps
 returns-in_err-do_step-clause-keeps g c =
-    let i = c.loop-i.i in
-    let steps = c.args.steps.now in
-    let items = c.args.listing.now in
-    let held = c.args.held.now in
-    let first = task_of c.first_task-first.result in
-    let now = first ∷ deleting (step_at steps i).delete (step_at steps i).number in
-    let later = later_at steps items held i in
+    let d = (goal.at.returns-in_err-do_step-clause-keeps g c).After-first_task-first in
     let inv = c.loop-i.invariant in
-    let left = tasks_left steps items held i c.uid.result.now c.size.result first (omega (arith, c.loop-i-test.true, c.len-i-end.ensures.count)) c.requires.all_steps c.requires.all_flags (c.uid.ensures.value no_item) (c.size.ensures no_item) c.first_task-first.ensures in
-    let split = inv.1 ∙ ap (λ (ts : List Task). inv.0 ++ ts) left ∙ sym (append_assoc inv.0 now later) in
     let p = err_from_is_err_and c.from_residual.result c.from_residual.ensures.1 in
-    rw (p.1, p.2, split) (kept_before (inv.0 ++ now) later (kept_on inv.0 now (Err c.in_err-do_step.field-0.0) inv.2 c.in_err-do_step.ensures.keeps))
+    rw (p.1, p.2, split g d) (kept_before (inv.0 ++ now g d) (later g d) (kept_on inv.0 (now g d) (Err c.in_err-do_step.field-0.0) inv.2 c.in_err-do_step.ensures.keeps))
 
 pub returns-in_err-do_step-clause-does : goal.returns-in_err-do_step-clause-does
 returns-in_err-do_step-clause-does g c =
-    let i = c.loop-i.i in
-    let steps = c.args.steps.now in
-    let items = c.args.listing.now in
-    let held = c.args.held.now in
-    let first = task_of c.first_task-first.result in
-    let now = first ∷ deleting (step_at steps i).delete (step_at steps i).number in
-    let later = later_at steps items held i in
+    let d = (goal.at.returns-in_err-do_step-clause-does g c).After-first_task-first in
     let inv = c.loop-i.invariant in
-    let left = tasks_left steps items held i c.uid.result.now c.size.result first (omega (arith, c.loop-i-test.true, c.len-i-end.ensures.count)) c.requires.all_steps c.requires.all_flags (c.uid.ensures.value no_item) (c.size.ensures no_item) c.first_task-first.ensures in
-    let split = inv.1 ∙ ap (λ (ts : List Task). inv.0 ++ ts) left ∙ sym (append_assoc inv.0 now later) in
     let p = err_from_is_err_and c.from_residual.result c.from_residual.ensures.1 in
+    let cut = c.in_err-do_step.field-0.0 in
     let kept = c.in_err-do_step.ensures.keeps in
-    rw (p.1, p.2, split) (does_before (inv.0 ++ now) later (kept_on inv.0 now (Err c.in_err-do_step.field-0.0) inv.2 kept)
-    (does_on g.met.W.Wire.leads_on inv.0 now (Err c.in_err-do_step.field-0.0) inv.2 inv.3 kept c.in_err-do_step.ensures.does))
+    rw (p.1, p.2, split g d) (does_before (inv.0 ++ now g d) (later g d) (kept_on inv.0 (now g d) (Err cut) inv.2 kept)
+    (does_on g.met.W.Wire.leads_on inv.0 (now g d) (Err cut) inv.2 inv.3 kept c.in_err-do_step.ensures.does))
 
 -- none is left
 all_done : (g : Over) (c : After-loop-i g) → tasks_planned c.args.steps.now c.args.listing.now c.args.held.now ≡ c.loop-i.invariant.0

@@ -13,7 +13,7 @@ use Rattle.fetch_session.proofs.LastLemmas.{came_outlives}
 use Rattle.fetch_session.proofs.StoreLemmas.{stores_grows}
 use Rattle.fetch_session.proofs.TakeLemmas.{text_broken, text_wanting, text_stops, text_stored, text_not_saved}
 use Rattle.fetch_session.proofs.IntakeLemmas.{took_broke, takes_text, takes_stopped}
-use Rattle.fetch_session.proofs.PartLemmas.{ledger_idle, link_cut, link_idle, link_then_cut}
+use Rattle.fetch_session.proofs.PartLemmas.{link_cut, link_idle, link_then_cut}
 use Rattle.fetch_session.specs.Intake.{TookTillCut}
 use Rattle.fetch_session.specs.Parts.{KeepsLink}
 use Rattle.fetch_session.specs.Report.{Adds}
@@ -86,15 +86,6 @@ remember-requires-clause-steady g c = λ f.
 noted : (g : Over) (c : After-note g) → Adds c.args.ledger.now.lines 1 c.note.new.lines
 noted g c = (omega (arith, c.note.ensures.len), c.note.ensures.capacity)
 
-pub returns-in-Err-clause-ledger : goal.returns-in-Err-clause-ledger
-returns-in-Err-clause-ledger g c = ledger_idle
-
-pub returns-in-Err-open-clause-ledger : goal.returns-in-Err-open-clause-ledger
-returns-in-Err-open-clause-ledger g c = ledger_idle
-
-pub returns-in-Err-store_text-clause-ledger : goal.returns-in-Err-store_text-clause-ledger
-returns-in-Err-store_text-clause-ledger g c = ledger_idle
-
 pub returns-in-Ok-remember-clause-ledger : goal.returns-in-Ok-remember-clause-ledger
 returns-in-Ok-remember-clause-ledger g c = record {
   lines = noted g (goal.at.returns-in-Ok-remember-clause-ledger g c).After-note;
@@ -102,14 +93,6 @@ returns-in-Ok-remember-clause-ledger g c = record {
   written = record { closed = c.in-Ok-remember.ensures.closed; steady = λ f. (c.in-Ok-remember.ensures.steady f).1 };
   rows = λ other has. ap (λ (r : List Row). has_row r other) c.in-Ok-remember.ensures.rows
       ∙ c.marked_keeps_rows.ensures c.args.ledger.now.seen.rows c.args.uid.now other ∙ has;
-}
-
-pub returns-in-Err-remember-clause-ledger : goal.returns-in-Err-remember-clause-ledger
-returns-in-Err-remember-clause-ledger g c = record {
-  lines = noted g (goal.at.returns-in-Err-remember-clause-ledger g c).After-note;
-  sound = λ f. (c.in-Err-remember.ensures.saves f).0;
-  written = tt;
-  rows = tt;
 }
 
 -- ---- what was taken from the link
@@ -124,13 +107,6 @@ returns-in-Err-open-clause-takes g c = λ w m f.
       text_broken (AsFiles c.args.account.now) (stores c.args.number c.args.uid.now) (retr c.args.number) (place_of g.W.Wire c.args.client.now) (place_of g.W.Wire c.open.new.self) (in_maildir (g.D.MaildirDisk.maildir c.args.disk.now)) (g.F.FlatFile.stored c.args.ledger.now.file) c.args.ledger.now.seen.rows c.args.ledger.now.lines.items
           c.in-Err-open.fault c.plain-in-Err-open.result refl c.plain-in-Err-open.ensures opened.2,
     )
-
-pub returns-in-Err-clause-link : goal.returns-in-Err-clause-link
-returns-in-Err-clause-link g c = link_idle c.plain.ensures
-
-pub returns-in-Err-open-clause-link : goal.returns-in-Err-open-clause-link
-returns-in-Err-open-clause-link g c = link_cut c.in-Err-open.fault c.open.ensures.link c.plain-in-Err-open.ensures c.in-Err-open.ensures.counted
-    (did_so g.W.Wire c.in-Err-open.ensures.opens (took_broke c.conversations_are_paced.ensures (retr c.args.number) _ _ c.in-Err-open.fault))
 
 pub returns-in-Err-store_text-clause-link : goal.returns-in-Err-store_text-clause-link
 returns-in-Err-store_text-clause-link g c =
@@ -167,3 +143,7 @@ returns-in-Ok-remember-clause-lasts g c = λ d f safe.
       came_outlives (g.D.MaildirDisk.maildir c.args.disk.now) (g.D.MaildirDisk.maildir c.store_text.new.disk) (sized_file (string_bytes c.in-Ok.stem) stores.0)
           (g.D.MaildirDisk.outlives c.store_text.new.disk) is (c.in-Ok-store_text.ensures.lasts d stores.0 is),
     )
+
+pub returns-in-Err-open-clause-link : goal.returns-in-Err-open-clause-link
+returns-in-Err-open-clause-link g c = link_cut c.in-Err-open.fault c.open.ensures.link c.plain-in-Err-open.ensures c.in-Err-open.ensures.counted
+    (did_so g.W.Wire c.in-Err-open.ensures.opens (took_broke c.conversations_are_paced.ensures (retr c.args.number) _ _ c.in-Err-open.fault))

@@ -7,7 +7,7 @@ use Rattle.fetch_session.proofs.TakeLemmas.{reread_taken, text_broken}
 use Rattle.fetch_session.proofs.IntakeLemmas.{took_broke, took_passing}
 use Rattle.fetch_session.proofs.PartLemmas.{link_cut, tallies_after}
 use Rattle.pop3_client.specs.Conversation.{is_refusal}
-use Rattle.fetch_session.proofs.step.reread.Goals as goal
+use Rattle.fetch_session.proofs.storing.reread.Goals as goal
 
 pub returns-in-Ok-pass_text-clause-rereads : goal.returns-in-Ok-pass_text-clause-rereads
 returns-in-Ok-pass_text-clause-rereads g c = λ account uid maildir file rows.
