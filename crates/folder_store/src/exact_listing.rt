@@ -1,0 +1,170 @@
+//! The names of a folder, listed exactly although others rename files in it meanwhile.
+
+use std::fs::Metadata;
+use std::io::{self, ErrorKind};
+use std::os::unix::fs::MetadataExt;
+use std::rt::Files;
+use std::time::{Clock, Duration};
+use std::{fs, thread};
+
+/// How many milliseconds a folder must be unchanged before it is listed, so that each later change
+/// gives it another time: longer than the steps of the clock by which Linux stamps changes (1 to 10).
+const STEP_MILLIS: u64 = 20;
+
+/// The same for a file system that keeps whole seconds only.
+const STEP_OF_SECONDS_MILLIS: u64 = 1_020;
+
+/// For how many seconds a folder that changes all the time is listed again.
+const MOST_SECONDS: u64 = 2;
+
+/// After how many entries a pass looks whether the folder has changed.
+const LOOK_EACH: u32 = 4_096;
+
+/// How many times a folder is listed.
+const MOST_LISTINGS: u32 = 100;
+
+/// A folder's time of change, in seconds and nanoseconds since 1970. It moves when a file comes, goes
+/// or gets another name, and nobody can set it.
+#[derive(Clone, Copy, PartialEq, Eq)]
+pub struct ChangeTime {
+    pub seconds: u64,
+    pub nanoseconds: i64,
+}
+
+impl ChangeTime {
+    /// The time of change that the system reports for a folder. One before 1970 counts as one that never
+    /// comes, and is different for each second.
+    pub fn of(folder: &Metadata) -> ChangeTime {
+        let seconds = folder.ctime();
+        ChangeTime {
+            seconds: u64::try_from(seconds).unwrap_or(u64::MAX - seconds.unsigned_abs()),
+            nanoseconds: folder.ctime_nsec(),
+        }
+    }
+
+    /// How long a folder must be at rest so that a later change gives it another time than this.
+    fn step(self) -> Duration {
+        Duration::from_millis(if self.nanoseconds == 0 {
+            STEP_OF_SECONDS_MILLIS
+        } else {
+            STEP_MILLIS
+        })
+    }
+
+    /// How long ago it was at a time since 1970. Zero if it is later, or before 1970.
+    fn age(self, now: Duration) -> Duration {
+        let Ok(nanoseconds) = u64::try_from(self.nanoseconds) else {
+            return Duration::ZERO;
+        };
+        let part = Duration::from_nanos(nanoseconds);
+        now.saturating_sub(Duration::from_secs(self.seconds).saturating_add(part))
+    }
+}
+
+/// The names of a folder, and the folder's metadata just before they were listed.
+#[derive(Drop)]
+pub struct FolderNames {
+    /// Each name once, in any order.
+    pub names: Vec<String>,
+    /// The folder, whose time of change was the same before and after the listing.
+    pub folder: Metadata,
+}
+
+/// A folder's metadata, and when it was read, by the clock that never goes back.
+#[derive(Drop)]
+struct Sighting {
+    folder: Metadata,
+    at: Duration,
+}
+
+impl Sighting {
+    /// A folder's metadata now.
+    fn now<R: Files + Clock>(rt: &R, path: &str) -> io::Result<Sighting> {
+        let folder = fs::metadata(rt, path)?;
+        let at = rt.monotonic()?;
+        Ok(Sighting { folder, at })
+    }
+
+    fn change(&self) -> ChangeTime {
+        ChangeTime::of(&self.folder)
+    }
+
+    /// How long to wait until each later change gives the folder another time than the one seen: until
+    /// that time is older than a step, or was seen a step ago, whatever the clock of dates says.
+    fn wait<R: Clock>(&self, rt: &R) -> io::Result<Duration> {
+        // A clock of dates before 1970 is an error: then nothing is known of the age.
+        let age = match rt.since_1970() {
+            Ok(now) => self.change().age(now),
+            Err(_) => Duration::ZERO,
+        };
+        let watched = rt.monotonic()?.saturating_sub(self.at);
+        Ok(self.change().step().saturating_sub(age.max(watched)))
+    }
+}
+
+/// The names that one pass through a folder finds. If names change meanwhile, the system may leave
+/// out a file that is there all the time; and on tmpfs it finds a renamed file again, so a pass
+/// ends early once the folder isn't as it was seen.
+fn pass_through<R: Files + Clock + AllocGlobal + Clone + Drop>(
+    rt: &R,
+    path: &str,
+    seen: &Sighting,
+) -> io::Result<Vec<String>> {
+    let mut names = Vec::new(rt.alloc());
+    let mut until_look = LOOK_EACH;
+    for entry in fs::read_dir(rt, path)? {
+        until_look = until_look.saturating_sub(1);
+        if until_look == 0 {
+            if Sighting::now(rt, path)?.change() != seen.change() {
+                break;
+            }
+            until_look = LOOK_EACH;
+        }
+        let entry = match entry {
+            Ok(entry) => entry,
+            Err(fault) if fault.kind() == ErrorKind::InvalidFilename => continue,
+            Err(fault) => return Err(fault),
+        };
+        let name = entry.file_name();
+        if !name.starts_with('.') {
+            names.push(String::from_str(rt.alloc(), name)?)?;
+        }
+    }
+    Ok(names)
+}
+
+/// The names of a folder at one moment between the call and its end: none is left out and none
+/// occurs twice, although others make, remove and rename files in it meanwhile. Names that begin
+/// with a full stop and names that aren't UTF-8 are skipped.
+///
+/// The folder is listed only once its time of change is older than the step of the clock that stamps
+/// changes. If the time is different after the listing, the folder is listed again. So a folder at
+/// rest costs one listing and no wait, and one that was changed just now a sleep of 20 ms at most.
+/// That holds for local file systems; one of the network may stamp by another clock, or report an
+/// old time.
+///
+/// The error is TimedOut if the folder found no rest within 2 seconds, else that of the system.
+pub fn list_names<R: Files + Clock + AllocGlobal + Clone + Drop>(
+    rt: &R,
+    path: &str,
+) -> io::Result<FolderNames> {
+    let start = rt.monotonic()?;
+    let mut seen = Sighting::now(rt, path)?;
+    for _ in 0..MOST_LISTINGS {
+        let wait = seen.wait(rt)?;
+        if wait > Duration::ZERO {
+            thread::sleep(rt, wait);
+        }
+        let names = pass_through(rt, path, &seen)?;
+        let again = Sighting::now(rt, path)?;
+        if again.change() == seen.change() {
+            let folder = again.folder;
+            return Ok(FolderNames { names, folder });
+        }
+        if again.at.saturating_sub(start) >= Duration::from_secs(MOST_SECONDS) {
+            break;
+        }
+        seen = again;
+    }
+    Err(io::Error::from(ErrorKind::TimedOut))
+}
