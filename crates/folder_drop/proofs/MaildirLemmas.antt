@@ -10,17 +10,14 @@ use Rattle.std.proofs.lemmas.List.{map_push}
 use Rattle.std.proofs.lemmas.List.Quantifiers.{all_pairs_push}
 use Rattle.folder_drop.specs.declared.listed_file.ListedFile.{ListedFile}
 use Rattle.pop3_server.specs.Maildrop.{Listed}
-use Rattle.folder_drop.specs.ListedIds.{same_key}
+use Rattle.folder_drop.specs.ListedIds.{same_key, AreSeen, AreListed, IsNew}
 use Rattle.folder_drop.specs.RealMaildir.{uid_of, id_of_name, name_of, names_of, HaveIds}
 
-pub ids_push : (entries : List Listed) (files : List ListedFile) (entry : Listed) (file : ListedFile) → HaveIds entries (names_of files) → entry.uid ≡ id_of_name (name_of file) → HaveIds (entries ++ entry ∷ []) (names_of (files ++ file ∷ []))
-ids_push entries files entry file before same =
-    map_push uid_of entries entry ∙ ap (λ ids. ids ++ uid_of entry ∷ []) before ∙ ap (λ id. map id_of_name (names_of files) ++ id ∷ []) same
-    ∙ sym (ap (map id_of_name) (map_push name_of files file) ∙ map_push id_of_name (names_of files) (name_of file))
-
--- each of these ids is in the set
-abbrev pub AreSeen : {Z S : Type 0} → HashSet (Vec ℕ Z) S → List (List ℕ) → Type 0
-AreSeen {Z} {S} seen ids = (key : Vec ℕ Z) → Contains ids key.items → contains same_key seen key ≡ true
+ids_push : (entries : List Listed) (names : List (List ℕ)) (entry : Listed) (name : List ℕ) → HaveIds entries names → entry.uid ≡ id_of_name name
+    → HaveIds (entries ++ entry ∷ []) (names ++ name ∷ [])
+ids_push entries names entry name before same =
+    map_push uid_of entries entry ∙ ap (λ ids. ids ++ uid_of entry ∷ []) before ∙ ap (λ id. map id_of_name names ++ id ∷ []) same
+    ∙ sym (map_push id_of_name names name)
 
 same_bytes : {Z : Type 0} (a b : Vec ℕ Z) → a.items ≡ b.items → same_key a b ≡ true
 same_bytes a b same = (bytes_eq-Decides a.items b.items).1 same
@@ -30,25 +27,35 @@ either_way true kept is = refl
 either_way false kept is = is
 
 -- the set with one more key has one more id
-pub seen_push : {Z S : Type 0} (old new : HashSet (Vec ℕ Z) S) (key : Vec ℕ Z) → Updates same_key old new key true → (ids : List (List ℕ)) (id : List ℕ) → key.items ≡ id → AreSeen old ids → AreSeen new (ids ++ id ∷ [])
+seen_push : {Z S : Type 0} (old new : HashSet (Vec ℕ Z) S) (key : Vec ℕ Z) → Updates same_key old new key true → (ids : List (List ℕ)) (id : List ℕ) → key.items ≡ id → AreSeen old ids → AreSeen new (ids ++ id ∷ [])
 seen_push old new key updates ids id is seen = λ q h. updates.0 q ∙ elim (Contains-push_cases ids id q.items h) [
   | inl before ↦ either_way (same_key key q) (contains same_key old q) (seen q before)
   | inr now ↦ ap (λ (b : Bool). cond b true (contains same_key old q)) (same_bytes key q (is ∙ now))
 ]
 
 -- an id that isn't in the set is none of these
-pub unseen : {Z S : Type 0} (seen : HashSet (Vec ℕ Z) S) (key : Vec ℕ Z) (ids : List (List ℕ)) → AreSeen seen ids → contains same_key seen key ≡ false → Contains ids key.items → ⊥
+unseen : {Z S : Type 0} (seen : HashSet (Vec ℕ Z) S) (key : Vec ℕ Z) (ids : List (List ℕ)) → AreSeen seen ids → contains same_key seen key ≡ false → Contains ids key.items → ⊥
 unseen seen key ids all none h = false≢true (sym none ∙ all key h)
 
 -- one more message, whose id isn't in the set, is listed
-pub distinct_more : {Z S : Type 0} (seen : HashSet (Vec ℕ Z) S) (key : Vec ℕ Z) (entries : List Listed) (entry : Listed) → key.items ≡ entry.uid → AreDistinct (map uid_of entries)
+distinct_more : {Z S : Type 0} (seen : HashSet (Vec ℕ Z) S) (key : Vec ℕ Z) (entries : List Listed) (entry : Listed) → key.items ≡ entry.uid → AreDistinct (map uid_of entries)
     → AreSeen seen (map uid_of entries) → contains same_key seen key ≡ false → AreDistinct (map uid_of (entries ++ entry ∷ []))
 distinct_more seen key entries entry is distinct all none =
     subst (λ (l : List (List ℕ)). AreDistinct l) (sym (map_push uid_of entries entry))
     (all_pairs_push (λ a b. a ≢ b) (map uid_of entries) entry.uid distinct
     (λ k d fits e. unseen seen key (map uid_of entries) all none (subst (λ id. Contains (map uid_of entries) id) (e ∙ sym is) (Contains-get_or (map uid_of entries) k d fits))))
 
-pub seen_more : {Z S : Type 0} (old new : HashSet (Vec ℕ Z) S) (key : Vec ℕ Z) (entries : List Listed) (entry : Listed) → key.items ≡ entry.uid → Updates same_key old new key true
+seen_more : {Z S : Type 0} (old new : HashSet (Vec ℕ Z) S) (key : Vec ℕ Z) (entries : List Listed) (entry : Listed) → key.items ≡ entry.uid → Updates same_key old new key true
     → AreSeen old (map uid_of entries) → AreSeen new (map uid_of (entries ++ entry ∷ []))
 seen_more old new key entries entry is updates all =
     subst (λ (l : List (List ℕ)). AreSeen new l) (sym (map_push uid_of entries entry)) (seen_push old new key updates (map uid_of entries) entry.uid is all)
+
+-- one more message is listed
+pub listed_more : {Z S : Type 0} (old new : HashSet (Vec ℕ Z) S) (key : Vec ℕ Z) (entries : List Listed) (files : List ListedFile) (entry : Listed) (file : ListedFile)
+    → Updates same_key old new key true → IsNew old key entry.uid (name_of file) → AreListed old entries (names_of files)
+    → AreListed new (entries ++ entry ∷ []) (names_of (files ++ file ∷ []))
+listed_more old new key entries files entry file updates is (ids, distinct, seen) = (
+  ids_push entries (names_of files) entry (name_of file) ids is.of_name ∙ ap (map id_of_name) (sym (map_push name_of files file)),
+  distinct_more old key entries entry is.copied distinct seen is.fresh,
+  seen_more old new key entries entry is.copied updates seen,
+)

@@ -1,6 +1,6 @@
 -- How long an earlier listing of a Maildir's folders stays valid.
 use Rattle.std.specs.Prelude.{◌≡◌, ◌≤◌, ◌<◌, ◌-◌, ℕ}
-use Rattle.folder_drop.specs.declared.folders_look.ChangeTime.{ChangeTime}
+use Rattle.folder_store.specs.declared.exact_listing.ChangeTime.{ChangeTime}
 use Rattle.folder_drop.specs.declared.folders_look.FoldersLook.{FoldersLook}
 
 -- at the time of a look a folder's last change was more than two seconds old, so that any change after the

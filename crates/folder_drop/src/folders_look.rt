@@ -3,8 +3,7 @@ ghost use Rattle.std.specs.Prelude.{◌≡◌, ◌↔◌, IsTrue};
 ghost use Rattle.folder_drop.specs.declared.folders_look.FoldersLook.{FoldersLook};
 ghost use Rattle.folder_drop.specs.FoldersLook.{Stands};
 
-use std::fs::Metadata;
-use std::os::unix::fs::MetadataExt;
+use folder_store::ChangeTime;
 
 /// How long ago a folder must have been changed, so that each later change gives it a different time:
 /// no file system's clock ticks in longer steps.
@@ -13,24 +12,6 @@ const SETTLED_SECONDS: u64 = 2;
 /// How long a listing stays valid while the folders don't change: for this long the server may miss
 /// that a file was changed in place.
 const STANDING_SECONDS: u64 = 3_600;
-
-/// A folder's time of change, in seconds and nanoseconds since 1970. It moves when a file comes, goes
-/// or gets another name, and nobody can set it.
-#[derive(Clone, Copy, PartialEq, Eq)]
-pub struct ChangeTime {
-    pub seconds: u64,
-    pub nanoseconds: i64,
-}
-
-impl ChangeTime {
-    /// The time of change of a folder. One before 1970 counts as a time that never passes.
-    pub fn of(folder: &Metadata) -> ChangeTime {
-        ChangeTime {
-            seconds: u64::try_from(folder.ctime()).unwrap_or(u64::MAX),
-            nanoseconds: folder.ctime_nsec(),
-        }
-    }
-}
 
 /// A look at both folders: their times of change, and when it was, in seconds since 1970.
 #[derive(Clone, Copy)]

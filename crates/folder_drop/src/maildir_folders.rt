@@ -4,11 +4,11 @@ ghost use Rattle.std.specs.Prelude.{◌≡◌, ◌≢◌, Some, None};
 ghost use Rattle.std.specs.IoError.{error_kind};
 ghost use Rattle.std.specs.String.{string_bytes};
 
-use crate::folders_look::{ChangeTime, FoldersLook};
+use crate::folders_look::FoldersLook;
 use crate::listed_file::{count_size, stamp_of};
 use crate::maildir_names::{Folder, PlacedFile, Stamp};
 use crate::seen_files::SeenFiles;
-use folder_names::list_names;
+use folder_store::{ChangeTime, list_names};
 use mail_terms::base;
 use std::alloc::{AllocError, AllocFailed};
 use std::fs;

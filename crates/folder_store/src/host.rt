@@ -5,9 +5,9 @@ ghost use Rattle.mail_store.specs.Fault.{IsDeviceFault};
 ghost use Rattle.folder_store.specs.FileFolder.{unknown_directory};
 
 use crate::device::FileFolder;
+use crate::exact_listing::{FolderNames, list_names};
 use crate::process_mark::ProcessMark;
 use crate::system::{flush_folder, folder_of, make_file, sweep};
-use folder_names::{FolderNames, list_names};
 use mail_store::{Edges, StoreFault};
 use std::alloc::Global;
 use std::fs::{Metadata, OpenFile, OpenOptions};

@@ -4,10 +4,10 @@ ghost use Rattle.std.specs.Prelude.{◌≡◌};
 ghost use Rattle.folder_store.specs.MailFolders.{unknown_directories};
 
 use crate::device::FileFolder;
+use crate::exact_listing::{ChangeTime, FolderNames};
 use crate::host::{HostFolder, told};
 use crate::mail_folders::MailFolders;
 use crate::process_mark::ProcessMark;
-use folder_names::{ChangeTime, FolderNames};
 use mail_store::{Folder, StoreFault};
 use std::rt::Files;
 use std::time::{Clock, Duration};

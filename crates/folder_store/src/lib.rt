@@ -2,6 +2,7 @@
 #![tactic(auto)]
 
 mod device;
+mod exact_listing;
 mod file;
 mod fused;
 mod host;
@@ -18,6 +19,7 @@ mod system;
 mod tally;
 
 pub use device::FileFolder;
+pub use exact_listing::{ChangeTime, FolderNames, list_names};
 pub use file::HostFile;
 pub use fused::FusedFolder;
 pub use host::HostFolder;

@@ -5,8 +5,6 @@
 #[cfg(test)]
 mod fetch_rules_tests;
 #[cfg(test)]
-mod folder_names_tests;
-#[cfg(test)]
 mod mail_store_tests;
 #[cfg(test)]
 mod mail_terms_tests;

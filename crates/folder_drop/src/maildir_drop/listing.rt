@@ -6,6 +6,7 @@ ghost use Rattle.mail_terms.specs.Distinct.{AreDistinct};
 ghost use Rattle.folder_drop.specs.ListedIds.{same_key};
 ghost use Rattle.folder_drop.specs.RealMaildir.{id_of_name, names_of, uid_of, HaveIds};
 
+use crate::folders_look::FoldersLook;
 use crate::listed_file::{Counted, FoundFiles, ListedFile, Listing, PIECE};
 use crate::maildir_drop::MaildirDrop;
 use crate::maildir_folders::Unread;
@@ -13,6 +14,7 @@ use crate::maildir_names::{MailFile, unique_id};
 use crate::seen_files::SeenFiles;
 use mail_terms::base;
 use pop3_server::{Entry, MAX_COUNT, MAX_SIZE};
+use std::alloc::AllocError;
 use std::collections::HashSet;
 use std::hash::RandomState;
 use std::random::RandomSource;
@@ -27,6 +29,48 @@ type Ids = HashSet<Vec<u8>, RandomState>;
 pub(crate) struct ListedMessages {
     pub(crate) entries: Vec<Entry>,
     pub(crate) listing: Listing,
+}
+
+/// The messages that are listed so far, their ids, and their files.
+#[derive(Drop)]
+struct Messages {
+    ids: Ids,
+    entries: Vec<Entry>,
+    files: Vec<ListedFile>,
+}
+
+impl Messages {
+    ghost use Rattle.std.specs.Prelude.{◌+◌, OnOk};
+    ghost use Rattle.folder_drop.specs.ListedIds.{AreListed, IsNew};
+
+    /// Lists one more message: the file's, with a copy of its id.
+    fn add(&mut self, key: Vec<u8>, entry: Entry, file: MailFile) -> Result<(), AllocError>
+        ensures one_more { OnOk result (vec_len self.new.entries ≡ vec_len self.old.entries + 1) }
+        ensures listed { OnOk result (IsNew self.old.ids key entry.uid (string_bytes file.name)
+            → AreListed self.old.ids self.old.entries.items (names_of self.old.files.items)
+            → AreListed self.new.ids self.new.entries.items (names_of self.new.files.items)) }
+    {
+        self.ids.insert(key)?;
+        self.files.push(ListedFile::of(file, entry.size()))?;
+        self.entries.push(entry)?;
+        Ok(())
+    }
+
+    /// The messages, found after this look at the folders.
+    fn after(self, look: FoldersLook) -> ListedMessages
+        ensures entries { result.entries ≡ self.entries }
+        ensures files { result.listing.files ≡ self.files }
+    {
+        let Messages {
+            ids: _,
+            entries,
+            files,
+        } = self;
+        ListedMessages {
+            entries,
+            listing: Listing { look, files },
+        }
+    }
 }
 
 impl<'a, R: Files + Clock + RandomSource + AllocGlobal + Clone + Drop> MaildirDrop<'a, R> {
@@ -100,7 +144,6 @@ impl<'a, R: Files + Clock + RandomSource + AllocGlobal + Clone + Drop> MaildirDr
 
     /// The messages of these files: only the first of several with the same id, none above the
     /// limits, and none whose file is gone.
-    #[tactic(auto, using(crate::proofs::MaildirLemmas::ids_push))]
     fn list(&self, last_seen: &mut SeenFiles, found: FoundFiles) -> Result<ListedMessages, Unread>
         ensures within { IfOk result (λ listed. vec_len listed.entries ≤ MAX_COUNT) }
         ensures distinct { IfOk result (λ listed. AreDistinct (map uid_of listed.entries.items)) }
@@ -108,28 +151,25 @@ impl<'a, R: Files + Clock + RandomSource + AllocGlobal + Clone + Drop> MaildirDr
     {
         let alloc = self.rt.alloc();
         let FoundFiles { look, files: found } = found;
-        let mut ids = self.no_ids(found.len())?;
-        let mut entries = Vec::with_capacity(alloc, found.len())?;
-        let mut files = Vec::with_capacity(alloc, found.len())?;
+        let mut listed = Messages {
+            ids: self.no_ids(found.len())?,
+            entries: Vec::with_capacity(alloc, found.len())?,
+            files: Vec::with_capacity(alloc, found.len())?,
+        };
         let mut counted = Counted::new(self.earlier.files.as_slice());
         let mut piece = Vec::from_elem(alloc, 0u8, PIECE)?;
         for file in found {
-            if entries.len() >= MAX_COUNT {
+            if listed.entries.len() >= MAX_COUNT {
                 break;
             }
             let known = counted.size_of(&file);
-            let found = self.message(last_seen, &ids, &file, known, piece.as_mut_slice())?;
+            let found = self.message(last_seen, &listed.ids, &file, known, piece.as_mut_slice())?;
             let Some((key, entry)) = found else {
                 continue;
             };
-            ids.insert(key)?;
-            files.push(ListedFile::of(file, entry.size()))?;
-            entries.push(entry)?;
+            listed.add(key, entry, file)?;
         }
-        Ok(ListedMessages {
-            entries,
-            listing: Listing { look, files },
-        })
+        Ok(listed.after(look))
     }
 
     /// The messages of the Maildir as it is now.

@@ -1,5 +1,4 @@
 //! The names of a folder, listed exactly although others rename files in it meanwhile.
-#![tactic(auto)]
 
 use std::fs::Metadata;
 use std::io::{self, ErrorKind};
@@ -28,15 +27,17 @@ const MOST_LISTINGS: u32 = 100;
 /// or gets another name, and nobody can set it.
 #[derive(Clone, Copy, PartialEq, Eq)]
 pub struct ChangeTime {
-    pub seconds: i64,
+    pub seconds: u64,
     pub nanoseconds: i64,
 }
 
 impl ChangeTime {
-    /// The time of change that the system reports for a folder.
+    /// The time of change that the system reports for a folder. One before 1970 counts as one that never
+    /// comes, and is different for each second.
     pub fn of(folder: &Metadata) -> ChangeTime {
+        let seconds = folder.ctime();
         ChangeTime {
-            seconds: folder.ctime(),
+            seconds: u64::try_from(seconds).unwrap_or(u64::MAX - seconds.unsigned_abs()),
             nanoseconds: folder.ctime_nsec(),
         }
     }
@@ -52,17 +53,11 @@ impl ChangeTime {
 
     /// How long ago it was at a time since 1970. Zero if it is later, or before 1970.
     fn age(self, now: Duration) -> Duration {
-        let seconds = u64::try_from(self.seconds);
-        let nanoseconds = u64::try_from(self.nanoseconds);
-        match (seconds, nanoseconds) {
-            (Ok(seconds), Ok(nanoseconds)) => {
-                let changed = Duration::from_secs(seconds).saturating_add(Duration::from_nanos(
-                    nanoseconds,
-                ));
-                now.saturating_sub(changed)
-            }
-            _ => Duration::ZERO,
-        }
+        let Ok(nanoseconds) = u64::try_from(self.nanoseconds) else {
+            return Duration::ZERO;
+        };
+        let part = Duration::from_nanos(nanoseconds);
+        now.saturating_sub(Duration::from_secs(self.seconds).saturating_add(part))
     }
 }
 

@@ -1,7 +1,7 @@
-//! Tests of `folder_names`: what a listing has, with ample memory. Changes by others meanwhile
+//! Tests of `list_names`: what a listing has, with ample memory. Changes by others meanwhile
 //! are tested from outside.
 
-use folder_names::{ChangeTime, list_names};
+use folder_store::{ChangeTime, list_names};
 use std::fs;
 use std::io::ErrorKind;
 use std::test::Fail;
