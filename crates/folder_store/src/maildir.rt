@@ -89,10 +89,10 @@ impl<F: MailFolders + Drop> MaildirDisk for FolderMaildir<F> {
     ghost use Rattle.std.specs.Prelude.{◌≡◌, ◌<◌, IfErr, IsSome, None, OnErr, OnOk, Some, [], ◌∷◌, option_map, string_bytes};
     ghost use Rattle.mail_terms.specs.FailureCount.{Tallies, greatest_count, refuses};
     ghost use Rattle.mail_store.specs.Fault.{is_refusal, IsDeviceFault};
-    ghost use Rattle.mail_store.specs.Maildir.{Adds, Begins, Checks, File, IsThere, Lists, ListsAll, Settles, dropped, mail, name_begun};
-    ghost use Rattle.mail_store.specs.Power.{KeepsMail, SettledOutlives, ToldStay};
+    ghost use Rattle.mail_store.specs.Maildir.{Adds, AfterTaking, Begins, Checks, File, IsThere, Lists, ListsAll, Settles, dropped, mail, name_begun};
+    ghost use Rattle.mail_store.specs.Power.{KeepsLeft, KeepsMail, SettledOutlives, ToldStay};
     ghost use Rattle.folder_store.specs.MailFolders.{maildir_in};
-    ghost use Rattle.folder_store.specs.MailPower.{LeavesMail, OutlivesIn, StaysIn};
+    ghost use Rattle.folder_store.specs.MailPower.{LeavesMail, LeavesSome, OutlivesIn, StaysIn};
 
     ghost maildir = { λ d. maildir_in (F.directories d.folders) (option_map string_bytes d.begun) d.failures };
 
@@ -104,17 +104,18 @@ impl<F: MailFolders + Drop> MaildirDisk for FolderMaildir<F> {
 
     fn names(&mut self, folder: Folder) -> Result<Vec<String>, StoreFault>
         ensures lists { ⟦<FolderMaildir<F> as MaildirDisk>⟧.sound self.new → ⟦<FolderMaildir<F> as MaildirDisk>⟧.sound self.old
-            × Lists (⟦<FolderMaildir<F> as MaildirDisk>⟧.maildir self.old) folder result
-            (⟦<FolderMaildir<F> as MaildirDisk>⟧.maildir self.new) }
+            × AfterTaking (⟦<FolderMaildir<F> as MaildirDisk>⟧.maildir self.old)
+            (λ left. Lists left folder result (⟦<FolderMaildir<F> as MaildirDisk>⟧.maildir self.new)) }
         ensures fault { IfErr result IsDeviceFault }
         ensures lasts { ⟦<FolderMaildir<F> as MaildirDisk>⟧.sound self.new
-            → KeepsMail (⟦<FolderMaildir<F> as MaildirDisk>⟧.stays self.old) (⟦<FolderMaildir<F> as MaildirDisk>⟧.outlives self.old)
+            → KeepsLeft (⟦<FolderMaildir<F> as MaildirDisk>⟧.maildir self.old).files
+            (⟦<FolderMaildir<F> as MaildirDisk>⟧.maildir self.new).files (⟦<FolderMaildir<F> as MaildirDisk>⟧.stays self.old) (⟦<FolderMaildir<F> as MaildirDisk>⟧.outlives self.old)
             (⟦<FolderMaildir<F> as MaildirDisk>⟧.stays self.new) (⟦<FolderMaildir<F> as MaildirDisk>⟧.outlives self.new) }
         ensures count { Tallies (refuses is_refusal result) (⟦<FolderMaildir<F> as MaildirDisk>⟧.maildir self.old).failures
             (⟦<FolderMaildir<F> as MaildirDisk>⟧.maildir self.new).failures }
         ensures told { ⟦<FolderMaildir<F> as MaildirDisk>⟧.sound self.new
             → ToldStay result (⟦<FolderMaildir<F> as MaildirDisk>⟧.stays self.new) }
-        ensures leaves { F.sound self.new.folders → LeavesMail (F.directories self.old.folders) [] (F.directories self.new.folders) }
+        ensures leaves { F.sound self.new.folders → LeavesSome (F.directories self.old.folders) (F.directories self.new.folders) }
     {
         admit(&self.failures)?;
         tally(&mut self.failures, told_names_of(&mut self.folders, folder))
@@ -122,16 +123,17 @@ impl<F: MailFolders + Drop> MaildirDisk for FolderMaildir<F> {
 
     fn all_names(&mut self) -> Result<Vec<String>, StoreFault>
         ensures lists { ⟦<FolderMaildir<F> as MaildirDisk>⟧.sound self.new → ⟦<FolderMaildir<F> as MaildirDisk>⟧.sound self.old
-            × ListsAll (⟦<FolderMaildir<F> as MaildirDisk>⟧.maildir self.old) result
-            (⟦<FolderMaildir<F> as MaildirDisk>⟧.maildir self.new) }
+            × AfterTaking (⟦<FolderMaildir<F> as MaildirDisk>⟧.maildir self.old)
+            (λ left. ListsAll left result (⟦<FolderMaildir<F> as MaildirDisk>⟧.maildir self.new)) }
         ensures fault { IfErr result IsDeviceFault }
         ensures lasts { ⟦<FolderMaildir<F> as MaildirDisk>⟧.sound self.new
-            → KeepsMail (⟦<FolderMaildir<F> as MaildirDisk>⟧.stays self.old) (⟦<FolderMaildir<F> as MaildirDisk>⟧.outlives self.old)
+            → KeepsLeft (⟦<FolderMaildir<F> as MaildirDisk>⟧.maildir self.old).files
+            (⟦<FolderMaildir<F> as MaildirDisk>⟧.maildir self.new).files (⟦<FolderMaildir<F> as MaildirDisk>⟧.stays self.old) (⟦<FolderMaildir<F> as MaildirDisk>⟧.outlives self.old)
             (⟦<FolderMaildir<F> as MaildirDisk>⟧.stays self.new) (⟦<FolderMaildir<F> as MaildirDisk>⟧.outlives self.new)
             × ToldStay result (⟦<FolderMaildir<F> as MaildirDisk>⟧.stays self.new) }
         ensures count { Tallies (refuses is_refusal result) (⟦<FolderMaildir<F> as MaildirDisk>⟧.maildir self.old).failures
             (⟦<FolderMaildir<F> as MaildirDisk>⟧.maildir self.new).failures }
-        ensures leaves { F.sound self.new.folders → LeavesMail (F.directories self.old.folders) [] (F.directories self.new.folders) }
+        ensures leaves { F.sound self.new.folders → LeavesSome (F.directories self.old.folders) (F.directories self.new.folders) }
     {
         admit(&self.failures)?;
         tally(&mut self.failures, told_names(&mut self.folders))

@@ -13,3 +13,4 @@ mod NameLemmas
 mod OneEntry
 mod Pages
 mod SettlingLemmas
+pub mod TakingLemmas
