@@ -5,7 +5,7 @@ ghost use Rattle.mail_terms.specs.Listing.{message_limit};
 ghost use Rattle.mail_terms.specs.UniqueId.{IsLegalId};
 ghost use Rattle.mail_store.specs.FileName.{IsAccountText};
 ghost use Rattle.pop3_client.specs.Client.{HasSameLink, place_of, link_of};
-ghost use Rattle.fetch_session.specs.Target.{IsCalm, is_sound, kind_of, stores_of, target_of};
+ghost use Rattle.fetch_session.specs.Target.{AfterTakingIn, IsCalm, is_sound, kind_of, stores_of, target_of};
 ghost use Rattle.fetch_session.specs.Work.{WhereWorkSound};
 ghost use Rattle.fetch_session.specs.Intake.{TookWithTail, step_limit, tail_limit};
 ghost use Rattle.fetch_session.specs.Lasting.{CarriesForGood, is_sure};
@@ -46,10 +46,11 @@ pub fn carry_out<W: Wire, D: MaildirDisk, F: FlatFile, H: BuildHasher>(
     ensures calm { is_sound D.MaildirDisk F.FlatFile work.new.store → is_sound D.MaildirDisk F.FlatFile work.old.store
         × ((stores_of D.MaildirDisk F.FlatFile work.new.store).maildir.begun ≡ None) }
     ensures carries { WhereWorkSound W.Wire D.MaildirDisk F.FlatFile client.old work.old client.new work.new
-        (λ old new. CarriesForGood D.MaildirDisk F.FlatFile (is_sure F.FlatFile work.old.store × F.is_sure work.old.ledger.file)
+        (λ old new. AfterTakingIn old.store (λ left. CarriesForGood D.MaildirDisk F.FlatFile
+        (is_sure F.FlatFile work.old.store × F.is_sure work.old.ledger.file)
         terms.entry.settings.now (target_of work.old.store terms.entry.account.now) listing.now terms.entry.now
-        old.place old.store old.file old.lines result
-        new.place new.store new.file new.lines skipped.new work.new.store work.new.ledger.file) }
+        old.place left old.file old.lines result
+        new.place new.store new.file new.lines skipped.new work.new.store work.new.ledger.file)) }
     ensures took { W.sound client.new.wire.now → W.sound client.old.wire.now
         × TookWithTail (length listing.now * step_limit + tail_limit) (place_of W.Wire client.old) result (place_of W.Wire client.new) }
 {

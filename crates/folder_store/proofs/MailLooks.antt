@@ -1,5 +1,5 @@
 -- What a look at both folders tells.
-use Rattle.std.proofs.Common.{◌≡◌, inl, inr, ℕ, zero, suc, Bool, true, false, List, [], ◌∷◌, ◌++◌, map, get_or, Option, Result, Ok, Err, refl, sym, ap, subst, ◌∙◌, arith, String, Vec, string_bytes}
+use Rattle.std.proofs.Common.{◌≡◌, inl, inr, ℕ, zero, suc, Bool, true, false, List, [], ◌∷◌, ◌++◌, map, get_or, Option, Some, None, Result, Ok, Err, refl, sym, ap, subst, ◌∙◌, arith, String, Vec, string_bytes}
 use Rattle.std.specs.Prelude.{IsPermutation, IsTrue, ◌⊎◌, ◌||◌, Contains}
 use Rattle.std.specs.List.{AllByRecursion, filter}
 use Rattle.std.proofs.Math.Bool.{or-true}
@@ -14,7 +14,7 @@ use Rattle.mail_store.specs.declared.maildir.disk.Folder.TheVariants.{New, Cur}
 use Rattle.mail_store.specs.Maildir.{File, Folders, bases_told, names_of, is_there, AreTheirs}
 use Rattle.folder_store.specs.MailFolders.{MailFile, Directories, MovesFile, Each, Moved, is_in, is_left, touches, files_at, name_at, is_in_new, is_in_cur, entries_in}
 use Rattle.folder_store.specs.MailPower.{AllNamed, StaysIn}
-use Rattle.folder_store.specs.MailCalls.{Leads, Learns, Then, Lacks, TellsRest, ChecksIn, LooksUpNew, ListsIn, FlushesNamesIn, ToldBoth, TellsOne, LooksAtBoth, listed, named_by}
+use Rattle.folder_store.specs.MailCalls.{Leads, Learns, Then, TellsBoth, Lacks, TellsRest, ChecksIn, LooksUpNew, ListsIn, FlushesNamesIn, ToldBoth, TellsOne, LooksAtBoth, listed, named_by}
 use Rattle.folder_store.proofs.MailLearns.{learns_on, learns_same, leads_learns, left_twice, listed_learns, named_left}
 use Rattle.folder_store.proofs.MailMoves.{Near, moved_leads, flush_leads, leads_same, leads_on, near_new, near_moved, named_cur, named_moved, rests_new}
 
@@ -313,3 +313,27 @@ pub unflushed : {A B : Type 0} (old a b : Directories) (folder : Folder) (fault 
     → Learns old a → Then (FlushesNamesIn {T = Unit {0}} folder (Err fault)) a b → LooksAtBoth old r b
 unflushed {A} {B} old a b folder fault r is led t =
     subst (λ (r : Result (Option (Vec (String A) B)) StoreFault). LooksAtBoth old r b) (sym is) (not_flushed A B (Unit {0}) old a b folder fault led t)
+
+-- ---- looks again and again
+
+-- others may have moved files before a look that was refused
+pub told_none : {A B : Type 0} (a b c : Directories) (fault : StoreFault) (r : Result (Vec (String A) B) StoreFault) → r ≡ Err fault
+    → Learns a b → LooksAtBoth {A = A} {B = B} b (Err fault) c → TellsBoth a r c
+told_none {A} {B} a b c fault r is before look =
+    subst (λ (r : Result (Vec (String A) B) StoreFault). TellsBoth a r c) (sym is) (by fault look)
+  where
+    by : (f : StoreFault) → LooksAtBoth {A = A} {B = B} b (Err f) c → TellsBoth {A = A} {B = B} a (Err f) c
+    by Missing look = (learns_on a b c before look.0, look.1)
+    by Refused look = learns_on a b c before look
+    by NotMbox look = absurd look
+    by NoMemory look = absurd look
+
+pub told_some : {A B : Type 0} (a b c : Directories) (o : Option (Vec (String A) B)) (names : Vec (String A) B) → o ≡ Some names
+    → Learns a b → LooksAtBoth b (Ok o) c → Learns a c × ToldBoth names.items c
+told_some {A} {B} a b c o names is before look =
+    let told = subst (λ (o : Option (Vec (String A) B)). LooksAtBoth b (Ok o) c) is look in (learns_on a b c before told.0, told.1)
+
+-- a look told the names, or `new` changed meanwhile
+pub looked_on : {A B : Type 0} (a b c : Directories) (o : Option (Vec (String A) B)) → Learns a b → LooksAtBoth b (Ok o) c → Learns a c
+looked_on a b c None before look = learns_on a b c before look
+looked_on a b c (Some names) before look = learns_on a b c before look.0

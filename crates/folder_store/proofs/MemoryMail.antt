@@ -51,18 +51,16 @@ names_on f (x ∷ ss) s = by (f x) refl (names_on f ss s)
     by true e h = rw e (ap (λ (ns : List (List ℕ)). x.name ∷ ns) h)
     by false e h = rw e h
 
--- the files that are left, once one more came
-left_end : (ss : List MailFile) (s : MailFile) → filter is_left (ss ++ s ∷ []) ≡ filter is_left ss ++ (if is_left s then s ∷ [] else [])
-left_end ss s = filter-append is_left ss (s ∷ [])
+-- one more file came after others, or none did
+told_end : (f : MailFile → Bool) (ss : List MailFile) (s : MailFile) (b : Bool)
+    → map name_at (filter f (ss ++ (if b then s ∷ [] else []))) ≡ map name_at (filter f ss) ++ (if b && f s then s.name ∷ [] else [])
+told_end f ss s true = names_on f ss s
+told_end f ss s false = ap (λ (ts : List MailFile). map name_at (filter f ts)) (append-nil ss) ∙ sym (append-nil (map name_at (filter f ss)))
 
 told_on : (f : MailFile → Bool) (ss : List MailFile) (s : MailFile)
     → map name_at (filter f (filter is_left (ss ++ s ∷ []))) ≡ map name_at (filter f (filter is_left ss)) ++ (if is_left s && f s then s.name ∷ [] else [])
-told_on f ss s = ap (λ (ts : List MailFile). map name_at (filter f ts)) (left_end ss s) ∙ by s.is_gone refl
-  where
-    by : (b : Bool) → s.is_gone ≡ b → map name_at (filter f (filter is_left ss ++ (if is_left s then s ∷ [] else [])))
-        ≡ map name_at (filter f (filter is_left ss)) ++ (if is_left s && f s then s.name ∷ [] else [])
-    by true e = rw e (ap (λ (ts : List MailFile). map name_at (filter f ts)) (append-nil (filter is_left ss)) ∙ sym (append-nil (map name_at (filter f (filter is_left ss)))))
-    by false e = rw e (names_on f (filter is_left ss) s)
+told_on f ss s =
+    ap (λ (ts : List MailFile). map name_at (filter f ts)) (filter-append is_left ss (s ∷ [])) ∙ told_end f (filter is_left ss) s (is_left s)
 
 names_in_on : (folder : Folder) (ss : List MailFile) (s : MailFile)
     → map name_at (entries_in folder (ss ++ s ∷ [])) ≡ map name_at (entries_in folder ss) ++ (if is_told folder s then s.name ∷ [] else [])
@@ -148,3 +146,17 @@ file_moves files i x y new new' cur cur' made below is moves in_new in_cur = rec
     rest_of Cur quiet =
         let r = in_cur quiet in
         (r.0, each_set (RestsFile Cur) (same_rests Cur) files i x y below is (not_in_cur (mail_file x) (mail_file y) r.1 r.2))
+
+-- ---- files that the reader took away
+
+abbrev pub is_kept : KeptMail → Bool
+is_kept k = not k.is_gone
+
+pub left_files : (files : List KeptMail) → map mail_file (filter is_kept files) ≡ filter is_left (map mail_file files)
+left_files [] = refl
+left_files (k ∷ files) = by k.is_gone refl (left_files files)
+  where
+    by : (b : Bool) → k.is_gone ≡ b → map mail_file (filter is_kept files) ≡ filter is_left (map mail_file files)
+        → map mail_file (filter is_kept (k ∷ files)) ≡ filter is_left (map mail_file (k ∷ files))
+    by true e rest = rw e rest
+    by false e rest = grind (arith, e, rest)

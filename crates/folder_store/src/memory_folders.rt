@@ -405,8 +405,9 @@ impl MemoryFolders {
         if place >= self.files.len() {
             return;
         }
-        let was_new = self.files[place].is_new;
-        self.files[place].is_gone = true;
+        let file = &mut self.files[place];
+        let was_new = file.is_new;
+        file.is_gone = true;
         self.new_rests = still_rests(self.new_rests, was_new, was_new);
         self.cur_rests = still_rests(self.cur_rests, !was_new, !was_new);
     }

@@ -17,7 +17,6 @@ mod Planned
 mod Records
 mod Replied
 mod Safety
-mod Taking
 mod Tells
 mod VisitKept
 mod Wants

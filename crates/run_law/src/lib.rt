@@ -1,7 +1,7 @@
 //! Laws over runs of sessions: every list of sessions leads from a kept state to a kept one.
 #![tactic(auto)]
 
-ghost use Rattle.run_law.specs.Runs.{CanEnd, KeptHoldsWhatIsLeft, KeptStaysKept, TakingIsAnEvent};
+ghost use Rattle.run_law.specs.Runs.{CanEnd, KeptHoldsWhatIsLeft, KeptStaysKept};
 ghost use Rattle.run_law.specs.Runs.{NothingTakenHoldsExactly, StartsKept, TakenStaysAway, WantsNext};
 ghost use Rattle.run_law.specs.Readings.{HonestIsGranted, ListingIsMaildrop, MarksAreAsked, TextsAreMessages};
 ghost use Rattle.run_law.specs.Chains.{ChainsKeep};
@@ -68,13 +68,6 @@ pub fn taken_stays_away()
     held_is_delivered();
     flags_tell_what_is_held();
     marked_is_delivered();
-}
-
-/// Taking the files of a held id away is the event by which a run says so.
-pub fn taking_is_an_event()
-    ensures { TakingIsAnEvent }
-{
-    stems_differ();
 }
 
 /// An account with an empty record and no file of its own is kept, if nothing is gone from the server.

@@ -6,7 +6,7 @@ use Rattle.fetch_session.specs.declared.report.Outcome.{Outcome}
 use Rattle.fetch_session.specs.Refusal.{RefusesByOutcome}
 use Rattle.fetch_session.specs.Intake.{GotAtMost, session_limit, Took, TookWithTail, opening_limit, step_limit, tail_limit}
 use Rattle.fetch_session.specs.Session.{SessionIn, keeping, noted}
-use Rattle.fetch_session.specs.Target.{is_sound, kind_of, stores_of, target_of}
+use Rattle.fetch_session.specs.Target.{AfterTakingIn, is_sound, kind_of, stores_of, target_of}
 use Rattle.fetch_session.proofs.IntakeLemmas.{cut_within, ended_within}
 use Rattle.fetch_session.proofs.SessionLemmas.{entries_session, files_session, left_session, session_in}
 use Rattle.fetch_session.proofs.RefusalLemmas.{left_alone}
@@ -25,8 +25,12 @@ returns-in-Err-clause-session g c = λ w d f.
       went.1,
       went.2,
       g.met.W.Wire.leads_on _ _ _ went.3 says.1,
-      left_session (target_of inside.work.store inside.id) c.args.client.now.reader (Err c.in-Err.cut) (place_of g.W.Wire done.client) (noted done.counts.total done.counts.skipped done.work.ledger.lines.items)
-          (ap (λ (digits : List ℕ). target_of inside.work.store digits) c.account.invariant.1) c.requires went.4 (place_of g.W.Wire c.leave.new.client, says.2, refl) (rw c.replace-lines.ensures.value at c.reported.ensures),
+      (
+        went.4.0,
+        went.4.1,
+        left_session (target_of inside.work.store inside.id) c.args.client.now.reader (Err c.in-Err.cut) (place_of g.W.Wire done.client) (noted done.counts.total done.counts.skipped done.work.ledger.lines.items)
+          (ap (λ (digits : List ℕ). target_of inside.work.store digits) c.account.invariant.1) c.requires went.4.2 (place_of g.W.Wire c.leave.new.client, says.2, refl) (rw c.replace-lines.ensures.value at c.reported.ensures),
+      ),
     )
 
 pub returns-clause-session : goal.returns-clause-session
@@ -40,8 +44,12 @@ returns-clause-session g c = λ w d f.
       went.1,
       went.2,
       went.3,
-      left_session (target_of inside.work.store inside.id) c.args.client.now.reader (Ok tt) (place_of g.W.Wire done.client) (noted done.counts.total done.counts.skipped done.work.ledger.lines.items)
-          (ap (λ (digits : List ℕ). target_of inside.work.store digits) c.account.invariant.1) c.requires went.4 refl (rw c.replace-lines-2.ensures.value at c.reported-2.ensures),
+      (
+        went.4.0,
+        went.4.1,
+        left_session (target_of inside.work.store inside.id) c.args.client.now.reader (Ok tt) (place_of g.W.Wire done.client) (noted done.counts.total done.counts.skipped done.work.ledger.lines.items)
+          (ap (λ (digits : List ℕ). target_of inside.work.store digits) c.account.invariant.1) c.requires went.4.2 refl (rw c.replace-lines-2.ensures.value at c.reported-2.ensures),
+      ),
     )
 
 pub returns-in-Err-clause-bounded : goal.returns-in-Err-clause-bounded
@@ -72,8 +80,8 @@ returns-in-Err-clause-files g c = λ w d f.
     let old = c.args.account.now in
     let new = c.proceed.new.work in
     files_session g.D.MaildirDisk g.F.FlatFile old.store new.store (digits_of old.settings)
-    (λ t s s'. SessionIn old.settings t c.args.now (g.W.Wire.history c.args.client.now.wire.now) (keeping s (g.F.FlatFile.stored old.file)) c.reported.result (g.W.Wire.history c.leave.new.client.wire.now) (keeping s' (g.F.FlatFile.stored new.ledger.file)))
-    _ _ _ (returns-in-Err-clause-kind g c) (λ sound. let s = returns-in-Err-clause-session g c w sound f in (s.0, s.1, s.2, s.3, session_in s.4)) d
+    (λ t s s'. AfterTakingIn s (λ left. SessionIn old.settings t c.args.now (g.W.Wire.history c.args.client.now.wire.now) (keeping left (g.F.FlatFile.stored old.file)) c.reported.result (g.W.Wire.history c.leave.new.client.wire.now) (keeping s' (g.F.FlatFile.stored new.ledger.file))))
+    _ _ _ (returns-in-Err-clause-kind g c) (λ sound. let s = returns-in-Err-clause-session g c w sound f in (s.0, s.1, s.2, s.3, (s.4.0, s.4.1, session_in s.4.2))) d
 
 pub returns-in-Err-clause-entries : goal.returns-in-Err-clause-entries
 returns-in-Err-clause-entries g c = λ w d f.
@@ -81,15 +89,15 @@ returns-in-Err-clause-entries g c = λ w d f.
     let new = c.proceed.new.work in
     entries_session g.D.MaildirDisk g.F.FlatFile old.store new.store (digits_of old.settings)
     (λ t s s'. SessionIn old.settings t c.args.now (g.W.Wire.history c.args.client.now.wire.now) (keeping s (g.F.FlatFile.stored old.file)) c.reported.result (g.W.Wire.history c.leave.new.client.wire.now) (keeping s' (g.F.FlatFile.stored new.ledger.file)))
-    _ _ _ (returns-in-Err-clause-kind g c) (λ sound. let s = returns-in-Err-clause-session g c w sound f in (s.0, s.1, s.2, s.3, session_in s.4)) d
+    _ _ _ (returns-in-Err-clause-kind g c) (λ sound. let s = returns-in-Err-clause-session g c w sound f in (s.0, s.1, s.2, s.3, (s.4.0, s.4.1, session_in s.4.2))) d
 
 pub returns-clause-files : goal.returns-clause-files
 returns-clause-files g c = λ w d f.
     let old = c.args.account.now in
     let new = c.proceed.new.work in
     files_session g.D.MaildirDisk g.F.FlatFile old.store new.store (digits_of old.settings)
-    (λ t s s'. SessionIn old.settings t c.args.now (g.W.Wire.history c.args.client.now.wire.now) (keeping s (g.F.FlatFile.stored old.file)) c.reported-2.result (g.W.Wire.history c.proceed.new.client.wire.now) (keeping s' (g.F.FlatFile.stored new.ledger.file)))
-    _ _ _ (returns-clause-kind g c) (λ sound. let s = returns-clause-session g c w sound f in (s.0, s.1, s.2, s.3, session_in s.4)) d
+    (λ t s s'. AfterTakingIn s (λ left. SessionIn old.settings t c.args.now (g.W.Wire.history c.args.client.now.wire.now) (keeping left (g.F.FlatFile.stored old.file)) c.reported-2.result (g.W.Wire.history c.proceed.new.client.wire.now) (keeping s' (g.F.FlatFile.stored new.ledger.file))))
+    _ _ _ (returns-clause-kind g c) (λ sound. let s = returns-clause-session g c w sound f in (s.0, s.1, s.2, s.3, (s.4.0, s.4.1, session_in s.4.2))) d
 
 pub returns-clause-entries : goal.returns-clause-entries
 returns-clause-entries g c = λ w d f.
@@ -97,7 +105,7 @@ returns-clause-entries g c = λ w d f.
     let new = c.proceed.new.work in
     entries_session g.D.MaildirDisk g.F.FlatFile old.store new.store (digits_of old.settings)
     (λ t s s'. SessionIn old.settings t c.args.now (g.W.Wire.history c.args.client.now.wire.now) (keeping s (g.F.FlatFile.stored old.file)) c.reported-2.result (g.W.Wire.history c.proceed.new.client.wire.now) (keeping s' (g.F.FlatFile.stored new.ledger.file)))
-    _ _ _ (returns-clause-kind g c) (λ sound. let s = returns-clause-session g c w sound f in (s.0, s.1, s.2, s.3, session_in s.4)) d
+    _ _ _ (returns-clause-kind g c) (λ sound. let s = returns-clause-session g c w sound f in (s.0, s.1, s.2, s.3, (s.4.0, s.4.1, session_in s.4.2))) d
 
 pub returns-in-Err-clause-power : goal.returns-in-Err-clause-power
 returns-in-Err-clause-power g c = λ w d f. (returns-in-Err-clause-session g c w d f).4
