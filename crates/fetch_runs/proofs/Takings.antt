@@ -63,11 +63,12 @@ part_copies front (f ∷ fs) left (inr (rest, e, is)) =
 -- an id with files is held
 some_held : (account id : List ℕ) (fs : List File) → copies fs (stem_of account id) ≢ [] → list_any (λ (f : File). names_id account id f.name) fs ≡ true
 some_held account id [] some = absurd (some refl)
-some_held account id (f ∷ fs) some = by (bytes_eq (stem_of account id) (stem f.name)) refl
+some_held account id (f ∷ fs) some = by (some_held account id fs) (bytes_eq (stem_of account id) (stem f.name)) refl
   where
-    by : (b : Bool) → bytes_eq (stem_of account id) (stem f.name) ≡ b → list_any (λ (f : File). names_id account id f.name) (f ∷ fs) ≡ true
-    by true e = rw e refl
-    by false e = rw e (some_held account id fs (λ none. some (rw e none)))
+    by : (copies fs (stem_of account id) ≢ [] → list_any (λ (f : File). names_id account id f.name) fs ≡ true) → (b : Bool) → bytes_eq (stem_of account id) (stem f.name) ≡ b
+        → list_any (λ (f : File). names_id account id f.name) (f ∷ fs) ≡ true
+    by more true e = rw e refl
+    by more false e = rw e (more (λ none. some (rw e none)))
 
 less_than_one : {A : Type 0} (xs ys : List A) → length xs < length ys → length ys ≤ 1 → (xs ≡ []) × (ys ≢ [])
 less_than_one [] ys less one = (refl, λ none. let e = ap length none in absurd (omega (arith, less, e)))
@@ -126,7 +127,7 @@ module _ (differ : StemsDiffer) (world : World) (maildir : Maildir) (file : Stor
       ]
 
   -- it is, and its files are taken away
-  without : List ℕ → List File → List File
+  abbrev without : List ℕ → List File → List File
   without id fs = others_than (stem_of account id) fs
 
   took : (fs : List File) (id : List ℕ) (ids : List (List ℕ)) → AreDue account left (id ∷ ids) fs → IsDue fs id → AreDue account left ids (without id fs)
@@ -164,14 +165,14 @@ module _ (differ : StemsDiffer) (world : World) (maildir : Maildir) (file : Stor
   rest : (fs : List File) (taken : List (List ℕ)) → AreDue account left [] fs → Told fs taken
   rest fs taken due = (
     Between (kept (with_files left maildir) file) ∷ [],
-    record { each = tt; run = (record { record_is = λ rows keeps. keeps; mail = λ id l. same (due id l) }, tt); kept = refl; gone = refl },
+    record { each = tt; run = (record { record_is = λ rows keeps. keeps; mail = λ id l. same id (due id l) }, tt); kept = refl; gone = refl },
   )
     where
-      same : {id : List ℕ} → (copies left (stem_of account id) ≡ copies fs (stem_of account id))
+      same : (id : List ℕ) → (copies left (stem_of account id) ≡ copies fs (stem_of account id))
           ⊎ ((has_id [] id ≡ true) × (copies left (stem_of account id) ≡ []) × (copies fs (stem_of account id) ≢ []))
           → copies left (stem_of account id) ≡ copies fs (stem_of account id)
-      same (inl is) = is
-      same (inr (never, none, some)) = absurd (true≢false (sym never))
+      same id (inl is) = is
+      same id (inr (never, none, some)) = absurd (true≢false (sym never))
 
   all_told : (ids : List (List ℕ)) (fs : List File) (taken : List (List ℕ)) → AreDue account left ids fs → Told fs taken
   all_told [] fs taken due = rest fs taken due
@@ -187,14 +188,14 @@ takings_are_events law differ world state left sound is part =
     let ids = ids_of (take holds.j (selected world.max_size world.all)) in
     let files = state.kept.maildir.files in
     all_told differ world state.kept.maildir state.kept.file state.gone left ids files state.taken
-    (λ id l. due ids account files (holds.ids id l) (holds.once id l) (part_copies (stem_of account id) files left part))
+    (λ id l. due ids account files id (holds.ids id l) (holds.once id l) (part_copies (stem_of account id) files left part))
   where
-    due : (ids : List (List ℕ)) (account : List ℕ) (files : List File) {id : List ℕ} → (list_any (λ (f : File). names_id account id f.name) files ≡ true → has_id ids id ≡ true)
+    due : (ids : List (List ℕ)) (account : List ℕ) (files : List File) (id : List ℕ) → (list_any (λ (f : File). names_id account id f.name) files ≡ true → has_id ids id ≡ true)
         → length (copies files (stem_of account id)) ≤ 1
         → (copies left (stem_of account id) ≡ copies files (stem_of account id)) ⊎ (length (copies left (stem_of account id)) < length (copies files (stem_of account id)))
         → (copies left (stem_of account id) ≡ copies files (stem_of account id))
         ⊎ ((has_id ids id ≡ true) × (copies left (stem_of account id) ≡ []) × (copies files (stem_of account id) ≢ []))
-    due ids account files among once (inl same) = inl same
-    due ids account files {id} among once (inr less) =
+    due ids account files id among once (inl same) = inl same
+    due ids account files id among once (inr less) =
         let parts = less_than_one (copies left (stem_of account id)) (copies files (stem_of account id)) less once in
         inr (among (some_held account id files parts.1), parts.0, parts.1)

@@ -57,7 +57,11 @@ fn names_are_told_until_their_files_are_taken_away(rt: HostRuntime) -> Result<()
     // The fourth call lists `cur`.
     for number in 0..8 {
         let (count, _) = told_of_one(rt.alloc(), number, ReaderStep::Away(0))?;
-        assert_eq!(rt; count, usize::from(number > 3), "taken before call {number}");
+        assert_eq!(rt;
+            count,
+            usize::from(number > 3),
+            "taken before call {number}"
+        );
     }
     Ok(())
 }

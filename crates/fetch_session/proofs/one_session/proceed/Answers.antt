@@ -24,9 +24,9 @@ returns-clause-proceeds g c = λ w d f.
         does.4.0,
         does.4.1,
         dealt g.D.MaildirDisk g.F.FlatFile (is_sure g.F.FlatFile old.store × g.F.FlatFile.is_sure old.ledger.file) c.args.terms.settings.now (target_of old.store c.args.terms.account.now) c.args.terms.now
-          (place_of g.W.Wire c.args.client.now) (keeping (left_in (stores_of g.D.MaildirDisk g.F.FlatFile old.store) does.4.0) (g.F.FlatFile.stored old.ledger.file)) c.carry_out.result
-          (place_of g.W.Wire new.client) (keeping (stores_of g.D.MaildirDisk g.F.FlatFile new.work.store) (g.F.FlatFile.stored new.work.ledger.file)) (noted c.len-counts.result new.skipped new.work.ledger.lines.items)
-          c.in-Ok.listing (place_of g.W.Wire c.enter.new.client) c.reserve.new.self.items new.work.store new.work.ledger.file (c.reserve.ensures.items ∙ c.requires.nothing.2) entered.2 c.len-counts.ensures.count does.4.2,
+            (place_of g.W.Wire c.args.client.now) (keeping (left_in (stores_of g.D.MaildirDisk g.F.FlatFile old.store) does.4.0) (g.F.FlatFile.stored old.ledger.file)) c.carry_out.result
+            (place_of g.W.Wire new.client) (keeping (stores_of g.D.MaildirDisk g.F.FlatFile new.work.store) (g.F.FlatFile.stored new.work.ledger.file)) (noted c.len-counts.result new.skipped new.work.ledger.lines.items)
+            c.in-Ok.listing (place_of g.W.Wire c.enter.new.client) c.reserve.new.self.items new.work.store new.work.ledger.file (c.reserve.ensures.items ∙ c.requires.nothing.2) entered.2 c.len-counts.ensures.count does.4.2,
       ),
     )
 

@@ -47,11 +47,13 @@ returns-in-Err-do_steps-clause-carries g c = λ w d f.
       (
         ready.2.0,
         ready.2.1,
-        (c.do_steps.new.work.ledger.seen.rows,
-        inr (carried g.D.MaildirDisk g.F.FlatFile c.prepare.new.store c.deref-2.result.now c.deref-3.result.now ready.2.2 c.deref-2.ensures.value c.deref-3.ensures.value
-            (c.skipped_in.ensures ∙ ap skipped_in c.deref.ensures.value) (λ sure. (c.in-Ok.ensures.lasts done.1 sure.0).1) (λ sure. firm_both (c.in-Ok.ensures.file_lasts done.2 sure.1) (c.in-Ok.ensures.lasts done.1 sure.0).0) (c.do_steps.ensures.keeps w d f)
-            (good_before (says quit ∷ []) (in_kind c.prepare.new.store c.args.work.now.store c.args.terms.account.now c.prepare.ensures.kind done.4
-            (λ safe. safe))))),
+        (
+          c.do_steps.new.work.ledger.seen.rows,
+          inr (carried g.D.MaildirDisk g.F.FlatFile c.prepare.new.store c.deref-2.result.now c.deref-3.result.now ready.2.2 c.deref-2.ensures.value c.deref-3.ensures.value
+              (c.skipped_in.ensures ∙ ap skipped_in c.deref.ensures.value) (λ sure. (c.in-Ok.ensures.lasts done.1 sure.0).1) (λ sure. firm_both (c.in-Ok.ensures.file_lasts done.2 sure.1) (c.in-Ok.ensures.lasts done.1 sure.0).0) (c.do_steps.ensures.keeps w d f)
+              (good_before (says quit ∷ []) (in_kind c.prepare.new.store c.args.work.now.store c.args.terms.account.now c.prepare.ensures.kind done.4
+              (λ safe. safe)))),
+        ),
       ),
     )
 
@@ -67,11 +69,13 @@ returns-in-Ok-quit-clause-carries g c = λ w d f.
       (
         ready.2.0,
         ready.2.1,
-        (c.do_steps.new.work.ledger.seen.rows,
-        (carried g.D.MaildirDisk g.F.FlatFile c.prepare.new.store c.deref-2.result.now c.deref-3.result.now ready.2.2 c.deref-2.ensures.value c.deref-3.ensures.value
-            (c.skipped_in.ensures ∙ ap skipped_in c.deref.ensures.value) (λ sure. (c.in-Ok.ensures.lasts done.1 sure.0).1) (λ sure. firm_both (c.in-Ok.ensures.file_lasts done.2 sure.1) (c.in-Ok.ensures.lasts done.1 sure.0).0) (c.do_steps.ensures.keeps completes.0 d f)
-            (good_quit completes.2.0 (place_of g.W.Wire c.quit.new.self) (in_kind c.prepare.new.store c.args.work.now.store c.args.terms.account.now c.prepare.ensures.kind done.4
-            (λ safe. safe)) completes.2.1))),
+        (
+          c.do_steps.new.work.ledger.seen.rows,
+          (carried g.D.MaildirDisk g.F.FlatFile c.prepare.new.store c.deref-2.result.now c.deref-3.result.now ready.2.2 c.deref-2.ensures.value c.deref-3.ensures.value
+              (c.skipped_in.ensures ∙ ap skipped_in c.deref.ensures.value) (λ sure. (c.in-Ok.ensures.lasts done.1 sure.0).1) (λ sure. firm_both (c.in-Ok.ensures.file_lasts done.2 sure.1) (c.in-Ok.ensures.lasts done.1 sure.0).0) (c.do_steps.ensures.keeps completes.0 d f)
+              (good_quit completes.2.0 (place_of g.W.Wire c.quit.new.self) (in_kind c.prepare.new.store c.args.work.now.store c.args.terms.account.now c.prepare.ensures.kind done.4
+              (λ safe. safe)) completes.2.1)),
+        ),
       ),
     )
 
@@ -87,12 +91,14 @@ returns-clause-carries g c = λ w d f.
       (
         ready.2.0,
         ready.2.1,
-        (c.do_steps.new.work.ledger.seen.rows,
-        inr (carried g.D.MaildirDisk g.F.FlatFile c.prepare.new.store c.deref-2.result.now c.deref-3.result.now ready.2.2 c.deref-2.ensures.value c.deref-3.ensures.value
-            (c.skipped_in.ensures ∙ ap skipped_in c.deref.ensures.value) (λ sure. (c.in-Ok.ensures.lasts done.1 sure.0).1) (λ sure. firm_both (c.in-Ok.ensures.file_lasts done.2 sure.1) (c.in-Ok.ensures.lasts done.1 sure.0).0) (c.do_steps.ensures.keeps completes.0 d f)
-            (good_broke (place_of g.W.Wire c.quit.new.self) c.in-Err-quit.fault c.plain-in-Err-quit.result
-            (in_kind c.prepare.new.store c.args.work.now.store c.args.terms.account.now c.prepare.ensures.kind done.4
-            (λ safe. safe)) c.plain-in-Err-quit.ensures completes.2))),
+        (
+          c.do_steps.new.work.ledger.seen.rows,
+          inr (carried g.D.MaildirDisk g.F.FlatFile c.prepare.new.store c.deref-2.result.now c.deref-3.result.now ready.2.2 c.deref-2.ensures.value c.deref-3.ensures.value
+              (c.skipped_in.ensures ∙ ap skipped_in c.deref.ensures.value) (λ sure. (c.in-Ok.ensures.lasts done.1 sure.0).1) (λ sure. firm_both (c.in-Ok.ensures.file_lasts done.2 sure.1) (c.in-Ok.ensures.lasts done.1 sure.0).0) (c.do_steps.ensures.keeps completes.0 d f)
+              (good_broke (place_of g.W.Wire c.quit.new.self) c.in-Err-quit.fault c.plain-in-Err-quit.result
+              (in_kind c.prepare.new.store c.args.work.now.store c.args.terms.account.now c.prepare.ensures.kind done.4
+              (λ safe. safe)) c.plain-in-Err-quit.ensures completes.2)),
+        ),
       ),
     )
 

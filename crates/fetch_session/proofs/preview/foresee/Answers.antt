@@ -19,8 +19,8 @@ returns-in-Ok-foretell-clause-foresees g c = λ d f.
         looks.1.0,
         looks.1.1,
         foreseen settings (target_of c.args.store.now c.args.terms.account.now) items now (left_in (stores_of g.D.MaildirDisk g.F.FlatFile c.args.store.now) looks.1.0) (g.F.FlatFile.stored c.args.file.now) (g.F.FlatFile.stored c.read.new.file) c.read.new.seen
-          (stores_of g.D.MaildirDisk g.F.FlatFile c.look.new.store) c.in-Ok.looked c.in-Ok-foretell.prospects.items reads.1.0 reads.1.2 looks.1.2
-          (c.in-Ok-foretell.ensures ∙ ap (λ (flags : List Bool). foretold settings (merged c.read.new.seen.rows items flags now) items flags now) c.deref.ensures.value),
+            (stores_of g.D.MaildirDisk g.F.FlatFile c.look.new.store) c.in-Ok.looked c.in-Ok-foretell.prospects.items reads.1.0 reads.1.2 looks.1.2
+            (c.in-Ok-foretell.ensures ∙ ap (λ (flags : List Bool). foretold settings (merged c.read.new.seen.rows items flags now) items flags now) c.deref.ensures.value),
       ),
     )
 

@@ -27,7 +27,7 @@ returns-in-Err-clause-pretends g c = λ w d f.
         went.4.0,
         went.4.1,
         left_preview (target_of inside.work.store inside.id) c.args.client.now.reader (Err c.in-Err.cut) (place_of g.W.Wire done.client)
-          (ap (λ (digits : List ℕ). target_of inside.work.store digits) c.account.invariant.1) c.requires went.4.2 (new, says.2, refl) refl,
+            (ap (λ (digits : List ℕ). target_of inside.work.store digits) c.account.invariant.1) c.requires went.4.2 (new, says.2, refl) refl,
       ),
     )
 
@@ -47,6 +47,6 @@ returns-clause-pretends g c = λ w d f.
         went.4.0,
         went.4.1,
         left_preview (target_of inside.work.store inside.id) c.args.client.now.reader (Ok tt) mid
-          (ap (λ (digits : List ℕ). target_of inside.work.store digits) c.account.invariant.1) c.requires went.4.2 refl c.in_default.ensures.outcome,
+            (ap (λ (digits : List ℕ). target_of inside.work.store digits) c.account.invariant.1) c.requires went.4.2 refl c.in_default.ensures.outcome,
       ),
     )

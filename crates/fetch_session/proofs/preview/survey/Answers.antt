@@ -23,9 +23,9 @@ returns-clause-surveys g c = λ w d f.
         ahead.2.0,
         ahead.2.1,
         not_ended c.args.terms.settings.now (target_of c.args.work.now.store c.args.terms.account.now) c.args.terms.now (place_of g.W.Wire c.args.client.now)
-          (keeping (left_in (stores_of g.D.MaildirDisk g.F.FlatFile c.args.work.now.store) ahead.2.0) (g.F.FlatFile.stored c.args.work.now.ledger.file)) c.in-Ok.listing mid new
-          (keeping (stores_of g.D.MaildirDisk g.F.FlatFile c.foresee.new.store) (g.F.FlatFile.stored c.foresee.new.file)) c.in-Ok-foresee.foreseen c.len-preview.result c.in-Err-quit.fault c.plain-in-Err-quit.result
-          entered.2 ahead.2.2 c.len-preview.ensures.count (completes_talks quit mid new (Err c.in-Err-quit.fault) completes.2) c.plain-in-Err-quit.ensures,
+            (keeping (left_in (stores_of g.D.MaildirDisk g.F.FlatFile c.args.work.now.store) ahead.2.0) (g.F.FlatFile.stored c.args.work.now.ledger.file)) c.in-Ok.listing mid new
+            (keeping (stores_of g.D.MaildirDisk g.F.FlatFile c.foresee.new.store) (g.F.FlatFile.stored c.foresee.new.file)) c.in-Ok-foresee.foreseen c.len-preview.result c.in-Err-quit.fault c.plain-in-Err-quit.result
+            entered.2 ahead.2.2 c.len-preview.ensures.count (completes_talks quit mid new (Err c.in-Err-quit.fault) completes.2) c.plain-in-Err-quit.ensures,
       ),
     )
 

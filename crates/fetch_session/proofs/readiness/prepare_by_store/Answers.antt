@@ -20,7 +20,7 @@ returns-in-Err-clause-readies g c = λ d f.
         finds.1.0,
         finds.1.1,
         not_found (target_of c.args.store.now c.args.terms.account.now) c.args.listing.now c.args.terms.now (left_in (stores_of g.D.MaildirDisk g.F.FlatFile c.args.store.now) finds.1.0) (stores_of g.D.MaildirDisk g.F.FlatFile c.ask_store.new.store)
-          (g.F.FlatFile.stored c.args.file.now) (g.F.FlatFile.stored c.args.file.now) c.args.seen.now c.in-Err.fault (c.requires.stands f) refl finds.1.2,
+            (g.F.FlatFile.stored c.args.file.now) (g.F.FlatFile.stored c.args.file.now) c.args.seen.now c.in-Err.fault (c.requires.stands f) refl finds.1.2,
       ),
     )
 
@@ -34,8 +34,8 @@ returns-in-Err-take_in-clause-readies g c = λ d f.
         finds.1.0,
         finds.1.1,
         unsaved_merge c.args.terms.settings.now (target_of c.args.store.now c.args.terms.account.now) c.args.listing.now c.args.terms.now (left_in (stores_of g.D.MaildirDisk g.F.FlatFile c.args.store.now) finds.1.0) (stores_of g.D.MaildirDisk g.F.FlatFile c.ask_store.new.store)
-          (g.F.FlatFile.stored c.args.file.now) (g.F.FlatFile.stored c.args.file.now) (g.F.FlatFile.stored c.take_in.new.file) c.args.seen.now c.in-Ok.found
-          (c.requires.stands merges.0) refl finds.1.2 c.in-Err-take_in.fault merges.1,
+            (g.F.FlatFile.stored c.args.file.now) (g.F.FlatFile.stored c.args.file.now) (g.F.FlatFile.stored c.take_in.new.file) c.args.seen.now c.in-Ok.found
+            (c.requires.stands merges.0) refl finds.1.2 c.in-Err-take_in.fault merges.1,
       ),
     )
 
@@ -49,8 +49,8 @@ returns-in-Ok-plan-clause-readies g c = λ d f.
         finds.1.0,
         finds.1.1,
         saved_merge c.args.terms.settings.now (target_of c.args.store.now c.args.terms.account.now) c.args.listing.now c.args.terms.now (left_in (stores_of g.D.MaildirDisk g.F.FlatFile c.args.store.now) finds.1.0) (stores_of g.D.MaildirDisk g.F.FlatFile c.ask_store.new.store)
-          (g.F.FlatFile.stored c.args.file.now) (g.F.FlatFile.stored c.args.file.now) (g.F.FlatFile.stored c.take_in.new.file) c.args.seen.now c.in-Ok.found
-          (c.requires.stands merges.0) refl finds.1.2 _ c.take_in.new.seen.rows merges.1 c.in_default.ensures.rows refl c.in-Ok-plan.ensures.steps,
+            (g.F.FlatFile.stored c.args.file.now) (g.F.FlatFile.stored c.args.file.now) (g.F.FlatFile.stored c.take_in.new.file) c.args.seen.now c.in-Ok.found
+            (c.requires.stands merges.0) refl finds.1.2 _ c.take_in.new.seen.rows merges.1 c.in_default.ensures.rows refl c.in-Ok-plan.ensures.steps,
       ),
     )
 
@@ -64,7 +64,7 @@ returns-in-Err-plan-clause-readies g c = λ d f.
         finds.1.0,
         finds.1.1,
         no_plan c.args.terms.settings.now (target_of c.args.store.now c.args.terms.account.now) c.args.listing.now c.args.terms.now (left_in (stores_of g.D.MaildirDisk g.F.FlatFile c.args.store.now) finds.1.0) (stores_of g.D.MaildirDisk g.F.FlatFile c.ask_store.new.store)
-          (g.F.FlatFile.stored c.args.file.now) (g.F.FlatFile.stored c.args.file.now) (g.F.FlatFile.stored c.take_in.new.file) c.args.seen.now c.in-Ok.found
-          (c.requires.stands merges.0) refl finds.1.2 merges.1,
+            (g.F.FlatFile.stored c.args.file.now) (g.F.FlatFile.stored c.args.file.now) (g.F.FlatFile.stored c.take_in.new.file) c.args.seen.now c.in-Ok.found
+            (c.requires.stands merges.0) refl finds.1.2 merges.1,
       ),
     )

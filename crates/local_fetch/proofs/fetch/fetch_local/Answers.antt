@@ -19,9 +19,9 @@ returns-clause-fetches g c = λ d f m messages.
         went.4.0,
         went.4.1,
         fetches g.M.Maildrop.sound g.M.Maildrop.mail c.loops_are_honest.ensures c.sessions_are_conversations.ensures account.settings (digits_of account.settings) c.args.now c.args.server
-          c.session-report.new.wire.machine c.new-wire.result c.session-report.new.wire (kept (with_files went.4.0 (maildir_of g.D.MaildirDisk account.store)) (g.F.FlatFile.stored account.file)) c.session-report.result
-          (kept (maildir_of g.D.MaildirDisk c.session-report.new.account.store) (g.F.FlatFile.stored c.session-report.new.account.file)) c.new-wire.ensures refl c.requires.new
-          (subst IsValid c.settings.ensures.value c.settings.ensures.valid) went.3 went.4.2 m messages,
+            c.session-report.new.wire.machine c.new-wire.result c.session-report.new.wire (kept (with_files went.4.0 (maildir_of g.D.MaildirDisk account.store)) (g.F.FlatFile.stored account.file)) c.session-report.result
+            (kept (maildir_of g.D.MaildirDisk c.session-report.new.account.store) (g.F.FlatFile.stored c.session-report.new.account.file)) c.new-wire.ensures refl c.requires.new
+            (subst IsValid c.settings.ensures.value c.settings.ensures.valid) went.3 went.4.2 m messages,
       ),
     )
 

@@ -14,14 +14,17 @@ returns-in-Ok-clause-lists c = λ k.
     c.in-Ok.ensures ∙ ap (λ (pairs : List (String Global × Vec ℕ Global)). names_of (map file_of pairs) ++ names_of (map file_of c.deref-2.result.now)) c.deref.ensures.value
     ∙ ap (λ (pairs : List (String Global × Vec ℕ Global)). names_of (map file_of new) ++ names_of (map file_of pairs)) c.deref-2.ensures.value in (
       k,
-      (c.args.self.now.maildir.files, part_same c.args.self.now.maildir.files,
-      subst (λ (kept : Kept). (kept.maildir.there.new ≡ true) × (kept.maildir.there.cur ≡ true)
-          × IsPermutation (names_of kept.maildir.files) (bases_told c.in-Ok.names.items) × (kept.maildir ≡ kept.maildir)) c.self.view_is (
-            refl,
-            refl,
-            names_tell_both _ (map file_of new) (map file_of cur) c.in-Ok.names.items (shown_all c.self.inside.are_new.items new cur c.self.invariant) told,
-            refl,
-          )),
+      (
+        c.args.self.now.maildir.files,
+        part_same c.args.self.now.maildir.files,
+        subst (λ (kept : Kept). (kept.maildir.there.new ≡ true) × (kept.maildir.there.cur ≡ true)
+            × IsPermutation (names_of kept.maildir.files) (bases_told c.in-Ok.names.items) × (kept.maildir ≡ kept.maildir)) c.self.view_is (
+              refl,
+              refl,
+              names_tell_both _ (map file_of new) (map file_of cur) c.in-Ok.names.items (shown_all c.self.inside.are_new.items new cur c.self.invariant) told,
+              refl,
+            ),
+      ),
     )
 
 pub returns-in-Err-clause-lists : goal.returns-in-Err-clause-lists
