@@ -39,8 +39,11 @@ loop-i-preserved g c =
           let met = c.session-report.ensures.session sound held.0 held.1 in (
             met.0,
             (met.1, met.2),
-            (subst (λ (s : Settings). AfterTaking before.maildir (λ (left : Maildir). Session s (digits_of s) old.now (g.W.Wire.history old.wire) (kept left before.file) c.session-report.result
-                (g.W.Wire.history c.session-report.new.wire) after)) inv.0 met.4, refl),
+            (
+              subst (λ (s : Settings). AfterTaking before.maildir (λ (left : Maildir). Session s (digits_of s) old.now (g.W.Wire.history old.wire) (kept left before.file) c.session-report.result
+                  (g.W.Wire.history c.session-report.new.wire) after)) inv.0 met.4,
+              refl,
+            ),
           )),
       ran_next c.args.visits.now c.loop-i.visits i old new inv.6 pushed inside within here (λ sound held.
           let met = c.session-report.ensures.mbox_session sound held.0 held.1 in (
