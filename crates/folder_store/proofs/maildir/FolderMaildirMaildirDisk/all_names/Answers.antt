@@ -5,6 +5,7 @@ use Rattle.mail_store.specs.Maildir.{AfterTaking, ListsAll}
 use Rattle.mail_store.specs.Power.{ToldStay}
 use Rattle.folder_store.specs.MailFolders.{maildir_in}
 use Rattle.folder_store.specs.MailPower.{StaysIn}
+use Rattle.folder_store.proofs.MailLearns.{learns_same}
 use Rattle.folder_store.proofs.MailTelling.{all_stay, both_learn, told_all}
 use Rattle.folder_store.proofs.maildir.FolderMaildirMaildirDisk.all_names.Goals as goal
 
@@ -33,3 +34,6 @@ pub returns-clause-leaves : goal.returns-clause-leaves
 returns-clause-leaves g c = λ s.
     let d = g.F.MailFolders.directories in
     (both_learn (d c.args.self.now.folders) (d c.told_names.new.folders) c.told_names.result (c.told_names.ensures.tells s).1).leaves
+
+pub returns-in_err-admit-clause-leaves : goal.returns-in_err-admit-clause-leaves
+returns-in_err-admit-clause-leaves g c = λ s. (learns_same (g.F.MailFolders.directories c.args.self.now.folders)).leaves

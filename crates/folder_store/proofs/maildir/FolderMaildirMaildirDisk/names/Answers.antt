@@ -5,6 +5,7 @@ use Rattle.mail_store.specs.Maildir.{AfterTaking, Lists}
 use Rattle.mail_store.specs.Power.{ToldStay}
 use Rattle.folder_store.specs.MailFolders.{maildir_in}
 use Rattle.folder_store.specs.MailPower.{StaysIn}
+use Rattle.folder_store.proofs.MailLearns.{learns_same}
 use Rattle.folder_store.proofs.MailTelling.{one_learns, those_stay, told_those}
 use Rattle.folder_store.proofs.maildir.FolderMaildirMaildirDisk.names.Goals as goal
 
@@ -35,3 +36,6 @@ pub returns-clause-leaves : goal.returns-clause-leaves
 returns-clause-leaves g c = λ s.
     let d = g.F.MailFolders.directories in
     (one_learns (d c.args.self.now.folders) (d c.told_names_of.new.folders) c.args.folder c.told_names_of.result (c.told_names_of.ensures.tells s).1).leaves
+
+pub returns-in_err-admit-clause-leaves : goal.returns-in_err-admit-clause-leaves
+returns-in_err-admit-clause-leaves g c = λ s. (learns_same (g.F.MailFolders.directories c.args.self.now.folders)).leaves
