@@ -8,6 +8,7 @@ mod StateCases
 mod StateDone
 mod StateLaw
 mod StatePlan
+mod Takings
 mod TalkCommands
 mod TalkConversation
 mod TalkCourses

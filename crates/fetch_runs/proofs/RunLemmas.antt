@@ -7,11 +7,11 @@ use Rattle.rc_file.specs.declared.settings.Settings.{Settings}
 use Rattle.pop3_wire.specs.World.{IsWorld}
 use Rattle.fetch_session.specs.Account.{digits_of}
 use Rattle.fetch_session.specs.declared.report.Report.{Report}
-use Rattle.fetch_session.specs.Session.{Kept, MboxKept}
+use Rattle.fetch_session.specs.Session.{Kept, MboxKept, Session}
 use Rattle.fetch_runs.specs.declared.run.Visit.{Visit}
 use Rattle.run_law.specs.Sessions.{Fact}
 use Rattle.run_law.specs.MboxRuns.{MboxFrame}
-use Rattle.fetch_runs.specs.Headline.{AreSettings, World, IsSound, State, Fetched, after_event, IsKept, Headline}
+use Rattle.fetch_runs.specs.Headline.{AreSettings, World, IsSound, State, Fetched, after_event, state_after, IsKept, Headline, TakingsAreEvents}
 use Rattle.fetch_runs.specs.MboxHeadline.{MboxState, MboxHeadline, IsMboxKept, AreSettings as AreMboxSettings, Fetched as InMbox, after_event as after_mbox}
 use Rattle.fetch_runs.specs.MboxRuns.{MboxRuns, AreMboxPromised, mbox_occasion}
 use Rattle.fetch_runs.proofs.TalkCommands.{all_append, all_front, all_back}
@@ -65,15 +65,31 @@ made_all olds news i ran past same all held =
 
 -- ---- what is promised of them
 
-pub runs_promised : {W : Type 0} → Headline → (seen : W → Link) (settings : Settings) (world : World) (olds : List (Visit W)) (state : State) (reports : List Report) (news : List (Visit W)) (facts : List Fact) (last : Kept)
+pub runs_promised : {W : Type 0} → Headline → TakingsAreEvents → (seen : W → Link) (settings : Settings) (world : World) (olds : List (Visit W)) (state : State) (reports : List Report) (news : List (Visit W)) (facts : List Fact) (last : Kept)
     → IsSound world → AreSettings world settings → IsKept world state → AreServed seen world.all state.gone olds news facts
     → Runs seen settings (digits_of settings) olds state.kept reports news last → ArePromised seen settings world state olds reports news facts last
-runs_promised law seen settings world [] state [] [] [] last sound are is served runs = ((law world state [] sound is tt).0, is, sym runs)
-runs_promised law seen settings world (old ∷ olds) state (report ∷ reports) (new ∷ news) (fact ∷ facts) last sound are is served runs =
-    let occasion = occasion_of seen settings old report new fact runs.0 in
-    let one = law world state (Fetched occasion ∷ []) sound is (record { settings = are; session = runs.1.0; served = served.0 }, tt) in
-    (runs.0, runs.1.0, one.0.0, one.0.1, runs_promised law seen settings world olds (after_event state (Fetched occasion)) reports news facts last sound are one.1 served.1 runs.2)
-runs_promised law seen settings world olds state reports news facts last sound are is served runs = search rules
+runs_promised law takings seen settings world [] state [] [] [] last sound are is served runs = ((law world state [] sound is tt).0, is, sym runs)
+runs_promised law takings seen settings world (old ∷ olds) state (report ∷ reports) (new ∷ news) (fact ∷ facts) last sound are is served (between, ((left, part, session), same), runs) =
+    let told = takings world state left sound is part in
+    let mid = state_after state told.0 in
+    let occasion = occasion_of seen settings old report new fact between in
+    let held = law world state told.0 sound is told.1.run in
+    let went = subst (λ (k : Kept). Session settings (digits_of settings) old.now (seen old.wire) k report (seen new.wire) between) (sym told.1.kept) session in
+    let here = subst (λ (gone : List (List ℕ)). AreServed seen world.all gone (old ∷ olds) (new ∷ news) (fact ∷ facts)) (sym told.1.gone) served in
+    let one = law world mid (Fetched occasion ∷ []) sound held.1 (record { settings = are; session = went; served = here.0 }, tt) in (
+      record {
+        left = left;
+        takings = told.0;
+        taken = told.1;
+        between = between;
+        session = went;
+        before = (law world state [] sound is tt).0;
+        holds = one.0.0;
+        promised = one.0.1;
+      },
+      runs_promised law takings seen settings world olds (after_event mid (Fetched occasion)) reports news facts last sound are one.1 here.1 runs,
+    )
+runs_promised law takings seen settings world olds state reports news facts last sound are is served runs = search rules
 
 pub mbox_runs_promised : {W : Type 0} → MboxHeadline → (seen : W → Link) (settings : Settings) (frame : MboxFrame) (olds : List (Visit W)) (state : MboxState) (reports : List Report) (news : List (Visit W)) (facts : List Fact) (last : MboxKept)
     → IsWorld frame.all → AreMboxSettings frame settings → IsMboxKept frame state → AreServed seen frame.all state.gone olds news facts

@@ -17,10 +17,10 @@ use Rattle.fetch_rules.specs.Record.{Row, is_delivered, merged}
 use Rattle.fetch_rules.specs.Wanted.{candidates}
 use Rattle.mail_store.specs.FileName.{account_text, stem_of, is_held}
 use Rattle.mail_store.specs.Held.{flags_of}
-use Rattle.mail_store.specs.Maildir.{Maildir, File}
+use Rattle.mail_store.specs.Maildir.{Maildir, File, IsPart, with_files}
 use Rattle.fetch_session.specs.Account.{digits_of}
 use Rattle.fetch_session.specs.Record.{KeepsRows}
-use Rattle.fetch_session.specs.Session.{Kept, Session}
+use Rattle.fetch_session.specs.Session.{Kept, Session, kept}
 use Rattle.fetch_session.specs.declared.report.Outcome.TheVariants.{Ended}
 use Rattle.fetch_session.specs.declared.report.Report.{Report}
 use Rattle.run_law.specs.Mails.{listing_of, is_selected}
@@ -244,6 +244,30 @@ state_after state (event ∷ events) = state_after (after_event state event) eve
 abbrev pub Headline : Type 0
 Headline = (world : World) (start : State) (events : List Event) → IsSound world → IsKept world start → IsRun world start events
     → Promises world start events × IsKept world (state_after start events)
+
+-- ---- what is taken away during a session
+
+-- messages and files of other names are taken away
+abbrev pub AreTakings : List Event → Type 0
+AreTakings [] = Unit {0}
+AreTakings (TakenAway id after ∷ events) = AreTakings events
+AreTakings (Between after ∷ events) = AreTakings events
+AreTakings (_ ∷ events) = ⊥
+
+-- these events take all files away but those that are left
+pub record AreTaken (world : World) (state : State) (left : List File) (events : List Event) : Type 0 where
+  pub each : AreTakings events
+  pub run : IsRun world state events
+  pub kept : (state_after state events).kept ≡ kept (with_files left state.kept.maildir) state.kept.file
+  pub gone : (state_after state events).gone ≡ state.gone
+
+-- whichever files are taken away in a kept state, there are such events. What is taken away during a session is taken
+-- away before the names are told, and so before the session; or after that, and so after the session, which sees none of it
+abbrev pub TakingsAreEvents : Type 0
+TakingsAreEvents = (world : World) (state : State) (left : List File) → IsSound world → IsKept world state
+    → IsPart state.kept.maildir.files left → (events : List Event) × AreTaken world state left events
+
+-- ---- from the first session on
 
 -- the record's file isn't there or holds an empty record, no file is the account's own, nothing is gone, and
 -- nothing was taken away

@@ -7,10 +7,11 @@ use Rattle.pop3_wire.specs.World.{Message, maildrop_of}
 use Rattle.rc_file.specs.declared.settings.Settings.{Settings}
 use Rattle.fetch_session.specs.declared.report.Report.{Report}
 use Rattle.fetch_session.specs.Account.{digits_of}
-use Rattle.fetch_session.specs.Session.{Kept, Session}
+use Rattle.fetch_session.specs.Session.{Kept, Session, kept}
+use Rattle.mail_store.specs.Maildir.{AfterTaking, File, Maildir}
 use Rattle.run_law.specs.Sessions.{Fact, Served}
 use Rattle.fetch_runs.specs.declared.run.Visit.{Visit}
-use Rattle.fetch_runs.specs.Headline.{World, State, Occasion, Fetched, after_event, HoldsAPrefix, Promised, IsKept}
+use Rattle.fetch_runs.specs.Headline.{World, State, Event, Occasion, Fetched, AreTaken, after_event, state_after, HoldsAPrefix, Promised, IsKept}
 
 -- the links of these visits do what is promised of links
 abbrev pub AreSound : {W : Type 0} → (W → Type 0) → List (Visit W) → Type 0
@@ -27,12 +28,13 @@ RunsBy Made [] first [] (new ∷ news) last = ⊥
 RunsBy Made (old ∷ olds) first [] news last = ⊥
 RunsBy Made (old ∷ olds) first (report ∷ reports) [] last = ⊥
 
--- the visit was one session at its time
+-- the visit was one session at its time, of what readers left
 abbrev pub WasMade : {W : Type 0} → (W → Link) → Settings → List ℕ → Visit W → Kept → Report → Visit W → Kept → Type 0
 WasMade seen settings account old before report new after =
-    Session settings account old.now (seen old.wire) before report (seen new.wire) after × (new.now ≡ old.now)
+    AfterTaking before.maildir (λ (left : Maildir). Session settings account old.now (seen old.wire) (kept left before.file) report
+    (seen new.wire) after) × (new.now ≡ old.now)
 
--- each visit was one session at its time, in order, from what the one before left, and has its report
+-- each visit was one session at its time, in order, from what the one before and readers left, and has its report
 abbrev pub Runs : {W : Type 0} → (W → Link) → Settings → List ℕ → List (Visit W) → Kept → List Report → List (Visit W) → Kept → Type 0
 Runs seen settings account olds first reports news last = RunsBy (WasMade seen settings account) olds first reports news last
 
@@ -72,14 +74,26 @@ AreServed seen all gone (old ∷ olds) (new ∷ news) (fact ∷ facts) =
     × AreServed seen all (gone ++ fact.vanished) olds news facts
 AreServed seen all gone olds news facts = ⊥
 
--- a prefix is held before and after each visit, each visit keeps its promises, and the last state is kept
+-- readers took files away, and then a session was one of what they left: a prefix is held before and after they did, and the
+-- session keeps its promises
+pub record IsPromised {W : Type 0} (seen : W → Link) (settings : Settings) (world : World) (state : State) (old : Visit W) (report : Report)
+    (new : Visit W) (fact : Fact) : Type 0 where
+  pub left : List File
+  pub takings : List Event
+  pub taken : AreTaken world state left takings
+  pub between : Kept
+  pub session : Session settings (digits_of settings) old.now (seen old.wire) (state_after state takings).kept report (seen new.wire) between
+  pub before : HoldsAPrefix world state
+  pub holds : HoldsAPrefix world (state_after state takings)
+  pub promised : Promised world (state_after state takings) (Fetched (occasion_of seen settings old report new fact between))
+
+-- each visit is promised, from what the one before left, and a prefix is held in the last state, which is kept
 abbrev pub ArePromised : {W : Type 0} → (W → Link) → Settings → World → State → List (Visit W) → List Report
     → List (Visit W) → List Fact → Kept → Type 0
 ArePromised seen settings world state [] [] [] [] last = HoldsAPrefix world state × IsKept world state × (state.kept ≡ last)
 ArePromised seen settings world state (old ∷ olds) (report ∷ reports) (new ∷ news) (fact ∷ facts) last =
-    (between : Kept) × Session settings (digits_of settings) old.now (seen old.wire) state.kept report (seen new.wire) between
-    × HoldsAPrefix world state × Promised world state (Fetched (occasion_of seen settings old report new fact between))
+    (is : IsPromised seen settings world state old report new fact)
     × ArePromised seen settings world
-    (after_event state (Fetched (occasion_of seen settings old report new fact between)))
+    (after_event (state_after state is.takings) (Fetched (occasion_of seen settings old report new fact is.between)))
     olds reports news facts last
 ArePromised seen settings world state olds reports news facts last = ⊥

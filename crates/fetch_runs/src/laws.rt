@@ -3,7 +3,7 @@
 ghost use Rattle.fetch_runs.specs.AnyServer.{AnyServer};
 ghost use Rattle.fetch_runs.specs.Conversations.{MboxSessionsFollowPlans, SessionsAreConversations};
 ghost use Rattle.fetch_runs.specs.Headline.{EmptyIsKept, Headline, HeadlineFromEmpty, HeadlineWordForWord};
-ghost use Rattle.fetch_runs.specs.Headline.{NewProcessesAreBetween, StaysAway, StopsAreRuns};
+ghost use Rattle.fetch_runs.specs.Headline.{NewProcessesAreBetween, StaysAway, StopsAreRuns, TakingsAreEvents};
 ghost use Rattle.fetch_runs.specs.HonestSession.{HonestSessions};
 ghost use Rattle.fetch_runs.specs.MboxAnyServer.{MboxAnyServer};
 ghost use Rattle.fetch_runs.specs.MboxHeadline.{MboxHeadline, MboxHeadlineFromStart, MboxStartIsKept, MboxStopsAreRuns};
@@ -16,7 +16,9 @@ use fetch_rules::{
     marked_keeps_rows, plans_fetch_wanted,
 };
 use fetch_session::{steady_files_keep, turns_join, unsaved_files_keep};
-use mail_store::{account_texts_are_digits, entries_add_texts, flags_tell_what_is_held};
+use mail_store::{
+    account_texts_are_digits, entries_add_texts, flags_tell_what_is_held, stems_differ,
+};
 use pop3_client::conversations_are_paced;
 use pop3_wire::fronts_are_asked;
 use run_law::{
@@ -111,6 +113,16 @@ pub fn headline_word_for_word()
 {
     headline();
     holds_exactly();
+}
+
+/// Whichever files readers take away, also during a session, each message of a kept state that is
+/// among them is an event of a run.
+#[tactic(auto, using(crate::proofs::Takings::takings_are_events))]
+pub fn takings_are_events()
+    ensures { TakingsAreEvents }
+{
+    headline();
+    stems_differ();
 }
 
 /// If each session reads only what is new, a message that is recorded as delivered and was taken

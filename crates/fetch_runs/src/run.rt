@@ -11,7 +11,7 @@ ghost use Rattle.pop3_wire.specs.World.{IsWorld, Message};
 ghost use Rattle.run_law.specs.Sessions.{Fact};
 ghost use Rattle.run_law.specs.MboxRuns.{MboxFrame};
 
-use crate::laws::{headline, mbox_headline};
+use crate::laws::{headline, mbox_headline, takings_are_events};
 use fetch_session::{Account, Report, session};
 use mail_store::{FlatFile, MaildirDisk};
 use pop3_wire::Wire;
@@ -71,6 +71,7 @@ pub fn run_sessions<W: Wire, D: MaildirDisk, F: FlatFile, H: BuildHasher>(
         visits.old reports.items visits.new facts (mbox_kept (mbox_of F.FlatFile account.new.store) (F.stored account.new.file))) }
 {
     headline();
+    takings_are_events();
     mbox_headline();
     let _ = account.settings();
     let mut reports = Vec::with_capacity(alloc, visits.len())?;

@@ -10,9 +10,10 @@ use Rattle.fetch_session.specs.Plan.{Carries}
 use Rattle.fetch_session.specs.Session.{Dealt, Keeping, LeavesLink, Noted, Enters_with, Proceeds, SessionIn, outcome_of}
 use Rattle.mail_store.specs.declared.maildir.disk.MaildirDisk.{Ghosts as DiskGhosts}
 use Rattle.mail_store.specs.declared.file.flat_file.FlatFile.{Ghosts as FileGhosts}
+use Rattle.mail_store.specs.Maildir.{File}
 use Rattle.fetch_session.specs.declared.account.Store.{Store}
 use Rattle.fetch_session.specs.declared.account.Store.TheVariants.{Maildir as InMaildir, Mboxrd as InMbox}
-use Rattle.fetch_session.specs.Target.{Target, AsFiles, AsEntries, Stores, IsSoundMaildir, IsSoundMbox, in_maildir, in_mbox, is_sound, kind_of, maildir_of, mbox_of, stores_of, target_of}
+use Rattle.fetch_session.specs.Target.{Target, AsFiles, AsEntries, Stores, AfterTakingIn, IsSoundMaildir, IsSoundMbox, in_maildir, in_mbox, is_sound, kind_of, left_in, maildir_of, mbox_of, stores_of, target_of}
 use Rattle.fetch_session.specs.Lasting.{CarriesForGood, DealtForGood, ProceedsForGood, SessionForGood}
 use Rattle.fetch_session.specs.Report.{Reports}
 use Rattle.fetch_session.specs.declared.report.Report.{Report}
@@ -80,9 +81,13 @@ files_session disk file (InMaildir device) (InMaildir device') digits Did A B C 
 files_session disk file (InMbox device) (InMaildir device') digits Did A B C kind met sound = absurd cc
 files_session disk file store (InMbox device') digits Did A B C kind met never = absurd never
 
+-- no file is taken from an mboxrd file
 pub entries_session : {D F : Type 0} (disk : DiskGhosts D) (file : FileGhosts F) (store store' : Store D F) (digits : List ℕ) (Did : Target → Stores → Stores → Type 0) (A B C : Type 0) → kind_of store' ≡ kind_of store
-    → (is_sound disk file store' → A × is_sound disk file store × B × C × Did (target_of store digits) (stores_of disk file store) (stores_of disk file store'))
+    → (is_sound disk file store' → A × is_sound disk file store × B × C × AfterTakingIn (stores_of disk file store) (λ (left : Stores). Did (target_of store digits) left (stores_of disk file store')))
     → IsSoundMbox file store' → A × IsSoundMbox file store × B × C × Did AsEntries (in_mbox (mbox_of file store)) (in_mbox (mbox_of file store'))
-entries_session disk file (InMbox device) (InMbox device') digits Did A B C kind met sound = met sound
+entries_session disk file (InMbox device) (InMbox device') digits Did A B C kind met sound =
+    let m = met sound in
+    let none = subst (λ (files : List File). Did AsEntries (left_in (in_mbox (file.stored device)) files) (in_mbox (file.stored device'))) m.4.1 m.4.2 in
+    (m.0, m.1, m.2, m.3, none)
 entries_session disk file (InMaildir device) (InMbox device') digits Did A B C kind met sound = absurd cc
 entries_session disk file store (InMaildir device') digits Did A B C kind met never = absurd never

@@ -7,7 +7,7 @@ use Rattle.mail_store.specs.declared.maildir.disk.MaildirDisk.{Ghosts as DiskGho
 use Rattle.mail_store.specs.declared.file.flat_file.FlatFile.{Ghosts as FileGhosts}
 use Rattle.mail_store.specs.FlatFile.{Stored}
 use Rattle.mail_store.specs.Held.{flags_of}
-use Rattle.mail_store.specs.Maildir.{Maildir}
+use Rattle.mail_store.specs.Maildir.{File, IsPart, Maildir, with_files}
 use Rattle.mail_store.specs.Settling.{stands_whole, settled_file}
 use Rattle.fetch_session.specs.declared.account.Store.{Store}
 use Rattle.fetch_session.specs.declared.account.Store.TheVariants.{Maildir as InMaildir, Mboxrd as InMbox}
@@ -38,6 +38,14 @@ in_maildir maildir = record { maildir = maildir; mbox = no_mbox }
 
 abbrev pub in_mbox : Stored → Stores
 in_mbox mbox = record { maildir = no_maildir; mbox = mbox }
+
+-- a store with these files in its Maildir
+abbrev pub left_in : Stores → List File → Stores
+left_in store files = record store { maildir = with_files files store.maildir }
+
+-- since names were last told readers have taken some files of its Maildir away, and this holds of what they left
+abbrev pub AfterTakingIn : Stores → (Stores → Type 0) → Type 0
+AfterTakingIn store Does = (left : List File) × IsPart store.maildir.files left × Does (left_in store left)
 
 -- ---- a store
 

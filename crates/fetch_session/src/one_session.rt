@@ -4,6 +4,7 @@ ghost use Rattle.pop3_client.specs.Client.{HasSameLink, link_of};
 ghost use Rattle.std.specs.Vec.{vec_len};
 ghost use Rattle.rc_file.specs.Settings.{IsValid};
 ghost use Rattle.mail_store.specs.FileName.{IsAccountText};
+ghost use Rattle.mail_store.specs.Maildir.{AfterTaking};
 ghost use Rattle.fetch_session.specs.Scene.{WhereAllSound};
 ghost use Rattle.fetch_session.specs.Work.{WhereWorkSound};
 ghost use Rattle.fetch_session.specs.Account.{digits_of};
@@ -13,7 +14,7 @@ ghost use Rattle.fetch_session.specs.Lasting.{ProceedsForGood, SessionForGood, i
 ghost use Rattle.fetch_session.specs.Parts.{KeepsLink, KeepsStore};
 ghost use Rattle.fetch_session.specs.Report.{Reports, most_lines};
 ghost use Rattle.fetch_session.specs.Session.{MboxSession, Session, keeping, kept, mbox_kept, noted};
-ghost use Rattle.fetch_session.specs.Target.{IsCalm, IsSoundMaildir, IsSoundMbox};
+ghost use Rattle.fetch_session.specs.Target.{AfterTakingIn, IsCalm, IsSoundMaildir, IsSoundMbox};
 ghost use Rattle.fetch_session.specs.Target.{is_sound, kind_of, maildir_of, mbox_of, stores_of, target_of};
 
 use crate::account::Account;
@@ -63,10 +64,11 @@ fn proceed<W: Wire, D: MaildirDisk, F: FlatFile, H: BuildHasher>(
         client.new }
     ensures store { KeepsStore D.MaildirDisk F.FlatFile most_lines work.old work.new }
     ensures proceeds { WhereWorkSound W.Wire D.MaildirDisk F.FlatFile client.old work.old client.new work.new
-        (λ old new. ProceedsForGood D.MaildirDisk F.FlatFile (is_sure F.FlatFile work.old.store × F.is_sure work.old.ledger.file)
+        (λ old new. AfterTakingIn old.store (λ left. ProceedsForGood D.MaildirDisk F.FlatFile
+        (is_sure F.FlatFile work.old.store × F.is_sure work.old.ledger.file)
         terms.entry.settings.now (target_of work.old.store terms.entry.account.now) terms.entry.now old.place
-        (keeping old.store old.file) result
-        new.place (keeping new.store new.file) (noted counts.new.total counts.new.skipped new.lines) work.new.store work.new.ledger.file) }
+        (keeping left old.file) result
+        new.place (keeping new.store new.file) (noted counts.new.total counts.new.skipped new.lines) work.new.store work.new.ledger.file)) }
 {
     conversations_are_paced();
     let listing = match enter(work.ledger.alloc, terms.settings, client) {
@@ -93,10 +95,11 @@ fn session_over<W: Wire, D: MaildirDisk, F: FlatFile, H: BuildHasher>(
     ensures kind { kind_of account.new.store ≡ kind_of account.old.store }
     ensures session { WhereAllSound W.sound W.leads_to (is_sound D.MaildirDisk F.FlatFile) F.sound client.old.wire.now client.new.wire.now
         account.old.store account.new.store account.old.file account.new.file
-        (SessionForGood D.MaildirDisk F.FlatFile (is_sure F.FlatFile account.old.store × F.is_sure account.old.file)
+        (AfterTakingIn (stores_of D.MaildirDisk F.FlatFile account.old.store) (λ left. SessionForGood D.MaildirDisk F.FlatFile
+        (is_sure F.FlatFile account.old.store × F.is_sure account.old.file)
         account.old.settings (target_of account.old.store (digits_of account.old.settings)) now (link_of W.Wire client.old)
-        (keeping (stores_of D.MaildirDisk F.FlatFile account.old.store) (F.stored account.old.file)) result (link_of W.Wire client.new)
-        (keeping (stores_of D.MaildirDisk F.FlatFile account.new.store) (F.stored account.new.file)) account.new.store account.new.file) }
+        (keeping left (F.stored account.old.file)) result (link_of W.Wire client.new)
+        (keeping (stores_of D.MaildirDisk F.FlatFile account.new.store) (F.stored account.new.file)) account.new.store account.new.file)) }
     ensures bounded { W.sound client.new.wire.now
         → GotAtMost (session_limit result.total) (link_of W.Wire client.old) (link_of W.Wire client.new) }
 {
@@ -152,9 +155,9 @@ pub fn session<W: Wire, D: MaildirDisk, F: FlatFile, H: BuildHasher>(
     ensures kind { kind_of account.new.store ≡ kind_of account.old.store }
     ensures session { WhereAllSound W.sound W.leads_to (IsSoundMaildir D.MaildirDisk) F.sound wire.old wire.new
         account.old.store account.new.store account.old.file account.new.file
-        (Session account.old.settings (digits_of account.old.settings) now (W.history wire.old)
-        (kept (maildir_of D.MaildirDisk account.old.store) (F.stored account.old.file)) result (W.history wire.new)
-        (kept (maildir_of D.MaildirDisk account.new.store) (F.stored account.new.file))) }
+        (AfterTaking (maildir_of D.MaildirDisk account.old.store) (λ left. Session account.old.settings (digits_of account.old.settings)
+        now (W.history wire.old) (kept left (F.stored account.old.file)) result (W.history wire.new)
+        (kept (maildir_of D.MaildirDisk account.new.store) (F.stored account.new.file)))) }
     ensures mbox_session { WhereAllSound W.sound W.leads_to (IsSoundMbox F.FlatFile) F.sound wire.old wire.new
         account.old.store account.new.store account.old.file account.new.file
         (MboxSession account.old.settings now (W.history wire.old)
@@ -163,10 +166,11 @@ pub fn session<W: Wire, D: MaildirDisk, F: FlatFile, H: BuildHasher>(
     ensures bounded { W.sound wire.new
         → GotAtMost (session_limit result.total) (W.history wire.old) (W.history wire.new) }
     ensures power { W.sound wire.new → is_sound D.MaildirDisk F.FlatFile account.new.store → F.sound account.new.file
-        → SessionForGood D.MaildirDisk F.FlatFile (is_sure F.FlatFile account.old.store × F.is_sure account.old.file)
+        → AfterTakingIn (stores_of D.MaildirDisk F.FlatFile account.old.store) (λ left. SessionForGood D.MaildirDisk F.FlatFile
+        (is_sure F.FlatFile account.old.store × F.is_sure account.old.file)
         account.old.settings (target_of account.old.store (digits_of account.old.settings)) now (W.history wire.old)
-        (keeping (stores_of D.MaildirDisk F.FlatFile account.old.store) (F.stored account.old.file)) result (W.history wire.new)
-        (keeping (stores_of D.MaildirDisk F.FlatFile account.new.store) (F.stored account.new.file)) account.new.store account.new.file }
+        (keeping left (F.stored account.old.file)) result (W.history wire.new)
+        (keeping (stores_of D.MaildirDisk F.FlatFile account.new.store) (F.stored account.new.file)) account.new.store account.new.file) }
 {
     let mut client = Client::new(wire);
     session_over(account, &mut client, now)

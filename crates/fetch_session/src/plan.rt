@@ -4,7 +4,7 @@ ghost use Rattle.std.specs.List.{AllByRecursion};
 ghost use Rattle.mail_terms.specs.Listing.{message_limit};
 ghost use Rattle.mail_terms.specs.UniqueId.{IsLegalId};
 ghost use Rattle.mail_store.specs.FileName.{IsAccountText};
-ghost use Rattle.fetch_session.specs.Target.{IsCalm, target_of};
+ghost use Rattle.fetch_session.specs.Target.{AfterTakingIn, IsCalm, target_of};
 ghost use Rattle.fetch_session.specs.Work.{WhereWorkSound};
 ghost use Rattle.fetch_session.specs.Intake.{TookWithTail, step_limit, tail_limit};
 ghost use Rattle.fetch_session.specs.Lasting.{CarriesForGood, is_sure};
@@ -41,10 +41,11 @@ pub fn carry_out<W: Wire, D: MaildirDisk, F: FlatFile, H: BuildHasher>(
     ensures link { KeepsLink W.Wire (TookWithTail (length listing.now * step_limit + tail_limit)) client.old result client.new }
     ensures store { KeepsStore D.MaildirDisk F.FlatFile (2 * length listing.now) work.old work.new }
     ensures carries { WhereWorkSound W.Wire D.MaildirDisk F.FlatFile client.old work.old client.new work.new
-        (λ old new. CarriesForGood D.MaildirDisk F.FlatFile (is_sure F.FlatFile work.old.store × F.is_sure work.old.ledger.file)
+        (λ old new. AfterTakingIn old.store (λ left. CarriesForGood D.MaildirDisk F.FlatFile
+        (is_sure F.FlatFile work.old.store × F.is_sure work.old.ledger.file)
         terms.entry.settings.now (target_of work.old.store terms.entry.account.now) listing.now terms.entry.now
-        old.place old.store old.file old.lines result
-        new.place new.store new.file new.lines skipped.new work.new.store work.new.ledger.file) }
+        old.place left old.file old.lines result
+        new.place new.store new.file new.lines skipped.new work.new.store work.new.ledger.file)) }
 {
     conversations_are_paced();
     firsts_are_fetched();

@@ -8,7 +8,7 @@ ghost use Rattle.fetch_session.specs.Account.{digits_of};
 ghost use Rattle.fetch_session.specs.Pretend.{Foresees, LooksAtMbox, LooksIn, Pretends, Surveys, foretold, told_in, told_nothing};
 ghost use Rattle.fetch_session.specs.Scene.{WhereAllSound};
 ghost use Rattle.fetch_session.specs.Session.{keeping};
-ghost use Rattle.fetch_session.specs.Target.{IsCalm, is_sound, kind_of, none_held, stores_of, target_of};
+ghost use Rattle.fetch_session.specs.Target.{AfterTakingIn, IsCalm, is_sound, kind_of, none_held, stores_of, target_of};
 
 use crate::account::{Account, Store};
 use crate::appending::refused;
@@ -99,8 +99,8 @@ fn look<D: MaildirDisk, F: FlatFile, H: BuildHasher>(
     ensures stays { is_sound D.MaildirDisk F.FlatFile store.new → is_sound D.MaildirDisk F.FlatFile store.old
         × ((stores_of D.MaildirDisk F.FlatFile store.new).maildir.begun ≡ (stores_of D.MaildirDisk F.FlatFile store.old).maildir.begun) }
     ensures looks { is_sound D.MaildirDisk F.FlatFile store.new → is_sound D.MaildirDisk F.FlatFile store.old
-        × LooksIn (target_of store.old account.now) seen.now.intent (stores_of D.MaildirDisk F.FlatFile store.old) listing.now result
-        (stores_of D.MaildirDisk F.FlatFile store.new) }
+        × AfterTakingIn (stores_of D.MaildirDisk F.FlatFile store.old) (λ left. LooksIn (target_of store.old account.now) seen.now.intent
+        left listing.now result (stores_of D.MaildirDisk F.FlatFile store.new)) }
 {
     match store {
         Store::Maildir(disk) => match ask_held(alloc, disk, account, listing) {
@@ -156,9 +156,9 @@ fn foresee<D: MaildirDisk, F: FlatFile, H: BuildHasher>(
         × ((stores_of D.MaildirDisk F.FlatFile store.new).maildir.begun ≡ (stores_of D.MaildirDisk F.FlatFile store.old).maildir.begun) }
     ensures foresees { is_sound D.MaildirDisk F.FlatFile store.new → F.sound file.new
         → is_sound D.MaildirDisk F.FlatFile store.old × F.sound file.old
-        × Foresees terms.entry.settings.now (target_of store.old terms.entry.account.now) listing.now terms.entry.now
-        (keeping (stores_of D.MaildirDisk F.FlatFile store.old) (F.stored file.old)) result
-        (keeping (stores_of D.MaildirDisk F.FlatFile store.new) (F.stored file.new)) }
+        × AfterTakingIn (stores_of D.MaildirDisk F.FlatFile store.old) (λ left. Foresees terms.entry.settings.now
+        (target_of store.old terms.entry.account.now) listing.now terms.entry.now (keeping left (F.stored file.old)) result
+        (keeping (stores_of D.MaildirDisk F.FlatFile store.new) (F.stored file.new))) }
 {
     if let Err(fault) = read(alloc, file, seen) {
         return Err(fault);
@@ -193,9 +193,10 @@ fn survey<W: Wire, D: MaildirDisk, F: FlatFile, H: BuildHasher>(
         × ((stores_of D.MaildirDisk F.FlatFile work.new.store).maildir.begun ≡ None) }
     ensures surveys { WhereAllSound W.sound W.leads_to (is_sound D.MaildirDisk F.FlatFile) F.sound client.old.wire.now client.new.wire.now
         work.old.store work.new.store work.old.ledger.file work.new.ledger.file
-        (Surveys terms.entry.settings.now (target_of work.old.store terms.entry.account.now) terms.entry.now (place_of W.Wire client.old)
-        (keeping (stores_of D.MaildirDisk F.FlatFile work.old.store) (F.stored work.old.ledger.file)) result (place_of W.Wire client.new)
-        (keeping (stores_of D.MaildirDisk F.FlatFile work.new.store) (F.stored work.new.ledger.file)) (told_in preview.new)) }
+        (AfterTakingIn (stores_of D.MaildirDisk F.FlatFile work.old.store) (λ left. Surveys terms.entry.settings.now
+        (target_of work.old.store terms.entry.account.now) terms.entry.now (place_of W.Wire client.old)
+        (keeping left (F.stored work.old.ledger.file)) result (place_of W.Wire client.new)
+        (keeping (stores_of D.MaildirDisk F.FlatFile work.new.store) (F.stored work.new.ledger.file)) (told_in preview.new))) }
 {
     let listing = match enter(work.ledger.alloc, terms.settings, client) {
         Ok(listing) => listing,
@@ -237,9 +238,10 @@ fn pretend_over<W: Wire, D: MaildirDisk, F: FlatFile, H: BuildHasher>(
     ensures kind { kind_of account.new.store ≡ kind_of account.old.store }
     ensures pretends { WhereAllSound W.sound W.leads_to (is_sound D.MaildirDisk F.FlatFile) F.sound client.old.wire.now client.new.wire.now
         account.old.store account.new.store account.old.file account.new.file
-        (Pretends account.old.settings (target_of account.old.store (digits_of account.old.settings)) now (link_of W.Wire client.old)
-        (keeping (stores_of D.MaildirDisk F.FlatFile account.old.store) (F.stored account.old.file)) result (link_of W.Wire client.new)
-        (keeping (stores_of D.MaildirDisk F.FlatFile account.new.store) (F.stored account.new.file))) }
+        (AfterTakingIn (stores_of D.MaildirDisk F.FlatFile account.old.store) (λ left. Pretends account.old.settings
+        (target_of account.old.store (digits_of account.old.settings)) now (link_of W.Wire client.old)
+        (keeping left (F.stored account.old.file)) result (link_of W.Wire client.new)
+        (keeping (stores_of D.MaildirDisk F.FlatFile account.new.store) (F.stored account.new.file)))) }
 {
     let mut preview = Preview {
         outcome: Outcome::Ended,
@@ -275,9 +277,10 @@ pub fn pretend<W: Wire, D: MaildirDisk, F: FlatFile, H: BuildHasher>(
     ensures kind { kind_of account.new.store ≡ kind_of account.old.store }
     ensures pretends { WhereAllSound W.sound W.leads_to (is_sound D.MaildirDisk F.FlatFile) F.sound wire.old wire.new
         account.old.store account.new.store account.old.file account.new.file
-        (Pretends account.old.settings (target_of account.old.store (digits_of account.old.settings)) now (W.history wire.old)
-        (keeping (stores_of D.MaildirDisk F.FlatFile account.old.store) (F.stored account.old.file)) result (W.history wire.new)
-        (keeping (stores_of D.MaildirDisk F.FlatFile account.new.store) (F.stored account.new.file))) }
+        (AfterTakingIn (stores_of D.MaildirDisk F.FlatFile account.old.store) (λ left. Pretends account.old.settings
+        (target_of account.old.store (digits_of account.old.settings)) now (W.history wire.old)
+        (keeping left (F.stored account.old.file)) result (W.history wire.new)
+        (keeping (stores_of D.MaildirDisk F.FlatFile account.new.store) (F.stored account.new.file)))) }
 {
     let mut client = Client::new(wire);
     pretend_over(account, &mut client, now)

@@ -7,9 +7,10 @@ ghost use Rattle.fetch_rules.specs.RecordFile.{file_of};
 ghost use Rattle.fetch_rules.specs.Plan.{IsQuiet, planned};
 ghost use Rattle.mail_store.specs.Fault.{IsDeviceFault};
 ghost use Rattle.fetch_session.specs.Mbox.{AsksMbox, SettlesIntent};
+ghost use Rattle.mail_store.specs.Maildir.{AfterTaking};
 ghost use Rattle.mail_store.specs.Power.{AllStay};
 ghost use Rattle.fetch_session.specs.Lasting.{AllStayIn, IsSafe, IsSafeStore, is_sure};
-ghost use Rattle.fetch_session.specs.Target.{flags_in, is_sound, kind_of, stores_of, target_of};
+ghost use Rattle.fetch_session.specs.Target.{AfterTakingIn, flags_in, is_sound, kind_of, stores_of, target_of};
 ghost use Rattle.fetch_session.specs.Readiness.{AreAsHeld, ChecksBoth, ChecksStore, FindsHeld, FindsIn, IsIdle, Readies, Rests};
 ghost use Rattle.fetch_session.specs.Record.{Gets, Reads, ReadAs, Merges, IsLineFault, IsSecured, Steady, bytes_in, held_in};
 
@@ -113,7 +114,7 @@ pub(crate) fn ask_held<D: MaildirDisk>(
 ) -> Result<Vec<bool>, Fault>
     ensures length { IfOk result (λ flags. length flags.items ≡ length listing.now) }
     ensures finds { D.sound disk.new → D.sound disk.old
-        × FindsHeld account.now (D.maildir disk.old) listing.now result (D.maildir disk.new) }
+        × AfterTaking (D.maildir disk.old) (λ left. FindsHeld account.now left listing.now result (D.maildir disk.new)) }
     ensures lasts { D.sound disk.new → OnOk result (AllStay (D.maildir disk.new) (D.stays disk.new)) }
 {
     match held(alloc, disk, account, listing) {
@@ -183,8 +184,8 @@ fn ask_store<D: MaildirDisk, F: FlatFile, H: BuildHasher>(
         × IfOk result (λ found. found.held.items
         ≡ flags_in (target_of store.old account.now) (stores_of D.MaildirDisk F.FlatFile store.new) listing.now) }
     ensures finds { is_sound D.MaildirDisk F.FlatFile store.new → is_sound D.MaildirDisk F.FlatFile store.old
-        × FindsIn (target_of store.old account.now) seen.now.intent (stores_of D.MaildirDisk F.FlatFile store.old) listing.now result
-        (stores_of D.MaildirDisk F.FlatFile store.new) }
+        × AfterTakingIn (stores_of D.MaildirDisk F.FlatFile store.old) (λ left. FindsIn (target_of store.old account.now) seen.now.intent
+        left listing.now result (stores_of D.MaildirDisk F.FlatFile store.new)) }
     ensures lasts { is_sound D.MaildirDisk F.FlatFile store.new → is_sure F.FlatFile store.old
         → OnOk result (IsSafeStore F.FlatFile store.new × AllStayIn D.MaildirDisk store.new) }
 {
@@ -337,9 +338,9 @@ fn prepare_by_store<D: MaildirDisk, F: FlatFile, H: BuildHasher>(
     ensures closed { OnOk result (seen.new.intent ≡ None) }
     ensures readies { is_sound D.MaildirDisk F.FlatFile store.new → F.sound file.new
         → is_sound D.MaildirDisk F.FlatFile store.old × F.sound file.old
-        × Readies terms.entry.settings.now (target_of store.old terms.entry.account.now) listing.now terms.entry.now
-        (stores_of D.MaildirDisk F.FlatFile store.old) (F.stored file.old) result seen.new.rows
-        (stores_of D.MaildirDisk F.FlatFile store.new) (F.stored file.new) }
+        × AfterTakingIn (stores_of D.MaildirDisk F.FlatFile store.old) (λ left. Readies terms.entry.settings.now
+        (target_of store.old terms.entry.account.now) listing.now terms.entry.now left (F.stored file.old) result seen.new.rows
+        (stores_of D.MaildirDisk F.FlatFile store.new) (F.stored file.new)) }
     ensures lasts { is_sound D.MaildirDisk F.FlatFile store.new → is_sure F.FlatFile store.old
         → OnOk result (IsSafeStore F.FlatFile store.new × AllStayIn D.MaildirDisk store.new) }
     ensures file_lasts { F.sound file.new → IsSafe F.FlatFile file.old → OnOk result (IsSafe F.FlatFile file.new) }
@@ -385,9 +386,9 @@ pub fn prepare<D: MaildirDisk, F: FlatFile, H: BuildHasher>(
     ensures closed { OnOk result (seen.new.intent ≡ None) }
     ensures readies { is_sound D.MaildirDisk F.FlatFile store.new → F.sound file.new
         → is_sound D.MaildirDisk F.FlatFile store.old × F.sound file.old
-        × Readies terms.entry.settings.now (target_of store.old terms.entry.account.now) listing.now terms.entry.now
-        (stores_of D.MaildirDisk F.FlatFile store.old) (F.stored file.old) result seen.new.rows
-        (stores_of D.MaildirDisk F.FlatFile store.new) (F.stored file.new) }
+        × AfterTakingIn (stores_of D.MaildirDisk F.FlatFile store.old) (λ left. Readies terms.entry.settings.now
+        (target_of store.old terms.entry.account.now) listing.now terms.entry.now left (F.stored file.old) result seen.new.rows
+        (stores_of D.MaildirDisk F.FlatFile store.new) (F.stored file.new)) }
     ensures lasts { is_sound D.MaildirDisk F.FlatFile store.new → is_sure F.FlatFile store.old
         → IfOk result (λ ready. All IsQuiet ready.steps.items
         ⊎ (IsSafeStore F.FlatFile store.new × AllStayIn D.MaildirDisk store.new)) }

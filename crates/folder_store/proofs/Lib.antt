@@ -4,6 +4,7 @@ mod MemoryLoss
 mod PowerLoss
 mod Lasting
 mod MailMoves
+mod MailLearns
 mod MailLooks
 mod MailBrings
 mod MailWriting

@@ -6,9 +6,9 @@ use Rattle.std.proofs.Math.Bool.{or-true}
 use Rattle.std.proofs.lemmas.List.{map-append, append-nil}
 use Rattle.mail_terms.specs.MaildirName.{base}
 use Rattle.mail_store.specs.declared.maildir.disk.Folder.TheVariants.{New}
-use Rattle.mail_store.specs.Maildir.{Maildir, File, Folders, file, mail, names_of}
+use Rattle.mail_store.specs.Maildir.{Maildir, File, Folders, IsPart, file, mail, names_of}
 use Rattle.folder_store.specs.MailFolders.{MailFile, Draft, Directories, KeepsFile, MovesFile, Each, Moved, mail_at, files_at, touches_new, maildir_in, content_made}
-use Rattle.folder_store.specs.MailPower.{AreLeftAs, IsLeftAs, LeavesMail, IsPart, StaysIn, OutlivesIn}
+use Rattle.folder_store.specs.MailPower.{AreLeftAs, IsLeftAs, LeavesMail, StaysIn, OutlivesIn}
 use Rattle.folder_store.specs.MailCalls.{Leads, Brings, Then, FlushesDraft, PutsIntoNew, put_as, IsUnknown, StandsIn, PutsForGood, FlushesNamesIn, named_by}
 use Rattle.folder_store.proofs.MailMoves.{moved_leads, same_mail, leaves_kept, leaves_on, each_same, same_keeps}
 use Rattle.folder_store.proofs.MailLooks.{flushes_leads}

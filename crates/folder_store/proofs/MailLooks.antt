@@ -1,5 +1,5 @@
 -- What a look at both folders tells.
-use Rattle.std.proofs.Common.{◌≡◌, inl, inr, ℕ, zero, suc, Bool, true, false, List, [], ◌∷◌, ◌++◌, map, get_or, Option, Result, Ok, Err, refl, sym, ap, subst, ◌∙◌, arith, String, Vec, string_bytes}
+use Rattle.std.proofs.Common.{◌≡◌, inl, inr, ℕ, zero, suc, Bool, true, false, List, [], ◌∷◌, ◌++◌, map, get_or, Option, Some, None, Result, Ok, Err, refl, sym, ap, subst, ◌∙◌, arith, String, Vec, string_bytes}
 use Rattle.std.specs.Prelude.{IsPermutation, IsTrue, ◌⊎◌, ◌||◌, Contains}
 use Rattle.std.specs.List.{AllByRecursion, filter}
 use Rattle.std.proofs.Math.Bool.{or-true}
@@ -12,10 +12,11 @@ use Rattle.mail_store.specs.declared.fault.StoreFault.TheVariants.{Missing, Refu
 use Rattle.mail_store.specs.declared.maildir.disk.Folder.{Folder}
 use Rattle.mail_store.specs.declared.maildir.disk.Folder.TheVariants.{New, Cur}
 use Rattle.mail_store.specs.Maildir.{File, Folders, bases_told, names_of, is_there, AreTheirs}
-use Rattle.folder_store.specs.MailFolders.{MailFile, Directories, MovesFile, Each, Moved, is_in, touches, files_at, name_at, is_in_new, is_in_cur, entries_in}
+use Rattle.folder_store.specs.MailFolders.{MailFile, Directories, MovesFile, Each, Moved, is_in, is_left, touches, files_at, name_at, is_in_new, is_in_cur, entries_in}
 use Rattle.folder_store.specs.MailPower.{AllNamed, StaysIn}
-use Rattle.folder_store.specs.MailCalls.{Leads, Then, Lacks, TellsRest, ChecksIn, LooksUpNew, ListsIn, FlushesNamesIn, ToldBoth, TellsOne, LooksAtBoth, listed, named_by}
-use Rattle.folder_store.proofs.MailMoves.{Near, moved_leads, flush_leads, listed_leads, leads_same, leads_on, near_new, near_moved, named_cur, named_moved, rests_new}
+use Rattle.folder_store.specs.MailCalls.{Leads, Learns, Then, TellsBoth, Lacks, TellsRest, ChecksIn, LooksUpNew, ListsIn, FlushesNamesIn, ToldBoth, TellsOne, LooksAtBoth, listed, named_by}
+use Rattle.folder_store.proofs.MailLearns.{learns_on, learns_same, leads_learns, left_twice, listed_learns, named_left}
+use Rattle.folder_store.proofs.MailMoves.{Near, moved_leads, flush_leads, leads_same, leads_on, near_new, near_moved, named_cur, named_moved, rests_new}
 
 -- ---- each call
 
@@ -40,9 +41,15 @@ pub has_leads : (name : List ℕ) (a b : Directories) (r : Result Bool StoreFaul
 has_leads name a b (Ok found) t = then_leads (LooksUpNew name (Ok found)) a b (λ m h. subst (λ (x : Directories). Leads m x) (sym h.1) (leads_same m)) t
 has_leads name a b (Err fault) t = then_leads (LooksUpNew name (Err fault)) a b (λ m h. subst (λ (x : Directories). Leads m x) (sym h) (leads_same m)) t
 
-pub lists_leads : {A B : Type 0} (folder : Folder) (a b : Directories) (r : Result (Vec (String A) B) StoreFault) → Then (ListsIn folder r) a b → Leads a b
-lists_leads folder a b (Ok names) t = then_leads (ListsIn folder (Ok names)) a b (λ m h. subst (λ (x : Directories). Leads m x) (sym h.2) (listed_leads folder m)) t
-lists_leads {A} {B} folder a b (Err fault) t = then_leads (ListsIn {A = A} {B = B} folder (Err fault)) a b (λ m h. lacks_leads m b folder fault h) t
+pub lists_learns : {A B : Type 0} (folder : Folder) (a b : Directories) (r : Result (Vec (String A) B) StoreFault) → Then (ListsIn folder r) a b → Learns a b
+lists_learns folder a b (Ok names) (m, v, (there, told, e)) =
+    learns_on a m b (leads_learns a m (moved_leads a m v)) (subst (λ (x : Directories). Learns m x) (sym e) (listed_learns folder m))
+lists_learns {A} {B} folder a b (Err fault) t =
+    leads_learns a b (then_leads (ListsIn {A = A} {B = B} folder (Err fault)) a b (λ m h. lacks_leads m b folder fault h) t)
+
+-- a call that told nothing of the files came after others
+pub leads_after : (a b c : Directories) → Learns a b → Leads b c → Learns a c
+leads_after a b c first then = learns_on a b c first (leads_learns b c then)
 
 flushed_leads : {T : Type 0} (folder : Folder) (m b : Directories) (r : Result T StoreFault) → FlushesNamesIn folder r m b → Leads m b
 flushed_leads folder m b (Ok done) h = subst (λ (x : Directories). Leads m x) (sym h) (flush_leads folder m)
@@ -61,21 +68,21 @@ gone : (there : Folders) (folder : Folder) → is_there there folder ≡ false �
 gone there New e = inl e
 gone there Cur e = inr e
 
-lacking : (A B : Type 0) (old a b : Directories) (folder : Folder) (fault : StoreFault) → Leads old a → Then (λ m x. Lacks m folder fault x) a b → LooksAtBoth {A = A} {B = B} old (Err fault) b
+lacking : (A B : Type 0) (old a b : Directories) (folder : Folder) (fault : StoreFault) → Learns old a → Then (λ m x. Lacks m folder fault x) a b → LooksAtBoth {A = A} {B = B} old (Err fault) b
 lacking A B old a b folder Missing led t = (
-  leads_on old a b led (then_leads (λ m x. Lacks m folder Missing x) a b (λ m h. lacks_leads m b folder Missing h) t),
+  leads_after old a b led (then_leads (λ m x. Lacks m folder Missing x) a b (λ m h. lacks_leads m b folder Missing h) t),
   subst (λ (x : Directories). (x.there.new ≡ false) ⊎ (x.there.cur ≡ false)) (sym t.2.1) (gone (t.0).there folder t.2.0),
 )
-lacking A B old a b folder Refused led t = leads_on old a b led (then_leads (λ m x. Lacks m folder Refused x) a b (λ m h. lacks_leads m b folder Refused h) t)
+lacking A B old a b folder Refused led t = leads_after old a b led (then_leads (λ m x. Lacks m folder Refused x) a b (λ m h. lacks_leads m b folder Refused h) t)
 lacking A B old a b folder NotMbox led t = absurd t.2
 lacking A B old a b folder NoMemory led t = absurd t.2
 
-not_flushed : (A B T : Type 0) (old a b : Directories) (folder : Folder) (fault : StoreFault) → Leads old a → Then (FlushesNamesIn {T = T} folder (Err fault)) a b → LooksAtBoth {A = A} {B = B} old (Err fault) b
+not_flushed : (A B T : Type 0) (old a b : Directories) (folder : Folder) (fault : StoreFault) → Learns old a → Then (FlushesNamesIn {T = T} folder (Err fault)) a b → LooksAtBoth {A = A} {B = B} old (Err fault) b
 not_flushed A B T old a b folder Missing led t = (
-  leads_on old a b led (flushes_leads {T = T} folder a b (Err Missing) t),
+  leads_after old a b led (flushes_leads {T = T} folder a b (Err Missing) t),
   subst (λ (x : Directories). (x.there.new ≡ false) ⊎ (x.there.cur ≡ false)) (sym t.2.1) (gone (t.0).there folder t.2.0),
 )
-not_flushed A B T old a b folder Refused led t = leads_on old a b led (flushes_leads {T = T} folder a b (Err Refused) t)
+not_flushed A B T old a b folder Refused led t = leads_after old a b led (flushes_leads {T = T} folder a b (Err Refused) t)
 not_flushed A B T old a b folder NotMbox led t = absurd t.2
 not_flushed A B T old a b folder NoMemory led t = absurd t.2
 
@@ -104,13 +111,14 @@ told_part ss names p =
     (IsPermutation-map base (map name_at ss) (map string_bytes names) p))
 
 pub told_both : {A : Type 0} (ss : List MailFile) (new cur : List (String A)) → IsPermutation (map name_at (entries_in New ss)) (map string_bytes new)
-    → IsPermutation (map name_at (entries_in Cur ss)) (map string_bytes cur) → IsPermutation (names_of (files_at ss)) (bases_told (new ++ cur))
+    → IsPermutation (map name_at (entries_in Cur ss)) (map string_bytes cur) → IsPermutation (names_of (files_at (filter is_left ss))) (bases_told (new ++ cur))
 told_both {A} ss new cur in_new in_cur =
-    let parts = IsPermutation-map title ss (entries_in New ss ++ entries_in Cur ss) (IsPermutation-filter_both is_in_new is_in_cur (λ s. refl) ss) in
+    let left = filter is_left ss in
+    let parts = IsPermutation-map title left (entries_in New ss ++ entries_in Cur ss) (IsPermutation-filter_both is_in_new is_in_cur (λ s. refl) left) in
     let both = IsPermutation-append (map title (entries_in New ss)) (bases_told new) (map title (entries_in Cur ss)) (bases_told cur)
     (told_part (entries_in New ss) new in_new) (told_part (entries_in Cur ss) cur in_cur) in
-    subst (λ (xs : List (List ℕ)). IsPermutation xs (bases_told (new ++ cur))) (titles_seen ss)
-    (IsPermutation-trans (map title ss) (map title (entries_in New ss ++ entries_in Cur ss)) (bases_told (new ++ cur)) parts
+    subst (λ (xs : List (List ℕ)). IsPermutation xs (bases_told (new ++ cur))) (titles_seen left)
+    (IsPermutation-trans (map title left) (map title (entries_in New ss ++ entries_in Cur ss)) (bases_told (new ++ cur)) parts
     (subst (λ (xs : List (List ℕ)). IsPermutation xs (bases_told (new ++ cur))) (sym (map-append title (entries_in New ss) (entries_in Cur ss)))
     (subst (λ (ys : List (List ℕ)). IsPermutation (map title (entries_in New ss) ++ map title (entries_in Cur ss)) ys)
     (sym (map-append (λ (name : String A). base (string_bytes name)) new cur)) both)))
@@ -140,7 +148,8 @@ looked {A} b0 b1 b2 b3 b4 b5 new cur done done' rests (m1, v1, s1) (m2, v2, s2) 
     still = subst (λ (b : Directories). Moved b m4) s3.2 v4
 
     in_new : map name_at (entries_in New m4.entries) ≡ map name_at (entries_in New m3.entries)
-    in_new = rests_new m3.entries m4.entries (still.rests New rested).1
+    in_new = rests_new (filter is_left m3.entries) m4.entries (still.rests New rested).1
+        ∙ ap (λ (ss : List MailFile). map name_at (filter is_in_new ss)) (left_twice m3.entries)
 
     near : AllNamed m3.entries
     near = named_moved b2.entries m3.entries v3.moves
@@ -154,7 +163,7 @@ looked {A} b0 b1 b2 b3 b4 b5 new cur done done' rests (m1, v1, s1) (m2, v2, s2) 
       cur_is_there = s4.0;
       lists = told_both m4.entries new.items cur.items
           (subst (λ (xs : List (List ℕ)). IsPermutation xs (map string_bytes new.items)) (sym in_new) s3.1) s4.1;
-      named = named_moved m3.entries m4.entries still.moves near;
+      named = named_left m4.entries (named_moved (filter is_left m3.entries) m4.entries still.moves (named_left m3.entries near));
     }
 
 -- ---- the names of one folder
@@ -186,9 +195,9 @@ listed_touch folder f each (s ∷ ss) name c = elim (cases_Bool (f s)) [
     by chosen more (zero, below, is) = inl (is, each s chosen)
     by chosen more (suc k, below, is) = inr (more (k, omega (arith, below), is))
 
-listed_touch_in : (folder : Folder) (ss : List MailFile) (name : List ℕ) → Contains (map title (entries_in folder ss)) name → Touches folder ss name
-listed_touch_in New ss name c = listed_touch New is_in_new (touches_in New) ss name c
-listed_touch_in Cur ss name c = listed_touch Cur is_in_cur (touches_in Cur) ss name c
+listed_touch_in : (folder : Folder) (ss : List MailFile) (name : List ℕ) → Contains (map title (entries_in folder ss)) name → Touches folder (filter is_left ss) name
+listed_touch_in New ss name c = listed_touch New is_in_new (touches_in New) (filter is_left ss) name c
+listed_touch_in Cur ss name c = listed_touch Cur is_in_cur (touches_in Cur) (filter is_left ss) name c
 
 still_touches : (folder : Folder) (s t : MailFile) → MovesFile s t → touches folder s ≡ true → touches folder t ≡ true
 still_touches New s t m e = m.new e
@@ -229,13 +238,13 @@ pub told_one : {A B T : Type 0} (folder : Folder) (b0 b1 b2 : Directories) (name
     → Then (ListsIn folder (Ok names)) b0 b1 → Then (FlushesNamesIn folder (Ok done)) b1 b2 → TellsOne b0 folder (Ok names) b2
 told_one {A} folder b0 b1 b2 names done l n = by l n
   where
-    led : Leads b0 b2
-    led = leads_on b0 b1 b2 (lists_leads folder b0 b1 (Ok names) l) (flushes_leads folder b1 b2 (Ok done) n)
+    led : Learns b0 b2
+    led = leads_after b0 b1 b2 (lists_learns folder b0 b1 (Ok names) l) (flushes_leads folder b1 b2 (Ok done) n)
 
-    same : (m : Directories) → (listed folder m).entries ≡ m.entries
+    same : (m : Directories) → (listed folder m).entries ≡ filter is_left m.entries
     same m = of_folder folder
       where
-        of_folder : (f : Folder) → (listed f m).entries ≡ m.entries
+        of_folder : (f : Folder) → (listed f m).entries ≡ filter is_left m.entries
         of_folder New = refl
         of_folder Cur = refl
 
@@ -248,11 +257,11 @@ told_one {A} folder b0 b1 b2 names done l n = by l n
 
     by : Then (ListsIn folder (Ok names)) b0 b1 → Then (FlushesNamesIn folder (Ok done)) b1 b2 → TellsOne b0 folder (Ok names) b2
     by (m1, v1, (there, p, e1)) (m2, v2, e2) =
-        let to_m2 : Each MovesFile m1.entries m2.entries =
+        let to_m2 : Each MovesFile (filter is_left m1.entries) m2.entries =
         subst (λ (ss : List MailFile). Each MovesFile ss m2.entries) (ap (λ (d : Directories). d.entries) e1 ∙ same m1) v2.moves in
         let stay : (name : List ℕ) → Contains (bases_told names.items) name → StaysIn b2.entries name = λ name c.
         subst (λ (d : Directories). StaysIn d.entries name) (sym e2)
-        (touches_stay folder m2.entries name (touches_moved folder m1.entries m2.entries name to_m2
+        (touches_stay folder m2.entries name (touches_moved folder (filter is_left m1.entries) m2.entries name to_m2
         (listed_touch_in folder m1.entries name
         (Contains-permutation (bases_told names.items) (map title (entries_in folder m1.entries)) name
         (IsPermutation-sym (map title (entries_in folder m1.entries)) (bases_told names.items) (told_part (entries_in folder m1.entries) names.items p)) c)))) in (
@@ -263,44 +272,68 @@ told_one {A} folder b0 b1 b2 names done l n = by l n
         )
 
 -- no name was told
-one_lacking : (A B : Type 0) (b0 b1 b2 : Directories) (folder : Folder) (fault : StoreFault) → Leads b0 b1 → Then (λ m x. Lacks m folder fault x) b1 b2
+one_lacking : (A B : Type 0) (b0 b1 b2 : Directories) (folder : Folder) (fault : StoreFault) → Learns b0 b1 → Then (λ m x. Lacks m folder fault x) b1 b2
     → TellsOne {A = A} {B = B} b0 folder (Err fault) b2
 one_lacking A B b0 b1 b2 folder Missing led t = (
-  leads_on b0 b1 b2 led (then_leads (λ m x. Lacks m folder Missing x) b1 b2 (λ m h. lacks_leads m b2 folder Missing h) t),
+  leads_after b0 b1 b2 led (then_leads (λ m x. Lacks m folder Missing x) b1 b2 (λ m h. lacks_leads m b2 folder Missing h) t),
   subst (λ (x : Directories). is_there x.there folder ≡ false) (sym t.2.1) t.2.0,
 )
-one_lacking A B b0 b1 b2 folder Refused led t = leads_on b0 b1 b2 led (then_leads (λ m x. Lacks m folder Refused x) b1 b2 (λ m h. lacks_leads m b2 folder Refused h) t)
+one_lacking A B b0 b1 b2 folder Refused led t = leads_after b0 b1 b2 led (then_leads (λ m x. Lacks m folder Refused x) b1 b2 (λ m h. lacks_leads m b2 folder Refused h) t)
 one_lacking A B b0 b1 b2 folder NotMbox led t = absurd t.2
 one_lacking A B b0 b1 b2 folder NoMemory led t = absurd t.2
 
-one_unflushed : (A B T : Type 0) (b0 b1 b2 : Directories) (folder : Folder) (fault : StoreFault) → Leads b0 b1 → Then (FlushesNamesIn {T = T} folder (Err fault)) b1 b2
+one_unflushed : (A B T : Type 0) (b0 b1 b2 : Directories) (folder : Folder) (fault : StoreFault) → Learns b0 b1 → Then (FlushesNamesIn {T = T} folder (Err fault)) b1 b2
     → TellsOne {A = A} {B = B} b0 folder (Err fault) b2
 one_unflushed A B T b0 b1 b2 folder Missing led t = (
-  leads_on b0 b1 b2 led (flushes_leads {T = T} folder b1 b2 (Err Missing) t),
+  leads_after b0 b1 b2 led (flushes_leads {T = T} folder b1 b2 (Err Missing) t),
   subst (λ (x : Directories). is_there x.there folder ≡ false) (sym t.2.1) t.2.0,
 )
-one_unflushed A B T b0 b1 b2 folder Refused led t = leads_on b0 b1 b2 led (flushes_leads {T = T} folder b1 b2 (Err Refused) t)
+one_unflushed A B T b0 b1 b2 folder Refused led t = leads_after b0 b1 b2 led (flushes_leads {T = T} folder b1 b2 (Err Refused) t)
 one_unflushed A B T b0 b1 b2 folder NotMbox led t = absurd t.2
 one_unflushed A B T b0 b1 b2 folder NoMemory led t = absurd t.2
 
 pub one_lacked : {A B : Type 0} (b0 b1 : Directories) (folder : Folder) (fault : StoreFault) (r : Result (Vec (String A) B) StoreFault) → r ≡ Err fault
     → Then (λ m x. Lacks m folder fault x) b0 b1 → TellsOne b0 folder r b1
 one_lacked {A} {B} b0 b1 folder fault r is t =
-    subst (λ (r : Result (Vec (String A) B) StoreFault). TellsOne b0 folder r b1) (sym is) (one_lacking A B b0 b0 b1 folder fault (leads_same b0) t)
+    subst (λ (r : Result (Vec (String A) B) StoreFault). TellsOne b0 folder r b1) (sym is) (one_lacking A B b0 b0 b1 folder fault (learns_same b0) t)
 
 pub one_not_flushed : {A B : Type 0} (b0 b1 b2 : Directories) (folder : Folder) (fault : StoreFault) (r : Result (Vec (String A) B) StoreFault) → r ≡ Err fault
-    → Leads b0 b1 → Then (FlushesNamesIn {T = Unit {0}} folder (Err fault)) b1 b2 → TellsOne b0 folder r b2
+    → Learns b0 b1 → Then (FlushesNamesIn {T = Unit {0}} folder (Err fault)) b1 b2 → TellsOne b0 folder r b2
 one_not_flushed {A} {B} b0 b1 b2 folder fault r is led t =
     subst (λ (r : Result (Vec (String A) B) StoreFault). TellsOne b0 folder r b2) (sym is) (one_unflushed A B (Unit {0}) b0 b1 b2 folder fault led t)
 
 -- ---- a call that answered a fault
 
 pub lacked : {A B : Type 0} (old a b : Directories) (folder : Folder) (fault : StoreFault) (r : Result (Option (Vec (String A) B)) StoreFault) → r ≡ Err fault
-    → Leads old a → Then (λ m x. Lacks m folder fault x) a b → LooksAtBoth old r b
+    → Learns old a → Then (λ m x. Lacks m folder fault x) a b → LooksAtBoth old r b
 lacked {A} {B} old a b folder fault r is led t =
     subst (λ (r : Result (Option (Vec (String A) B)) StoreFault). LooksAtBoth old r b) (sym is) (lacking A B old a b folder fault led t)
 
 pub unflushed : {A B : Type 0} (old a b : Directories) (folder : Folder) (fault : StoreFault) (r : Result (Option (Vec (String A) B)) StoreFault) → r ≡ Err fault
-    → Leads old a → Then (FlushesNamesIn {T = Unit {0}} folder (Err fault)) a b → LooksAtBoth old r b
+    → Learns old a → Then (FlushesNamesIn {T = Unit {0}} folder (Err fault)) a b → LooksAtBoth old r b
 unflushed {A} {B} old a b folder fault r is led t =
     subst (λ (r : Result (Option (Vec (String A) B)) StoreFault). LooksAtBoth old r b) (sym is) (not_flushed A B (Unit {0}) old a b folder fault led t)
+
+-- ---- looks again and again
+
+-- others may have moved files before a look that was refused
+pub told_none : {A B : Type 0} (a b c : Directories) (fault : StoreFault) (r : Result (Vec (String A) B) StoreFault) → r ≡ Err fault
+    → Learns a b → LooksAtBoth {A = A} {B = B} b (Err fault) c → TellsBoth a r c
+told_none {A} {B} a b c fault r is before look =
+    subst (λ (r : Result (Vec (String A) B) StoreFault). TellsBoth a r c) (sym is) (by fault look)
+  where
+    by : (f : StoreFault) → LooksAtBoth {A = A} {B = B} b (Err f) c → TellsBoth {A = A} {B = B} a (Err f) c
+    by Missing look = (learns_on a b c before look.0, look.1)
+    by Refused look = learns_on a b c before look
+    by NotMbox look = absurd look
+    by NoMemory look = absurd look
+
+pub told_some : {A B : Type 0} (a b c : Directories) (o : Option (Vec (String A) B)) (names : Vec (String A) B) → o ≡ Some names
+    → Learns a b → LooksAtBoth b (Ok o) c → Learns a c × ToldBoth names.items c
+told_some {A} {B} a b c o names is before look =
+    let told = subst (λ (o : Option (Vec (String A) B)). LooksAtBoth b (Ok o) c) is look in (learns_on a b c before told.0, told.1)
+
+-- a look told the names, or `new` changed meanwhile
+pub looked_on : {A B : Type 0} (a b c : Directories) (o : Option (Vec (String A) B)) → Learns a b → LooksAtBoth b (Ok o) c → Learns a c
+looked_on a b c None before look = learns_on a b c before look
+looked_on a b c (Some names) before look = learns_on a b c before look.0

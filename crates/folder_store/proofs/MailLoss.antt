@@ -71,6 +71,7 @@ kept_left s = record {
   flushed = refl;
   named = refl;
   firm = (refl, refl);
+  gone = λ here. here;
 }
 
 all_kept : (ss : List MailFile) → (left : List MailFile) × AreLeftAs ss left

@@ -8,10 +8,10 @@ use Rattle.std.proofs.lemmas.List.{append-nil}
 use Rattle.mail_terms.specs.MaildirName.{base}
 use Rattle.mail_store.specs.declared.maildir.disk.Folder.{Folder}
 use Rattle.mail_store.specs.declared.maildir.disk.Folder.TheVariants.{New, Cur}
-use Rattle.mail_store.specs.Maildir.{Maildir, File, Folders, file, names_of}
+use Rattle.mail_store.specs.Maildir.{Maildir, File, Folders, IsPart, file, names_of, with_files}
 use Rattle.folder_store.specs.MailFolders.{MailFile, Draft, Directories, KeepsFile, MovesFile, RestsFile, Each, Moved, mail_at, files_at, name_at, entries_in, touches_new, touches_cur, maildir_in, content_made}
-use Rattle.folder_store.specs.MailPower.{AreLeftAs, IsLeftAs, LeavesMail, IsPart, StaysIn, OutlivesIn, AllNamed}
-use Rattle.folder_store.specs.MailCalls.{Leads, named_by, names_flushed_in, listed}
+use Rattle.folder_store.specs.MailPower.{AreLeftAs, IsLeftAs, LeavesMail, StaysIn, OutlivesIn, AllNamed}
+use Rattle.folder_store.specs.MailCalls.{Leads, named_by, names_flushed_in}
 
 -- ---- files that keep their names up to the colon and their bytes
 
@@ -39,7 +39,7 @@ outlives_kept (s ∷ ss) (t ∷ ts) h f (inr is) = inr (outlives_kept ss ts h.1 
 
 -- what a loss of power leaves of a file could be left of it before, where it was
 abbrev where_it_was : MailFile → MailFile → MailFile
-where_it_was s u = record u { is_new = s.is_new }
+where_it_was s u = record u { is_new = s.is_new; is_gone = s.is_gone }
 
 left_before : (s t u : MailFile) → KeepsFile s t → IsLeftAs t u → IsLeftAs s (where_it_was s u)
 left_before s t u k l = record {
@@ -50,6 +50,7 @@ left_before s t u k l = record {
   flushed = l.flushed;
   named = l.named;
   firm = l.firm;
+  gone = λ here. here;
 }
 
 not_named : (s t : MailFile) → KeepsFile s t → t.is_named ≡ false → s.is_named ≡ false
@@ -99,7 +100,7 @@ keeps_leads a b there made keeps = record {
   leaves = leaves_kept a b there keeps;
 }
 
--- ---- others' moves, flushes of names, and listings
+-- ---- others' moves, and flushes of names
 
 each_keeps : (a b : List MailFile) → Each MovesFile a b → Each KeepsFile a b
 each_keeps [] [] h = tt
@@ -135,10 +136,6 @@ each_same Does same (s ∷ ss) = (same s, each_same Does same ss)
 pub leads_same : (a : Directories) → Leads a a
 leads_same a = keeps_leads a a refl refl (each_same KeepsFile same_keeps a.entries)
 
-pub listed_leads : (folder : Folder) (a : Directories) → Leads a (listed folder a)
-listed_leads New a = keeps_leads a (listed New a) refl refl (each_same KeepsFile same_keeps a.entries)
-listed_leads Cur a = keeps_leads a (listed Cur a) refl refl (each_same KeepsFile same_keeps a.entries)
-
 -- ---- one after another
 
 pub part_on : (xs ys p q : List File) → IsPart xs p → IsPart ys q → IsPart (xs ++ ys) (p ++ q)
@@ -168,27 +165,26 @@ leads_on a b c first then = record {
   leaves = leaves_on a b c [] [] first.leaves then.leaves;
 }
 
--- the Maildir is as it was
-pub leads_maildir : (a b : Directories) (begun : Option (List ℕ)) (n : ℕ) → Leads a b → maildir_in b begun n ≡ maildir_in a begun n
-leads_maildir a b begun n l =
+-- the Maildir is as it was, with these files
+pub leads_maildir_but : (a b : Directories) (begun : Option (List ℕ)) (n : ℕ) → b.there ≡ a.there → b.made ≡ a.made
+    → maildir_in b begun n ≡ with_files (files_at b.entries) (maildir_in a begun n)
+leads_maildir_but a b begun n there made =
     ap (λ (t : Folders). let m : Maildir = record {
       there = t;
       files = files_at b.entries;
       begun = option_map (λ (name : List ℕ). file name (content_made b.made)) begun;
       failures = n;
-    } in m) l.there
-    ∙ ap (λ (fs : List File). let m : Maildir = record {
-      there = a.there;
-      files = fs;
-      begun = option_map (λ (name : List ℕ). file name (content_made b.made)) begun;
-      failures = n;
-    } in m) l.files
+    } in m) there
     ∙ ap (λ (d : Option Draft). let m : Maildir = record {
       there = a.there;
-      files = files_at a.entries;
+      files = files_at b.entries;
       begun = option_map (λ (name : List ℕ). file name (content_made d)) begun;
       failures = n;
-    } in m) l.made
+    } in m) made
+
+pub leads_maildir : (a b : Directories) (begun : Option (List ℕ)) (n : ℕ) → Leads a b → maildir_in b begun n ≡ maildir_in a begun n
+leads_maildir a b begun n l =
+    leads_maildir_but a b begun n l.there l.made ∙ ap (λ (fs : List File). with_files fs (maildir_in a begun n)) l.files
 
 -- ---- names on the disk
 
@@ -236,13 +232,35 @@ named_stays (s ∷ ss) name named c = by (named_stays ss name named.1) c.0 c.1 c
 
 -- ---- `new` at rest
 
-pub rests_new : (a b : List MailFile) → Each (RestsFile New) a b → map name_at (entries_in New b) ≡ map name_at (entries_in New a)
+new_stays : (s : MailFile) (ss : List MailFile) → s.is_gone ≡ false → s.is_new ≡ true → entries_in New (s ∷ ss) ≡ s ∷ entries_in New ss
+new_stays s ss here new = rw here (rw new refl)
+
+gone_left : (s : MailFile) (ss : List MailFile) → s.is_gone ≡ true → entries_in New (s ∷ ss) ≡ entries_in New ss
+gone_left s ss gone = rw gone refl
+
+not_new_left : (s : MailFile) (ss : List MailFile) → s.is_new ≡ false → entries_in New (s ∷ ss) ≡ entries_in New ss
+not_new_left s ss out = by (cases_Bool s.is_gone)
+  where
+    by : (s.is_gone ≡ true) ⊎ (s.is_gone ≡ false) → entries_in New (s ∷ ss) ≡ entries_in New ss
+    by (inl gone) = gone_left s ss gone
+    by (inr here) = rw here (rw out refl)
+
+abbrev SameNames : List MailFile → List MailFile → Type 0
+SameNames ss ts = map name_at ts ≡ map name_at ss
+
+rests_one : (s t : MailFile) (ss ts : List MailFile) → RestsFile New s t → SameNames (entries_in New ss) (entries_in New ts)
+    → SameNames (entries_in New (s ∷ ss)) (entries_in New (t ∷ ts))
+rests_one s t ss ts r rest = by (cases_Bool s.is_new) (cases_Bool s.is_gone)
+  where
+    by : (s.is_new ≡ true) ⊎ (s.is_new ≡ false) → (s.is_gone ≡ true) ⊎ (s.is_gone ≡ false) → SameNames (entries_in New (s ∷ ss)) (entries_in New (t ∷ ts))
+    by (inr out) gone = ap (map name_at) (not_new_left t ts (r.place ∙ out)) ∙ rest ∙ ap (map name_at) (sym (not_new_left s ss out))
+    by (inl new) (inl gone) = ap (map name_at) (gone_left t ts (r.gone new ∙ gone)) ∙ rest ∙ ap (map name_at) (sym (gone_left s ss gone))
+    by (inl new) (inr here) =
+        ap (map name_at) (new_stays t ts (r.gone new ∙ here) (r.place ∙ new)) ∙ ap (λ (n : List ℕ). n ∷ map name_at (entries_in New ts)) (r.name new)
+        ∙ ap (λ (ns : List (List ℕ)). s.name ∷ ns) rest ∙ ap (map name_at) (sym (new_stays s ss here new))
+
+pub rests_new : (a b : List MailFile) → Each (RestsFile New) a b → SameNames (entries_in New a) (entries_in New b)
 rests_new [] [] h = refl
 rests_new [] (t ∷ ts) h = absurd h
 rests_new (s ∷ ss) [] h = absurd h
-rests_new (s ∷ ss) (t ∷ ts) h = by (rests_new ss ts h.1) s.is_new refl
-  where
-    by : map name_at (entries_in New ts) ≡ map name_at (entries_in New ss) → (b : Bool) → s.is_new ≡ b
-        → map name_at (entries_in New (t ∷ ts)) ≡ map name_at (entries_in New (s ∷ ss))
-    by rest true e = let name = h.0.name e in let there = h.0.place in grind (arith, e, there, name, rest)
-    by rest false e = let there = h.0.place in grind (arith, e, there, rest)
+rests_new (s ∷ ss) (t ∷ ts) h = rests_one s t ss ts h.0 (rests_new ss ts h.1)

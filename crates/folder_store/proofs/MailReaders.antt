@@ -9,7 +9,7 @@ pub same_moves : (s : MailFile) → MovesFile s s
 same_moves s = record { keeps = same_keeps s; new = λ h. h; cur = λ h. h }
 
 pub same_rests : (folder : Folder) (s : MailFile) → RestsFile folder s s
-same_rests folder s = record { place = refl; name = λ h. refl }
+same_rests folder s = record { place = refl; name = λ h. refl; gone = λ h. refl }
 
 pub rest : (b : Directories) → Moved b b
 rest b = record {
@@ -55,7 +55,11 @@ still_in New s t e h = e ∙ h
 still_in Cur s t e h = ap (λ (b : Bool). not b) e ∙ h
 
 rests_on : (folder : Folder) (s t u : MailFile) → RestsFile folder s t → RestsFile folder t u → RestsFile folder s u
-rests_on folder s t u a b = record { place = b.place ∙ a.place; name = λ h. b.name (still_in folder s t a.place h) ∙ a.name h }
+rests_on folder s t u a b = record {
+  place = b.place ∙ a.place;
+  name = λ h. b.name (still_in folder s t a.place h) ∙ a.name h;
+  gone = λ h. b.gone (still_in folder s t a.place h) ∙ a.gone h;
+}
 
 each_on : (Does : MailFile → MailFile → Type 0) → ((s t u : MailFile) → Does s t → Does t u → Does s u) → (ss ts us : List MailFile) → Each Does ss ts → Each Does ts us → Each Does ss us
 each_on Does on [] [] [] a b = tt

@@ -1,15 +1,16 @@
 -- The folders of a Maildir in memory.
 use Rattle.std.proofs.Common.{◌≡◌, inl, inr, ℕ, zero, suc, ◌+◌, ◌<◌, Bool, true, false, not, List, [], ◌∷◌, ◌++◌, length, take, map, get_or, set, Option, Some, None, refl, sym, ap, subst, ◌∙◌, arith, String, Global, string_bytes}
-use Rattle.std.specs.Prelude.{Contains, if◌then◌else◌}
+use Rattle.std.specs.Prelude.{Contains, if◌then◌else◌, ◌&&◌}
 use Rattle.std.specs.List.{filter}
 use Rattle.std.proofs.Math.Seq.{take-suc}
 use Rattle.std.proofs.lemmas.Bool.{true≢false}
 use Rattle.std.proofs.lemmas.List.{append-nil, map-append, get_or-map, length-map}
+use Rattle.std.proofs.lemmas.List.Elements.{filter-append}
 use Rattle.mail_store.specs.declared.maildir.disk.Folder.{Folder}
 use Rattle.mail_store.specs.declared.maildir.disk.Folder.TheVariants.{New, Cur}
 use Rattle.mail_store.specs.Maildir.{all_there}
 use Rattle.folder_store.specs.declared.memory_folders.KeptMail.{KeptMail}
-use Rattle.folder_store.specs.MailFolders.{Draft, MailFile, Directories, MovesFile, RestsFile, Each, Moved, entries_in, is_in, is_in_new, is_in_cur, name_at, rests_in}
+use Rattle.folder_store.specs.MailFolders.{Draft, MailFile, Directories, MovesFile, RestsFile, Each, Moved, entries_in, is_in, is_in_new, is_in_cur, is_left, is_told, name_at, rests_in}
 use Rattle.folder_store.specs.MailPower.{AreLeftAs}
 use Rattle.folder_store.specs.MemoryFolders.{MayBeLeftAs, list_of, mail_file}
 use Rattle.folder_store.proofs.MailMoves.{each_same}
@@ -50,17 +51,28 @@ names_on f (x ∷ ss) s = by (f x) refl (names_on f ss s)
     by true e h = rw e (ap (λ (ns : List (List ℕ)). x.name ∷ ns) h)
     by false e h = rw e h
 
+-- one more file came after others, or none did
+told_end : (f : MailFile → Bool) (ss : List MailFile) (s : MailFile) (b : Bool)
+    → map name_at (filter f (ss ++ (if b then s ∷ [] else []))) ≡ map name_at (filter f ss) ++ (if b && f s then s.name ∷ [] else [])
+told_end f ss s true = names_on f ss s
+told_end f ss s false = ap (λ (ts : List MailFile). map name_at (filter f ts)) (append-nil ss) ∙ sym (append-nil (map name_at (filter f ss)))
+
+told_on : (f : MailFile → Bool) (ss : List MailFile) (s : MailFile)
+    → map name_at (filter f (filter is_left (ss ++ s ∷ []))) ≡ map name_at (filter f (filter is_left ss)) ++ (if is_left s && f s then s.name ∷ [] else [])
+told_on f ss s =
+    ap (λ (ts : List MailFile). map name_at (filter f ts)) (filter-append is_left ss (s ∷ [])) ∙ told_end f (filter is_left ss) s (is_left s)
+
 names_in_on : (folder : Folder) (ss : List MailFile) (s : MailFile)
-    → map name_at (entries_in folder (ss ++ s ∷ [])) ≡ map name_at (entries_in folder ss) ++ (if is_in folder s then s.name ∷ [] else [])
-names_in_on New ss s = names_on is_in_new ss s
-names_in_on Cur ss s = names_on is_in_cur ss s
+    → map name_at (entries_in folder (ss ++ s ∷ [])) ≡ map name_at (entries_in folder ss) ++ (if is_told folder s then s.name ∷ [] else [])
+names_in_on New ss s = told_on is_in_new ss s
+names_in_on Cur ss s = told_on is_in_cur ss s
 
 pub names_next : (folder : Folder) (files : List KeptMail) (i : ℕ) (x : KeptMail) (before now : List (String Global)) → i < length files → x ≡ get_or files i x
     → map string_bytes before ≡ map name_at (entries_in folder (map mail_file (take i files)))
-    → map string_bytes now ≡ map string_bytes before ++ (if is_in folder (mail_file x) then string_bytes x.name ∷ [] else [])
+    → map string_bytes now ≡ map string_bytes before ++ (if is_told folder (mail_file x) then string_bytes x.name ∷ [] else [])
     → map string_bytes now ≡ map name_at (entries_in folder (map mail_file (take (i + 1) files)))
 names_next folder files i x before now below is h more =
-    more ∙ ap (λ (ns : List (List ℕ)). ns ++ (if is_in folder (mail_file x) then string_bytes x.name ∷ [] else [])) h
+    more ∙ ap (λ (ns : List (List ℕ)). ns ++ (if is_told folder (mail_file x) then string_bytes x.name ∷ [] else [])) h
     ∙ sym (names_in_on folder (map mail_file (take i files)) (mail_file x))
     ∙ ap (λ (ss : List MailFile). map name_at (entries_in folder ss)) (sym (files_next files i x below is))
 
@@ -98,12 +110,17 @@ abbrev Rested : Bool → Bool → Bool → Bool → Type 0
 Rested now rests was is = now ≡ true → (rests ≡ true) × (was ≡ false) × (is ≡ false)
 
 not_in_new : (s t : MailFile) → s.is_new ≡ false → t.is_new ≡ false → RestsFile New s t
-not_in_new s t was is = record { place = is ∙ sym was; name = λ new. absurd (true≢false (sym new ∙ was)) }
+not_in_new s t was is = record {
+  place = is ∙ sym was;
+  name = λ new. absurd (true≢false (sym new ∙ was));
+  gone = λ new. absurd (true≢false (sym new ∙ was));
+}
 
 not_in_cur : (s t : MailFile) → not s.is_new ≡ false → not t.is_new ≡ false → RestsFile Cur s t
 not_in_cur s t was is = record {
   place = by s.is_new t.is_new was is;
   name = λ cur. absurd (true≢false (sym cur ∙ was));
+  gone = λ cur. absurd (true≢false (sym cur ∙ was));
 }
   where
     by : (a b : Bool) → not a ≡ false → not b ≡ false → b ≡ a
@@ -129,3 +146,17 @@ file_moves files i x y new new' cur cur' made below is moves in_new in_cur = rec
     rest_of Cur quiet =
         let r = in_cur quiet in
         (r.0, each_set (RestsFile Cur) (same_rests Cur) files i x y below is (not_in_cur (mail_file x) (mail_file y) r.1 r.2))
+
+-- ---- files that the reader took away
+
+abbrev pub is_kept : KeptMail → Bool
+is_kept k = not k.is_gone
+
+pub left_files : (files : List KeptMail) → map mail_file (filter is_kept files) ≡ filter is_left (map mail_file files)
+left_files [] = refl
+left_files (k ∷ files) = by k.is_gone refl (left_files files)
+  where
+    by : (b : Bool) → k.is_gone ≡ b → map mail_file (filter is_kept files) ≡ filter is_left (map mail_file files)
+        → map mail_file (filter is_kept (k ∷ files)) ≡ filter is_left (map mail_file (k ∷ files))
+    by true e rest = rw e rest
+    by false e rest = grind (arith, e, rest)

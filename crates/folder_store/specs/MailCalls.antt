@@ -1,15 +1,15 @@
 -- What each call does to the folders of a Maildir, once others have moved files.
 use Rattle.std.specs.Prelude.{◌≡◌, ◌≢◌, ◌⊎◌, ◌||◌, ◌↔◌, ℕ, Bool, true, false, IsTrue, List, [], ◌∷◌, ◌++◌, map, Option, Some, None, Result, Ok, Err, Vec, String, string_bytes, IsPermutation, Contains}
-use Rattle.std.specs.List.{AllByRecursion}
+use Rattle.std.specs.List.{AllByRecursion, filter}
 use Rattle.mail_terms.specs.MaildirName.{base}
 use Rattle.mail_store.specs.declared.fault.StoreFault.{StoreFault}
 use Rattle.mail_store.specs.declared.fault.StoreFault.TheVariants.{Missing, Refused, NotMbox, NoMemory}
 use Rattle.mail_store.specs.declared.maildir.disk.Folder.{Folder}
 use Rattle.mail_store.specs.declared.maildir.disk.Folder.TheVariants.{New, Cur}
-use Rattle.mail_store.specs.Maildir.{File, mail, bases_told, names_of, is_there, AreTheirs}
-use Rattle.mail_store.specs.Power.{KeepsMail, ToldStay}
-use Rattle.folder_store.specs.MailFolders.{Directories, MailFile, Draft, Moved, files_at, name_at, entries_in, rests_in, touches_new, touches_cur}
-use Rattle.folder_store.specs.MailPower.{AllNamed, StaysIn, OutlivesIn, LeavesMail}
+use Rattle.mail_store.specs.Maildir.{File, IsPart, mail, bases_told, names_of, is_there, AreTheirs}
+use Rattle.mail_store.specs.Power.{KeepsLeft, KeepsMail, ToldStay}
+use Rattle.folder_store.specs.MailFolders.{Directories, MailFile, Draft, Moved, files_at, is_left, name_at, entries_in, rests_in, touches_new, touches_cur}
+use Rattle.folder_store.specs.MailPower.{AllNamed, StaysIn, OutlivesIn, LeavesMail, LeavesSome}
 
 -- others moved files, and then the call did this
 abbrev pub Then : (Directories → Directories → Type 0) → Directories → Directories → Type 0
@@ -26,10 +26,10 @@ Lacks old folder Refused new = new ≡ old
 Lacks old folder NotMbox new = ⊥
 Lacks old folder NoMemory new = ⊥
 
--- a folder was listed, and has rested since
+-- a folder was listed, and has rested since; files that readers took away are known no longer
 abbrev pub listed : Folder → Directories → Directories
-listed New d = record d { new_rests = true }
-listed Cur d = record d { cur_rests = true }
+listed New d = record d { entries = filter is_left d.entries; new_rests = true }
+listed Cur d = record d { entries = filter is_left d.entries; cur_rests = true }
 
 -- `check`: the folder is there
 abbrev pub ChecksIn : {T : Type 0} → Folder → Result T StoreFault → Directories → Directories → Type 0
@@ -85,6 +85,7 @@ put_as name d = record {
   is_named = false;
   left_new = false;
   left_cur = false;
+  is_gone = false;
 }
 
 -- no file of `new` has the name
@@ -137,6 +138,15 @@ pub record Leads (old new : Directories) : Type 0 where
   pub keeps : KeepsMail (StaysIn old.entries) (OutlivesIn old.entries) (StaysIn new.entries) (OutlivesIn new.entries)
   pub leaves : LeavesMail old [] new
 
+-- the same, but files that readers took away may be known no longer
+pub record Learns (old new : Directories) : Type 0 where
+  pub there : new.there ≡ old.there
+  pub made : new.made ≡ old.made
+  pub files : IsPart (files_at old.entries) (files_at new.entries)
+  pub keeps : KeepsLeft (files_at old.entries) (files_at new.entries) (StaysIn old.entries) (OutlivesIn old.entries)
+      (StaysIn new.entries) (OutlivesIn new.entries)
+  pub leaves : LeavesSome old new
+
 -- the names of both folders at one moment, each of a file that has a name on the disk
 pub record ToldBoth {A : Type 0} (names : List (String A)) (d : Directories) : Type 0 where
   pub new_is_there : d.there.new ≡ true
@@ -146,18 +156,18 @@ pub record ToldBoth {A : Type 0} (names : List (String A)) (d : Directories) : T
 
 -- a look at both folders: None if `new` changed meanwhile
 abbrev pub LooksAtBoth : {A B : Type 0} → Directories → Result (Option (Vec (String A) B)) StoreFault → Directories → Type 0
-LooksAtBoth old (Ok None) new = Leads old new
-LooksAtBoth old (Ok (Some names)) new = Leads old new × ToldBoth names.items new
-LooksAtBoth old (Err Missing) new = Leads old new × ((new.there.new ≡ false) ⊎ (new.there.cur ≡ false))
-LooksAtBoth old (Err Refused) new = Leads old new
+LooksAtBoth old (Ok None) new = Learns old new
+LooksAtBoth old (Ok (Some names)) new = Learns old new × ToldBoth names.items new
+LooksAtBoth old (Err Missing) new = Learns old new × ((new.there.new ≡ false) ⊎ (new.there.cur ≡ false))
+LooksAtBoth old (Err Refused) new = Learns old new
 LooksAtBoth old (Err NotMbox) new = ⊥
 LooksAtBoth old (Err NoMemory) new = ⊥
 
 -- the names of both folders were told
 abbrev pub TellsBoth : {A B : Type 0} → Directories → Result (Vec (String A) B) StoreFault → Directories → Type 0
-TellsBoth old (Ok names) new = Leads old new × ToldBoth names.items new
-TellsBoth old (Err Missing) new = Leads old new × ((new.there.new ≡ false) ⊎ (new.there.cur ≡ false))
-TellsBoth old (Err Refused) new = Leads old new
+TellsBoth old (Ok names) new = Learns old new × ToldBoth names.items new
+TellsBoth old (Err Missing) new = Learns old new × ((new.there.new ≡ false) ⊎ (new.there.cur ≡ false))
+TellsBoth old (Err Refused) new = Learns old new
 TellsBoth old (Err NotMbox) new = ⊥
 TellsBoth old (Err NoMemory) new = ⊥
 
@@ -165,10 +175,10 @@ TellsBoth old (Err NoMemory) new = ⊥
 -- one, and stays
 abbrev pub TellsOne : {A B : Type 0} → Directories → Folder → Result (Vec (String A) B) StoreFault → Directories → Type 0
 TellsOne old folder (Ok names) new =
-    Leads old new × (is_there new.there folder ≡ true) × AreTheirs (files_at new.entries) names.items
+    Learns old new × (is_there new.there folder ≡ true) × AreTheirs (files_at new.entries) names.items
     × ToldStay (Ok names) (StaysIn new.entries)
-TellsOne old folder (Err Missing) new = Leads old new × (is_there new.there folder ≡ false)
-TellsOne old folder (Err Refused) new = Leads old new
+TellsOne old folder (Err Missing) new = Learns old new × (is_there new.there folder ≡ false)
+TellsOne old folder (Err Refused) new = Learns old new
 TellsOne old folder (Err NotMbox) new = ⊥
 TellsOne old folder (Err NoMemory) new = ⊥
 

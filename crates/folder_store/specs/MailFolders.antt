@@ -1,5 +1,5 @@
--- The folders `new` and `cur` of a Maildir, in which mail readers move files at any moment.
-use Rattle.std.specs.Prelude.{◌≡◌, ◌||◌, ℕ, Bool, true, false, not, List, [], ◌∷◌, ◌++◌, map, Option, Some, None, option_map}
+-- The folders `new` and `cur` of a Maildir, in which mail readers move files, and from which they take files away, at any moment.
+use Rattle.std.specs.Prelude.{◌≡◌, ◌||◌, ◌&&◌, ℕ, Bool, true, false, not, List, [], ◌∷◌, ◌++◌, map, Option, Some, None, option_map}
 use Rattle.std.specs.List.{filter}
 use Rattle.mail_terms.specs.MaildirName.{base}
 use Rattle.mail_store.specs.declared.maildir.disk.Folder.{Folder}
@@ -7,8 +7,9 @@ use Rattle.mail_store.specs.declared.maildir.disk.Folder.TheVariants.{New, Cur}
 use Rattle.mail_store.specs.Maildir.{Maildir, File, Folders, file, mail}
 
 -- a file of one of the two folders: whether it is in `new`, its name with its marks, and its bytes; whether its
--- bytes are on the disk, and whether some name of it in one of the folders is; and whether it left `new`, or `cur`,
--- since the names of that folder were last flushed
+-- bytes are on the disk, and whether some name of it in one of the folders is; whether it left `new`, or `cur`,
+-- since the names of that folder were last flushed; and whether a reader took it away, after which it is known until
+-- a folder is listed
 pub record MailFile : Type 0 where
   pub is_new : Bool
   pub name : List ℕ
@@ -17,6 +18,7 @@ pub record MailFile : Type 0 where
   pub is_named : Bool
   pub left_new : Bool
   pub left_cur : Bool
+  pub is_gone : Bool
 
 -- a file that was made and has no name in the folders yet
 pub record Draft : Type 0 where
@@ -59,9 +61,17 @@ abbrev pub is_in : Folder → MailFile → Bool
 is_in New s = s.is_new
 is_in Cur s = not s.is_new
 
+-- no reader took it away
+abbrev pub is_left : MailFile → Bool
+is_left s = not s.is_gone
+
+-- it is in the folder, and no reader took it away
+abbrev pub is_told : Folder → MailFile → Bool
+is_told folder s = is_left s && is_in folder s
+
 abbrev pub entries_in : Folder → List MailFile → List MailFile
-entries_in New entries = filter is_in_new entries
-entries_in Cur entries = filter is_in_cur entries
+entries_in New entries = filter is_in_new (filter is_left entries)
+entries_in Cur entries = filter is_in_cur (filter is_left entries)
 
 -- whether a folder has rested since it was last listed
 abbrev pub rests_in : Folder → Directories → Bool
@@ -77,16 +87,17 @@ pub record KeepsFile (s t : MailFile) : Type 0 where
   pub flushed : t.is_flushed ≡ s.is_flushed
   pub named : s.is_named ≡ true → t.is_named ≡ true
 
--- a file was moved and marked any number of times
+-- a file was moved and marked any number of times, and perhaps taken away
 pub record MovesFile (s t : MailFile) : Type 0 where
   pub keeps : KeepsFile s t
   pub new : touches_new s ≡ true → touches_new t ≡ true
   pub cur : touches_cur s ≡ true → touches_cur t ≡ true
 
--- it is in the same folder, and if it is in this one, under the same name
+-- it is in the same folder, and if it is in this one, under the same name, and wasn't taken away
 pub record RestsFile (folder : Folder) (s t : MailFile) : Type 0 where
   pub place : t.is_new ≡ s.is_new
   pub name : is_in folder s ≡ true → t.name ≡ s.name
+  pub gone : is_in folder s ≡ true → t.is_gone ≡ s.is_gone
 
 -- each of these files, in order
 abbrev pub Each : (MailFile → MailFile → Type 0) → List MailFile → List MailFile → Type 0
@@ -95,7 +106,7 @@ Each Does [] (t ∷ ts) = ⊥
 Each Does (s ∷ ss) [] = ⊥
 Each Does (s ∷ ss) (t ∷ ts) = Does s t × Each Does ss ts
 
--- others moved and marked files; a folder that still rests wasn't touched
+-- others moved and marked files, or took some away; a folder that still rests wasn't touched
 pub record Moved (old new : Directories) : Type 0 where
   pub there : new.there ≡ old.there
   pub made : new.made ≡ old.made
@@ -103,7 +114,7 @@ pub record Moved (old new : Directories) : Type 0 where
   pub rests : (folder : Folder) → rests_in folder new ≡ true
       → (rests_in folder old ≡ true) × Each (RestsFile folder) old.entries new.entries
 
--- a reader moved or marked one file; each folder that it touched no longer rests
+-- a reader moved or marked one file, or took it away; each folder that it touched no longer rests
 pub record OneMoves (old : Directories) (front back : List MailFile) (s t : MailFile) (new : Directories) : Type 0 where
   pub there : new.there ≡ old.there
   pub made : new.made ≡ old.made

@@ -3,7 +3,7 @@
 use Rattle.std.specs.Prelude.{◌≡◌, ◌⊎◌, ℕ, true, false, List, [], ◌∷◌, ◌++◌, None, Contains}
 use Rattle.std.specs.List.{AllByRecursion}
 use Rattle.mail_terms.specs.MaildirName.{base}
-use Rattle.mail_store.specs.Maildir.{File, names_of}
+use Rattle.mail_store.specs.Maildir.{File, IsPart, names_of}
 use Rattle.folder_store.specs.MailFolders.{MailFile, Directories, mail_at, files_at, touches_new, touches_cur}
 
 -- a file as it is after a loss of power: in one of the places that it has or had, with all its bytes if they were
@@ -16,6 +16,7 @@ pub record IsLeftAs (s t : MailFile) : Type 0 where
   pub flushed : t.is_flushed ≡ true
   pub named : t.is_named ≡ true
   pub firm : (t.left_new ≡ false) × (t.left_cur ≡ false)
+  pub gone : s.is_gone ≡ false → t.is_gone ≡ false
 
 -- some files after a loss of power, one by one: a file is there once, or is gone if no name of it was on the disk
 abbrev pub AreLeftAs : List MailFile → List MailFile → Type 0
@@ -32,15 +33,18 @@ pub record LosesMail (old new : Directories) : Type 0 where
 
 -- ---- what stays and what outlives
 
+-- one of the files is such
+abbrev pub SomeIs : (MailFile → Type 0) → List MailFile → Type 0
+SomeIs Is [] = ⊥
+SomeIs Is (s ∷ entries) = Is s ⊎ SomeIs Is entries
+
 -- some name of a file with this base is on the disk
 abbrev pub StaysIn : List MailFile → List ℕ → Type 0
-StaysIn [] name = ⊥
-StaysIn (s ∷ entries) name = ((base s.name ≡ name) × (s.is_named ≡ true)) ⊎ StaysIn entries name
+StaysIn entries name = SomeIs (λ (s : MailFile). (base s.name ≡ name) × (s.is_named ≡ true)) entries
 
 -- and so are its bytes
 abbrev pub OutlivesIn : List MailFile → File → Type 0
-OutlivesIn [] f = ⊥
-OutlivesIn (s ∷ entries) f = ((mail_at s ≡ f) × (s.is_named ≡ true) × (s.is_flushed ≡ true)) ⊎ OutlivesIn entries f
+OutlivesIn entries f = SomeIs (λ (s : MailFile). (mail_at s ≡ f) × (s.is_named ≡ true) × (s.is_flushed ≡ true)) entries
 
 -- each file has a name on the disk
 abbrev pub AllNamed : List MailFile → Type 0
@@ -73,11 +77,6 @@ MailCanLosePower = (old : Directories) → (new : Directories) × LosesMail old 
 
 -- ---- what a call leaves to a loss of power
 
--- some of these files, in order
-abbrev pub IsPart : List File → List File → Type 0
-IsPart [] part = part ≡ []
-IsPart (f ∷ files) part = IsPart files part ⊎ ((rest : List File) × (part ≡ f ∷ rest) × IsPart files rest)
-
 -- after this loss of power the files are those that one before the call could have left, and perhaps some of these
 pub record CouldBeLeft (old : Directories) (added : List File) (left : Directories) : Type 0 where
   pub before : Directories
@@ -88,3 +87,8 @@ pub record CouldBeLeft (old : Directories) (added : List File) (left : Directori
 
 abbrev pub LeavesMail : Directories → List File → Directories → Type 0
 LeavesMail old added new = (left : Directories) → LosesMail new left → CouldBeLeft old added left
+
+-- after this loss of power the files are some of those that one before the call could have left
+abbrev pub LeavesSome : Directories → Directories → Type 0
+LeavesSome old new = (left : Directories) → LosesMail new left
+    → (before : Directories) × LosesMail old before × IsPart (files_at before.entries) (files_at left.entries)

@@ -14,6 +14,7 @@ mail_file k = record {
   is_named = k.is_named;
   left_new = k.left_new;
   left_cur = k.left_cur;
+  is_gone = k.is_gone;
 }
 
 -- the file that was made

@@ -3,8 +3,8 @@
 use mail_store::{Folder, StoreFault};
 
 /// The folders `new` and `cur` of a Maildir, any of whose calls may be refused. Mail readers may move
-/// files between the two and change their marks at any moment: what a call does, it does to what they
-/// left.
+/// files between the two, change their marks and take files away at any moment: what a call does, it
+/// does to what they left. Only `list` sees that a file was taken away.
 ///
 /// A file is made without a name in the two, at a place that no other call sees, and then put into
 /// `new` at one step. No call removes a file that has a name.
@@ -18,8 +18,8 @@ pub trait MailFolders {
     // What calls see of the folders, and what is on the disk.
     ghost directories: { Self → Directories };
 
-    // The premise: so far the file system did what this trait says, and others did nothing but move
-    // and mark files. If it holds after a call, it held before.
+    // The premise: so far the file system did what this trait says, and others did nothing but move,
+    // mark and take away files. If it holds after a call, it held before.
     ghost sound: { Self → Type 0 };
 
     /// Whether a folder is there: Missing if it isn't.

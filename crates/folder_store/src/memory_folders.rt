@@ -3,7 +3,7 @@
 ghost use Rattle.std.specs.Prelude.{◌≡◌, ◌↔◌, ◌++◌, [], ◌∷◌, Contains, IfOk, IsTrue, OnOk, false, if◌then◌else◌, true, map, option_map, string_bytes};
 ghost use Rattle.mail_terms.specs.MaildirName.{base};
 ghost use Rattle.folder_store.specs.MailCalls.{named_by};
-ghost use Rattle.folder_store.specs.MailFolders.{entries_in, is_in, name_at};
+ghost use Rattle.folder_store.specs.MailFolders.{entries_in, is_told, name_at};
 ghost use Rattle.folder_store.specs.MailPower.{AreLeftAs};
 ghost use Rattle.folder_store.specs.MemoryFolders.{list_of, mail_file};
 
@@ -23,9 +23,10 @@ struct KeptMail {
     is_named: bool,
     left_new: bool,
     left_cur: bool,
+    is_gone: bool,
 }
 
-/// What a reader does before a call, to the file that came at a place.
+/// What a reader does before a call, to the file that came at a place among those that are known.
 #[derive(Clone, Copy)]
 pub enum ReaderStep {
     /// Nothing.
@@ -34,6 +35,8 @@ pub enum ReaderStep {
     ToNew(usize),
     /// Moves it to `cur`, and marks it as seen.
     ToCur(usize),
+    /// Takes it away.
+    Away(usize),
 }
 
 /// What a loss of power leaves of a file.
@@ -49,7 +52,7 @@ pub enum MailLeft {
     Front(usize),
 }
 
-/// The folders of a Maildir in memory, and a reader that moves files before each call. A call is
+/// The folders of a Maildir in memory, and a reader that moves files, or takes them away, before each call. A call is
 /// refused only if memory runs out, or if no file was made.
 #[derive(Drop)]
 pub struct MemoryFolders {
@@ -79,12 +82,12 @@ impl Model for MemoryFolders {
     } };
 }
 
-/// Appends the name of a file, if it is in the folder.
+/// Appends the name of a file, if it is in the folder and wasn't taken away.
 fn add_name(names: &mut Vec<String>, file: &KeptMail, folder: Folder) -> Result<(), AllocError>
     ensures { OnOk result (map string_bytes names.new.items ≡ map string_bytes names.old.items
-        ++ (if is_in folder (mail_file file.now) then string_bytes file.now.name ∷ [] else [])) }
+        ++ (if is_told folder (mail_file file.now) then string_bytes file.now.name ∷ [] else [])) }
 {
-    if file.is_in(folder) {
+    if file.is_told(folder) {
         names.push(file.name.clone()?)?;
     }
     Ok(())
@@ -181,7 +184,7 @@ fn name_for(alloc: Global, name: &str, is_new: bool) -> Result<String, AllocErro
 impl KeptMail {
     ghost use Rattle.std.specs.Prelude.{◌≡◌, ◌||◌, IfOk, if◌then◌else◌, option_map};
     ghost use Rattle.folder_store.specs.MailCalls.{named_by};
-    ghost use Rattle.folder_store.specs.MailFolders.{MovesFile, is_in, touches};
+    ghost use Rattle.folder_store.specs.MailFolders.{MovesFile, is_in, is_told, touches};
     ghost use Rattle.folder_store.specs.MemoryFolders.{MayBeLeftAs, left_with, mail_file};
 
     fn is_in(&self, folder: Folder) -> bool
@@ -191,6 +194,13 @@ impl KeptMail {
             Folder::New => self.is_new,
             Folder::Cur => !self.is_new,
         }
+    }
+
+    // Whether it is in the folder and wasn't taken away.
+    fn is_told(&self, folder: Folder) -> bool
+        ensures { result ≡ is_told folder (mail_file self.now) }
+    {
+        !self.is_gone && self.is_in(folder)
     }
 
     // Whether it is in the folder, or left it since the names there were last flushed.
@@ -229,6 +239,7 @@ impl KeptMail {
             is_named,
             left_new,
             left_cur,
+            is_gone: self.is_gone,
         })
     }
 
@@ -247,6 +258,7 @@ impl KeptMail {
             is_named: self.is_named,
             left_new: self.touches(Folder::New),
             left_cur: self.touches(Folder::Cur),
+            is_gone: self.is_gone,
         })
     }
 
@@ -262,6 +274,7 @@ impl KeptMail {
             is_named: true,
             left_new: false,
             left_cur: false,
+            is_gone: self.is_gone,
         })
     }
 
@@ -301,8 +314,9 @@ impl KeptMail {
 
 impl MemoryFolders {
     ghost use Rattle.std.specs.Prelude.{◌≡◌, ◌≤◌, [], HoldsAt, IfNone, IfSome, None, OnErr, OnOk, false, length};
+    ghost use Rattle.std.specs.List.{filter};
     ghost use Rattle.mail_store.specs.Maildir.{all_there};
-    ghost use Rattle.folder_store.specs.MailFolders.{Moved};
+    ghost use Rattle.folder_store.specs.MailFolders.{Moved, is_left};
     ghost use Rattle.folder_store.specs.MailPower.{LosesMail};
 
     /// Folders without files, and what a reader does before each of the calls that follow.
@@ -362,6 +376,7 @@ impl MemoryFolders {
             ReaderStep::Rest => {}
             ReaderStep::ToNew(place) => self.move_file(place, true),
             ReaderStep::ToCur(place) => self.move_file(place, false),
+            ReaderStep::Away(place) => self.take_file(place),
         }
     }
 
@@ -382,6 +397,27 @@ impl MemoryFolders {
         self.cur_rests = still_rests(self.cur_rests, !was_new, !is_new);
         self.files[place] = moved;
     }
+
+    // Takes a file away. If there is none at the place, nothing is taken.
+    fn take_file(&mut self, place: usize)
+        ensures { Moved self.old self.new }
+    {
+        if place >= self.files.len() {
+            return;
+        }
+        let file = &mut self.files[place];
+        let was_new = file.is_new;
+        file.is_gone = true;
+        self.new_rests = still_rests(self.new_rests, was_new, was_new);
+        self.cur_rests = still_rests(self.cur_rests, !was_new, !was_new);
+    }
+
+    // Leaves out the files that the reader took away.
+    fn forget_taken(&mut self)
+        ensures { self.new ≡ record self.old { entries = filter is_left self.old.entries } }
+    {
+        self.files.retain(|file| !file.is_gone);
+    }
 }
 
 impl MailFolders for MemoryFolders {
@@ -400,6 +436,7 @@ impl MailFolders for MemoryFolders {
         let Ok(names) = names_in(self.alloc, &self.files, folder) else {
             return Err(StoreFault::Refused);
         };
+        self.forget_taken();
         match folder {
             Folder::New => self.new_rests = true,
             Folder::Cur => self.cur_rests = true,
@@ -470,6 +507,7 @@ impl MailFolders for MemoryFolders {
             is_named: false,
             left_new: false,
             left_cur: false,
+            is_gone: false,
         };
         if self.files.push(file).is_err() {
             return Err(StoreFault::Refused);

@@ -4,6 +4,7 @@ ghost use Rattle.std.specs.List.{AllByRecursion};
 ghost use Rattle.pop3_wire.specs.World.{IsMessage};
 ghost use Rattle.pop3_server.specs.Maildrop.{there};
 ghost use Rattle.pop3_server.specs.HonestLoop.{IsNew};
+ghost use Rattle.mail_store.specs.Maildir.{AfterTaking};
 ghost use Rattle.fetch_session.specs.Account.{digits_of};
 ghost use Rattle.fetch_session.specs.Session.{kept, mbox_kept};
 ghost use Rattle.fetch_session.specs.Target.{IsSoundMaildir, IsSoundMbox, maildir_of, mbox_of};
@@ -33,9 +34,9 @@ pub fn fetch_local<D: MaildirDisk, F: FlatFile, H: BuildHasher, M: Maildrop>(
     ensures fetches { IsSoundMaildir D.MaildirDisk account.new.store → F.sound account.new.file → M.sound result.1.machine.drop
         → AllByRecursion IsMessage (there (M.mail server.drop).slots)
         → IsSoundMaildir D.MaildirDisk account.old.store × F.sound account.old.file
-        × FetchesFrom M.mail account.old.settings (digits_of account.old.settings) now server result.1.machine result.1.link
-        (kept (maildir_of D.MaildirDisk account.old.store) (F.stored account.old.file)) result.0
-        (kept (maildir_of D.MaildirDisk account.new.store) (F.stored account.new.file)) }
+        × AfterTaking (maildir_of D.MaildirDisk account.old.store) (λ left. FetchesFrom M.mail account.old.settings
+        (digits_of account.old.settings) now server result.1.machine result.1.link (kept left (F.stored account.old.file)) result.0
+        (kept (maildir_of D.MaildirDisk account.new.store) (F.stored account.new.file))) }
     ensures mbox_fetches { IsSoundMbox F.FlatFile account.new.store → F.sound account.new.file → M.sound result.1.machine.drop
         → AllByRecursion IsMessage (there (M.mail server.drop).slots)
         → IsSoundMbox F.FlatFile account.old.store × F.sound account.old.file

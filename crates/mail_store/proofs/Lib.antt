@@ -12,3 +12,4 @@ mod NameLemmas
 mod OneEntry
 mod Pages
 mod SettlingLemmas
+pub mod TakingLemmas

@@ -22,7 +22,8 @@ pub record Folders : Type 0 where
   pub cur : Bool
 
 -- what is known of a Maildir: its folders, the files of `new` and `cur` together in the order in
--- which they came, the file that is being written in `tmp`, and how many calls were refused
+-- which they came, the file that is being written in `tmp`, and how many calls were refused. A file
+-- that a reader takes away is among the files until names are told again
 pub record Maildir : Type 0 where
   pub there : Folders
   pub files : List File
@@ -67,6 +68,19 @@ with_file old f = record old { files = old.files ++ f ∷ []; begun = None }
 -- the name of the file that is being written, if there is one
 abbrev pub name_begun : Maildir → Option (List ℕ)
 name_begun maildir = option_map name_in maildir.begun
+
+-- some of these files, in order
+abbrev pub IsPart : List File → List File → Type 0
+IsPart [] part = part ≡ []
+IsPart (f ∷ files) part = IsPart files part ⊎ ((rest : List File) × (part ≡ f ∷ rest) × IsPart files rest)
+
+-- the Maildir with these files
+abbrev pub with_files : List File → Maildir → Maildir
+with_files files old = record old { files = files }
+
+-- since names were last told readers have taken some files away, and this holds of what they left
+abbrev pub AfterTaking : Maildir → (Maildir → Type 0) → Type 0
+AfterTaking old Does = (left : List File) × IsPart old.files left × Does (with_files left old)
 
 -- some file of `new` or `cur` has this name, with whatever marks
 abbrev pub IsThere : Maildir → List ℕ → Type 0

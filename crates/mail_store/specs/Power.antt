@@ -1,5 +1,6 @@
 -- What outlives a loss of power, as each device defines it.
-use Rattle.std.specs.Prelude.{◌≡◌, ◌≤◌, ℕ, List, length, Option, Some, Result, Ok, Err, Vec, String, Contains}
+use Rattle.std.specs.Prelude.{◌≡◌, ◌⊎◌, ◌≤◌, ◌<◌, ℕ, List, bytes_eq, length, Option, Some, Result, Ok, Err, Vec, String, Contains}
+use Rattle.std.specs.List.{filter}
 use Rattle.mail_store.specs.declared.fault.StoreFault.{StoreFault}
 use Rattle.mail_store.specs.declared.fault.StoreFault.TheVariants.{Missing, Refused, NotMbox, NoMemory}
 use Rattle.mail_store.specs.Maildir.{Maildir, File, mail, names_of, bases_told}
@@ -9,6 +10,20 @@ use Rattle.mail_store.specs.Maildir.{Maildir, File, mail, names_of, bases_told}
 -- what a loss of power would have left before, it would still leave
 abbrev pub KeepsMail : (List ℕ → Type 0) → (File → Type 0) → (List ℕ → Type 0) → (File → Type 0) → Type 0
 KeepsMail stays outlives stays' outlives' = ((name : List ℕ) → stays name → stays' name) × ((f : File) → outlives f → outlives' f)
+
+-- how many files have this name, without its marks
+abbrev pub count_named : List ℕ → List File → ℕ
+count_named name files = length (filter (λ (f : File). bytes_eq name f.name) files)
+
+-- fewer files have this name than before
+abbrev pub TookOne : List ℕ → List File → List File → Type 0
+TookOne name old new = count_named name new < count_named name old
+
+-- `names` and `all_names`: the same, except for files that readers took away
+abbrev pub KeepsLeft : List File → List File → (List ℕ → Type 0) → (File → Type 0) → (List ℕ → Type 0) → (File → Type 0) → Type 0
+KeepsLeft old new stays outlives stays' outlives' =
+    ((name : List ℕ) → stays name → stays' name ⊎ TookOne name old new)
+    × ((f : File) → outlives f → outlives' f ⊎ TookOne f.name old new)
 
 -- `all_names`: each name that is returned stays
 abbrev pub ToldStay : {A B : Type 0} → Result (Vec (String A) B) StoreFault → (List ℕ → Type 0) → Type 0

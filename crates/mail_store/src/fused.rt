@@ -105,8 +105,8 @@ impl<D: MaildirDisk> MaildirDisk for Fused<D> {
     ghost use Rattle.std.specs.Prelude.{◌≡◌, ◌<◌, IfErr, IsSome, OnErr, OnOk, Some, None};
     ghost use Rattle.mail_terms.specs.FailureCount.{Tallies, refuses, greatest_count};
     ghost use Rattle.mail_store.specs.Fault.{IsDeviceFault};
-    ghost use Rattle.mail_store.specs.Maildir.{IsThere, Lists, ListsAll, Checks, Begins, Adds, Settles, dropped, name_begun};
-    ghost use Rattle.mail_store.specs.Power.{KeepsMail, SettledOutlives, ToldStay};
+    ghost use Rattle.mail_store.specs.Maildir.{AfterTaking, IsThere, Lists, ListsAll, Checks, Begins, Adds, Settles, dropped, name_begun};
+    ghost use Rattle.mail_store.specs.Power.{KeepsLeft, KeepsMail, SettledOutlives, ToldStay};
     ghost use Rattle.mail_store.specs.Fuse.{device_of, passes_left, effect_is_due, refusals, fused_maildir};
     ghost use Rattle.mail_store.specs.Fuse.{FusedIsSound, Burns, Fuses, SettlesBehind};
 
@@ -120,9 +120,10 @@ impl<D: MaildirDisk> MaildirDisk for Fused<D> {
 
     fn names(&mut self, folder: Folder) -> Result<Vec<String>, StoreFault>
         ensures lists { FusedIsSound D.sound self.new → FusedIsSound D.sound self.old
-            × Lists (fused_maildir D.maildir self.old) folder result (fused_maildir D.maildir self.new) }
+            × AfterTaking (fused_maildir D.maildir self.old) (λ left. Lists left folder result (fused_maildir D.maildir self.new)) }
         ensures fault { IfErr result IsDeviceFault }
-        ensures lasts { FusedIsSound D.sound self.new → KeepsMail (D.stays (device_of self.old)) (D.outlives (device_of self.old))
+        ensures lasts { FusedIsSound D.sound self.new → KeepsLeft (D.maildir (device_of self.old)).files
+            (D.maildir (device_of self.new)).files (D.stays (device_of self.old)) (D.outlives (device_of self.old))
             (D.stays (device_of self.new)) (D.outlives (device_of self.new)) }
         ensures count { Tallies (refuses is_refusal result) (refusals self.old) (refusals self.new) }
         ensures fuse { Fuses (λ d. (D.maildir d).failures) self.old result self.new }
@@ -135,9 +136,10 @@ impl<D: MaildirDisk> MaildirDisk for Fused<D> {
 
     fn all_names(&mut self) -> Result<Vec<String>, StoreFault>
         ensures lists { FusedIsSound D.sound self.new → FusedIsSound D.sound self.old
-            × ListsAll (fused_maildir D.maildir self.old) result (fused_maildir D.maildir self.new) }
+            × AfterTaking (fused_maildir D.maildir self.old) (λ left. ListsAll left result (fused_maildir D.maildir self.new)) }
         ensures fault { IfErr result IsDeviceFault }
-        ensures lasts { FusedIsSound D.sound self.new → KeepsMail (D.stays (device_of self.old)) (D.outlives (device_of self.old))
+        ensures lasts { FusedIsSound D.sound self.new → KeepsLeft (D.maildir (device_of self.old)).files
+            (D.maildir (device_of self.new)).files (D.stays (device_of self.old)) (D.outlives (device_of self.old))
             (D.stays (device_of self.new)) (D.outlives (device_of self.new))
             × ToldStay result (D.stays (device_of self.new)) }
         ensures count { Tallies (refuses is_refusal result) (refusals self.old) (refusals self.new) }

@@ -15,7 +15,6 @@ mod Next
 mod Records
 mod Replied
 mod Safety
-mod Taking
 mod Tells
 mod VisitKept
 mod Wants

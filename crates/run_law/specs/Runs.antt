@@ -188,19 +188,6 @@ abbrev pub NothingTakenHoldsExactly : Type 0
 NothingTakenHoldsExactly = (frame : Frame) (state : Situation) → HoldsWhatIsLeft frame state
     → state.taken ≡ [] → HoldsExactly frame state.account
 
--- the account without the files of an id
-abbrev pub without : List ℕ → List ℕ → Account → Account
-without account id before = record before {
-  maildir = record before.maildir { files = filter (λ (f : File). not (names_id account id f.name)) before.maildir.files };
-}
-
--- a law: taking the files of a held id away, at any moment after the last call that lists files, is the event `TakenAway`
--- after the session
-abbrev pub TakingIsAnEvent : Type 0
-TakingIsAnEvent = (frame : Frame) (state : Situation) (id : List ℕ) → is_legal_id id ≡ true
-    → is_held frame.account state.account.maildir id ≡ true
-    → Happens frame state (TakenAway id (without frame.account id state.account))
-
 -- an account with an empty record and no file of its own is kept, if nothing is gone
 abbrev pub StartsKept : Type 0
 StartsKept = (frame : Frame) (account : Account) → account.rows ≡ []

@@ -1,7 +1,7 @@
 //! Laws over runs of sessions: every list of sessions leads from a kept state to a kept one.
 #![tactic(auto)]
 
-ghost use Rattle.run_law.specs.Runs.{CanEnd, KeptHoldsWhatIsLeft, KeptStaysKept, TakingIsAnEvent};
+ghost use Rattle.run_law.specs.Runs.{CanEnd, KeptHoldsWhatIsLeft, KeptStaysKept};
 ghost use Rattle.run_law.specs.Runs.{NothingTakenHoldsExactly, StartsKept, WantsNext};
 ghost use Rattle.run_law.specs.Readings.{HonestIsGranted, ListingIsMaildrop, MarksAreAsked, TextsAreMessages};
 ghost use Rattle.run_law.specs.HonestSession.{HonestSession};
@@ -52,13 +52,6 @@ pub fn holds_what_is_left()
 pub fn holds_exactly()
     ensures { NothingTakenHoldsExactly }
 {}
-
-/// Taking the files of a held id away is the event by which a run says so.
-pub fn taking_is_an_event()
-    ensures { TakingIsAnEvent }
-{
-    stems_differ();
-}
 
 /// An account with an empty record and no file of its own is kept, if nothing is gone from the server.
 #[tactic(auto, using(crate::proofs::Holds::starts_kept))]

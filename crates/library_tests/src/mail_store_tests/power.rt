@@ -23,14 +23,14 @@ fn moved_before(alloc: Global, number: usize) -> Result<Vec<ReaderStep>, Fail> {
     Ok(steps)
 }
 
-/// How many names a Maildir of one file in `cur` tells, and whether it stays, if a reader puts it
-/// back to `new` before the call of this number.
-fn told_of_one(alloc: Global, number: usize) -> Result<(usize, bool), Fail> {
+/// How many names a Maildir of one file in `cur` tells, and whether it stays, if a reader does this
+/// before the call of this number.
+fn told_of_one(alloc: Global, number: usize, step: ReaderStep) -> Result<(usize, bool), Fail> {
     let mut steps = moved_before(alloc, 3)?;
     for _ in 0..number {
         steps.push(ReaderStep::Rest)?;
     }
-    steps.push(ReaderStep::ToNew(0))?;
+    steps.push(step)?;
     let mut folders = MemoryFolders::new(alloc, steps);
     folders.make("one")?;
     folders.put("one")?;
@@ -46,8 +46,22 @@ fn told_of_one(alloc: Global, number: usize) -> Result<(usize, bool), Fail> {
 #[test]
 fn names_are_told_once_and_stay(rt: HostRuntime) -> Result<(), Fail> {
     for number in 0..12 {
-        let (count, stays) = told_of_one(rt.alloc(), number)?;
+        let (count, stays) = told_of_one(rt.alloc(), number, ReaderStep::ToNew(0))?;
         assert!(rt; count == 1 && stays, "moved before call {number}");
+    }
+    Ok(())
+}
+
+#[test]
+fn names_are_told_until_their_files_are_taken_away(rt: HostRuntime) -> Result<(), Fail> {
+    // The fourth call lists `cur`.
+    for number in 0..8 {
+        let (count, _) = told_of_one(rt.alloc(), number, ReaderStep::Away(0))?;
+        assert_eq!(rt;
+            count,
+            usize::from(number > 3),
+            "taken before call {number}"
+        );
     }
     Ok(())
 }

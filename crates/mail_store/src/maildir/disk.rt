@@ -16,15 +16,16 @@ pub enum Folder {
 /// A file is begun in `tmp`, written there by any number of `add`, and then settled: only then is
 /// it in `new`, whole, under the name that `settle` takes. No other call changes `new` or `cur`.
 ///
-/// A mail reader may move files between `new` and `cur` and change the marks after the first colon
-/// of a name at any moment, also while a call runs: what calls see of a file is its name before that
-/// colon and its bytes, and neither its folder nor its marks.
+/// A mail reader may move files between `new` and `cur`, change the marks after the first colon of a
+/// name, and take files away at any moment, also while a call runs. What calls see of a file is its
+/// name before that colon and its bytes, and neither its folder nor its marks; and only those that
+/// tell names see that a file was taken away.
 pub trait MaildirDisk {
     ghost use Rattle.std.specs.Prelude.{◌≡◌, ℕ, List, IfErr, IsSome, OnErr, OnOk, Some, None};
     ghost use Rattle.mail_terms.specs.FailureCount.{Tallies, refuses};
     ghost use Rattle.mail_store.specs.Fault.{is_refusal, IsDeviceFault};
-    ghost use Rattle.mail_store.specs.Maildir.{Maildir, File, IsThere, Lists, ListsAll, Checks, Begins, Adds, Settles, dropped, name_begun};
-    ghost use Rattle.mail_store.specs.Power.{KeepsMail, SettledOutlives, ToldStay};
+    ghost use Rattle.mail_store.specs.Maildir.{Maildir, AfterTaking, File, IsThere, Lists, ListsAll, Checks, Begins, Adds, Settles, dropped, name_begun};
+    ghost use Rattle.mail_store.specs.Power.{KeepsLeft, KeepsMail, SettledOutlives, ToldStay};
 
     // What is known of the Maildir. Whether a file is begun, its name and the count of refusals are
     // known even if the device isn't sound.
@@ -45,18 +46,20 @@ pub trait MaildirDisk {
     /// of every file. Missing if the folder isn't there, else Refused.
     fn names(&mut self, folder: Folder) -> Result<Vec<String>, StoreFault>
         ensures lists { sound self.new → sound self.old
-            × Lists (maildir self.old) folder result (maildir self.new) }
+            × AfterTaking (maildir self.old) (λ left. Lists left folder result (maildir self.new)) }
         ensures fault { IfErr result IsDeviceFault }
-        ensures lasts { sound self.new → KeepsMail (stays self.old) (outlives self.old) (stays self.new) (outlives self.new) }
+        ensures lasts { sound self.new → KeepsLeft (maildir self.old).files (maildir self.new).files (stays self.old) (outlives self.old)
+            (stays self.new) (outlives self.new) }
         ensures count { Tallies (refuses is_refusal result) (maildir self.old).failures (maildir self.new).failures };
 
     /// The names of the files of `new` and `cur`, in any order: each file once, even if a reader
     /// moves it meanwhile. Missing if `new` or `cur` isn't there, else Refused.
     fn all_names(&mut self) -> Result<Vec<String>, StoreFault>
         ensures lists { sound self.new → sound self.old
-            × ListsAll (maildir self.old) result (maildir self.new) }
+            × AfterTaking (maildir self.old) (λ left. ListsAll left result (maildir self.new)) }
         ensures fault { IfErr result IsDeviceFault }
-        ensures lasts { sound self.new → KeepsMail (stays self.old) (outlives self.old) (stays self.new) (outlives self.new)
+        ensures lasts { sound self.new → KeepsLeft (maildir self.old).files (maildir self.new).files (stays self.old) (outlives self.old)
+            (stays self.new) (outlives self.new)
             × ToldStay result (stays self.new) }
         ensures count { Tallies (refuses is_refusal result) (maildir self.old).failures (maildir self.new).failures };
 

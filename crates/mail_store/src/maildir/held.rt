@@ -6,9 +6,9 @@ ghost use Rattle.mail_terms.specs.FailureCount.{Tallies, refuses};
 ghost use Rattle.mail_store.specs.Fault.{is_refusal};
 ghost use Rattle.mail_store.specs.FileName.{stem, is_held};
 ghost use Rattle.mail_terms.specs.Listing.{Item, has_item, is_flagged};
-ghost use Rattle.mail_store.specs.Maildir.{Maildir};
+ghost use Rattle.mail_store.specs.Maildir.{AfterTaking, Maildir};
 ghost use Rattle.mail_store.specs.Held.{Finds, any_name, flags_of, has_text};
-ghost use Rattle.mail_store.specs.Power.{AllStay, KeepsMail};
+ghost use Rattle.mail_store.specs.Power.{AllStay, KeepsLeft};
 
 use crate::account::AccountId;
 use crate::fault::StoreFault;
@@ -87,7 +87,8 @@ pub fn flags_tell_what_is_held()
 /// Whether the id of each item of the listing is held: its stem is that of a name in `new` or `cur`,
 /// whatever follows the stem. The flags are in the listing's order. Missing if `new` or `cur` isn't
 /// there, Refused if the device refused, NoMemory if memory runs out. The Maildir stays as it was,
-/// and if flags are returned, each of its names outlives a loss of power.
+/// but for files that readers took away; and if flags are returned, each of its names outlives a loss
+/// of power.
 ///
 /// With m files and n items the time grows as (m + n) log m.
 pub fn held<D: MaildirDisk>(
@@ -97,8 +98,9 @@ pub fn held<D: MaildirDisk>(
     listing: &Listing,
 ) -> Result<Vec<bool>, StoreFault>
     ensures finds { D.sound disk.new → D.sound disk.old
-        × Finds account.now (D.maildir disk.old) listing.now result (D.maildir disk.new) }
-    ensures lasts { D.sound disk.new → KeepsMail (D.stays disk.old) (D.outlives disk.old) (D.stays disk.new) (D.outlives disk.new)
+        × AfterTaking (D.maildir disk.old) (λ left. Finds account.now left listing.now result (D.maildir disk.new)) }
+    ensures lasts { D.sound disk.new → KeepsLeft (D.maildir disk.old).files (D.maildir disk.new).files
+        (D.stays disk.old) (D.outlives disk.old) (D.stays disk.new) (D.outlives disk.new)
         × OnOk result (AllStay (D.maildir disk.new) (D.stays disk.new)) }
     ensures count { Tallies (refuses is_refusal result) (D.maildir disk.old).failures (D.maildir disk.new).failures }
     ensures length { IfOk result (λ flags. vec_len flags ≡ length listing.now) }

@@ -7,6 +7,7 @@ use Rattle.fetch_session.specs.Account.{digits_of}
 use Rattle.fetch_session.specs.declared.report.Report.{Report}
 use Rattle.fetch_session.specs.Session.{kept, mbox_kept, MboxSession, Session}
 use Rattle.fetch_session.specs.Target.{maildir_of, mbox_of}
+use Rattle.mail_store.specs.Maildir.{AfterTaking, Maildir}
 use Rattle.fetch_runs.specs.MboxRuns.{mbox_state}
 use Rattle.fetch_runs.specs.Runs.{world_of, state_of}
 use Rattle.fetch_runs.specs.declared.run.Visit.{Visit}
@@ -38,7 +39,11 @@ loop-i-preserved g c =
           let met = c.session-report.ensures.session sound held.0 held.1 in (
             met.0,
             (met.1, met.2),
-            (subst (λ (s : Settings). Session s (digits_of s) old.now (g.W.Wire.history old.wire) before c.session-report.result (g.W.Wire.history c.session-report.new.wire) after) inv.0 met.4, refl),
+            (
+              subst (λ (s : Settings). AfterTaking before.maildir (λ (left : Maildir). Session s (digits_of s) old.now (g.W.Wire.history old.wire) (kept left before.file) c.session-report.result
+                  (g.W.Wire.history c.session-report.new.wire) after)) inv.0 met.4,
+              refl,
+            ),
           )),
       ran_next c.args.visits.now c.loop-i.visits i old new inv.6 pushed inside within here (λ sound held.
           let met = c.session-report.ensures.mbox_session sound held.0 held.1 in (
@@ -52,7 +57,7 @@ pub returns-clause-promised : goal.returns-clause-promised
 returns-clause-promised g c = λ sound disk file all gone taken facts mail is_kept served.
     let inv = c.loop-i.invariant in
     let made = made_all c.args.visits.now c.loop-i.visits c.loop-i.i inv.5 (omega (arith, c.loop-i-test.false)) inv.3 sound (disk, file) in
-    runs_promised c.headline.ensures g.W.Wire.history c.args.account.now.settings (world_of c.args.account.now.settings all) c.args.visits.now
+    runs_promised c.headline.ensures c.takings_are_events.ensures g.W.Wire.history c.args.account.now.settings (world_of c.args.account.now.settings all) c.args.visits.now
     (state_of (kept (maildir_of g.D.MaildirDisk c.args.account.now.store) (g.F.FlatFile.stored c.args.account.now.file)) gone taken) c.loop-i.reports.items c.loop-i.visits facts
     (kept (maildir_of g.D.MaildirDisk c.loop-i.account.store) (g.F.FlatFile.stored c.loop-i.account.file))
     mail (record { valid = subst IsValid c.settings.ensures.value c.settings.ensures.valid; server = refl; port = refl; username = refl; max_size = refl }) is_kept served made.2

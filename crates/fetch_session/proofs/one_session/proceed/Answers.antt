@@ -1,8 +1,9 @@
-use Rattle.std.proofs.Common.{◌+◌, ◌*◌, length, Ok, Err, arith, refl, ◌∙◌, inl}
+use Rattle.std.proofs.Common.{rules, ◌+◌, ◌*◌, length, Ok, Err, arith, refl, ◌∙◌, inl}
+use Rattle.mail_store.proofs.TakingLemmas.{part_same}
 use Rattle.pop3_client.specs.Client.{link_of, place_of}
 use Rattle.fetch_session.specs.Intake.{opening_limit, step_limit, tail_limit}
 use Rattle.fetch_session.specs.Session.{keeping, noted}
-use Rattle.fetch_session.specs.Target.{stores_of, target_of}
+use Rattle.fetch_session.specs.Target.{left_in, stores_of, target_of}
 use Rattle.fetch_session.proofs.SessionLemmas.{dealt}
 use Rattle.fetch_session.proofs.IntakeLemmas.{took_entering, with_plain_tail, with_tail_on}
 use Rattle.fetch_session.proofs.RefusalLemmas.{cut_by, till_cut}
@@ -19,11 +20,27 @@ returns-clause-proceeds g c = λ w d f.
       does.1,
       does.2,
       g.met.W.Wire.leads_on _ _ _ entered.1 does.3,
-      dealt g.D.MaildirDisk g.F.FlatFile (is_sure g.F.FlatFile old.store × g.F.FlatFile.is_sure old.ledger.file) c.args.terms.settings.now (target_of old.store c.args.terms.account.now) c.args.terms.now
-          (place_of g.W.Wire c.args.client.now) (keeping (stores_of g.D.MaildirDisk g.F.FlatFile old.store) (g.F.FlatFile.stored old.ledger.file)) c.carry_out.result
-          (place_of g.W.Wire new.client) (keeping (stores_of g.D.MaildirDisk g.F.FlatFile new.work.store) (g.F.FlatFile.stored new.work.ledger.file)) (noted c.len-counts.result new.skipped new.work.ledger.lines.items)
-          c.in-Ok.listing (place_of g.W.Wire c.enter.new.client) c.reserve.new.self.items new.work.store new.work.ledger.file (c.reserve.ensures.items ∙ c.requires.nothing.2) entered.2 c.len-counts.ensures.count does.4,
+      (
+        does.4.0,
+        does.4.1,
+        dealt g.D.MaildirDisk g.F.FlatFile (is_sure g.F.FlatFile old.store × g.F.FlatFile.is_sure old.ledger.file) c.args.terms.settings.now (target_of old.store c.args.terms.account.now) c.args.terms.now
+            (place_of g.W.Wire c.args.client.now) (keeping (left_in (stores_of g.D.MaildirDisk g.F.FlatFile old.store) does.4.0) (g.F.FlatFile.stored old.ledger.file)) c.carry_out.result
+            (place_of g.W.Wire new.client) (keeping (stores_of g.D.MaildirDisk g.F.FlatFile new.work.store) (g.F.FlatFile.stored new.work.ledger.file)) (noted c.len-counts.result new.skipped new.work.ledger.lines.items)
+            c.in-Ok.listing (place_of g.W.Wire c.enter.new.client) c.reserve.new.self.items new.work.store new.work.ledger.file (c.reserve.ensures.items ∙ c.requires.nothing.2) entered.2 c.len-counts.ensures.count does.4.2,
+      ),
     )
+
+pub returns-in-Err-clause-proceeds : goal.returns-in-Err-clause-proceeds
+returns-in-Err-clause-proceeds g c = λ w d f.
+    let entered = c.in-Err.ensures.enters w in
+    let files = (stores_of g.D.MaildirDisk g.F.FlatFile c.args.work.now.store).maildir.files in
+    (entered.0, d, f, entered.1, (files, part_same files, search rules))
+
+pub returns-in-Err-reserve-clause-proceeds : goal.returns-in-Err-reserve-clause-proceeds
+returns-in-Err-reserve-clause-proceeds g c = λ w d f.
+    let entered = c.in-Ok.ensures.enters w in
+    let files = (stores_of g.D.MaildirDisk g.F.FlatFile c.args.work.now.store).maildir.files in
+    (entered.0, d, f, entered.1, (files, part_same files, search rules))
 
 -- ---- what is kept
 

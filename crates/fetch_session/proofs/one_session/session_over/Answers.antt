@@ -19,8 +19,12 @@ returns-in-Err-clause-session g c = λ w d f.
       went.1,
       went.2,
       g.met.W.Wire.leads_on _ _ _ went.3 says.1,
-      left_session (target_of inside.work.store inside.id) c.args.client.now.reader (Err c.in-Err.cut) (place_of g.W.Wire done.client) (noted done.counts.total done.counts.skipped done.work.ledger.lines.items)
-          (ap (λ (digits : List ℕ). target_of inside.work.store digits) c.account.invariant.1) c.requires went.4 (place_of g.W.Wire c.leave.new.client, says.2, refl) (rw c.replace-lines.ensures.value at c.reported.ensures),
+      (
+        went.4.0,
+        went.4.1,
+        left_session (target_of inside.work.store inside.id) c.args.client.now.reader (Err c.in-Err.cut) (place_of g.W.Wire done.client) (noted done.counts.total done.counts.skipped done.work.ledger.lines.items)
+            (ap (λ (digits : List ℕ). target_of inside.work.store digits) c.account.invariant.1) c.requires went.4.2 (place_of g.W.Wire c.leave.new.client, says.2, refl) (rw c.replace-lines.ensures.value at c.reported.ensures),
+      ),
     )
 
 pub returns-clause-session : goal.returns-clause-session
@@ -34,8 +38,12 @@ returns-clause-session g c = λ w d f.
       went.1,
       went.2,
       went.3,
-      left_session (target_of inside.work.store inside.id) c.args.client.now.reader (Ok tt) (place_of g.W.Wire done.client) (noted done.counts.total done.counts.skipped done.work.ledger.lines.items)
-          (ap (λ (digits : List ℕ). target_of inside.work.store digits) c.account.invariant.1) c.requires went.4 refl (rw c.replace-lines-2.ensures.value at c.reported-2.ensures),
+      (
+        went.4.0,
+        went.4.1,
+        left_session (target_of inside.work.store inside.id) c.args.client.now.reader (Ok tt) (place_of g.W.Wire done.client) (noted done.counts.total done.counts.skipped done.work.ledger.lines.items)
+            (ap (λ (digits : List ℕ). target_of inside.work.store digits) c.account.invariant.1) c.requires went.4.2 refl (rw c.replace-lines-2.ensures.value at c.reported-2.ensures),
+      ),
     )
 
 pub returns-in-Err-clause-bounded : goal.returns-in-Err-clause-bounded

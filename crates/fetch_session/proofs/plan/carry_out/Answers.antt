@@ -22,7 +22,7 @@ use Rattle.fetch_session.proofs.plan.carry_out.Goals as goal
 pub returns-in-Err-clause-carries : goal.returns-in-Err-clause-carries
 returns-in-Err-clause-carries g c = λ w d f.
     let ready = c.in-Err.ensures.readies d f in
-    (w, ready.0, ready.1, g.met.W.Wire.leads_same c.args.client.now.wire.now, ([], inl (c.requires.none_skipped, unprepared c.plain.ensures ready.2)))
+    (w, ready.0, ready.1, g.met.W.Wire.leads_same c.args.client.now.wire.now, (ready.2.0, ready.2.1, ([], inl (c.requires.none_skipped, unprepared c.plain.ensures ready.2.2))))
 
 pub do_steps-requires-clause-ready : goal.do_steps-requires-clause-ready
 do_steps-requires-clause-ready g c =
@@ -56,11 +56,15 @@ returns-in-Err-do_steps-clause-carries g c = λ w d f.
       ready.1,
       done.3,
       (
-        c.do_steps.new.work.ledger.seen.rows,
-        inr (carried g.D.MaildirDisk g.F.FlatFile c.prepare.new.store c.deref-2.result.now c.deref-3.result.now ready.2 c.deref-2.ensures.value c.deref-3.ensures.value
-            (c.skipped_in.ensures ∙ ap skipped_in c.deref.ensures.value) (λ sure. still (c.in-Ok.ensures.lasts done.1 sure.0)) (λ sure. firm_both (c.in-Ok.ensures.file_lasts done.2 sure.1) (c.in-Ok.ensures.lasts done.1 sure.0)) (c.in-Err-do_steps.ensures.keeps.lasts d f).1
-            (good_before (says quit ∷ []) (in_kind c.prepare.new.store c.args.work.now.store c.args.terms.account.now c.prepare.ensures.kind done.4
-            (λ safe. safe)))),
+        ready.2.0,
+        ready.2.1,
+        (
+          c.do_steps.new.work.ledger.seen.rows,
+          inr (carried g.D.MaildirDisk g.F.FlatFile c.prepare.new.store c.deref-2.result.now c.deref-3.result.now ready.2.2 c.deref-2.ensures.value c.deref-3.ensures.value
+              (c.skipped_in.ensures ∙ ap skipped_in c.deref.ensures.value) (λ sure. still (c.in-Ok.ensures.lasts done.1 sure.0)) (λ sure. firm_both (c.in-Ok.ensures.file_lasts done.2 sure.1) (c.in-Ok.ensures.lasts done.1 sure.0)) (c.in-Err-do_steps.ensures.keeps.lasts d f).1
+              (good_before (says quit ∷ []) (in_kind c.prepare.new.store c.args.work.now.store c.args.terms.account.now c.prepare.ensures.kind done.4
+              (λ safe. safe)))),
+        ),
       ),
     )
 
@@ -74,11 +78,15 @@ returns-in-Ok-quit-clause-carries g c = λ w d f.
       ready.1,
       g.met.W.Wire.leads_on _ _ _ done.3 completes.1,
       (
-        c.do_steps.new.work.ledger.seen.rows,
-        (carried g.D.MaildirDisk g.F.FlatFile c.prepare.new.store c.deref-2.result.now c.deref-3.result.now ready.2 c.deref-2.ensures.value c.deref-3.ensures.value
-            (c.skipped_in.ensures ∙ ap skipped_in c.deref.ensures.value) (λ sure. still (c.in-Ok.ensures.lasts done.1 sure.0)) (λ sure. firm_both (c.in-Ok.ensures.file_lasts done.2 sure.1) (c.in-Ok.ensures.lasts done.1 sure.0)) (c.in_default.ensures.keeps.lasts d f).1
-            (good_quit completes.2.0 (place_of g.W.Wire c.quit.new.self) (in_kind c.prepare.new.store c.args.work.now.store c.args.terms.account.now c.prepare.ensures.kind done.4
-            (λ safe. safe)) completes.2.1)),
+        ready.2.0,
+        ready.2.1,
+        (
+          c.do_steps.new.work.ledger.seen.rows,
+          (carried g.D.MaildirDisk g.F.FlatFile c.prepare.new.store c.deref-2.result.now c.deref-3.result.now ready.2.2 c.deref-2.ensures.value c.deref-3.ensures.value
+              (c.skipped_in.ensures ∙ ap skipped_in c.deref.ensures.value) (λ sure. still (c.in-Ok.ensures.lasts done.1 sure.0)) (λ sure. firm_both (c.in-Ok.ensures.file_lasts done.2 sure.1) (c.in-Ok.ensures.lasts done.1 sure.0)) (c.in_default.ensures.keeps.lasts d f).1
+              (good_quit completes.2.0 (place_of g.W.Wire c.quit.new.self) (in_kind c.prepare.new.store c.args.work.now.store c.args.terms.account.now c.prepare.ensures.kind done.4
+              (λ safe. safe)) completes.2.1)),
+        ),
       ),
     )
 
@@ -92,12 +100,16 @@ returns-clause-carries g c = λ w d f.
       ready.1,
       g.met.W.Wire.leads_on _ _ _ done.3 completes.1,
       (
-        c.do_steps.new.work.ledger.seen.rows,
-        inr (carried g.D.MaildirDisk g.F.FlatFile c.prepare.new.store c.deref-2.result.now c.deref-3.result.now ready.2 c.deref-2.ensures.value c.deref-3.ensures.value
-            (c.skipped_in.ensures ∙ ap skipped_in c.deref.ensures.value) (λ sure. still (c.in-Ok.ensures.lasts done.1 sure.0)) (λ sure. firm_both (c.in-Ok.ensures.file_lasts done.2 sure.1) (c.in-Ok.ensures.lasts done.1 sure.0)) (c.in_default.ensures.keeps.lasts d f).1
-            (good_broke (place_of g.W.Wire c.quit.new.self) c.in-Err-quit.fault c.plain-in-Err-quit.result
-            (in_kind c.prepare.new.store c.args.work.now.store c.args.terms.account.now c.prepare.ensures.kind done.4
-            (λ safe. safe)) c.plain-in-Err-quit.ensures completes.2)),
+        ready.2.0,
+        ready.2.1,
+        (
+          c.do_steps.new.work.ledger.seen.rows,
+          inr (carried g.D.MaildirDisk g.F.FlatFile c.prepare.new.store c.deref-2.result.now c.deref-3.result.now ready.2.2 c.deref-2.ensures.value c.deref-3.ensures.value
+              (c.skipped_in.ensures ∙ ap skipped_in c.deref.ensures.value) (λ sure. still (c.in-Ok.ensures.lasts done.1 sure.0)) (λ sure. firm_both (c.in-Ok.ensures.file_lasts done.2 sure.1) (c.in-Ok.ensures.lasts done.1 sure.0)) (c.in_default.ensures.keeps.lasts d f).1
+              (good_broke (place_of g.W.Wire c.quit.new.self) c.in-Err-quit.fault c.plain-in-Err-quit.result
+              (in_kind c.prepare.new.store c.args.work.now.store c.args.terms.account.now c.prepare.ensures.kind done.4
+              (λ safe. safe)) c.plain-in-Err-quit.ensures completes.2)),
+        ),
       ),
     )
 

@@ -1,7 +1,8 @@
-use Rattle.std.proofs.Common.{List, Bool, ap, ◌∙◌}
+use Rattle.std.proofs.Common.{rules, List, Bool, ap, ◌∙◌}
+use Rattle.mail_store.proofs.TakingLemmas.{part_same}
 use Rattle.fetch_rules.specs.Record.{merged}
 use Rattle.fetch_session.specs.Pretend.{foretold}
-use Rattle.fetch_session.specs.Target.{stores_of, target_of}
+use Rattle.fetch_session.specs.Target.{left_in, stores_of, target_of}
 use Rattle.fetch_session.proofs.PretendLemmas.{foreseen}
 use Rattle.fetch_session.proofs.preview.foresee.Goals as goal
 
@@ -14,7 +15,23 @@ returns-in-Ok-foretell-clause-foresees g c = λ d f.
     let now = c.args.terms.now in (
       looks.0,
       reads.0,
-      foreseen settings (target_of c.args.store.now c.args.terms.account.now) items now (stores_of g.D.MaildirDisk g.F.FlatFile c.args.store.now) (g.F.FlatFile.stored c.args.file.now) (g.F.FlatFile.stored c.read.new.file) c.read.new.seen
-          (stores_of g.D.MaildirDisk g.F.FlatFile c.look.new.store) c.in-Ok.looked c.in-Ok-foretell.prospects.items reads.1.0 reads.1.2 looks.1
-          (c.in-Ok-foretell.ensures ∙ ap (λ (flags : List Bool). foretold settings (merged c.read.new.seen.rows items flags now) items flags now) c.deref.ensures.value),
+      (
+        looks.1.0,
+        looks.1.1,
+        foreseen settings (target_of c.args.store.now c.args.terms.account.now) items now (left_in (stores_of g.D.MaildirDisk g.F.FlatFile c.args.store.now) looks.1.0) (g.F.FlatFile.stored c.args.file.now) (g.F.FlatFile.stored c.read.new.file) c.read.new.seen
+            (stores_of g.D.MaildirDisk g.F.FlatFile c.look.new.store) c.in-Ok.looked c.in-Ok-foretell.prospects.items reads.1.0 reads.1.2 looks.1.2
+            (c.in-Ok-foretell.ensures ∙ ap (λ (flags : List Bool). foretold settings (merged c.read.new.seen.rows items flags now) items flags now) c.deref.ensures.value),
+      ),
     )
+
+pub returns-in-Err-clause-foresees : goal.returns-in-Err-clause-foresees
+returns-in-Err-clause-foresees g c = λ d f.
+    let reads = c.in-Err.ensures.reads f in
+    let files = (stores_of g.D.MaildirDisk g.F.FlatFile c.args.store.now).maildir.files in
+    (d, reads.0, (files, part_same files, search rules))
+
+pub returns-in-Err-look-clause-foresees : goal.returns-in-Err-look-clause-foresees
+returns-in-Err-look-clause-foresees g c = λ d f.
+    let looks = c.in-Err-look.ensures.looks d in
+    let reads = c.in_default.ensures.reads f in
+    (looks.0, reads.0, (looks.1.0, looks.1.1, search rules))

@@ -23,8 +23,12 @@ returns-in-Err-clause-pretends g c = λ w d f.
       went.1,
       went.2,
       g.met.W.Wire.leads_on _ _ _ went.3 says.1,
-      left_preview (target_of inside.work.store inside.id) c.args.client.now.reader (Err c.in-Err.cut) (place_of g.W.Wire done.client)
-          (ap (λ (digits : List ℕ). target_of inside.work.store digits) c.account.invariant.1) c.requires went.4 (new, says.2, refl) refl,
+      (
+        went.4.0,
+        went.4.1,
+        left_preview (target_of inside.work.store inside.id) c.args.client.now.reader (Err c.in-Err.cut) (place_of g.W.Wire done.client)
+            (ap (λ (digits : List ℕ). target_of inside.work.store digits) c.account.invariant.1) c.requires went.4.2 (new, says.2, refl) refl,
+      ),
     )
 
 pub returns-clause-pretends : goal.returns-clause-pretends
@@ -39,6 +43,10 @@ returns-clause-pretends g c = λ w d f.
       went.1,
       went.2,
       went.3,
-      left_preview (target_of inside.work.store inside.id) c.args.client.now.reader (Ok tt) mid
-          (ap (λ (digits : List ℕ). target_of inside.work.store digits) c.account.invariant.1) c.requires went.4 refl c.in_default.ensures.outcome,
+      (
+        went.4.0,
+        went.4.1,
+        left_preview (target_of inside.work.store inside.id) c.args.client.now.reader (Ok tt) mid
+            (ap (λ (digits : List ℕ). target_of inside.work.store digits) c.account.invariant.1) c.requires went.4.2 refl c.in_default.ensures.outcome,
+      ),
     )

@@ -1,6 +1,6 @@
 use Rattle.std.proofs.Common.{◌∙◌, Ok, Err, ap}
 use Rattle.std.proofs.lemmas.Result.{err_from_is_err_and}
-use Rattle.folder_store.proofs.MailLooks.{lists_leads, one_lacked, one_not_flushed, told_one}
+use Rattle.folder_store.proofs.MailLooks.{lists_learns, one_lacked, one_not_flushed, told_one}
 use Rattle.folder_store.proofs.mail_steps.told_names_of.Goals as goal
 
 pub returns-in_err-names-clause-tells : goal.returns-in_err-names-clause-tells
@@ -18,7 +18,7 @@ returns-in_err-flush_names-clause-tells g c = λ s.
     let t = c.in_ok-names.ensures.lists n.0 in (
       t.0,
       one_not_flushed (d c.args.folders.now) (d c.list.new.self) (d c.flush_names.new.self) c.args.folder c.in_err-flush_names.field-0.0 c.from_residual-in_err-flush_names.result (p.1 ∙ ap Err p.2)
-          (lists_leads c.args.folder (d c.args.folders.now) (d c.list.new.self) (Ok c.in_ok-names.names) t.1) n.1,
+          (lists_learns c.args.folder (d c.args.folders.now) (d c.list.new.self) (Ok c.in_ok-names.names) t.1) n.1,
     )
 
 pub returns-clause-tells : goal.returns-clause-tells

@@ -1,7 +1,8 @@
-use Rattle.std.proofs.Common.{◌≡◌, ◌∙◌, ◌++◌, List, refl, true, map, subst, ap, String, Vec, Global, ℕ}
+use Rattle.std.proofs.Common.{rules, ◌≡◌, ◌∙◌, ◌++◌, List, refl, true, map, subst, ap, String, Vec, Global, ℕ}
 use Rattle.std.specs.Prelude.{IsPermutation, string_bytes}
 use Rattle.mail_store.specs.Maildir.{file_of, names_of, bases_told}
 use Rattle.mail_store.specs.MemoryMaildir.{Kept}
+use Rattle.mail_store.proofs.TakingLemmas.{part_same}
 use Rattle.mail_store.proofs.MoveLemmas.{names_tell_both, shown_all}
 use Rattle.mail_store.proofs.maildir.memory.MemoryMaildirMaildirDisk.all_names.Goals as goal
 
@@ -13,11 +14,19 @@ returns-in-Ok-clause-lists c = λ k.
     c.in-Ok.ensures ∙ ap (λ (pairs : List (String Global × Vec ℕ Global)). names_of (map file_of pairs) ++ names_of (map file_of c.deref-2.result.now)) c.deref.ensures.value
     ∙ ap (λ (pairs : List (String Global × Vec ℕ Global)). names_of (map file_of new) ++ names_of (map file_of pairs)) c.deref-2.ensures.value in (
       k,
-      subst (λ (kept : Kept). (kept.maildir.there.new ≡ true) × (kept.maildir.there.cur ≡ true)
-          × IsPermutation (names_of kept.maildir.files) (bases_told c.in-Ok.names.items) × (kept.maildir ≡ kept.maildir)) c.self.view_is (
-            refl,
-            refl,
-            names_tell_both _ (map file_of new) (map file_of cur) c.in-Ok.names.items (shown_all c.self.inside.are_new.items new cur c.self.invariant) told,
-            refl,
-          ),
+      (
+        c.args.self.now.maildir.files,
+        part_same c.args.self.now.maildir.files,
+        subst (λ (kept : Kept). (kept.maildir.there.new ≡ true) × (kept.maildir.there.cur ≡ true)
+            × IsPermutation (names_of kept.maildir.files) (bases_told c.in-Ok.names.items) × (kept.maildir ≡ kept.maildir)) c.self.view_is (
+              refl,
+              refl,
+              names_tell_both _ (map file_of new) (map file_of cur) c.in-Ok.names.items (shown_all c.self.inside.are_new.items new cur c.self.invariant) told,
+              refl,
+            ),
+      ),
     )
+
+pub returns-in-Err-clause-lists : goal.returns-in-Err-clause-lists
+returns-in-Err-clause-lists c = λ k.
+    (search rules, (c.args.self.now.maildir.files, part_same c.args.self.now.maildir.files, search rules))

@@ -1,6 +1,7 @@
-use Rattle.std.proofs.Common.{◌≡◌, ◌∙◌, refl, true, subst}
+use Rattle.std.proofs.Common.{rules, ◌≡◌, ◌∙◌, refl, true, subst}
 use Rattle.mail_store.specs.Maildir.{is_there, names_of}
 use Rattle.mail_store.specs.MemoryMaildir.{Kept}
+use Rattle.mail_store.proofs.TakingLemmas.{part_same}
 use Rattle.mail_store.proofs.MoveLemmas.{is_all_there, theirs_of}
 use Rattle.std.proofs.Common.{ap}
 use Rattle.mail_store.proofs.maildir.memory.MemoryMaildirMaildirDisk.names.Goals as goal
@@ -9,8 +10,16 @@ pub returns-in-Ok-clause-lists : goal.returns-in-Ok-clause-lists
 returns-in-Ok-clause-lists c = λ k. (
   k,
   (
-    subst (λ (kept : Kept). is_there kept.maildir.there c.args.folder ≡ true) c.self.view_is (is_all_there c.args.folder),
-    theirs_of c.args.self.now c.args.folder c.in-Ok.names.items c.files.ensures.both (c.in-Ok.ensures ∙ ap names_of c.files.ensures.files),
-    refl,
+    c.args.self.now.maildir.files,
+    part_same c.args.self.now.maildir.files,
+    (
+      subst (λ (kept : Kept). is_there kept.maildir.there c.args.folder ≡ true) c.self.view_is (is_all_there c.args.folder),
+      theirs_of c.args.self.now c.args.folder c.in-Ok.names.items c.files.ensures.both (c.in-Ok.ensures ∙ ap names_of c.files.ensures.files),
+      refl,
+    ),
   ),
 )
+
+pub returns-in-Err-clause-lists : goal.returns-in-Err-clause-lists
+returns-in-Err-clause-lists c = λ k.
+    (search rules, (c.args.self.now.maildir.files, part_same c.args.self.now.maildir.files, search rules))

@@ -1,0 +1,201 @@
+-- Files that readers took away are events of a run.
+use Rattle.std.proofs.Common.{◌≡◌, ◌≢◌, ◌⊎◌, inl, inr, ◌<◌, ◌≤◌, ℕ, List, [], ◌∷◌, Bool, true, false, not, length, take, refl, sym, ap, subst, ◌∙◌, arith}
+use Rattle.std.specs.Prelude.{bytes_eq}
+use Rattle.std.specs.List.{filter, list_any}
+use Rattle.std.proofs.lemmas.Bool.{cases_Bool, false_from_ne_true, or_cases, true≢false}
+use Rattle.std.proofs.lemmas.Slice.Eq.{bytes_eq-Decides}
+use Rattle.mail_terms.specs.UniqueId.{has_id, is_legal_id}
+use Rattle.mail_store.specs.FlatFile.{Stored}
+use Rattle.mail_store.specs.Maildir.{File, IsPart, Maildir, with_files}
+use Rattle.mail_store.specs.FileName.{StemsDiffer, names_id, stem, stem_of}
+use Rattle.run_law.specs.Accounts.{copies}
+use Rattle.run_law.specs.Mails.{ids_of, selected}
+use Rattle.fetch_session.specs.Session.{kept}
+use Rattle.fetch_runs.specs.Headline.{World, State, Event, Between, TakenAway, AreTaken, Headline, IsTakenAway, TakingsAreEvents, account_of}
+
+abbrev others_than : List ℕ → List File → List File
+others_than front fs = filter (λ (f : File). not (bytes_eq front (stem f.name))) fs
+
+-- none of them is left
+none_left : (front : List ℕ) (fs : List File) → copies (others_than front fs) front ≡ []
+none_left front [] = refl
+none_left front (f ∷ fs) = by (none_left front fs) (bytes_eq front (stem f.name)) refl
+  where
+    by : copies (others_than front fs) front ≡ [] → (b : Bool) → bytes_eq front (stem f.name) ≡ b → copies (others_than front (f ∷ fs)) front ≡ []
+    by rest true e = grind (arith, e, rest)
+    by rest false e = grind (arith, e, rest)
+
+-- those of another stem are as they were
+others_left : (front other : List ℕ) (fs : List File) → (other ≡ front → ⊥) → copies (others_than front fs) other ≡ copies fs other
+others_left front other [] apart = refl
+others_left front other (f ∷ fs) apart = by (others_left front other fs apart) (bytes_eq front (stem f.name)) refl
+  where
+    not_other : bytes_eq front (stem f.name) ≡ true → bytes_eq other (stem f.name) ≡ false
+    not_other e = false_from_ne_true (bytes_eq other (stem f.name)) (λ same.
+        apart ((bytes_eq-Decides other (stem f.name)).0 same ∙ sym ((bytes_eq-Decides front (stem f.name)).0 e)))
+
+    by : copies (others_than front fs) other ≡ copies fs other → (b : Bool) → bytes_eq front (stem f.name) ≡ b → copies (others_than front (f ∷ fs)) other ≡ copies (f ∷ fs) other
+    by rest true e = let no = not_other e in grind (arith, e, no, rest)
+    by rest false e = grind (arith, e, rest)
+
+-- ---- what is left of an id's files
+
+-- all that an id's files held, or less
+part_copies : (front : List ℕ) (fs left : List File) → IsPart fs left → (copies left front ≡ copies fs front) ⊎ (length (copies left front) < length (copies fs front))
+part_copies front [] left is = inl (ap (λ (ts : List File). copies ts front) is)
+part_copies front (f ∷ fs) left (inl is) = by (part_copies front fs left is) (bytes_eq front (stem f.name)) refl
+  where
+    by : (copies left front ≡ copies fs front) ⊎ (length (copies left front) < length (copies fs front)) → (b : Bool) → bytes_eq front (stem f.name) ≡ b
+        → (copies left front ≡ copies (f ∷ fs) front) ⊎ (length (copies left front) < length (copies (f ∷ fs) front))
+    by rest false e = rw e rest
+    by (inl same) true e = let long = ap length same in rw e (inr (omega (arith, long)))
+    by (inr less) true e = rw e (inr (omega (arith, less)))
+part_copies front (f ∷ fs) left (inr (rest, e, is)) =
+    subst (λ (ts : List File). (copies ts front ≡ copies (f ∷ fs) front) ⊎ (length (copies ts front) < length (copies (f ∷ fs) front))) (sym e)
+    (by (part_copies front fs rest is) (bytes_eq front (stem f.name)) refl)
+  where
+    by : (copies rest front ≡ copies fs front) ⊎ (length (copies rest front) < length (copies fs front)) → (b : Bool) → bytes_eq front (stem f.name) ≡ b
+        → (copies (f ∷ rest) front ≡ copies (f ∷ fs) front) ⊎ (length (copies (f ∷ rest) front) < length (copies (f ∷ fs) front))
+    by more false e = rw e more
+    by (inl same) true e = rw e (inl (ap (λ (cs : List (List ℕ)). f.content ∷ cs) same))
+    by (inr less) true e = rw e (inr (omega (arith, less)))
+
+-- an id with files is held
+some_held : (account id : List ℕ) (fs : List File) → copies fs (stem_of account id) ≢ [] → list_any (λ (f : File). names_id account id f.name) fs ≡ true
+some_held account id [] some = absurd (some refl)
+some_held account id (f ∷ fs) some = by (some_held account id fs) (bytes_eq (stem_of account id) (stem f.name)) refl
+  where
+    by : (copies fs (stem_of account id) ≢ [] → list_any (λ (f : File). names_id account id f.name) fs ≡ true) → (b : Bool) → bytes_eq (stem_of account id) (stem f.name) ≡ b
+        → list_any (λ (f : File). names_id account id f.name) (f ∷ fs) ≡ true
+    by more true e = rw e refl
+    by more false e = rw e (more (λ none. some (rw e none)))
+
+less_than_one : {A : Type 0} (xs ys : List A) → length xs < length ys → length ys ≤ 1 → (xs ≡ []) × (ys ≢ [])
+less_than_one [] ys less one = (refl, λ none. let e = ap length none in absurd (omega (arith, less, e)))
+less_than_one (x ∷ xs) ys less one = absurd (omega (arith, less, one))
+
+nothing_or_some : {A : Type 0} (xs : List A) → (xs ≡ []) ⊎ (xs ≢ [])
+nothing_or_some [] = inl refl
+nothing_or_some (x ∷ xs) = inr (λ none. cc)
+
+-- ---- one id after another
+
+-- the files of each legal id are as they are left; or it is one of these ids, and its files are to be taken away
+abbrev AreDue : List ℕ → List File → List (List ℕ) → List File → Type 0
+AreDue account left ids fs = (id : List ℕ) → is_legal_id id ≡ true → (copies left (stem_of account id) ≡ copies fs (stem_of account id))
+    ⊎ ((has_id ids id ≡ true) × (copies left (stem_of account id) ≡ []) × (copies fs (stem_of account id) ≢ []))
+
+module _ (differ : StemsDiffer) (world : World) (maildir : Maildir) (file : Stored) (gone : List (List ℕ)) (left : List File) where
+  abbrev account : List ℕ
+  account = account_of world
+
+  abbrev with_kept : List File → List (List ℕ) → State
+  with_kept fs taken = record { kept = kept (with_files fs maildir) file; gone = gone; taken = taken }
+
+  abbrev Told : List File → List (List ℕ) → Type 0
+  Told fs taken = (events : List Event) × AreTaken world (with_kept fs taken) left events
+
+  -- its files are taken away
+  abbrev IsDue : List File → List ℕ → Type 0
+  IsDue fs id = (is_legal_id id ≡ true) × (copies left (stem_of account id) ≡ []) × (copies fs (stem_of account id) ≢ [])
+
+  is_due : (fs : List File) (id : List ℕ) → IsDue fs id ⊎ (IsDue fs id → ⊥)
+  is_due fs id = by (cases_Bool (is_legal_id id)) (nothing_or_some (copies left (stem_of account id))) (nothing_or_some (copies fs (stem_of account id)))
+    where
+      by : (is_legal_id id ≡ true) ⊎ (is_legal_id id ≡ false) → (copies left (stem_of account id) ≡ []) ⊎ (copies left (stem_of account id) ≢ [])
+          → (copies fs (stem_of account id) ≡ []) ⊎ (copies fs (stem_of account id) ≢ []) → IsDue fs id ⊎ (IsDue fs id → ⊥)
+      by (inl legal) (inl none) (inr some) = inl (legal, none, some)
+      by (inr other) none some = inr (λ due. true≢false (sym due.0 ∙ other))
+      by legal (inr some) there = inr (λ due. some due.1)
+      by legal none (inl gone) = inr (λ due. due.2 gone)
+
+  apart : (a b : List ℕ) → is_legal_id a ≡ true → is_legal_id b ≡ true → bytes_eq a b ≡ false → stem_of account a ≡ stem_of account b → ⊥
+  apart a b la lb not same = true≢false (sym ((bytes_eq-Decides a b).1 (differ account a b la lb same)) ∙ not)
+
+  -- the id isn't due
+  passed : (fs : List File) (id : List ℕ) (ids : List (List ℕ)) → AreDue account left (id ∷ ids) fs → (IsDue fs id → ⊥) → AreDue account left ids fs
+  passed fs id ids due not other l = by (due other l)
+    where
+      by : (copies left (stem_of account other) ≡ copies fs (stem_of account other))
+          ⊎ ((has_id (id ∷ ids) other ≡ true) × (copies left (stem_of account other) ≡ []) × (copies fs (stem_of account other) ≢ []))
+          → (copies left (stem_of account other) ≡ copies fs (stem_of account other))
+          ⊎ ((has_id ids other ≡ true) × (copies left (stem_of account other) ≡ []) × (copies fs (stem_of account other) ≢ []))
+      by (inl same) = inl same
+      by (inr (among, none, some)) = elim (or_cases (bytes_eq other id) (has_id ids other) among) [
+        | inl is ↦ absurd (not (subst (IsDue fs) ((bytes_eq-Decides other id).0 is) (l, none, some)))
+        | inr more ↦ inr (more, none, some)
+      ]
+
+  -- it is, and its files are taken away
+  abbrev without : List ℕ → List File → List File
+  without id fs = others_than (stem_of account id) fs
+
+  took : (fs : List File) (id : List ℕ) (ids : List (List ℕ)) → AreDue account left (id ∷ ids) fs → IsDue fs id → AreDue account left ids (without id fs)
+  took fs id ids due is other l = by (cases_Bool (bytes_eq other id)) (due other l)
+    where
+      by : (bytes_eq other id ≡ true) ⊎ (bytes_eq other id ≡ false) → (copies left (stem_of account other) ≡ copies fs (stem_of account other))
+          ⊎ ((has_id (id ∷ ids) other ≡ true) × (copies left (stem_of account other) ≡ []) × (copies fs (stem_of account other) ≢ []))
+          → (copies left (stem_of account other) ≡ copies (without id fs) (stem_of account other))
+          ⊎ ((has_id ids other ≡ true) × (copies left (stem_of account other) ≡ []) × (copies (without id fs) (stem_of account other) ≢ []))
+      by (inl same) others =
+          inl (subst (λ (x : List ℕ). copies left (stem_of account x) ≡ copies (without id fs) (stem_of account x)) (sym ((bytes_eq-Decides other id).0 same))
+          (is.1 ∙ sym (none_left (stem_of account id) fs)))
+      by (inr not) (inl same) = inl (same ∙ sym (others_left (stem_of account id) (stem_of account other) fs (apart other id l is.0 not)))
+      by (inr not) (inr (among, none, some)) = elim (or_cases (bytes_eq other id) (has_id ids other) among) [
+        | inl same ↦ absurd (true≢false (sym same ∙ not))
+        | inr more ↦ inr (more, none, λ gone. some (sym (others_left (stem_of account id) (stem_of account other) fs (apart other id l is.0 not)) ∙ gone))
+      ]
+
+  is_taken : (fs : List File) (id : List ℕ) → IsDue fs id → IsTakenAway world (kept (with_files fs maildir) file) id (kept (with_files (without id fs) maildir) file)
+  is_taken fs id due = record {
+    legal = due.0;
+    held = some_held account id fs due.2;
+    none = none_left (stem_of account id) fs;
+    record_is = λ rows keeps. keeps;
+    others = λ other l not. others_left (stem_of account id) (stem_of account other) fs (apart other id l due.0 not);
+  }
+
+  one_more : (fs : List File) (id : List ℕ) (taken : List (List ℕ)) → IsDue fs id → Told (without id fs) (id ∷ taken) → Told fs taken
+  one_more fs id taken due (events, told) = (
+    TakenAway id (kept (with_files (without id fs) maildir) file) ∷ events,
+    record { each = told.each; run = (is_taken fs id due, told.run); kept = told.kept; gone = told.gone },
+  )
+
+  -- all others are files of other names
+  rest : (fs : List File) (taken : List (List ℕ)) → AreDue account left [] fs → Told fs taken
+  rest fs taken due = (
+    Between (kept (with_files left maildir) file) ∷ [],
+    record { each = tt; run = (record { record_is = λ rows keeps. keeps; mail = λ id l. same id (due id l) }, tt); kept = refl; gone = refl },
+  )
+    where
+      same : (id : List ℕ) → (copies left (stem_of account id) ≡ copies fs (stem_of account id))
+          ⊎ ((has_id [] id ≡ true) × (copies left (stem_of account id) ≡ []) × (copies fs (stem_of account id) ≢ []))
+          → copies left (stem_of account id) ≡ copies fs (stem_of account id)
+      same id (inl is) = is
+      same id (inr (never, none, some)) = absurd (true≢false (sym never))
+
+  all_told : (ids : List (List ℕ)) (fs : List File) (taken : List (List ℕ)) → AreDue account left ids fs → Told fs taken
+  all_told [] fs taken due = rest fs taken due
+  all_told (id ∷ ids) fs taken due = elim (is_due fs id) [
+    | inl is ↦ one_more fs id taken is (all_told ids (without id fs) (id ∷ taken) (took fs id ids due is))
+    | inr not ↦ all_told ids fs taken (passed fs id ids due not)
+  ]
+
+pub takings_are_events : Headline → StemsDiffer → TakingsAreEvents
+takings_are_events law differ world state left sound is part =
+    let holds = (law world state [] sound is tt).0 in
+    let account = account_of world in
+    let ids = ids_of (take holds.j (selected world.max_size world.all)) in
+    let files = state.kept.maildir.files in
+    all_told differ world state.kept.maildir state.kept.file state.gone left ids files state.taken
+    (λ id l. due ids account files id (holds.ids id l) (holds.once id l) (part_copies (stem_of account id) files left part))
+  where
+    due : (ids : List (List ℕ)) (account : List ℕ) (files : List File) (id : List ℕ) → (list_any (λ (f : File). names_id account id f.name) files ≡ true → has_id ids id ≡ true)
+        → length (copies files (stem_of account id)) ≤ 1
+        → (copies left (stem_of account id) ≡ copies files (stem_of account id)) ⊎ (length (copies left (stem_of account id)) < length (copies files (stem_of account id)))
+        → (copies left (stem_of account id) ≡ copies files (stem_of account id))
+        ⊎ ((has_id ids id ≡ true) × (copies left (stem_of account id) ≡ []) × (copies files (stem_of account id) ≢ []))
+    due ids account files id among once (inl same) = inl same
+    due ids account files id among once (inr less) =
+        let parts = less_than_one (copies left (stem_of account id)) (copies files (stem_of account id)) less once in
+        inr (among (some_held account id files parts.1), parts.0, parts.1)

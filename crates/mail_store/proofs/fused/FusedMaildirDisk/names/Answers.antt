@@ -1,0 +1,8 @@
+use Rattle.std.proofs.Common.{rules}
+use Rattle.mail_store.proofs.TakingLemmas.{part_same}
+use Rattle.mail_store.proofs.fused.FusedMaildirDisk.names.Goals as goal
+
+pub returns-in_err-pass-clause-lists : goal.returns-in_err-pass-clause-lists
+returns-in_err-pass-clause-lists g c = λ s.
+    let files = (g.D.MaildirDisk.maildir c.args.self.now.device).files in
+    (search rules, (files, part_same files, search rules))
