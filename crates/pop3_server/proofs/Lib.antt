@@ -8,9 +8,9 @@ mod HonestTurns
 mod LeaveLemmas
 mod LoopLemmas
 mod OpenLemmas
-mod MakesAnswerLemmas
 mod RemovalLemmas
 mod RowLemmas
+mod SendLemmas
 mod ServeIntakeLemmas
 mod ServeLemmas
 mod SizeLemmas

@@ -242,14 +242,6 @@ long_turn sound mail server line opened long = record {
   answers = rw (long_command line long) (record { removals = refl; does = (refl, refl, refl) });
 }
 
--- nothing is removed while the session goes on
-pub open_removals : {D : Type 0} (sound : D → Type 0) (mail : D → Mail) (asked : Action) (old : D) (answer : List ℕ) (next : State) (new : D)
-    → Answers sound mail asked old answer next new → is_open next ≡ true → (mail new).removals ≡ (mail old).removals
-open_removals sound mail (Say bytes state) old answer next new a opened = a.removals
-open_removals sound mail Open old answer next new a opened = a.removals
-open_removals sound mail (Give rows i line top) old answer next new a opened = a.removals
-open_removals sound mail (Leave rows) old answer next new a opened = absurd (let e : false ≡ true = rw a.does.0 at opened in cc)
-
 -- the line that waits, and what is left after it
 pub line_octets : (before mid after : Waiting) (g seen : List ℕ) (n : ℕ) → Queues before [] mid g → HasLine 512 mid.octets n → seen ≡ mid.octets
     → after ≡ record { octets = drop (n + 2) mid.octets; left = mid.left }

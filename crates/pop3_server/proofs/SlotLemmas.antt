@@ -67,11 +67,6 @@ count-removed (Some m ∷ slots) zero = omega arith
 count-removed (None ∷ slots) (suc i) = count-removed slots i
 count-removed (Some m ∷ slots) (suc i) = let h = count-removed slots i in omega (arith, h)
 
-pub count-take : (slots : List (Option Message)) → length (there slots) ≤ length slots
-count-take [] = omega arith
-count-take (None ∷ slots) = let h = count-take slots in omega (arith, h)
-count-take (Some m ∷ slots) = let h = count-take slots in omega (arith, h)
-
 -- the ids of a listing are those of the messages
 pub ids-listed : (ms : List Message) → map (λ (e : Listed). e.uid) (map entry_of ms) ≡ map (λ (m : Message). m.uid) ms
 ids-listed [] = refl

@@ -34,10 +34,6 @@ read_on mail after i n read piece fits (message, at, begins) (same, (other, ther
           ∙ ap (λ k. take k message.text) (sym (length-append read (take n piece) ∙ ap (λ k. length read + k) (length-take-le n piece fits))),
     )
 
-denied : (fault : DropFault) (before after : Mail) → Denies before fault after → after ≡ after_call (is_refusal fault) before
-denied Refused before after denies = denies
-denied NoMemory before after denies = denies
-
 call_slots : (refused : Bool) (before after : Mail) → after ≡ after_call refused before → after.slots ≡ before.slots
 call_slots true before after is = ap (λ (m : Mail). m.slots) is
 call_slots false before after is = ap (λ (m : Mail). m.slots) is
@@ -70,22 +66,8 @@ module _ {D : Type 0} (sound : D → Type 0) (mail : D → Mail) where
     known = λ s. let now = gives s in (now.0, now.1.0);
   }
 
-  pub reads_denied : (a b : D) (fault : DropFault) → Tallies (is_refusal fault) (mail a).failures (mail b).failures → (mail b).removals ≡ (mail a).removals
-      → (sound b → sound a × Denies (mail a) fault (mail b)) → OnlyReads sound mail (is_refusal fault) a b
-  reads_denied a b fault tally removals denies = record {
-    failures = tally;
-    removals = removals;
-    known = λ s. let now = denies s in (now.0, denied fault (mail a) (mail b) now.1);
-  }
-
   pub reads_slots : (refused : Bool) (a b : D) → OnlyReads sound mail refused a b → sound b → sound a × ((mail b).slots ≡ (mail a).slots)
   reads_slots refused a b reads s = let now = reads.known s in (now.0, call_slots refused (mail a) (mail b) now.1)
-
-  pub reads_place : (a b : D) (i k : ℕ) → OnlyReads sound mail false a b → k ≡ i → (sound a → HasPlace (mail a) i) → sound b → HasPlace (mail b) k
-  reads_place a b i k reads same has s =
-      let now = reads_slots false a b reads s in
-      let place = has now.0 in
-      (place.0, ap (slice_get (mail b).slots) same ∙ ap (λ (slots : List (Option Message)). slice_get slots i) now.1 ∙ place.1)
 
   pub reads_tied : (refused : Bool) (a b : D) (state : State) → OnlyReads sound mail refused a b → Tied (sound a) (mail a) state → Tied (sound b) (mail b) state
   reads_tied refused a b (Authorization kept) reads tied = tt
@@ -95,20 +77,7 @@ module _ {D : Type 0} (sound : D → Type 0) (mail : D → Mail) where
       (place.0, ap (λ (slots : List (Option Message)). slice_get slots i) now.1 ∙ place.1)
   reads_tied refused a b Closed reads tied = tt
 
-  pub reads_nothing : (a b : D) → OnlyReads sound mail false a b → Unanswered sound mail a b
-  reads_nothing a b reads = record {
-    failures = reads.failures;
-    removals = reads.removals;
-    messages = λ s. let now = reads.known s in (now.0, ap (λ (m : Mail). there m.slots) now.1);
-  }
-
   -- ---- an answer with a text
-
-  pub begins_place : (asked : Action) (old new : D) (made : List ℕ) (text : TextBody) (next : State) → BeginsAnswer sound mail asked old made text next new
-      → sound new → HasPlace (mail new) text.place
-  begins_place asked old new made text next begins s =
-      let first = begins.known s in
-      (first.0, ap (λ (m : Mail). slice_get m.slots text.place) (begins.reads.known s).1 ∙ first.1)
 
   -- its first line was made
   pub begins_new : (d : D) (rows : List MessageRow) (line : List ℕ) (top : Option ℕ) (text : TextBody) → text.start ≡ 0

@@ -145,11 +145,6 @@ done_takes_none false in_line (suc n) later none (byte ∷ rest) = absurd (omega
 
 -- ---- its body
 
-pub top_of_text : (n : ℕ) (text top : List ℕ) (in_head in_line : Bool) (left : ℕ)
-    → ((rest : List ℕ) → top_octets true false n (text ++ rest) ≡ top ++ top_octets in_head in_line left rest) → top_octets true false n text ≡ top
-top_of_text n text top in_head in_line left so_far =
-    ap (top_octets true false n) (sym (append-nil text)) ∙ so_far [] ∙ ap (λ (l : List ℕ). top ++ l) (none_taken in_head in_line left) ∙ append-nil top
-
 pub top_body : (n : ℕ) (text top : List ℕ) → top_octets true false n text ≡ top → sent_piece false top ++ sent_end (is_open_after false top) ≡ text_body (Some n) text
 top_body n text top is = sent_whole top ∙ ap (λ (t : List ℕ). stuffed_lines (lines_of_text t)) (sym is) ∙ ap stuffed_lines (lines_of_whole_top n text)
 

@@ -3,7 +3,7 @@ use Rattle.std.specs.Prelude.{vec_capacity}
 use Rattle.std.proofs.lemmas.List.{append-nil}
 use Rattle.pop3_server.specs.declared.text_part.TextBody.{TextBody}
 use Rattle.pop3_server.specs.AnswersLines.{MakesAnswer}
-use Rattle.pop3_server.proofs.MakesAnswerLemmas.{part_sent, room_for, sent_on}
+use Rattle.pop3_server.proofs.SendLemmas.{part_sent, room_for, sent_on}
 use Rattle.pop3_server.proofs.serving.answer_line.Goals as goal
 
 pub loop-fault-init : goal.loop-fault-init

@@ -2,7 +2,7 @@ use Rattle.std.proofs.Common.{◌≡◌, ◌≤◌, ◌<◌, ◌++◌, ℕ, List
 use Rattle.std.specs.Prelude.{IfSome, vec_capacity}
 use Rattle.pop3_server.specs.AnswersLines.{MakesAnswer}
 use Rattle.pop3_server.specs.ServerMachine.{is_open}
-use Rattle.pop3_server.proofs.MakesAnswerLemmas.{to_come}
+use Rattle.pop3_server.proofs.SendLemmas.{to_come}
 use Rattle.pop3_server.proofs.serving.answer_line.Given as goal
 
 abbrev pub invariant-loop-fault : goal.invariant-loop-fault
