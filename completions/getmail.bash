@@ -33,6 +33,6 @@ _getmail() {
             return ;;
     esac
     mapfile -t COMPREPLY < <(compgen -W '-a --all -d --delete -g --getmaildir -h --help
-        -l --dont-delete -n --new --pretend -q --quiet -r --rcfile --rehearse --trace -v --verbose -V --version' -- "$word")
+        -l --dont-delete -n --new --pretend -q --quiet -r --rcfile --rehearse --trace -v --verbose -V --version --why' -- "$word")
 }
 complete -F _getmail getmail

@@ -39,6 +39,7 @@ class Account:
         self.folder.mkdir()
         self.rcfile = self.folder / "getmailrc"
         self.rcfile.write_text(RC.format(server=LOOPBACK, port=port) + options)
+        self.rcfile.chmod(0o600)
         self.digest = hashlib.sha256(f"{LOOPBACK}\0{port}\0{user}".encode()).hexdigest()
         self.record = self.folder / f"seen-{self.digest}"
 

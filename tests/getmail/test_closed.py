@@ -17,7 +17,7 @@ from harness import programs
 MESSAGES = [(b"a", b"one\n"), (b"b", b"two of many lines\n" * 1_000), (b"c", b"three\n")]
 TEXTS = [text for _, text in MESSAGES]
 EACH_DELETED = ["RETR 1", "DELE 1", "RETR 2", "DELE 2", "RETR 3", "DELE 3", "QUIT"]
-CLOSED = b"getmail: standard output is closed\n"
+CLOSED = b"getmail: cannot write standard output\n"
 
 
 class Closed(unittest.TestCase):

@@ -63,7 +63,7 @@ class RefusedGrowths(unittest.TestCase):
             return "cut"
         whole = run.out == b"" or run.out.endswith(b"\n")
         begun = whole and any(out.startswith(run.out) for out in (answer.out, *cuts))
-        return "given up" if run == NO_WORDS or (begun and (run.status, run.err) == (1, b"")) else None
+        return "given up" if run == NO_WORDS or (begun and (run.status, run.err) == (1, NO_WORDS.err)) else None
 
     def test_one_message(self):
         wanted = known.ended("", known.replies())

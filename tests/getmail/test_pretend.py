@@ -197,9 +197,14 @@ class IntoMboxrd(Pretends, unittest.TestCase):
         """A run would settle it; here it stays, whole or not, and the line says so."""
         rows = record_of((b"a", 5, 1), (b"b", 5, 0), (b"c", 5, 0))
         self.account.record.write_bytes(rows + b"! b 0 40\n")
-        for content in (b"", b"From MAILER-DAEMON", b"x\n"):
-            self.account.mbox.write_bytes(content)
-            told = self.check_run(0, b"", ["QUIT"])
+        for content in (b"", b"Fro", b"From MAILER-DAEMON", b"x\n", None):
+            fault = b"getmail: destination is no mbox\n" if content == b"x\n" else b""
+            if content is None:
+                self.account.mbox.unlink()
+                fault = b"getmail: destination missing\n"
+            else:
+                self.account.mbox.write_bytes(content)
+            told = self.check_run(1 if fault else 0, fault, ["QUIT"])
             self.assertEqual(told, [
                 "the last entry of the mbox file is looked at first: if it is whole, its message is not fetched",
                 "msg 1/3 (5 octets) delivered before", "msg 2/3 (5 octets) would be fetched",

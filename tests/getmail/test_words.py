@@ -86,6 +86,7 @@ Options:
   -g, --getmaildir <DIR>  Keep the rc file and the record in DIR [~/.getmail]
   -v, --verbose...        Report more, each time by one, up to 2
   -q, --quiet...          Write no report
+      --why               Say why a run failed, also if standard error is no terminal
       --trace             Show the conversation and refused calls of the system on standard error
   -a, --all...            Fetch all messages, also those that were delivered before
   -n, --new...            Fetch only messages that were not delivered before

@@ -31,9 +31,4 @@ impl StandIns {
             error: stand_in(rt, 2),
         }
     }
-
-    /// Whether standard output was closed.
-    pub fn lack_output(&self) -> bool {
-        self.output.is_some()
-    }
 }

@@ -1,10 +1,10 @@
 //! The TCP connection to the server.
-use crate::host::Host;
+use crate::host::{Host, Trace};
 use fetch_rules::Settings;
 use getmail_program::{Failure, failure_of};
 use pop3_wire::StreamWire;
 use std::alloc::AllocError;
-use std::io::{self, Stderr};
+use std::io;
 use std::net::{SocketAddr, TcpStream, ToSocketAddrs};
 use std::time::Duration;
 use trace::{Side, Traced, TracedWire};
@@ -17,10 +17,10 @@ const CONNECT_SECONDS: u64 = 60;
 const WAIT_SECONDS: u64 = 180;
 
 /// A connection, or one end of it, whose refused calls are traced.
-type End<'a> = Traced<&'a TcpStream, Stderr>;
+type End<'a> = Traced<&'a TcpStream, Trace<'a>>;
 
 /// The link over a connection.
-pub type Link<'a> = TracedWire<StreamWire<End<'a>, End<'a>>, Stderr>;
+pub type Link<'a> = TracedWire<StreamWire<End<'a>, End<'a>>, Trace<'a>>;
 
 /// Connects to one address, and limits how long reads and writes wait. Each command goes out at once.
 fn connect_to(rt: &HostRuntime, address: SocketAddr) -> io::Result<TcpStream> {
@@ -33,7 +33,7 @@ fn connect_to(rt: &HostRuntime, address: SocketAddr) -> io::Result<TcpStream> {
 }
 
 /// Writes that an address took no connection, if there is a trace. Without memory it is left out.
-fn tell_refused(host: &Host, address: SocketAddr, error: io::Error) {
+fn tell_refused(host: &Host<'_>, address: SocketAddr, error: io::Error) {
     if host.err().is_none() {
         return;
     }
@@ -43,7 +43,7 @@ fn tell_refused(host: &Host, address: SocketAddr, error: io::Error) {
 }
 
 /// Connects to the first of the server's addresses that takes the connection.
-pub fn connect<'a>(host: &Host, server: &'a str, port: u16) -> Result<TcpStream, Failure<'a>> {
+pub fn connect<'a>(host: &Host<'_>, server: &'a str, port: u16) -> Result<TcpStream, Failure<'a>> {
     let rt = host.inner();
     let addresses = host.told("getaddrinfo", server, (server, port).to_socket_addrs(rt));
     let addresses = match addresses {
@@ -59,24 +59,44 @@ pub fn connect<'a>(host: &Host, server: &'a str, port: u16) -> Result<TcpStream,
     Err(Failure::CannotConnect(server, port))
 }
 
-/// The link over a connection to the server, with the trace that the program's runtime has.
-pub fn link_over<'a>(
-    host: &Host,
-    stream: &'a TcpStream,
-    settings: &Settings,
-) -> Result<Link<'a>, AllocError> {
+/// What a trace of a link needs: where it goes, the peer's name in it, and the password that it hides.
+#[derive(Drop)]
+pub struct LinkTrace<'a> {
+    trace: Option<Trace<'a>>,
+    peer: String,
+    password: Option<Vec<u8>>,
+}
+
+/// What the trace of the link needs. It is made before there is a connection, so that want of memory
+/// doesn't end one.
+pub fn link_trace<'a>(host: &Host<'a>, settings: &Settings) -> Result<LinkTrace<'a>, AllocError> {
     let alloc = host.alloc();
-    let err = host.err();
-    let mut peer = String::new(alloc);
-    let mut password = None;
-    if err.is_some() {
-        let server = settings.server.as_str();
-        let port = settings.port;
-        peer = format!(in alloc; "{server}:{port}")?;
-        password = Some(Vec::from_slice(alloc, settings.password.as_bytes())?);
-    }
-    let reader = Traced::new(alloc, stream, peer.as_str(), err);
-    let writer = Traced::new(alloc, stream, peer.as_str(), err);
+    let Some(keeper) = host.err() else {
+        return Ok(LinkTrace {
+            trace: None,
+            peer: String::new(alloc),
+            password: None,
+        });
+    };
+    let server = settings.server.as_str();
+    let port = settings.port;
+    Ok(LinkTrace {
+        trace: Some(keeper.for_link()),
+        peer: format!(in alloc; "{server}:{port}")?,
+        password: Some(Vec::from_slice(alloc, settings.password.as_bytes())?),
+    })
+}
+
+/// The link over a connection to the server, with this trace.
+pub fn link_over<'a>(host: &Host<'a>, stream: &'a TcpStream, link: LinkTrace<'a>) -> Link<'a> {
+    let alloc = host.alloc();
+    let LinkTrace {
+        trace,
+        peer,
+        password,
+    } = link;
+    let reader = Traced::new(alloc, stream, peer.as_str(), trace);
+    let writer = Traced::new(alloc, stream, peer.as_str(), trace);
     let wire = StreamWire::new(reader, writer);
-    Ok(TracedWire::new(alloc, wire, Side::Client, err, password))
+    TracedWire::new(alloc, wire, Side::Client, trace, password)
 }

@@ -7,18 +7,20 @@ ghost use Rattle.rc_file.specs.Settings.{IsValid};
 mod connection;
 mod host;
 
-use crate::connection::{connect, link_over};
+use crate::connection::{LinkTrace, connect, link_over, link_trace};
 use crate::host::{Host, host_of};
 use command_line::StandIns;
-use fetch_rules::RcFault;
+use fetch_rules::{RcFault, Settings};
 use folder_store::ProcessMark;
 use getmail_program::{
-    Failure, Setup, Words, explain, failure_of, fetch_over, read_words, rehearse, set_up, tell,
+    Errors, Failure, Setup, Words, explain, fail, failure_of, fetch_over, read_words, rehearse,
+    set_up, tell,
 };
 use std::env;
 use std::hash::RandomState;
-use std::io::{self, ErrorKind};
+use std::io::{self, ErrorKind, IsTerminal, Stderr};
 use std::process::ExitCode;
+use trace::Reasons;
 
 /// The random values of a run: keys for hashing, since a server chooses the unique-ids and mustn't be
 /// able to choose ids that collide, and the mark of the files that the run writes.
@@ -28,44 +30,62 @@ fn draw(rt: &HostRuntime) -> io::Result<(RandomState, ProcessMark)> {
     Ok((hasher, mark))
 }
 
+/// What a run needs before it connects: the random values, and what the trace of the link needs.
+type Prepared<'a> = ((RandomState, ProcessMark), LinkTrace<'a>);
+
+/// Prepares a run, so that nothing is refused for want of memory between the connection and the session.
+fn prepare<'a, 'b>(host: &Host<'a>, settings: &Settings) -> Result<Prepared<'a>, Failure<'b>> {
+    match draw(host.inner()) {
+        Ok(drawn) => Ok((drawn, link_trace(host, settings)?)),
+        Err(error) => Err(failure_of(error, Failure::CannotRead)),
+    }
+}
+
 /// Connects, runs one session or only shows what it would do, and returns the exit status.
-fn fetch(host: &Host, setup: Setup) -> u8
+fn fetch(host: &Host<'_>, setup: Setup, errors: Errors<'_, Stderr>) -> u8
     requires { IsValid setup.settings }
     ensures { result ≤ 2 }
 {
     let rt = host.inner();
-    let drawn = match draw(rt) {
-        Ok(drawn) => drawn,
-        Err(error) => return tell(rt, failure_of(error, Failure::CannotRead)),
-    };
     let settings = &setup.settings;
+    let prepared = match prepare(host, settings) {
+        Ok(prepared) => prepared,
+        Err(failure) => return fail(rt, failure, None, &errors),
+    };
+    let (drawn, link) = prepared;
     let stream = match connect(host, settings.server.as_str(), settings.port) {
         Ok(stream) => stream,
-        Err(failure) => return tell(rt, failure),
+        Err(failure) => return fail(rt, failure, Some(settings), &errors),
     };
-    let link = match link_over(host, &stream, settings) {
-        Ok(link) => link,
-        Err(error) => return tell(rt, error.into()),
-    };
-    fetch_over(host, setup, link, drawn, &mut rt.stdout(), rt.stderr())
+    let link = link_over(host, &stream, link);
+    fetch_over(host, setup, link, drawn, &mut rt.stdout(), errors)
 }
 
 /// Does what the command line asks for, and returns the exit status.
 fn obey(rt: &HostRuntime, words: &Words) -> u8
     ensures { result ≤ 2 }
 {
-    let host = host_of(rt, words.trace);
+    let mut err = rt.stderr();
+    let is_terminal = err.is_terminal();
+    let reasons = Reasons::new(rt.alloc());
+    let are_told = words.why || is_terminal;
+    let host = host_of(rt, words.trace, are_told, &reasons);
+    let errors = Errors {
+        err,
+        shows_progress: is_terminal && !words.trace,
+        reasons: if are_told { Some(&reasons) } else { None },
+    };
     if words.rehearse {
-        let trace = host.err();
-        let status = rehearse(rt.alloc(), words.flags, rt.stdin(), rt.stdout(), trace);
+        let streams = (rt.stdin(), rt.stdout());
+        let status = rehearse(rt.alloc(), words.flags, streams, &mut err, host.err());
         if status == 2 {
-            return tell(rt, Failure::Rc(RcFault::Contradiction));
+            return fail(rt, Failure::Rc(RcFault::Contradiction), None, &errors);
         }
         return status;
     }
-    match set_up(&host, words) {
-        Ok(setup) => fetch(&host, setup),
-        Err(failure) => tell(rt, failure),
+    match set_up(&host, words, errors.reasons) {
+        Ok(setup) => fetch(&host, setup, errors),
+        Err(failure) => fail(rt, failure, None, &errors),
     }
 }
 
@@ -97,13 +117,10 @@ fn arguments<'a>(rt: &HostRuntime) -> Result<Vec<String>, Failure<'a>> {
 }
 
 fn main(rt: HostRuntime) -> ExitCode {
-    let stand_ins = StandIns::new(&rt);
+    let _stand_ins = StandIns::new(&rt);
     let status = match arguments(&rt) {
         Ok(arguments) => start(&rt, arguments.as_slice()),
         Err(failure) => tell(&rt, failure),
     };
-    if status == 1 && stand_ins.lack_output() {
-        let _ = rt.eprintln("getmail: standard output is closed");
-    }
     ExitCode::from(status)
 }

@@ -10,10 +10,11 @@ use Rattle.getmail_program.specs.declared.words.Words.{Words}
 abbrev pub with_places : App → App
 with_places app = with_rule (with_rule app (value_rule (codes "rcfile") 114)) (value_rule (codes "getmaildir") 103)
 
--- -v, -q, --trace
+-- -v, -q, --why, --trace
 abbrev pub with_loudness : App → App
 with_loudness app =
-    with_rule (with_rule (with_rule app (flag_rule (codes "verbose") 118)) (flag_rule (codes "quiet") 113)) (switch_rule (codes "trace"))
+    with_rule (with_rule (with_rule (with_rule app
+    (flag_rule (codes "verbose") 118)) (flag_rule (codes "quiet") 113)) (switch_rule (codes "why"))) (switch_rule (codes "trace"))
 
 -- -a, -n, -d, -l
 abbrev pub with_choices : App → App
@@ -44,4 +45,5 @@ pub record AsksFor (rows : List Row) (words : Words) : Type 0 where
   pub flags : words.flags ≡ flags_in rows
   pub rehearse : words.rehearse ≡ is_given (codes "rehearse") rows
   pub pretend : words.pretend ≡ is_on (codes "pretend") rows
+  pub why : words.why ≡ is_on (codes "why") rows
   pub trace : words.trace ≡ is_on (codes "trace") rows

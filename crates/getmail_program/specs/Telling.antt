@@ -1,5 +1,7 @@
 -- What is reported of a session.
 use Rattle.std.specs.Prelude.{◌≡◌, ℕ, Bool, true, false, ◌==◌, List, [], ◌++◌, Option, Result, Ok, Err, OnOk, codes}
+use Rattle.std.specs.Fmt.{decimal}
+use Rattle.std.specs.String.{string_bytes}
 use Rattle.std.specs.Io.KnownBytes.{Appends}
 use Rattle.rc_file.specs.declared.settings.Settings.{Settings}
 use Rattle.pop3_client.specs.declared.fault.Fault.{Fault}
@@ -19,6 +21,12 @@ fault_line fault = codes "getmail: " ++ (fault_text fault ++ codes "\n")
 abbrev pub outcome_line : Outcome → List ℕ
 outcome_line Ended = []
 outcome_line (Cut fault) = fault_line fault
+
+-- the line of a reason: the account, and the reason
+abbrev pub reason_line : Settings → List ℕ → List ℕ
+reason_line settings reason =
+    ((codes "getmail: " ++ (string_bytes settings.username ++ (codes "@" ++ (string_bytes settings.server
+    ++ (codes ":" ++ (decimal settings.port ++ codes ": ")))))) ++ reason) ++ codes "\n"
 
 -- the exit status: 0 if the session ended and the report was written
 abbrev pub status_when : Outcome → {E : Type 0} → Result (Unit {0}) E → ℕ

@@ -7,6 +7,9 @@ use fetch_rules::{RcFault, rc_text};
 use std::alloc::{AllocError, AllocFailed, Global};
 use std::io::{self, ErrorKind};
 
+/// The line of want of memory, which needs none.
+pub const OUT_OF_MEMORY: &str = "getmail: out of memory\n";
+
 /// Why a run ends before its session.
 #[derive(Clone, Copy)]
 pub enum Failure<'a> {

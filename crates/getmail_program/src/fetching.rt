@@ -1,5 +1,6 @@
 //! One session over a link, its report, and the line of its fault.
-ghost use Rattle.std.specs.Prelude.{◌≡◌, ◌≤◌, OnOk};
+ghost use Rattle.std.specs.Prelude.{◌≡◌, ◌≤◌, IfOk, OnOk};
+ghost use Rattle.std.specs.String.{string_bytes};
 ghost use Rattle.std.specs.Io.KnownBytes.{Appends};
 ghost use Rattle.fetch_session.specs.Account.{digits_of};
 ghost use Rattle.fetch_session.specs.Pretend.{Pretends};
@@ -11,15 +12,16 @@ ghost use Rattle.fetch_session.specs.declared.preview.Preview.{Preview};
 ghost use Rattle.fetch_session.specs.declared.report.Report.{Report};
 ghost use Rattle.getmail_program.specs.Telling.{Tells, TellsAhead, fault_line, outcome_line, status_of};
 
+use crate::failure::OUT_OF_MEMORY;
 use crate::shown_wire::ShownWire;
 use fetch_rules::Settings;
 use fetch_session::{
-    Account, Fault, Outcome, Preview, Report, fault_text, pretend, preview_text, report_text,
-    session,
+    Account, Fate, Fault, Outcome, Preview, Prospect, Report, fault_text, pretend, preview_text,
+    report_text, session,
 };
 use mail_store::{FlatFile, MaildirDisk};
 use pop3_wire::Wire;
-use std::alloc::Global;
+use std::alloc::{AllocError, Global};
 use std::hash::BuildHasher;
 use std::io::{self, Write};
 
@@ -34,6 +36,8 @@ pub struct Fetched {
     pub report: io::Result<()>,
     /// Whether the line of the fault, if there is one, was written.
     pub fault: io::Result<()>,
+    /// Whether a run would fetch a message, if this was to show what a run would do.
+    pub would_fetch: bool,
 }
 
 impl Fetched {
@@ -84,17 +88,29 @@ fn write_preview<O: Write>(
     write_text(text.as_str(), out)
 }
 
-/// Writes a fault's line.
+/// The line of a fault.
+fn fault_line(alloc: Global, fault: &Fault) -> Result<String, AllocError>
+    ensures { IfOk result (λ line. string_bytes line ≡ fault_line fault.now) }
+{
+    let text = fault_text(alloc, fault)?;
+    format!(in alloc; "getmail: {text}\n")
+}
+
+/// Writes a fault's line, or that memory ran out, if it does here.
 fn write_fault<E: Write>(alloc: Global, fault: &Fault, err: &mut E) -> io::Result<()>
     ensures { OnOk result (Appends (E.contents err.old) (E.contents err.new) (fault_line fault.now)) }
 {
-    let text = fault_text(alloc, fault)?;
-    let line = format!(in alloc; "getmail: {text}\n")?;
-    err.write_all(line.as_bytes())
+    match fault_line(alloc, fault) {
+        Ok(line) => err.write_all(line.as_bytes()),
+        Err(error) => {
+            let _ = err.write_all(OUT_OF_MEMORY.as_bytes());
+            Err(error.into())
+        }
+    }
 }
 
 /// Writes the line of the fault that cut a session, if one did.
-fn write_outcome<E: Write>(alloc: Global, outcome: &Outcome, err: &mut E) -> io::Result<()>
+pub fn write_outcome<E: Write>(alloc: Global, outcome: &Outcome, err: &mut E) -> io::Result<()>
     ensures { OnOk result (Appends (E.contents err.old) (E.contents err.new) (outcome_line outcome.now)) }
 {
     match outcome {
@@ -118,7 +134,16 @@ fn tell_report<O: Write, E: Write>(
         fault: write_outcome(alloc, &report.outcome, err),
         is_idle: report.skipped == report.total,
         outcome: report.outcome,
+        would_fetch: false,
     }
+}
+
+/// Whether a run would fetch a message.
+fn would_fetch(prospects: &[Prospect]) -> bool {
+    prospects.iter().any(|prospect| matches!(
+        prospect.fate,
+        Fate::Fetched | Fate::FetchedAndDeleted
+    ))
 }
 
 /// Writes what a run would do to `out`, then the line of the fault that cut it, if one did, to `err`.
@@ -136,6 +161,7 @@ fn tell_preview<O: Write, E: Write>(
         fault: write_outcome(alloc, &preview.outcome, err),
         is_idle: true,
         outcome: preview.outcome,
+        would_fetch: would_fetch(&preview.prospects),
     }
 }
 

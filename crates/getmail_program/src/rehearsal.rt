@@ -4,7 +4,9 @@ ghost use Rattle.std.specs.Prelude.{◌≡◌, ◌≤◌, ◌<◌, true, IfOk};
 ghost use Rattle.rc_file.specs.Flags.{is_contradiction};
 ghost use Rattle.rc_file.specs.Settings.{IsValid};
 
+use crate::failure::OUT_OF_MEMORY;
 use crate::transcript::Transcript;
+use crate::why::tell_unwritten;
 use fetch_rules::{Dest, Flags, RcFault, Settings, override_with};
 use fetch_session::{Account, Outcome, Store, fault_number, session};
 use mail_store::{AccountId, Folder, MemoryFile, MemoryMaildir, account_id, uid_of};
@@ -92,16 +94,17 @@ fn write_outcome<W: Write>(
 }
 
 /// Runs a session with these settings, and returns the exit status.
-fn rehearse_with<R: Read + Drop, W: Write + Drop, E: Write + Drop>(
+fn rehearse_with<R: Read + Drop, W: Write + Drop, E: Write, T: Write + Drop>(
     alloc: Global,
     settings: Settings,
-    input: R,
-    output: W,
-    trace: Option<E>,
+    streams: (R, W),
+    err: &mut E,
+    trace: Option<T>,
 ) -> u8
     requires { IsValid settings }
     ensures { result ≤ 1 }
 {
+    let (input, output) = streams;
     let store = Store::Maildir(MemoryMaildir::new(alloc));
     let mut account = Account::new(
         alloc,
@@ -119,34 +122,39 @@ fn rehearse_with<R: Read + Drop, W: Write + Drop, E: Write + Drop>(
     let Store::Maildir(maildir) = store else {
         return 1;
     };
-    let written = write_outcome(alloc, &mut output, &maildir, &report.outcome);
-    if written.is_err() || report.outcome != Outcome::Ended {
+    if let Err(error) = write_outcome(alloc, &mut output, &maildir, &report.outcome) {
+        tell_unwritten(&error, err);
         return 1;
     }
-    0
+    if report.outcome == Outcome::Ended {
+        0
+    } else {
+        1
+    }
 }
 
-/// Rehearses a session of user `u` with password `p`: `input` is the server. `output` gets each command
+/// Rehearses a session of user `u` with password `p`: the input is the server. The output gets each command
 /// as it is sent, then a line for each stored message and one for how the session ended. If there is
 /// a writer for a trace, it gets the conversation. The exit status is 0 if the session came to its end;
-/// 1 if it was cut, `output` failed or memory ran out, in which case none of the last lines are written;
-/// 2 for opposite flags, with nothing written.
-pub fn rehearse<R: Read + Drop, W: Write + Drop, E: Write + Drop>(
+/// 1 if it was cut, or if the output failed or memory ran out, in which case none of the last lines are
+/// written and `err` gets the reason; 2 for opposite flags, with nothing written.
+pub fn rehearse<R: Read + Drop, W: Write + Drop, E: Write, T: Write + Drop>(
     alloc: Global,
     flags: Flags,
-    input: R,
-    output: W,
-    trace: Option<E>,
+    streams: (R, W),
+    err: &mut E,
+    trace: Option<T>,
 ) -> u8
     ensures within { result ≤ 2 }
     ensures refused { is_contradiction flags ≡ true → 0 < result }
     ensures opposite { result ≡ 2 → is_contradiction flags ≡ true }
 {
     let Ok(settings) = defaults(alloc) else {
+        let _ = err.write_all(OUT_OF_MEMORY.as_bytes());
         return 1;
     };
     match override_with(settings, flags) {
-        Ok(settings) => rehearse_with(alloc, settings, input, output, trace),
+        Ok(settings) => rehearse_with(alloc, settings, streams, err, trace),
         Err(_) => 2,
     }
 }

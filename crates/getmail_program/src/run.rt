@@ -5,9 +5,11 @@ ghost use Rattle.fetch_session.specs.Target.{IsCalm, kind_of};
 ghost use Rattle.getmail_program.specs.Places.{kind_in};
 ghost use Rattle.getmail_program.specs.Telling.{IsTold, status_of};
 
+use crate::ending::end;
 use crate::fetching::{Fetched, fetch_into, pretend_into};
 use crate::setup::{Setup, account_of};
 use crate::shown_wire::ShownWire;
+use crate::why::Errors;
 use fetch_rules::{Dest, Settings};
 use fetch_session::{Account, Store};
 use folder_store::{FolderMaildir, HostFile, HostFolder, HostFolders, ProcessMark};
@@ -15,10 +17,9 @@ use mail_store::{FlatFile, MaildirDisk};
 use pop3_wire::Wire;
 use std::alloc::Global;
 use std::hash::BuildHasher;
-use std::io::{IsTerminal, Write};
+use std::io::Write;
 use std::rt::{Clock, Files};
 use std::time::{SystemTime, UNIX_EPOCH};
-use trace::TracedHost;
 
 /// Now, in seconds since 1970; 0 before that.
 fn seconds_now(rt: &impl Clock) -> u64 {
@@ -31,15 +32,13 @@ fn seconds_now(rt: &impl Clock) -> u64 {
     }
 }
 
-/// Where the line of progress is shown: on standard error, if that is a terminal and a report is wanted,
-/// and no trace is.
-fn screen_of<R, E: Write + IsTerminal + Copy>(
-    host: &TracedHost<R, E>,
-    err: E,
-    settings: &Settings,
-) -> Option<E> {
-    let is_shown = settings.verbose > 0 && host.err().is_none() && err.is_terminal();
-    if is_shown { Some(err) } else { None }
+/// Where the line of progress is shown, if it is and a report is wanted.
+fn screen_of<E: Copy>(errors: &Errors<'_, E>, settings: &Settings) -> Option<E> {
+    if settings.verbose > 0 && errors.shows_progress {
+        Some(errors.err)
+    } else {
+        None
+    }
 }
 
 /// The Maildir of a run.
@@ -116,33 +115,33 @@ fn hold<D: MaildirDisk, F: FlatFile, H: BuildHasher, W: Wire + Drop, O: Write, E
     mut wire: ShownWire<W, E>,
     manner: Manner,
     out: &mut O,
-    mut err: E,
+    err: &mut E,
 ) -> Fetched
     ensures { status_of result ≡ 0 → IsTold manner.pretends account.old.settings (O.contents out.old) (O.contents out.new) }
 {
     if manner.pretends {
-        pretend_into(alloc, account, &mut wire, manner.now, out, &mut err)
+        pretend_into(alloc, account, &mut wire, manner.now, out, err)
     } else {
-        fetch_into(alloc, account, &mut wire, manner.now, out, &mut err)
+        fetch_into(alloc, account, &mut wire, manner.now, out, err)
     }
 }
 
 /// Runs one session over a link, or only shows what it would do, and returns the exit status. The
-/// caller has drawn the hasher's keys and the mark of the files. The report goes to `out`; the line of
-/// a fault and the line of progress go to `err`.
+/// caller has drawn the hasher's keys and the mark of the files. The report goes to `out`, all else to
+/// standard error.
 pub fn fetch_over<
     R: Files + Clock + AllocGlobal + Clone + Drop,
-    E: Write + IsTerminal + Copy + Drop,
+    E: Write + Copy + Drop,
     W: Wire + Drop,
     H: BuildHasher + Drop,
     O: Write,
 >(
-    host: &TracedHost<R, E>,
+    host: &R,
     setup: Setup,
     wire: W,
     drawn: (H, ProcessMark),
     out: &mut O,
-    err: E,
+    mut errors: Errors<'_, E>,
 ) -> u8
     requires { IsValid setup.settings }
     ensures within { result ≤ 1 }
@@ -154,14 +153,17 @@ pub fn fetch_over<
         record,
         pretends,
     } = setup;
-    let wire = ShownWire::new(host.alloc(), wire, screen_of(host, err, &settings));
+    let wire = ShownWire::new(host.alloc(), wire, screen_of(&errors, &settings));
     let paths = (destination.as_str(), record.as_str());
     let mut account = account_at(host, settings, paths, drawn);
     let manner = Manner {
         now: seconds_now(host),
         pretends,
     };
+    let err = &mut errors.err;
     let fetched = hold(host.alloc(), &mut account, wire, manner, out, err);
+    let settings = account.settings();
+    let status = end(host, settings, paths.0, pretends, &fetched, &mut errors);
     close(account, fetched.is_idle);
-    fetched.status()
+    status
 }

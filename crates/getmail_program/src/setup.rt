@@ -7,15 +7,17 @@ ghost use Rattle.getmail_program.specs.Places.{AreAsked, IsPlaced, joined, path_
 
 use crate::failure::{Failure, failure_of};
 use crate::place::{folder, joined, rc_file, whole_path};
+use crate::rc_reason::keep_reason;
 use crate::words::Words;
-use fetch_rules::{Dest, Settings, Warning, override_with, read_rc, warning_text};
+use fetch_rules::{Dest, Flags, Settings, Warning, override_with, read_rc, warning_text};
 use mail_store::{AccountId, account_id};
 use std::alloc::{AllocError, Global};
 use std::env::Env;
 use std::fs;
 use std::io::{self, Read, Write};
+use std::os::unix::fs::PermissionsExt;
 use std::rt::Files;
-use trace::TracedHost;
+use trace::{Reasons, TracedHost};
 
 /// One octet more than an rc file may have, so that a longer one is noticed.
 const RC_ROOM: u64 = 65_537;
@@ -52,11 +54,45 @@ fn tell_warnings<'a, R: Eprint + AllocGlobal>(
     Ok(())
 }
 
-/// Reads the rc file, writes its warnings, and returns its settings, changed by the flags.
+/// Whether others than its owner may read or write a file.
+fn is_others_too<R: Files>(host: &R, path: &str) -> bool {
+    match fs::metadata(host, path) {
+        Ok(metadata) => metadata.permissions().mode() & 0o066 != 0,
+        Err(_) => false,
+    }
+}
+
+/// Warns if others may read or write the rc file, which has a password.
+fn warn_of_others<R: Files + Eprint, E: Write + Copy>(host: &TracedHost<R, E>, path: &str) {
+    let rt = host.inner();
+    if is_others_too(rt, path) {
+        let _ = rt.eprintln(format_args!(
+            "getmail: warning: others than its owner may read or write {path}"
+        ));
+    }
+}
+
+/// The settings that an rc file of these octets means, changed by the flags. Its warnings are written.
+fn meaning_of<'a, R: Eprint + AllocGlobal>(
+    rt: &R,
+    bytes: &[u8],
+    flags: Flags,
+) -> Result<Settings, Failure<'a>>
+    ensures valid { IfOk result IsValid }
+    ensures asked { IfOk result (AreAsked flags) }
+{
+    let (settings, warnings) = read_rc(rt.alloc(), bytes)?;
+    tell_warnings(rt, warnings.as_slice())?;
+    Ok(override_with(settings, flags)?)
+}
+
+/// Reads the rc file, writes its warnings, and returns its settings, changed by the flags. The reason of a
+/// fault is kept, and a file that others may read is warned of, if reasons are to be written.
 fn settings_of<'a, R: Files + Eprint + AllocGlobal, E: Write + Copy>(
     host: &TracedHost<R, E>,
     path: &str,
     words: &Words,
+    reasons: Option<&Reasons>,
 ) -> Result<Settings, Failure<'a>>
     ensures valid { IfOk result IsValid }
     ensures asked { IfOk result (AreAsked words.now.flags) }
@@ -66,9 +102,17 @@ fn settings_of<'a, R: Files + Eprint + AllocGlobal, E: Write + Copy>(
         Ok(bytes) => bytes,
         Err(error) => return Err(failure_of(error, Failure::CannotRead)),
     };
-    let (settings, warnings) = read_rc(rt.alloc(), bytes.as_slice())?;
-    tell_warnings(rt, warnings.as_slice())?;
-    Ok(override_with(settings, words.flags)?)
+    let settings = meaning_of(rt, bytes.as_slice(), words.flags);
+    if let Some(reasons) = reasons {
+        match &settings {
+            Ok(_) => warn_of_others(host, path),
+            Err(Failure::Rc(fault)) => {
+                keep_reason(rt.alloc(), reasons, fault, bytes.as_slice(), words.flags)
+            }
+            Err(_) => {}
+        }
+    }
+    settings
 }
 
 /// The account that the settings name.
@@ -103,10 +147,12 @@ fn destination_path<'a, R: Env + AllocGlobal>(rt: &R, dest: &Dest) -> Result<Str
 }
 
 /// The settings and the paths of a run, or the first of these failures: HOME is needed and not set,
-/// the rc file can't be read or is wrong, the flags are opposite.
+/// the rc file can't be read or is wrong, the flags are opposite. The reason is kept if reasons are to be
+/// written.
 pub fn set_up<'a, R: Files + Env + Eprint + AllocGlobal, E: Write + Copy>(
     host: &TracedHost<R, E>,
     words: &Words,
+    reasons: Option<&Reasons>,
 ) -> Result<Setup, Failure<'a>>
     ensures valid { IfOk result (λ setup. IsValid setup.settings) }
     ensures asked { IfOk result (λ setup. AreAsked words.now.flags setup.settings) }
@@ -116,7 +162,7 @@ pub fn set_up<'a, R: Files + Env + Eprint + AllocGlobal, E: Write + Copy>(
     let rt = host.inner();
     let folder = folder(rt, words.dir.as_deref())?;
     let path = rc_file(rt, folder.as_str(), words.rcfile.as_deref())?;
-    let settings = settings_of(host, path.as_str(), words)?;
+    let settings = settings_of(host, path.as_str(), words, reasons)?;
     let destination = destination_path(rt, &settings.dest)?;
     let record = record_path(rt.alloc(), folder.as_str(), &settings)?;
     Ok(Setup {

@@ -27,6 +27,8 @@ pub struct Words {
     pub rehearse: bool,
     /// Whether only to show what would be done.
     pub pretend: bool,
+    /// Whether reasons are written, also if standard error is no terminal.
+    pub why: bool,
     /// Whether the conversation and refused calls of the system are traced.
     pub trace: bool,
 }
@@ -43,6 +45,8 @@ const GETMAILDIR: &str = "Keep the rc file and the record in DIR [~/.getmail]";
 const VERBOSE: &str = "Report more, each time by one, up to 2";
 
 const QUIET: &str = "Write no report";
+
+const WHY: &str = "Say why a run failed, also if standard error is no terminal";
 
 const TRACE: &str = "Show the conversation and refused calls of the system on standard error";
 
@@ -75,6 +79,7 @@ fn with_loudness<'a>(alloc: Global, command: Command<'a>) -> Result<Command<'a>,
 {
     let command = add(command, flag(alloc, "verbose", 'v', VERBOSE))?;
     let command = add(command, flag(alloc, "quiet", 'q', QUIET))?;
+    let command = add(command, switch(alloc, "why", WHY))?;
     add(command, switch(alloc, "trace", TRACE))
 }
 
@@ -124,6 +129,7 @@ fn words_of(alloc: Global, matches: &ArgMatches<'_>) -> Result<Words, AllocError
         flags: flags_of(matches),
         rehearse: is_given(matches, "rehearse"),
         pretend: is_on(matches, "pretend"),
+        why: is_on(matches, "why"),
         trace: is_on(matches, "trace"),
     })
 }

@@ -1,0 +1,60 @@
+//! What would keep a run from storing messages although a preview of it found nothing wrong.
+use crate::place::joined;
+use fetch_rules::Dest;
+use fetch_session::Why;
+use std::fs;
+use std::io::{self, ErrorKind, Read};
+use std::rt::Files;
+
+/// What would keep a run from storing messages.
+#[derive(Clone, Copy)]
+pub struct Doubt {
+    /// Why the run would be cut.
+    pub why: Why,
+    /// Whether it would be only if there is a message to fetch.
+    pub only_to_fetch: bool,
+}
+
+/// The folder of a Maildir in which messages are made.
+const TMP: &str = "tmp";
+
+/// How an mboxrd file that isn't empty begins.
+const FROM: &[u8] = b"From ";
+
+/// Why no message could be made in a Maildir.
+fn doubt_of_maildir<R: Files + AllocGlobal>(host: &R, path: &str) -> Option<Why> {
+    let tmp = joined(host.alloc(), path, TMP).ok()?;
+    match fs::metadata(host, tmp.as_str()) {
+        Ok(metadata) if metadata.is_dir() => None,
+        Err(error) if error.kind() != ErrorKind::NotFound => Some(Why::Refused),
+        _ => Some(Why::Missing),
+    }
+}
+
+/// Whether a file begins as an mboxrd file does, or may be a torn front of one.
+fn may_be_mbox<R: Files + AllocGlobal>(host: &R, path: &str) -> io::Result<bool> {
+    let mut front = Vec::new(host.alloc());
+    fs::open(host, path)?
+        .take(FROM.len() as u64)
+        .read_to_end(&mut front)?;
+    Ok(FROM.starts_with(front.as_slice()))
+}
+
+/// Why no entry could be appended to an mboxrd file, whatever is open in the record.
+fn doubt_of_mbox<R: Files + AllocGlobal>(host: &R, path: &str) -> Option<Why> {
+    match may_be_mbox(host, path) {
+        Ok(true) => None,
+        Ok(false) => Some(Why::NotMbox),
+        Err(error) if error.kind() == ErrorKind::NotFound => Some(Why::Missing),
+        Err(_) => Some(Why::Refused),
+    }
+}
+
+/// What would keep a run from storing messages at a destination of this path. Nothing is changed.
+pub fn doubt_of<R: Files + AllocGlobal>(host: &R, dest: &Dest, path: &str) -> Option<Doubt> {
+    let (why, only_to_fetch) = match dest {
+        Dest::Maildir(_) => (doubt_of_maildir(host, path)?, true),
+        Dest::Mboxrd(_) => (doubt_of_mbox(host, path)?, false),
+    };
+    Some(Doubt { why, only_to_fetch })
+}

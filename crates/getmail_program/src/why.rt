@@ -1,0 +1,136 @@
+//! The line after a fault's: the account, and the reason, if it is known.
+ghost use Rattle.std.specs.Prelude.{◌≡◌, ◌≤◌, OnOk};
+ghost use Rattle.std.specs.Io.KnownBytes.{Appends};
+ghost use Rattle.getmail_program.specs.Failures.{status_of};
+ghost use Rattle.getmail_program.specs.Telling.{reason_line};
+
+use crate::failure::{Failure, OUT_OF_MEMORY, tell};
+use fetch_rules::Settings;
+use fetch_session::{Fault, Outcome, Why};
+use std::alloc::Global;
+use std::io::{self, ErrorKind, Write};
+use std::str;
+use trace::Reasons;
+
+/// Standard error of a run, and what is written there besides warnings and the lines of faults.
+#[derive(Clone, Copy, Drop)]
+pub struct Errors<'a, E> {
+    pub err: E,
+    /// Whether the line of progress may be shown.
+    pub shows_progress: bool,
+    /// What is kept of refusals, if reasons are to be written.
+    pub reasons: Option<&'a Reasons>,
+}
+
+/// What the peer said.
+fn words_of(alloc: Global, answer: &[u8]) -> Option<Vec<u8>> {
+    let mut words = Vec::from_slice(alloc, b"the server said: ").ok()?;
+    words.extend_from_slice(answer).ok()?;
+    Some(words)
+}
+
+/// The reason of a fault, if it is known: the server's words, or what was asked of the system and what
+/// it said.
+fn reason_of(alloc: Global, reasons: &Reasons, fault: &Fault) -> Option<Vec<u8>> {
+    match fault {
+        Fault::Refused(_) | Fault::BadReply => { words_of(alloc, reasons.of_peer()?.as_slice()) }
+        Fault::ReadFailed | Fault::WriteFailed => reasons.of_link(),
+        Fault::StoreRefused(Why::Missing | Why::Refused) | Fault::SeenRefused => reasons.of_file(),
+        _ => None,
+    }
+}
+
+/// Writes the line of a reason: `getmail: `, the account, and the reason.
+fn write_reason<E: Write>(
+    alloc: Global,
+    settings: &Settings,
+    reason: &[u8],
+    err: &mut E,
+) -> io::Result<()>
+    ensures { OnOk result (Appends (E.contents err.old) (E.contents err.new) (reason_line settings.now reason.now)) }
+{
+    let Settings {
+        server,
+        port,
+        username,
+        ..
+    } = settings;
+    let account = format!(in alloc; "getmail: {username}@{server}:{port}: ")?;
+    let mut line = Vec::from_slice(alloc, account.as_bytes())?;
+    line.extend_from_slice(reason)?;
+    line.extend_from_slice(b"\n")?;
+    err.write_all(line.as_slice())
+}
+
+/// Writes the reason of the fault that cut a session, if one did, it is known and it is to be written.
+pub fn tell_reason<E: Write>(
+    alloc: Global,
+    settings: &Settings,
+    outcome: &Outcome,
+    errors: &mut Errors<'_, E>,
+) {
+    if let (Some(reasons), Outcome::Cut(fault)) = (errors.reasons, outcome) {
+        if let Some(reason) = reason_of(alloc, reasons, fault) {
+            let _ = write_reason(alloc, settings, reason.as_slice(), &mut errors.err);
+        }
+    }
+}
+
+/// Writes why a report, or the last lines of a rehearsal, weren't written.
+pub fn tell_unwritten<E: Write>(error: &io::Error, err: &mut E) {
+    let line = if error.kind() == ErrorKind::OutOfMemory {
+        OUT_OF_MEMORY
+    } else {
+        "getmail: cannot write standard output\n"
+    };
+    let _ = err.write_all(line.as_bytes());
+}
+
+/// Writes the reason why there is no session, if it is known: the rule that an rc file breaks, or what was
+/// asked of the system and what it said.
+fn tell_cause<R: Eprint + AllocGlobal>(
+    rt: &R,
+    failure: Failure<'_>,
+    account: Option<&Settings>,
+    reasons: &Reasons,
+) {
+    if let Failure::NoHome | Failure::NoMemory = failure {
+        return;
+    }
+    let reason = match reasons.of_file() {
+        Some(reason) => reason,
+        None => return,
+    };
+    let Ok(reason) = str::from_utf8(reason.as_slice()) else {
+        return;
+    };
+    let _ = match account {
+        Some(
+            Settings {
+                server,
+                port,
+                username,
+                ..
+            },
+        ) => rt.eprintln(format_args!("getmail: {username}@{server}:{port}: {reason}")),
+        None => rt.eprintln(format_args!("getmail: {reason}")),
+    };
+}
+
+/// Writes a failure's line to standard error, and its reason, if that is known and is to be written.
+/// Returns the exit status, as `tell` does.
+pub fn fail<R: Eprint + AllocGlobal, E>(
+    rt: &R,
+    failure: Failure<'_>,
+    account: Option<&Settings>,
+    errors: &Errors<'_, E>,
+) -> u8
+    ensures status { result ≡ status_of failure.entry }
+    ensures within { result ≤ 2 }
+{
+    let status = tell(rt, failure);
+    if let Some(reasons) = errors.reasons {
+        tell_cause(rt, failure, account, reasons);
+    }
+    status
+}

@@ -1,0 +1,152 @@
+"""`--why`: after a fault's line one more on standard error, with the account and the reason; also on a terminal."""
+
+import os
+import shutil
+import unittest
+
+from getmail import terminal
+from getmail.account import Account
+from getmail.mbox_account import MboxAccount
+from getmail.server import Server
+from harness import programs
+from harness.kernel import LOOPBACK
+
+TWO = [(b"a", b"one\n"), (b"b", b"two\n")]
+NO_MEMBER = "No such file or directory"
+
+
+class Sessions(unittest.TestCase):
+    account_class = Account
+
+    def setUp(self):
+        self.server = Server(TWO)
+        self.addCleanup(self.server.socket.close)
+        self.account = self.account_class(self.server.port)
+        self.addCleanup(self.account.holder.cleanup)
+
+    def session(self, *words):
+        thread = self.server.begin_session()
+        run = self.account.run("-q", *words)
+        thread.join(programs.SECONDS)
+        return run
+
+    def check_told(self, fault, reason, *words):
+        """The fault's line alone without the option; with it the reason's line follows, which is answered."""
+        plain = self.session(*words)
+        self.assertEqual((plain.status, plain.err.decode()), (1, f"getmail: {fault}\n"))
+        run = self.session("--why", *words)
+        first, second = run.err.decode().splitlines()
+        self.assertEqual((run.status, first), (1, f"getmail: {fault}"))
+        self.assertRegex(second, f"^getmail: u@{LOOPBACK}:{self.server.port}: {reason}$")
+
+
+class OfMaildirs(Sessions):
+    def test_what_the_server_said(self):
+        self.server.refuses = ("RETR 2",)
+        self.check_told("server refused RETR 2", "the server said: -ERR refused")
+        self.server.refuses = ("PASS p",)
+        self.check_told("server refused PASS", "the server said: -ERR refused")
+
+    def test_a_folder_that_is_missing(self):
+        shutil.rmtree(self.account.maildir / "new")
+        self.check_told("destination missing", f"{self.account.maildir}/new.*: {NO_MEMBER}")
+
+    def test_a_record_that_is_a_folder(self):
+        os.mkdir(self.account.record)
+        self.check_told("seen file refused", f"{self.account.record}: Is a directory")
+
+    def test_a_preview_of_a_run_that_could_store_nothing(self):
+        """It is told as the run tells it, but only if there is something to fetch."""
+        shutil.rmtree(self.account.maildir / "tmp")
+        self.check_told("destination missing", f"{self.account.maildir}/tmp: {NO_MEMBER}", "--pretend")
+        self.server.messages = []
+        self.assertEqual(self.session("--pretend").status, 0)
+
+    def test_a_good_run_says_nothing_more(self):
+        self.assertEqual(self.session("--why"), programs.Run(0, b"", b""))
+
+    def test_a_terminal_needs_no_option(self):
+        self.server.refuses = ("RETR 1",)
+        thread = self.server.begin_session()
+        status, _, shown = terminal.run(self.account, "-q")
+        thread.join(programs.SECONDS)
+        account = f"u@{LOOPBACK}:{self.server.port}"
+        self.assertEqual((status, shown.decode().splitlines()),
+                         (1, ["getmail: server refused RETR 1", f"getmail: {account}: the server said: -ERR refused"]))
+
+
+class OfMboxes(Sessions):
+    account_class = MboxAccount
+
+    def test_a_file_that_is_missing(self):
+        self.account.mbox.unlink()
+        for words in ((), ("--pretend",)):
+            self.check_told("destination missing", f"{self.account.mbox}: {NO_MEMBER}", *words)
+
+
+class BeforeSessions(unittest.TestCase):
+    """Runs that connect to nothing."""
+
+    def setUp(self):
+        self.account = Account(1)
+        self.addCleanup(self.account.holder.cleanup)
+
+    def check_told(self, status, *told, words=()):
+        run = self.account.run("--why", *words)
+        self.assertEqual((run.status, run.err.decode().splitlines()), (status, [f"getmail: {line}" for line in told]))
+
+    def put(self, old, new):
+        """Changes the rc file."""
+        text = self.account.rcfile.read_bytes()
+        self.assertIn(old, text)
+        self.account.rcfile.write_bytes(text.replace(old, new))
+
+    def test_a_connection_that_is_refused(self):
+        self.check_told(1, f"cannot connect to {LOOPBACK}:1", f"u@{LOOPBACK}:1: {LOOPBACK}:1: Connection refused")
+
+    def test_an_rc_file_that_is_not_there(self):
+        self.check_told(2, "cannot read rc file", f"{self.account.folder}/none: {NO_MEMBER}", words=("-r", "none"))
+
+    def test_a_rehearsal_whose_output_cannot_be_written(self):
+        with open("/dev/full", "wb") as full:
+            run = programs.run("getmail", "--rehearse", given=b"+OK\r\n", out=full)
+        self.assertEqual((run.status, run.err), (1, b"getmail: cannot write standard output\n"))
+
+    def test_opposite_flags(self):
+        for words, told in (("-an", "--all and --new"), ("-dl", "--delete and --dont-delete"), ("-qv", "--quiet and --verbose")):
+            self.check_told(2, "opposite flags", told, words=(words,))
+
+    def test_values_of_an_rc_file(self):
+        own_line = "; a comment has a line of its own"
+        for old, new, fault, told in (
+                (b"port = 1", b"port = 0x1 # plain", "retriever.port has a bad value",
+                 "line 4: port = 0x1 # plain: 1 to 65535" + own_line),
+                (b"password = p", b"password = " + b"q" * 501, "retriever.password has a bad value",
+                 "line 6: password: 1 to 500 octets, with no CR and no NUL"),
+                (b"path = ~/Maildir/", b"path = ~/Mail\x1bdir", "destination.path has a bad form",
+                 "line 10: path = ~/Mail\\x1bdir: a Maildir's path ends in / and an mboxrd file's doesn't; it has no $, "
+                 "and ~ only as ~/ at its front"),
+                (b"type = Maildir", b"TYPE: Mbox", "destination.type unknown", "line 9: type = Mbox: Maildir or Mboxrd")):
+            with self.subTest(new), Account(1) as self.account:
+                self.put(old, new)
+                self.check_told(2, fault, told)
+
+    def test_lines_of_an_rc_file(self):
+        self.put(b"password = p", b"password p")
+        self.check_told(2, "rc file line 6 not understood", "a line is empty, a comment, a [section], or KEY = VALUE in one; "
+                        "one that begins with a blank goes on with a value")
+        self.account.rcfile.write_bytes(b"\xef\xbb\xbf[retriever]\n")
+        self.check_told(2, "rc file line 1 not understood", "the file begins with a byte order mark: save it without one")
+
+    def test_an_rc_file_that_others_may_read(self):
+        self.account.rcfile.chmod(0o640)
+        run = self.account.run("--why")
+        warning = f"getmail: warning: others than its owner may read or write {self.account.rcfile}\n"
+        self.assertTrue(run.err.decode().startswith(warning), run.err)
+        self.assertEqual(self.account.run().err, f"getmail: cannot connect to {LOOPBACK}:1\n".encode())
+
+
+del Sessions
+
+if __name__ == "__main__":
+    unittest.main()
