@@ -25,23 +25,6 @@ use trace::{Side, Traced, TracedWire};
 /// the next one can't be accepted at once either.
 const PAUSE_SECONDS: u64 = 1;
 
-/// A link over two streams, which shows what goes through it and which calls are refused.
-type Link<I, O, E> = TracedWire<StreamWire<Traced<I, E>, Traced<O, E>>, E>;
-
-/// A link over two streams, with the trace that the program's runtime has. The lines of refused
-/// calls have the names of the streams.
-fn link_over<R: AllocGlobal, E: Write + Copy, I: Read, O: Write>(
-    host: &Host<R, E>,
-    input: (I, &str),
-    output: (O, &str),
-) -> Link<I, O, E> {
-    let err = host.err();
-    let reader = Traced::new(host.alloc(), input.0, input.1, err);
-    let writer = Traced::new(host.alloc(), output.0, output.1, err);
-    let wire = StreamWire::new(reader, writer);
-    TracedWire::new(host.alloc(), wire, Side::Server, err, None)
-}
-
 /// The peer's name, if there is a trace.
 fn traced_name<R: AllocGlobal, E: Write + Copy>(
     host: &Host<R, E>,
@@ -53,7 +36,35 @@ fn traced_name<R: AllocGlobal, E: Write + Copy>(
     }
 }
 
-/// Serves two streams: standard input and output. Nothing is removed unless the session came to QUIT.
+/// Serves a link over two named streams, with the trace that the program's runtime has. Nothing is
+/// removed unless the session came to QUIT.
+fn serve_traced<R, E, D, J, I, O>(
+    host: &Host<R, E>,
+    server: &mut Server<D>,
+    journal: &mut J,
+    input: (I, &str),
+    output: (O, &str),
+) -> Result<(), ServerFault>
+where
+    R: AllocGlobal,
+    E: Write + Copy + Drop,
+    D: Maildrop,
+    J: Journal,
+    I: Read + Drop,
+    O: Write + Drop,
+    requires { is_open server.old.state ≡ true }
+    ensures { is_open server.new.state ≡ true → (D.mail server.new.drop).removals ≡ (D.mail server.old.drop).removals }
+{
+    let err = host.err();
+    let reader = Traced::new(host.alloc(), input.0, input.1, err);
+    let writer = Traced::new(host.alloc(), output.0, output.1, err);
+    let link = StreamWire::new(reader, writer);
+    let mut wire = TracedWire::new(host.alloc(), link, Side::Server, err, None);
+    serve_and_note(server, &mut wire, journal)
+}
+
+/// Serves standard input and output, and tells what happens there if `verbose` asks for it. Nothing
+/// is removed unless the session came to QUIT.
 pub fn serve_streams<R, E, I, O, D>(
     host: &Host<R, E>,
     server: &mut Server<D>,
@@ -70,13 +81,18 @@ where
     ensures { is_open server.new.state ≡ true → (D.mail server.new.drop).removals ≡ (D.mail server.old.drop).removals }
 {
     let (input, output) = streams;
-    let mut wire = link_over(host, (input, "standard input"), (output, "standard output"));
     let mut telling = Telling {
         rt: host.inner(),
         verbose,
         peer: Peer::StandardInput,
     };
-    serve_and_note(server, &mut wire, &mut telling)
+    serve_traced(
+        host,
+        server,
+        &mut telling,
+        (input, "standard input"),
+        (output, "standard output"),
+    )
 }
 
 /// Warns of the file or folder that couldn't be read, if that made the maildrop unavailable.
@@ -90,28 +106,7 @@ where
     }
 }
 
-/// Serves an account's maildrop over two streams, and gives the maildrop back.
-fn serve_maildrop<R, E, I, O, D>(
-    host: &Host<R, E>,
-    account: Account,
-    maildrop: D,
-    verbose: bool,
-    streams: (I, O),
-) -> (Result<(), ServerFault>, D)
-where
-    R: AllocGlobal + Eprint + Drop,
-    E: Write + Copy + Drop,
-    I: Read + Drop,
-    O: Write + Drop,
-    D: Maildrop + Drop,
-{
-    let mut server = account.into_server(host.alloc(), maildrop);
-    let served = serve_streams(host, &mut server, verbose, streams);
-    (served, server.into_drop())
-}
-
-/// Serves the account's Maildir over two streams: standard input and output. The Maildir is one of
-/// `disk`.
+/// Serves the account's Maildir over standard input and output. The Maildir is one of `disk`.
 pub fn serve_maildir<R, E, H, I, O>(
     host: &Host<R, E>,
     disk: &H,
@@ -127,8 +122,9 @@ where
     O: Write + Drop,
 {
     let maildir = account.open_maildir(disk)?;
-    let (served, maildir) = serve_maildrop(host, account, maildir, verbose, streams);
-    warn_of_unread(host.inner(), &maildir);
+    let mut server = account.into_server(host.alloc(), maildir);
+    let served = serve_streams(host, &mut server, verbose, streams);
+    warn_of_unread(host.inner(), &server.into_drop());
     served
 }
 
@@ -161,51 +157,9 @@ fn begin<'a, R: Clock + AllocGlobal, E: Write + Copy>(
     })
 }
 
-/// Serves a connection with limited waits. Nothing is removed unless the session came to QUIT.
-fn serve_bounded<R, E, D, J>(
-    host: &Host<R, E>,
-    server: &mut Server<D>,
-    journal: &mut J,
-    stream: &BoundedStream<'_, R>,
-    name: &str,
-) -> Result<(), ServerFault>
-where
-    R: Clock + AllocGlobal + Drop,
-    E: Write + Copy + Drop,
-    D: Maildrop,
-    J: Journal + Drop,
-    requires { is_open server.old.state ≡ true }
-    ensures { is_open server.new.state ≡ true → (D.mail server.new.drop).removals ≡ (D.mail server.old.drop).removals }
-{
-    let mut wire = link_over(host, (stream, name), (stream, name));
-    let mut journal = LoginJournal { stream, journal };
-    serve_and_note(server, &mut wire, &mut journal)
-}
-
-/// Serves a connection over a maildrop, and gives the maildrop back.
-fn serve_connection<R, E, D>(
-    host: &Host<R, E>,
-    telling: &mut Telling<'_, R>,
-    connection: Connection<'_, R>,
-    maildrop: D,
-) -> (Result<(), ServerFault>, D)
-where
-    R: Clock + AllocGlobal + Eprint + Drop,
-    E: Write + Copy + Drop,
-    D: Maildrop + Drop,
-{
-    let Connection {
-        account,
-        stream,
-        name,
-    } = connection;
-    let mut server = account.into_server(host.alloc(), maildrop);
-    let served = serve_bounded(host, &mut server, telling, &stream, name.as_str());
-    (served, server.into_drop())
-}
-
-/// Serves one connection over the Maildir as it is now, and gives the Maildir back for the next one.
-fn serve_stream<'a, R, E, H>(
+/// Serves one connection with limited waits, over the Maildir as it is now, and gives the Maildir
+/// back for the next one.
+fn serve_connection<'a, R, E, H>(
     host: &Host<R, E>,
     telling: &mut Telling<'_, R>,
     stream: &TcpStream,
@@ -217,18 +171,29 @@ where
     E: Write + Copy + Drop,
     H: Files + Clock + RandomSource + AllocGlobal + Clone + Drop,
 {
-    let connection = match begin(host, stream, telling.peer, account) {
+    let Connection {
+        account,
+        stream: bounded,
+        name,
+    } = match begin(host, stream, telling.peer, account) {
         Ok(connection) => connection,
         Err(fault) => return (Err(fault), maildir),
     };
     // Without it the connection works too, only slower.
     let _ = stream.set_nodelay(true);
-    let (served, maildir) = serve_connection(host, telling, connection, maildir);
+    let mut server = account.into_server(host.alloc(), maildir);
+    let mut journal = LoginJournal {
+        stream: &bounded,
+        journal: telling,
+    };
+    let (input, output) = ((&bounded, name.as_str()), (&bounded, name.as_str()));
+    let served = serve_traced(host, &mut server, &mut journal, input, output);
+    let maildir = server.into_drop();
     warn_of_unread(host.inner(), &maildir);
     (served, maildir.renewed())
 }
 
-/// Serves one client's connection, and gives the Maildir back for the next one. A fault is reported.
+/// Serves one client's connection, and reports a fault. Gives the Maildir back for the next client.
 fn serve_client<'a, R, E, H>(
     host: &Host<R, E>,
     verbose: bool,
@@ -248,7 +213,7 @@ where
         verbose,
         peer: Peer::Address(client),
     };
-    let (served, left) = serve_stream(host, &mut telling, stream, account, maildir);
+    let (served, left) = serve_connection(host, &mut telling, stream, account, maildir);
     if let Err(fault) = served {
         tell(rt, Failure::Fault(fault));
         warn(rt, Warning::Cut(client, fault));
@@ -256,8 +221,8 @@ where
     left
 }
 
-/// Serves the next client, and gives the Maildir back for the one after it. If no connection can be
-/// accepted, that is reported after a pause.
+/// Accepts the next client and serves it. If none can be accepted, that is reported after a pause.
+/// Gives the Maildir back for the client after it.
 fn serve_next<'a, R, E, H>(
     host: &Host<R, E>,
     (listener, address): (&TcpListener, &str),
@@ -279,26 +244,6 @@ where
             maildir
         }
     }
-}
-
-/// Serves connections, one after the other, as many as the words say. The Maildir is one of `disk`.
-fn serve_clients<R, E, H>(
-    host: &Host<R, E>,
-    disk: &H,
-    (listener, address): (&TcpListener, &str),
-    words: &Words,
-    account: &Account,
-) -> Result<(), AllocError>
-where
-    R: Clock + AllocGlobal + Eprint + Drop,
-    E: Write + Copy + Drop,
-    H: Files + Clock + RandomSource + AllocGlobal + Clone + Drop,
-{
-    let mut maildir = account.open_maildir(disk)?;
-    for _ in 0..words.connections {
-        maildir = serve_next(host, (listener, address), words.verbose, account, maildir);
-    }
-    Ok(())
 }
 
 /// What listens on an address.
@@ -333,6 +278,9 @@ where
     if words.verbose {
         tell_listening(host.inner(), &listener);
     }
-    serve_clients(host, host, (&listener, address), words, account)?;
+    let mut maildir = account.open_maildir(host)?;
+    for _ in 0..words.connections {
+        maildir = serve_next(host, (&listener, address), words.verbose, account, maildir);
+    }
     Ok(())
 }
