@@ -26,6 +26,3 @@ pub returns-in-Err-TooLong-clause-takes : goal.returns-in-Err-TooLong-clause-tak
 returns-in-Err-TooLong-clause-takes g c = in_words g.W.Wire (rw c.in-Err-TooLong.field-0-is at c.in-Err-TooLong.ensures.takes) (λ took number start text now.
     let why = took text_limit now.mid text now.under in
     broke_too_long number start now.mid _ now.line now.opened why.0 why.1.0 why.1.1 why.1.2)
-
-pub returns-in-Err-NoMemory-clause-takes : goal.returns-in-Err-NoMemory-clause-takes
-returns-in-Err-NoMemory-clause-takes g c = absurd (c.in-Err-NoMemory.ensures.frugal c.in-Err-NoMemory.field-0-is)
