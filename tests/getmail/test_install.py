@@ -455,7 +455,8 @@ class Cron(Regular):
 
     def test_it_says_what_is_wrong(self):
         with Account(1) as account:
-            self.assertEqual(self.run_whole(account), (1, b"getmail: cannot connect to 127.0.0.1:1\n"))
+            told = b"getmail: cannot connect to 127.0.0.1:1\ngetmail: u@127.0.0.1:1: 127.0.0.1:1: Connection refused\n"
+            self.assertEqual(self.run_whole(account), (1, told))
 
     def test_a_second_run_ends_at_once(self):
         with SilentServer(b"+OK\r\n") as server, Account(server.port) as account:

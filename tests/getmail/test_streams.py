@@ -12,6 +12,7 @@ from harness import programs
 from harness.dialogue import Dialogue
 
 PIECE = 1 << 20
+UNWRITTEN = programs.Run(1, b"", b"getmail: cannot write standard output\n")
 
 
 def run_on_pieces(pieces):
@@ -108,7 +109,7 @@ class Output(unittest.TestCase):
         for given in (known.replies(), b"", b"-ERR\r\n", known.up_to(known.STAT, b"+OK 2 5\r\n")):
             with self.subTest(given), open("/dev/full", "wb") as full:
                 run = programs.run("getmail", "--rehearse", given=given, out=full)
-                self.assertEqual(run, programs.Run(1, b"", b""))
+                self.assertEqual(run, UNWRITTEN)
 
     def test_a_closed_pipe(self):
         for given in (known.replies(), b"", b"-ERR\r\n"):
@@ -119,7 +120,7 @@ class Output(unittest.TestCase):
                     run = programs.run("getmail", "--rehearse", given=given, out=writer)
                 finally:
                     os.close(writer)
-                self.assertEqual(run, programs.Run(1, b"", b""))
+                self.assertEqual(run, UNWRITTEN)
 
     def test_a_pipe_that_is_closed_under_way(self):
         with Dialogue("getmail", "--rehearse") as program:

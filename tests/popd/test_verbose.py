@@ -1,4 +1,4 @@
-"""`--verbose`: a line on standard error for where the server listens, each login, each refused one and each QUIT that removed messages."""
+"""`--verbose`: a line on standard error for where it listens, each login, each refused one, each QUIT that removed messages."""
 
 import os
 import select
