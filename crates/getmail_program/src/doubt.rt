@@ -26,13 +26,17 @@ fn doubt_of_maildir<R: Files + AllocGlobal>(host: &R, path: &str) -> Option<Why>
     let tmp = joined(host.alloc(), path, TMP).ok()?;
     match fs::metadata(host, tmp.as_str()) {
         Ok(metadata) if metadata.is_dir() => None,
-        Err(error) if error.kind() != ErrorKind::NotFound => Some(Why::Refused),
-        _ => Some(Why::Missing),
+        Err(error) if error.kind() == ErrorKind::NotFound => Some(Why::Missing),
+        _ => Some(Why::Refused),
     }
 }
 
-/// Whether a file begins as an mboxrd file does, or may be a torn front of one.
+/// Whether a file begins as an mboxrd file does, or may be a torn front of one. What is no file isn't opened:
+/// a pipe would keep the program waiting.
 fn may_be_mbox<R: Files + AllocGlobal>(host: &R, path: &str) -> io::Result<bool> {
+    if !fs::metadata(host, path)?.is_file() {
+        return Err(io::Error::from(ErrorKind::InvalidInput));
+    }
     let mut front = Vec::new(host.alloc());
     fs::open(host, path)?
         .take(FROM.len() as u64)

@@ -41,12 +41,12 @@ fn tell_doubt<R: Files + AllocGlobal, E: Write>(
         return 0;
     }
     let _ = write_outcome(host.alloc(), &outcome, &mut errors.err);
-    tell_reason(host.alloc(), settings, &outcome, errors);
+    tell_reason(host.alloc(), settings, destination, &outcome, errors);
     1
 }
 
-/// Writes the reason of the fault that cut a session, and why the report wasn't written, as far as there is
-/// something to write, and returns the exit status: of a preview, whether a run would end well too.
+/// Writes why a session was cut and why its report wasn't written, if so, and returns the exit status; a
+/// preview's is 0 only if a run could store too.
 pub fn end<R: Files + AllocGlobal, E: Write>(
     host: &R,
     settings: &Settings,
@@ -58,7 +58,13 @@ pub fn end<R: Files + AllocGlobal, E: Write>(
     ensures within { result ≤ 1 }
     ensures good { result ≡ 0 → status_of fetched.now ≡ 0 }
 {
-    tell_reason(host.alloc(), settings, &fetched.outcome, errors);
+    tell_reason(
+        host.alloc(),
+        settings,
+        destination,
+        &fetched.outcome,
+        errors,
+    );
     if let Err(error) = &fetched.report {
         tell_unwritten(error, &mut errors.err);
     }

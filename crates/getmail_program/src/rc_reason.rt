@@ -13,8 +13,15 @@ struct Place<'a> {
     value: &'a [u8],
 }
 
-/// The value of a line, if it gives one to this key.
+/// The value of a line, if it gives one to this key. A line that begins with a blank gives none: it goes on
+/// with the value before it.
 fn value_in<'a>(line: &'a [u8], key: &[u8]) -> Option<&'a [u8]> {
+    if line
+        .first()
+        .is_some_and(|octet| *octet == b' ' || *octet == b'\t')
+    {
+        return None;
+    }
     let end = line
         .iter()
         .position(|octet| *octet == b'=' || *octet == b':')?;
@@ -62,14 +69,14 @@ fn rule(fault: &RcFault) -> Option<&'static str> {
         }
         RcFault::UnknownType(Key::DestinationKind) => "Maildir or Mboxrd",
         RcFault::UnknownType(_) => "SimplePOP3Retriever; TLS needs a tunnel",
-        RcFault::Unsupported(_) => "false",
+        RcFault::Unsupported(_) => "must be false",
         RcFault::BadPath => {
-            "a Maildir's path ends in / and an mboxrd file's doesn't; it has no $, and ~ only as ~/ at its front"
+            "a Maildir's path ends in / and an mboxrd file's doesn't; it is one line with no $, and ~ only as ~/ at its front"
         }
-        RcFault::BadValue(Key::Server) => "not empty, with no NUL",
+        RcFault::BadValue(Key::Server) => "one line, not empty, with no NUL",
         RcFault::BadValue(Key::Port) => "1 to 65535",
         RcFault::BadValue(Key::Username | Key::Password) =>
-            "1 to 500 octets, with no CR and no NUL",
+            "one line of 1 to 500 octets, with no CR and no NUL",
         RcFault::BadValue(Key::UseApop | Key::ReadAll | Key::Delete) => "true or false",
         RcFault::BadValue(Key::DeleteAfter) => "a number of days, 0 to 4294967295",
         RcFault::BadValue(_) => "a number, 0 to 18446744073709551615",

@@ -29,13 +29,29 @@ fn words_of(alloc: Global, answer: &[u8]) -> Option<Vec<u8>> {
     Some(words)
 }
 
+/// The last refused call below a path, if the last refused call was below it.
+fn reason_below(reasons: &Reasons, path: &str) -> Option<Vec<u8>> {
+    let reason = reasons.of_file()?;
+    if reason.starts_with(path.as_bytes()) {
+        Some(reason)
+    } else {
+        None
+    }
+}
+
 /// The reason of a fault, if it is known: the server's words, or what was asked of the system and what
 /// it said.
-fn reason_of(alloc: Global, reasons: &Reasons, fault: &Fault) -> Option<Vec<u8>> {
+fn reason_of(
+    alloc: Global,
+    reasons: &Reasons,
+    destination: &str,
+    fault: &Fault,
+) -> Option<Vec<u8>> {
     match fault {
         Fault::Refused(_) | Fault::BadReply => { words_of(alloc, reasons.of_peer()?.as_slice()) }
         Fault::ReadFailed | Fault::WriteFailed => reasons.of_link(),
-        Fault::StoreRefused(Why::Missing | Why::Refused) | Fault::SeenRefused => reasons.of_file(),
+        Fault::StoreRefused(Why::Missing | Why::Refused) => reason_below(reasons, destination),
+        Fault::SeenRefused => reasons.of_file(),
         _ => None,
     }
 }
@@ -62,15 +78,17 @@ fn write_reason<E: Write>(
     err.write_all(line.as_slice())
 }
 
-/// Writes the reason of the fault that cut a session, if one did, it is known and it is to be written.
+/// Writes the reason of the fault that cut a session, if one did, it is known and it is to be written. Of
+/// refused calls on files only one on the destination is the reason of the store's fault.
 pub fn tell_reason<E: Write>(
     alloc: Global,
     settings: &Settings,
+    destination: &str,
     outcome: &Outcome,
     errors: &mut Errors<'_, E>,
 ) {
     if let (Some(reasons), Outcome::Cut(fault)) = (errors.reasons, outcome) {
-        if let Some(reason) = reason_of(alloc, reasons, fault) {
+        if let Some(reason) = reason_of(alloc, reasons, destination, fault) {
             let _ = write_reason(alloc, settings, reason.as_slice(), &mut errors.err);
         }
     }

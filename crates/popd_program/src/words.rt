@@ -171,6 +171,8 @@ pub fn read_words(alloc: Global, words: &[String]) -> Result<Words, Error>
     ensures faults { FailsBy (fault_of popd (map string_bytes words.now)) result }
     ensures asks { IfOk result (AsksFor (matches_of popd (map string_bytes words.now))) }
 {
-    let matches = command(alloc)?.try_get_matches_from(words)?;
-    Ok(words_of(alloc, &matches)?)
+    match command(alloc)?.try_get_matches_from(words) {
+        Ok(matches) => Ok(words_of(alloc, &matches)?),
+        Err(error) => Err(error),
+    }
 }

@@ -1,10 +1,11 @@
 //! A conversation as its trace shows it: each command, the first line of each answer, and how much
 //! followed it.
+ghost use Rattle.std.specs.Prelude.{◌≤◌, ◌<◌, length};
 
 use crate::command::{shown_answer, shown_command};
 use crate::front::Front;
 use crate::line::{count_text, cut, write_line};
-use pop3_wire::Unstuffer;
+use pop3_wire::{Fed, PIECE_ROOM, Unstuffer};
 use std::alloc::Global;
 use std::io::{self, Write};
 use std::mem;
@@ -30,15 +31,19 @@ impl Body {
         }
     }
 
-    /// One more octet came; returns whether the body has ended.
-    fn put(&mut self, octet: u8) -> bool {
-        let mut text = [0u8; 2];
-        let fed = self.reader.feed(&[octet], &mut text);
-        self.octets = self.octets.saturating_add(1);
-        if octet == b'\n' && fed.put > 0 {
-            self.lines = self.lines.saturating_add(1);
-        }
-        fed.ended
+    /// More octets came. Returns how many of them are the body's; `text` is overwritten.
+    fn put(&mut self, piece: &[u8], text: &mut [u8]) -> Fed
+        requires { length piece.now < length text.old }
+        ensures { result.used ≤ length piece.now }
+    {
+        let fed = self.reader.feed(piece, text);
+        let lines = text[..fed.put]
+            .iter()
+            .filter(|octet| **octet == b'\n')
+            .count();
+        self.octets = self.octets.saturating_add(fed.used as u64);
+        self.lines = self.lines.saturating_add(lines as u64);
+        fed
     }
 }
 
@@ -126,15 +131,24 @@ impl<E: Write> Conversation<E> {
         }
     }
 
-    // One octet of an answer's body.
-    fn put_body(&mut self, body: Body, octet: u8) {
-        let mut body = body;
-        if body.put(octet) {
+    // The octets of a piece that belong to the body under way, if one is. Returns how many they are; `text` is
+    // overwritten.
+    fn put_body(&mut self, piece: &[u8], text: &mut [u8]) -> usize
+        requires { length piece.now < length text.old }
+        ensures { result ≤ length piece.now }
+    {
+        let mut body = match self.body.take() {
+            Some(body) => body,
+            None => return 0,
+        };
+        let fed = body.put(piece, text);
+        if fed.ended {
             let _ = self.tell_count(body.lines, body.octets.saturating_sub(END_MARK));
             self.is_answered = true;
         } else {
             self.body = Some(body);
         }
+        fed.used
     }
 
     // One octet of an answer's first line, and whether a body follows if the line is whole by it.
@@ -151,9 +165,8 @@ impl<E: Write> Conversation<E> {
 
     // One octet of an answer.
     fn put_answer(&mut self, octet: u8, has_body: bool) {
-        match self.body.take() {
-            Some(body) => self.put_body(body, octet),
-            None => self.put_first_line(octet, has_body),
+        if self.put_body(&[octet], &mut [0u8; 2]) == 0 {
+            self.put_first_line(octet, has_body);
         }
     }
 
@@ -168,6 +181,15 @@ impl<E: Write> Conversation<E> {
 
     /// Octets that the client gets. A body follows a positive answer if the command asks for one.
     pub fn client_gets(&mut self, octets: &[u8]) {
+        let mut text = [0u8; PIECE_ROOM];
+        for piece in octets.chunks(PIECE_ROOM - 1) {
+            let used = self.put_body(piece, &mut text);
+            self.get_each(&piece[used..]);
+        }
+    }
+
+    // Octets that the client gets, one by one: none of them was known to be a body's.
+    fn get_each(&mut self, octets: &[u8]) {
         for octet in octets {
             if self.is_answered {
                 let _ = self.waiting.push(*octet);
