@@ -83,6 +83,20 @@ class OfMboxes(Sessions):
         for words in ((), ("--pretend",)):
             self.check_told("destination missing", f"{self.account.mbox}: {NO_MEMBER}", *words)
 
+    def test_a_reason_is_that_of_the_fault(self):
+        """Before the first session there is no record, which is no reason for anything."""
+        self.account.mbox.unlink()
+        os.mkfifo(self.account.mbox)
+        run = self.session("--why")
+        self.assertEqual(run.err.splitlines()[0], b"getmail: destination refused")
+        self.assertNotIn(b"seen-", run.err)
+
+    def test_a_preview_waits_for_no_pipe(self):
+        self.account.record.write_bytes(b"getmail-seen 2\na 5 0\n! a 0 40\n")
+        self.account.mbox.unlink()
+        os.mkfifo(self.account.mbox)
+        self.assertEqual(self.session("--pretend").err, b"getmail: destination refused\n")
+
 
 class BeforeSessions(unittest.TestCase):
     """Runs that connect to nothing."""
@@ -130,6 +144,11 @@ class BeforeSessions(unittest.TestCase):
             with self.subTest(new), Account(1) as self.account:
                 self.put(old, new)
                 self.check_told(2, fault, told)
+
+    def test_no_line_of_a_password_is_shown(self):
+        self.put(b"port = 1", b"port = 0")
+        self.put(b"password = p\n", b"password = p\n  port = hidden\n")
+        self.check_told(2, "retriever.port has a bad value", "line 4: port = 0: 1 to 65535")
 
     def test_lines_of_an_rc_file(self):
         self.put(b"password = p", b"password p")
