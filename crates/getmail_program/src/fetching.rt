@@ -5,11 +5,12 @@ ghost use Rattle.std.specs.Io.KnownBytes.{Appends};
 ghost use Rattle.fetch_session.specs.Account.{digits_of};
 ghost use Rattle.fetch_session.specs.Pretend.{Pretends};
 ghost use Rattle.fetch_session.specs.Session.{MboxSession, Session, keeping, kept, mbox_kept};
-ghost use Rattle.fetch_session.specs.Target.{IsSoundMaildir, IsSoundMbox, is_sound, kind_of, maildir_of, mbox_of, stores_of, target_of};
+ghost use Rattle.fetch_session.specs.Target.{AfterTakingIn, IsSoundMaildir, IsSoundMbox, is_sound, kind_of, maildir_of, mbox_of, stores_of, target_of};
 ghost use Rattle.fetch_session.specs.Telling.{preview_text};
 ghost use Rattle.fetch_session.specs.Text.{report_text};
 ghost use Rattle.fetch_session.specs.declared.preview.Preview.{Preview};
 ghost use Rattle.fetch_session.specs.declared.report.Report.{Report};
+ghost use Rattle.mail_store.specs.Maildir.{AfterTaking};
 ghost use Rattle.getmail_program.specs.Telling.{Tells, TellsAhead, fault_line, outcome_line, status_of};
 
 use crate::failure::OUT_OF_MEMORY;
@@ -189,9 +190,9 @@ pub fn fetch_into<
     ensures tells { (report : Report)
         × Tells account.old.settings report result (O.contents out.old) (O.contents out.new) (E.contents err.old) (E.contents err.new)
         × (W.sound wire.new.wire → IsSoundMaildir D.MaildirDisk account.new.store → F.sound account.new.file
-        → Session account.old.settings (digits_of account.old.settings) now (W.history wire.old.wire)
-        (kept (maildir_of D.MaildirDisk account.old.store) (F.stored account.old.file))
-        report (W.history wire.new.wire) (kept (maildir_of D.MaildirDisk account.new.store) (F.stored account.new.file)))
+        → AfterTaking (maildir_of D.MaildirDisk account.old.store) (λ left. Session account.old.settings
+        (digits_of account.old.settings) now (W.history wire.old.wire) (kept left (F.stored account.old.file))
+        report (W.history wire.new.wire) (kept (maildir_of D.MaildirDisk account.new.store) (F.stored account.new.file))))
         × (W.sound wire.new.wire → IsSoundMbox F.FlatFile account.new.store → F.sound account.new.file
         → MboxSession account.old.settings now (W.history wire.old.wire)
         (mbox_kept (mbox_of F.FlatFile account.old.store) (F.stored account.old.file))
@@ -225,9 +226,10 @@ pub fn pretend_into<
     ensures tells { (preview : Preview)
         × TellsAhead account.old.settings preview result (O.contents out.old) (O.contents out.new) (E.contents err.old) (E.contents err.new)
         × (W.sound wire.new.wire → is_sound D.MaildirDisk F.FlatFile account.new.store → F.sound account.new.file
-        → Pretends account.old.settings (target_of account.old.store (digits_of account.old.settings)) now (W.history wire.old.wire)
-        (keeping (stores_of D.MaildirDisk F.FlatFile account.old.store) (F.stored account.old.file))
-        preview (W.history wire.new.wire) (keeping (stores_of D.MaildirDisk F.FlatFile account.new.store) (F.stored account.new.file))) }
+        → AfterTakingIn (stores_of D.MaildirDisk F.FlatFile account.old.store) (λ left. Pretends account.old.settings
+        (target_of account.old.store (digits_of account.old.settings)) now (W.history wire.old.wire)
+        (keeping left (F.stored account.old.file))
+        preview (W.history wire.new.wire) (keeping (stores_of D.MaildirDisk F.FlatFile account.new.store) (F.stored account.new.file)))) }
 {
     let preview = pretend(account, wire, now);
     wire.wipe();
