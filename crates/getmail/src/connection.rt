@@ -17,10 +17,10 @@ const CONNECT_SECONDS: u64 = 60;
 const WAIT_SECONDS: u64 = 180;
 
 /// A connection, or one end of it, whose refused calls are traced.
-type End<'a> = Traced<&'a TcpStream, Trace<'a>>;
+type End<'s, 'a> = Traced<&'s TcpStream, Trace<'a>>;
 
 /// The link over a connection.
-pub type Link<'a> = TracedWire<StreamWire<End<'a>, End<'a>>, Trace<'a>>;
+pub type Link<'s, 'a> = TracedWire<StreamWire<End<'s, 'a>, End<'s, 'a>>, Trace<'a>>;
 
 /// Connects to one address, and limits how long reads and writes wait. Each command goes out at once.
 fn connect_to(rt: &HostRuntime, address: SocketAddr) -> io::Result<TcpStream> {
@@ -88,7 +88,11 @@ pub fn link_trace<'a>(host: &Host<'a>, settings: &Settings) -> Result<LinkTrace<
 }
 
 /// The link over a connection to the server, with this trace.
-pub fn link_over<'a>(host: &Host<'a>, stream: &'a TcpStream, link: LinkTrace<'a>) -> Link<'a> {
+pub fn link_over<'s, 'a>(
+    host: &Host<'a>,
+    stream: &'s TcpStream,
+    link: LinkTrace<'a>,
+) -> Link<'s, 'a> {
     let alloc = host.alloc();
     let LinkTrace {
         trace,
