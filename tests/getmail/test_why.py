@@ -136,10 +136,10 @@ class BeforeSessions(unittest.TestCase):
                 (b"port = 1", b"port = 0x1 # plain", "retriever.port has a bad value",
                  "line 4: port = 0x1 # plain: 1 to 65535" + own_line),
                 (b"password = p", b"password = " + b"q" * 501, "retriever.password has a bad value",
-                 "line 6: password: 1 to 500 octets, with no CR and no NUL"),
+                 "line 6: password: one line of 1 to 500 octets, with no CR and no NUL"),
                 (b"path = ~/Maildir/", b"path = ~/Mail\x1bdir", "destination.path has a bad form",
-                 "line 10: path = ~/Mail\\x1bdir: a Maildir's path ends in / and an mboxrd file's doesn't; it has no $, "
-                 "and ~ only as ~/ at its front"),
+                 "line 10: path = ~/Mail\\x1bdir: a Maildir's path ends in / and an mboxrd file's doesn't; it is one line with "
+                 "no $, and ~ only as ~/ at its front"),
                 (b"type = Maildir", b"TYPE: Mbox", "destination.type unknown", "line 9: type = Mbox: Maildir or Mboxrd")):
             with self.subTest(new), Account(1) as self.account:
                 self.put(old, new)
