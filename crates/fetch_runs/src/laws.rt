@@ -115,8 +115,8 @@ pub fn headline_word_for_word()
     holds_exactly();
 }
 
-/// Whichever files readers take away, also during a session, each message of a kept state that is
-/// among them is an event of a run.
+/// Whichever files readers take away from a kept state, also during a session, a list of events leads
+/// from it to the state without them.
 #[tactic(auto, using(crate::proofs::Takings::takings_are_events))]
 pub fn takings_are_events()
     ensures { TakingsAreEvents }

@@ -213,18 +213,18 @@ impl<'a, R: Files + Clock + AllocGlobal + Clone + Drop> MaildirFolders<'a, R> {
 
     /// Does something with the file of this name, or if that is gone, with the one that has its base now.
     /// None if no file has it.
-    fn reach<T: Drop, D: FnMut(&R, &str) -> io::Result<T>>(
+    fn reach<T: Drop, A: FnMut(&R, &str) -> io::Result<T>>(
         &self,
         seen: &mut SeenFiles,
         folder: Folder,
         name: &str,
-        mut deed: D,
+        mut act: A,
     ) -> Result<Option<T>, Unread>
-        requires { D.IsAlwaysCallable deed }
+        requires { A.IsAlwaysCallable act }
     {
         let mut path = self.path_of(folder, name)?;
         for _ in 0..MOST_TRIES {
-            match deed(self.rt, path.as_str()) {
+            match act(self.rt, path.as_str()) {
                 Ok(done) => return Ok(Some(done)),
                 Err(error) => {
                     if error.kind() != ErrorKind::NotFound {

@@ -68,14 +68,6 @@ keeps_same old new name e = record { leads_to = ap (λ (d : Directory). find nam
 keeps_making : (old new : Directory) (name : List ℕ) → ChangesMade old new → Keeps old name new
 keeps_making old new name (m, e) = record { leads_to = ap (λ (d : Directory). find name d.entries) e; named = ap (λ (d : Directory). d.older) e }
 
--- another file made doesn't change a file
-pub holds_making : (d new : Directory) (m : Option Blob) (name : List ℕ) (o : Option Blob) (older : List Older) → new ≡ making d m
-    → Holds d name o older → Holds new name o older
-holds_making d new m name o older e h = record {
-  leads_to = ap (λ (x : Directory). find name x.entries) e ∙ h.leads_to;
-  named = ap (λ (x : Directory). x.older) e ∙ h.named;
-}
-
 -- the file that was there, changed, and then flushed, or not
 module _ (old mid new : Directory) (name : List ℕ) (b c : Blob) (at : find name old.entries ≡ Some b) (changing : mid ≡ changed old name c) (R : Blob → Blob → Type 0) where
   of_mid : (x : Blob) (f : Blob → Blob) → find name mid.entries ≡ Some x → new ≡ changed mid name (f x) → Holds new name (Some (f c)) old.older

@@ -35,12 +35,12 @@ Denies old Refused new = new ≡ counted old
 Denies old NotMbox new = ⊥
 Denies old NoMemory new = ⊥
 
--- `load`: the file's bytes
+-- `load` and `peek`: the file's bytes
 abbrev pub Loads : {B : Type 0} → Stored → Result (Vec ℕ B) StoreFault → Stored → Type 0
 Loads old (Ok bytes) new = (old.content ≡ Some bytes.items) × (new ≡ old)
 Loads old (Err fault) new = Denies old fault new
 
--- `edges`: the size and the ends of the file's bytes
+-- `edges` and `peek_edges`: the size and the ends of the file's bytes
 abbrev pub Measures : Stored → Result Edges StoreFault → Stored → Type 0
 Measures old (Ok edges) new = ((was : List ℕ) × (old.content ≡ Some was) × (edges ≡ edges_of was)) × (new ≡ old)
 Measures old (Err fault) new = Denies old fault new

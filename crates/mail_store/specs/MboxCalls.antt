@@ -27,7 +27,7 @@ abbrev pub Looks : Stored → Result Edges StoreFault → Stored → Type 0
 Looks old (Ok edges) new = ((was : List ℕ) × GoesOn old was × (edges ≡ edges_of was)) × (new ≡ old)
 Looks old (Err fault) new = RefusesLook old fault new
 
--- `check_mbox`: an entry may follow the file
+-- `check_mbox` and `peek_mbox`: an entry may follow the file
 abbrev pub Checks : {T : Type 0} → Stored → Result T StoreFault → Stored → Type 0
 Checks old (Ok done) new = ((was : List ℕ) × GoesOn old was) × (new ≡ old)
 Checks old (Err fault) new = RefusesLook old fault new

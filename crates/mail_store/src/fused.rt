@@ -322,8 +322,7 @@ impl<D: FlatFile> FlatFile for Fused<D> {
         ensures keeps { FusedIsSound D.sound self.new → KeepsBytes (D.outlives (device_of self.old)) (D.outlives (device_of self.new)) }
         ensures sure { FusedIsSound D.sound self.new → D.is_sure (device_of self.old) → D.is_sure (device_of self.new) }
         ensures count { Tallies (refuses is_refusal result) (refusals self.old) (refusals self.new) }
-        ensures burns { refusals self.old < greatest_count → Burns (λ d. (D.stored d).failures) self.old result self.new }
-        ensures behind { passes_left self.old ≡ 0 → device_of self.new ≡ device_of self.old }
+        ensures fuse { Fuses (λ d. (D.stored d).failures) self.old result self.new }
     {
         admit(&self.failures)?;
         self.pass()?;

@@ -59,9 +59,6 @@ mbox_visit_of link effect = record {
   after = link.after;
 }
 
-abbrev pub after_mbox_link : MboxSituation → MboxLink → MboxSituation
-after_mbox_link before link = record { account = link.after; gone = before.gone ++ link.vanished }
-
 -- a law: a session over an honest link is a visit of the law over runs
 abbrev pub MboxLinksAreVisits : Type 0
 MboxLinksAreVisits = (frame : MboxFrame) (before : MboxSituation) (link : MboxLink)

@@ -78,9 +78,6 @@ pub record Link : Type 0 where
   pub vanished : List (List ℕ)
   pub after : Account
 
-abbrev pub after_link : Situation → Link → Situation
-after_link before link = record before { account = link.after; gone = before.gone ++ link.vanished }
-
 -- a session of the code, over an honest link
 pub record Links (frame : Frame) (before : Situation) (link : Link) : Type 0 where
   pub same : link.settings.max_size ≡ frame.max_size

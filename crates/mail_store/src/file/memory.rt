@@ -121,9 +121,9 @@ impl FlatFile for MemoryFile {
 
     // It takes no memory, so below the greatest count it isn't refused.
     fn read_at(&mut self, start: u64, buf: &mut [u8]) -> Result<usize, StoreFault>
-        ensures within { IfOk result (λ count. count ≤ length buf.new) }
-        ensures reads { self.new.failures < greatest_count → (self.old.failures < greatest_count)
-            × ReadsAt self.old start result buf.new self.new }
+        ensures reads { IfOk result (λ count. count ≤ length buf.new)
+            × (self.new.failures < greatest_count → (self.old.failures < greatest_count)
+            × ReadsAt self.old start result buf.new self.new) }
         ensures fault { IfErr result IsDeviceFault }
         ensures keeps { self.new.failures < greatest_count → KeepsBytes (⟦<MemoryFile as FlatFile>⟧.outlives self.old)
             (⟦<MemoryFile as FlatFile>⟧.outlives self.new) }
