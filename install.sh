@@ -10,6 +10,11 @@ set -eu
 cd "$(dirname "$0")"
 
 prefix=${PREFIX:-/usr/local}
+prefix=${prefix%/}
+case $prefix in
+    /*) ;;
+    *) echo "install.sh: PREFIX is a full path, and not $prefix" >&2; exit 2 ;;
+esac
 place=${DESTDIR:-}$prefix
 share=$place/share
 docs=$share/doc/getmail

@@ -10,7 +10,7 @@ function __getmail_rcfiles
         end
     end
     for file in $dir/*
-        string match -qr -- '/(seen-[^/]*|lock|lock-[^/]*)$' $file; or string replace -- "$dir/" '' $file
+        string match -qr -- '/(seen-[^/]*|lock|lock-[^/]*|stunnel.conf)$' $file; or string replace -- "$dir/" '' $file
     end
 end
 
@@ -23,7 +23,6 @@ complete -c getmail -s n -l new -d 'Fetch only what was not delivered before'
 complete -c getmail -l pretend -d 'Say what would be done, and do nothing'
 complete -c getmail -s q -l quiet -d 'Write no report'
 complete -c getmail -s r -l rcfile -r -F -a '(__getmail_rcfiles)' -d 'Settings'
-complete -c getmail -l rehearse -d 'Hold a session with standard input'
 complete -c getmail -l trace -d 'Show the conversation and refused calls'
 complete -c getmail -s v -l verbose -d 'Report more'
 complete -c getmail -s V -l version -d 'Show the version'

@@ -32,6 +32,7 @@ Architecture: {arch}
 Maintainer: {maintainer}
 Installed-Size: {size}
 Depends: libc6 (>= {libc})
+Suggests: stunnel4, python3
 Conflicts: getmail4, getmail6
 Section: mail
 Priority: optional

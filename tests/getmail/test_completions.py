@@ -23,7 +23,7 @@ class Completions(unittest.TestCase):
         holder = tempfile.TemporaryDirectory()
         self.addCleanup(holder.cleanup)
         self.home = Path(holder.name)
-        for folder, names in ((".getmail", ("getmailrc", "work", "seen-1", "lock", "lock-work")), ("other", ("home", "house"))):
+        for folder, names in ((".getmail", ("getmailrc", "work", "seen-1", "lock", "lock-work", "stunnel.conf")), ("other", ("home", "house"))):
             (self.home / folder).mkdir()
             for name in names:
                 (self.home / folder / name).touch()
@@ -45,7 +45,7 @@ class Completions(unittest.TestCase):
         self.assertEqual(self.bash("-g", "~/other", "-r", "hou"), ["house"])
         self.assertEqual(self.bash("-r", f"{other}/ho"), [f"{other}/home", f"{other}/house"])
         self.assertEqual(self.bash("-g", str(self.home / "none"), "-r", ""), [])
-        self.assertEqual(self.bash("--re"), ["--rehearse"])
+        self.assertEqual(self.bash("--re"), [])
         self.assertEqual(self.bash("--pr"), ["--pretend"])
 
     def test_bash_goes_on_in_a_folder(self):

@@ -106,8 +106,8 @@ class Install(Copied):
             self.assertIn(f"{prefix}/bin/{name[:name.index('.')].removesuffix('@')}", started.split())
         page = (place / "share/man/man1/getmail.1").read_text()
         self.assertIn(f"install -m 600 {prefix}/share/doc/getmail/getmailrc.sample ", page)
-        crontab = (place / "share/doc/getmail/crontab").read_text()
-        self.assertIn(f"\nPATH={prefix}/bin:/usr/bin:/bin\n", crontab)
+        for text in (page, (place / "share/doc/getmail/crontab").read_text()):
+            self.assertIn(f"\nPATH={prefix}/bin:/usr/bin:/bin\n", text)
 
     def test_each_file_has_its_place_and_is_taken_away(self):
         for words, prefix in (([], "usr/local"), (["PREFIX=/usr"], "usr"), (["PREFIX=/srv/mail"], "srv/mail")):
@@ -122,10 +122,17 @@ class Install(Copied):
     def test_units_of_a_home_are_where_systemd_looks_for_them(self):
         home = self.place / "home"
         for words in (["install"], ["uninstall"]):
-            self.make(*words, f"PREFIX={home}/.local", HOME=str(home))
+            self.make(*words, f"PREFIX={home}/.local/", HOME=str(home))
             there = {str(path.relative_to(home)) for path in home.rglob("*") if path.is_file()}
             wanted = {f".local/share/systemd/user/{Path(unit).name}" for unit in UNITS} if words == ["install"] else set()
             self.assertEqual({name for name in there if "systemd" in name}, wanted)
+
+    def test_a_prefix_is_a_full_path(self):
+        for prefix in ("~/.local", "local"):
+            done = subprocess.run(["./install.sh"], cwd=self.top, env=programs.environment(PREFIX=prefix), capture_output=True,
+                                  text=True, timeout=programs.SECONDS)
+            self.assertEqual((done.returncode, done.stderr), (2, f"install.sh: PREFIX is a full path, and not {prefix}\n"))
+            self.assertFalse((self.top / prefix).exists())
 
     def test_what_others_have_there_stays(self):
         (self.place / "usr/local/bin").mkdir(parents=True)
