@@ -4,6 +4,7 @@ pub mod Headline
 pub mod HonestSession
 pub mod MboxAnyServer
 pub mod MboxHeadline
+pub mod MboxHonestSession
 pub mod MboxRuns
 pub mod MboxSteps
 pub mod MboxTexts
