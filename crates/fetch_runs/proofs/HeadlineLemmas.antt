@@ -363,8 +363,8 @@ lost_records_are_forgotten world before after lost = record {
 }
   where
     none_left : (after.file.content ≡ None) ⊎ (after.file.content ≡ Some []) → KeepsRows after.file.content []
-    none_left (inl missing) = subst (λ (c : Option (List ℕ)). KeepsRows c []) (sym missing) (None, refl, refl)
-    none_left (inr empty) = subst (λ (c : Option (List ℕ)). KeepsRows c []) (sym empty) (None, Two, false, inl (refl, refl))
+    none_left (inl missing) = subst (λ (c : Option (List ℕ)). KeepsRows c []) (sym missing) (None, (refl, refl))
+    none_left (inr empty) = subst (λ (c : Option (List ℕ)). KeepsRows c []) (sym empty) (None, (Two, false, inl (refl, refl)))
 
 -- ---- a new process
 

@@ -20,7 +20,7 @@ use Rattle.run_law.specs.Runs.{past_limit}
 use Rattle.run_law.specs.Sessions.{IsBegun}
 use Rattle.run_law.specs.Steps.{ids_wanted}
 use Rattle.fetch_runs.specs.MboxSteps.{mbox_holds, IsMboxStep, MboxSessionIsAStep}
-use Rattle.fetch_runs.specs.MboxHeadline.{MboxState, MboxOccasion, MboxEvent, Fetched, Between, Expired, Withdrawn, Rewritten, WritingsAreEvents, maildrop_at, IsMboxSession, after_event, frame_after, frame_left, Follows, situation, HoldsEntries, IsEntered, IsPastCount, EndsWhole, IsForEntered, MboxPromised, IsMboxKept, MboxHeadline, MboxStartIsKept, MboxHeadlineFromStart, MboxStopsAreRuns}
+use Rattle.fetch_runs.specs.MboxHeadline.{MboxState, MboxOccasion, MboxEvent, Fetched, Between, Expired, Withdrawn, Rewritten, WritingsAreEvents, maildrop_at, IsMboxSession, after_event, frame_after, Follows, situation, HoldsEntries, IsEntered, IsPastCount, EndsWhole, IsForEntered, MboxPromised, IsMboxKept, MboxHeadline, MboxStartIsKept, MboxHeadlineFromStart, MboxStopsAreRuns}
 use Rattle.fetch_runs.proofs.HeadlineLemmas.{for_message}
 use Rattle.fetch_runs.proofs.TalkCommands.{all_weaker, begins_of}
 

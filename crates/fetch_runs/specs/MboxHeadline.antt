@@ -5,7 +5,7 @@
 -- next entry is left, and only what its limits exclude is left out; and DELE was sent only for messages whose
 -- entry is whole. What was recorded as delivered before the first session counts as entered here; what was withdrawn from
 -- the server before it was fetched isn't part of its mail; and after others wrote the file the sentence begins anew.
-use Rattle.std.specs.Prelude.{◌≡◌, ◌≢◌, ◌⊎◌, ◌<◌, ◌-◌, ℕ, true, false, List, [], ◌∷◌, ◌++◌, None, Some, slice_get, bytes_eq}
+use Rattle.std.specs.Prelude.{◌≡◌, ◌≢◌, ◌⊎◌, ◌<◌, ◌-◌, ℕ, true, false, List, [], ◌∷◌, ◌++◌, None, Some, slice_get}
 use Rattle.std.specs.List.{AllByRecursion}
 use Rattle.pop3_wire.specs.declared.command.Command.{Command}
 use Rattle.pop3_wire.specs.declared.command.Command.TheVariants.{Dele}

@@ -6,7 +6,7 @@ use Rattle.pop3_wire.specs.World.{Message}
 use Rattle.mail_store.specs.FileName.{is_held, stem_of}
 use Rattle.fetch_rules.specs.Record.{is_delivered}
 use Rattle.run_law.specs.Mails.{ids_of, selected}
-use Rattle.run_law.specs.Accounts.{Account, files, copies}
+use Rattle.run_law.specs.Accounts.{files, copies}
 use Rattle.run_law.specs.Runs.{Frame, Situation, HoldsOf, StartsKept}
 use Rattle.run_law.proofs.Lists.{is_some}
 use Rattle.run_law.proofs.Ids.{Distinct, lone}

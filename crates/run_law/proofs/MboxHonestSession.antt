@@ -8,7 +8,6 @@ use Rattle.mail_terms.specs.Listing.{Item}
 use Rattle.rc_file.specs.declared.settings.Settings.{Settings}
 use Rattle.mail_store.specs.Mboxrd.{entry_of}
 use Rattle.run_law.specs.Mboxes.{MboxAccount, MboxStores, IsBroken, IsClosed, entries, mbox_wanted, settled}
-use Rattle.run_law.specs.MboxRuns.{entries_of}
 use Rattle.run_law.specs.MboxHonestSession.{IsIn, AppendsMessages, MboxHonestSession}
 use Rattle.run_law.specs.Sessions.{Served}
 use Rattle.run_law.specs.Steps.{AreTexts, Effect, IsHonest}

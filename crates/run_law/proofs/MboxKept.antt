@@ -23,7 +23,7 @@ use Rattle.run_law.specs.Mboxes.{MboxAccount, is_stored, closed_file, settled, m
 use Rattle.run_law.specs.MboxRuns.{MboxSituation, MboxVisit, MboxFrame, MboxVisits, MboxKept, MboxEnds, MboxPromises, HasEntry, IsNextOpen, after_visit, mbox_shown, entries_of, MboxEvent, MboxVisited, MboxExpired, MboxWithdrawn, MboxRewritten, MboxHappens, MboxPromised, after_mbox_event, mbox_frame_after, MboxKeptStaysKept, MboxKeptHolds}
 use Rattle.run_law.proofs.Core as core
 use Rattle.run_law.proofs.Core.{Scene, IsScene, fetched}
-use Rattle.run_law.proofs.Lists.{all_map, all_append, all_front, all_back, all_mapped, all_take, all_filter}
+use Rattle.run_law.proofs.Lists.{all_map, all_front, all_back, all_mapped, all_take, all_filter}
 use Rattle.run_law.proofs.Ids.{ids_both, gone_is_done, bytes_same, none_vanish}
 use Rattle.run_law.proofs.Below.{RowLaws}
 use Rattle.run_law.proofs.MboxOthers.{expired_kept, withdrawn_kept, rewritten_kept, mbox_world_stays}

@@ -1,5 +1,5 @@
 -- What happens to an account with an mboxrd between sessions leads from a kept state to a kept state.
-use Rattle.std.proofs.Common.{◌≡◌, ◌⊎◌, inl, inr, ℕ, List, [], ◌∷◌, ◌++◌, Bool, true, false, not, refl, sym, ◌∙◌, ap, subst, arith, append_assoc, None, Some}
+use Rattle.std.proofs.Common.{◌≡◌, inl, inr, ℕ, List, [], ◌++◌, Bool, true, not, refl, sym, ◌∙◌, ap, subst, arith}
 use Rattle.std.specs.Prelude.{bytes_eq}
 use Rattle.std.specs.List.{AllByRecursion, filter}
 use Rattle.std.proofs.lemmas.Bool.{both_ways, false_from_ne_true}
@@ -8,7 +8,7 @@ use Rattle.std.proofs.lemmas.List.Elements.{filter-append}
 use Rattle.mail_terms.specs.UniqueId.{has_id}
 use Rattle.pop3_wire.specs.World.{Message, IsWorld}
 use Rattle.fetch_rules.specs.Record.{is_delivered}
-use Rattle.run_law.specs.Mails.{ids_of, is_selected, selected, without}
+use Rattle.run_law.specs.Mails.{ids_of, is_selected, without}
 use Rattle.run_law.specs.MboxRuns.{MboxSituation, MboxFrame, MboxKept, MboxEvent, MboxExpired, MboxWithdrawn, MboxRewritten, MboxStartsKept, SomeAreRecorded, AreAllRecorded, IsUnbegun, IsNextOpen, after_mbox_event, entries_of, mbox_frame_after}
 use Rattle.run_law.proofs.Core.{members}
 use Rattle.run_law.proofs.Ids.{all_ids_at, bytes_self}

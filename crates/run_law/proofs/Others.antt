@@ -1,13 +1,13 @@
 -- What happens between sessions leads from a kept state to a kept state.
-use Rattle.std.proofs.Common.{◌≡◌, ◌⊎◌, inl, inr, List, ℕ, [], ◌++◌, Bool, true, false, not, length, sym, ◌∙◌, ap, subst, arith}
+use Rattle.std.proofs.Common.{◌≡◌, inl, inr, List, ℕ, ◌++◌, Bool, true, false, not, length, sym, ◌∙◌, ap, subst, arith}
 use Rattle.std.specs.Prelude.{bytes_eq}
 use Rattle.std.specs.List.{AllByRecursion, filter}
 use Rattle.std.proofs.lemmas.Bool.{both_ways, and_from, cases_Bool, false_from_ne_true}
 use Rattle.std.proofs.lemmas.List.Elements.{filter-append}
 use Rattle.mail_terms.specs.Distinct.{AreDistinct}
 use Rattle.mail_terms.specs.Listing.{Item}
-use Rattle.mail_terms.specs.UniqueId.{has_id, is_legal_id}
-use Rattle.pop3_wire.specs.World.{Message, IsMessage, IsWorld}
+use Rattle.mail_terms.specs.UniqueId.{has_id}
+use Rattle.pop3_wire.specs.World.{Message, IsMessage}
 use Rattle.mail_store.specs.FileName.{is_held, stem_of}
 use Rattle.fetch_rules.specs.Record.{is_delivered}
 use Rattle.run_law.specs.Mails.{ids_of, item_of, is_selected, selected, texts_of, without, WorldsShrink}

@@ -5,8 +5,7 @@ use Rattle.fetch_rules.specs.Record.{is_delivered, merged}
 use Rattle.mail_terms.specs.Listing.{Item}
 use Rattle.fetch_rules.specs.Wanted.{at_most, candidates, wanted}
 use Rattle.rc_file.specs.declared.settings.Settings.{Settings}
-use Rattle.mail_store.specs.Maildir.{File}
-use Rattle.mail_store.specs.FileName.{stem_of, is_held, names_id, IsAccountText}
+use Rattle.mail_store.specs.FileName.{stem_of, is_held, IsAccountText}
 use Rattle.mail_store.specs.Held.{flags_of}
 use Rattle.mail_terms.specs.UniqueId.{is_legal_id, has_id}
 use Rattle.pop3_wire.specs.World.{Message, IsWorld, maildrop_of}
