@@ -1,5 +1,6 @@
 mod Bridge
 mod Courses
+mod Fronts
 mod HeadlineLemmas
 mod MboxHeadlineLemmas
 mod MboxState

@@ -1,5 +1,6 @@
 pub mod AnyServer
 pub mod Conversations
+pub mod Fronts
 pub mod Headline
 pub mod HonestSession
 pub mod MboxAnyServer

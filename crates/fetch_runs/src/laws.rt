@@ -2,6 +2,7 @@
 //! nothing, and its contract is the law.
 ghost use Rattle.fetch_runs.specs.AnyServer.{AnyServer};
 ghost use Rattle.fetch_runs.specs.Conversations.{MboxSessionsFollowPlans, SessionsAreConversations};
+ghost use Rattle.fetch_runs.specs.Fronts.{FrontsAreSessions, UncutSessionsDoTasks};
 ghost use Rattle.fetch_runs.specs.Headline.{EmptyIsKept, Headline, HeadlineFromEmpty, HeadlineWordForWord};
 ghost use Rattle.fetch_runs.specs.Headline.{LostRecordsAreForgotten, NewProcessesAreBetween, StaysAway};
 ghost use Rattle.fetch_runs.specs.Headline.{StopsAreRuns, TakingsAreEvents};
@@ -160,6 +161,19 @@ pub fn new_processes_are_between()
 #[tactic(auto, using(crate::proofs::HeadlineLemmas::stops_are_runs))]
 pub fn stops_are_runs()
     ensures { StopsAreRuns }
+{}
+
+/// An uncut session of an account with a Maildir did its tasks.
+#[tactic(auto, using(crate::proofs::Fronts::uncut_sessions_do_tasks))]
+pub fn uncut_sessions_do_tasks()
+    ensures { UncutSessionsDoTasks }
+{}
+
+/// If a program is stopped between two tasks of an uncut session, before one that sends a line, the
+/// files of the tasks that were done and a record's file that shows them are what a session leaves
+/// that was cut there. So there is such a session as `stops_are_runs` asks for.
+pub fn fronts_are_sessions()
+    ensures { FrontsAreSessions }
 {}
 
 /// The headline may begin with an account that has an empty record and no file of its own.

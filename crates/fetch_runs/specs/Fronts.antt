@@ -1,0 +1,69 @@
+-- An uncut session, task by task: if the program is stopped between two of them, it leaves what a session leaves that was
+-- cut there.
+use Rattle.std.specs.Prelude.{◌≡◌, ℕ, List, [], ◌∷◌, ◌++◌, length, Ok}
+use Rattle.pop3_wire.specs.Link.{Link}
+use Rattle.pop3_wire.specs.Place.{Place, at}
+use Rattle.mail_terms.specs.Listing.{Item}
+use Rattle.rc_file.specs.declared.settings.Settings.{Settings}
+use Rattle.pop3_client.specs.declared.fault.Fault.TheVariants.{WriteFailed}
+use Rattle.pop3_client.specs.Turns.{Turn}
+use Rattle.fetch_rules.specs.Plan.{planned}
+use Rattle.fetch_rules.specs.Record.{none_open, marked_all}
+use Rattle.fetch_session.specs.declared.report.Outcome.TheVariants.{Ended, Cut as WasCut}
+use Rattle.fetch_session.specs.declared.report.Report.{Report}
+use Rattle.fetch_session.specs.Plan.{Prepared, tasks_ahead}
+use Rattle.fetch_session.specs.Record.{Steady}
+use Rattle.fetch_session.specs.Report.{Reports, skipped_in}
+use Rattle.fetch_session.specs.Scene.{Scene, Went}
+use Rattle.fetch_session.specs.Session.{Enters_with, Kept, Session}
+use Rattle.fetch_session.specs.Target.{AsFiles, in_maildir}
+use Rattle.fetch_session.specs.Task.{Done, files_of, ids_of, lines_of, tasks_of, turns_in}
+use Rattle.fetch_runs.specs.Headline.{HasTheSameFiles}
+
+-- what an uncut session of an account with a Maildir had ready before its first task, and the tasks that it did
+pub record Uncut (settings : Settings) (account : List ℕ) (now : ℕ) (link : Link) (before : Kept) (link' : Link) (after : Kept) : Type 0 where
+  pub items : List Item
+  pub entered : Place
+  pub enters : Enters_with settings (at link []) (Ok items) entered
+  pub ready : Scene
+  pub prepared : Prepared (AsFiles account) items now entered (in_maildir before.maildir) before.file [] ready
+  pub dones : List Done
+  pub tasks : tasks_ahead settings (AsFiles account) items now (in_maildir before.maildir) ready.rows ≡ tasks_of dones
+  pub last : Scene
+  pub went : Went (AsFiles account) dones ready last
+  pub link_is : link' ≡ last.place.link
+  pub maildir_is : after.maildir ≡ last.store.maildir
+  pub file_is : after.file ≡ last.file
+
+-- a law: an uncut session did its tasks
+abbrev pub UncutSessionsDoTasks : Type 0
+UncutSessionsDoTasks = (settings : Settings) (account : List ℕ) (now : ℕ) (link : Link) (before : Kept)
+    (report : Report) (link' : Link) (after : Kept)
+    → Session settings account now link before report link' after → report.outcome ≡ Ended
+    → Uncut settings account now link before link' after
+
+-- only these tasks were done: their files came, and the record's file shows their ids as delivered
+pub record IsLeftBy (account : List ℕ) (before : Kept) (ready : Scene) (front : List Done) (left : Kept) : Type 0 where
+  pub files : left.maildir.files ≡ before.maildir.files ++ files_of account front
+  pub file : Steady left.file.content (none_open (marked_all ready.rows (ids_of front)))
+
+-- a session that sent and got only a prefix of what this one did, and whose next line wasn't sent, left these files
+pub record IsCutThere (settings : Settings) (account : List ℕ) (now : ℕ) (link : Link) (before : Kept) (link' : Link) (items : List Item)
+    (ready : Scene) (front : List Done) (left : Kept) : Type 0 where
+  pub cut : Link
+  pub after : Kept
+  pub files : HasTheSameFiles after left
+  pub sent : (later : List ℕ) × (link'.sent ≡ cut.sent ++ later)
+  pub got : (later : List ℕ) × (link'.got ≡ cut.got ++ later)
+  pub session : (report : Report)
+      → Reports (WasCut WriteFailed) (length items) (skipped_in (planned settings ready.rows items now)) (lines_of front) report
+      → Session settings account now link before report cut after
+
+-- a law: whatever is left by the tasks before one that sends a line, a session was cut there and left it
+abbrev pub FrontsAreSessions : Type 0
+FrontsAreSessions = (settings : Settings) (account : List ℕ) (now : ℕ) (link : Link) (before : Kept) (link' : Link) (after : Kept)
+    → (uncut : Uncut settings account now link before link' after)
+    → (front back : List Done) (next : Done) (turn : Turn) (left : Kept)
+    → uncut.dones ≡ front ++ next ∷ back → turns_in next.task ≡ turn ∷ []
+    → IsLeftBy account before uncut.ready front left
+    → IsCutThere settings account now link before link' uncut.items uncut.ready front left
