@@ -1,23 +1,23 @@
--- An uncut session, task by task: if the program is stopped between two of them, it leaves what a session leaves that was
--- cut there.
-use Rattle.std.specs.Prelude.{◌≡◌, ℕ, List, [], ◌∷◌, ◌++◌, length, Ok}
+-- An uncut session, task by task: a program that is stopped there leaves what a session leaves that was cut there.
+use Rattle.std.specs.Prelude.{◌≡◌, ◌⊎◌, ℕ, List, [], ◌∷◌, ◌++◌, length, Ok}
 use Rattle.pop3_wire.specs.Link.{Link}
 use Rattle.pop3_wire.specs.Place.{Place, at}
 use Rattle.mail_terms.specs.Listing.{Item}
 use Rattle.rc_file.specs.declared.settings.Settings.{Settings}
-use Rattle.pop3_client.specs.declared.fault.Fault.TheVariants.{WriteFailed}
+use Rattle.pop3_client.specs.declared.fault.Fault.{Fault}
 use Rattle.pop3_client.specs.Turns.{Turn}
 use Rattle.fetch_rules.specs.Plan.{planned}
 use Rattle.fetch_rules.specs.Record.{none_open, marked_all}
 use Rattle.fetch_session.specs.declared.report.Outcome.TheVariants.{Ended, Cut as WasCut}
 use Rattle.fetch_session.specs.declared.report.Report.{Report}
+use Rattle.fetch_session.specs.declared.report.ReportLine.{ReportLine}
 use Rattle.fetch_session.specs.Plan.{Prepared, tasks_ahead}
 use Rattle.fetch_session.specs.Record.{Steady}
 use Rattle.fetch_session.specs.Report.{Reports, skipped_in}
 use Rattle.fetch_session.specs.Scene.{Scene, Went}
 use Rattle.fetch_session.specs.Session.{Enters_with, Kept, Session}
 use Rattle.fetch_session.specs.Target.{AsFiles, in_maildir}
-use Rattle.fetch_session.specs.Task.{Done, files_of, ids_of, lines_of, tasks_of, turns_in}
+use Rattle.fetch_session.specs.Task.{Done, files_of, ids_of, stores, tasks_of, turns_in}
 use Rattle.fetch_runs.specs.Headline.{HasTheSameFiles}
 
 -- what an uncut session of an account with a Maildir had ready before its first task, and the tasks that it did
@@ -42,28 +42,39 @@ UncutSessionsDoTasks = (settings : Settings) (account : List ℕ) (now : ℕ) (l
     → Session settings account now link before report link' after → report.outcome ≡ Ended
     → Uncut settings account now link before link' after
 
--- only these tasks were done: their files came, and the record's file shows their ids as delivered
-pub record IsLeftBy (account : List ℕ) (before : Kept) (ready : Scene) (front : List Done) (left : Kept) : Type 0 where
+-- these tasks were done, and the next one, which sends a line, wasn't begun: their files came, and the record's file shows
+-- their ids as delivered
+pub record IsLeftBetween (account : List ℕ) (before : Kept) (ready : Scene) (front : List Done) (next : Done) (left : Kept) : Type 0 where
+  pub turn : Turn
+  pub takes : turns_in next.task ≡ turn ∷ []
   pub files : left.maildir.files ≡ before.maildir.files ++ files_of account front
   pub file : Steady left.file.content (none_open (marked_all ready.rows (ids_of front)))
 
--- a session that sent and got only a prefix of what this one did, and whose next line wasn't sent, left these files
+-- these tasks were done, and the next one's text was stored, but the record's file doesn't show its id as delivered yet
+pub record IsLeftWithin (account : List ℕ) (before : Kept) (ready : Scene) (front : List Done) (next : Done) (left : Kept) : Type 0 where
+  pub number : ℕ
+  pub uid : List ℕ
+  pub is : next.task ≡ stores number uid
+  pub files : left.maildir.files ≡ before.maildir.files ++ files_of account (front ++ next ∷ [])
+  pub file : Steady left.file.content (none_open (marked_all ready.rows (ids_of front)))
+
+-- a session that was cut, and that sent and got only a prefix of what this one did, left these files
 pub record IsCutThere (settings : Settings) (account : List ℕ) (now : ℕ) (link : Link) (before : Kept) (link' : Link) (items : List Item)
-    (ready : Scene) (front : List Done) (left : Kept) : Type 0 where
+    (ready : Scene) (left : Kept) : Type 0 where
+  pub fault : Fault
+  pub lines : List ReportLine
   pub cut : Link
   pub after : Kept
   pub files : HasTheSameFiles after left
   pub sent : (later : List ℕ) × (link'.sent ≡ cut.sent ++ later)
   pub got : (later : List ℕ) × (link'.got ≡ cut.got ++ later)
-  pub session : (report : Report)
-      → Reports (WasCut WriteFailed) (length items) (skipped_in (planned settings ready.rows items now)) (lines_of front) report
+  pub session : (report : Report) → Reports (WasCut fault) (length items) (skipped_in (planned settings ready.rows items now)) lines report
       → Session settings account now link before report cut after
 
--- a law: whatever is left by the tasks before one that sends a line, a session was cut there and left it
+-- a law: at each such point, a session was cut there and left what is there
 abbrev pub FrontsAreSessions : Type 0
 FrontsAreSessions = (settings : Settings) (account : List ℕ) (now : ℕ) (link : Link) (before : Kept) (link' : Link) (after : Kept)
     → (uncut : Uncut settings account now link before link' after)
-    → (front back : List Done) (next : Done) (turn : Turn) (left : Kept)
-    → uncut.dones ≡ front ++ next ∷ back → turns_in next.task ≡ turn ∷ []
-    → IsLeftBy account before uncut.ready front left
-    → IsCutThere settings account now link before link' uncut.items uncut.ready front left
+    → (front back : List Done) (next : Done) (left : Kept) → uncut.dones ≡ front ++ next ∷ back
+    → IsLeftBetween account before uncut.ready front next left ⊎ IsLeftWithin account before uncut.ready front next left
+    → IsCutThere settings account now link before link' uncut.items uncut.ready left

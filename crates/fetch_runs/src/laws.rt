@@ -169,12 +169,15 @@ pub fn uncut_sessions_do_tasks()
     ensures { UncutSessionsDoTasks }
 {}
 
-/// If a program is stopped between two tasks of an uncut session, before one that sends a line, the
-/// files of the tasks that were done and a record's file that shows them are what a session leaves
-/// that was cut there. So there is such a session as `stops_are_runs` asks for.
+/// If a program is stopped between two tasks of an uncut session, or after a text was stored and before
+/// the record shows it, the files and the record are what a session leaves that was cut there. So
+/// there is such a session as `stops_are_runs` speaks of.
 pub fn fronts_are_sessions()
     ensures { FrontsAreSessions }
-{}
+{
+    steady_files_keep();
+    turns_join();
+}
 
 /// The headline may begin with an account that has an empty record and no file of its own.
 #[tactic(auto, using(crate::proofs::HeadlineLemmas::empty_is_kept))]
