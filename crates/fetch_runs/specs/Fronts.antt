@@ -21,7 +21,8 @@ use Rattle.fetch_session.specs.Task.{Done, files_of, ids_of, stores, tasks_of, t
 use Rattle.fetch_runs.specs.Headline.{HasTheSameFiles}
 
 -- what an uncut session of an account with a Maildir had ready before its first task, and the tasks that it did
-pub record Uncut (settings : Settings) (account : List ℕ) (now : ℕ) (link : Link) (before : Kept) (link' : Link) (after : Kept) : Type 0 where
+pub record Uncut (settings : Settings) (account : List ℕ) (now : ℕ) (link : Link) (before : Kept) (link' : Link)
+    (after : Kept) : Type 0 where
   pub items : List Item
   pub entered : Place
   pub enters : Enters_with settings (at link []) (Ok items) entered

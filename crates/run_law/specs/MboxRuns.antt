@@ -70,7 +70,8 @@ mbox_frame_after frame _ = frame
 
 -- the message isn't recorded as delivered, and no intent is open for it
 abbrev pub IsUnbegun : MboxAccount → List ℕ → Type 0
-IsUnbegun account id = (is_delivered account.rows id ≡ false) × ((intent : Intent) → account.intent ≡ Some intent → bytes_eq intent.uid id ≡ false)
+IsUnbegun account id = (is_delivered account.rows id ≡ false)
+    × ((intent : Intent) → account.intent ≡ Some intent → bytes_eq intent.uid id ≡ false)
 
 -- no intent is open, and exactly these messages are recorded as delivered, which are the first of the selected ones
 pub record AreAllRecorded (frame : MboxFrame) (account : MboxAccount) (had : List Message) : Type 0 where

@@ -47,7 +47,8 @@ after_event before (Between after) = record before { account = after }
 after_event before (Expired ids) = record before { gone = before.gone ++ ids }
 after_event before (Withdrawn ids) = before
 after_event before (TakenAway id after) = record before { account = after; taken = id ∷ before.taken }
-after_event before (BroughtBack id after) = record before { account = after; taken = filter (λ other. not (bytes_eq other id)) before.taken }
+after_event before (BroughtBack id after) =
+    record before { account = after; taken = filter (λ other. not (bytes_eq other id)) before.taken }
 after_event before (Forgotten after) = record before { account = after }
 
 -- what stays throughout: the account's text, the limit on sizes, and all mail that wasn't withdrawn
