@@ -18,7 +18,8 @@ use Rattle.fetch_session.specs.Scene.{Scene, Went}
 use Rattle.fetch_session.specs.Session.{Enters_with, Kept, Session}
 use Rattle.fetch_session.specs.Target.{AsFiles, in_maildir}
 use Rattle.fetch_session.specs.Task.{Done, files_of, ids_of, stores, tasks_of, turns_in}
-use Rattle.fetch_runs.specs.Headline.{HasTheSameFiles}
+use Rattle.fetch_session.specs.Account.{digits_of}
+use Rattle.fetch_runs.specs.Headline.{HasTheSameFiles, IsSession, IsStopped, Occasion, State, World}
 
 -- what an uncut session of an account with a Maildir had ready before its first task, and the tasks that it did
 pub record Uncut (settings : Settings) (account : List ℕ) (now : ℕ) (link : Link) (before : Kept) (link' : Link)
@@ -72,10 +73,20 @@ pub record IsCutThere (settings : Settings) (account : List ℕ) (now : ℕ) (li
   pub session : (report : Report) → Reports (WasCut fault) (length items) (skipped_in (planned settings ready.rows items now)) lines report
       → Session settings account now link before report cut after
 
--- a law: at each such point, a session was cut there and left what is there
+-- the session, cut there, with this report
+abbrev pub cut_at : Occasion → Link → Kept → Report → Occasion
+cut_at occasion link after report = record occasion { report = report; link' = link; after = after; vanished = [] }
+
+-- a law: at each such point of an uncut session of a run, a session was cut there and left what is there. It is one of the
+-- run, too, whatever the report that tells of it
 abbrev pub FrontsAreSessions : Type 0
-FrontsAreSessions = (settings : Settings) (account : List ℕ) (now : ℕ) (link : Link) (before : Kept) (link' : Link) (after : Kept)
-    → (uncut : Uncut settings account now link before link' after)
+FrontsAreSessions = (world : World) (state : State) (occasion : Occasion) → IsSession world state occasion
+    → (uncut : Uncut occasion.settings (digits_of occasion.settings) occasion.now occasion.link state.kept occasion.link' occasion.after)
     → (front back : List Done) (next : Done) (left : Kept) → uncut.dones ≡ front ++ next ∷ back
-    → IsLeftBetween account before uncut.ready front next left ⊎ IsLeftWithin account before uncut.ready front next left
-    → IsCutThere settings account now link before link' uncut.items uncut.ready left
+    → IsLeftBetween (digits_of occasion.settings) state.kept uncut.ready front next left
+    ⊎ IsLeftWithin (digits_of occasion.settings) state.kept uncut.ready front next left
+    → (there : IsCutThere occasion.settings (digits_of occasion.settings) occasion.now occasion.link state.kept occasion.link'
+    uncut.items uncut.ready left)
+    × ((report : Report) → Reports (WasCut there.fault) (length uncut.items)
+    (skipped_in (planned occasion.settings uncut.ready.rows uncut.items occasion.now)) there.lines report
+    → IsStopped world state (cut_at occasion there.cut there.after report) left)

@@ -26,7 +26,7 @@ use mail_store::{
 use pop3_client::conversations_are_paced;
 use pop3_wire::fronts_are_asked;
 use run_law::{
-    holds_exactly, holds_what_is_left, honest_sessions_append_messages,
+    holds_exactly, holds_what_is_left, honest_is_granted, honest_sessions_append_messages,
     honest_sessions_bring_messages, kept_states, links_are_visits, mbox_holds_exactly,
     mbox_links_are_visits, mbox_sessions_are_safe, mbox_starts_kept, mbox_states_are_kept,
     mbox_told_stores, sessions_are_safe, some_are_recorded, starts_kept, told_stores,
@@ -169,14 +169,15 @@ pub fn uncut_sessions_do_tasks()
     ensures { UncutSessionsDoTasks }
 {}
 
-/// If a program is stopped between two tasks of an uncut session, or after a text was stored and before
-/// the record shows it, the files and the record are what a session leaves that was cut there. So
-/// there is such a session as `stops_are_runs` speaks of.
+/// If a program is stopped between two tasks of an uncut session of a run, or after a text was stored
+/// and before the record shows it, the files and the record are what a session of the run leaves that
+/// was cut there. So there are such sessions as `stops_are_runs` speaks of.
 pub fn fronts_are_sessions()
     ensures { FrontsAreSessions }
 {
     steady_files_keep();
     turns_join();
+    honest_is_granted();
 }
 
 /// The headline may begin with an account that has an empty record and no file of its own.
