@@ -1,5 +1,5 @@
 -- From a kept state every list of sessions, and of what happens between them, keeps what is promised.
-use Rattle.std.proofs.Common.{◌≡◌, ◌⊎◌, inl, inr, ◌-◌, ◌<◌, ℕ, zero, suc, true, false, List, [], ◌∷◌, Some, refl, sym, ap, subst, ◌∙◌}
+use Rattle.std.proofs.Common.{◌≡◌, ◌⊎◌, inl, inr, ◌-◌, ◌<◌, ℕ, zero, suc, true, false, List, [], ◌∷◌, Option, None, Some, refl, sym, ap, subst, ◌∙◌}
 use Rattle.std.specs.Prelude.{bytes_eq, slice_get}
 use Rattle.std.specs.List.{AllByRecursion}
 use Rattle.std.proofs.lemmas.Bool.{or_cases, true≢false, cases_Bool}
@@ -13,18 +13,19 @@ use Rattle.mail_terms.specs.Listing.{Item}
 use Rattle.mail_store.specs.FileName.{account_text, is_held, IsAccountText, stem_of}
 use Rattle.fetch_rules.specs.Record.{Row, is_delivered}
 use Rattle.rc_file.specs.declared.settings.Settings.{Settings}
+use Rattle.fetch_rules.specs.RecordFile.{Two}
 use Rattle.fetch_rules.specs.RecordGrowth.{OneRecord}
 use Rattle.fetch_rules.specs.Wanted.{candidates}
 use Rattle.fetch_session.specs.Account.{digits_of}
 use Rattle.fetch_session.specs.Record.{KeepsRows}
 use Rattle.mail_terms.specs.UniqueId.{has_id, is_legal_id}
-use Rattle.run_law.specs.Mails.{item_of, listing_of, is_selected}
-use Rattle.run_law.specs.Accounts.{KeepsOthers, copies}
+use Rattle.run_law.specs.Mails.{item_of, listing_of, is_selected, WorldsShrink}
+use Rattle.run_law.specs.Accounts.{KeepsOthers, copies, files}
 use Rattle.run_law.specs.Steps.{Effect, Leaves, Stores, IsHonest, ids_wanted, merged_rows, wanted_at}
-use Rattle.run_law.specs.Runs.{IsFrame, Situation, Visit, Event as EventIn, Visited, Between as BetweenIn, Expired as ExpiredIn, TakenAway as TakenIn, Visits, Happens, after_event as after_in, Promises as PromisesIn, Kept, KeptStaysKept, KeptHoldsWhatIsLeft, StartsKept, LeavesOut, DeletesHeld, StoresOnlyNew as StoresNew, past_limit, NothingTakenHoldsExactly}
+use Rattle.run_law.specs.Runs.{IsFrame, Situation, Visit, Event as EventIn, Visited, Between as BetweenIn, Expired as ExpiredIn, Withdrawn as WithdrawnIn, TakenAway as TakenIn, BroughtBack as BroughtIn, Forgotten as ForgottenIn, Visits, Happens, after_event as after_in, frame_after as frame_in, Promises as PromisesIn, Kept, KeptStaysKept, KeptHoldsWhatIsLeft, StartsKept, LeavesOut, DeletesHeld, StoresOnlyNew as StoresNew, past_limit, NothingTakenHoldsExactly}
 use Rattle.run_law.specs.Sessions.{IsBegun, Link as LinkIn, LinksAreVisits}
 use Rattle.fetch_runs.specs.Steps.{holds, IsStep, SessionIsAStep}
-use Rattle.fetch_runs.specs.Headline.{World, IsSound, account_of, AreSettings, State, Occasion, Event, Fetched, Between, Expired, TakenAway, maildrop_at, IsSession, after_event, Follows, frame_of, situation, HoldsAPrefix, IsHeldAfter, IsPastCount, LeavesOutOnlyBeyondLimits, IsForHeld, FilesStay, StoresOnlyNew, Promised, IsKept, Headline, EmptyIsKept, HeadlineFromEmpty, state_after, IsRun, contents_of, IsRecorded, HoldsExactlyAPrefix, IsForOneHeld, IsWordForWord, ReadOnlyNew, HeadlineWordForWord, StaysAway, NewProcessesAreBetween, StopsAreRuns}
+use Rattle.fetch_runs.specs.Headline.{World, IsSound, account_of, AreSettings, State, Occasion, Event, Fetched, Between, Expired, Withdrawn, TakenAway, BroughtBack, Forgotten, maildrop_at, IsSession, after_event, world_after, world_left, Follows, frame_of, situation, HoldsAPrefix, IsHeldAfter, IsPastCount, LeavesOutOnlyBeyondLimits, IsForHeld, FilesStay, StoresOnlyNew, Promised, IsKept, Headline, EmptyIsKept, HeadlineFromEmpty, state_after, IsRun, contents_of, IsRecorded, HoldsExactlyAPrefix, IsForOneHeld, IsWordForWord, LeaveAway, HeadlineWordForWord, StaysAway, LostRecordsAreForgotten, NewProcessesAreBetween, StopsAreRuns}
 use Rattle.fetch_runs.proofs.TalkCommands.{all_weaker, begins_of}
 use Rattle.fetch_session.specs.Session.{Kept as Holding}
 
@@ -36,6 +37,7 @@ pub record Laws : Type 0 where
   pub holds_what_is_left : KeptHoldsWhatIsLeft
   pub digits : (server : List ℕ) (port : ℕ) (username : List ℕ) → IsAccountText (account_text server port username)
   pub one : OneRecord
+  pub shrink : WorldsShrink
 
 pub sound_frame : ((server : List ℕ) (port : ℕ) (username : List ℕ) → IsAccountText (account_text server port username)) → (world : World) → IsSound world → IsFrame (frame_of world)
 sound_frame digits world sound = record { account = digits world.server world.port world.username; world = sound }
@@ -184,12 +186,12 @@ module _ (laws : Laws) (world : World) (state : State) (occasion : Occasion) (so
 
 -- what the law over runs says of one event
 one_event : Laws → (world : World) (state : State) (event : EventIn) (rows : List Row) → IsSound world → Kept (frame_of world) (situation rows state) → Happens (frame_of world) (situation rows state) event
-    → Kept (frame_of world) (after_in (situation rows state) event) × PromisesIn (frame_of world) (situation rows state) event
+    → Kept (frame_in (frame_of world) event) (after_in (situation rows state) event) × PromisesIn (frame_of world) (situation rows state) event
 one_event laws world state event rows sound kept happens =
     let all = laws.stays (frame_of world) (situation rows state) (event ∷ []) (sound_frame laws.digits world sound) kept (happens, tt) in (all.0, all.1.0)
 
 event_promised : Laws → (world : World) (state : State) (event : Event) → IsSound world → IsKept world state → Follows world state event
-    → Promised world state event × IsKept world (after_event state event)
+    → Promised world state event × IsKept (world_after world event) (after_event state event)
 event_promised laws world state (Fetched occasion) sound is follows = fetched_promised laws world state occasion sound is.0 is.1 is.2 follows
 event_promised laws world state (Between after) sound is between =
     let all = one_event laws world state (BetweenIn (holds is.0 after.maildir)) is.0 sound is.2 (record { rows = refl; same = between.mail }) in
@@ -201,14 +203,30 @@ event_promised laws world state (TakenAway id after) sound is taken =
     let all = one_event laws world state (TakenIn id (holds is.0 after.maildir)) is.0 sound is.2
     (record { legal = taken.legal; held = taken.held; none = taken.none; rows = refl; others = taken.others }) in
     (tt, (is.0, taken.record_is is.0 is.1, all.0))
+event_promised laws world state (Withdrawn ids) sound is withdrawn =
+    let all = one_event laws world state (WithdrawnIn ids) is.0 sound is.2 withdrawn in
+    (tt, (is.0, is.1, all.0))
+event_promised laws world state (BroughtBack id after) sound is brought =
+    let all = one_event laws world state (BroughtIn id (holds is.0 after.maildir)) is.0 sound is.2
+    (record { legal = brought.legal; taken = brought.taken; text = brought.text; rows = refl; others = brought.others }) in
+    (tt, (is.0, brought.record_is is.0 is.1, all.0))
+event_promised laws world state (Forgotten after) sound is forgotten =
+    let now = forgotten.record_is is.0 is.1 in
+    let all = one_event laws world state (ForgottenIn (holds now.0 after.maildir)) is.0 sound is.2 (record { delivered = now.2; same = forgotten.mail }) in
+    (tt, (now.0, now.1, all.0))
 
 -- ---- any list of them
+
+-- what is left of the mail is sound
+sound_after : WorldsShrink → (world : World) (event : Event) → IsSound world → IsSound (world_after world event)
+sound_after shrink world (Withdrawn ids) sound = shrink world.all ids sound
+sound_after shrink world event sound = sound
 
 pub headline : Laws → Headline
 headline laws world start [] sound is run = (holds_prefix laws world start sound is, is)
 headline laws world start (event ∷ events) sound is run =
     let first = event_promised laws world start event sound is run.0 in
-    let later = headline laws world (after_event start event) events sound first.1 run.1 in
+    let later = headline laws (world_after world event) (after_event start event) events (sound_after laws.shrink world event sound) first.1 run.1 in
     ((holds_prefix laws world start sound is, first.0, later.0), later.1)
 
 pub empty_is_kept : StartsKept → EmptyIsKept
@@ -226,7 +244,7 @@ from_empty law empty_kept world start events sound empty run = (law world start 
 -- ---- one event
 
 abbrev OneEvent : World → State → Event → Type 0
-OneEvent world state event = HoldsAPrefix world state × Promised world state event × IsKept world (after_event state event)
+OneEvent world state event = HoldsAPrefix world state × Promised world state event × IsKept (world_after world event) (after_event state event)
 
 event_kept : Headline → (world : World) (state : State) (event : Event) → IsSound world → IsKept world state → Follows world state event → OneEvent world state event
 event_kept law world state event sound is follows = let all = law world state (event ∷ []) sound is (follows, tt) in (all.0.0, all.0.1, all.1)
@@ -275,6 +293,9 @@ headline_word_for_word law nothing world start (Fetched occasion ∷ events) sou
       headline_word_for_word law nothing world (after_event start (Fetched occasion)) events sound one.2 run.1 none takes_none,
     )
 headline_word_for_word law nothing world start (TakenAway id after ∷ events) sound is run none takes_none = absurd takes_none
+headline_word_for_word law nothing world start (Withdrawn ids ∷ events) sound is run none takes_none = absurd takes_none
+headline_word_for_word law nothing world start (BroughtBack id after ∷ events) sound is run none takes_none =
+    absurd (true≢false (sym run.0.taken ∙ ap (λ (ids : List (List ℕ)). has_id ids id) none))
 headline_word_for_word law nothing world start (event ∷ events) sound is run none takes_none =
     let one = event_kept law world start event sound is run.0 in
     (holds_exactly nothing world start none one.0, tt, headline_word_for_word law nothing world (after_event start event) events sound one.2 run.1 none takes_none)
@@ -289,33 +310,61 @@ recorded_in : (before after : Holding) (id : List ℕ) → ((rows : List Row) �
 recorded_in before after id same recorded = (recorded.0, same recorded.0 recorded.1, recorded.2)
 
 still_away : Headline → (world : World) (state : State) (event : Event) (id : List ℕ) → IsSound world → IsKept world state → Follows world state event
-    → ReadOnlyNew (event ∷ []) → is_legal_id id ≡ true → IsAway world state.kept id → IsAway world (after_event state event).kept id
-still_away laws world state (Fetched occasion) id sound is follows new legal away =
-    let now = (event_kept laws world state (Fetched occasion) sound is follows).1.4 new.0 id legal away.0 in (now.1, now.0 ∙ away.1)
-still_away laws world state (Between after) id sound is between new legal away = (recorded_in state.kept after id between.record_is away.0, between.mail id legal ∙ away.1)
-still_away laws world state (Expired ids) id sound is expired new legal away = away
-still_away laws world state (TakenAway other after) id sound is taken new legal away = (
+    → LeaveAway id (event ∷ []) → is_legal_id id ≡ true → IsAway world state.kept id → IsAway (world_after world event) (after_event state event).kept id
+still_away laws world state (Fetched occasion) id sound is follows leave legal away =
+    let now = (event_kept laws world state (Fetched occasion) sound is follows).1.4 leave.0 id legal away.0 in (now.1, now.0 ∙ away.1)
+still_away laws world state (Between after) id sound is between leave legal away = (recorded_in state.kept after id between.record_is away.0, between.mail id legal ∙ away.1)
+still_away laws world state (Expired ids) id sound is expired leave legal away = away
+still_away laws world state (Withdrawn ids) id sound is withdrawn leave legal away = away
+still_away laws world state (TakenAway other after) id sound is taken leave legal away = (
   recorded_in state.kept after id taken.record_is away.0,
   elim (cases_Bool (bytes_eq id other)) [
     | inl same ↦ ap (λ (x : List ℕ). contents_of world after x) ((bytes_eq-Decides id other).0 same) ∙ taken.none
     | inr apart ↦ taken.others id legal apart ∙ away.1
   ],
 )
+still_away laws world state (BroughtBack other after) id sound is brought leave legal away =
+    (recorded_in state.kept after id brought.record_is away.0, brought.others id legal leave.0 ∙ away.1)
+still_away laws world state (Forgotten after) id sound is forgotten leave legal away = (leave.0, forgotten.mail id legal ∙ away.1)
 
-one_new : (event : Event) (events : List Event) → ReadOnlyNew (event ∷ events) → ReadOnlyNew (event ∷ []) × ReadOnlyNew events
-one_new (Fetched occasion) events h = ((h.0, tt), h.1)
-one_new other events h = (tt, h)
+one_left : (id : List ℕ) (event : Event) (events : List Event) → LeaveAway id (event ∷ events) → LeaveAway id (event ∷ []) × LeaveAway id events
+one_left id (Fetched occasion) events h = ((h.0, tt), h.1)
+one_left id (BroughtBack other after) events h = ((h.0, tt), h.1)
+one_left id (Forgotten after) events h = ((h.0, tt), h.1)
+one_left id other events h = (tt, h)
 
-stay_all : Headline → (world : World) (start : State) (events : List Event) (id : List ℕ) → IsSound world → IsKept world start → IsRun world start events
-    → ReadOnlyNew events → is_legal_id id ≡ true → IsAway world start.kept id → IsAway world (state_after start events).kept id
-stay_all laws world start [] id sound is run new legal away = away
-stay_all laws world start (event ∷ events) id sound is run new legal away =
-    let split = one_new event events new in
-    stay_all laws world (after_event start event) events id sound (event_kept laws world start event sound is run.0).2 run.1 split.1 legal
-    (still_away laws world start event id sound is run.0 split.0 legal away)
+stay_all : WorldsShrink → Headline → (world : World) (start : State) (events : List Event) (id : List ℕ) → IsSound world → IsKept world start → IsRun world start events
+    → LeaveAway id events → is_legal_id id ≡ true → IsAway world start.kept id → IsAway (world_left world events) (state_after start events).kept id
+stay_all shrink laws world start [] id sound is run leave legal away = away
+stay_all shrink laws world start (event ∷ events) id sound is run leave legal away =
+    let split = one_left id event events leave in
+    stay_all shrink laws (world_after world event) (after_event start event) events id (sound_after shrink world event sound) (event_kept laws world start event sound is run.0).2 run.1
+    split.1 legal (still_away laws world start event id sound is run.0 split.0 legal away)
 
-pub stays_away : Headline → StaysAway
-stays_away laws world start events id sound is run new legal recorded none = (stay_all laws world start events id sound is run new legal (recorded, none)).1
+same_account : (world : World) (events : List Event) → account_of (world_left world events) ≡ account_of world
+same_account world [] = refl
+same_account world (event ∷ events) = same_account (world_after world event) events ∙ by event
+  where
+    by : (event : Event) → account_of (world_after world event) ≡ account_of world
+    by (Withdrawn ids) = refl
+    by event = refl
+
+pub stays_away : WorldsShrink → Headline → StaysAway
+stays_away shrink laws world start events id sound is run leave legal recorded none =
+    subst (λ (account : List ℕ). copies (files (holds [] (state_after start events).kept.maildir)) (stem_of account id) ≡ []) (same_account world events)
+    (stay_all shrink laws world start events id sound is run leave legal (recorded, none)).1
+
+-- ---- a record that is lost
+
+pub lost_records_are_forgotten : LostRecordsAreForgotten
+lost_records_are_forgotten world before after lost = record {
+  record_is = λ rows keeps. ([], none_left lost.content, λ id never. absurd (true≢false (sym never)));
+  mail = λ id legal. ap (λ fs. copies fs (stem_of (account_of world) id)) lost.files;
+}
+  where
+    none_left : (after.file.content ≡ None) ⊎ (after.file.content ≡ Some []) → KeepsRows after.file.content []
+    none_left (inl missing) = subst (λ (c : Option (List ℕ)). KeepsRows c []) (sym missing) (None, (refl, refl))
+    none_left (inr empty) = subst (λ (c : Option (List ℕ)). KeepsRows c []) (sym empty) (None, (Two, false, inl (refl, refl)))
 
 -- ---- a new process
 

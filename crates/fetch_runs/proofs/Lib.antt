@@ -1,5 +1,7 @@
 mod Bridge
 mod Courses
+mod Fronts
+mod FrontsHonest
 mod HeadlineLemmas
 mod MboxHeadlineLemmas
 mod MboxState

@@ -12,15 +12,15 @@ use Rattle.fetch_rules.specs.Wanted.{candidates}
 use Rattle.fetch_session.specs.Record.{Keeps}
 use Rattle.fetch_session.specs.Target.{mail_in}
 use Rattle.fetch_session.specs.declared.report.Outcome.TheVariants.{Ended}
-use Rattle.run_law.specs.Mails.{listing_of, is_selected}
+use Rattle.run_law.specs.Mails.{listing_of, is_selected, WorldsShrink}
 use Rattle.run_law.specs.Mboxes.{mbox_rows}
-use Rattle.run_law.specs.MboxRuns.{MboxFrame, MboxSituation, MboxKept as IsKeptIn, MboxVisits, MboxVisited, MboxExpired, MboxPromises as PromisesIn, MboxEnds, MboxHolds, MboxKeptStaysKept, MboxKeptHolds, MboxStartsKept}
+use Rattle.run_law.specs.MboxRuns.{MboxFrame, MboxSituation, MboxKept as IsKeptIn, MboxVisits, MboxVisited, MboxExpired, MboxWithdrawn, MboxRewritten, IsUnbegun, AreAllRecorded, SomeAreRecorded, MboxPromises as PromisesIn, MboxEnds, MboxHolds, MboxKeptStaysKept, MboxKeptHolds, MboxStartsKept}
 use Rattle.run_law.specs.MboxSessions.{MboxLink, MboxLinksAreVisits, mbox_visit_of}
 use Rattle.run_law.specs.Runs.{past_limit}
 use Rattle.run_law.specs.Sessions.{IsBegun}
 use Rattle.run_law.specs.Steps.{ids_wanted}
 use Rattle.fetch_runs.specs.MboxSteps.{mbox_holds, IsMboxStep, MboxSessionIsAStep}
-use Rattle.fetch_runs.specs.MboxHeadline.{MboxState, MboxOccasion, MboxEvent, Fetched, Between, Expired, maildrop_at, IsMboxSession, after_event, Follows, situation, HoldsEntries, IsEntered, IsPastCount, EndsWhole, IsForEntered, MboxPromised, IsMboxKept, MboxHeadline, MboxStartIsKept, MboxHeadlineFromStart, MboxStopsAreRuns}
+use Rattle.fetch_runs.specs.MboxHeadline.{MboxState, MboxOccasion, MboxEvent, Fetched, Between, Expired, Withdrawn, Rewritten, WritingsAreEvents, maildrop_at, IsMboxSession, after_event, frame_after, Follows, situation, HoldsEntries, IsEntered, IsPastCount, EndsWhole, IsForEntered, MboxPromised, IsMboxKept, MboxHeadline, MboxStartIsKept, MboxHeadlineFromStart, MboxStopsAreRuns}
 use Rattle.fetch_runs.proofs.HeadlineLemmas.{for_message}
 use Rattle.fetch_runs.proofs.TalkCommands.{all_weaker, begins_of}
 
@@ -31,6 +31,7 @@ pub record Laws : Type 0 where
   pub stays : MboxKeptStaysKept
   pub holds : MboxKeptHolds
   pub one : OneRecord
+  pub shrink : WorldsShrink
 
 holds_entries : Laws → (frame : MboxFrame) (state : MboxState) → IsWorld frame.all → IsMboxKept frame state → HoldsEntries frame state
 holds_entries laws frame state world is = (is.0, is.1, laws.holds frame (situation is.0 state) world is.2)
@@ -126,8 +127,12 @@ module _ (laws : Laws) (frame : MboxFrame) (state : MboxState) (occasion : MboxO
 
 -- ---- what happens between sessions
 
+-- a file stands for one record
+same_held : OneRecord → (content : Option (List ℕ)) (a b : Held) → Keeps content a → Keeps content b → a ≡ b
+same_held one content a b x y = let same = one content a.rows b.rows a.intent b.intent x y in rw (same.0, same.1)
+
 event_promised : Laws → (frame : MboxFrame) (state : MboxState) (event : MboxEvent) → IsWorld frame.all → IsMboxKept frame state → Follows frame state event
-    → MboxPromised frame state event × IsMboxKept frame (after_event state event)
+    → MboxPromised frame state event × IsMboxKept (frame_after frame event) (after_event state event)
 event_promised laws frame state (Fetched occasion) world (held, keeps, kept) is =
     session_promised laws frame state occasion world held keeps kept is
     (laws.steps occasion.settings occasion.now occasion.link state.kept held occasion.report occasion.link' occasion.after is.settings.valid keeps is.session)
@@ -143,14 +148,29 @@ event_promised laws frame state (Expired ids) world (held, keeps, kept) (other, 
     let same = laws.one state.kept.file.content other.rows held.rows other.intent held.intent stood keeps in
     let after = laws.stays frame (situation held state) (MboxExpired ids ∷ []) world kept (subst (λ (rows : List Row). AllByRecursion (λ (id : List ℕ). is_delivered rows id ≡ true) ids) same.0 all, tt) in
     (tt, (held, keeps, after.0))
+event_promised laws frame state (Withdrawn ids) world (held, keeps, kept) (other, stood, all) =
+    let same = same_held laws.one state.kept.file.content other held stood keeps in
+    let after = laws.stays frame (situation held state) (MboxWithdrawn ids ∷ []) world kept
+    (subst (λ (h : Held). AllByRecursion (IsUnbegun (mbox_holds h state.kept.mbox)) ids) same all, tt) in
+    (tt, (held, keeps, after.0))
+event_promised laws frame state (Rewritten had after) world (held, keeps, kept) is =
+    let same = same_held laws.one state.kept.file.content is.held held is.stood_for keeps in
+    let next = laws.stays frame (situation held state) (MboxRewritten had (mail_in after.mbox.content) ∷ []) world kept
+    (subst (λ (h : Held). AreAllRecorded frame (mbox_holds h state.kept.mbox) had) same is.recorded, tt) in
+    (tt, (held, subst (Keeps after.file.content) same is.stands_for, next.0))
 
 -- ---- any list of them
+
+sound_after : WorldsShrink → (frame : MboxFrame) (event : MboxEvent) → IsWorld frame.all → IsWorld (frame_after frame event).all
+sound_after shrink frame (Withdrawn ids) world = shrink frame.all ids world
+sound_after shrink frame (Rewritten had after) world = world
+sound_after shrink frame event world = world
 
 pub mbox_headline : Laws → MboxHeadline
 mbox_headline laws frame start [] world is run = (holds_entries laws frame start world is, is)
 mbox_headline laws frame start (event ∷ events) world is run =
     let first = event_promised laws frame start event world is run.0 in
-    let later = mbox_headline laws frame (after_event start event) events world first.1 run.1 in
+    let later = mbox_headline laws (frame_after frame event) (after_event start event) events (sound_after laws.shrink frame event world) first.1 run.1 in
     ((holds_entries laws frame start world is, first.0, later.0), later.1)
 
 pub start_is_kept : MboxStartsKept → MboxStartIsKept
@@ -164,6 +184,14 @@ start_is_kept starts frame start is = (
 
 pub from_start : MboxHeadline → MboxStartIsKept → MboxHeadlineFromStart
 from_start law kept frame start events world is run = (law frame start events world (kept frame start is) run).0
+
+-- ---- what others write
+
+pub writings_are_events : SomeAreRecorded → OneRecord → WritingsAreEvents
+writings_are_events some one frame state after (held, keeps, kept) others =
+    let same = same_held one state.kept.file.content others.held held others.stood_for keeps in
+    let all = some frame (situation held state) kept (subst (λ (h : Held). h.intent ≡ None) same others.closed) in
+    (all.0, record { held = held; stood_for = keeps; stands_for = subst (Keeps after.file.content) same others.stands_for; recorded = all.1 })
 
 pub stops_are_runs : MboxStopsAreRuns
 stops_are_runs frame state occasion left stopped = (

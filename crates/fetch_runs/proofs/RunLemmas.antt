@@ -11,7 +11,7 @@ use Rattle.fetch_session.specs.Session.{Kept, MboxKept, Session}
 use Rattle.fetch_runs.specs.declared.run.Visit.{Visit}
 use Rattle.run_law.specs.Sessions.{Fact}
 use Rattle.run_law.specs.MboxRuns.{MboxFrame}
-use Rattle.fetch_runs.specs.Headline.{AreSettings, World, IsSound, State, Fetched, after_event, state_after, IsKept, Headline, TakingsAreEvents}
+use Rattle.fetch_runs.specs.Headline.{AreSettings, AreTakings, World, IsSound, State, Event, Between, Fetched, TakenAway, after_event, state_after, world_left, IsKept, Headline, TakingsAreEvents}
 use Rattle.fetch_runs.specs.MboxHeadline.{MboxState, MboxHeadline, IsMboxKept, AreSettings as AreMboxSettings, Fetched as InMbox, after_event as after_mbox}
 use Rattle.fetch_runs.specs.MboxRuns.{MboxRuns, AreMboxPromised, mbox_occasion}
 use Rattle.fetch_runs.proofs.TalkCommands.{all_append, all_front, all_back}
@@ -65,6 +65,13 @@ made_all olds news i ran past same all held =
 
 -- ---- what is promised of them
 
+-- what readers take away leaves the mail of the server as it is
+takings_leave : (world : World) (events : List Event) → AreTakings events → world_left world events ≡ world
+takings_leave world [] takings = refl
+takings_leave world (TakenAway id after ∷ events) takings = takings_leave world events takings
+takings_leave world (Between after ∷ events) takings = takings_leave world events takings
+takings_leave world (other ∷ events) takings = absurd takings
+
 pub runs_promised : {W : Type 0} → Headline → TakingsAreEvents → (seen : W → Link) (settings : Settings) (world : World) (olds : List (Visit W)) (state : State) (reports : List Report) (news : List (Visit W)) (facts : List Fact) (last : Kept)
     → IsSound world → AreSettings world settings → IsKept world state → AreServed seen world.all state.gone olds news facts
     → Runs seen settings (digits_of settings) olds state.kept reports news last → ArePromised seen settings world state olds reports news facts last
@@ -73,10 +80,10 @@ runs_promised law takings seen settings world (old ∷ olds) state (report ∷ r
     let told = takings world state left sound is part in
     let mid = state_after state told.0 in
     let occasion = occasion_of seen settings old report new fact between in
-    let held = law world state told.0 sound is told.1.run in
+    let held = subst (λ (w : World). IsKept w mid) (takings_leave world told.0 told.1.each) (law world state told.0 sound is told.1.run).1 in
     let went = subst (λ (k : Kept). Session settings (digits_of settings) old.now (seen old.wire) k report (seen new.wire) between) (sym told.1.kept) session in
     let here = subst (λ (gone : List (List ℕ)). AreServed seen world.all gone (old ∷ olds) (new ∷ news) (fact ∷ facts)) (sym told.1.gone) served in
-    let one = law world mid (Fetched occasion ∷ []) sound held.1 (record { settings = are; session = went; served = here.0 }, tt) in (
+    let one = law world mid (Fetched occasion ∷ []) sound held (record { settings = are; session = went; served = here.0 }, tt) in (
       record {
         left = left;
         takings = told.0;

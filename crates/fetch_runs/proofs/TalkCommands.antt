@@ -68,17 +68,17 @@ pub begins_any : (next : List Command) (part : List ℕ) → part ≡ [] → Beg
 begins_any [] part e = e
 begins_any (command ∷ next) part e = (ended (line_of command), ap (λ (l : List ℕ). l ++ ended (line_of command)) (sym e))
 
-octets_same : (turns : List Turn) → asking turns ≡ octets_of (commands_in turns)
+pub octets_same : (turns : List Turn) → asking turns ≡ octets_of (commands_in turns)
 octets_same [] = refl
 octets_same (None ∷ turns) = octets_same turns
 octets_same (Some command ∷ turns) = ap (λ (l : List ℕ). ended (line_of command) ++ l) (octets_same turns)
 
-sendable_in : (turns : List Turn) → AllByRecursion CanBeSaid turns → AllByRecursion (λ command. can_be_sent command ≡ true) (commands_in turns)
+pub sendable_in : (turns : List Turn) → AllByRecursion CanBeSaid turns → AllByRecursion (λ command. can_be_sent command ≡ true) (commands_in turns)
 sendable_in [] all = tt
 sendable_in (None ∷ turns) all = sendable_in turns all.1
 sendable_in (Some command ∷ turns) all = (all.0.0, sendable_in turns all.1)
 
-numbers_in : (turns : List Turn) → AllByRecursion CanBeSaid turns → AllByRecursion HasNumbers (commands_in turns)
+pub numbers_in : (turns : List Turn) → AllByRecursion CanBeSaid turns → AllByRecursion HasNumbers (commands_in turns)
 numbers_in [] all = tt
 numbers_in (None ∷ turns) all = numbers_in turns all.1
 numbers_in (Some command ∷ turns) all = (all.0.1, numbers_in turns all.1)

@@ -1,10 +1,11 @@
 -- Where a server's unique-ids are distinct and persistent and its mail unchanged, after any list of sessions,
 -- each cut at any reply or refused write, the Maildir holds exactly a prefix of the selected messages in
 -- maildrop order, each once, byte for byte with lines ended by LF; an uncut session leaves out only what its
--- limits exclude; and DELE was sent only for messages held. What a reader took away counts as held here.
-use Rattle.std.specs.Prelude.{◌≡◌, ◌≢◌, ◌⊎◌, ◌<◌, ◌-◌, ℕ, true, false, List, [], ◌∷◌, ◌++◌, Some, slice_get, bytes_eq}
+-- limits exclude; and DELE was sent only for messages held. What a reader took away counts as held here, and
+-- what was withdrawn from the server before it was fetched isn't part of its mail.
+use Rattle.std.specs.Prelude.{◌≡◌, ◌≢◌, ◌⊎◌, ◌<◌, ◌-◌, ℕ, true, false, not, List, [], ◌∷◌, ◌++◌, None, Some, slice_get, bytes_eq}
 use Rattle.std.specs.String.{string_bytes}
-use Rattle.std.specs.List.{AllByRecursion}
+use Rattle.std.specs.List.{AllByRecursion, filter}
 use Rattle.pop3_wire.specs.declared.command.Command.{Command}
 use Rattle.pop3_wire.specs.declared.command.Command.TheVariants.{Dele}
 use Rattle.pop3_wire.specs.Honest.{Asked}
@@ -23,7 +24,7 @@ use Rattle.fetch_session.specs.Record.{KeepsRows}
 use Rattle.fetch_session.specs.Session.{Kept, Session, kept}
 use Rattle.fetch_session.specs.declared.report.Outcome.TheVariants.{Ended}
 use Rattle.fetch_session.specs.declared.report.Report.{Report}
-use Rattle.run_law.specs.Mails.{listing_of, is_selected}
+use Rattle.run_law.specs.Mails.{listing_of, is_selected, texts_of, without}
 use Rattle.run_law.specs.Accounts.{KeepsOthers, copies, files}
 use Rattle.run_law.specs.Steps.{ids_wanted}
 use Rattle.run_law.specs.Runs.{Frame, Situation, Kept as IsKeptIn, HoldsExactly, HoldsWhatIsLeft, past_limit}
@@ -33,7 +34,7 @@ use Rattle.fetch_runs.specs.Steps.{holds}
 -- ---- the world: unique-ids are distinct and persistent, and the mail unchanged
 
 -- whose mail it is: the server, the port and the user name, which make the account; the limit on sizes; and
--- all mail that ever comes, in order of arrival
+-- all mail that ever comes, in order of arrival, without what was withdrawn
 pub record World : Type 0 where
   pub server : List ℕ
   pub port : ℕ
@@ -57,8 +58,8 @@ pub record AreSettings (world : World) (settings : Settings) : Type 0 where
   pub username : string_bytes settings.username ≡ world.username
   pub max_size : settings.max_size ≡ world.max_size
 
--- the Maildir and the record's file, which ids are gone from the server, and which messages were ever taken
--- away from the Maildir
+-- the Maildir and the record's file, which ids are gone from the server, and which messages were taken away from the
+-- Maildir and weren't brought back
 pub record State : Type 0 where
   pub kept : Kept
   pub gone : List (List ℕ)
@@ -78,13 +79,17 @@ pub record Occasion : Type 0 where
   pub come : ℕ
   pub vanished : List (List ℕ)
 
--- a session; anything that leaves the record and the account's messages as they are; messages that are gone from the server without a session; and a message that its reader throws
--- away or files elsewhere
+-- a session; anything that leaves the record and the account's messages as they are; messages that are gone from the
+-- server after they were fetched, or before; a message that its reader throws away or files elsewhere, or puts back; and a
+-- record that is lost, or is replaced by an older one
 pub data Event : Type 0 where
   Fetched : Occasion → Event
   Between : Kept → Event
   Expired : List (List ℕ) → Event
+  Withdrawn : List (List ℕ) → Event
   TakenAway : List ℕ → Kept → Event
+  BroughtBack : List ℕ → Kept → Event
+  Forgotten : Kept → Event
 
 -- the maildrop of an occasion
 abbrev pub maildrop_at : World → State → Occasion → List Message
@@ -121,6 +126,30 @@ pub record IsTakenAway (world : World) (before : Kept) (id : List ℕ) (after : 
   pub others : (other : List ℕ) → is_legal_id other ≡ true → bytes_eq other id ≡ false
       → contents_of world after other ≡ contents_of world before other
 
+-- it was taken away, and one file holds its text again; all else of the account is as it was
+pub record IsBroughtBack (world : World) (state : State) (id : List ℕ) (after : Kept) : Type 0 where
+  pub legal : is_legal_id id ≡ true
+  pub taken : has_id state.taken id ≡ true
+  pub text : contents_of world after id ≡ texts_of world.all id
+  pub record_is : KeepsRecord state.kept after
+  pub others : (other : List ℕ) → is_legal_id other ≡ true → bytes_eq other id ≡ false
+      → contents_of world after other ≡ contents_of world state.kept other
+
+-- the record's file stands for rows of which no more are delivered than before. All else of them may be any, such as
+-- the times from which `delete_after` counts
+abbrev pub ShowsNoMore : Kept → List Row → Type 0
+ShowsNoMore after rows = (now : List Row) × KeepsRows after.file.content now
+    × ((id : List ℕ) → is_delivered now id ≡ true → is_delivered rows id ≡ true)
+
+-- the record's file is gone or empty, or is an older copy; for each legal id the files hold what they held
+pub record IsForgotten (world : World) (before after : Kept) : Type 0 where
+  pub record_is : (rows : List Row) → KeepsRows before.file.content rows → ShowsNoMore after rows
+  pub mail : (id : List ℕ) → is_legal_id id ≡ true → contents_of world after id ≡ contents_of world before id
+
+-- it is neither held nor taken away
+abbrev pub IsNeither : World → State → List ℕ → Type 0
+IsNeither world state id = (is_held (account_of world) state.kept.maildir id ≡ false) × (has_id state.taken id ≡ false)
+
 -- it was held, or was taken away before
 abbrev pub IsFetched : World → State → List ℕ → Type 0
 IsFetched world state id = (is_legal_id id ≡ true)
@@ -130,17 +159,28 @@ abbrev pub after_event : State → Event → State
 after_event state (Fetched occasion) = record state { kept = occasion.after; gone = state.gone ++ occasion.vanished }
 after_event state (Between after) = record state { kept = after }
 after_event state (Expired ids) = record state { gone = state.gone ++ ids }
+after_event state (Withdrawn ids) = state
 after_event state (TakenAway id after) = record state { kept = after; taken = id ∷ state.taken }
+after_event state (BroughtBack id after) = record state { kept = after; taken = filter (λ other. not (bytes_eq other id)) state.taken }
+after_event state (Forgotten after) = record state { kept = after }
+
+-- all mail goes on without the messages that are withdrawn
+abbrev pub world_after : World → Event → World
+world_after world (Withdrawn ids) = record world { all = without ids world.all }
+world_after world _ = world
 
 abbrev pub Follows : World → State → Event → Type 0
 Follows world state (Fetched occasion) = IsSession world state occasion
 Follows world state (Between after) = IsBetween world state.kept after
 Follows world state (Expired ids) = AllByRecursion (IsFetched world state) ids
+Follows world state (Withdrawn ids) = AllByRecursion (IsNeither world state) ids
 Follows world state (TakenAway id after) = IsTakenAway world state.kept id after
+Follows world state (BroughtBack id after) = IsBroughtBack world state id after
+Follows world state (Forgotten after) = IsForgotten world state.kept after
 
 abbrev pub IsRun : World → State → List Event → Type 0
 IsRun world state [] = Unit {0}
-IsRun world state (event ∷ events) = Follows world state event × IsRun world (after_event state event) events
+IsRun world state (event ∷ events) = Follows world state event × IsRun (world_after world event) (after_event state event) events
 
 -- ---- what is promised
 
@@ -227,7 +267,7 @@ Promised world state _ = Unit {0}
 abbrev pub Promises : World → State → List Event → Type 0
 Promises world state [] = HoldsAPrefix world state
 Promises world state (event ∷ events) = HoldsAPrefix world state × Promised world state event
-    × Promises world (after_event state event) events
+    × Promises (world_after world event) (after_event state event) events
 
 -- ---- the states in which it can begin and go on
 
@@ -240,10 +280,14 @@ abbrev pub state_after : State → List Event → State
 state_after state [] = state
 state_after state (event ∷ events) = state_after (after_event state event) events
 
+abbrev pub world_left : World → List Event → World
+world_left world [] = world
+world_left world (event ∷ events) = world_left (world_after world event) events
+
 -- the sentence: from a kept state, over any list of sessions and of what happens between them
 abbrev pub Headline : Type 0
 Headline = (world : World) (start : State) (events : List Event) → IsSound world → IsKept world start → IsRun world start events
-    → Promises world start events × IsKept world (state_after start events)
+    → Promises world start events × IsKept (world_left world events) (state_after start events)
 
 -- ---- what is taken away during a session
 
@@ -286,11 +330,12 @@ abbrev pub HeadlineFromEmpty : Type 0
 HeadlineFromEmpty = (world : World) (start : State) (events : List Event) → IsSound world
     → IsEmpty world start → IsRun world start events → Promises world start events
 
--- ---- if nothing is taken away
+-- ---- if nothing is taken away or withdrawn
 
 abbrev pub TakesNoneAway : List Event → Type 0
 TakesNoneAway [] = Unit {0}
 TakesNoneAway (TakenAway id after ∷ events) = ⊥
+TakesNoneAway (Withdrawn ids ∷ events) = ⊥
 TakesNoneAway (_ ∷ events) = TakesNoneAway events
 
 -- the Maildir holds exactly the first of the selected messages, each in one file with its text, and no others
@@ -333,18 +378,31 @@ HeadlineWordForWord = (world : World) (start : State) (events : List Event) → 
 
 -- ---- what is taken away stays away
 
--- each of these sessions reads only what is new
-abbrev pub ReadOnlyNew : List Event → Type 0
-ReadOnlyNew [] = Unit {0}
-ReadOnlyNew (Fetched occasion ∷ events) = (occasion.settings.read_all ≡ false) × ReadOnlyNew events
-ReadOnlyNew (_ ∷ events) = ReadOnlyNew events
+-- each of these sessions reads only what is new, no record forgets this message, and nobody puts it back
+abbrev pub LeaveAway : List ℕ → List Event → Type 0
+LeaveAway id [] = Unit {0}
+LeaveAway id (Fetched occasion ∷ events) = (occasion.settings.read_all ≡ false) × LeaveAway id events
+LeaveAway id (BroughtBack other after ∷ events) = (bytes_eq id other ≡ false) × LeaveAway id events
+LeaveAway id (Forgotten after ∷ events) = IsRecorded after id × LeaveAway id events
+LeaveAway id (_ ∷ events) = LeaveAway id events
 
 -- then a message that is recorded as delivered and isn't held is never stored again
 abbrev pub StaysAway : Type 0
 StaysAway = (world : World) (start : State) (events : List Event) (id : List ℕ) → IsSound world
     → IsKept world start → IsRun world start events
-    → ReadOnlyNew events → is_legal_id id ≡ true → IsRecorded start.kept id → contents_of world start.kept id ≡ []
+    → LeaveAway id events → is_legal_id id ≡ true → IsRecorded start.kept id → contents_of world start.kept id ≡ []
     → contents_of world (state_after start events).kept id ≡ []
+
+-- ---- a record that is lost
+
+-- the same files of `new` and `cur`, and no record's file, or an empty one
+pub record HasLostRecord (before after : Kept) : Type 0 where
+  pub files : after.maildir.files ≡ before.maildir.files
+  pub content : (after.file.content ≡ None) ⊎ (after.file.content ≡ Some [])
+
+-- that is such an event
+abbrev pub LostRecordsAreForgotten : Type 0
+LostRecordsAreForgotten = (world : World) (before after : Kept) → HasLostRecord before after → IsForgotten world before after
 
 -- ---- a program that starts anew, and one that is stopped
 

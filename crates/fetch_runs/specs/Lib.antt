@@ -1,9 +1,11 @@
 pub mod AnyServer
 pub mod Conversations
+pub mod Fronts
 pub mod Headline
 pub mod HonestSession
 pub mod MboxAnyServer
 pub mod MboxHeadline
+pub mod MboxHonestSession
 pub mod MboxRuns
 pub mod MboxSteps
 pub mod MboxTexts

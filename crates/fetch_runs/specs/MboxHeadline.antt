@@ -3,7 +3,8 @@
 -- first one, followed by the entries of exactly a prefix of the selected messages in maildrop order, each once,
 -- and by at most a prefix of the next one's entry, whose intent is then open; after an uncut session nothing of a
 -- next entry is left, and only what its limits exclude is left out; and DELE was sent only for messages whose
--- entry is whole. What was recorded as delivered before the first session counts as entered here.
+-- entry is whole. What was recorded as delivered before the first session counts as entered here; what was withdrawn from
+-- the server before it was fetched isn't part of its mail; and after others wrote the file the sentence begins anew.
 use Rattle.std.specs.Prelude.{◌≡◌, ◌≢◌, ◌⊎◌, ◌<◌, ◌-◌, ℕ, true, false, List, [], ◌∷◌, ◌++◌, None, Some, slice_get}
 use Rattle.std.specs.List.{AllByRecursion}
 use Rattle.pop3_wire.specs.declared.command.Command.{Command}
@@ -21,16 +22,17 @@ use Rattle.fetch_session.specs.Session.{MboxKept, MboxSession}
 use Rattle.fetch_session.specs.Target.{mail_in}
 use Rattle.fetch_session.specs.declared.report.Outcome.TheVariants.{Ended}
 use Rattle.fetch_session.specs.declared.report.Report.{Report}
-use Rattle.run_law.specs.Mails.{ids_of, listing_of, is_selected, selected}
+use Rattle.run_law.specs.Mails.{ids_of, listing_of, is_selected, selected, without}
 use Rattle.run_law.specs.Mboxes.{settled, none_held}
-use Rattle.run_law.specs.MboxRuns.{MboxFrame, MboxSituation, MboxKept as IsKeptIn, MboxHolds, HasEntry}
+use Rattle.run_law.specs.MboxRuns.{MboxFrame, MboxSituation, MboxKept as IsKeptIn, MboxHolds, HasEntry, IsUnbegun, AreAllRecorded}
 use Rattle.run_law.specs.Runs.{past_limit}
 use Rattle.run_law.specs.Sessions.{BeginsOne, Served}
 use Rattle.run_law.specs.Steps.{ids_wanted}
 use Rattle.fetch_runs.specs.MboxSteps.{mbox_holds}
 
--- What stays throughout is an `MboxFrame`: the file before the first session, the messages that were recorded as
--- delivered then, the limit on sizes, and all mail that ever comes, in order of arrival.
+-- What stays throughout, but where others write the file or messages are withdrawn, is an `MboxFrame`: the file before the
+-- first session, the messages that were recorded as delivered then, the limit on sizes, and all mail that ever comes, in
+-- order of arrival.
 
 -- settings that an rc file can give, with this limit on sizes, which ask only for what is new
 pub record AreSettings (frame : MboxFrame) (settings : Settings) : Type 0 where
@@ -57,12 +59,15 @@ pub record MboxOccasion : Type 0 where
   pub come : ℕ
   pub vanished : List (List ℕ)
 
--- a session; anything else that leaves the record and the mboxrd file's bytes as they are; and messages that
--- are gone from the server without a session
+-- a session; anything else that leaves the record and the mboxrd file's bytes as they are; messages that are gone from the
+-- server without a session, after they were recorded as delivered, or before; and others who write the mboxrd file, while
+-- these messages are recorded
 pub data MboxEvent : Type 0 where
   Fetched : MboxOccasion → MboxEvent
   Between : MboxKept → MboxEvent
   Expired : List (List ℕ) → MboxEvent
+  Withdrawn : List (List ℕ) → MboxEvent
+  Rewritten : List Message → MboxKept → MboxEvent
 
 -- the maildrop of an occasion
 abbrev pub maildrop_at : MboxFrame → MboxState → MboxOccasion → List Message
@@ -85,23 +90,49 @@ pub record IsMboxBetween (before after : MboxKept) : Type 0 where
 abbrev pub AreRecorded : MboxKept → List (List ℕ) → Type 0
 AreRecorded state ids = (held : Held) × Keeps state.file.content held × AllByRecursion (λ id. is_delivered held.rows id ≡ true) ids
 
+-- the record's file stands for a record in which none of these is delivered or has an open intent
+abbrev pub AreUnbegun : MboxState → List (List ℕ) → Type 0
+AreUnbegun state ids = (held : Held) × Keeps state.kept.file.content held × AllByRecursion (IsUnbegun (mbox_holds held state.kept.mbox)) ids
+
+-- the mboxrd file may hold anything now. The record's file still stands for its record, which has no open intent and shows
+-- exactly these messages as delivered
+pub record IsRewritten (frame : MboxFrame) (before : MboxKept) (had : List Message) (after : MboxKept) : Type 0 where
+  pub held : Held
+  pub stood_for : Keeps before.file.content held
+  pub stands_for : Keeps after.file.content held
+  pub recorded : AreAllRecorded frame (mbox_holds held before.mbox) had
+
 abbrev pub after_event : MboxState → MboxEvent → MboxState
 after_event state (Fetched occasion) = record { kept = occasion.after; gone = state.gone ++ occasion.vanished }
 after_event state (Between after) = record state { kept = after }
 after_event state (Expired ids) = record state { gone = state.gone ++ ids }
+after_event state (Withdrawn ids) = state
+after_event state (Rewritten had after) = record state { kept = after }
+
+-- all mail goes on without the messages that are withdrawn; what others write is what the file begins with
+abbrev pub frame_after : MboxFrame → MboxEvent → MboxFrame
+frame_after frame (Withdrawn ids) = record frame { all = without ids frame.all }
+frame_after frame (Rewritten had after) = record frame { start = mail_in after.mbox.content; had = had }
+frame_after frame _ = frame
 
 abbrev pub Follows : MboxFrame → MboxState → MboxEvent → Type 0
 Follows frame state (Fetched occasion) = IsMboxSession frame state occasion
 Follows frame state (Between after) = IsMboxBetween state.kept after
 Follows frame state (Expired ids) = AreRecorded state.kept ids
+Follows frame state (Withdrawn ids) = AreUnbegun state ids
+Follows frame state (Rewritten had after) = IsRewritten frame state.kept had after
 
 abbrev pub IsMboxRun : MboxFrame → MboxState → List MboxEvent → Type 0
 IsMboxRun frame state [] = Unit {0}
-IsMboxRun frame state (event ∷ events) = Follows frame state event × IsMboxRun frame (after_event state event) events
+IsMboxRun frame state (event ∷ events) = Follows frame state event × IsMboxRun (frame_after frame event) (after_event state event) events
 
 abbrev pub state_after : MboxState → List MboxEvent → MboxState
 state_after state [] = state
 state_after state (event ∷ events) = state_after (after_event state event) events
+
+abbrev pub frame_left : MboxFrame → List MboxEvent → MboxFrame
+frame_left frame [] = frame
+frame_left frame (event ∷ events) = frame_left (frame_after frame event) events
 
 -- ---- what is promised
 
@@ -169,7 +200,7 @@ MboxPromised frame state _ = Unit {0}
 abbrev pub MboxPromises : MboxFrame → MboxState → List MboxEvent → Type 0
 MboxPromises frame state [] = HoldsEntries frame state
 MboxPromises frame state (event ∷ events) = HoldsEntries frame state × MboxPromised frame state event
-    × MboxPromises frame (after_event state event) events
+    × MboxPromises (frame_after frame event) (after_event state event) events
 
 -- ---- the states in which it can begin and go on
 
@@ -180,7 +211,7 @@ IsMboxKept frame state = (held : Held) × Keeps state.kept.file.content held × 
 abbrev pub MboxHeadline : Type 0
 MboxHeadline = (frame : MboxFrame) (start : MboxState) (events : List MboxEvent) → IsWorld frame.all
     → IsMboxKept frame start → IsMboxRun frame start events
-    → MboxPromises frame start events × IsMboxKept frame (state_after start events)
+    → MboxPromises frame start events × IsMboxKept (frame_left frame events) (state_after start events)
 
 -- the record has no open intent, and what it shows as delivered is exactly a prefix of the selected messages, as it
 -- is with an empty record; only messages of this prefix may be gone. The mboxrd file may hold anything
@@ -203,6 +234,20 @@ abbrev pub MboxHeadlineFromStart : Type 0
 MboxHeadlineFromStart = (frame : MboxFrame) (start : MboxState) (events : List MboxEvent) → IsWorld frame.all
     → IsMboxStart frame start → IsMboxRun frame start events
     → MboxPromises frame start events
+
+-- ---- what others write
+
+-- the record has no open intent, and its file stands for the same record afterwards
+pub record AreOthers (before after : MboxKept) : Type 0 where
+  pub held : Held
+  pub stood_for : Keeps before.file.content held
+  pub stands_for : Keeps after.file.content held
+  pub closed : held.intent ≡ None
+
+-- then whatever others did to the mboxrd file of a kept state is an event
+abbrev pub WritingsAreEvents : Type 0
+WritingsAreEvents = (frame : MboxFrame) (state : MboxState) (after : MboxKept) → IsMboxKept frame state → AreOthers state.kept after
+    → (had : List Message) × IsRewritten frame state.kept had after
 
 -- ---- a program that starts anew, and one that is stopped
 

@@ -2,11 +2,15 @@
 //! nothing, and its contract is the law.
 ghost use Rattle.fetch_runs.specs.AnyServer.{AnyServer};
 ghost use Rattle.fetch_runs.specs.Conversations.{MboxSessionsFollowPlans, SessionsAreConversations};
+ghost use Rattle.fetch_runs.specs.Fronts.{FrontsAreSessions, UncutSessionsDoTasks};
 ghost use Rattle.fetch_runs.specs.Headline.{EmptyIsKept, Headline, HeadlineFromEmpty, HeadlineWordForWord};
-ghost use Rattle.fetch_runs.specs.Headline.{NewProcessesAreBetween, StaysAway, StopsAreRuns, TakingsAreEvents};
+ghost use Rattle.fetch_runs.specs.Headline.{LostRecordsAreForgotten, NewProcessesAreBetween, StaysAway};
+ghost use Rattle.fetch_runs.specs.Headline.{StopsAreRuns, TakingsAreEvents};
 ghost use Rattle.fetch_runs.specs.HonestSession.{HonestSessions};
 ghost use Rattle.fetch_runs.specs.MboxAnyServer.{MboxAnyServer};
-ghost use Rattle.fetch_runs.specs.MboxHeadline.{MboxHeadline, MboxHeadlineFromStart, MboxStartIsKept, MboxStopsAreRuns};
+ghost use Rattle.fetch_runs.specs.MboxHeadline.{MboxHeadline, MboxHeadlineFromStart, MboxStartIsKept};
+ghost use Rattle.fetch_runs.specs.MboxHeadline.{MboxStopsAreRuns, WritingsAreEvents};
+ghost use Rattle.fetch_runs.specs.MboxHonestSession.{MboxHonestSessions};
 ghost use Rattle.fetch_runs.specs.MboxSteps.{MboxSessionIsAStep};
 ghost use Rattle.fetch_runs.specs.MboxTexts.{MboxSessionsAddTexts};
 ghost use Rattle.fetch_runs.specs.Steps.{SessionIsAStep};
@@ -22,10 +26,11 @@ use mail_store::{
 use pop3_client::conversations_are_paced;
 use pop3_wire::fronts_are_asked;
 use run_law::{
-    holds_exactly, holds_what_is_left, honest_sessions_bring_messages, kept_states,
-    links_are_visits, mbox_holds_exactly, mbox_links_are_visits, mbox_sessions_are_safe,
-    mbox_starts_kept, mbox_states_are_kept, mbox_told_stores, sessions_are_safe, starts_kept,
-    told_stores,
+    holds_exactly, holds_what_is_left, honest_is_granted, honest_sessions_append_messages,
+    honest_sessions_bring_messages, kept_states, links_are_visits, mbox_holds_exactly,
+    mbox_links_are_visits, mbox_sessions_are_safe, mbox_starts_kept, mbox_states_are_kept,
+    mbox_told_stores, sessions_are_safe, some_are_recorded, starts_kept, told_stores,
+    worlds_shrink,
 };
 
 /// What a link gains in a session is one conversation that follows the plan. What was sent is the
@@ -93,11 +98,13 @@ pub fn honest_sessions()
 /// Each session has its own settings, except for the server, the port, the user name and
 /// `max_message_size`. At any moment, also during a session and during a call, a mail reader may move
 /// any file between `new` and `cur` and change its marks. Between two sessions a process may start
-/// anew; readers and other programs may do anything to files that aren't the account's; the server may
-/// remove what was fetched; and a reader may take a message away, which then counts as held.
+/// anew; readers and other programs may do anything to files that aren't the account's; messages may be
+/// gone from the server, and one that wasn't fetched is then no longer part of its mail; a reader may
+/// take a message away, which then counts as held, and put it back; and the record may be lost.
 pub fn headline()
     ensures { Headline }
 {
+    worlds_shrink();
     session_is_a_step();
     links_are_visits();
     kept_states();
@@ -106,7 +113,7 @@ pub fn headline()
     files_stand_for_one_record();
 }
 
-/// The headline for runs in which nothing is taken away, without its exceptions for that.
+/// The headline for runs in which nothing is taken away or withdrawn, without its exceptions for that.
 #[tactic(auto, using(crate::proofs::HeadlineLemmas::headline_word_for_word))]
 pub fn headline_word_for_word()
     ensures { HeadlineWordForWord }
@@ -125,14 +132,21 @@ pub fn takings_are_events()
     stems_differ();
 }
 
-/// If each session reads only what is new, a message that is recorded as delivered and was taken
-/// away is never stored again.
+/// If each session reads only what is new and the record doesn't forget it, a message that is recorded
+/// as delivered and was taken away is never stored again.
 #[tactic(auto, using(crate::proofs::HeadlineLemmas::stays_away))]
 pub fn recorded_stay_away()
     ensures { StaysAway }
 {
     headline();
+    worlds_shrink();
 }
+
+/// A record's file that is missing or empty is one that forgot, whatever it held.
+#[tactic(auto, using(crate::proofs::HeadlineLemmas::lost_records_are_forgotten))]
+pub fn lost_records_are_forgotten()
+    ensures { LostRecordsAreForgotten }
+{}
 
 /// What a new process finds, with the files as they were, is one of the things that may happen
 /// between two sessions: its counts of refusals begin at 0, it has begun no file, and folders may
@@ -148,6 +162,23 @@ pub fn new_processes_are_between()
 pub fn stops_are_runs()
     ensures { StopsAreRuns }
 {}
+
+/// An uncut session of an account with a Maildir did its tasks.
+#[tactic(auto, using(crate::proofs::Fronts::uncut_sessions_do_tasks))]
+pub fn uncut_sessions_do_tasks()
+    ensures { UncutSessionsDoTasks }
+{}
+
+/// If a program is stopped between two tasks of an uncut session of a run, or after a text was stored
+/// and before the record shows it, the files and the record are what a session of the run leaves that
+/// was cut there. So there are such sessions as `stops_are_runs` speaks of.
+pub fn fronts_are_sessions()
+    ensures { FrontsAreSessions }
+{
+    steady_files_keep();
+    turns_join();
+    honest_is_granted();
+}
 
 /// The headline may begin with an account that has an empty record and no file of its own.
 #[tactic(auto, using(crate::proofs::HeadlineLemmas::empty_is_kept))]
@@ -208,6 +239,16 @@ pub fn mbox_sessions_add_texts()
     entries_add_texts();
 }
 
+/// With an mboxrd file: if its server is honest, whatever its maildrop, a session leaves the account as
+/// it was, its file perhaps cut back; or its joined listing is the maildrop's, and what it appends
+/// are the entries of messages of the maildrop, with their texts, and at most a beginning of one more.
+pub fn mbox_honest_sessions()
+    ensures { MboxHonestSessions }
+{
+    mbox_session_is_a_step();
+    honest_sessions_append_messages();
+}
+
 /// With an mboxrd file: if the record's file stood for a record, then, whatever its server says, a
 /// session keeps what the file holds, except for the rest of an entry that an open intent had begun,
 /// and each DELE that it sent is for a message that was recorded as delivered, or whose text it got
@@ -227,11 +268,14 @@ pub fn mbox_any_server()
 /// limits exclude is left out; and DELE was sent only for messages whose entry is whole.
 ///
 /// Each session has its own settings, except for `max_message_size` and for `read_all`, which is
-/// false. Between two of them a process may start anew, and messages that were recorded may be gone
-/// from the server. What was recorded as delivered before the first session counts as entered.
+/// false. Between two of them a process may start anew, and messages may be gone from the server: one
+/// that wasn't recorded is then no longer part of its mail. While no intent is open, others may write
+/// the file; what it holds then counts as what it held before the first session. What was recorded
+/// as delivered before the first session counts as entered.
 pub fn mbox_headline()
     ensures { MboxHeadline }
 {
+    worlds_shrink();
     mbox_session_is_a_step();
     mbox_links_are_visits();
     mbox_states_are_kept();
@@ -255,6 +299,16 @@ pub fn mbox_headline_from_start()
 {
     mbox_headline();
     mbox_start_is_kept();
+}
+
+/// With an mboxrd file: whatever others do to the file of a kept state while no intent is open is an
+/// event of a run.
+#[tactic(auto, using(crate::proofs::MboxHeadlineLemmas::writings_are_events))]
+pub fn mbox_writings_are_events()
+    ensures { WritingsAreEvents }
+{
+    some_are_recorded();
+    files_stand_for_one_record();
 }
 
 /// With an mboxrd file: a stop of the program, which leaves what a session leaves if all its calls

@@ -1,17 +1,15 @@
 -- What a kept state says of each id: what is held is done, and what is done is held or was taken away.
 use Rattle.std.proofs.Common.{◌≡◌, ◌≤◌, ◌⊎◌, inl, inr, ℕ, List, [], Bool, true, false, length, refl, sym, ◌∙◌, ap, subst, arith}
-use Rattle.std.specs.Prelude.{bytes_eq}
-use Rattle.std.specs.List.{AllByRecursion}
 use Rattle.std.proofs.lemmas.Bool.{both_ways}
 use Rattle.mail_terms.specs.UniqueId.{has_id}
 use Rattle.pop3_wire.specs.World.{Message}
 use Rattle.mail_store.specs.FileName.{is_held, stem_of}
 use Rattle.fetch_rules.specs.Record.{is_delivered}
 use Rattle.run_law.specs.Mails.{ids_of, selected}
-use Rattle.run_law.specs.Accounts.{Account, files, copies}
-use Rattle.run_law.specs.Runs.{Frame, Situation, HoldsOf, IsHeldOrTaken, Kept, LeavesMail, TakesAway, Expired, Between, TakenAway, after_event, StartsKept}
-use Rattle.run_law.proofs.Lists.{is_some, all_map, all_append}
-use Rattle.run_law.proofs.Ids.{Distinct, lone, bytes_same, all_ids_at}
+use Rattle.run_law.specs.Accounts.{files, copies}
+use Rattle.run_law.specs.Runs.{Frame, Situation, HoldsOf, StartsKept}
+use Rattle.run_law.proofs.Lists.{is_some}
+use Rattle.run_law.proofs.Ids.{Distinct, lone}
 use Rattle.run_law.proofs.Files.{held_done, held_copies}
 
 module _ (frame : Frame) (state : Situation) where
@@ -34,53 +32,6 @@ module _ (frame : Frame) (state : Situation) where
   pub one_file : (done : List Message) (id : List ℕ) → Distinct (ids_of done) → HoldsOf frame state done id → length (copies (files state.account) (stem_of frame.account id)) ≤ 1
   one_file done id d (inl e) = subst (λ (c : List (List ℕ)). length c ≤ 1) (sym e) (lone done id d)
   one_file done id d (inr taken) = subst (λ (c : List (List ℕ)). length c ≤ 1) (sym taken.1) (omega arith)
-
--- ---- what others do
-
-pub between_kept : (frame : Frame) (before : Situation) (after : Account) → Kept frame before → LeavesMail frame.account before.account after
-    → Kept frame (after_event before (Between after))
-between_kept frame before after kept same = record {
-  done = kept.done;
-  rest = kept.rest;
-  prefix = kept.prefix;
-  holds = λ id l. let was = kept.holds id l in let now = same.same id l in grind (arith, was, now);
-  recorded = λ id e. kept.recorded id (ap (λ r. is_delivered r id) (sym same.rows) ∙ e);
-  gone = kept.gone;
-  taken = kept.taken;
-}
-
-pub expired_kept : (frame : Frame) (before : Situation) (ids : List (List ℕ)) → Kept frame before → AllByRecursion (IsHeldOrTaken frame.account before) ids
-    → Kept frame (after_event before (Expired ids))
-expired_kept frame before ids kept all = record {
-  done = kept.done;
-  rest = kept.rest;
-  prefix = kept.prefix;
-  holds = kept.holds;
-  recorded = kept.recorded;
-  gone = all_append (λ id. has_id (ids_of kept.done) id ≡ true) before.gone ids kept.gone
-      (all_map (IsHeldOrTaken frame.account before) (λ id. has_id (ids_of kept.done) id ≡ true)
-      (λ id h.
-      let held = held_is_done frame before kept.done id (kept.holds id h.0) in
-      let taken = all_ids_at (λ x. has_id (ids_of kept.done) x ≡ true) before.taken id kept.taken in
-      grind (arith, h.1, held, taken)) ids all);
-  taken = kept.taken;
-}
-
-pub taken_kept : (frame : Frame) (before : Situation) (id : List ℕ) (after : Account) → Kept frame before → TakesAway frame.account before.account id after
-    → Kept frame (after_event before (TakenAway id after))
-taken_kept frame before id after kept takes = record {
-  done = kept.done;
-  rest = kept.rest;
-  prefix = kept.prefix;
-  holds = λ other l.
-      let same = λ (e : bytes_eq other id ≡ true). ap (λ (x : List ℕ). copies (files after) (stem_of frame.account x)) (bytes_same other id e) ∙ takes.none in
-      let others = takes.others other l in
-      let was = kept.holds other l in
-      grind (arith, same, others, was);
-  recorded = λ other e. kept.recorded other (ap (λ r. is_delivered r other) (sym takes.rows) ∙ e);
-  gone = kept.gone;
-  taken = (held_is_done frame before kept.done id (kept.holds id takes.legal) takes.held, kept.taken);
-}
 
 -- ---- the first state
 

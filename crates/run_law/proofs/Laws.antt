@@ -7,14 +7,15 @@ use Rattle.mail_terms.specs.UniqueId.{is_legal_id, has_id}
 use Rattle.pop3_wire.specs.World.{Message}
 use Rattle.fetch_rules.specs.Record.{is_delivered}
 use Rattle.mail_store.specs.FileName.{is_held, stem_of}
-use Rattle.run_law.specs.Mails.{ids_of, is_selected, selected, texts_of}
+use Rattle.run_law.specs.Mails.{ids_of, selected, texts_of}
 use Rattle.run_law.specs.Accounts.{Account, files, copies, count_files}
 use Rattle.run_law.specs.Steps.{Effect, Leaves}
-use Rattle.run_law.specs.Runs.{Frame, IsFrame, Situation, Visit, Event, Visited, Between, Expired, TakenAway, Visits, Run, HoldsOf, Kept, LeavesMail, after_event, Promises, KeptStaysKept, KeptHoldsWhatIsLeft, NothingTakenHoldsExactly}
+use Rattle.run_law.specs.Runs.{Frame, IsFrame, Situation, Visit, Event, Visited, Between, Expired, Withdrawn, TakenAway, BroughtBack, Forgotten, Visits, Run, HoldsOf, Kept, LeavesMail, after_event, frame_after, Promises, KeptStaysKept, KeptHoldsWhatIsLeft, NothingTakenHoldsExactly}
 use Rattle.run_law.proofs.Below.{Below}
 use Rattle.run_law.proofs.Lists.{front_is}
-use Rattle.run_law.proofs.Holds.{held_is_done, one_file, between_kept, expired_kept, taken_kept}
-use Rattle.run_law.proofs.Ids.{Distinct, distinct_is, distinct_take, distinct_filter, none_vanish}
+use Rattle.run_law.proofs.Holds.{held_is_done, one_file}
+use Rattle.run_law.proofs.Ids.{none_vanish}
+use Rattle.run_law.proofs.Others.{between_kept, expired_kept, withdrawn_kept, taken_kept, brought_kept, forgotten_kept, frame_stays, done_distinct}
 use Rattle.run_law.proofs.Files.{held_done}
 use Rattle.run_law.proofs.VisitKept.{visit_kept, deletes_held, keeps_others, leaves_out, stores_only_new}
 
@@ -43,11 +44,6 @@ left_promises frame before v h = (
 
 -- ---- each id has one copy at most
 
-done_distinct : (frame : Frame) → IsFrame frame → (done rest : List Message) → selected frame.max_size frame.all ≡ done ++ rest → Distinct (ids_of done)
-done_distinct frame is done rest e =
-    subst (λ (l : List Message). Distinct (ids_of l)) (front_is done rest e)
-    (distinct_take (length done) (selected frame.max_size frame.all) (distinct_filter (is_selected frame.max_size) frame.all (distinct_is frame.all is.world.distinct)))
-
 one_copy : (frame : Frame) (state : Situation) → IsFrame frame → (kept : Kept frame state) → (id : List ℕ) → is_legal_id id ≡ true → length (copies (files state.account) (stem_of frame.account id)) ≤ 1
 one_copy frame state is kept id l = one_file frame state kept.done id (done_distinct frame is kept.done kept.rest kept.prefix) (kept.holds id l)
 
@@ -69,17 +65,20 @@ visited laws frame before v is kept h = elim h.step [
 ]
 
 happened : Below → (frame : Frame) (before : Situation) (event : Event) → IsFrame frame → Kept frame before → Run frame before (event ∷ [])
-    → Kept frame (after_event before event) × Promises frame before event
+    → Kept (frame_after frame event) (after_event before event) × Promises frame before event
 happened laws frame before (Visited v) is kept h = visited laws frame before v is kept h.0
 happened laws frame before (Between after) is kept h = (between_kept frame before after kept h.0, tt)
 happened laws frame before (Expired ids) is kept h = (expired_kept frame before ids kept h.0, tt)
+happened laws frame before (Withdrawn ids) is kept h = (withdrawn_kept frame is before ids kept h.0, tt)
+happened laws frame before (BroughtBack id after) is kept h = (brought_kept frame is before id after kept h.0, tt)
+happened laws frame before (Forgotten after) is kept h = (forgotten_kept frame before after kept h.0, tt)
 happened laws frame before (TakenAway id after) is kept h = (taken_kept frame before id after kept h.0, tt)
 
 pub kept_states : Below → KeptStaysKept
 kept_states laws frame start [] is kept run = (kept, tt)
 kept_states laws frame start (event ∷ events) is kept run =
     let one = happened laws frame start event is kept (run.0, tt) in
-    let more = kept_states laws frame (after_event start event) events is one.0 run.1 in
+    let more = kept_states laws (frame_after frame event) (after_event start event) events (frame_stays frame is event) one.0 run.1 in
     (more.0, (one.1, one.0, more.1))
 
 -- ---- the headline's words

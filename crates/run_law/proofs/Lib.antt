@@ -10,8 +10,11 @@ mod Laws
 mod Linked
 mod Listed
 mod Lists
+mod MboxHonestSession
 mod MboxKept
+mod MboxOthers
 mod Next
+mod Others
 mod Records
 mod Replied
 mod Safety

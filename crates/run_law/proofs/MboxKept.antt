@@ -20,12 +20,13 @@ use Rattle.run_law.specs.Mails.{ids_of, is_selected, selected}
 use Rattle.run_law.specs.Steps.{IsHonest, AreTexts, ids_wanted}
 use Rattle.run_law.specs.Runs.{past_limit}
 use Rattle.run_law.specs.Mboxes.{MboxAccount, is_stored, closed_file, settled, mbox_rows, mbox_wanted, none_held, entries, intent_of, IsClosed, IsOpen, IsBroken, MboxLeaves, MboxStores}
-use Rattle.run_law.specs.MboxRuns.{MboxSituation, MboxVisit, MboxFrame, MboxVisits, MboxKept, MboxEnds, MboxPromises, HasEntry, IsNextOpen, after_visit, mbox_shown, entries_of, MboxEvent, MboxVisited, MboxExpired, MboxHappens, MboxPromised, after_mbox_event, MboxKeptStaysKept, MboxKeptHolds, MboxStartsKept}
+use Rattle.run_law.specs.MboxRuns.{MboxSituation, MboxVisit, MboxFrame, MboxVisits, MboxKept, MboxEnds, MboxPromises, HasEntry, IsNextOpen, after_visit, mbox_shown, entries_of, MboxEvent, MboxVisited, MboxExpired, MboxWithdrawn, MboxRewritten, MboxHappens, MboxPromised, after_mbox_event, mbox_frame_after, MboxKeptStaysKept, MboxKeptHolds}
 use Rattle.run_law.proofs.Core as core
 use Rattle.run_law.proofs.Core.{Scene, IsScene, fetched}
-use Rattle.run_law.proofs.Lists.{all_map, all_append, all_front, all_back, all_mapped, all_take, all_filter}
+use Rattle.run_law.proofs.Lists.{all_map, all_front, all_back, all_mapped, all_take, all_filter}
 use Rattle.run_law.proofs.Ids.{ids_both, gone_is_done, bytes_same, none_vanish}
 use Rattle.run_law.proofs.Below.{RowLaws}
+use Rattle.run_law.proofs.MboxOthers.{expired_kept, withdrawn_kept, rewritten_kept, mbox_world_stays}
 use Rattle.run_law.proofs.Records.{delivered_unheld, delivered_one, delivered_all, rows_marked}
 use Rattle.run_law.proofs.Wants.{num_item, snd, Placed, has_listed, wants_by_number, wants_placed}
 
@@ -365,28 +366,18 @@ visited fronts laws filtered frame before v world kept h = elim h.step [
       )
 ]
 
-expired_kept : (frame : MboxFrame) (before : MboxSituation) (ids : List (List ℕ)) → MboxKept frame before → AllByRecursion (λ id. is_delivered before.account.rows id ≡ true) ids
-    → MboxKept frame (after_mbox_event before (MboxExpired ids))
-expired_kept frame before ids kept all = record {
-  done = kept.done;
-  rest = kept.rest;
-  prefix = kept.prefix;
-  recorded = kept.recorded;
-  gone = all_append (λ id. has_id (ids_of (frame.had ++ kept.done)) id ≡ true) before.gone ids kept.gone
-      (all_map (λ id. is_delivered before.account.rows id ≡ true) (λ id. has_id (ids_of (frame.had ++ kept.done)) id ≡ true) (λ id e. sym (kept.recorded id) ∙ e) ids all);
-  stands = kept.stands;
-}
-
 happened : FrontsAreSettled → RowLaws → DistinctAreFiltered → (frame : MboxFrame) (before : MboxSituation) (event : MboxEvent) → IsWorld frame.all → MboxKept frame before → MboxHappens frame before event
-    → MboxKept frame (after_mbox_event before event) × MboxPromised frame before event
+    → MboxKept (mbox_frame_after frame event) (after_mbox_event before event) × MboxPromised frame before event
 happened fronts laws filtered frame before (MboxVisited v) world kept h = visited fronts laws filtered frame before v world kept h
 happened fronts laws filtered frame before (MboxExpired ids) world kept h = (expired_kept frame before ids kept h, tt)
+happened fronts laws filtered frame before (MboxWithdrawn ids) world kept h = (withdrawn_kept frame before ids kept h, tt)
+happened fronts laws filtered frame before (MboxRewritten had file) world kept h = (rewritten_kept frame before had file kept h, tt)
 
 pub mbox_kept_states : FrontsAreSettled → RowLaws → DistinctAreFiltered → MboxKeptStaysKept
 mbox_kept_states fronts laws filtered frame start [] world kept run = (kept, tt)
 mbox_kept_states fronts laws filtered frame start (event ∷ events) world kept run =
     let one = happened fronts laws filtered frame start event world kept run.0 in
-    let more = mbox_kept_states fronts laws filtered frame (after_mbox_event start event) events world one.0 run.1 in
+    let more = mbox_kept_states fronts laws filtered (mbox_frame_after frame event) (after_mbox_event start event) events (mbox_world_stays frame world event) one.0 run.1 in
     (more.0, (one.1, one.0, more.1))
 
 -- ---- what a kept state holds
@@ -435,13 +426,3 @@ mbox_holds adds frame state world kept =
           (sym (tail.1 ∙ ap (λ l. (frame.start ++ entries_of kept.done) ++ l) none ∙ append-nil (frame.start ++ entries_of kept.done)))
           (texts_stand adds frame.start first kept.done whole_done stands));
     }
-
-pub mbox_starts : MboxStartsKept
-mbox_starts frame found rest gone prefix recorded recorded_gone = record {
-  done = [];
-  rest = rest;
-  prefix = prefix ∙ ap (λ l. l ++ rest) (sym (append-nil frame.had));
-  recorded = λ id. recorded id ∙ ap (λ (ms : List Message). has_id (ids_of ms) id) (sym (append-nil frame.had));
-  gone = subst (λ (ms : List Message). AllByRecursion (λ id. has_id (ids_of ms) id ≡ true) gone) (sym (append-nil frame.had)) recorded_gone;
-  stands = inl (record { intent = refl; file = sym (append-nil frame.start) });
-}

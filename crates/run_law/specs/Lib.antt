@@ -1,6 +1,7 @@
 pub mod Accounts
 pub mod HonestSession
 pub mod Mails
+pub mod MboxHonestSession
 pub mod MboxRuns
 pub mod MboxSafety
 pub mod MboxSessions

@@ -1,13 +1,13 @@
 -- Sessions with an mboxrd over one world, and the states that they keep.
-use Rattle.std.specs.Prelude.{◌≡◌, ◌⊎◌, ◌≤◌, ℕ, true, false, List, [], ◌∷◌, ◌++◌, map, take, length, Some, None, slice_get}
+use Rattle.std.specs.Prelude.{◌≡◌, ◌⊎◌, ◌≤◌, ℕ, true, false, List, [], ◌∷◌, ◌++◌, map, take, length, Some, None, slice_get, bytes_eq}
 use Rattle.std.specs.List.{AllByRecursion}
-use Rattle.fetch_rules.specs.Record.{Row, is_delivered, has_row}
+use Rattle.fetch_rules.specs.Record.{Intent, Row, is_delivered, has_row}
 use Rattle.fetch_rules.specs.Wanted.{candidates}
 use Rattle.rc_file.specs.declared.settings.Settings.{Settings}
 use Rattle.mail_store.specs.Mboxrd.{entry_of, MboxFile}
 use Rattle.mail_terms.specs.UniqueId.{has_id}
 use Rattle.pop3_wire.specs.World.{Message, IsWorld, maildrop_of}
-use Rattle.run_law.specs.Mails.{ids_of, is_selected, selected}
+use Rattle.run_law.specs.Mails.{ids_of, is_selected, selected, without}
 use Rattle.run_law.specs.Steps.{Effect, IsHonest, ids_wanted}
 use Rattle.run_law.specs.Runs.{past_limit}
 use Rattle.run_law.specs.Mboxes.{MboxAccount, mbox_rows, mbox_wanted, entries, intent_of, IsClosed, IsOpen, MboxLeaves, MboxStores}
@@ -29,8 +29,8 @@ pub record MboxVisit : Type 0 where
 abbrev pub after_visit : MboxSituation → MboxVisit → MboxSituation
 after_visit before visit = record { account = visit.after; gone = before.gone ++ visit.vanished }
 
--- what stays throughout: the file before the first session, the messages that were recorded as delivered
--- then, whose entries aren't looked for, the limit on sizes, and all mail
+-- what stays throughout, but where others write the file or messages are withdrawn: the file before the first session, the
+-- messages that were recorded as delivered then, whose entries aren't looked for, the limit on sizes, and all mail
 pub record MboxFrame : Type 0 where
   pub start : List ℕ
   pub had : List Message
@@ -48,28 +48,57 @@ pub record MboxVisits (frame : MboxFrame) (before : MboxSituation) (visit : Mbox
       × IsHonest (mbox_wanted visit.settings before.account visit.effect) (mbox_shown frame before visit) visit.effect)
   pub vanished : AllByRecursion (λ id. has_id visit.effect.begun id ≡ true) visit.vanished
 
--- a session; or messages that are gone from the server without one. Nothing else happens to an account with
--- an mboxrd between two sessions: its record, its intent and its file's bytes stay as they were
+-- a session; messages that are gone from the server after they were recorded as delivered, or before; and others who write
+-- the file, which holds these bytes then, while these messages are recorded
 pub data MboxEvent : Type 0 where
   MboxVisited : MboxVisit → MboxEvent
   MboxExpired : List (List ℕ) → MboxEvent
+  MboxWithdrawn : List (List ℕ) → MboxEvent
+  MboxRewritten : List Message → List ℕ → MboxEvent
 
 abbrev pub after_mbox_event : MboxSituation → MboxEvent → MboxSituation
 after_mbox_event before (MboxVisited visit) = after_visit before visit
 after_mbox_event before (MboxExpired ids) = record before { gone = before.gone ++ ids }
+after_mbox_event before (MboxWithdrawn ids) = before
+after_mbox_event before (MboxRewritten had file) = record before { account = record before.account { file = file } }
 
--- what is gone without a session was recorded as delivered
+-- all mail goes on without the messages that are withdrawn; what others write is what the file begins with
+abbrev pub mbox_frame_after : MboxFrame → MboxEvent → MboxFrame
+mbox_frame_after frame (MboxWithdrawn ids) = record frame { all = without ids frame.all }
+mbox_frame_after frame (MboxRewritten had file) = record frame { start = file; had = had }
+mbox_frame_after frame _ = frame
+
+-- the message isn't recorded as delivered, and no intent is open for it
+abbrev pub IsUnbegun : MboxAccount → List ℕ → Type 0
+IsUnbegun account id = (is_delivered account.rows id ≡ false)
+    × ((intent : Intent) → account.intent ≡ Some intent → bytes_eq intent.uid id ≡ false)
+
+-- no intent is open, and exactly these messages are recorded as delivered, which are the first of the selected ones
+pub record AreAllRecorded (frame : MboxFrame) (account : MboxAccount) (had : List Message) : Type 0 where
+  pub closed : account.intent ≡ None
+  pub ahead : List Message
+  pub prefix : selected frame.max_size frame.all ≡ had ++ ahead
+  pub recorded : (id : List ℕ) → is_delivered account.rows id ≡ has_id (ids_of had) id
+
+-- nothing else happens to the record between two sessions
 abbrev pub MboxHappens : MboxFrame → MboxSituation → MboxEvent → Type 0
 MboxHappens frame before (MboxVisited visit) = MboxVisits frame before visit
 MboxHappens frame before (MboxExpired ids) = AllByRecursion (λ id. is_delivered before.account.rows id ≡ true) ids
+MboxHappens frame before (MboxWithdrawn ids) = AllByRecursion (IsUnbegun before.account) ids
+MboxHappens frame before (MboxRewritten had file) = AreAllRecorded frame before.account had
 
 abbrev pub MboxRun : MboxFrame → MboxSituation → List MboxEvent → Type 0
 MboxRun frame before [] = Unit {0}
-MboxRun frame before (event ∷ events) = MboxHappens frame before event × MboxRun frame (after_mbox_event before event) events
+MboxRun frame before (event ∷ events) = MboxHappens frame before event
+    × MboxRun (mbox_frame_after frame event) (after_mbox_event before event) events
 
 abbrev pub after_mbox_events : MboxSituation → List MboxEvent → MboxSituation
 after_mbox_events before [] = before
 after_mbox_events before (event ∷ events) = after_mbox_events (after_mbox_event before event) events
+
+abbrev pub mbox_frame_after_all : MboxFrame → List MboxEvent → MboxFrame
+mbox_frame_after_all frame [] = frame
+mbox_frame_after_all frame (event ∷ events) = mbox_frame_after_all (mbox_frame_after frame event) events
 
 -- the entries of these messages
 abbrev pub entries_of : List Message → List ℕ
@@ -118,21 +147,22 @@ pub record MboxPromises (frame : MboxFrame) (before : MboxSituation) (visit : Mb
   pub ends : visit.effect.ended ≡ true → MboxEnds frame before visit
   pub begun : AllByRecursion (λ id. (has_id (ids_of frame.had) id ≡ true) ⊎ HasEntry frame visit.after.file id) visit.effect.begun
 
--- nothing is promised of what the server does by itself
+-- nothing is promised of what others do
 abbrev pub MboxPromised : MboxFrame → MboxSituation → MboxEvent → Type 0
 MboxPromised frame before (MboxVisited visit) = MboxPromises frame before visit
-MboxPromised frame before (MboxExpired ids) = Unit {0}
+MboxPromised frame before _ = Unit {0}
 
 abbrev pub AllMboxPromised : MboxFrame → MboxSituation → List MboxEvent → Type 0
 AllMboxPromised frame before [] = Unit {0}
-AllMboxPromised frame before (event ∷ events) = MboxPromised frame before event × MboxKept frame (after_mbox_event before event)
-    × AllMboxPromised frame (after_mbox_event before event) events
+AllMboxPromised frame before (event ∷ events) = MboxPromised frame before event
+    × MboxKept (mbox_frame_after frame event) (after_mbox_event before event)
+    × AllMboxPromised (mbox_frame_after frame event) (after_mbox_event before event) events
 
 -- the law: from a kept state any events lead to a kept state, and each keeps its promises
 abbrev pub MboxKeptStaysKept : Type 0
 MboxKeptStaysKept = (frame : MboxFrame) (start : MboxSituation) (events : List MboxEvent) → IsWorld frame.all
     → MboxKept frame start → MboxRun frame start events
-    → MboxKept frame (after_mbox_events start events) × AllMboxPromised frame start events
+    → MboxKept (mbox_frame_after_all frame events) (after_mbox_events start events) × AllMboxPromised frame start events
 
 -- the file is the one before the first session, followed by the entries of the next j of the selected messages
 -- after those that were recorded before the first session, in order, each once, and by at most a prefix of the
@@ -165,6 +195,11 @@ MboxStartsKept = (frame : MboxFrame) (rows : List Row) (rest : List Message) (go
     → ((id : List ℕ) → is_delivered rows id ≡ has_id (ids_of frame.had) id)
     → AllByRecursion (λ id. has_id (ids_of frame.had) id ≡ true) gone
     → MboxKept frame (record { account = record { rows = rows; intent = None; file = frame.start }; gone = gone })
+
+-- a law: in a kept state without an open intent some messages are exactly the recorded ones, so others may write the file
+abbrev pub SomeAreRecorded : Type 0
+SomeAreRecorded = (frame : MboxFrame) (state : MboxSituation) → MboxKept frame state → state.account.intent ≡ None
+    → (had : List Message) × AreAllRecorded frame state.account had
 
 -- in every situation there is a session that ends
 abbrev pub MboxCanEnd : Type 0

@@ -5,17 +5,16 @@ use Rattle.fetch_rules.specs.Record.{is_delivered, merged}
 use Rattle.mail_terms.specs.Listing.{Item}
 use Rattle.fetch_rules.specs.Wanted.{at_most, candidates, wanted}
 use Rattle.rc_file.specs.declared.settings.Settings.{Settings}
-use Rattle.mail_store.specs.Maildir.{File}
-use Rattle.mail_store.specs.FileName.{stem_of, is_held, names_id, IsAccountText}
+use Rattle.mail_store.specs.FileName.{stem_of, is_held, IsAccountText}
 use Rattle.mail_store.specs.Held.{flags_of}
 use Rattle.mail_terms.specs.UniqueId.{is_legal_id, has_id}
 use Rattle.pop3_wire.specs.World.{Message, IsWorld, maildrop_of}
-use Rattle.run_law.specs.Mails.{ids_of, listing_of, is_selected, selected, texts_of}
+use Rattle.run_law.specs.Mails.{ids_of, listing_of, is_selected, selected, texts_of, without}
 use Rattle.run_law.specs.Accounts.{Account, files, copies, KeepsOthers}
 use Rattle.run_law.specs.Steps.{Effect, Leaves, Stores, IsHonest, merged_rows, wanted_at, ids_wanted}
 
--- an account, the ids that are gone from the server, and those of the messages that were ever taken away from
--- the Maildir
+-- an account, the ids that are gone from the server, and those of the messages that were taken away from the
+-- Maildir and weren't brought back
 pub record Situation : Type 0 where
   pub account : Account
   pub gone : List (List ℕ)
@@ -30,21 +29,29 @@ pub record Visit : Type 0 where
   pub vanished : List (List ℕ)
   pub after : Account
 
--- a session; anything that leaves the record and the messages of the account as they are;
--- messages that the server removes by itself; and a message that its reader throws away or files elsewhere
+-- a session; anything that leaves the record and the messages of the account as they are; messages that are gone from the
+-- server after they were fetched, or before; a message that its reader throws away or files elsewhere, or puts back; and a
+-- record that is lost, or is replaced by an older one
 pub data Event : Type 0 where
   Visited : Visit → Event
   Between : Account → Event
   Expired : List (List ℕ) → Event
+  Withdrawn : List (List ℕ) → Event
   TakenAway : List ℕ → Account → Event
+  BroughtBack : List ℕ → Account → Event
+  Forgotten : Account → Event
 
 abbrev pub after_event : Situation → Event → Situation
 after_event before (Visited visit) = record before { account = visit.after; gone = before.gone ++ visit.vanished }
 after_event before (Between after) = record before { account = after }
 after_event before (Expired ids) = record before { gone = before.gone ++ ids }
+after_event before (Withdrawn ids) = before
 after_event before (TakenAway id after) = record before { account = after; taken = id ∷ before.taken }
+after_event before (BroughtBack id after) =
+    record before { account = after; taken = filter (λ other. not (bytes_eq other id)) before.taken }
+after_event before (Forgotten after) = record before { account = after }
 
--- what stays throughout: the account's text, the limit on sizes, and all mail
+-- what stays throughout: the account's text, the limit on sizes, and all mail that wasn't withdrawn
 pub record Frame : Type 0 where
   pub account : List ℕ
   pub max_size : ℕ
@@ -53,6 +60,11 @@ pub record Frame : Type 0 where
 pub record IsFrame (frame : Frame) : Type 0 where
   pub account : IsAccountText frame.account
   pub world : IsWorld frame.all
+
+-- all mail goes on without the messages that are withdrawn
+abbrev pub frame_after : Frame → Event → Frame
+frame_after frame (Withdrawn ids) = record frame { all = without ids frame.all }
+frame_after frame _ = frame
 
 -- the messages that the server showed
 abbrev pub shown : Frame → Situation → Visit → List Message
@@ -75,6 +87,10 @@ abbrev pub IsHeldOrTaken : List ℕ → Situation → List ℕ → Type 0
 IsHeldOrTaken account state id = (is_legal_id id ≡ true)
     × ((is_held account state.account.maildir id ≡ true) ⊎ (has_id state.taken id ≡ true))
 
+-- the message is neither held nor taken away
+abbrev pub IsNeither : List ℕ → Situation → List ℕ → Type 0
+IsNeither account state id = (is_held account state.account.maildir id ≡ false) × (has_id state.taken id ≡ false)
+
 -- the message was held and no longer is; the record has the same rows, and for each other legal id the files
 -- hold what they held
 pub record TakesAway (account : List ℕ) (before : Account) (id : List ℕ) (after : Account) : Type 0 where
@@ -85,20 +101,42 @@ pub record TakesAway (account : List ℕ) (before : Account) (id : List ℕ) (af
   pub others : (other : List ℕ) → is_legal_id other ≡ true → bytes_eq other id ≡ false
       → copies (files after) (stem_of account other) ≡ copies (files before) (stem_of account other)
 
+-- the message was taken away, and one file holds its text again; all else is as it was
+pub record BringsBack (frame : Frame) (before : Situation) (id : List ℕ) (after : Account) : Type 0 where
+  pub legal : is_legal_id id ≡ true
+  pub taken : has_id before.taken id ≡ true
+  pub text : copies (files after) (stem_of frame.account id) ≡ texts_of frame.all id
+  pub rows : after.rows ≡ before.account.rows
+  pub others : (other : List ℕ) → is_legal_id other ≡ true → bytes_eq other id ≡ false
+      → copies (files after) (stem_of frame.account other) ≡ copies (files before.account) (stem_of frame.account other)
+
+-- the record shows no more ids as delivered than before, and its other rows may be any; for each legal id the files of
+-- its stem hold what they held
+pub record Forgets (account : List ℕ) (before after : Account) : Type 0 where
+  pub delivered : (id : List ℕ) → is_delivered after.rows id ≡ true → is_delivered before.rows id ≡ true
+  pub same : (id : List ℕ) → is_legal_id id ≡ true → copies (files after) (stem_of account id) ≡ copies (files before) (stem_of account id)
+
 abbrev pub Happens : Frame → Situation → Event → Type 0
 Happens frame before (Visited visit) = Visits frame before visit
 Happens frame before (Between after) = LeavesMail frame.account before.account after
 Happens frame before (Expired ids) = AllByRecursion (IsHeldOrTaken frame.account before) ids
+Happens frame before (Withdrawn ids) = AllByRecursion (IsNeither frame.account before) ids
 Happens frame before (TakenAway id after) = TakesAway frame.account before.account id after
+Happens frame before (BroughtBack id after) = BringsBack frame before id after
+Happens frame before (Forgotten after) = Forgets frame.account before.account after
 
 -- the events happen in this order
 abbrev pub Run : Frame → Situation → List Event → Type 0
 Run frame before [] = Unit {0}
-Run frame before (event ∷ events) = Happens frame before event × Run frame (after_event before event) events
+Run frame before (event ∷ events) = Happens frame before event × Run (frame_after frame event) (after_event before event) events
 
 abbrev pub after_events : Situation → List Event → Situation
 after_events before [] = before
 after_events before (event ∷ events) = after_events (after_event before event) events
+
+abbrev pub frame_after_all : Frame → List Event → Frame
+frame_after_all frame [] = frame
+frame_after_all frame (event ∷ events) = frame_after_all (frame_after frame event) events
 
 -- the files of the id's stem hold the texts of these messages that have the id; or the id's message was taken
 -- away, and there is no file
@@ -152,13 +190,13 @@ Promises frame before _ = Unit {0}
 -- each event keeps its promises, and each state is kept
 abbrev pub AllPromised : Frame → Situation → List Event → Type 0
 AllPromised frame before [] = Unit {0}
-AllPromised frame before (event ∷ events) = Promises frame before event × Kept frame (after_event before event)
-    × AllPromised frame (after_event before event) events
+AllPromised frame before (event ∷ events) = Promises frame before event × Kept (frame_after frame event) (after_event before event)
+    × AllPromised (frame_after frame event) (after_event before event) events
 
 -- the law: from a kept state any events lead to a kept state, and each keeps its promises
 abbrev pub KeptStaysKept : Type 0
 KeptStaysKept = (frame : Frame) (start : Situation) (events : List Event) → IsFrame frame → Kept frame start → Run frame start events
-    → Kept frame (after_events start events) × AllPromised frame start events
+    → Kept (frame_after_all frame events) (after_events start events) × AllPromised frame start events
 
 -- the account holds exactly the first j of the selected messages, each in one file with its text
 pub record HoldsExactly (frame : Frame) (account : Account) : Type 0 where

@@ -1,14 +1,17 @@
 //! Laws over runs of sessions: every list of sessions leads from a kept state to a kept one.
 #![tactic(auto)]
 
+ghost use Rattle.run_law.specs.Mails.{WorldsShrink};
 ghost use Rattle.run_law.specs.Runs.{CanEnd, KeptHoldsWhatIsLeft, KeptStaysKept};
 ghost use Rattle.run_law.specs.Runs.{NothingTakenHoldsExactly, StartsKept, WantsNext};
 ghost use Rattle.run_law.specs.Readings.{HonestIsGranted, ListingIsMaildrop, MarksAreAsked, TextsAreMessages};
 ghost use Rattle.run_law.specs.HonestSession.{HonestSession};
+ghost use Rattle.run_law.specs.MboxHonestSession.{MboxHonestSession};
 ghost use Rattle.run_law.specs.Safety.{SessionsAreSafe};
 ghost use Rattle.run_law.specs.Sessions.{LinksAreVisits};
 ghost use Rattle.run_law.specs.Told.{ToldStores};
-ghost use Rattle.run_law.specs.MboxRuns.{MboxCanEnd, MboxKeptStaysKept, MboxKeptHolds, MboxStartsKept};
+ghost use Rattle.run_law.specs.MboxRuns.{MboxCanEnd, MboxKeptStaysKept, MboxKeptHolds};
+ghost use Rattle.run_law.specs.MboxRuns.{MboxStartsKept, SomeAreRecorded};
 ghost use Rattle.run_law.specs.MboxSafety.{MboxSessionsAreSafe};
 ghost use Rattle.run_law.specs.MboxSessions.{MboxLinksAreVisits};
 ghost use Rattle.run_law.specs.MboxTold.{MboxToldStores};
@@ -39,6 +42,12 @@ pub fn kept_states()
     flags_tell_what_is_held();
     marked_is_delivered();
 }
+
+/// What is left of a world after messages were withdrawn is a world.
+#[tactic(auto, using(crate::proofs::Others::worlds_shrink))]
+pub fn worlds_shrink()
+    ensures { WorldsShrink }
+{}
 
 /// A kept state holds exactly the first of the selected messages, each once, except for those
 /// that were taken away.
@@ -147,8 +156,9 @@ pub fn sessions_are_safe()
     marked_is_delivered();
 }
 
-/// With an mboxrd: every list of sessions that read only what is new, with whatever expires on the
-/// server between them, leads from a kept state to a kept state, and each session keeps its promises.
+/// With an mboxrd: every list of sessions that read only what is new, with whatever is gone from the
+/// server between them and whatever others write while no intent is open, leads from a kept state to
+/// a kept state, and each session keeps its promises.
 pub fn mbox_states_are_kept()
     ensures { MboxKeptStaysKept }
 {
@@ -173,14 +183,32 @@ pub fn mbox_holds_exactly()
 /// With an mboxrd: an account without an open intent that records exactly a prefix of the
 /// selected messages as delivered is kept, whatever its file holds. An empty record is such a
 /// record, and a record of version 1 has no open intent.
-#[tactic(auto, using(crate::proofs::MboxKept::mbox_starts))]
+#[tactic(auto, using(crate::proofs::MboxOthers::mbox_starts))]
 pub fn mbox_starts_kept()
     ensures { MboxStartsKept }
+{}
+
+/// With an mboxrd: in a kept state without an open intent, others may write the file.
+#[tactic(auto, using(crate::proofs::MboxOthers::some_are_recorded))]
+pub fn some_are_recorded()
+    ensures { SomeAreRecorded }
 {}
 
 /// With an mboxrd: a session over an honest link is a visit of the law over runs.
 pub fn mbox_links_are_visits()
     ensures { MboxLinksAreVisits }
+{
+    only_one_list_of_commands();
+    honest_is_granted();
+    texts_are_messages();
+    listing_is_maildrop();
+}
+
+/// With an mboxrd: if its server is honest, whatever its maildrop, a session asked for no message; or
+/// its joined listing is the maildrop's, and what it appended are the entries of messages of the
+/// maildrop, with their texts, and at most a beginning of one more.
+pub fn honest_sessions_append_messages()
+    ensures { MboxHonestSession }
 {
     only_one_list_of_commands();
     honest_is_granted();

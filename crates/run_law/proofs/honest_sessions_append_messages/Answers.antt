@@ -1,0 +1,5 @@
+use Rattle.run_law.proofs.MboxHonestSession as laws
+use Rattle.run_law.proofs.honest_sessions_append_messages.Goals as goal
+
+pub returns : goal.returns
+returns c = search laws.mbox_honest_session
