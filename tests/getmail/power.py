@@ -7,8 +7,7 @@ uncut, against the server as it was at that moment. Then each message has to be 
 Maildir or as an entry of the mboxrd file. By hand all states are run, or up to `most` for each front of the changes;
 the gate runs some of them (test_power.py).
 
-In a session into an mboxrd file no page is there up to its half if a later one is there: an entry that was written and
-not flushed counts as whole if it has the right length and none of its pages is all zeros.
+The blocks of an mboxrd file have 512, 1,024 or 4,096 octets.
 """
 
 import argparse
@@ -51,13 +50,14 @@ def large_ones(count, word):
 @dataclass(frozen=True)
 class Scene:
     """A session to be cut: with `-d` or not, after an earlier one or not, after one that was killed or not, and into a
-    Maildir or an mboxrd file."""
+    Maildir or an mboxrd file, whose blocks have a size."""
 
     name: str
     words: tuple[str, ...] = ()
     is_first: bool = True
     is_killed: bool = False
     is_mboxrd: bool = False
+    block: int = power.PAGE
 
     def wanted(self):
         """What is fetched."""
@@ -77,6 +77,8 @@ SCENES = [Scene(f"{name}{', deleting' if words else ''}{', after a kill' if is_k
           for is_killed in (False, True) for name, is_first in (("first session", True), ("later session", False))
           for words in ((), ("-d",))]
 SCENES += [replace(scene, name=f"{scene.name}, into an mboxrd file", is_mboxrd=True) for scene in SCENES if scene.words]
+SCENES += [replace(scene, name=f"{scene.name}, in blocks of {block}", block=block)
+           for block in (512, 1024) for scene in SCENES if scene.is_mboxrd and scene.is_first]
 
 
 @dataclass(frozen=True)
@@ -177,7 +179,7 @@ class Stage:
         """The tree before, all changes, and how many of them came before the last session began."""
         self.build(self.start)
         self.server.messages = self.scene.messages()
-        watched = power.Watched(self.account.home)
+        watched = power.Watched(self.account.home, {"mbox": self.scene.block})
         before = [] if killed is None else watched.changes(self.watch(*self.scene.words, killed=killed))
         changes = watched.changes(self.watch(*self.scene.words))
         self.check_model(watched, before + changes)
@@ -243,7 +245,7 @@ def play(scene, libraries, most, limit=None, without=None):
         for watched, changes, first in sessions_of(stage, source, limit):
             if without is not None:
                 changes, first = leave_out(changes, first, without)
-            for count, image, lost in power.fronts(watched, changes, most, source, first, not scene.is_mboxrd):
+            for count, image, lost in power.fronts(watched, changes, most, source, first):
                 image.pop(".getmail/getmailrc", None)
                 for messages in stage.servers_after(changes[:count]):
                     state = hash((tuple(sorted(image.items())), len(messages)))

@@ -106,24 +106,28 @@ class Intents(unittest.TestCase):
                 self.session(content, [2, 3], content + entries(TEXTS[1:]))
 
     def test_zeros_in_the_entry(self):
-        """A page of the file that is zeros, as a loss of power leaves it: the entry isn't whole, or it is no front of one."""
+        """Blocks of the file that are kept in part, as a loss of power leaves them: their front, and then zeros."""
         text = b"a line of a text of some pages\n" * 600
         length = len(entry(text))
         first = entry(TEXTS[0])
-        for page in range(5):
-            for end in (length - 1, length):
-                whole = bytearray(first + entry(text)[:end])
-                begin, stop = max(4096 * page, len(first)), min(4096 * (page + 1), len(whole))
-                whole[begin:stop] = bytes(stop - begin)
-                with self.subTest(page=page, end=end), Server([THREE[0], (b"b", text)]) as server, \
-                        MboxAccount(server.port) as account:
-                    account.mbox.write_bytes(whole)
-                    account.record.write_bytes(b"getmail-seen 2\na 5 1\nb 5 0\n! b %d %d\n" % (len(first), length))
-                    thread = server.begin_session()
-                    self.assertEqual(account.run("-q", "-d"), GOOD)
-                    thread.join(programs.SECONDS)
-                    self.assertEqual(account.content(), first + entry(text))
-                    self.assertEqual(server.messages, [])
+        for block in (512, 1024, 4096):
+            for begin in range(0, len(first) + length, 4096 + block):
+                for kept in (0, 1, block - 1):
+                    for end in (length - 1, length):
+                        whole = bytearray(first + entry(text)[:end])
+                        start, stop = max(begin + kept, len(first)), min(begin + block, len(whole))
+                        whole[start:stop] = bytes(max(stop - start, 0))
+                        if start >= stop:
+                            continue
+                        with self.subTest(block=block, begin=begin, kept=kept, end=end), \
+                                Server([THREE[0], (b"b", text)]) as server, MboxAccount(server.port) as account:
+                            account.mbox.write_bytes(whole)
+                            account.record.write_bytes(b"getmail-seen 2\na 5 1\nb 5 0\n! b %d %d\n" % (len(first), length))
+                            thread = server.begin_session()
+                            self.assertEqual(account.run("-q", "-d"), GOOD)
+                            thread.join(programs.SECONDS)
+                            self.assertEqual(account.content(), first + entry(text))
+                            self.assertEqual(server.messages, [])
 
 
 class Readers(unittest.TestCase):

@@ -4,8 +4,8 @@ The model knows nothing of mail: it has a tree of files below one folder and wha
 the disk. Of the rest each thing may be there or not by itself:
 
 - a name of a folder leads to what it led to when the folder was last flushed, or to anything that it led to since;
-- each page of a write (4,096 octets of the file, at a multiple of that) is there, is there up to its half, is zeros, or
-  is missing; pages that are missing before one that is there are zeros, as the system reads a hole;
+- each block of a write (4,096 octets of the file, at a multiple of that, or fewer) is there, is there up to its half, is
+  zeros, or is missing; blocks that are missing before one that is there are zeros, as the system reads a hole;
 - a new length of a file holds or doesn't.
 
 A flush of a file doesn't flush its name, and one of a folder doesn't flush what is in its files.
@@ -30,7 +30,7 @@ class Name:
 
 @dataclass(frozen=True)
 class Write:
-    """Octets of one page were written at a place of a file."""
+    """Octets of one block were written at a place of a file."""
 
     file: int
     place: int
@@ -77,10 +77,10 @@ def read_tree(root):
     return {path: (Path(root) / path).read_bytes() for path in files_below(root)}
 
 
-def pages_of(file, place, octets):
-    """A write, cut where the pages of the file begin."""
+def blocks_of(file, place, octets, block):
+    """A write, cut where the blocks of the file begin."""
     while octets:
-        room = PAGE - place % PAGE
+        room = block - place % block
         yield Write(file, place, octets[:room])
         place, octets = place + room, octets[room:]
 
@@ -97,10 +97,11 @@ def rows_of(note):
 
 
 class Watched:
-    """The tree below a folder before a program runs, and the numbers of its files."""
+    """The tree below a folder before a program runs, and the numbers of its files. Some paths have smaller blocks."""
 
-    def __init__(self, root):
+    def __init__(self, root, blocks=None):
         self.root = Path(root).resolve()
+        self.blocks = blocks or {}
         self.paths = {path: number for number, path in enumerate(sorted(files_below(self.root)))}
         self.start = read_tree(self.root)
         self.inodes = {(self.root / path).stat().st_ino: number for path, number in self.paths.items()}
@@ -126,11 +127,12 @@ class Watched:
         file = self.inodes.get(int(rest[0]))
         if file is None:
             return []
+        path = next((path for path, named in self.paths.items() if named == file), "")
         if word == "write":
-            return list(pages_of(file, int(rest[1]), octets))
+            return list(blocks_of(file, int(rest[1]), octets, self.blocks.get(path, PAGE)))
         if word == "length":
             return [Length(file, int(rest[1]))]
-        return [Flush(file, next((path for path, named in self.paths.items() if named == file), ""))]
+        return [Flush(file, path)]
 
     def _names_of(self, word, rest):
         if word == "make":
@@ -209,11 +211,10 @@ class Disk:
         led_to = {path: choice.get(path, files[-1]) for path, files in self.names.items()}
         return {path: content(file) for path, file in led_to.items() if file is not None}
 
-    def images(self, most, source, torn=True):
+    def images(self, most, source):
         """The trees that a loss of power can leave now: all of them, or if there are more than `most` choices, those
         with all lost, all kept, one thing alone lost or kept, and some that the `source` picks. With each comes what
-        isn't as the program left it. Without `torn` no page is there up to its half if a later one of its file
-        is there."""
+        isn't as the program left it."""
         axes = self._axes()
         ways = [values for _, values in axes]
         if math.prod(map(len, ways)) <= most:
@@ -222,23 +223,9 @@ class Disk:
             picks = itertools.chain(picks_of_one(ways), (tuple(map(source.choice, ways)) for _ in range(most)))
             picks = itertools.islice(dict.fromkeys(picks), most)
         for pick in picks:
-            if not torn and has_torn_page(axes, pick):
-                continue
             choice = {thing if isinstance(thing, str) else id(thing): way for (thing, _), way in zip(axes, pick)}
             told = [f"{told_of(thing)}: {way}" for (thing, values), way in zip(axes, pick) if way != values[0]]
             yield self._image(choice), "; ".join(told)
-
-
-def has_torn_page(axes, pick):
-    """Whether a page is there up to its half, and a later write of the same file is there."""
-    halved = set()
-    for (thing, _), way in zip(axes, pick):
-        if isinstance(thing, Write):
-            if thing.file in halved and way != "missing":
-                return True
-            if way == "half":
-                halved.add(thing.file)
-    return False
 
 
 def told_of(thing):
@@ -259,12 +246,12 @@ def picks_of_one(ways):
             yield lost[:place] + (value,) + lost[place + 1:]
 
 
-def fronts(watched, changes, most, source, first=0, torn=True):
+def fronts(watched, changes, most, source, first=0):
     """Each front of the changes from `first` on: how many there are in it, and the trees that power can leave then."""
     disk = Disk(watched.start)
     for count in range(len(changes) + 1):
         if count >= first:
-            for image, lost in disk.images(most, source, torn):
+            for image, lost in disk.images(most, source):
                 yield count, image, lost
         if count < len(changes):
             disk.take(changes[count])

@@ -30,7 +30,7 @@ IsStoreFault refused.NoMemory fault = fault ≡ NoMemory
 
 -- ---- before the first text
 
--- the open intent, if there is one, was settled: whether its entry is whole; there is no file; or a call was refused
+-- the open intent, if there is one, was settled: whether its entry is whole; there is no file; a call was refused; or memory ran out
 abbrev pub SettlesIntent : Option Intent → Stored → Result Bool Fault → Stored → Type 0
 SettlesIntent None old (Ok whole) new = (whole ≡ false) × (new ≡ old)
 SettlesIntent None old (Err fault) new = ⊥
@@ -39,6 +39,7 @@ SettlesIntent (Some intent) old (Ok whole) new = (was : List ℕ) × (old.conten
 SettlesIntent (Some intent) old (Err (StoreRefused Missing)) new = (old.content ≡ None) × (new ≡ old)
 SettlesIntent (Some intent) old (Err (StoreRefused Refused)) new = (new ≡ counted old)
     ⊎ ((was : List ℕ) × (old.content ≡ Some was) × (new ≡ counted (holding old (settled_file intent.start intent.len was))))
+SettlesIntent (Some intent) old (Err NoMemory) new = new ≡ old
 SettlesIntent (Some intent) old (Err _) new = ⊥
 
 -- the file's bytes are as they were, or settled

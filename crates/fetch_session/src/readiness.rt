@@ -128,7 +128,11 @@ pub(crate) fn ask_held<D: MaildirDisk>(
 
 /// Settles the open intent of the record in the mboxrd file, and returns whether its entry is
 /// whole. If no intent is open, the file isn't asked.
-fn settle<F: FlatFile, H: BuildHasher>(mbox: &mut F, seen: &Seen<H>) -> Result<bool, Fault>
+fn settle<F: FlatFile, H: BuildHasher>(
+    alloc: Global,
+    mbox: &mut F,
+    seen: &Seen<H>,
+) -> Result<bool, Fault>
     ensures settles { F.sound mbox.new → F.sound mbox.old
         × SettlesIntent seen.now.intent (F.stored mbox.old) result (F.stored mbox.new) }
     ensures lasts { F.sound mbox.new → F.is_sure mbox.old → OnOk result (F.is_sure mbox.new) }
@@ -136,7 +140,7 @@ fn settle<F: FlatFile, H: BuildHasher>(mbox: &mut F, seen: &Seen<H>) -> Result<b
     let Some(intent) = seen.intent() else {
         return Ok(false);
     };
-    match settle_file(mbox, intent.start, intent.len) {
+    match settle_file(alloc, mbox, intent.start, intent.len) {
         Ok(whole) => Ok(whole),
         Err(fault) => Err(refused(fault)),
     }
@@ -155,7 +159,7 @@ fn ask_mbox<F: FlatFile, H: BuildHasher>(
         × AsksMbox seen.now.intent (F.stored mbox.old) listing.now result (F.stored mbox.new) }
     ensures lasts { F.sound mbox.new → F.is_sure mbox.old → OnOk result (IsSafe F.FlatFile mbox.new) }
 {
-    let stored = match settle(mbox, seen) {
+    let stored = match settle(alloc, mbox, seen) {
         Ok(stored) => stored,
         Err(fault) => return Err(fault),
     };

@@ -10,6 +10,5 @@ mod MboxReading
 mod MoveLemmas
 mod NameLemmas
 mod OneEntry
-mod Pages
 mod SettlingLemmas
 pub mod TakingLemmas

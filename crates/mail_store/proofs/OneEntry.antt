@@ -1,4 +1,4 @@
--- Whether a line after the first begins with `From `, looked for window by window.
+-- Whether a line after the first begins with `From `.
 use Rattle.std.proofs.Common.{◌≡◌, inl, inr, ℕ, zero, suc, ◌+◌, ◌≤◌, Bool, true, false, ◌||◌, ◌&&◌, List, [], ◌∷◌, ◌++◌, length, take, drop, refl, sym, ap, subst, ◌∙◌, arith, append_assoc, length-append}
 use Rattle.std.specs.Prelude.{not, ◌==◌}
 use Rattle.std.specs.List.{list_all, onto_first}
@@ -111,57 +111,3 @@ needle_nowhere bytes none = elim (cases_Bool (holds_needle bytes)) [
       absurd (none (length s.0) (omega arith) (omega arith) occurs)
   | inr free ↦ free
 ]
-
--- five bytes or fewer don't hold it
-pub needle_short : (bytes : List ℕ) → length bytes ≤ 5 → holds_needle bytes ≡ false
-needle_short bytes few = elim (cases_Bool (holds_needle bytes)) [
-  | inl held ↦ let s = needle_split bytes held in let size = ap length s.2 ∙ length-append s.0 (needle ++ s.1) in absurd (omega (arith, size))
-  | inr free ↦ free
-]
-
--- ---- windows
-
-pub needle_in_front : (front back : List ℕ) → holds_needle front ≡ true → holds_needle (front ++ back) ≡ true
-needle_in_front front back is =
-    let s = needle_split front is in
-    let split : front ++ back ≡ s.0 ++ (needle ++ (s.1 ++ back)) = ap (λ (l : List ℕ). l ++ back) s.2 ∙ append_assoc s.0 (needle ++ s.1) back in
-    subst (λ (l : List ℕ). holds_needle l ≡ true) (sym split) (needle_there s.0 (s.1 ++ back))
-
-absorbed : (a b : Bool) → (a ≡ true → b ≡ true) → (a || b) ≡ b
-absorbed true b to = sym (to refl)
-absorbed false b to = refl
-
--- a window at the front of the bytes holds the needle only if they do
-pub window_first : (n : ℕ) (bytes : List ℕ) → holds_needle bytes ≡ (holds_needle (take n bytes) || holds_needle bytes)
-window_first n bytes = sym (absorbed (holds_needle (take n bytes)) (holds_needle bytes) there)
-  where
-    there : holds_needle (take n bytes) ≡ true → holds_needle bytes ≡ true
-    there is = subst (λ (l : List ℕ). holds_needle l ≡ true) (take-append-drop n bytes) (needle_in_front (take n bytes) (drop n bytes) is)
-
-begins_by_five : (n : ℕ) (bytes : List ℕ) → begins_entry (take (n + 5) bytes) ≡ begins_entry bytes
-begins_by_five n bytes = both_ways (begins_entry (take (n + 5) bytes)) (begins_entry bytes) to from
-  where
-    to : begins_entry (take (n + 5) bytes) ≡ true → begins_entry bytes ≡ true
-    to is = begins_entry_by bytes (drop 5 (take (n + 5) bytes) ++ drop (n + 5) bytes) (
-        sym (take-append-drop (n + 5) bytes) ∙ ap (λ (l : List ℕ). l ++ drop (n + 5) bytes) (begins_with (take (n + 5) bytes) is)
-        ∙ append_assoc from_words (drop 5 (take (n + 5) bytes)) (drop (n + 5) bytes)
-        )
-
-    from : begins_entry bytes ≡ true → begins_entry (take (n + 5) bytes) ≡ true
-    from is =
-        let size : n + 5 ≡ length from_words + n = omega arith in
-        begins_entry_by (take (n + 5) bytes) (take n (drop 5 bytes)) (
-        ap (λ (k : ℕ). take k bytes) size ∙ ap (take (length from_words + n)) (begins_with bytes is) ∙ take-append-add from_words (drop 5 bytes) n
-        )
-
--- the needle is in a window, or in what begins five bytes before the window's end
-pub window_next : (n : ℕ) (bytes : List ℕ) → holds_needle bytes ≡ (holds_needle (take (n + 5) bytes) || holds_needle (drop n bytes))
-window_next zero bytes = window_first 5 bytes
-window_next (suc n) [] = window_first (suc n + 5) []
-window_next (suc n) (byte ∷ rest) =
-    let step : suc n + 5 ≡ suc (n + 5) = omega arith in
-    rw step (
-    ap (λ (b : Bool). (byte == 10 && begins_entry rest) || b) (window_next n rest)
-    ∙ sym (or_assoc (byte == 10 && begins_entry rest) (holds_needle (take (n + 5) rest)) (holds_needle (drop n rest)))
-    ∙ ap (λ (b : Bool). ((byte == 10 && b) || holds_needle (take (n + 5) rest)) || holds_needle (drop n rest)) (sym (begins_by_five n rest))
-    )

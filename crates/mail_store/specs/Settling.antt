@@ -1,44 +1,44 @@
 -- What a file has from the place on where an entry was about to be appended when a session was cut, and what becomes of it.
-use Rattle.std.specs.Prelude.{◌≡◌, ◌⊎◌, ◌==◌, ◌&&◌, ◌||◌, ◌-◌, ◌%◌, not, ℕ, Bool, true, false, List, [], ◌∷◌, ◌++◌}
-use Rattle.std.specs.Prelude.{length, take, drop, Some, None, Result, Ok, Err, bytes_eq, nat_eq, nat_lt, nat_le}
+use Rattle.std.specs.Prelude.{◌≡◌, ◌⊎◌, ◌==◌, ◌&&◌, ◌||◌, ◌+◌, ◌-◌, ◌%◌, not, ℕ, Bool, true, false, List, [], ◌∷◌, ◌++◌}
+use Rattle.std.specs.Prelude.{length, take, drop, Some, None, Result, Ok, Err, Vec, nat_eq, nat_lt, nat_le}
 use Rattle.std.specs.Prelude.{if◌then◌else◌}
-use Rattle.std.specs.List.{list_all, onto_first, starts_with}
+use Rattle.std.specs.List.{ends_with, list_all}
 use Rattle.mail_terms.specs.Text.{IsWhole}
 use Rattle.mail_store.specs.declared.fault.StoreFault.{StoreFault}
 use Rattle.mail_store.specs.declared.fault.StoreFault.TheVariants.{Missing, Refused, NotMbox, NoMemory}
-use Rattle.mail_store.specs.declared.mboxrd.settling.Look.{Look}
-use Rattle.mail_store.specs.FlatFile.{Stored, holding, counted, Denies}
+use Rattle.mail_store.specs.FlatFile.{Stored, holding, counted, piece_at, Denies}
 use Rattle.mail_store.specs.Mboxrd.{lines_of, begins_entry, separator, entry_of}
 
--- ---- the pages of a file
+-- ---- what a loss of power leaves
 
--- how many octets of a file the system writes to the disk at once
-abbrev pub page_size : ℕ
-page_size = 4096
+-- a disk writes a file in blocks of this many octets, or of a multiple of it
+abbrev pub block_size : ℕ
+block_size = 512
 
--- bytes, cut where the pages of their file begin; the first page has room for `room` of them
-abbrev pub pages : ℕ → List ℕ → List (List ℕ)
-pages room [] = []
-pages room (byte ∷ rest) = if room == 1 then (byte ∷ []) ∷ pages page_size rest else onto_first byte (pages (room - 1) rest)
+-- zeros up to the end of a block; the first of these bytes is at `place` in its file
+abbrev pub is_lost : ℕ → List ℕ → Bool
+is_lost place bytes = list_all (λ byte. byte == 0) (take (block_size - place % block_size) bytes)
 
--- the bytes of a file from a place on, cut where its pages begin
-abbrev pub pages_from : ℕ → List ℕ → List (List ℕ)
-pages_from place bytes = pages (page_size - place % page_size) bytes
+-- one of these bytes is the last of a block, and is zero
+abbrev pub is_torn : ℕ → List ℕ → Bool
+is_torn place [] = false
+is_torn place (byte ∷ rest) = ((place + 1) % block_size == 0 && byte == 0) || is_torn (place + 1) rest
 
--- all zeros, which a loss of power can leave in place of a page that wasn't flushed
-abbrev pub is_hole : List ℕ → Bool
-is_hole page = list_all (λ byte. byte == 0) page
+-- what a loss of power may leave of bytes that were appended at `place`: a front of them, in which each is there, or is
+-- a zero like all that follow in its block
+abbrev pub MayBeLeft : ℕ → List ℕ → List ℕ → Type 0
+MayBeLeft place bytes [] = Unit {0}
+MayBeLeft place [] (byte ∷ left) = ⊥
+MayBeLeft place (word ∷ words) (byte ∷ left) =
+    ((byte ≡ word) ⊎ (is_lost place (byte ∷ left) ≡ true)) × MayBeLeft (place + 1) words left
 
 -- ---- what an entry looks like
 
--- one of the two begins with the other
-abbrev pub agree : List ℕ → List ℕ → Bool
-agree words bytes = starts_with nat_eq words bytes || starts_with nat_eq bytes words
-
--- the pages begin with these words, as far as both go, except those that are holes
-abbrev pub begin_with : List ℕ → List (List ℕ) → Bool
-begin_with words [] = true
-begin_with words (page ∷ more) = (agree words page || is_hole page) && begin_with (drop (length page) words) more
+-- the bytes begin with these words, as far as both go, except what is lost
+abbrev pub begin_with : ℕ → List ℕ → List ℕ → Bool
+begin_with place [] bytes = true
+begin_with place (word ∷ words) [] = true
+begin_with place (word ∷ words) (byte ∷ rest) = (byte == word || is_lost place (byte ∷ rest)) && begin_with (place + 1) words rest
 
 -- no line after the first begins with `From `
 abbrev pub is_one_entry : List ℕ → Bool
@@ -46,20 +46,17 @@ is_one_entry bytes = list_all (λ line. not (begins_entry line)) (drop 1 (lines_
 
 -- the last line is empty
 abbrev pub ends_empty : List ℕ → Bool
-ends_empty bytes = bytes_eq (drop (length bytes - 2) bytes) (10 ∷ 10 ∷ [])
+ends_empty bytes = ends_with nat_eq bytes (10 ∷ 10 ∷ [])
 
--- none of the pages is a hole
-abbrev pub are_unbroken : List (List ℕ) → Bool
-are_unbroken pages = list_all (λ page. not (is_hole page)) pages
-
--- the bytes from a place on may be a front of an entry that was appended there and nothing more: they begin as its
--- first line does, as far as both go, and no other line begins with `From `
+-- the bytes from a place on may be what is left of an entry that was appended there, and nothing more: they begin as
+-- its first line does, and no other line begins with `From `
 abbrev pub is_ours : ℕ → List ℕ → Bool
-is_ours place bytes = begin_with separator (pages_from place bytes) && is_one_entry bytes
+is_ours place bytes = begin_with place separator bytes && is_one_entry bytes
 
--- they have the form of one entry, from its first line to an empty one, and none of its pages was lost
+-- they have the form of one entry, from its first line to an empty one, and no block of them is torn. The last block
+-- ends where they end: with an empty line, so not with a zero
 abbrev pub is_entry : ℕ → List ℕ → Bool
-is_entry place bytes = is_ours place bytes && (are_unbroken (pages_from place bytes) && ends_empty bytes)
+is_entry place bytes = is_ours place bytes && (not (is_torn place bytes) && ends_empty bytes)
 
 -- ---- settling
 
@@ -77,31 +74,44 @@ stands_torn start len file =
 abbrev pub settled_file : ℕ → ℕ → List ℕ → List ℕ
 settled_file start len file = if stands_torn start len file then take start file else file
 
--- a law: if a front of an entry follows a file, either it is all of the entry and counts as whole, or the file is cut
--- back to what it was. An entry that is all there can be cut off only if a page of its own text is all zeros
+-- what is left of the entry of a text, after a file, is all of it, counts as whole and stays
+abbrev pub CountsWhole : List ℕ → List ℕ → List ℕ → Type 0
+CountsWhole file text left = (stands_whole (length file) (length (entry_of text)) (file ++ left) ≡ true)
+    × (settled_file (length file) (length (entry_of text)) (file ++ left) ≡ file ++ left) × (left ≡ entry_of text)
+
+-- it doesn't count as whole, and the file is cut back to what it was
+abbrev pub IsCutOff : List ℕ → List ℕ → List ℕ → Type 0
+IsCutOff file text left = (stands_whole (length file) (length (entry_of text)) (file ++ left) ≡ false)
+    × (settled_file (length file) (length (entry_of text)) (file ++ left) ≡ file)
+
+-- a law: what a loss of power leaves of an entry that was appended to a file is all of it and counts as whole, or is cut off
+abbrev pub LeftoversAreSettled : Type 0
+LeftoversAreSettled = (file text left : List ℕ) → IsWhole text → MayBeLeft (length file) (entry_of text) left
+    → CountsWhole file text left ⊎ IsCutOff file text left
+
+-- a law: so is a front of an entry
 abbrev pub FrontsAreSettled : Type 0
 FrontsAreSettled = (file text front rest : List ℕ) → IsWhole text → entry_of text ≡ front ++ rest
-    → ((stands_whole (length file) (length (entry_of text)) (file ++ front) ≡ true)
-    × (settled_file (length file) (length (entry_of text)) (file ++ front) ≡ file ++ front) × (front ≡ entry_of text))
-    ⊎ ((stands_whole (length file) (length (entry_of text)) (file ++ front) ≡ false)
-    × (settled_file (length file) (length (entry_of text)) (file ++ front) ≡ file))
+    → CountsWhole file text front ⊎ IsCutOff file text front
+
+-- a law: an entry that is all there counts as whole, unless its own text has a zero at the end of a block
+abbrev pub WholeEntriesCount : Type 0
+WholeEntriesCount = (file text : List ℕ) → IsWhole text → is_torn (length file) (entry_of text) ≡ false
+    → CountsWhole file text (entry_of text)
 
 -- ---- what the calls do
 
--- what was seen of the bytes from a place on
-pub record IsLook (place : ℕ) (bytes : List ℕ) (look : Look) : Type 0 where
-  pub begins : look.begins ≡ begin_with separator (pages_from place bytes)
-  pub unbroken : look.is_unbroken ≡ are_unbroken (pages_from place bytes)
-  pub one : look.is_one_entry ≡ is_one_entry bytes
+-- the bytes from `start` on were read, at most this many; memory ran out; or the call failed
+abbrev pub ReadsBehind : {A : Type 0} → Stored → ℕ → ℕ → Result (Vec ℕ A) StoreFault → Stored → Type 0
+ReadsBehind old start behind (Ok bytes) new =
+    ((was : List ℕ) × (old.content ≡ Some was) × (bytes.items ≡ piece_at start behind was)) × (new ≡ old)
+ReadsBehind old start behind (Err Missing) new = (old.content ≡ None) × (new ≡ old)
+ReadsBehind old start behind (Err Refused) new = new ≡ counted old
+ReadsBehind old start behind (Err NotMbox) new = ⊥
+ReadsBehind old start behind (Err NoMemory) new = new ≡ old
 
--- the bytes from `start` on were looked at, if there are `behind` of them
-abbrev pub LooksBehind : Stored → ℕ → ℕ → Result Look StoreFault → Stored → Type 0
-LooksBehind old start behind (Ok look) new = (new ≡ old)
-    × ((was : List ℕ) → old.content ≡ Some was → length (drop start was) ≡ behind → IsLook start (drop start was) look)
-LooksBehind old start behind (Err fault) new = Denies old fault new
-
--- `settle_file`: the file is settled, and the answer is whether the entry is there whole; there is no file; or a call
--- was refused, and the file is as it was, or settled
+-- `settle_file`: the file is settled, and the answer is whether the entry is there whole; there is no file; a call was
+-- refused, and the file is as it was, or settled; or memory ran out, and the file is as it was
 abbrev pub SettlesFile : Stored → ℕ → ℕ → Result Bool StoreFault → Stored → Type 0
 SettlesFile old start len (Ok whole) new =
     (was : List ℕ) × (old.content ≡ Some was) × (whole ≡ stands_whole start len was) × (new ≡ holding old (settled_file start len was))
@@ -109,4 +119,4 @@ SettlesFile old start len (Err Missing) new = (old.content ≡ None) × (new ≡
 SettlesFile old start len (Err Refused) new = (new ≡ counted old)
     ⊎ ((was : List ℕ) × (old.content ≡ Some was) × (new ≡ counted (holding old (settled_file start len was))))
 SettlesFile old start len (Err NotMbox) new = ⊥
-SettlesFile old start len (Err NoMemory) new = ⊥
+SettlesFile old start len (Err NoMemory) new = new ≡ old

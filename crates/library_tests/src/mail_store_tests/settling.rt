@@ -29,7 +29,7 @@ fn settled(
 ) -> Result<(Result<bool, StoreFault>, usize), Fail> {
     let mut file = MemoryFile::new(alloc);
     file.replace(bytes)?;
-    let answer = settle_file(&mut file, start, len);
+    let answer = settle_file(alloc, &mut file, start, len);
     Ok((answer, file.load()?.len()))
 }
 
@@ -115,12 +115,15 @@ fn counts_no_entry_with_a_hole(rt: HostRuntime) -> Result<(), Fail> {
     let rows = [
         (0, 0, Ok(true), 12_388),
         (8_191, 12_288, Ok(false), 100),
-        (8_192, 12_287, Ok(true), 12_388),
-        (4_096, 8_192, Ok(false), 100),
+        (8_192, 8_703, Ok(true), 12_388),
+        (8_703, 8_704, Ok(false), 100),
+        (4_095, 4_096, Ok(false), 100),
         (100, 4_096, Ok(false), 100),
         (100, 12_388, Ok(false), 100),
         (12_288, 12_388, Ok(false), 100),
-        (100, 4_095, Ok(false), 12_388),
+        (12_387, 12_388, Ok(false), 100),
+        (110, 512, Ok(false), 100),
+        (110, 511, Ok(false), 12_388),
     ];
     for (from, to, answer, size) in rows {
         let found = with_a_hole(rt.alloc(), from, to)?;
@@ -135,10 +138,10 @@ fn settles_a_real_file(rt: HostRuntime) -> Result<(), Fail> {
     let mut file = HostFile::at(&rt, path, mark_of(&rt)?);
     for (size, answer, left) in [(70, Ok(true), 70), (35, Ok(false), 0), (0, Ok(false), 0)] {
         file.replace(front_of_entry(size))?;
-        assert!(rt; settle_file(&mut file, 0, 70) == answer, "{size} octets");
+        assert!(rt; settle_file(rt.alloc(), &mut file, 0, 70) == answer, "{size} octets");
         assert_eq!(rt; file.load()?.len(), left);
     }
     fs::remove_file(&rt, path)?;
-    assert!(rt; settle_file(&mut file, 0, 70) == Err(StoreFault::Missing));
+    assert!(rt; settle_file(rt.alloc(), &mut file, 0, 70) == Err(StoreFault::Missing));
     Ok(())
 }

@@ -1,43 +1,67 @@
 //! What is left of an entry that was about to be appended when a session was cut.
 
-ghost use Rattle.std.specs.Prelude.{◌≡◌, ◌↔◌, ◌==◌, ◌&&◌, ◌||◌, ◌+◌, ◌≤◌, ◌<◌, ◌^◌, ◌∷◌, [], nat_le, bytes_eq, not, IfErr, IsTrue, OnOk};
+ghost use Rattle.std.specs.Prelude.{◌≡◌, ◌≢◌, ◌↔◌, ◌==◌, ◌&&◌, ◌+◌, ◌%◌, ◌≤◌, ◌<◌, ◌^◌, length, IfErr, IfOk, IsTrue, OnOk};
 ghost use Rattle.mail_terms.specs.FailureCount.{Tallies, refuses};
-ghost use Rattle.mail_store.specs.Fault.{is_refusal, IsDeviceFault};
+ghost use Rattle.mail_store.specs.Fault.{is_refusal};
 ghost use Rattle.mail_store.specs.Power.{LastsWhole};
-ghost use Rattle.mail_store.specs.Settling.{agree, is_hole, is_one_entry, FrontsAreSettled, LooksBehind, SettlesFile};
+ghost use Rattle.mail_store.specs.Settling.{block_size, begin_with, ends_empty, is_entry, is_lost, is_one_entry, is_ours, is_torn};
+ghost use Rattle.mail_store.specs.Settling.{FrontsAreSettled, LeftoversAreSettled, ReadsBehind, SettlesFile, WholeEntriesCount};
 
 use crate::fault::StoreFault;
-use crate::file::flat_file::{Edges, FlatFile};
-use crate::file::reading::bytes_from;
+use crate::file::flat_file::FlatFile;
 use crate::mboxrd::entry::SEPARATOR;
 use memchr::memmem;
+use std::alloc::Global;
+use std::vec::Vec;
 
-/// How many octets of a file the system writes to the disk at once.
-const PAGE: u64 = 4_096;
+/// A disk writes a file in blocks of this many octets, or of a multiple of it.
+const BLOCK: u64 = 512;
 
-/// What was seen of the octets that follow a place in a file.
-#[derive(Clone, Copy)]
-struct Look {
-    /// They agree with an entry's first line, as far as both go, except in pages that are holes.
-    begins: bool,
-    /// None of their pages is a hole.
-    is_unbroken: bool,
-    /// No line after the first begins with `From `.
-    is_one_entry: bool,
+/// Whether there are only zeros up to the end of a block. The first octet is at `place` in its file.
+fn is_lost(place: u64, bytes: &[u8]) -> bool
+    ensures { result ≡ is_lost place bytes.now }
+{
+    let room = (BLOCK - place % BLOCK) as usize;
+    bytes.iter().take(room).all(|byte| *byte == 0)
 }
 
-/// Whether one of the two begins with the other.
-fn agree(words: &[u8], bytes: &[u8]) -> bool
-    ensures { result ≡ agree words.now bytes.now }
+/// Whether an octet is the last of a block, and zero.
+fn ends_torn(place: u64, byte: u8) -> bool
+    requires { place + 1 < 2 ^ 64 }
+    ensures { result ≡ ((place + 1) % block_size == 0 && byte == 0) }
 {
-    words.starts_with(bytes) || bytes.starts_with(words)
+    (place + 1) % BLOCK == 0 && byte == 0
 }
 
-/// Whether a page is all zeros.
-fn is_hole(page: &[u8]) -> bool
-    ensures { result ≡ is_hole page.now }
+/// Whether an octet that is the last of a block is zero. The first octet is at `place` in its file.
+fn is_torn(place: u64, bytes: &[u8]) -> bool
+    requires { place + length bytes.now < 2 ^ 64 }
+    ensures { result ≡ is_torn place bytes.now }
 {
-    page.iter().all(|byte| *byte == 0)
+    let mut at = place;
+    for byte in bytes {
+        if ends_torn(at, *byte) {
+            return true;
+        }
+        at += 1;
+    }
+    false
+}
+
+/// Whether the octets begin with these words, as far as both go, except what is lost.
+fn begin_with(place: u64, words: &[u8], bytes: &[u8]) -> bool
+    requires { place + length bytes.now < 2 ^ 64 }
+    ensures { result ≡ begin_with place words.now bytes.now }
+{
+    match words {
+        [] => true,
+        [word, words @ ..] => match bytes {
+            [] => true,
+            [byte, rest @ ..] => {
+                (byte == word || is_lost(place, bytes)) && begin_with(place + 1, words, rest)
+            }
+        },
+    }
 }
 
 /// Whether no line after the first begins with `From `.
@@ -50,6 +74,37 @@ fn is_one_entry(bytes: &[u8]) -> bool
     }
 }
 
+/// Whether the last line is empty.
+fn ends_empty(bytes: &[u8]) -> bool
+    ensures { result ≡ ends_empty bytes.now }
+{
+    bytes.ends_with(b"\n\n")
+}
+
+/// Whether octets may be what is left of an entry that was appended at `place`, and nothing more.
+fn is_ours(place: u64, bytes: &[u8]) -> bool
+    requires { place + length bytes.now < 2 ^ 64 }
+    ensures { result ≡ is_ours place bytes.now }
+{
+    begin_with(place, SEPARATOR, bytes) && is_one_entry(bytes)
+}
+
+/// Whether octets have the form of one entry, and no block of them is torn.
+fn is_entry(place: u64, bytes: &[u8]) -> bool
+    requires { place + length bytes.now < 2 ^ 64 }
+    ensures { result ≡ is_entry place bytes.now }
+{
+    is_ours(place, bytes) && !is_torn(place, bytes) && ends_empty(bytes)
+}
+
+/// Whether octets are the whole entry of this length.
+fn is_whole(place: u64, len: u64, bytes: &[u8]) -> bool
+    requires { place + length bytes.now < 2 ^ 64 }
+    ensures { result ≡ (length bytes.now == len && is_entry place bytes.now) }
+{
+    bytes.len() as u64 == len && is_entry(place, bytes)
+}
+
 /// Whether `behind` octets may be a part of an entry of this length, or all of it.
 fn may_be_part(behind: u64, len: u64) -> bool
     ensures { IsTrue result ↔ ((0 < behind) × (behind ≤ len)) }
@@ -57,89 +112,48 @@ fn may_be_part(behind: u64, len: u64) -> bool
     0 < behind && behind <= len
 }
 
-impl Look {
-    /// Adds one page: `words` is the part of the first line that belongs there, `window` the page
-    /// with up to five octets before it, in which a line may begin.
-    fn further(self, words: &[u8], page: &[u8], window: &[u8]) -> Look
-        ensures begins { result.begins ≡ (self.begins && (agree words.now page.now || is_hole page.now)) }
-        ensures unbroken { result.is_unbroken ≡ (self.is_unbroken && not (is_hole page.now)) }
-        ensures one { result.is_one_entry ≡ (self.is_one_entry && is_one_entry window.now) }
-    {
-        let is_lost = is_hole(page);
-        Look {
-            begins: self.begins && (agree(words, page) || is_lost),
-            is_unbroken: self.is_unbroken && !is_lost,
-            is_one_entry: self.is_one_entry && is_one_entry(window),
-        }
-    }
-
-    /// Whether what was seen may be a front of an entry and nothing more.
-    fn is_ours(self) -> bool
-        ensures { result ≡ (self.begins && self.is_one_entry) }
-    {
-        self.begins && self.is_one_entry
-    }
-
-    /// Whether what was seen, up to the end of a file with these ends, is an entry of this length.
-    fn is_entry(self, edges: &Edges, behind: u64, len: u64) -> bool
-        ensures { result ≡ (behind == len && (self.begins && self.is_one_entry) && self.is_unbroken
-            && nat_le 2 behind && bytes_eq edges.now.tail (10 ∷ 10 ∷ [])) }
-    {
-        behind == len && self.is_ours() && self.is_unbroken && 2 <= behind && edges.tail == *b"\n\n"
-    }
-}
-
-/// Looks at the octets of a file from `start` on, page by page. If the file has become shorter since
-/// its size was read, `begins` is false.
-fn look_behind<F: FlatFile>(file: &mut F, start: u64, behind: u64) -> Result<Look, StoreFault>
-    requires { start + behind < 2 ^ 64 }
-    ensures looks { F.sound file.new → F.sound file.old
-        × LooksBehind (F.stored file.old) start behind result (F.stored file.new) }
-    ensures fault { IfErr result IsDeviceFault }
+/// The octets of a file from `start` on, at most `behind` of them.
+fn read_behind<F: FlatFile>(
+    alloc: Global,
+    file: &mut F,
+    start: u64,
+    behind: u64,
+) -> Result<Vec<u8>, StoreFault>
+    ensures reads { F.sound file.new → F.sound file.old
+        × ReadsBehind (F.stored file.old) start behind result (F.stored file.new) }
+    ensures within { IfOk result (λ bytes. length bytes.items ≤ behind) }
+    ensures fault { IfErr result (λ e. e ≢ StoreFault.NotMbox) }
     ensures lasts { F.sound file.new → F.is_sure file.old → LastsWhole (F.stored file.old).content (F.outlives file.old)
         → OnOk result (F.is_sure file.new × LastsWhole (F.stored file.new).content (F.outlives file.new)) }
     ensures count { Tallies (refuses is_refusal result) (F.stored file.old).failures (F.stored file.new).failures }
 {
-    let mut buf = [0u8; 4_101];
-    let mut look = Look {
-        begins: true,
-        is_unbroken: true,
-        is_one_entry: true,
-    };
-    let mut done = 0;
-    while done < behind {
-        let front = done.min(5);
-        let page = (PAGE - (start + done) % PAGE).min(behind - done);
-        let wanted = (front + page) as usize;
-        let count = file.read_at(start + done - front, &mut buf[..wanted])?;
-        if count < wanted {
-            look.begins = false;
-            return Ok(look);
-        }
-        look = look.further(
-            bytes_from(SEPARATOR, done),
-            &buf[front as usize..wanted],
-            &buf[..wanted],
-        );
-        done += page;
-    }
-    Ok(look)
+    let mut bytes = vec![in alloc; 0; behind as usize]?;
+    let count = file.read_at(start, &mut bytes)?;
+    bytes.truncate(count);
+    Ok(bytes)
 }
 
 /// Settles what follows `start` in a file, where an entry of `len` octets was about to be appended
 /// when a session was cut, and returns whether it is there whole.
 ///
-/// What follows is looked at first. It is ours only if it is no longer than the entry, agrees with
-/// an entry's first line, as far as both go, and no other line begins with `From `. A page of zeros
-/// in place of the first line also agrees. What isn't ours isn't touched. What is ours is whole
-/// only if it has the entry's length, its last line is empty, and none of the file's pages in it is
-/// all zeros, as a loss of power can leave them; otherwise the file is cut back to `start`.
+/// What follows is looked at first. It is ours only if it is no longer than the entry, begins as an
+/// entry's first line does, as far as both go, and no other line begins with `From `. From any
+/// octet of that line on there may be zeros to the end of the block. What isn't ours isn't touched.
+/// What is ours is whole only if it has the entry's length, its last line is empty, and the last
+/// octet of no block is zero, as a loss of power can leave it; otherwise the file is cut back to
+/// `start`. An entry that has such a zero in its own text is cut off too, and fetched once more.
 ///
 /// Missing if there is no file. Refused if the device refused: the file is as it was, or settled.
-pub fn settle_file<F: FlatFile>(file: &mut F, start: u64, len: u64) -> Result<bool, StoreFault>
+/// NoMemory if memory runs out: the file is as it was.
+pub fn settle_file<F: FlatFile>(
+    alloc: Global,
+    file: &mut F,
+    start: u64,
+    len: u64,
+) -> Result<bool, StoreFault>
     ensures settles { F.sound file.new → F.sound file.old
         × SettlesFile (F.stored file.old) start len result (F.stored file.new) }
-    ensures fault { IfErr result IsDeviceFault }
+    ensures fault { IfErr result (λ e. e ≢ StoreFault.NotMbox) }
     ensures lasts { F.sound file.new → F.is_sure file.old
         → OnOk result (F.is_sure file.new × LastsWhole (F.stored file.new).content (F.outlives file.new)) }
     ensures count { Tallies (refuses is_refusal result) (F.stored file.old).failures (F.stored file.new).failures }
@@ -149,11 +163,12 @@ pub fn settle_file<F: FlatFile>(file: &mut F, start: u64, len: u64) -> Result<bo
     if !may_be_part(behind, len) {
         return Ok(false);
     }
-    let look = look_behind(file, start, behind)?;
-    if !look.is_ours() {
+    let bytes = read_behind(alloc, file, start, behind)?;
+    let rest = bytes.as_slice();
+    if (rest.len() as u64) < behind || !is_ours(start, rest) {
         return Ok(false);
     }
-    if look.is_entry(&edges, behind, len) {
+    if is_whole(start, len, rest) {
         return Ok(true);
     }
     if let Err(fault) = file.cut_to(start) {
@@ -162,8 +177,19 @@ pub fn settle_file<F: FlatFile>(file: &mut F, start: u64, len: u64) -> Result<bo
     Ok(false)
 }
 
+/// What a loss of power leaves of an entry that was appended to a file counts as whole only if it
+/// is all of the entry; else settling cuts the file back to what it was.
+pub fn leftovers_of_entries_are_settled()
+    ensures { LeftoversAreSettled }
+{}
+
 /// If a front of an entry follows a file, it is all of the entry and counts as whole, or settling
 /// cuts the file back to what it was.
 pub fn fronts_of_entries_are_settled()
     ensures { FrontsAreSettled }
+{}
+
+/// An entry that is all there counts as whole, unless its text has a zero at the end of a block.
+pub fn whole_entries_count()
+    ensures { WholeEntriesCount }
 {}
