@@ -6,6 +6,7 @@ ghost use Rattle.folder_store.specs.FileFolder.{unknown_directory};
 
 use crate::device::FileFolder;
 use crate::exact_listing::{FolderNames, list_names};
+use crate::file_state::{FileState, write_counted};
 use crate::process_mark::ProcessMark;
 use crate::system::{flush_folder, folder_of, make_file, sweep};
 use mail_store::{Edges, StoreFault};
@@ -53,6 +54,11 @@ pub struct HostFolder<'a, R: Files + Clock + AllocGlobal + Clone + Drop> {
     changed: Option<Changed<R::File>>,
     /// Whether the handle of the file that was changed last is kept for its next change.
     keeps_handle: bool,
+    /// Whether the one file that is used here is watched: it is neither measured nor changed once another
+    /// program has changed it.
+    watches: bool,
+    /// How the watched file was seen first, or left by the last change here.
+    left: Option<FileState>,
     /// The folder itself, from its first flush on.
     names: Option<R::File>,
 }
@@ -78,13 +84,17 @@ impl<'a, R: Files + Clock + AllocGlobal + Clone + Drop> HostFolder<'a, R> {
             made: None,
             changed: None,
             keeps_handle: false,
+            watches: false,
+            left: None,
             names: None,
         }
     }
 
     /// The folder that holds the file at a path, absolute or taken from the working folder. Files are
     /// made in it too, with `.tmp` and the process's mark after their names. If `keeps_handle` is true,
-    /// a file that was changed stays open for its next change: for a file that nobody else replaces.
+    /// a file that was changed stays open for its next change: for a file that nobody else replaces. Else
+    /// the file is watched: its edges aren't told, and it is neither appended to nor cut, once another
+    /// program has changed it since it was first looked at.
     pub fn around(
         rt: &'a R,
         path: &'a str,
@@ -103,6 +113,8 @@ impl<'a, R: Files + Clock + AllocGlobal + Clone + Drop> HostFolder<'a, R> {
             made: None,
             changed: None,
             keeps_handle,
+            watches: !keeps_handle,
+            left: None,
             names: None,
         }
     }
@@ -216,6 +228,7 @@ impl<'a, R: Files + Clock + AllocGlobal + Clone + Drop> HostFolder<'a, R> {
             return Err(io::Error::from(ErrorKind::InvalidInput));
         };
         self.changed = None;
+        self.left = None;
         fs::rename(self.rt, made.path.as_str(), to)?;
         self.made = None;
         Ok(())
@@ -230,9 +243,39 @@ impl<'a, R: Files + Clock + AllocGlobal + Clone + Drop> HostFolder<'a, R> {
         Ok(bytes)
     }
 
-    fn read_edges(&self, name: &str) -> io::Result<Edges> {
+    // A watched file must be as it was left.
+    fn check_left(&mut self, found: &Metadata) -> io::Result<()> {
+        if !self.watches {
+            return Ok(());
+        }
+        let state = FileState::of(found);
+        let left = self.left.unwrap_or(state);
+        if left != state {
+            return Err(io::Error::from(ErrorKind::InvalidData));
+        }
+        self.left = Some(state);
+        Ok(())
+    }
+
+    // Takes note of a watched file after a change that added `more` octets to it, or none. If its size
+    // isn't what that left, another program has changed it too.
+    fn note_change(&mut self, file: &R::File, more: u64) -> io::Result<()> {
+        let Some(left) = self.left else {
+            return Ok(());
+        };
+        let state = FileState::of(&file.metadata()?);
+        if !state.grew_by(left, more) {
+            return Err(io::Error::from(ErrorKind::InvalidData));
+        }
+        self.left = Some(state);
+        Ok(())
+    }
+
+    fn read_edges(&mut self, name: &str) -> io::Result<Edges> {
         let mut file = fs::open(self.rt, self.regular_path(name)?)?;
-        let size = file.metadata()?.len();
+        let found = file.metadata()?;
+        self.check_left(&found)?;
+        let size = found.len();
         let mut head = [0u8; 5];
         let mut tail = [0u8; 2];
         let in_head = size.min(5) as usize;
@@ -285,19 +328,36 @@ impl<'a, R: Files + Clock + AllocGlobal + Clone + Drop> HostFolder<'a, R> {
         Ok(found.len())
     }
 
+    // Appends to a watched file. What others append meanwhile isn't taken for a part of it.
+    fn write_watched(&mut self, file: &mut R::File, bytes: &[u8]) -> io::Result<()> {
+        self.check_left(&file.metadata()?)?;
+        let (count, answer) = write_counted(file, bytes);
+        self.note_change(file, count)?;
+        answer
+    }
+
     fn write_behind(&mut self, name: &str, bytes: &[u8]) -> io::Result<()> {
         let mut changed = self.handle_of(name)?;
-        let answer = changed.file.write_all(bytes);
+        let answer = if self.watches {
+            self.write_watched(&mut changed.file, bytes)
+        } else {
+            changed.file.write_all(bytes)
+        };
         self.changed = Some(changed);
         answer
     }
 
     fn set_len(&mut self, name: &str, len: u64) -> io::Result<()> {
         let changed = self.handle_of(name)?;
-        if changed.file.metadata()?.len() < len {
+        let found = changed.file.metadata()?;
+        self.check_left(&found)?;
+        if found.len() < len {
             return Err(io::Error::from(ErrorKind::InvalidInput));
         }
         let answer = changed.file.set_len(len);
+        if answer.is_ok() && self.watches {
+            self.left = Some(FileState::of(&changed.file.metadata()?));
+        }
         self.changed = Some(changed);
         answer
     }
@@ -308,6 +368,8 @@ impl<'a, R: Files + Clock + AllocGlobal + Clone + Drop> HostFolder<'a, R> {
         if let Some(changed) = self.changed.take() {
             if changed.name.as_str() == name {
                 changed.file.sync_all()?;
+                // Some systems set the time of change only now.
+                self.note_change(&changed.file, 0)?;
                 if self.keeps_handle {
                     self.changed = Some(changed);
                 }

@@ -4,6 +4,7 @@
 mod device;
 mod exact_listing;
 mod file;
+mod file_state;
 mod fused;
 mod host;
 mod host_folders;
