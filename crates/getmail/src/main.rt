@@ -13,8 +13,8 @@ use command_line::StandIns;
 use fetch_rules::{RcFault, Settings};
 use folder_store::ProcessMark;
 use getmail_program::{
-    Errors, Failure, Setup, Words, explain, fail, failure_of, fetch_over, read_words, rehearse,
-    set_up, tell,
+    Errors, Failure, Manner, Output, Setup, ShownWire, Words, account_at, close, explain, fail,
+    failure_of, fetch_over, home, read_words, rehearse, seconds_now, set_up, tell,
 };
 use std::env;
 use std::hash::RandomState;
@@ -42,23 +42,52 @@ fn prepare<'a, 'b>(host: &Host<'a>, settings: &Settings) -> Result<Prepared<'a>,
 }
 
 /// Connects, runs one session or only shows what it would do, and returns the exit status.
-fn fetch(host: &Host<'_>, setup: Setup, errors: Errors<'_, Stderr>) -> u8
+fn fetch(host: &Host<'_>, setup: Setup, mut errors: Errors<'_, Stderr>) -> u8
     requires { IsValid setup.settings }
     ensures { result ≤ 2 }
 {
     let rt = host.inner();
-    let settings = &setup.settings;
-    let prepared = match prepare(host, settings) {
+    let Setup {
+        settings,
+        paths,
+        pretends,
+    } = setup;
+    let (drawn, link) = match prepare(host, &settings) {
         Ok(prepared) => prepared,
         Err(failure) => return fail(rt, failure, None, &errors),
     };
-    let (drawn, link) = prepared;
     let stream = match connect(host, settings.server.as_str(), settings.port) {
         Ok(stream) => stream,
-        Err(failure) => return fail(rt, failure, Some(settings), &errors),
+        Err(failure) => return fail(rt, failure, Some(&settings), &errors),
     };
     let link = link_over(host, &stream, link);
-    fetch_over(host, setup, link, drawn, &mut rt.stdout(), errors)
+    let mut wire = ShownWire::new(rt.alloc(), link, errors.screen(&settings));
+    let (destination, record) = (paths.destination.as_str(), paths.record.as_str());
+    let mut account = account_at(host, settings, (destination, record), drawn);
+    let manner = Manner {
+        now: seconds_now(rt),
+        destination,
+        pretends,
+    };
+    let mut out = Output::new(rt.stdout());
+    let fetched = fetch_over(host, &mut account, &mut wire, manner, &mut out, &mut errors);
+    close(account, fetched.is_idle);
+    fetched.status
+}
+
+/// Sets a run up, and runs it. Returns the exit status.
+fn run(host: &Host<'_>, words: &Words, errors: Errors<'_, Stderr>) -> u8
+    ensures { result ≤ 2 }
+{
+    let rt = host.inner();
+    let home = match home(rt) {
+        Ok(home) => home,
+        Err(failure) => return fail(rt, failure, None, &errors),
+    };
+    match set_up(host, home.as_deref(), words, errors.reasons) {
+        Ok(setup) => fetch(host, setup, errors),
+        Err(failure) => fail(rt, failure, None, &errors),
+    }
 }
 
 /// Does what the command line asks for, and returns the exit status.
@@ -71,7 +100,7 @@ fn obey(rt: &HostRuntime, words: &Words) -> u8
     let are_told = words.why || is_terminal;
     let host = host_of(rt, words.trace, are_told, &reasons);
     let errors = Errors {
-        err,
+        err: Output::new(err),
         shows_progress: is_terminal && !words.trace,
         reasons: if are_told { Some(&reasons) } else { None },
     };
@@ -83,10 +112,7 @@ fn obey(rt: &HostRuntime, words: &Words) -> u8
         }
         return status;
     }
-    match set_up(&host, words, errors.reasons) {
-        Ok(setup) => fetch(&host, setup, errors),
-        Err(failure) => fail(rt, failure, None, &errors),
-    }
+    run(&host, words, errors)
 }
 
 /// Reads the command line, does what it asks for, and returns the exit status.

@@ -1,2 +1,2 @@
-mod TellingLemmas
+mod OutputLemmas
 mod WordsLemmas

@@ -1,5 +1,7 @@
 pub mod CommandLine
 pub mod Failures
+pub mod Holding
+pub mod Output
 pub mod Places
 pub mod Progress
 pub mod Rehearsal

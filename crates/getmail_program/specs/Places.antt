@@ -3,7 +3,7 @@ use Rattle.std.specs.Prelude.{◌≡◌, ℕ, Bool, false, Ok, ◌||◌, nat_eq,
 use Rattle.std.specs.List.{starts_with, ends_with}
 use Rattle.std.specs.String.{string_bytes}
 use Rattle.rc_file.specs.RcMeaning.{Warned, rc_meaning}
-use Rattle.rc_file.specs.Settings.{Content, begins_at_home, content_of}
+use Rattle.rc_file.specs.Settings.{Content, IsValid, begins_at_home, content_of}
 use Rattle.rc_file.specs.Flags.{is_contradiction, overridden}
 use Rattle.rc_file.specs.declared.flags.Flags.{Flags}
 use Rattle.rc_file.specs.declared.settings.Settings.{Settings}
@@ -11,6 +11,7 @@ use Rattle.rc_file.specs.declared.settings.Dest.{Dest}
 use Rattle.rc_file.specs.declared.settings.Dest.TheVariants.{Maildir, Mboxrd}
 use Rattle.fetch_session.specs.Account.{digits_of}
 use Rattle.fetch_session.specs.Target.{Kind, Files, Entries}
+use Rattle.getmail_program.specs.declared.setup.Paths.{Paths}
 use Rattle.getmail_program.specs.declared.setup.Setup.{Setup}
 use Rattle.getmail_program.specs.declared.words.Words.{Words}
 
@@ -22,9 +23,9 @@ joined folder file = if ends_with nat_eq folder (codes "/") then folder ++ file 
 abbrev pub stands_alone : List ℕ → Bool
 stands_alone path = starts_with nat_eq path (codes "/") || starts_with nat_eq path (codes "~/")
 
--- the path that is meant: one that begins with '~/' begins in the home
-abbrev pub whole_path : List ℕ → List ℕ → List ℕ
-whole_path home path = if begins_at_home path then home ++ drop 1 path else path
+-- the path that is meant: one that begins with '~/' begins in the home; none if the home isn't known
+abbrev pub whole_path : Option (List ℕ) → List ℕ → Option (List ℕ)
+whole_path home path = if begins_at_home path then option_map (λ known. known ++ drop 1 path) home else Some path
 
 -- the path of a destination, as the rc file has it
 abbrev pub path_in : Dest → List ℕ
@@ -41,14 +42,17 @@ abbrev pub folder_given : Option (List ℕ) → List ℕ
 folder_given (Some path) = path
 folder_given None = codes "~/.getmail"
 
+abbrev pub folder_path : Option (List ℕ) → Option (List ℕ) → Option (List ℕ)
+folder_path home given = whole_path home (folder_given given)
+
 -- the rc file's path: a name in the folder, unless it begins with '/' or '~/'; 'getmailrc' if none is given
-abbrev pub rc_path : List ℕ → List ℕ → Option (List ℕ) → List ℕ
-rc_path home folder None = joined folder (codes "getmailrc")
-rc_path home folder (Some path) = if stands_alone path then whole_path home path else joined folder path
+abbrev pub rc_path : Option (List ℕ) → List ℕ → Option (List ℕ) → Option (List ℕ)
+rc_path home folder None = Some (joined folder (codes "getmailrc"))
+rc_path home folder (Some path) = if stands_alone path then whole_path home path else Some (joined folder path)
 
 -- the record is in the folder, under a name with the account's digits
-abbrev pub record_path : List ℕ → Setup → List ℕ
-record_path folder setup = joined folder (codes "seen-" ++ digits_of setup.settings)
+abbrev pub record_path : List ℕ → Settings → List ℕ
+record_path folder settings = joined folder (codes "seen-" ++ digits_of settings)
 
 -- the settings are those that an rc file of these octets means, changed by the flags, which aren't opposite
 pub record AreAsked (flags : Flags) (settings : Settings) : Type 0 where
@@ -59,10 +63,16 @@ pub record AreAsked (flags : Flags) (settings : Settings) : Type 0 where
   pub agree : is_contradiction flags ≡ false
   pub changed : content_of settings ≡ overridden content flags
 
--- a run's destination is the one of its settings, and its record is in the folder that the words name
-pub record IsPlaced (words : Words) (setup : Setup) : Type 0 where
-  pub home : List ℕ
-  pub destination_is : string_bytes setup.destination ≡ whole_path home (path_in setup.settings.dest)
-  pub home_of_folder : List ℕ
-  pub record_is : string_bytes setup.record
-      ≡ record_path (whole_path home_of_folder (folder_given (option_map string_bytes words.dir))) setup
+-- with this home the destination is the one of the settings, and the record is in the folder that the words name
+pub record AreFor (home : Option (List ℕ)) (words : Words) (settings : Settings) (paths : Paths) : Type 0 where
+  pub destination_is : whole_path home (path_in settings.dest) ≡ Some (string_bytes paths.destination)
+  pub folder : List ℕ
+  pub folder_is : folder_path home (option_map string_bytes words.dir) ≡ Some folder
+  pub record_is : string_bytes paths.record ≡ record_path folder settings
+
+-- a run's settings and paths are those that an rc file, the words and the home mean
+pub record IsSetUp (home : Option (List ℕ)) (words : Words) (setup : Setup) : Type 0 where
+  pub valid : IsValid setup.settings
+  pub asked : AreAsked words.flags setup.settings
+  pub placed : AreFor home words setup.settings setup.paths
+  pub pretends : setup.pretends ≡ words.pretend

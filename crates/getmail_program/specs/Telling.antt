@@ -1,17 +1,38 @@
--- What is reported of a session.
-use Rattle.std.specs.Prelude.{◌≡◌, ℕ, Bool, true, false, ◌==◌, List, [], ◌++◌, Option, Result, Ok, Err, OnOk, codes}
+-- What is told at a session's end.
+use Rattle.std.specs.Prelude.{◌≡◌, ◌⊎◌, ℕ, Bool, true, false, ◌==◌, List, [], ◌++◌, Option, None, Some, codes}
 use Rattle.std.specs.Fmt.{decimal}
 use Rattle.std.specs.String.{string_bytes}
-use Rattle.std.specs.Io.KnownBytes.{Appends}
 use Rattle.rc_file.specs.declared.settings.Settings.{Settings}
 use Rattle.pop3_client.specs.declared.fault.Fault.{Fault}
 use Rattle.fetch_session.specs.declared.report.Outcome.{Outcome}
 use Rattle.fetch_session.specs.declared.report.Outcome.TheVariants.{Ended, Cut}
-use Rattle.fetch_session.specs.declared.preview.Preview.{Preview}
-use Rattle.fetch_session.specs.declared.report.Report.{Report}
 use Rattle.fetch_session.specs.Telling.{preview_text}
 use Rattle.fetch_session.specs.Text.{fault_text, report_text}
-use Rattle.getmail_program.specs.declared.fetching.Fetched.{Fetched}
+use Rattle.getmail_program.specs.declared.output.Output.{Output}
+use Rattle.getmail_program.specs.declared.output.Refusal.{Refusal}
+use Rattle.getmail_program.specs.declared.output.Refusal.TheVariants.{NoMemory, Refused}
+use Rattle.getmail_program.specs.declared.ending.Fetched.{Fetched}
+use Rattle.getmail_program.specs.declared.told.Told.{Told}
+use Rattle.getmail_program.specs.declared.told.Told.TheVariants.{Done, Ahead}
+use Rattle.getmail_program.specs.declared.why.Errors.{Errors}
+use Rattle.getmail_program.specs.Output.{Puts}
+
+-- ---- what a session says
+
+abbrev pub outcome_of : Told → Outcome
+outcome_of (Done report) = report.outcome
+outcome_of (Ahead preview) = preview.outcome
+
+abbrev pub text_of : Settings → Told → List ℕ
+text_of settings (Done report) = report_text report settings
+text_of settings (Ahead preview) = preview_text preview settings
+
+-- the plan passes over all that is listed, or nothing was to be done
+abbrev pub is_idle : Told → Bool
+is_idle (Done report) = report.skipped == report.total
+is_idle (Ahead preview) = true
+
+-- ---- lines
 
 -- the line of a fault
 abbrev pub fault_line : Fault → List ℕ
@@ -28,31 +49,48 @@ reason_line settings reason =
     ((codes "getmail: " ++ (string_bytes settings.username ++ (codes "@" ++ (string_bytes settings.server
     ++ (codes ":" ++ (decimal settings.port ++ codes ": ")))))) ++ reason) ++ codes "\n"
 
--- the exit status: 0 if the session ended and the report was written
-abbrev pub status_when : Outcome → {E : Type 0} → Result (Unit {0}) E → ℕ
-status_when Ended (Ok done) = 0
-status_when Ended (Err error) = 1
-status_when (Cut fault) written = 1
+-- the line of a text that wasn't written to standard output
+abbrev pub unwritten_line : Option Refusal → List ℕ
+unwritten_line None = []
+unwritten_line (Some NoMemory) = codes "getmail: out of memory\n"
+unwritten_line (Some Refused) = codes "getmail: cannot write standard output\n"
 
-abbrev pub status_of : Fetched → ℕ
-status_of fetched = status_when fetched.outcome fetched.report
+-- ---- what is written at a session's end
 
--- the report was written to `out`, and the fault's line, if there is one, to `err`, and nothing else to
--- either, unless a write was refused; and whether the plan passes over all that is listed
-pub record Tells (settings : Settings) (report : Report) (fetched : Fetched) (out out' err err' : Option (List ℕ)) : Type 0 where
-  pub outcome : fetched.outcome ≡ report.outcome
-  pub idle : fetched.is_idle ≡ (report.skipped == report.total)
-  pub reported : OnOk fetched.report (Appends out out' (report_text report settings))
-  pub faulted : OnOk fetched.fault (Appends err err' (outcome_line report.outcome))
+-- this is the line of a reason of an outcome, or nothing; a reason is given only of a cut, and only if it is asked for
+pub record IsReason {R : Type 0} (settings : Settings) (reasons : Option R) (outcome : Outcome) (text : List ℕ) : Type 0 where
+  pub line : (text ≡ []) ⊎ ((reason : List ℕ) × (text ≡ reason_line settings reason))
+  pub asked : reasons ≡ None → text ≡ []
+  pub cut : outcome ≡ Ended → text ≡ []
 
--- the same for what a run would do, which fetches nothing
-pub record TellsAhead (settings : Settings) (preview : Preview) (fetched : Fetched) (out out' err err' : Option (List ℕ)) : Type 0 where
-  pub outcome : fetched.outcome ≡ preview.outcome
-  pub idle : fetched.is_idle ≡ true
-  pub reported : OnOk fetched.report (Appends out out' (preview_text preview settings))
-  pub faulted : OnOk fetched.fault (Appends err err' (outcome_line preview.outcome))
+-- the line of the fault that cut a session, if one did, and its reason, were written
+pub record TellsCut {E : Type 0} (contents : E → Option (List ℕ)) (settings : Settings) (outcome : Outcome) (old new : Errors E)
+    : Type 0 where
+  pub reason : List ℕ
+  pub is_reason : IsReason settings old.reasons outcome reason
+  pub puts : Puts contents old.err (outcome_line outcome ++ reason) new.err
+  pub same : new.reasons ≡ old.reasons
 
--- a run that ended well wrote the whole report of a session that came to its end, and nothing else; or with --pretend what it would do
-abbrev pub IsTold : Bool → Settings → Option (List ℕ) → Option (List ℕ) → Type 0
-IsTold false settings out out' = (report : Report) × (report.outcome ≡ Ended) × Appends out out' (report_text report settings)
-IsTold true settings out out' = (preview : Preview) × (preview.outcome ≡ Ended) × Appends out out' (preview_text preview settings)
+-- the exit status: 0 if the session ended, all was written, and nothing is foreseen that would cut a run
+abbrev pub status_when : Outcome → Option Refusal → Outcome → ℕ
+status_when Ended None Ended = 0
+status_when Ended None (Cut fault) = 1
+status_when Ended (Some why) foreseen = 1
+status_when (Cut fault) why foreseen = 1
+
+-- what a session said was written to `out`, and nothing else; to `err` were written the line of the fault that cut it with its reason,
+-- the line of a text that wasn't written, and after a preview the line of the fault that would cut a run, with its reason
+pub record TellsAll {O E : Type 0} (out_contents : O → Option (List ℕ)) (err_contents : E → Option (List ℕ)) (pretends : Bool)
+    (settings : Settings) (told : Told) (out : Output O) (old : Errors E) (fetched : Fetched) (out' : Output O) (new : Errors E)
+    : Type 0 where
+  pub idle : fetched.is_idle ≡ is_idle told
+  pub reported : Puts out_contents out (text_of settings told) out'
+  pub foreseen : Outcome
+  pub run : pretends ≡ false → foreseen ≡ Ended
+  pub status : fetched.status ≡ status_when (outcome_of told) out'.refusal foreseen
+  pub reason : List ℕ
+  pub is_reason : IsReason settings old.reasons (outcome_of told) reason
+  pub further : List ℕ
+  pub is_further : IsReason settings old.reasons foreseen further
+  pub said : Puts err_contents old.err (((outcome_line (outcome_of told) ++ reason) ++ unwritten_line out'.refusal)
+      ++ (outcome_line foreseen ++ further)) new.err

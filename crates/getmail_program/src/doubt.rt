@@ -1,7 +1,7 @@
 //! What would keep a run from storing messages although a preview of it found nothing wrong.
 use crate::place::joined;
 use fetch_rules::Dest;
-use fetch_session::Why;
+use fetch_session::{Fault, Why};
 use std::fs;
 use std::io::{self, ErrorKind, Read};
 use std::rt::Files;
@@ -9,8 +9,8 @@ use std::rt::Files;
 /// What would keep a run from storing messages.
 #[derive(Clone, Copy)]
 pub struct Doubt {
-    /// Why the run would be cut.
-    pub why: Why,
+    /// What would cut the run.
+    pub fault: Fault,
     /// Whether it would be only if there is a message to fetch.
     pub only_to_fetch: bool,
 }
@@ -21,13 +21,24 @@ const TMP: &str = "tmp";
 /// How an mboxrd file that isn't empty begins.
 const FROM: &[u8] = b"From ";
 
+/// The fault of a call on the destination that was refused.
+fn fault_of(error: &io::Error) -> Fault {
+    match error.kind() {
+        ErrorKind::NotFound => Fault::StoreRefused(Why::Missing),
+        ErrorKind::OutOfMemory => Fault::NoMemory,
+        _ => Fault::StoreRefused(Why::Refused),
+    }
+}
+
 /// Why no message could be made in a Maildir.
-fn doubt_of_maildir<R: Files + AllocGlobal>(host: &R, path: &str) -> Option<Why> {
-    let tmp = joined(host.alloc(), path, TMP).ok()?;
+fn doubt_of_maildir<R: Files + AllocGlobal>(host: &R, path: &str) -> Option<Fault> {
+    let Ok(tmp) = joined(host.alloc(), path, TMP) else {
+        return Some(Fault::NoMemory);
+    };
     match fs::metadata(host, tmp.as_str()) {
         Ok(metadata) if metadata.is_dir() => None,
-        Err(error) if error.kind() == ErrorKind::NotFound => Some(Why::Missing),
-        _ => Some(Why::Refused),
+        Ok(_) => Some(Fault::StoreRefused(Why::Refused)),
+        Err(error) => Some(fault_of(&error)),
     }
 }
 
@@ -45,20 +56,22 @@ fn may_be_mbox<R: Files + AllocGlobal>(host: &R, path: &str) -> io::Result<bool>
 }
 
 /// Why no entry could be appended to an mboxrd file, whatever is open in the record.
-fn doubt_of_mbox<R: Files + AllocGlobal>(host: &R, path: &str) -> Option<Why> {
+fn doubt_of_mbox<R: Files + AllocGlobal>(host: &R, path: &str) -> Option<Fault> {
     match may_be_mbox(host, path) {
         Ok(true) => None,
-        Ok(false) => Some(Why::NotMbox),
-        Err(error) if error.kind() == ErrorKind::NotFound => Some(Why::Missing),
-        Err(_) => Some(Why::Refused),
+        Ok(false) => Some(Fault::StoreRefused(Why::NotMbox)),
+        Err(error) => Some(fault_of(&error)),
     }
 }
 
 /// What would keep a run from storing messages at a destination of this path. Nothing is changed.
 pub fn doubt_of<R: Files + AllocGlobal>(host: &R, dest: &Dest, path: &str) -> Option<Doubt> {
-    let (why, only_to_fetch) = match dest {
+    let (fault, only_to_fetch) = match dest {
         Dest::Maildir(_) => (doubt_of_maildir(host, path)?, true),
         Dest::Mboxrd(_) => (doubt_of_mbox(host, path)?, false),
     };
-    Some(Doubt { why, only_to_fetch })
+    Some(Doubt {
+        fault,
+        only_to_fetch,
+    })
 }

@@ -1,76 +1,150 @@
-//! How a run ends: what is written after its session, and the exit status.
-ghost use Rattle.std.specs.Prelude.{◌≡◌, ◌≤◌};
-ghost use Rattle.getmail_program.specs.Telling.{status_of};
+//! What is written to standard error at a session's end.
+ghost use Rattle.std.specs.Prelude.{◌≡◌, ◌≤◌, false, IfOk};
+ghost use Rattle.std.specs.String.{string_bytes};
+ghost use Rattle.getmail_program.specs.Output.{Puts};
+ghost use Rattle.getmail_program.specs.Telling.{TellsAll, TellsCut, fault_line, outcome_line, status_when, unwritten_line};
 
 use crate::doubt::doubt_of;
-use crate::fetching::{Fetched, write_outcome};
-use crate::why::{Errors, tell_reason, tell_unwritten};
+use crate::failure::OUT_OF_MEMORY;
+use crate::output::{Output, Refusal};
+use crate::told::Told;
+use crate::why::{Errors, reason_line};
 use fetch_rules::Settings;
-use fetch_session::{Fault, Outcome};
+use fetch_session::{Fault, Outcome, fault_text};
+use std::alloc::{AllocError, Global};
 use std::io::Write;
 use std::rt::Files;
 
-/// How a run would end although a preview of it came to its end.
-fn outcome_of<R: Files + AllocGlobal>(
+/// When a session is, where its texts go, and whether it only shows what it would do.
+#[derive(Clone, Copy)]
+pub struct Manner<'a> {
+    /// In seconds since 1970.
+    pub now: u64,
+    /// The destination's path.
+    pub destination: &'a str,
+    /// Whether nothing is to be done.
+    pub pretends: bool,
+}
+
+/// How a run ended.
+#[derive(Clone, Copy)]
+pub struct Fetched {
+    /// The exit status.
+    pub status: u8,
+    /// Whether it had nothing to fetch.
+    pub is_idle: bool,
+}
+
+/// The line of a fault.
+fn fault_line(alloc: Global, fault: &Fault) -> Result<String, AllocError>
+    ensures { IfOk result (λ line. string_bytes line ≡ fault_line fault.now) }
+{
+    let text = fault_text(alloc, fault)?;
+    format!(in alloc; "getmail: {text}\n")
+}
+
+/// Writes a fault's line, or that memory ran out, if it does here.
+fn put_fault<E: Write>(alloc: Global, fault: &Fault, err: &mut Output<E>)
+    ensures { Puts E.contents err.old (fault_line fault.now) err.new }
+{
+    match fault_line(alloc, fault) {
+        Ok(line) => err.put(line.as_bytes()),
+        Err(_) => {
+            err.put(OUT_OF_MEMORY.as_bytes());
+            err.lack_memory();
+        }
+    }
+}
+
+/// Writes the line of the fault that cut a session, if one did.
+fn put_outcome<E: Write>(alloc: Global, outcome: &Outcome, err: &mut Output<E>)
+    ensures { Puts E.contents err.old (outcome_line outcome.now) err.new }
+{
+    match outcome {
+        Outcome::Ended => err.put(b""),
+        Outcome::Cut(fault) => put_fault(alloc, fault, err),
+    }
+}
+
+/// Writes the line of the fault that cut a session, if one did, and its reason, if that is known and asked
+/// for.
+fn tell_cut<E: Write>(
+    alloc: Global,
+    settings: &Settings,
+    destination: &str,
+    outcome: &Outcome,
+    errors: &mut Errors<'_, E>,
+)
+    ensures { TellsCut E.contents settings.now outcome.now errors.old errors.new }
+{
+    let reason = reason_line(alloc, settings, destination, outcome, errors.reasons);
+    put_outcome(alloc, outcome, &mut errors.err);
+    errors.err.put(reason.as_slice());
+}
+
+/// The line of a text that wasn't written to standard output.
+pub fn unwritten_line(refusal: Option<Refusal>) -> &'static str
+    ensures { result.now ≡ unwritten_line refusal }
+{
+    match refusal {
+        None => "",
+        Some(Refusal::NoMemory) => OUT_OF_MEMORY,
+        Some(Refusal::Refused) => "getmail: cannot write standard output\n",
+    }
+}
+
+/// How a run would end although its preview came to its end.
+fn foreseen<R: Files + AllocGlobal>(
     host: &R,
     settings: &Settings,
     destination: &str,
-    fetched: &Fetched,
-) -> Outcome {
+    told: &Told,
+    pretends: bool,
+) -> Outcome
+    ensures { pretends ≡ false → result ≡ Outcome.Ended }
+{
+    if !pretends || told.outcome() != Outcome::Ended {
+        return Outcome::Ended;
+    }
     match doubt_of(host, &settings.dest, destination) {
-        Some(doubt) if fetched.would_fetch || !doubt.only_to_fetch => {
-            Outcome::Cut(Fault::StoreRefused(doubt.why))
-        }
+        Some(doubt) if told.would_fetch() || !doubt.only_to_fetch => Outcome::Cut(doubt.fault),
         _ => Outcome::Ended,
     }
 }
 
-/// Writes the line of the fault that a run would end with although a preview of it came to its end, if
-/// there is one, and its reason. Returns the exit status.
-fn tell_doubt<R: Files + AllocGlobal, E: Write>(
-    host: &R,
-    settings: &Settings,
-    destination: &str,
-    fetched: &Fetched,
-    errors: &mut Errors<'_, E>,
-) -> u8
-    ensures { result ≤ 1 }
+/// The exit status.
+fn status_when(outcome: Outcome, refusal: Option<Refusal>, foreseen: Outcome) -> u8
+    ensures status { result ≡ status_when outcome refusal foreseen }
+    ensures within { result ≤ 1 }
 {
-    let outcome = outcome_of(host, settings, destination, fetched);
-    if outcome == Outcome::Ended {
-        return 0;
+    match (outcome, refusal, foreseen) {
+        (Outcome::Ended, None, Outcome::Ended) => 0,
+        _ => 1,
     }
-    let _ = write_outcome(host.alloc(), &outcome, &mut errors.err);
-    tell_reason(host.alloc(), settings, destination, &outcome, errors);
-    1
 }
 
-/// Writes why a session was cut and why its report wasn't written, if so, and returns the exit status; a
-/// preview's is 0 only if a run could store too.
-pub fn end<R: Files + AllocGlobal, E: Write>(
+/// Writes what a session says at its end to `out`, and to standard error the line of the fault that cut it
+/// and its reason, whether the text wasn't written, and, after a preview, the fault that would cut a run.
+pub fn tell_all<R: Files + AllocGlobal, O: Write, E: Write>(
     host: &R,
     settings: &Settings,
-    destination: &str,
-    pretends: bool,
-    fetched: &Fetched,
+    manner: Manner<'_>,
+    told: &Told,
+    out: &mut Output<O>,
     errors: &mut Errors<'_, E>,
-) -> u8
-    ensures within { result ≤ 1 }
-    ensures good { result ≡ 0 → status_of fetched.now ≡ 0 }
+) -> Fetched
+    ensures within { result.status ≤ 1 }
+    ensures told { TellsAll O.contents E.contents manner.entry.pretends settings.now told.now out.old errors.old result out.new errors.new }
 {
-    tell_reason(
-        host.alloc(),
-        settings,
-        destination,
-        &fetched.outcome,
-        errors,
-    );
-    if let Err(error) = &fetched.report {
-        tell_unwritten(error, &mut errors.err);
+    let alloc = host.alloc();
+    let outcome = told.outcome();
+    told.write(alloc, settings, out);
+    tell_cut(alloc, settings, manner.destination, &outcome, errors);
+    errors.err.put(unwritten_line(out.refusal()).as_bytes());
+    let ahead = foreseen(host, settings, manner.destination, told, manner.pretends);
+    tell_cut(alloc, settings, manner.destination, &ahead, errors);
+    Fetched {
+        status: status_when(outcome, out.refusal(), ahead),
+        is_idle: told.is_idle(),
     }
-    let status = fetched.status();
-    if status == 0 && pretends {
-        return tell_doubt(host, settings, destination, fetched, errors);
-    }
-    status
 }

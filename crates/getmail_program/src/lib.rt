@@ -1,10 +1,11 @@
 //! What `getmail` does with a command line, over any runtime.
 #![tactic(auto)]
 
+mod devices;
 mod doubt;
 mod ending;
 mod failure;
-mod fetching;
+mod output;
 mod place;
 mod progress;
 mod rc_reason;
@@ -12,14 +13,20 @@ mod rehearsal;
 mod run;
 mod setup;
 mod shown_wire;
+mod told;
 mod transcript;
 mod why;
 mod words;
 
+pub use devices::{HostAccount, account_at, close, seconds_now};
+pub use ending::{Fetched, Manner};
 pub use failure::{Failure, failure_of, tell};
-pub use fetching::Fetched;
+pub use output::{Output, Refusal};
+pub use place::home;
 pub use rehearsal::rehearse;
 pub use run::fetch_over;
-pub use setup::{Setup, set_up};
+pub use setup::{Paths, Setup, set_up};
+pub use shown_wire::ShownWire;
+pub use told::Told;
 pub use why::{Errors, fail};
 pub use words::{Words, explain, read_words};

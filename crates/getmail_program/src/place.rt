@@ -1,7 +1,7 @@
 //! The paths of the rc file, the record and the destination.
-ghost use Rattle.std.specs.Prelude.{◌≡◌, ℕ, List, IfOk, option_map};
+ghost use Rattle.std.specs.Prelude.{◌≡◌, Err, None, Some, IfOk, option_map};
 ghost use Rattle.std.specs.String.{string_bytes};
-ghost use Rattle.getmail_program.specs.Places.{folder_given, joined, rc_path, stands_alone, whole_path};
+ghost use Rattle.getmail_program.specs.Places.{folder_path, joined, rc_path, stands_alone, whole_path};
 
 use crate::failure::Failure;
 use fetch_rules::full_path;
@@ -33,49 +33,57 @@ fn stands_alone(path: &str) -> bool
     path.as_bytes().starts_with(b"/") || path.as_bytes().starts_with(b"~/")
 }
 
-/// The user's home.
-fn home<'a, R: Env + AllocGlobal>(rt: &R) -> Result<String, Failure<'a>> {
+/// The user's home; none if HOME isn't set or isn't UTF-8.
+pub fn home<'a, R: Env + AllocGlobal>(rt: &R) -> Result<Option<String>, Failure<'a>> {
     match env::var(rt, "HOME") {
-        Ok(home) => Ok(home),
+        Ok(home) => Ok(Some(home)),
         Err(VarError::OutOfMemory) => Err(Failure::NoMemory),
-        Err(_) => Err(Failure::NoHome),
+        Err(_) => Ok(None),
     }
 }
 
-/// A path, with the home in place of a leading `~`. HOME is looked up only if it is needed.
-pub fn whole_path<'a, R: Env + AllocGlobal>(rt: &R, path: &str) -> Result<String, Failure<'a>>
-    ensures { IfOk result (λ whole. (home : List ℕ) × (string_bytes whole ≡ whole_path home path.now)) }
+/// A path, with the home in place of a leading `~`.
+pub fn whole_path<'a>(alloc: Global, home: Option<&str>, path: &str) -> Result<String, Failure<'a>>
+    ensures whole { IfOk result (λ whole. whole_path (option_map (λ text. text.now) home.entry) path.now ≡ Some (string_bytes whole)) }
+    ensures homeless { result ≡ Err Failure.NoHome → whole_path (option_map (λ text. text.now) home.entry) path.now ≡ None }
 {
-    if path.as_bytes().starts_with(b"~/") {
-        let home = home(rt)?;
-        return Ok(full_path(rt.alloc(), path, home.as_str())?);
+    if !path.as_bytes().starts_with(b"~/") {
+        return Ok(String::from_str(alloc, path)?);
     }
-    Ok(String::from_str(rt.alloc(), path)?)
+    match home {
+        Some(home) => Ok(full_path(alloc, path, home)?),
+        None => Err(Failure::NoHome),
+    }
 }
 
 /// The folder of the rc file and the record.
-pub fn folder<'a, R: Env + AllocGlobal>(rt: &R, given: Option<&str>) -> Result<String, Failure<'a>>
-    ensures { IfOk result (λ folder. (home : List ℕ)
-        × (string_bytes folder ≡ whole_path home (folder_given (option_map (λ text. text.now) given.entry)))) }
+pub fn folder<'a>(
+    alloc: Global,
+    home: Option<&str>,
+    given: Option<&str>,
+) -> Result<String, Failure<'a>>
+    ensures { IfOk result (λ folder. folder_path (option_map (λ text. text.now) home.entry) (option_map (λ text. text.now) given.entry)
+        ≡ Some (string_bytes folder)) }
 {
     match given {
-        Some(path) => whole_path(rt, path),
-        None => whole_path(rt, FOLDER),
+        Some(path) => whole_path(alloc, home, path),
+        None => whole_path(alloc, home, FOLDER),
     }
 }
 
 /// The rc file's path: in the folder, unless it begins with `/` or `~/`.
-pub fn rc_file<'a, R: Env + AllocGlobal>(
-    rt: &R,
+pub fn rc_file<'a>(
+    alloc: Global,
+    home: Option<&str>,
     folder: &str,
     given: Option<&str>,
 ) -> Result<String, Failure<'a>>
-    ensures { IfOk result (λ path. (home : List ℕ)
-        × (string_bytes path ≡ rc_path home folder.now (option_map (λ text. text.now) given.entry))) }
+    ensures { IfOk result (λ path. rc_path (option_map (λ text. text.now) home.entry) folder.now (option_map (λ text. text.now) given.entry)
+        ≡ Some (string_bytes path)) }
 {
     match given {
-        None => Ok(joined(rt.alloc(), folder, RC_FILE)?),
-        Some(path) if stands_alone(path) => whole_path(rt, path),
-        Some(path) => Ok(joined(rt.alloc(), folder, path)?),
+        None => Ok(joined(alloc, folder, RC_FILE)?),
+        Some(path) if stands_alone(path) => whole_path(alloc, home, path),
+        Some(path) => Ok(joined(alloc, folder, path)?),
     }
 }

@@ -4,9 +4,10 @@ ghost use Rattle.std.specs.Prelude.{◌≡◌, ◌≤◌, ◌<◌, true, IfOk};
 ghost use Rattle.rc_file.specs.Flags.{is_contradiction};
 ghost use Rattle.rc_file.specs.Settings.{IsValid};
 
+use crate::ending::unwritten_line;
 use crate::failure::OUT_OF_MEMORY;
+use crate::output::refusal_of;
 use crate::transcript::Transcript;
-use crate::why::tell_unwritten;
 use fetch_rules::{Dest, Flags, RcFault, Settings, override_with};
 use fetch_session::{Account, Outcome, Store, fault_number, session};
 use mail_store::{AccountId, Folder, MemoryFile, MemoryMaildir, account_id, uid_of};
@@ -123,7 +124,7 @@ fn rehearse_with<R: Read + Drop, W: Write + Drop, E: Write, T: Write + Drop>(
         return 1;
     };
     if let Err(error) = write_outcome(alloc, &mut output, &maildir, &report.outcome) {
-        tell_unwritten(&error, err);
+        let _ = err.write_all(unwritten_line(Some(refusal_of(&error))).as_bytes());
         return 1;
     }
     if report.outcome == Outcome::Ended {

@@ -1,9 +1,9 @@
 //! The settings of a run: those of the rc file, changed by the flags, and its paths.
-ghost use Rattle.std.specs.Prelude.{◌≡◌, ◌++◌, ℕ, List, IfOk, codes};
+ghost use Rattle.std.specs.Prelude.{◌≡◌, Some, IfOk, option_map};
 ghost use Rattle.std.specs.String.{string_bytes};
 ghost use Rattle.rc_file.specs.Settings.{IsValid};
 ghost use Rattle.fetch_session.specs.Account.{digits_of};
-ghost use Rattle.getmail_program.specs.Places.{AreAsked, IsPlaced, joined, path_in, whole_path};
+ghost use Rattle.getmail_program.specs.Places.{AreAsked, AreFor, IsSetUp, path_in, record_path, whole_path};
 
 use crate::failure::{Failure, failure_of};
 use crate::place::{folder, joined, rc_file, whole_path};
@@ -12,7 +12,6 @@ use crate::words::Words;
 use fetch_rules::{Dest, Flags, Settings, Warning, override_with, read_rc, warning_text};
 use mail_store::{AccountId, account_id};
 use std::alloc::{AllocError, Global};
-use std::env::Env;
 use std::fs;
 use std::io::{self, Read, Write};
 use std::os::unix::fs::PermissionsExt;
@@ -22,15 +21,22 @@ use trace::{Reasons, TracedHost};
 /// One octet more than an rc file may have, so that a longer one is noticed.
 const RC_ROOM: u64 = 65_537;
 
+/// The paths of a run.
+#[derive(Drop)]
+pub struct Paths {
+    /// The destination's path.
+    pub destination: String,
+    /// The record's path.
+    pub record: String,
+}
+
 /// The settings and the paths of a run.
 #[derive(Drop)]
 pub struct Setup {
     /// The settings, changed by the flags.
     pub settings: Settings,
-    /// The destination's path.
-    pub destination: String,
-    /// The record's path.
-    pub record: String,
+    /// The paths.
+    pub paths: Paths,
     /// Whether the run only shows what it would do.
     pub pretends: bool,
 }
@@ -128,7 +134,7 @@ pub fn account_of(settings: &Settings) -> AccountId
 
 /// The path of the account's record in the folder.
 fn record_path(alloc: Global, folder: &str, settings: &Settings) -> Result<String, AllocError>
-    ensures { IfOk result (λ path. string_bytes path ≡ joined folder.now (codes "seen-" ++ digits_of settings.now)) }
+    ensures { IfOk result (λ path. string_bytes path ≡ record_path folder.now settings.now) }
 {
     let account = account_of(settings);
     let digest = account.as_str();
@@ -137,38 +143,56 @@ fn record_path(alloc: Global, folder: &str, settings: &Settings) -> Result<Strin
 }
 
 /// The path of a destination, a Maildir or an mboxrd file.
-fn destination_path<'a, R: Env + AllocGlobal>(rt: &R, dest: &Dest) -> Result<String, Failure<'a>>
-    ensures { IfOk result (λ path. (home : List ℕ) × (string_bytes path ≡ whole_path home (path_in dest.now))) }
+fn destination_path<'a>(
+    alloc: Global,
+    home: Option<&str>,
+    dest: &Dest,
+) -> Result<String, Failure<'a>>
+    ensures { IfOk result (λ path. whole_path (option_map (λ text. text.now) home.entry) (path_in dest.now) ≡ Some (string_bytes path)) }
 {
     match dest {
-        Dest::Maildir(path) => whole_path(rt, path.as_str()),
-        Dest::Mboxrd(path) => whole_path(rt, path.as_str()),
+        Dest::Maildir(path) => whole_path(alloc, home, path.as_str()),
+        Dest::Mboxrd(path) => whole_path(alloc, home, path.as_str()),
     }
 }
 
-/// The settings and the paths of a run, or the first of these failures: HOME is needed and not set,
+/// The paths of a run with these settings.
+fn places<'a>(
+    alloc: Global,
+    home: Option<&str>,
+    words: &Words,
+    settings: &Settings,
+) -> Result<Paths, Failure<'a>>
+    ensures { IfOk result (AreFor (option_map (λ text. text.now) home.entry) words.now settings.now) }
+{
+    let destination = destination_path(alloc, home, &settings.dest)?;
+    let folder = folder(alloc, home, words.dir.as_deref())?;
+    let record = record_path(alloc, folder.as_str(), settings)?;
+    Ok(Paths {
+        destination,
+        record,
+    })
+}
+
+/// The settings and the paths of a run, or the first of these failures: HOME is needed and not known,
 /// the rc file can't be read or is wrong, the flags are opposite. The reason is kept if reasons are to be
 /// written.
-pub fn set_up<'a, R: Files + Env + Eprint + AllocGlobal, E: Write + Copy>(
+pub fn set_up<'a, R: Files + Eprint + AllocGlobal, E: Write + Copy>(
     host: &TracedHost<R, E>,
+    home: Option<&str>,
     words: &Words,
     reasons: Option<&Reasons>,
 ) -> Result<Setup, Failure<'a>>
-    ensures valid { IfOk result (λ setup. IsValid setup.settings) }
-    ensures asked { IfOk result (λ setup. AreAsked words.now.flags setup.settings) }
-    ensures placed { IfOk result (IsPlaced words.now) }
-    ensures pretends { IfOk result (λ setup. setup.pretends ≡ words.now.pretend) }
+    ensures { IfOk result (IsSetUp (option_map (λ text. text.now) home.entry) words.now) }
 {
-    let rt = host.inner();
-    let folder = folder(rt, words.dir.as_deref())?;
-    let path = rc_file(rt, folder.as_str(), words.rcfile.as_deref())?;
+    let alloc = host.inner().alloc();
+    let folder = folder(alloc, home, words.dir.as_deref())?;
+    let path = rc_file(alloc, home, folder.as_str(), words.rcfile.as_deref())?;
     let settings = settings_of(host, path.as_str(), words, reasons)?;
-    let destination = destination_path(rt, &settings.dest)?;
-    let record = record_path(rt.alloc(), folder.as_str(), &settings)?;
+    let paths = places(alloc, home, words, &settings)?;
     Ok(Setup {
         settings,
-        destination,
-        record,
+        paths,
         pretends: words.pretend,
     })
 }

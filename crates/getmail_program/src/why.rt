@@ -1,25 +1,36 @@
 //! The line after a fault's: the account, and the reason, if it is known.
-ghost use Rattle.std.specs.Prelude.{◌≡◌, ◌≤◌, OnOk};
-ghost use Rattle.std.specs.Io.KnownBytes.{Appends};
+ghost use Rattle.std.specs.Prelude.{◌≡◌, ◌≤◌, IfOk};
 ghost use Rattle.getmail_program.specs.Failures.{status_of};
-ghost use Rattle.getmail_program.specs.Telling.{reason_line};
+ghost use Rattle.getmail_program.specs.Telling.{IsReason, reason_line};
 
-use crate::failure::{Failure, OUT_OF_MEMORY, tell};
+use crate::failure::{Failure, tell};
+use crate::output::Output;
 use fetch_rules::Settings;
 use fetch_session::{Fault, Outcome, Why};
-use std::alloc::Global;
-use std::io::{self, ErrorKind, Write};
+use std::alloc::{AllocError, Global};
+use std::io::Write;
 use std::str;
 use trace::Reasons;
 
 /// Standard error of a run, and what is written there besides warnings and the lines of faults.
 #[derive(Clone, Copy, Drop)]
 pub struct Errors<'a, E> {
-    pub err: E,
+    pub err: Output<E>,
     /// Whether the line of progress may be shown.
     pub shows_progress: bool,
     /// What is kept of refusals, if reasons are to be written.
     pub reasons: Option<&'a Reasons>,
+}
+
+impl<'a, E: Write + Copy> Errors<'a, E> {
+    /// Where the line of progress is shown, if it is and a report is wanted.
+    pub fn screen(&self, settings: &Settings) -> Option<E> {
+        if settings.verbose > 0 && self.shows_progress {
+            Some(self.err.writer())
+        } else {
+            None
+        }
+    }
 }
 
 /// What the peer said.
@@ -56,14 +67,9 @@ fn reason_of(
     }
 }
 
-/// Writes the line of a reason: `getmail: `, the account, and the reason.
-fn write_reason<E: Write>(
-    alloc: Global,
-    settings: &Settings,
-    reason: &[u8],
-    err: &mut E,
-) -> io::Result<()>
-    ensures { OnOk result (Appends (E.contents err.old) (E.contents err.new) (reason_line settings.now reason.now)) }
+/// The line of a reason: `getmail: `, the account, and the reason.
+fn line_of(alloc: Global, settings: &Settings, reason: &[u8]) -> Result<Vec<u8>, AllocError>
+    ensures { IfOk result (λ line. line.items ≡ reason_line settings.now reason.now) }
 {
     let Settings {
         server,
@@ -75,33 +81,29 @@ fn write_reason<E: Write>(
     let mut line = Vec::from_slice(alloc, account.as_bytes())?;
     line.extend_from_slice(reason)?;
     line.extend_from_slice(b"\n")?;
-    err.write_all(line.as_slice())
+    Ok(line)
 }
 
-/// Writes the reason of the fault that cut a session, if one did, it is known and it is to be written. Of
-/// refused calls on files only one on the destination is the reason of the store's fault.
-pub fn tell_reason<E: Write>(
+/// The line of the reason of the fault that cut a session, if one did, it is known and it is to be written;
+/// else it is empty. Of refused calls on files only one on the destination is the reason of the store's
+/// fault.
+pub fn reason_line(
     alloc: Global,
     settings: &Settings,
     destination: &str,
     outcome: &Outcome,
-    errors: &mut Errors<'_, E>,
-) {
-    if let (Some(reasons), Outcome::Cut(fault)) = (errors.reasons, outcome) {
+    reasons: Option<&Reasons>,
+) -> Vec<u8>
+    ensures { IsReason settings.now reasons.entry outcome.now result.items }
+{
+    if let (Some(reasons), Outcome::Cut(fault)) = (reasons, outcome) {
         if let Some(reason) = reason_of(alloc, reasons, destination, fault) {
-            let _ = write_reason(alloc, settings, reason.as_slice(), &mut errors.err);
+            if let Ok(line) = line_of(alloc, settings, reason.as_slice()) {
+                return line;
+            }
         }
     }
-}
-
-/// Writes why a report, or the last lines of a rehearsal, weren't written.
-pub fn tell_unwritten<E: Write>(error: &io::Error, err: &mut E) {
-    let line = if error.kind() == ErrorKind::OutOfMemory {
-        OUT_OF_MEMORY
-    } else {
-        "getmail: cannot write standard output\n"
-    };
-    let _ = err.write_all(line.as_bytes());
+    Vec::new(alloc)
 }
 
 /// Writes the reason why there is no session, if it is known: the rule that an rc file breaks, or what was

@@ -1,0 +1,23 @@
+-- What one write after another has written.
+use Rattle.std.proofs.Common.{ℕ, List, Option, ◌++◌}
+use Rattle.std.proofs.KnownBytes.{Appends-trans}
+use Rattle.rc_file.specs.declared.settings.Settings.{Settings}
+use Rattle.fetch_session.specs.declared.report.Outcome.{Outcome}
+use Rattle.getmail_program.specs.declared.output.Output.{Output}
+use Rattle.getmail_program.specs.declared.why.Errors.{Errors}
+use Rattle.getmail_program.specs.Output.{Puts}
+use Rattle.getmail_program.specs.Telling.{TellsCut, outcome_line}
+
+pub puts_both : {W : Type 0} (contents : W → Option (List ℕ)) (old mid new : Output W) (first second : List ℕ)
+    → Puts contents old first mid → Puts contents mid second new → Puts contents old (first ++ second) new
+puts_both contents old mid new first second put more whole =
+    let rest = more whole in let begun = put rest.0 in
+    (begun.0, Appends-trans (contents old.writer) (contents mid.writer) (contents new.writer) first second begun.1 rest.1)
+
+-- a cut, what was written next, and another cut
+pub said : {E : Type 0} (contents : E → Option (List ℕ)) (settings : Settings) (outcome ahead : Outcome) (next : List ℕ)
+    (old first second last : Errors E) (cut : TellsCut contents settings outcome old first) → Puts contents first.err next second.err
+    → (later : TellsCut contents settings ahead second last)
+    → Puts contents old.err (((outcome_line outcome ++ cut.reason) ++ next) ++ (outcome_line ahead ++ later.reason)) last.err
+said contents settings outcome ahead next old first second last cut put later =
+    puts_both contents old.err second.err last.err _ _ (puts_both contents old.err first.err second.err _ _ cut.puts put) later.puts

@@ -1,0 +1,26 @@
+use Rattle.std.proofs.Common.{◌∙◌, ℕ, List, ap, ap₂, subst}
+use Rattle.getmail_program.specs.Output.{Puts}
+use Rattle.getmail_program.specs.Telling.{IsReason, TellsCut, status_when, unwritten_line}
+use Rattle.getmail_program.proofs.OutputLemmas.{said}
+use Rattle.getmail_program.proofs.ending.tell_all.Goals as goal
+
+pub returns-clause-told : goal.returns-clause-told
+returns-clause-told g c =
+    let cut = subst (λ outcome. TellsCut g.E.Write.contents c.args.settings.now outcome c.args.errors.now c.tell_cut.new.errors)
+    c.outcome-outcome.ensures c.tell_cut.ensures in
+    let unwritten = subst (λ (octets : List ℕ). Puts g.E.Write.contents c.tell_cut.new.errors.err octets c.put.new.self)
+    (c.as_bytes.ensures.value ∙ c.unwritten_line.ensures ∙ ap unwritten_line c.refusal.ensures) c.put.ensures in
+    record {
+      idle = c.is_idle.ensures;
+      reported = c.write.ensures;
+      foreseen = c.foreseen-ahead.result;
+      run = c.foreseen-ahead.ensures;
+      status = c.status_when.ensures.status
+          ∙ ap₂ (λ outcome refusal. status_when outcome refusal c.foreseen-ahead.result) c.outcome-outcome.ensures c.refusal-2.ensures;
+      reason = cut.reason;
+      is_reason = cut.is_reason;
+      further = c.tell_cut-2.ensures.reason;
+      is_further = subst (λ reasons. IsReason c.args.settings.now reasons c.foreseen-ahead.result c.tell_cut-2.ensures.reason)
+          c.tell_cut.ensures.same c.tell_cut-2.ensures.is_reason;
+      said = said _ _ _ _ _ _ _ _ _ cut unwritten c.tell_cut-2.ensures;
+    }

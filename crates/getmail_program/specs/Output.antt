@@ -1,0 +1,8 @@
+-- What a writer that remembers refusals has written.
+use Rattle.std.specs.Prelude.{◌≡◌, ℕ, List, Option, None}
+use Rattle.std.specs.Io.KnownBytes.{Appends}
+use Rattle.getmail_program.specs.declared.output.Output.{Output}
+
+-- unless something was refused by now, these octets were written, and nothing else
+abbrev pub Puts : {W : Type 0} → (W → Option (List ℕ)) → Output W → List ℕ → Output W → Type 0
+Puts contents old octets new = new.refusal ≡ None → (old.refusal ≡ None) × Appends (contents old.writer) (contents new.writer) octets

@@ -1,0 +1,86 @@
+//! A writer that remembers whether it refused something.
+ghost use Rattle.std.specs.Prelude.{◌≡◌, None, Some, OnOk};
+ghost use Rattle.std.specs.Io.KnownBytes.{Appends};
+ghost use Rattle.std.specs.IoError.{error_kind};
+ghost use Rattle.getmail_program.specs.Output.{Puts};
+
+use std::io::{self, ErrorKind, Write};
+
+/// Why something wasn't written.
+#[derive(Clone, Copy)]
+pub enum Refusal {
+    /// There was no memory for it.
+    NoMemory,
+    /// The system refused it.
+    Refused,
+}
+
+/// A writer that remembers that something wasn't written, and why.
+#[derive(Clone, Copy, Drop)]
+pub struct Output<W> {
+    writer: W,
+    refusal: Option<Refusal>,
+}
+
+/// Why an error of the system kept something from being written.
+pub fn refusal_of(error: &io::Error) -> Refusal
+    ensures { error_kind error.now ≡ ErrorKind.OutOfMemory → result ≡ Refusal.NoMemory }
+{
+    if error.kind() == ErrorKind::OutOfMemory {
+        Refusal::NoMemory
+    } else {
+        Refusal::Refused
+    }
+}
+
+/// Writes these octets, and flushes the writer.
+fn write_whole<W: Write>(writer: &mut W, octets: &[u8]) -> io::Result<()>
+    ensures { OnOk result (Appends (W.contents writer.old) (W.contents writer.new) octets.now) }
+{
+    writer.write_all(octets)?;
+    writer.flush()
+}
+
+impl<W: Write> Output<W> {
+    /// A writer that refused nothing yet.
+    pub fn new(writer: W) -> Output<W>
+        ensures { result ≡ record { writer = writer; refusal = None } }
+    {
+        Output {
+            writer,
+            refusal: None,
+        }
+    }
+
+    /// A copy of the writer.
+    pub fn writer(&self) -> W
+    where
+        W: Copy,
+        ensures { result ≡ self.now.writer }
+    {
+        self.writer
+    }
+
+    /// Why something wasn't written, if so.
+    pub fn refusal(&self) -> Option<Refusal>
+        ensures { result ≡ self.now.refusal }
+    {
+        self.refusal
+    }
+
+    /// Writes these octets.
+    pub fn put(&mut self, octets: &[u8])
+        ensures { Puts W.contents self.old octets.now self.new }
+    {
+        if let Err(error) = write_whole(&mut self.writer, octets) {
+            self.refusal = Some(refusal_of(&error));
+        }
+    }
+
+    /// Remembers that there was no memory for something.
+    pub fn lack_memory(&mut self)
+        ensures { self.new.refusal ≡ Some Refusal.NoMemory }
+    {
+        self.refusal = Some(Refusal::NoMemory);
+    }
+}
