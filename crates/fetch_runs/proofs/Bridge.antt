@@ -13,7 +13,7 @@ use Rattle.pop3_wire.specs.declared.command.Command.{Command}
 use Rattle.pop3_wire.specs.declared.command.Command.TheVariants.{User, Pass, Stat, UidlAll, ListAll, Dele, Retr}
 use Rattle.pop3_wire.specs.Link.{Link}
 use Rattle.pop3_wire.specs.Place.{at}
-use Rattle.pop3_client.specs.Conversation.{ConversationsArePaced}
+use Rattle.pop3_client.specs.Conversation.{ConversationsArePaced, TurnsJoin}
 use Rattle.fetch_rules.specs.Record.{Row, Held, Intent}
 use Rattle.mail_store.specs.Maildir.{Maildir}
 use Rattle.rc_file.specs.declared.settings.Settings.{Settings}
@@ -26,10 +26,9 @@ use Rattle.fetch_session.specs.declared.fault.Cut.{Cut}
 use Rattle.fetch_session.specs.declared.report.Outcome.{Outcome}
 use Rattle.fetch_session.specs.declared.report.Outcome.TheVariants.{Ended, Cut as WasCut}
 use Rattle.fetch_session.specs.declared.report.Report.{Report}
-use Rattle.pop3_client.specs.declared.fault.Fault.TheVariants.{StoreRefused, SeenRefused, NoMemory}
-use Rattle.pop3_client.specs.declared.fault.Why.TheVariants as why
+use Rattle.fetch_session.specs.declared.fault.Fault.TheVariants.{StoreRefused, SeenRefused, NoMemory}
+use Rattle.fetch_session.specs.declared.fault.Why.TheVariants as why
 use Rattle.fetch_session.specs.declared.report.ReportLine.{ReportLine}
-use Rattle.fetch_session.specs.Laws.{TurnsJoin}
 use Rattle.fetch_session.specs.Report.{retrieved_in}
 use Rattle.fetch_session.specs.Task.{Task, deletes}
 use Rattle.fetch_session.specs.Record.{KeepsRows, Keeps}

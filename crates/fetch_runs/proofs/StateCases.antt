@@ -10,8 +10,8 @@ use Rattle.pop3_wire.specs.Reading.{WholeReply}
 use Rattle.pop3_client.specs.Turns.{IsGood, retr}
 use Rattle.pop3_client.specs.Texts.{body_text}
 use Rattle.fetch_session.specs.declared.fault.Cut.{Cut}
-use Rattle.pop3_client.specs.declared.fault.Fault.{Fault}
-use Rattle.pop3_client.specs.declared.fault.Fault.TheVariants.{SeenRefused, NoMemory}
+use Rattle.fetch_session.specs.declared.fault.Fault.{Fault}
+use Rattle.fetch_session.specs.declared.fault.Fault.TheVariants.{SeenRefused, NoMemory}
 use Rattle.fetch_session.specs.declared.report.ReportLine.{ReportLine}
 use Rattle.fetch_session.specs.Task.{Task, Done, IsAnswered, stores, task_in, tasks_of, ids_in, ids_of, ids_ahead, lines_in, lines_of, delivered}
 use Rattle.fetch_session.specs.Record.{Keeps, Steady, Saves}

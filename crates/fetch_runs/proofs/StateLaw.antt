@@ -14,9 +14,9 @@ use Rattle.pop3_wire.specs.Place.{Place}
 use Rattle.pop3_wire.specs.Reading.{WholeReply}
 use Rattle.pop3_client.specs.Turns.{IsGood, retr}
 use Rattle.fetch_session.specs.declared.fault.Cut.{Cut}
-use Rattle.pop3_client.specs.declared.fault.Fault.{Fault}
-use Rattle.pop3_client.specs.declared.fault.Fault.TheVariants.{StoreRefused}
-use Rattle.pop3_client.specs.declared.fault.Why.TheVariants as why
+use Rattle.fetch_session.specs.declared.fault.Fault.{Fault}
+use Rattle.fetch_session.specs.declared.fault.Fault.TheVariants.{StoreRefused}
+use Rattle.fetch_session.specs.declared.fault.Why.TheVariants as why
 use Rattle.fetch_session.specs.declared.report.ReportLine.{ReportLine}
 use Rattle.fetch_session.specs.Record.{Keeps, KeepsRows}
 use Rattle.fetch_session.specs.Readiness.{IsMergedAtMost, UnreadyCause}

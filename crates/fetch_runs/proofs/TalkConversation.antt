@@ -10,7 +10,7 @@ use Rattle.pop3_wire.specs.Place.{Place, at}
 use Rattle.pop3_wire.specs.Reading.{WholeReply}
 use Rattle.pop3_client.specs.Turns.{Turn, retr, quit, IsGood}
 use Rattle.pop3_client.specs.Texts.{Fetched}
-use Rattle.pop3_client.specs.Conversation.{ConversationsArePaced, Talks}
+use Rattle.pop3_client.specs.Conversation.{ConversationsArePaced, Talks, TurnsJoin}
 use Rattle.mail_terms.specs.Listing.{Item, Joins}
 use Rattle.fetch_rules.specs.Record.{Row}
 use Rattle.rc_file.specs.declared.settings.Settings.{Settings}
@@ -18,12 +18,14 @@ use Rattle.mail_store.specs.FileName.{stem_of, is_held}
 use Rattle.mail_store.specs.FlatFile.{Stored}
 use Rattle.mail_store.specs.Maildir.{Maildir}
 use Rattle.fetch_session.specs.declared.fault.Cut.{Cut}
-use Rattle.pop3_client.specs.declared.fault.Fault.{Fault}
-use Rattle.pop3_client.specs.declared.fault.Fault.TheVariants.{StoreRefused, NoMemory}
-use Rattle.pop3_client.specs.declared.fault.Why.TheVariants.{Refused}
+use Rattle.pop3_client.specs.declared.fault.ClientFault.{ClientFault}
+use Rattle.fetch_session.specs.declared.fault.Fault.{Fault}
+use Rattle.fetch_session.specs.declared.fault.Fault.TheVariants.{StoreRefused, NoMemory}
+use Rattle.fetch_session.specs.declared.fault.Why.TheVariants.{Refused}
 use Rattle.fetch_session.specs.declared.report.Outcome.TheVariants.{Cut as WasCut, Ended}
 use Rattle.fetch_session.specs.declared.report.ReportLine.{ReportLine}
 use Rattle.fetch_session.specs.Task.{Task, stores, Done, task_in, tasks_of, lines_in, lines_of, delivered, says, skips, rereads, deletes, fetching, deleting, tasks_planned, turns_in, turns_of, IsAnswered}
+use Rattle.fetch_session.specs.Fault.{fault_of}
 use Rattle.fetch_session.specs.Tail.{tail, Left, turns_in as tail_turns}
 use Rattle.fetch_session.specs.Plan.{tasks_ahead, Prepared, Unprepared, Carried, Carries}
 use Rattle.fetch_session.specs.Scene.{Scene, scene, Fell, Stops, Does}
@@ -33,7 +35,6 @@ use Rattle.fetch_session.specs.Store.{RefusesText}
 use Rattle.fetch_runs.specs.Conversations.{AreFound, tail_behind, is_retrieval, retrieved_by, Conversation, plan_turns, FollowsPlan, MboxSessionsFollowPlans, Converses, CountsTexts, Opens, SpeaksByPlan, SessionsAreConversations}
 use Rattle.fetch_runs.proofs.Courses.{Course, course, stored_done, spare_in, spare_of, course_stopped, course_does, course_carried, course_carries, begun_of, Way, Idle, Deals, course_dealt, way_proceeded, way_of, IsOfTask}
 use Rattle.fetch_runs.proofs.TalkCommands.{all_front, IsPlain, plain_ahead, one_reply, commands_in, CanBeSaid, Commanded, said_tasks, both_none}
-use Rattle.fetch_session.specs.Laws.{TurnsJoin}
 use Rattle.fetch_runs.proofs.TalkCourses.{Took, took_stopped, took_nothing, all_done, goes_nothing}
 use Rattle.fetch_runs.proofs.TalkSpeech.{IsTail, is_tail, silent, front_of_plan, OpensAlone, opens_all, opens_cut, commanded_opening, replied, few_items, Speaks, spoken, commanded_after, idle_said, Replied, listed}
 use Rattle.std.proofs.lemmas.List.Sums.{sum_by-append}
@@ -362,12 +363,12 @@ module _ (joining : TurnsJoin) (paced : ConversationsArePaced) (law : FrontsAreA
       → OpensAlone name word (tail_turns (tail cut.fault)) link link'
   opens cut is leaves = subst (λ (l : Link). OpensAlone name word (tail_turns (tail cut.fault)) link l) (sym leaves.2) (by is)
     where
-      said : (fault : Fault) → cut.fault ≡ fault → ((result : Result (Unit {0}) Fault) → Talks (tail_turns (tail fault)) new result leaves.0 → OpensAlone name word (tail_turns (tail fault)) link leaves.0.link)
-          → (result : Result (Unit {0}) Fault) × Talks (tail_turns (tail fault)) new result leaves.0 → OpensAlone name word (tail_turns (tail cut.fault)) link leaves.0.link
+      said : (fault : Fault) → cut.fault ≡ fault → ((result : Result (Unit {0}) ClientFault) → Talks (tail_turns (tail fault)) new result leaves.0 → OpensAlone name word (tail_turns (tail fault)) link leaves.0.link)
+          → (result : Result (Unit {0}) ClientFault) × Talks (tail_turns (tail fault)) new result leaves.0 → OpensAlone name word (tail_turns (tail cut.fault)) link leaves.0.link
       said fault same f talks = subst (λ (f : Fault). OpensAlone name word (tail_turns (tail f)) link leaves.0.link) (sym same) (f talks.0 talks.1)
 
       by : NotEntered settings (at link []) before cut new after notes ⊎ NoRoom settings (at link []) before cut new after notes → OpensAlone name word (tail_turns (tail cut.fault)) link leaves.0.link
-      by (inl is) = said is.why (ap (λ (c : Cut). c.fault) is.is) (opens_cut paced name word (at link []) new leaves.0 refl is.why is.enters) (subst (λ (c : Cut). Left c new leaves.0) is.is leaves.1)
+      by (inl is) = said (fault_of is.why) (ap (λ (c : Cut). c.fault) is.is) (opens_cut paced name word (at link []) new leaves.0 refl is.why is.enters) (subst (λ (c : Cut). Left c new leaves.0) is.is leaves.1)
       by (inr is) =
           said NoMemory (ap (λ (c : Cut). c.fault) is.is) (opens_all paced name word (at link []) new leaves.0 refl is.enters.0 is.enters.1 is.enters.2 (tail_turns (tail NoMemory)) is.enters.3)
           (subst (λ (c : Cut). Left c new leaves.0) is.is leaves.1)

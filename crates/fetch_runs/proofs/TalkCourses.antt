@@ -5,9 +5,11 @@ use Rattle.std.proofs.lemmas.List.{append-nil, append_cancel_left, map-append}
 use Rattle.pop3_wire.specs.Link.{Link}
 use Rattle.pop3_wire.specs.Place.{Place}
 use Rattle.pop3_wire.specs.Reading.{WholeReply, reply_bytes}
-use Rattle.pop3_client.specs.declared.fault.Fault.{Fault}
+use Rattle.pop3_client.specs.declared.fault.ClientFault.{ClientFault}
+use Rattle.fetch_session.specs.declared.fault.Fault.{Fault}
 use Rattle.pop3_client.specs.Turns.{Turn, turn_bytes, asking, retr}
-use Rattle.pop3_client.specs.Conversation.{Talked, Talks, Broke, IsFrontOfNext, ConversationsArePaced}
+use Rattle.pop3_client.specs.Conversation.{Talked, Talks, Broke, IsFrontOfNext, ConversationsArePaced, TurnsJoin}
+use Rattle.fetch_session.specs.Fault.{fault_of}
 use Rattle.fetch_session.specs.Tail.{tail, turns_in as tail_turns, LeftBy, Left}
 use Rattle.fetch_runs.specs.Conversations.{SentBehind, Conversation}
 use Rattle.std.proofs.lemmas.List.Concat.{flat_map-append}
@@ -23,7 +25,6 @@ use Rattle.fetch_session.specs.Task.{Task, stores, Done, task_in, turns_in, task
 use Rattle.fetch_session.specs.Store.{RefusesText}
 use Rattle.fetch_session.specs.Scene.{Scene, Broken, NoFile, NoRoom, Went, Stops}
 use Rattle.fetch_session.specs.Target.{Target, AsFiles, AsEntries}
-use Rattle.fetch_session.specs.Laws.{TurnsJoin}
 use Rattle.fetch_runs.proofs.Courses.{Course, course, course_stopped, stored_done, spare_in, found_in, found_by, found_of, begun_of}
 use Rattle.fetch_runs.proofs.TalkCommands.{commands_in, all_append, all_front, all_back, IsPlain, commands_on, text_read, dones_read, nothing_found, turns_on}
 
@@ -43,7 +44,7 @@ pub record Fronted (turns : List Turn) (old new : Link) : Type 0 where
   pub sent : new.sent ≡ old.sent ++ part
   pub got : new.got ≡ old.got ++ gained
 
-pub fronted : ConversationsArePaced → (turns : List Turn) (old new : Place) (result : Result (Unit {0}) Fault) → Talks turns old result new → Fronted turns old.link new.link
+pub fronted : ConversationsArePaced → (turns : List Turn) (old new : Place) (result : Result (Unit {0}) ClientFault) → Talks turns old result new → Fronted turns old.link new.link
 fronted paced turns old new result talks =
     let p = paced turns old new result talks in
     record { part = asking p.done ++ p.part; later = p.front.0; gained = p.gained; split = p.front.1; sent = p.sent; got = p.got }
@@ -87,17 +88,17 @@ goes_part turn tail old mid new front rest split sent got f = record {
 }
 
 -- a turn that broke, and the tail for its fault
-pub goes_broke : (turn : Turn) (old mid new : Place) (why : Fault) → Broke turn old mid why → Fronted (tail_turns (tail why)) mid.link new.link
-    → Goes (turn ∷ []) (tail_turns (tail why)) old.link new.link
+pub goes_broke : (turn : Turn) (old mid new : Place) (why : ClientFault) → Broke turn old mid why → Fronted (tail_turns (tail (fault_of why))) mid.link new.link
+    → Goes (turn ∷ []) (tail_turns (tail (fault_of why))) old.link new.link
 goes_broke turn old mid new why (inl (is, said)) f =
-    goes_part turn (tail_turns (tail why)) old.link mid.link new.link said.front said.rest said.split said.sent said.got
-    (subst (λ (w : Fault). Fronted (tail_turns (tail w)) mid.link new.link) is f)
+    goes_part turn (tail_turns (tail (fault_of why))) old.link mid.link new.link said.front said.rest said.split said.sent said.got
+    (subst (λ (w : ClientFault). Fronted (tail_turns (tail (fault_of w))) mid.link new.link) is f)
 goes_broke turn old mid new why (inr (inl bad)) f =
-    goes_whole turn (tail_turns (tail why)) old.link mid.link new.link bad.gained bad.sent bad.got f
+    goes_whole turn (tail_turns (tail (fault_of why))) old.link mid.link new.link bad.gained bad.sent bad.got f
 goes_broke turn old mid new why (inr (inr (is, may, same))) f =
-    goes_part turn (tail_turns (tail why)) old.link mid.link new.link [] (turn_bytes turn) refl
+    goes_part turn (tail_turns (tail (fault_of why))) old.link mid.link new.link [] (turn_bytes turn) refl
     (ap (λ (p : Place). p.link.sent) same ∙ sym (append-nil old.link.sent)) (ap (λ (p : Place). p.link.got) same)
-    (subst (λ (w : Fault). Fronted (tail_turns (tail w)) mid.link new.link) is f)
+    (subst (λ (w : ClientFault). Fronted (tail_turns (tail (fault_of w))) mid.link new.link) is f)
 
 under_way : (turn : Turn) (tail done rest : List Turn) (part : List ℕ) → turn ∷ tail ≡ done ++ rest → IsFrontOfNext part rest
     → (later : List ℕ) → asking (turn ∷ tail) ≡ (asking done ++ part) ++ later → SentBehind (turn ∷ []) tail (asking done ++ part)
@@ -117,7 +118,7 @@ under_way turn tail (d ∷ done) rest part split begun later front =
     whole = append_assoc (turn_bytes d) (asking done) part ∙ ap (λ (t : Turn). turn_bytes t ++ (asking done ++ part)) (sym (cons_parts turn d tail (done ++ rest) split).0)
 
 -- a turn whose reply is read to its end, and the tail
-pub goes_under : ConversationsArePaced → (turn : Turn) (tail : List Turn) (old new : Place) (result : Result (Unit {0}) Fault) → Talks (turn ∷ tail) old result new
+pub goes_under : ConversationsArePaced → (turn : Turn) (tail : List Turn) (old new : Place) (result : Result (Unit {0}) ClientFault) → Talks (turn ∷ tail) old result new
     → Goes (turn ∷ []) tail old.link new.link
 goes_under paced turn tail old new result talks =
     let p = paced (turn ∷ tail) old new result talks in
@@ -184,7 +185,7 @@ module _ (joining : TurnsJoin) (paced : ConversationsArePaced) (items : List Ite
   -- the tail after a cut with no reply under way
   tailed : (cut : Cut) (there last : Place) → cut.rest ≡ None → Left cut there last → Fronted (tail_turns (tail cut.fault)) there.link last.link
   tailed cut there last none left =
-      let said : (result : Result (Unit {0}) Fault) × Talks (tail_turns (tail cut.fault)) there result last = subst (λ (r : Option Rest). LeftBy cut.fault r there last) none left in
+      let said : (result : Result (Unit {0}) ClientFault) × Talks (tail_turns (tail cut.fault)) there result last = subst (λ (r : Option Rest). LeftBy cut.fault r there last) none left in
       fronted paced (tail_turns (tail cut.fault)) there last said.0 said.1
 
   -- the turns of these tasks were completed, and perhaps that of one more was begun
@@ -243,8 +244,11 @@ module _ (joining : TurnsJoin) (paced : ConversationsArePaced) (items : List Ite
     module _ (new : Scene) (cut : Cut) (last : Place) (left : Left cut new.place last) where
       took_broken : Broken next mid new cut → Took (course items dones [] (next ∷ [])) first (tail_turns (tail cut.fault)) last.link
       took_broken broken =
+          let broke = broken.broke in
           begun_next broken.turn (tail_turns (tail cut.fault)) last.link broken.takes
-          (goes_broke broken.turn mid.place new.place last cut.fault broken.broke (tailed cut new.place last broken.none left))
+          (subst (λ (f : Fault). Goes (broken.turn ∷ []) (tail_turns (tail f)) mid.place.link last.link) (sym broke.1)
+          (goes_broke broken.turn mid.place new.place last broke.0 broke.2
+          (subst (λ (f : Fault). Fronted (tail_turns (tail f)) new.place.link last.link) broke.1 (tailed cut new.place last broken.none left))))
 
       -- the store refused the text, or the rest of it
       took_refused : (account : List ℕ) (refused : NoFile account next mid new cut) → (refuses : RefusesText mid.store.maildir (stem_of account refused.uid) refused.rest refused.text cut.fault new.store.maildir)

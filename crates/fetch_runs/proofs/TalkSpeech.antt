@@ -23,17 +23,18 @@ use Rattle.pop3_wire.specs.Honest.{BeginsNext, FrontsAreAsked, Asked}
 use Rattle.run_law.specs.Sessions.{BeginsOne}
 use Rattle.fetch_session.specs.Task.{Task, turns_in}
 use Rattle.pop3_client.specs.declared.fault.Asked.TheVariants.{Greeting as ByGreeting}
-use Rattle.pop3_client.specs.declared.fault.Fault.{Fault}
-use Rattle.pop3_client.specs.declared.fault.Fault.TheVariants.{Refused}
+use Rattle.pop3_client.specs.declared.fault.ClientFault.{ClientFault}
+use Rattle.fetch_session.specs.declared.fault.Fault.{Fault}
+use Rattle.fetch_session.specs.declared.fault.Fault.TheVariants.{Refused}
+use Rattle.fetch_session.specs.Fault.{fault_of}
 use Rattle.fetch_session.specs.Tail.{tail, turns_in as tail_turns}
-use Rattle.fetch_session.specs.Laws.{TurnsJoin}
 use Rattle.fetch_runs.specs.Conversations.{Conversation, plan_turns, Converses}
 use Rattle.fetch_runs.specs.Steps.{SaysOnly}
 use Rattle.fetch_runs.proofs.Courses.{Course, found_of, begun_of, IsOfTask}
 use Rattle.fetch_runs.proofs.TalkCourses.{conversation, Took, fronted, goes_tail, goes_broke}
 use Rattle.fetch_rules.specs.declared.steps.Step.{Step}
 use Rattle.run_law.specs.Plans.{plan_commands, IsTail as IsTailOf, IsFrontOfPlan}
-use Rattle.pop3_client.specs.Conversation.{ConversationsArePaced, Stopped, Talks}
+use Rattle.pop3_client.specs.Conversation.{ConversationsArePaced, Stopped, Talks, TurnsJoin}
 
 -- ---- The opening of a session, as the law over runs reads it.
 
@@ -280,10 +281,10 @@ pub record OpensAlone (name word : List ℕ) (turns : List Turn) (old new : Link
   pub said : Converses (opening name word) turns sent got
 
 module _ (paced : ConversationsArePaced) (name word : List ℕ) (start new last : Place) (none : start.waiting ≡ []) where
-  opens_stopped : (why : Fault) → Stopped (opening name word) start new why → (result : Result (Unit {0}) Fault) → Talks (tail_turns (tail why)) new result last
-      → OpensAlone name word (tail_turns (tail why)) start.link last.link
+  opens_stopped : (why : ClientFault) → Stopped (opening name word) start new why → (result : Result (Unit {0}) ClientFault) → Talks (tail_turns (tail (fault_of why))) new result last
+      → OpensAlone name word (tail_turns (tail (fault_of why))) start.link last.link
   opens_stopped why s result talks =
-      let turns = tail_turns (tail why) in
+      let turns = tail_turns (tail (fault_of why)) in
       let is = conversation s.done s.replies (s.next ∷ []) turns start s.mid last.link none s.talked (goes_broke s.next s.mid new last why s.broke (fronted paced turns new last result talks)) in
       record {
         sent = is.0;
@@ -293,7 +294,7 @@ module _ (paced : ConversationsArePaced) (name word : List ℕ) (start new last 
         said = record { done = s.done; begun = s.next ∷ []; later = s.later; replies = s.replies; split = s.split; one = inr (s.next, refl); is = is.4 };
       }
 
-  pub opens_all : (count : ℕ) (uids : List UidRow) (sizes : List ScanRow) (turns : List Turn) → Opened name word start new count uids sizes → (result : Result (Unit {0}) Fault)
+  pub opens_all : (count : ℕ) (uids : List UidRow) (sizes : List ScanRow) (turns : List Turn) → Opened name word start new count uids sizes → (result : Result (Unit {0}) ClientFault)
       → Talks turns new result last → OpensAlone name word turns start.link last.link
   opens_all count uids sizes turns opened result talks =
       let replies = opened.welcome ++ opened.counted ∷ opened.named ∷ opened.sized ∷ [] in
@@ -307,11 +308,11 @@ module _ (paced : ConversationsArePaced) (name word : List ℕ) (start new last 
       }
 
   -- no listing was joined
-  pub opens_cut : (why : Fault) → Enters name word start (Err why) new → (result : Result (Unit {0}) Fault) → Talks (tail_turns (tail why)) new result last
-      → OpensAlone name word (tail_turns (tail why)) start.link last.link
+  pub opens_cut : (why : ClientFault) → Enters name word start (Err why) new → (result : Result (Unit {0}) ClientFault) → Talks (tail_turns (tail (fault_of why))) new result last
+      → OpensAlone name word (tail_turns (tail (fault_of why))) start.link last.link
   opens_cut why (inl stopped) result talks = opens_stopped why stopped result talks
-  opens_cut why (inr (inl (is, (count, uids, sizes, opened, never)))) result talks = opens_all count uids sizes (tail_turns (tail why)) opened result talks
-  opens_cut why (inr (inr (is, (count, uids, sizes, opened)))) result talks = opens_all count uids sizes (tail_turns (tail why)) opened result talks
+  opens_cut why (inr (inl (is, (count, uids, sizes, opened, never)))) result talks = opens_all count uids sizes (tail_turns (tail (fault_of why))) opened result talks
+  opens_cut why (inr (inr (is, (count, uids, sizes, opened)))) result talks = opens_all count uids sizes (tail_turns (tail (fault_of why))) opened result talks
 
 -- the commands of a conversation of the opening
 pub commanded_opening : FrontsAreAsked → (name word : List ℕ) → is_credential name ≡ true → is_credential word ≡ true → (turns : List Turn) → IsTail turns → (sent got : List ℕ)

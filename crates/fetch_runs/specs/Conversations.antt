@@ -20,8 +20,8 @@ use Rattle.rc_file.specs.Settings.{IsValid}
 use Rattle.rc_file.specs.declared.settings.Settings.{Settings}
 use Rattle.run_law.specs.Plans.{plan_commands, IsFrontOfPlan}
 use Rattle.run_law.specs.Readings.{IsListed}
-use Rattle.pop3_client.specs.declared.fault.Fault.TheVariants.{StoreRefused}
-use Rattle.pop3_client.specs.declared.fault.Why.TheVariants.{Refused}
+use Rattle.fetch_session.specs.declared.fault.Fault.TheVariants.{StoreRefused}
+use Rattle.fetch_session.specs.declared.fault.Why.TheVariants.{Refused}
 use Rattle.fetch_session.specs.declared.report.Outcome.{Outcome}
 use Rattle.fetch_session.specs.declared.report.Outcome.TheVariants.{Ended, Cut}
 use Rattle.fetch_session.specs.declared.report.Report.{Report}

@@ -19,11 +19,11 @@ use fetch_rules::{
     files_stand_for_one_record, held_is_delivered, listed_has_row, marked_is_delivered,
     marked_keeps_rows, plans_fetch_wanted,
 };
-use fetch_session::{steady_files_keep, turns_join, unsaved_files_keep};
+use fetch_session::{steady_files_keep, unsaved_files_keep};
 use mail_store::{
     account_texts_are_digits, entries_add_texts, flags_tell_what_is_held, stems_differ,
 };
-use pop3_client::conversations_are_paced;
+use pop3_client::{conversations_are_paced, turns_join};
 use pop3_wire::fronts_are_asked;
 use run_law::{
     holds_exactly, holds_what_is_left, honest_is_granted, honest_sessions_append_messages,

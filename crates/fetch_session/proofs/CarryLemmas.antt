@@ -11,12 +11,13 @@ use Rattle.fetch_rules.specs.declared.steps.Step.{Step}
 use Rattle.mail_store.specs.FlatFile.{Stored}
 use Rattle.pop3_client.specs.Turns.{Turn, quit}
 use Rattle.pop3_wire.specs.Reading.{WholeReply}
-use Rattle.pop3_client.specs.Conversation.{Talked, Broke}
-use Rattle.pop3_client.specs.declared.fault.Fault.{Fault}
+use Rattle.pop3_client.specs.Conversation.{TurnsJoin, Talked, Broke}
+use Rattle.pop3_client.specs.declared.fault.ClientFault.{ClientFault}
+use Rattle.fetch_session.specs.declared.fault.Fault.{Fault}
 use Rattle.fetch_session.specs.declared.readiness.Ready.{Ready}
 use Rattle.fetch_session.specs.declared.fault.Cut.{Cut}
 use Rattle.fetch_session.specs.declared.report.ReportLine.{ReportLine}
-use Rattle.fetch_session.specs.Fault.{cut_of}
+use Rattle.fetch_session.specs.Fault.{cut_of, fault_of}
 use Rattle.fetch_session.specs.Task.{Task, says, tasks_planned, Done}
 use Rattle.fetch_session.specs.Readiness.{IsReady, Unready, Settles}
 use Rattle.fetch_session.specs.Target.{Target, Stores, AsFiles, AsEntries, in_mbox, stores_of}
@@ -64,19 +65,19 @@ said_lasts disk files target dones replies old store f last = record {
 
 -- QUIT was said after other tasks, and answered well or not
 module _ {D F : Type 0} {disk : DiskGhosts D} {files : FileGhosts F} {sure : Type 0} {target : Target} {xs : List Task} {a b : Scene} {end : Store D F} {f : F} where
-  pub good_quit : (reply : WholeReply) (p : Place) → DoesForGood disk files sure target xs a (Ok tt) b end f → Talked (quit ∷ []) (reply ∷ []) b.place p
+  pub good_quit : TurnsJoin → (reply : WholeReply) (p : Place) → DoesForGood disk files sure target xs a (Ok tt) b end f → Talked (quit ∷ []) (reply ∷ []) b.place p
       → DoesForGood disk files sure target (xs ++ says quit ∷ []) a (Ok tt) (record b { place = p }) end f
   unfolding all_on said
-  good_quit reply p does talked = record {
-    does = all_on target xs (says quit ∷ []) a b (record b { place = p }) does.does (said target quit reply b p talked);
+  good_quit joining reply p does talked = record {
+    does = all_on joining target xs (says quit ∷ []) a b (record b { place = p }) does.does (said target quit reply b p talked);
     lasts = λ s. said_lasts disk files target does.does.dones (reply ∷ []) a end f (does.lasts s);
   }
 
-  pub good_broke : (p : Place) (fault : Fault) (cut : Cut) → DoesForGood disk files sure target xs a (Ok tt) b end f → cut ≡ cut_of fault None
+  pub good_broke : TurnsJoin → (p : Place) (fault : ClientFault) (cut : Cut) → DoesForGood disk files sure target xs a (Ok tt) b end f → cut ≡ cut_of (fault_of fault) None
       → Broke quit b.place p fault → DoesForGood disk files sure target (xs ++ says quit ∷ []) a (Err cut) (record b { place = p }) end f
   unfolding fell_on fell_first
-  good_broke p fault cut does plain broke = record {
-    does = fell_on target xs (says quit ∷ []) a b (record b { place = p }) cut does.does (fell_first target (says quit) [] b (record b { place = p }) cut
+  good_broke joining p fault cut does plain broke = record {
+    does = fell_on joining target xs (says quit ∷ []) a b (record b { place = p }) cut does.does (fell_first target (says quit) [] b (record b { place = p }) cut
         (text_broken target (says quit) quit b.place p b.store b.file b.rows b.lines fault cut refl plain broke));
     lasts = λ s. subst (λ (dones : List Done). DonesLast disk files target dones a end f) (sym (append-nil does.does.dones)) (does.lasts s);
   }

@@ -12,9 +12,9 @@ use Rattle.mail_store.specs.FlatFile.{Stored}
 use Rattle.mail_store.specs.FileName.{is_held}
 use Rattle.mail_store.specs.declared.maildir.disk.MaildirDisk.{Ghosts as DiskGhosts}
 use Rattle.mail_store.specs.declared.file.flat_file.FlatFile.{Ghosts as FileGhosts}
-use Rattle.pop3_client.specs.declared.fault.Fault.{Fault}
-use Rattle.pop3_client.specs.declared.fault.Fault.TheVariants.{NoMemory, StoreRefused}
-use Rattle.pop3_client.specs.declared.fault.Why.TheVariants as why
+use Rattle.fetch_session.specs.declared.fault.Fault.{Fault}
+use Rattle.fetch_session.specs.declared.fault.Fault.TheVariants.{NoMemory, StoreRefused}
+use Rattle.fetch_session.specs.declared.fault.Why.TheVariants as why
 use Rattle.mail_store.specs.Maildir.{Maildir}
 use Rattle.mail_store.specs.declared.fault.StoreFault.{StoreFault}
 use Rattle.mail_store.specs.declared.fault.StoreFault.TheVariants as refused

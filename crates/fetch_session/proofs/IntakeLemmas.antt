@@ -12,18 +12,20 @@ use Rattle.pop3_client.specs.Turns.{Turn, Names, line_limit, text_limit, retr, d
 use Rattle.pop3_client.specs.Texts.{Fetching}
 use Rattle.fetch_session.specs.Mbox.{HoldsText}
 use Rattle.pop3_client.specs.Conversation.{Talked, Talks, Completes, Broke, most_of, ConversationsArePaced}
-use Rattle.pop3_client.specs.declared.fault.Fault.{Fault}
-use Rattle.pop3_client.specs.declared.fault.Fault.TheVariants.{Refused, StoreRefused, SeenRefused, BadSeen}
+use Rattle.pop3_client.specs.declared.fault.ClientFault.{ClientFault}
+use Rattle.pop3_client.specs.declared.fault.ClientFault.TheVariants.{Refused as WasRefused}
+use Rattle.fetch_session.specs.declared.fault.Fault.{Fault}
+use Rattle.fetch_session.specs.declared.fault.Fault.TheVariants.{Refused}
 use Rattle.pop3_client.specs.Causes.{Cause}
 use Rattle.fetch_session.specs.declared.fault.Cut.{Cut}
 use Rattle.fetch_session.specs.declared.tail.Tail.{Tail}
 use Rattle.fetch_session.specs.declared.tail.Tail.TheVariants.{Nothing, Leave, Undo}
-use Rattle.fetch_session.specs.Fault.{cut_of}
+use Rattle.fetch_session.specs.Fault.{cut_of, fault_of}
 use Rattle.fetch_session.specs.Store.{ReadsText, StopsReading, PassesText}
 use Rattle.fetch_session.specs.Tail.{turns_in as tail_turns, tail, Left, LeftBy}
 use Rattle.fetch_session.specs.Opening.{opening, Enters}
 use Rattle.fetch_session.specs.Intake.{session_limit, step_limit, opening_limit, tail_limit, GotAtMost, Took, TookBefore, TookTillCut, TookWithTail}
-use Rattle.pop3_client.proofs.TalkLemmas.{stopped_first}
+use Rattle.fetch_session.proofs.TalkLemmas.{stopped_first}
 
 pub took_on : {m n : ℕ} {a b c : Place} → Took m a b → Took n b c → Took (m + n) a c
 took_on first then = record {
@@ -76,17 +78,14 @@ only_quit ByUser (name, e) = cc
 only_quit ByPass (word, e) = cc
 only_quit _ e = cc
 
-quit_caused : (fault : Fault) (old new : Link) (bytes : List ℕ) → Cause fault quit old new bytes → tail fault ≡ Nothing
-quit_caused (Refused to) old new bytes cause = only_quit to cause.0
-quit_caused (StoreRefused reason) old new bytes never = absurd never
-quit_caused SeenRefused old new bytes never = absurd never
-quit_caused (BadSeen line) old new bytes never = absurd never
+quit_caused : (fault : ClientFault) (old new : Link) (bytes : List ℕ) → Cause fault quit old new bytes → tail (fault_of fault) ≡ Nothing
+quit_caused (WasRefused to) old new bytes cause = only_quit to cause.0
 quit_caused _ old new bytes cause = refl
 
-quit_tail : (fault : Fault) (a b : Place) → Broke quit a b fault → tail fault ≡ Nothing
-quit_tail fault a b (inl cut) = ap tail cut.0
+quit_tail : (fault : ClientFault) (a b : Place) → Broke quit a b fault → tail (fault_of fault) ≡ Nothing
+quit_tail fault a b (inl cut) = ap (λ (why : ClientFault). tail (fault_of why)) cut.0
 quit_tail fault a b (inr (inl bad)) = quit_caused fault a.link b.link (a.waiting ++ bad.gained) bad.cause
-quit_tail fault a b (inr (inr none)) = ap tail none.0
+quit_tail fault a b (inr (inr none)) = ap (λ (why : ClientFault). tail (fault_of why)) none.0
 
 -- ---- with what is said after a fault
 
@@ -118,20 +117,20 @@ took_fetching number start new rest text is = record {
 -- ---- conversations
 
 module _ (paced : ConversationsArePaced) where
-  took_talks : (turns : List Turn) (old new : Place) (result : Result (Unit {0}) Fault) → Talks turns old result new → Took (most_of turns) old new
+  took_talks : (turns : List Turn) (old new : Place) (result : Result (Unit {0}) ClientFault) → Talks turns old result new → Took (most_of turns) old new
   took_talks turns old new result talks = let p = paced turns old new result talks in record { gained = p.gained; got = p.got; within = p.within }
 
   took_talked : (turns : List Turn) (replies : List WholeReply) (old new : Place) → Talked turns replies old new → Took (most_of turns) old new
   took_talked turns replies old new talked = took_talks turns old new (Ok tt) (replies, talked)
 
-  pub took_broke : (turn : Turn) (old new : Place) (why : Fault) → Broke turn old new why → Took (most_of (turn ∷ [])) old new
+  pub took_broke : (turn : Turn) (old new : Place) (why : ClientFault) → Broke turn old new why → Took (most_of (turn ∷ [])) old new
   took_broke turn old new why broke = took_talks (turn ∷ []) old new (Err why) (stopped_first turn [] old new why broke)
 
-  pub took_completing : (turn : Turn) (old new : Place) (result : Result (Unit {0}) Fault) → Completes turn old result new → Took (most_of (turn ∷ [])) old new
+  pub took_completing : (turn : Turn) (old new : Place) (result : Result (Unit {0}) ClientFault) → Completes turn old result new → Took (most_of (turn ∷ [])) old new
   took_completing turn old new (Ok done) completes = took_talked (turn ∷ []) _ old new completes.1
   took_completing turn old new (Err why) broke = took_broke turn old new why broke
 
-  pub took_entering : (name password : List ℕ) (old new : Place) (result : Result (List Item) Fault) → Enters name password old result new → Took opening_limit old new
+  pub took_entering : (name password : List ℕ) (old new : Place) (result : Result (List Item) ClientFault) → Enters name password old result new → Took opening_limit old new
   took_entering name password old new (Ok items) (count, uids, sizes, opened, joins) = took_talked (opening name password) _ old new opened.talked
   took_entering name password old new (Err fault) enters =
       elim enters [
@@ -141,7 +140,7 @@ module _ (paced : ConversationsArePaced) where
       ]
 
   -- QUIT, and nothing after it
-  pub quit_broke : (old new : Place) (fault : Fault) (cut : Cut) → Broke quit old new fault → cut ≡ cut_of fault None → TookWithTail line_limit old (Err cut) new
+  pub quit_broke : (old new : Place) (fault : ClientFault) (cut : Cut) → Broke quit old new fault → cut ≡ cut_of (fault_of fault) None → TookWithTail line_limit old (Err cut) new
   quit_broke old new fault cut broke plain = rw plain
       (line_limit, took_broke quit old new fault broke, omega (arith, ap (λ (k : Tail). most_of (tail_turns k)) (quit_tail fault old new broke)))
 
@@ -153,12 +152,12 @@ module _ (paced : ConversationsArePaced) where
   takes_stopped number start text cut new reads = by_rest cut.fault cut.rest reads
     where
       by_rest : (fault : Fault) (rest : Option Rest) → StopsReading number start text fault rest new → TookBefore (line_limit + text_limit) start rest new
-      by_rest fault None broke = took_broke (retr number) start new fault broke
+      by_rest fault None (why, is, broke) = took_broke (retr number) start new why broke
       by_rest fault (Some rest) reads =
           record { before = 0; number = number; start = start; text = text; took = took_nothing; fetching = reads.0; within = omega arith }
 
   -- a text that was dropped
-  pub took_passing : (number : ℕ) (start : Place) (result : Result ℕ Fault) (new : Place) → PassesText number start result new → Took (line_limit + text_limit) start new
+  pub took_passing : (number : ℕ) (start : Place) (result : Result ℕ ClientFault) (new : Place) → PassesText number start result new → Took (line_limit + text_limit) start new
   took_passing number start (Ok octets) new passes = took_talked (retr number ∷ []) _ start new passes.1
   took_passing number start (Err why) new broke = took_broke (retr number) start new why broke
 
@@ -182,6 +181,6 @@ module _ (paced : ConversationsArePaced) where
   pub takes_held : (number : ℕ) (start : Place) (cut : Cut) (new : Place) → HoldsText number start (Err cut) new → TookTillCut (line_limit + text_limit) start (Err cut) new
   takes_held number start cut new (none, why) =
       rw none (elim why [
-        | inl broke ↦ took_broke (retr number) start new cut.fault broke
+        | inl (fault, is, broke) ↦ took_broke (retr number) start new fault broke
         | inr (wants, (rest, text, fetching)) ↦ took_fetching number start new rest text fetching
       ])

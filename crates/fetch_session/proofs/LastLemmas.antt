@@ -13,6 +13,7 @@ use Rattle.mail_store.specs.FileName.{sized, sized_file}
 use Rattle.mail_store.specs.Maildir.{Maildir, File, file, with_file, mail}
 use Rattle.mail_store.specs.Mboxrd.{entry_of}
 use Rattle.mail_store.specs.Power.{KeepsBytes, KeepsMail}
+use Rattle.pop3_client.specs.Conversation.{TurnsJoin}
 use Rattle.fetch_session.specs.declared.account.Store.{Store}
 use Rattle.fetch_session.specs.declared.account.Store.TheVariants.{Maildir as InMaildir, Mboxrd as InMbox}
 use Rattle.fetch_session.specs.declared.fault.Cut.{Cut}
@@ -85,16 +86,16 @@ in_kind {D} {F} {disk} {file} {here} {safe} {tasks} {old} {new} {r} {store} {f} 
 
 module _ {D F : Type 0} {disk : DiskGhosts D} {file : FileGhosts F} {safe : Type 0} {target : Target} where
   -- some tasks were done, and then others, or not all of them
-  pub good_more : {xs ys : List Task} {a b c : Scene} (r : Result (Unit {0}) Cut) (mid : Store D F) {new : Store D F} {f : F} → (went : AllWent target xs a b)
+  pub good_more : TurnsJoin → {xs ys : List Task} {a b c : Scene} (r : Result (Unit {0}) Cut) (mid : Store D F) {new : Store D F} {f : F} → (went : AllWent target xs a b)
       → (safe → TextsLast disk file target went.dones a.store mid) → KeepsMailIn disk mid new → DoesForGood disk file safe target ys b r c new f
       → DoesForGood disk file safe target (xs ++ ys) a r c new f
   unfolding all_on fell_on
-  good_more {xs} {ys} {a} {b} {c} (Ok done) mid {new} {f} went first keeps then = record {
-    does = all_on target xs ys a b c went then.does;
+  good_more joining {xs} {ys} {a} {b} {c} (Ok done) mid {new} {f} went first keeps then = record {
+    does = all_on joining target xs ys a b c went then.does;
     lasts = λ s. dones_on disk file target went.dones then.does.dones a b mid new f went.went (first s) keeps (then.lasts s);
   }
-  good_more {xs} {ys} {a} {b} {c} (Err cut) mid {new} {f} went first keeps then = record {
-    does = fell_on target xs ys a b c cut went then.does;
+  good_more joining {xs} {ys} {a} {b} {c} (Err cut) mid {new} {f} went first keeps then = record {
+    does = fell_on joining target xs ys a b c cut went then.does;
     lasts = λ s. dones_on disk file target went.dones then.does.dones a b mid new f went.went (first s) keeps (then.lasts s);
   }
 

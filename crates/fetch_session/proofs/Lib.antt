@@ -3,6 +3,7 @@ mod FreshLemmas
 mod IdleLemmas
 mod IntakeLemmas
 mod LastLemmas
+mod LinkLemmas
 mod MboxLemmas
 mod OpeningLemmas
 mod PartLemmas
@@ -19,3 +20,4 @@ mod StoppingLemmas
 mod StoreLemmas
 mod TailLemmas
 mod TakeLemmas
+mod TalkLemmas

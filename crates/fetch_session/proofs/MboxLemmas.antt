@@ -20,10 +20,11 @@ use Rattle.pop3_client.specs.Conversation.{Broke}
 use Rattle.pop3_client.specs.Texts.{Fetched, Fetching, body_text}
 use Rattle.pop3_client.specs.Turns.{retr}
 use Rattle.fetch_session.specs.declared.fault.Cut.{Cut}
-use Rattle.pop3_client.specs.declared.fault.Fault.{Fault}
-use Rattle.pop3_client.specs.declared.fault.Fault.TheVariants.{SeenRefused, NoMemory}
+use Rattle.pop3_client.specs.declared.fault.ClientFault.{ClientFault}
+use Rattle.fetch_session.specs.declared.fault.Fault.{Fault}
+use Rattle.fetch_session.specs.declared.fault.Fault.TheVariants.{SeenRefused, NoMemory}
 use Rattle.fetch_session.specs.declared.readiness.Found.{Found}
-use Rattle.fetch_session.specs.Fault.{cut_of}
+use Rattle.fetch_session.specs.Fault.{cut_of, fault_of}
 use Rattle.fetch_session.specs.Mbox.{AppendsText, AsksMbox, HoldsText, IsIntended, IsSettledAtMost, IsStoreFault, MarksEntry, RefusesEntry, SettlesIntent, intent_of}
 use Rattle.fetch_session.specs.Record.{Saves, Steady, held_in, intent_at, with_open}
 use Rattle.fetch_session.specs.Scene.{scene, Stops, TakesTask}
@@ -105,8 +106,8 @@ asks_refused intent old mid new stored items refused.NoMemory fault settles neve
 
 -- ---- a text that is read whole
 
-pub held_broke : (number : ℕ) (start new : Place) (cut : Cut) (fault : Fault) → cut ≡ cut_of fault None → Broke (retr number) start new fault → HoldsText number start (Err cut) new
-held_broke number start new cut fault plain broke = rw plain (refl, inl broke)
+pub held_broke : (number : ℕ) (start new : Place) (cut : Cut) (fault : ClientFault) → cut ≡ cut_of (fault_of fault) None → Broke (retr number) start new fault → HoldsText number start (Err cut) new
+held_broke number start new cut fault plain broke = rw plain (refl, inl (fault, refl, broke))
 
 pub held_wanting : (number : ℕ) (start new : Place) (cut : Cut) (rest : Rest) (text : List ℕ) → cut ≡ cut_of NoMemory None → Fetching (retr number) start new rest text → HoldsText number start (Err cut) new
 held_wanting number start new cut rest text plain fetching = rw plain (refl, inr (refl, (rest, text, fetching)))

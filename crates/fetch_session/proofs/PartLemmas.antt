@@ -12,15 +12,16 @@ use Rattle.fetch_rules.specs.Record.{has_row, none_open}
 use Rattle.fetch_rules.specs.declared.steps.Step.{Step}
 use Rattle.mail_terms.specs.FailureCount.{Tallies}
 use Rattle.pop3_client.specs.Client.{HasSameLink, link_of, place_of}
-use Rattle.pop3_client.specs.Conversation.{is_refusal, most_of}
-use Rattle.pop3_client.specs.declared.fault.Fault.{Fault}
+use Rattle.pop3_client.specs.Conversation.{TurnsJoin, is_refusal, most_of}
+use Rattle.pop3_client.specs.declared.fault.ClientFault.{ClientFault}
+use Rattle.fetch_session.specs.declared.fault.Fault.{Fault}
 use Rattle.pop3_client.specs.Turns.{Turn, line_limit, text_limit}
 use Rattle.pop3_client.specs.declared.client.Client.{Client}
 use Rattle.pop3_wire.specs.declared.wire.Wire.{Ghosts as WireGhosts}
 use Rattle.pop3_wire.specs.Place.{Place}
 use Rattle.fetch_session.specs.declared.fault.Cut.{Cut}
 use Rattle.fetch_session.specs.declared.work.Work.{Work}
-use Rattle.fetch_session.specs.Fault.{cut_of}
+use Rattle.fetch_session.specs.Fault.{cut_of, fault_of}
 use Rattle.fetch_session.specs.Intake.{Took, TookTillCut, TookWithTail, step_limit, tail_limit}
 use Rattle.fetch_session.specs.Lasting.{DoesForGood, IsSafeWork, KeepsMailIn, KeepsWork, NewOutlive, RowsLast}
 use Rattle.fetch_session.specs.Parts.{DoesTasks, IsReadyFor, KeepsLedger, KeepsLink, KeepsSession, KeepsStore}
@@ -147,7 +148,7 @@ module _ {W : Type 0} {link : WireGhosts W} where
   link_with_tail {limit} {a} {b} {cut} kept =
       record { same = kept.same; counted = kept.counted; took = λ s. ((kept.took s).0, with_any_tail limit (place_of link a) (place_of link b) cut (kept.took s).1) }
 
-  pub link_cut : (fault : Fault) {limit : ℕ} {a b : Client W} {cut : Cut} → HasSameLink a b → cut ≡ cut_of fault None
+  pub link_cut : (fault : ClientFault) {limit : ℕ} {a b : Client W} {cut : Cut} → HasSameLink a b → cut ≡ cut_of (fault_of fault) None
       → Tallies (is_refusal fault) (link_of link a).failures (link_of link b).failures → (link.sound b.wire.now → link.sound a.wire.now × Took limit (place_of link a) (place_of link b))
       → KeepsLink link (TookTillCut limit) a (Err cut) b
   link_cut fault {limit} {a} {b} {cut} same plain counts took = record {
@@ -224,17 +225,17 @@ module _ {W D F H Z : Type 0} {link : WireGhosts W} {disk : DiskGhosts D} {file 
     },
   )
 
-  pub does_on : ((u v w : W) → link.leads_to u v → link.leads_to v w → link.leads_to u w) → (xs ys : List Task) {c c' c'' : Client W} {w w' w'' : Work D F H Z} (r : Result (Unit {0}) Cut)
+  pub does_on : TurnsJoin → ((u v w : W) → link.leads_to u v → link.leads_to v w → link.leads_to u w) → (xs ys : List Task) {c c' c'' : Client W} {w w' w'' : Work D F H Z} (r : Result (Unit {0}) Cut)
       → KeepsSession link disk file account xs c w (Ok tt) c' w' → DoesTasks link disk file account xs c w (Ok tt) c' w'
       → KeepsSession link disk file account ys c' w' r c'' w'' → DoesTasks link disk file account ys c' w' r c'' w'' → DoesTasks link disk file account (xs ++ ys) c w r c'' w''
-  does_on on xs ys {c} {c'} {c''} {w} {w'} {w''} r kept did keeps does = λ s d f.
+  does_on joining on xs ys {c} {c'} {c''} {w} {w'} {w''} r kept did keeps does = λ s d f.
       let later = does s d f in
       let before = did later.0 later.1 later.2 in (
         before.0,
         before.1,
         before.2,
         on _ _ _ before.3 later.3,
-        good_more r w'.store before.4.does (λ safe. (before.4.lasts safe).texts) (keeps.lasts d f).1
+        good_more joining r w'.store before.4.does (λ safe. (before.4.lasts safe).texts) (keeps.lasts d f).1
             (in_kind w'.store w.store account kept.store.kind later.4 (kept.lasts later.1 later.2).2),
       )
 

@@ -12,12 +12,12 @@ use Rattle.fetch_rules.specs.Plan.{planned}
 use Rattle.fetch_rules.specs.declared.steps.Step.{Step}
 use Rattle.mail_store.specs.FlatFile.{Stored}
 use Rattle.fetch_session.specs.declared.fault.Cut.{Cut}
-use Rattle.pop3_client.specs.declared.fault.Fault.{Fault}
+use Rattle.pop3_client.specs.declared.fault.ClientFault.{ClientFault}
 use Rattle.fetch_session.specs.declared.preview.Foreseen.{Foreseen}
 use Rattle.fetch_session.specs.declared.preview.Looked.{Looked}
 use Rattle.fetch_session.specs.declared.preview.Preview.{Preview}
 use Rattle.fetch_session.specs.declared.prospect.Prospect.{Prospect}
-use Rattle.fetch_session.specs.Fault.{cut_of}
+use Rattle.fetch_session.specs.Fault.{cut_of, fault_of}
 use Rattle.fetch_session.specs.Pretend.{Foresees, Foretells, HoldsTheSame, IsUntouched, LooksIn, MayBeFollowed, Pretends, Surveys, counted_as, foretold, is_unsettled, told_in}
 use Rattle.fetch_session.specs.Prospect.{prospects}
 use Rattle.fetch_session.specs.Record.{ReadAs, held_in}
@@ -60,8 +60,8 @@ foreseen settings target items now store file read loaded store' looked told sto
 -- ---- the session
 
 module _ (settings : Settings) (target : Target) (now : ℕ) (old : Place) (before : Keeping) where
-  pub not_ended : (items : List Item) (mid new : Place) (after : Keeping) (ahead : Foreseen) (n : ℕ) (fault : Fault) (cut : Cut) → Enters_with settings old (Ok items) mid
-      → Foresees settings target items now before (Ok ahead) after → n ≡ length items → Talks (quit ∷ []) mid (Err fault) new → cut ≡ cut_of fault None
+  pub not_ended : (items : List Item) (mid new : Place) (after : Keeping) (ahead : Foreseen) (n : ℕ) (fault : ClientFault) (cut : Cut) → Enters_with settings old (Ok items) mid
+      → Foresees settings target items now before (Ok ahead) after → n ≡ length items → Talks (quit ∷ []) mid (Err fault) new → cut ≡ cut_of (fault_of fault) None
       → Surveys settings target now old before (Err cut) new after (record { total = n; unsettled = ahead.unsettled; prospects = ahead.prospects.items })
   not_ended items mid new after ahead n fault cut enters says count quits plain = (
     inr (inr (fault, plain, record { items = items; mid = mid; enters = enters; total = count; foretells = says.0; quits = quits })),

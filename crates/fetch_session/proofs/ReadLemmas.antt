@@ -5,8 +5,8 @@ use Rattle.fetch_rules.specs.RecordMeaning.{Means, Fault as Faulty}
 use Rattle.fetch_rules.specs.declared.seen.SeenFault.{SeenFault}
 use Rattle.fetch_rules.specs.declared.seen.SeenFault.TheVariants.{NoMemory as WantsMemory}
 use Rattle.mail_store.specs.FlatFile.{Stored}
-use Rattle.pop3_client.specs.declared.fault.Fault.{Fault}
-use Rattle.pop3_client.specs.declared.fault.Fault.TheVariants.{NoMemory, BadSeen}
+use Rattle.fetch_session.specs.declared.fault.Fault.{Fault}
+use Rattle.fetch_session.specs.declared.fault.Fault.TheVariants.{NoMemory, BadSeen}
 use Rattle.fetch_session.specs.Record.{bytes_in, LineOf, Reads, IsLineFault}
 
 -- a fault with a line isn't NoMemory

@@ -10,8 +10,8 @@ use Rattle.fetch_rules.specs.RecordGrowth.{Updates, Grows, AppendedCounts, CutIs
 use Rattle.fetch_rules.specs.Intents.{has_intent, is_older, closed_rows, IsNoneOrOf}
 use Rattle.mail_store.specs.FlatFile.{Stored, holding, counted, Appends}
 use Rattle.mail_store.specs.declared.fault.StoreFault.{StoreFault}
-use Rattle.pop3_client.specs.declared.fault.Fault.{Fault}
-use Rattle.pop3_client.specs.declared.fault.Fault.TheVariants.{SeenRefused, NoMemory}
+use Rattle.fetch_session.specs.declared.fault.Fault.{Fault}
+use Rattle.fetch_session.specs.declared.fault.Fault.TheVariants.{SeenRefused, NoMemory}
 use Rattle.fetch_session.specs.Record.{bytes_in, Keeps, Steady, ReadAs, Writes, Saves, Merges, held_in}
 
 bytes_begin : (version : Version) (rest : List ℕ) → [] ≢ header version ++ rest

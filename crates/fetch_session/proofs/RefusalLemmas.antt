@@ -3,13 +3,13 @@ use Rattle.std.proofs.Common.{◌≡◌, inl, inr, Bool, true, false, None, Resu
 use Rattle.mail_terms.specs.FailureCount.{Tallies, counted_up}
 use Rattle.pop3_wire.specs.Link.{Link}
 use Rattle.pop3_client.specs.Conversation.{is_refusal}
-use Rattle.pop3_client.specs.declared.fault.Fault.{Fault}
-use Rattle.pop3_client.specs.declared.fault.Fault.TheVariants.{ReadFailed, WriteFailed}
+use Rattle.pop3_client.specs.declared.fault.ClientFault.{ClientFault}
+use Rattle.pop3_client.specs.declared.fault.ClientFault.TheVariants.{ReadFailed, WriteFailed}
 use Rattle.fetch_session.specs.declared.fault.Cut.{Cut}
 use Rattle.fetch_session.specs.declared.report.Outcome.{Outcome}
 use Rattle.fetch_session.specs.declared.report.Outcome.TheVariants.{Cut as WasCut}
 use Rattle.fetch_session.specs.declared.tail.Tail.TheVariants.{Nothing}
-use Rattle.fetch_session.specs.Fault.{cut_of}
+use Rattle.fetch_session.specs.Fault.{cut_of, fault_of}
 use Rattle.fetch_session.specs.Tail.{tail}
 use Rattle.fetch_session.specs.Refusal.{RefusesNone, RefusesAtMostOne, RefusesBefore, RefusesTillCut, RefusesByOutcome}
 
@@ -31,12 +31,12 @@ till_cut a b c (Ok done) first same = same ∙ first
 till_cut a b c (Err cut) first then = before_cut a b c cut first then
 
 -- a fault of the conversation: after a refused call nothing is said
-by_fault : (why : Fault) (old new : Link) → Tallies (is_refusal why) old.failures new.failures → RefusesBefore old (cut_of why None) new
+by_fault : (why : ClientFault) (old new : Link) → Tallies (is_refusal why) old.failures new.failures → RefusesBefore old (cut_of (fault_of why) None) new
 by_fault ReadFailed old new up = inr (up, refl, refl)
 by_fault WriteFailed old new up = inr (up, refl, refl)
 by_fault _ old new same = inl same
 
-pub cut_by : (fault : Fault) (cut : Cut) (old new : Link) → cut ≡ cut_of fault None → Tallies (is_refusal fault) old.failures new.failures → RefusesBefore old cut new
+pub cut_by : (fault : ClientFault) (cut : Cut) (old new : Link) → cut ≡ cut_of (fault_of fault) None → Tallies (is_refusal fault) old.failures new.failures → RefusesBefore old cut new
 cut_by fault cut old new plain counts = rw plain (by_fault fault old new counts)
 
 -- a session that was cut and left

@@ -8,12 +8,13 @@ use Rattle.mail_store.specs.FlatFile.{Stored}
 use Rattle.mail_store.specs.Mboxrd.{entry_of}
 use Rattle.fetch_rules.specs.Record.{Row, marked, marked_all}
 use Rattle.mail_store.specs.Maildir.{Maildir, File}
-use Rattle.pop3_client.proofs.TalkLemmas.{talked_none, talked_on}
+use Rattle.pop3_client.specs.Conversation.{TurnsJoin}
 use Rattle.fetch_session.specs.declared.fault.Cut.{Cut}
 use Rattle.fetch_session.specs.Task.{Task, Done, IsAnswered, files_in, texts_in, tasks_of, turns_of, replies_of, files_of, texts_of}
 use Rattle.fetch_session.specs.Store.{Gained, Appended, Brings}
 use Rattle.fetch_session.specs.Target.{Target, AsFiles, AsEntries, Stores}
 use Rattle.fetch_session.specs.Scene.{Scene, Went, AllWent, Fell, Stops}
+use Rattle.fetch_session.proofs.TalkLemmas.{talked_none}
 
 pub gained_none : (m : Maildir) → Gained m m []
 gained_none m = record { came = sym (append-nil m.files); there = refl; calm = λ calm. calm; failures = omega arith }
@@ -78,9 +79,9 @@ pub went_none : (target : Target) (s : Scene) → Went target [] s s
 went_none target s =
     record { talked = talked_none s.place; each = tt; stored = brings_none target s.store; rows = refl; saved = λ stands. stands; file_count = omega arith; lines = sym (append-nil s.lines) }
 
-pub went_on : (target : Target) (xs ys : List Done) (a b c : Scene) → Went target xs a b → Went target ys b c → Went target (xs ++ ys) a c
-went_on target xs ys a b c first then = record {
-  talked = simp flat_map-append (talked_on (turns_of xs) (turns_of ys) (replies_of xs) (replies_of ys) a.place b.place c.place first.talked then.talked);
+pub went_on : TurnsJoin → (target : Target) (xs ys : List Done) (a b c : Scene) → Went target xs a b → Went target ys b c → Went target (xs ++ ys) a c
+went_on joining target xs ys a b c first then = record {
+  talked = simp flat_map-append (joining.on (turns_of xs) (turns_of ys) (replies_of xs) (replies_of ys) a.place b.place c.place first.talked then.talked);
   each = all_append IsAnswered xs ys first.each then.each;
   stored = brings_on target xs ys a.store b.store c.store first.stored then.stored;
   rows = simp (then.rows, first.rows, flat_map-append, marked_on);
@@ -93,14 +94,14 @@ unfoldable pub fell_first : (target : Target) (task : Task) (later : List Task) 
 fell_first target task later a new f stops =
     record { dones = []; next = task; later = later; mid = a; split = refl; went = went_none target a; stops = stops }
 
-unfoldable pub fell_on : (target : Target) (xs ys : List Task) (a b new : Scene) (f : Cut) → AllWent target xs a b → Fell target ys b f new → Fell target (xs ++ ys) a f new
-fell_on target xs ys a b new f first then = record {
+unfoldable pub fell_on : TurnsJoin → (target : Target) (xs ys : List Task) (a b new : Scene) (f : Cut) → AllWent target xs a b → Fell target ys b f new → Fell target (xs ++ ys) a f new
+fell_on joining target xs ys a b new f first then = record {
   dones = first.dones ++ then.dones;
   next = then.next;
   later = then.later;
   mid = then.mid;
   split = simp (first.all, then.split, map-append, append_assoc);
-  went = went_on target first.dones then.dones a b then.mid first.went then.went;
+  went = went_on joining target first.dones then.dones a b then.mid first.went then.went;
   stops = then.stops;
 }
 
@@ -118,11 +119,11 @@ fell_before target xs ys a new f fell = record {
 unfoldable pub all_none : (target : Target) (s : Scene) → AllWent target [] s s
 all_none target s = record { dones = []; all = refl; went = went_none target s }
 
-unfoldable pub all_on : (target : Target) (xs ys : List Task) (a b c : Scene) → AllWent target xs a b → AllWent target ys b c → AllWent target (xs ++ ys) a c
-all_on target xs ys a b c first then = record {
+unfoldable pub all_on : TurnsJoin → (target : Target) (xs ys : List Task) (a b c : Scene) → AllWent target xs a b → AllWent target ys b c → AllWent target (xs ++ ys) a c
+all_on joining target xs ys a b c first then = record {
   dones = first.dones ++ then.dones;
   all = simp (first.all, then.all, map-append);
-  went = went_on target first.dones then.dones a b c first.went then.went;
+  went = went_on joining target first.dones then.dones a b c first.went then.went;
 }
 
 pub on_any : {T E P : Type 0} (result : Result T E) → P → OnOk result P

@@ -1,5 +1,5 @@
 -- How the parts of a session make the whole.
-use Rattle.std.proofs.Common.{◌≡◌, inl, inr, ℕ, List, [], length, Result, Ok, Err, subst}
+use Rattle.std.proofs.Common.{◌≡◌, inl, inr, ℕ, List, [], ◌∷◌, length, Result, Ok, Err, refl, subst}
 use Rattle.pop3_wire.specs.Link.{Link}
 use Rattle.pop3_wire.specs.Place.{Place, at}
 use Rattle.mail_terms.specs.Listing.{Item}
@@ -10,13 +10,18 @@ use Rattle.fetch_session.specs.Plan.{Carries}
 use Rattle.fetch_session.specs.Session.{Dealt, Keeping, LeavesLink, Noted, Enters_with, Proceeds, SessionIn, outcome_of}
 use Rattle.mail_store.specs.declared.maildir.disk.MaildirDisk.{Ghosts as DiskGhosts}
 use Rattle.mail_store.specs.declared.file.flat_file.FlatFile.{Ghosts as FileGhosts}
-use Rattle.mail_store.specs.Maildir.{File}
+use Rattle.mail_store.specs.Maildir.{File, IsPart}
 use Rattle.fetch_session.specs.declared.account.Store.{Store}
 use Rattle.fetch_session.specs.declared.account.Store.TheVariants.{Maildir as InMaildir, Mboxrd as InMbox}
 use Rattle.fetch_session.specs.Target.{Target, AsFiles, AsEntries, Stores, AfterTakingIn, IsSoundMaildir, IsSoundMbox, in_maildir, in_mbox, is_sound, kind_of, left_in, maildir_of, mbox_of, stores_of, target_of}
 use Rattle.fetch_session.specs.Lasting.{CarriesForGood, DealtForGood, ProceedsForGood, SessionForGood}
 use Rattle.fetch_session.specs.Report.{Reports}
 use Rattle.fetch_session.specs.declared.report.Report.{Report}
+
+-- no file was taken away
+pub part_same : (files : List File) → IsPart files files
+part_same [] = refl
+part_same (f ∷ files) = inr (files, refl, part_same files)
 
 pub dealt : {D F : Type 0} (disk : DiskGhosts D) (files : FileGhosts F) (sure : Type 0) (settings : Settings) (target : Target) (now : ℕ) (old : Place) (before : Keeping)
     (result : Result (Unit {0}) Cut) (new : Place) (after : Keeping) (notes : Noted) (items : List Item) (mid : Place) (start : List ReportLine) (store : Store D F) (f : F)

@@ -7,11 +7,11 @@ use Rattle.mail_store.specs.Maildir.{File}
 use Rattle.mail_store.specs.FlatFile.{Stored}
 use Rattle.pop3_client.specs.Turns.{Turn, retr}
 use Rattle.pop3_wire.specs.Reading.{WholeReply}
-use Rattle.pop3_client.specs.Conversation.{Talked, ConversationsArePaced}
-use Rattle.pop3_client.proofs.TalkLemmas.{talked_on, stopped_first}
-use Rattle.pop3_client.specs.declared.fault.Fault.{Fault}
-use Rattle.pop3_client.specs.declared.fault.Fault.TheVariants.{StoreRefused, SeenRefused, NoMemory}
-use Rattle.pop3_client.specs.declared.fault.Why.TheVariants.{Refused as DeviceRefused}
+use Rattle.pop3_client.specs.Conversation.{Talked, TurnsJoin, ConversationsArePaced}
+use Rattle.fetch_session.proofs.TalkLemmas.{stopped_first}
+use Rattle.fetch_session.specs.declared.fault.Fault.{Fault}
+use Rattle.fetch_session.specs.declared.fault.Fault.TheVariants.{StoreRefused, SeenRefused, NoMemory}
+use Rattle.fetch_session.specs.declared.fault.Why.TheVariants.{Refused as DeviceRefused}
 use Rattle.fetch_session.specs.Task.{Task, Done, stores, turns_of, replies_of, ids_in, ids_of}
 use Rattle.fetch_session.specs.declared.fault.Cut.{Cut}
 use Rattle.pop3_wire.specs.declared.unstuffer.Spot.TheVariants.{Done as AtEnd}
@@ -64,15 +64,15 @@ module _ (account : List ℕ) (tasks : List Task) (old new : Scene) (cut : Cut) 
   -- the conversation broke
   short_broken : ConversationsArePaced → Broken fell.next fell.mid new cut → CutShort account tasks old cut.fault new
   short_broken paced broken =
-      let p = paced (broken.turn ∷ []) fell.mid.place new.place (Err cut.fault) (stopped_first broken.turn [] fell.mid.place new.place cut.fault broken.broke) in
+      let p = paced (broken.turn ∷ []) fell.mid.place new.place (Err broken.broke.0) (stopped_first broken.turn [] fell.mid.place new.place broken.broke.0 broken.broke.2) in
       short_unmarked p.gained p.got broken.file broken.lines [] (rw (broken.store, append-nil)) (inl refl)
 
   -- the text came whole
-  whole_extra : (refused : NoFile account fell.next fell.mid new cut) → refused.rest.spot ≡ AtEnd → cut.fault ≡ StoreRefused DeviceRefused
+  whole_extra : TurnsJoin → (refused : NoFile account fell.next fell.mid new cut) → refused.rest.spot ≡ AtEnd → cut.fault ≡ StoreRefused DeviceRefused
       → ExtraIs account fell.dones (fell.next ∷ fell.later) old cut.fault new (mail_file account refused.uid refused.text ∷ [])
-  whole_extra refused done is =
+  whole_extra joining refused done is =
       let came = refused.whole done in
-      let talked = talked_on (turns_of fell.dones) (retr refused.number ∷ []) (replies_of fell.dones) (came.0 ∷ []) old.place fell.mid.place new.place fell.went.talked came.1 in
+      let talked = joining.on (turns_of fell.dones) (retr refused.number ∷ []) (replies_of fell.dones) (came.0 ∷ []) old.place fell.mid.place new.place fell.went.talked came.1 in
       inr (
         is,
         (
@@ -86,19 +86,19 @@ module _ (account : List ℕ) (tasks : List Task) (old new : Scene) (cut : Cut) 
         ),
       )
 
-  short_not_stored : NoFile account fell.next fell.mid new cut → CutShort account tasks old cut.fault new
-  short_not_stored refused =
+  short_not_stored : TurnsJoin → NoFile account fell.next fell.mid new cut → CutShort account tasks old cut.fault new
+  short_not_stored joining refused =
       let under = refused.fetching.under in
       let opened = refused.fetching.opened in
       let short = short_unmarked (opened.gained ++ under.gained) (simp (under.drew.got, opened.got, append_assoc)) refused.file refused.lines in
       elim refused.refuses [
         | inl missing ↦ short [] (rw (missing.2, append-nil)) (inl refl)
         | inr (is, inl same) ↦ short [] (rw (same, append-nil)) (inl refl)
-        | inr (is, inr (done, there)) ↦ short (mail_file account refused.uid refused.text ∷ []) (rw there) (whole_extra refused done is)
+        | inr (is, inr (done, there)) ↦ short (mail_file account refused.uid refused.text ∷ []) (rw there) (whole_extra joining refused done is)
       ]
 
-  short_not_saved : FileNotSaved account fell.next fell.mid new cut → CutShort account tasks old cut.fault new
-  short_not_saved refused =
+  short_not_saved : TurnsJoin → FileNotSaved account fell.next fell.mid new cut → CutShort account tasks old cut.fault new
+  short_not_saved joining refused =
       elim (unsaved_keeps fell.mid.file (none_open fell.mid.rows) (none_open (marked fell.mid.rows refused.uid)) cut.fault new.file refused.saves (fell.went.saved stood)) [
         | inl was ↦ with_marks (ids_of fell.dones) (inr (why, (refused.uid, flat_map-append (λ (d : Done). ids_in d.task) fell.dones (last ∷ [])))) (rw fell.went.rows at was)
         | inr is ↦ with_marks (ids_of (fell.dones ++ last ∷ [])) (inl refl) (simp (flat_map-append, marked_on) (rw fell.went.rows at is))
@@ -111,7 +111,7 @@ module _ (account : List ℕ) (tasks : List Task) (old new : Scene) (cut : Cut) 
       why = unsaved_why fell.mid.file (none_open fell.mid.rows) (none_open (marked fell.mid.rows refused.uid)) cut.fault new.file refused.saves
 
       talked : Talked (turns_of (fell.dones ++ last ∷ [])) (replies_of (fell.dones ++ last ∷ [])) old.place new.place
-      talked = simp flat_map-append (talked_on (turns_of fell.dones) (retr refused.number ∷ []) (replies_of fell.dones) (refused.reply ∷ []) old.place fell.mid.place new.place fell.went.talked refused.talked)
+      talked = simp flat_map-append (joining.on (turns_of fell.dones) (retr refused.number ∷ []) (replies_of fell.dones) (refused.reply ∷ []) old.place fell.mid.place new.place fell.went.talked refused.talked)
 
       with_marks : (marks : List (List ℕ)) → MarksAre (ids_of (fell.dones ++ last ∷ [])) cut.fault marks → Keeps new.file.content (none_open (marked_all old.rows marks))
           → CutShort account tasks old cut.fault new
@@ -130,10 +130,10 @@ module _ (account : List ℕ) (tasks : List Task) (old new : Scene) (cut : Cut) 
         record_is = stands;
       }
 
-pub stopping_cuts_short : ConversationsArePaced → StoppingCutsShort
-stopping_cuts_short paced account tasks old new cut fell none stood =
+pub stopping_cuts_short : ConversationsArePaced → TurnsJoin → StoppingCutsShort
+stopping_cuts_short paced joining account tasks old new cut fell none stood =
     elim fell.stops [
       | inl broken ↦ short_broken account tasks old new cut fell none stood paced broken
-      | inr (inl refused) ↦ short_not_stored account tasks old new cut fell none stood refused
-      | inr (inr refused) ↦ short_not_saved account tasks old new cut fell none stood refused
+      | inr (inl refused) ↦ short_not_stored account tasks old new cut fell none stood joining refused
+      | inr (inr refused) ↦ short_not_saved account tasks old new cut fell none stood joining refused
     ]

@@ -3,9 +3,10 @@ use Rattle.std.proofs.Common.{◌≡◌, inl, inr, ◌≤◌, ◌+◌, ℕ, List
 use Rattle.std.proofs.lemmas.List.{length-take-le}
 use Rattle.mail_store.specs.Maildir.{Maildir, File, file, mail, with_file, dropped, counted}
 use Rattle.mail_store.specs.FileName.{sized, sized_file}
-use Rattle.pop3_client.specs.declared.fault.Fault.{Fault}
+use Rattle.pop3_client.specs.declared.fault.ClientFault.{ClientFault}
+use Rattle.fetch_session.specs.declared.fault.Fault.{Fault}
 use Rattle.fetch_session.specs.declared.fault.Cut.{Cut}
-use Rattle.fetch_session.specs.Fault.{cut_of}
+use Rattle.fetch_session.specs.Fault.{cut_of, fault_of}
 use Rattle.pop3_wire.specs.Place.{Place}
 use Rattle.pop3_wire.specs.Bodies.{Rest}
 use Rattle.pop3_wire.specs.declared.unstuffer.Spot.TheVariants.{Done}
@@ -28,14 +29,14 @@ pub refused_start : (old new : Maildir) (name : List ℕ) (rest : Rest) (fault :
 refused_start old new name rest fault calm (inl missing) = inl missing
 refused_start old new name rest fault calm (inr same) = inr (same.0, inl (same.1 ∙ ap counted (sym (dropped_calm old calm))))
 
-pub stopped_store : (old now new : Maildir) (name text : List ℕ) (cut : Cut) (fault : Fault) → old.begun ≡ None → now ≡ begun_with old (file name text) → new ≡ dropped now → cut ≡ cut_of fault None
+pub stopped_store : (old now new : Maildir) (name text : List ℕ) (cut : Cut) (fault : ClientFault) → old.begun ≡ None → now ≡ begun_with old (file name text) → new ≡ dropped now → cut ≡ cut_of (fault_of fault) None
     → StopsStoring name old text cut.fault cut.rest new
 stopped_store old now new name text cut fault calm was is plain =
     rw plain (is ∙ ap dropped was ∙ dropped_calm old calm)
 
-pub stopped_read : (n : ℕ) (start new : Place) (text : List ℕ) (cut : Cut) (fault : Fault) → cut ≡ cut_of fault None → Broke (retr n) start new fault
+pub stopped_read : (n : ℕ) (start new : Place) (text : List ℕ) (cut : Cut) (fault : ClientFault) → cut ≡ cut_of (fault_of fault) None → Broke (retr n) start new fault
     → StopsReading n start text cut.fault cut.rest new
-stopped_read n start new text cut fault plain broke = rw plain broke
+stopped_read n start new text cut fault plain broke = rw plain (fault, refl, broke)
 
 pub refused_piece : (old now new : Maildir) (name text bytes more : List ℕ) (rest : Rest) (fault : Fault) → now ≡ begun_with old (file name text) → Puts now bytes (Err fault) new → RefusesText old name rest more fault new
 refused_piece old now new name text bytes more rest fault was puts =

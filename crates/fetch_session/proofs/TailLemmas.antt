@@ -4,22 +4,24 @@ use Rattle.std.proofs.lemmas.List.{append-nil}
 use Rattle.pop3_wire.specs.Line.{ended}
 use Rattle.pop3_wire.specs.Bodies.{Rest}
 use Rattle.pop3_wire.specs.Place.{Place, at}
-use Rattle.pop3_client.specs.Turns.{turn_bytes, asking, retr}
+use Rattle.pop3_wire.specs.Reading.{WholeReply}
+use Rattle.pop3_client.specs.Turns.{Turn, turn_bytes, asking, retr}
 use Rattle.pop3_client.specs.Texts.{Fetching, TakesRest}
-use Rattle.pop3_client.specs.Conversation.{Talks, ConversationsArePaced}
-use Rattle.pop3_client.specs.declared.fault.Fault.{Fault}
+use Rattle.pop3_client.specs.Conversation.{Talked, Talks, TurnsJoin, ConversationsArePaced}
+use Rattle.pop3_client.specs.declared.fault.ClientFault.{ClientFault}
+use Rattle.fetch_session.specs.declared.fault.Fault.{Fault}
 use Rattle.fetch_session.specs.Tail.{turns_in, tail, Drops, LeftBy}
-use Rattle.pop3_client.proofs.TalkLemmas.{completes_then, stopped_first}
+use Rattle.fetch_session.proofs.TalkLemmas.{stopped_first}
 
 -- ---- what was said and got goes on from a reply under way
 
 -- the rest of a text is a conversation of one turn
-rest_talks : (number : ℕ) (start new : Place) (r : Result (Unit {0}) Fault) → TakesRest (retr number) start r new → Talks (retr number ∷ []) start r new
+rest_talks : (number : ℕ) (start new : Place) (r : Result (Unit {0}) ClientFault) → TakesRest (retr number) start r new → Talks (retr number ∷ []) start r new
 rest_talks number start new (Ok done) takes = (takes.0 ∷ [], takes.1)
 rest_talks number start new (Err why) bad = stopped_first (retr number) [] start new why (inr (inl bad))
 
 -- nothing was said while the rest was read
-silent_rest : (number : ℕ) (start old new : Place) (rest : Rest) (text : List ℕ) (r : Result (Unit {0}) Fault) → Fetching (retr number) start old rest text
+silent_rest : (number : ℕ) (start old new : Place) (rest : Rest) (text : List ℕ) (r : Result (Unit {0}) ClientFault) → Fetching (retr number) start old rest text
     → TakesRest (retr number) start r new → new.link.sent ≡ old.link.sent
 silent_rest number start old new rest text (Ok done) now takes =
     takes.1.sent ∙ ap (λ (s : List ℕ). start.link.sent ++ s) (append-nil (turn_bytes (retr number))) ∙ sym (now.under.drew.sent ∙ now.opened.sent)
@@ -56,8 +58,23 @@ fetching_again number start old rest text now = record {
   };
 }
 
-module _ (paced : ConversationsArePaced) where
-  got_under : (number : ℕ) (start old new : Place) (rest : Rest) (text : List ℕ) (r : Result (Unit {0}) Fault) → Drops (Some rest) old r new → Fetching (retr number) start old rest text
+-- a turn before a conversation
+completes_then : TurnsJoin → (turn : Turn) (turns : List Turn) (old mid new : Place) (reply : WholeReply) (result : Result (Unit {0}) ClientFault) → Talked (turn ∷ []) (reply ∷ []) old mid
+    → Talks turns mid result new → Talks (turn ∷ turns) old result new
+completes_then joining turn turns old mid new reply (Ok done) first then = (reply ∷ then.0, joining.on (turn ∷ []) turns (reply ∷ []) then.0 old mid new first then.1)
+completes_then joining turn turns old mid new reply (Err fault) first then = record {
+  done = turn ∷ then.done;
+  replies = reply ∷ then.replies;
+  next = then.next;
+  later = then.later;
+  mid = then.mid;
+  split = ap (λ (ts : List Turn). turn ∷ ts) then.split;
+  talked = joining.on (turn ∷ []) then.done (reply ∷ []) then.replies old mid then.mid first then.talked;
+  broke = then.broke;
+}
+
+module _ (joining : TurnsJoin) (paced : ConversationsArePaced) where
+  got_under : (number : ℕ) (start old new : Place) (rest : Rest) (text : List ℕ) (r : Result (Unit {0}) ClientFault) → Drops (Some rest) old r new → Fetching (retr number) start old rest text
       → (gained : List ℕ) × (new.link.got ≡ old.link.got ++ gained)
   got_under number start old new rest text r drops now =
       let here = again number start old rest text now in
@@ -66,7 +83,7 @@ module _ (paced : ConversationsArePaced) where
 
   -- ---- a tail after a reply under way
 
-  pub left_dropped : (fault : Fault) (rest : Option Rest) (old mid new : Place) (r : Result (Unit {0}) Fault) → Drops rest old (Ok tt) mid → Talks (turns_in (tail fault)) mid r new → LeftBy fault rest old new
+  pub left_dropped : (fault : Fault) (rest : Option Rest) (old mid new : Place) (r : Result (Unit {0}) ClientFault) → Drops rest old (Ok tt) mid → Talks (turns_in (tail fault)) mid r new → LeftBy fault rest old new
   left_dropped fault None old mid new r same talks = (r, rw same at talks)
   left_dropped fault (Some rest) old mid new r drops talks = (
     λ done. (r, rw (drops.0 done).1 at talks),
@@ -75,7 +92,7 @@ module _ (paced : ConversationsArePaced) where
         let got = got_under number start old mid rest text (Ok tt) drops now in
         let p = paced (turns_in (tail fault)) mid new r talks in (
           r,
-          completes_then (retr number) (turns_in (tail fault)) start mid new told.0 r told.1 talks,
+          completes_then joining (retr number) (turns_in (tail fault)) start mid new told.0 r told.1 talks,
           record {
             said = asking p.done ++ p.part;
             gained = got.0 ++ p.gained;
@@ -86,7 +103,7 @@ module _ (paced : ConversationsArePaced) where
         ),
   )
 
-  pub left_broken : (fault : Fault) (rest : Option Rest) (old new : Place) (why : Fault) → Drops rest old (Err why) new → LeftBy fault rest old new
+  pub left_broken : (fault : Fault) (rest : Option Rest) (old new : Place) (why : ClientFault) → Drops rest old (Err why) new → LeftBy fault rest old new
   left_broken fault None old new why none = absurd none
   left_broken fault (Some rest) old new why drops = (
     λ done. absurd (cc (drops.0 done).0),

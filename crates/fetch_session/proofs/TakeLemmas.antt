@@ -8,33 +8,35 @@ use Rattle.mail_store.specs.FileName.{stem_of}
 use Rattle.pop3_client.specs.Turns.{Turn, retr, dele}
 use Rattle.pop3_wire.specs.Reading.{WholeReply}
 use Rattle.pop3_client.specs.Conversation.{Talked, Broke}
-use Rattle.pop3_client.specs.declared.fault.Fault.{Fault}
-use Rattle.pop3_client.specs.declared.fault.Fault.TheVariants.{NoMemory}
+use Rattle.pop3_client.specs.declared.fault.ClientFault.{ClientFault}
+use Rattle.fetch_session.specs.declared.fault.Fault.{Fault}
+use Rattle.pop3_client.specs.declared.fault.ClientFault.TheVariants.{NoMemory as WantsMemory}
+use Rattle.fetch_session.specs.declared.fault.Fault.TheVariants.{NoMemory}
 use Rattle.fetch_session.specs.declared.fault.Cut.{Cut}
 use Rattle.fetch_session.specs.declared.report.ReportLine.{ReportLine}
 use Rattle.fetch_session.specs.declared.report.ReportLine.TheVariants.{Delivered, Held, Skipped, Deleted}
-use Rattle.fetch_session.specs.Fault.{cut_of}
+use Rattle.fetch_session.specs.Fault.{cut_of, fault_of}
 use Rattle.pop3_wire.specs.Bodies.{Rest}
 use Rattle.fetch_session.specs.Task.{Task, stores, skips, rereads, deletes, turns_in, file_from}
 use Rattle.fetch_session.specs.Store.{StopsStoring, StoresText, StopsReading, ReadsText, PassesText}
 use Rattle.fetch_session.specs.Record.{Saves}
 use Rattle.fetch_session.specs.Scene.{scene, Stops, TakesTask}
-use Rattle.pop3_client.proofs.TalkLemmas.{talked_none}
+use Rattle.fetch_session.proofs.TalkLemmas.{talked_none}
 use Rattle.fetch_session.proofs.SceneLemmas.{brings_same}
 use Rattle.fetch_session.specs.Target.{Target, AsFiles, Stores, in_maildir}
 use Rattle.fetch_session.proofs.StoreLemmas.{gained_file}
 
 -- the conversation broke
-pub text_broken : (target : Target) (task : Task) (turn : Turn) (a b : Place) (store : Stores) (file : Stored) (rows : List Row) (lines : List ReportLine) (fault : Fault) (cut : Cut)
-    → turns_in task ≡ turn ∷ [] → cut ≡ cut_of fault None → Broke turn a b fault → Stops target task (scene a store file rows lines) cut (scene b store file rows lines)
+pub text_broken : (target : Target) (task : Task) (turn : Turn) (a b : Place) (store : Stores) (file : Stored) (rows : List Row) (lines : List ReportLine) (fault : ClientFault) (cut : Cut)
+    → turns_in task ≡ turn ∷ [] → cut ≡ cut_of (fault_of fault) None → Broke turn a b fault → Stops target task (scene a store file rows lines) cut (scene b store file rows lines)
 text_broken target task turn a b store file rows lines fault cut takes plain broke =
-    rw plain (inl (record { none = refl; turn = turn; takes = takes; broke = broke; store = refl; file = refl; rows = refl; lines = refl }))
+    rw plain (inl (record { none = refl; turn = turn; takes = takes; broke = (fault, refl, broke); store = refl; file = refl; rows = refl; lines = refl }))
 
 -- memory ran out before the text was asked for
 pub text_wanting : (account : List ℕ) (n : ℕ) (uid : List ℕ) (a : Place) (maildir : Maildir) (file : Stored) (rows : List Row) (lines : List ReportLine) (cut : Cut) → cut ≡ cut_of NoMemory None
     → Stops (AsFiles account) (stores n uid) (scene a (in_maildir maildir) file rows lines) cut (scene a (in_maildir maildir) file rows lines)
 text_wanting account n uid a maildir file rows lines cut plain =
-    text_broken (AsFiles account) (stores n uid) (retr n) a a (in_maildir maildir) file rows lines NoMemory cut refl plain (inr (inr (refl, refl, refl)))
+    text_broken (AsFiles account) (stores n uid) (retr n) a a (in_maildir maildir) file rows lines WantsMemory cut refl plain (inr (inr (refl, refl, refl)))
 
 -- it wasn't stored
 pub text_stops : {account : List ℕ} {n : ℕ} {uid : List ℕ} {a b : Place} {maildir maildir' : Maildir} {file : Stored} {rows : List Row} {lines : List ReportLine} {cut : Cut} (text stem : List ℕ)

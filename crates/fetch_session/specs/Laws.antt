@@ -8,10 +8,10 @@ use Rattle.pop3_wire.specs.Reading.{WholeReply, reply_bytes}
 use Rattle.pop3_wire.specs.Place.{Place}
 use Rattle.pop3_client.specs.Conversation.{Talked}
 use Rattle.pop3_client.specs.Turns.{Turn, IsGood}
-use Rattle.pop3_client.specs.declared.fault.Fault.{Fault}
+use Rattle.fetch_session.specs.declared.fault.Fault.{Fault}
 use Rattle.fetch_session.specs.declared.fault.Cut.{Cut}
-use Rattle.pop3_client.specs.declared.fault.Fault.TheVariants.{StoreRefused, SeenRefused, NoMemory}
-use Rattle.pop3_client.specs.declared.fault.Why.TheVariants.{Refused}
+use Rattle.fetch_session.specs.declared.fault.Fault.TheVariants.{StoreRefused, SeenRefused, NoMemory}
+use Rattle.fetch_session.specs.declared.fault.Why.TheVariants.{Refused}
 use Rattle.fetch_session.specs.Task.{Task, Done, stores, tasks_of, turns_of, replies_of, ids_of, files_of, file_from, lines_of}
 use Rattle.fetch_session.specs.Record.{Keeps, Steady, Saves}
 use Rattle.fetch_session.specs.Scene.{Scene, Fell}
@@ -63,9 +63,3 @@ abbrev pub UnsavedFilesKeep : Type 0
 UnsavedFilesKeep = (old : Stored) (was now : Held) (fault : Fault) (new : Stored) → Saves old was now (Err fault) new
     → Steady old.content was
     → Keeps new.content was ⊎ Keeps new.content now
-
--- no turns make a conversation in which nothing happens, and turns after turns make one conversation
-pub record TurnsJoin : Type 0 where
-  pub none : (place : Place) → Talked [] [] place place
-  pub on : (turns others : List Turn) (replies more : List WholeReply) (old mid new : Place)
-      → Talked turns replies old mid → Talked others more mid new → Talked (turns ++ others) (replies ++ more) old new

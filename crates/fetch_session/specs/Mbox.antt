@@ -10,13 +10,13 @@ use Rattle.mail_store.specs.declared.fault.StoreFault.{StoreFault}
 use Rattle.mail_store.specs.declared.fault.StoreFault.TheVariants as refused
 use Rattle.pop3_wire.specs.Bodies.{Rest}
 use Rattle.pop3_wire.specs.Place.{Place}
-use Rattle.pop3_client.specs.Conversation.{Broke}
 use Rattle.pop3_client.specs.Texts.{Fetching, Fetched}
 use Rattle.pop3_client.specs.Turns.{retr}
 use Rattle.fetch_session.specs.declared.fault.Cut.{Cut}
-use Rattle.pop3_client.specs.declared.fault.Fault.{Fault}
-use Rattle.pop3_client.specs.declared.fault.Fault.TheVariants.{StoreRefused, SeenRefused, NoMemory}
-use Rattle.pop3_client.specs.declared.fault.Why.TheVariants.{Missing, Refused, NotMbox}
+use Rattle.fetch_session.specs.declared.fault.Fault.{Fault}
+use Rattle.fetch_session.specs.Fault.{Breaks}
+use Rattle.fetch_session.specs.declared.fault.Fault.TheVariants.{StoreRefused, SeenRefused, NoMemory}
+use Rattle.fetch_session.specs.declared.fault.Why.TheVariants.{Missing, Refused, NotMbox}
 use Rattle.fetch_session.specs.declared.readiness.Found.{Found}
 use Rattle.fetch_session.specs.Record.{Saves, intent_at, with_open}
 use Rattle.fetch_session.specs.Target.{is_stored, closed_file, none_held}
@@ -64,7 +64,7 @@ AsksMbox intent old items (Err _) new = ⊥
 abbrev pub HoldsText : ℕ → Place → Result (List ℕ) Cut → Place → Type 0
 HoldsText number start (Ok text) new = Fetched (retr number) start text new
 HoldsText number start (Err cut) new = (cut.rest ≡ None)
-    × (Broke (retr number) start new cut.fault
+    × (Breaks (retr number) start new cut.fault
     ⊎ ((cut.fault ≡ NoMemory) × ((rest : Rest) × (text : List ℕ) × Fetching (retr number) start new rest text)))
 
 -- the intent of appending the entry of a text to these bytes

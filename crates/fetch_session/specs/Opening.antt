@@ -5,8 +5,8 @@ use Rattle.pop3_wire.specs.Reading.{WholeReply, HasListing, IsUidLine, IsScanLin
 use Rattle.mail_terms.specs.Listing.{Item, Agree, Joins}
 use Rattle.mail_terms.specs.declared.listing.UidRow.{UidRow}
 use Rattle.mail_terms.specs.declared.listing.ScanRow.{ScanRow}
-use Rattle.pop3_client.specs.declared.fault.Fault.{Fault}
-use Rattle.pop3_client.specs.declared.fault.Fault.TheVariants.{ListingsDisagree, NoMemory}
+use Rattle.pop3_client.specs.declared.fault.ClientFault.{ClientFault}
+use Rattle.pop3_client.specs.declared.fault.ClientFault.TheVariants.{ListingsDisagree, NoMemory}
 use Rattle.pop3_client.specs.Turns.{Turn, stat, uidl, list}
 use Rattle.pop3_client.specs.Conversation.{Talked, Stopped, login}
 
@@ -26,7 +26,7 @@ pub record Opened (name password : List ℕ) (old new : Place) (count : ℕ) (ui
   pub octets : HasListing IsScanLine sized sizes
 
 -- the listing is the rows, joined with the count; or the conversation stopped; or the rows don't join; or memory ran out joining them
-abbrev pub Enters : List ℕ → List ℕ → Place → Result (List Item) Fault → Place → Type 0
+abbrev pub Enters : List ℕ → List ℕ → Place → Result (List Item) ClientFault → Place → Type 0
 Enters name password old (Ok items) new = (count : ℕ) × (uids : List UidRow) × (sizes : List ScanRow)
     × Opened name password old new count uids sizes × Joins count uids sizes items
 Enters name password old (Err fault) new = Stopped (opening name password) old new fault

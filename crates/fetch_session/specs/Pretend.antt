@@ -13,12 +13,13 @@ use Rattle.mail_store.specs.Held.{flags_of}
 use Rattle.mail_store.specs.Maildir.{Maildir}
 use Rattle.mail_store.specs.MboxCalls.{GoesOn}
 use Rattle.fetch_session.specs.declared.fault.Cut.{Cut}
-use Rattle.pop3_client.specs.declared.fault.Fault.{Fault}
+use Rattle.pop3_client.specs.declared.fault.ClientFault.{ClientFault}
+use Rattle.fetch_session.specs.declared.fault.Fault.{Fault}
 use Rattle.fetch_session.specs.declared.preview.Foreseen.{Foreseen}
 use Rattle.fetch_session.specs.declared.preview.Looked.{Looked}
 use Rattle.fetch_session.specs.declared.preview.Preview.{Preview}
 use Rattle.fetch_session.specs.declared.prospect.Prospect.{Prospect}
-use Rattle.fetch_session.specs.Fault.{cut_of}
+use Rattle.fetch_session.specs.Fault.{cut_of, fault_of}
 use Rattle.fetch_session.specs.Mbox.{AsksMbox}
 use Rattle.fetch_session.specs.Prospect.{prospects}
 use Rattle.fetch_session.specs.Readiness.{CausesUnready, FindsRefused}
@@ -110,8 +111,8 @@ told_nothing total = record { total = total; unsettled = false; prospects = [] }
 
 -- logging in or asking for the listings stopped
 pub record NotListed (settings : Settings) (old : Place) (cut : Cut) (new : Place) (told : Told) : Type 0 where
-  pub why : Fault
-  pub is : cut ≡ cut_of why None
+  pub why : ClientFault
+  pub is : cut ≡ cut_of (fault_of why) None
   pub enters : Enters_with settings old (Err why) new
   pub nothing : told ≡ told_nothing 0
 
@@ -126,7 +127,7 @@ pub record NotReady (settings : Settings) (target : Target) (old : Place) (befor
   pub nothing : told ≡ told_nothing (length items)
 
 -- the preview says what would be done with the listed messages, and QUIT was sent
-pub record Listed (settings : Settings) (target : Target) (now : ℕ) (old : Place) (before : Keeping) (result : Result (Unit {0}) Fault)
+pub record Listed (settings : Settings) (target : Target) (now : ℕ) (old : Place) (before : Keeping) (result : Result (Unit {0}) ClientFault)
     (new : Place) (told : Told) : Type 0 where
   pub items : List Item
   pub mid : Place
@@ -140,7 +141,7 @@ abbrev pub EndsOrStops : Settings → Target → ℕ → Place → Keeping → R
 EndsOrStops settings target now old before (Ok done) new after told = Listed settings target now old before (Ok done) new told
 EndsOrStops settings target now old before (Err cut) new after told = NotListed settings old cut new told
     ⊎ (NotReady settings target old before cut new after told
-    ⊎ ((why : Fault) × (cut ≡ cut_of why None) × Listed settings target now old before (Err why) new told))
+    ⊎ ((why : ClientFault) × (cut ≡ cut_of (fault_of why) None) × Listed settings target now old before (Err why) new told))
 
 abbrev pub Surveys : Settings → Target → ℕ → Place → Keeping → Result (Unit {0}) Cut → Place → Keeping → Told → Type 0
 Surveys settings target now old before result new after told =

@@ -7,8 +7,8 @@ use Rattle.fetch_rules.specs.Intents.{ReadAs as BytesReadAs}
 use Rattle.fetch_rules.specs.declared.seen.SeenFault.{SeenFault}
 use Rattle.fetch_rules.specs.declared.seen.SeenFault.TheVariants.{BadHeader, BadRow, RepeatedId, NoMemory as WantsMemory}
 use Rattle.mail_store.specs.FlatFile.{Stored, holding, counted}
-use Rattle.pop3_client.specs.declared.fault.Fault.{Fault}
-use Rattle.pop3_client.specs.declared.fault.Fault.TheVariants.{SeenRefused, BadSeen, NoMemory}
+use Rattle.fetch_session.specs.declared.fault.Fault.{Fault}
+use Rattle.fetch_session.specs.declared.fault.Fault.TheVariants.{SeenRefused, BadSeen, NoMemory}
 
 -- the bytes of a file; none if it isn't there
 abbrev pub bytes_in : Option (List ℕ) → List ℕ

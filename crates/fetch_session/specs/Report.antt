@@ -5,7 +5,7 @@ use Rattle.std.specs.List.{filter, count_by, sum_by}
 use Rattle.mail_terms.specs.Listing.{message_limit}
 use Rattle.mail_terms.specs.Numeral.{greatest_size}
 use Rattle.fetch_rules.specs.declared.steps.Step.{Step}
-use Rattle.pop3_client.specs.declared.fault.Fault.TheVariants.{StoreRefused, SeenRefused, BadSeen}
+use Rattle.fetch_session.specs.declared.fault.Fault.TheVariants.{StoreRefused, SeenRefused, BadSeen}
 use Rattle.fetch_session.specs.declared.report.Report.{Report}
 use Rattle.fetch_session.specs.declared.report.Outcome.{Outcome}
 use Rattle.fetch_session.specs.declared.report.Outcome.TheVariants.{Cut}

@@ -6,9 +6,10 @@ use Rattle.fetch_rules.specs.Record.{Row, none_open, marked, marked_all}
 use Rattle.mail_store.specs.FlatFile.{Stored}
 use Rattle.pop3_client.specs.Turns.{Turn, retr}
 use Rattle.pop3_wire.specs.Reading.{WholeReply}
-use Rattle.pop3_client.specs.Conversation.{Talked, Broke}
+use Rattle.pop3_client.specs.Conversation.{Talked}
 use Rattle.fetch_session.specs.declared.report.ReportLine.{ReportLine}
 use Rattle.fetch_session.specs.declared.fault.Cut.{Cut}
+use Rattle.fetch_session.specs.Fault.{Breaks}
 use Rattle.pop3_wire.specs.Bodies.{Rest}
 use Rattle.pop3_wire.specs.declared.unstuffer.Spot.TheVariants.{Done as AtEnd}
 use Rattle.pop3_client.specs.Texts.{Fetching, Fetched, body_text}
@@ -18,7 +19,7 @@ use Rattle.fetch_session.specs.Task.{file_from, delivered, lines_of}
 use Rattle.fetch_session.specs.Store.{RefusesText, Gained, Appended, Brings}
 use Rattle.fetch_session.specs.Target.{Target, AsFiles, AsEntries, Stores}
 use Rattle.fetch_session.specs.Mbox.{RefusesEntry, MarksEntry}
-use Rattle.pop3_client.specs.declared.fault.Fault.TheVariants.{NoMemory}
+use Rattle.fetch_session.specs.declared.fault.Fault.TheVariants.{NoMemory}
 use Rattle.fetch_session.specs.Record.{Steady, Saves}
 
 -- the link and what waits, what the store holds, the record's file, the record, and the lines noted so far
@@ -47,7 +48,7 @@ pub record Broken (next : Task) (old new : Scene) (cut : Cut) : Type 0 where
   pub none : cut.rest ≡ None
   pub turn : Turn
   pub takes : turns_in next ≡ turn ∷ []
-  pub broke : Broke turn old.place new.place cut.fault
+  pub broke : Breaks turn old.place new.place cut.fault
   pub store : new.store ≡ old.store
   pub file : new.file ≡ old.file
   pub rows : new.rows ≡ old.rows

@@ -7,14 +7,14 @@ use Rattle.mail_terms.specs.Listing.{Item}
 use Rattle.rc_file.specs.declared.settings.Settings.{Settings}
 use Rattle.mail_store.specs.Maildir.{Maildir}
 use Rattle.mail_store.specs.FlatFile.{Stored}
-use Rattle.pop3_client.specs.declared.fault.Fault.{Fault}
-use Rattle.pop3_client.specs.declared.fault.Fault.TheVariants.{NoMemory}
+use Rattle.pop3_client.specs.declared.fault.ClientFault.{ClientFault}
+use Rattle.fetch_session.specs.declared.fault.Fault.TheVariants.{NoMemory}
 use Rattle.fetch_session.specs.declared.fault.Cut.{Cut}
 use Rattle.fetch_session.specs.declared.report.Outcome.{Outcome}
 use Rattle.fetch_session.specs.declared.report.Outcome.TheVariants.{Ended, Cut as WasCut}
 use Rattle.fetch_session.specs.declared.report.Report.{Report}
 use Rattle.fetch_session.specs.declared.report.ReportLine.{ReportLine}
-use Rattle.fetch_session.specs.Fault.{cut_of}
+use Rattle.fetch_session.specs.Fault.{cut_of, fault_of}
 use Rattle.fetch_session.specs.Opening.{Enters}
 use Rattle.fetch_session.specs.Plan.{Carries}
 use Rattle.fetch_session.specs.Tail.{Left}
@@ -49,14 +49,14 @@ kept maildir file = record { maildir = maildir; file = file }
 abbrev pub keeps_files : Kept → Keeping
 keeps_files account = keeping (in_maildir account.maildir) account.file
 
-abbrev pub Enters_with : Settings → Place → Result (List Item) Fault → Place → Type 0
+abbrev pub Enters_with : Settings → Place → Result (List Item) ClientFault → Place → Type 0
 Enters_with settings old result new = Enters (string_bytes settings.username) (string_bytes settings.password) old result new
 
 -- the conversation stopped before a listing was known: nothing was stored
 pub record NotEntered (settings : Settings) (old : Place) (before : Keeping) (cut : Cut) (new : Place) (after : Keeping)
     (notes : Noted) : Type 0 where
-  pub why : Fault
-  pub is : cut ≡ cut_of why None
+  pub why : ClientFault
+  pub is : cut ≡ cut_of (fault_of why) None
   pub enters : Enters_with settings old (Err why) new
   pub same : after ≡ before
   pub nothing : notes ≡ noted 0 0 []

@@ -15,9 +15,11 @@ use Rattle.pop3_client.specs.Texts.{Fetching, Fetched, body_text}
 use Rattle.fetch_session.specs.declared.fault.Cut.{Cut}
 use Rattle.mail_store.specs.Maildir.{Maildir, File, file, mail, with_file, dropped, counted}
 use Rattle.mail_store.specs.FileName.{sized_file}
-use Rattle.pop3_client.specs.declared.fault.Fault.{Fault}
-use Rattle.pop3_client.specs.declared.fault.Fault.TheVariants.{StoreRefused}
-use Rattle.pop3_client.specs.declared.fault.Why.TheVariants.{Missing, Refused}
+use Rattle.pop3_client.specs.declared.fault.ClientFault.{ClientFault}
+use Rattle.fetch_session.specs.declared.fault.Fault.{Fault}
+use Rattle.fetch_session.specs.Fault.{Breaks}
+use Rattle.fetch_session.specs.declared.fault.Fault.TheVariants.{StoreRefused}
+use Rattle.fetch_session.specs.declared.fault.Why.TheVariants.{Missing, Refused}
 
 -- these files came after the others; no other changed, and the same folders are there
 pub record Gained (old new : Maildir) (files : List File) : Type 0 where
@@ -81,7 +83,7 @@ StoresText stem old text (Err cut) new = StopsStoring stem old text cut.fault cu
 
 -- the conversation broke; or the reply is under way, or whole
 abbrev pub StopsReading : ℕ → Place → List ℕ → Fault → Option Rest → Place → Type 0
-StopsReading number start text fault None new = Broke (retr number) start new fault
+StopsReading number start text fault None new = Breaks (retr number) start new fault
 StopsReading number start text fault (Some rest) new = Fetching (retr number) start new rest text
     × (rest.spot ≡ AtEnd → Fetched (retr number) start text new)
 
@@ -90,7 +92,7 @@ ReadsText number start text (Ok octets) new = Fetched (retr number) start text n
 ReadsText number start text (Err cut) new = StopsReading number start text cut.fault cut.rest new
 
 -- a text that is read and not stored: its length
-abbrev pub PassesText : ℕ → Place → Result ℕ Fault → Place → Type 0
+abbrev pub PassesText : ℕ → Place → Result ℕ ClientFault → Place → Type 0
 PassesText number start (Ok octets) new = (reply : WholeReply) × Talked (retr number ∷ []) (reply ∷ []) start new
     × (octets ≡ length (body_text reply.body))
 PassesText number start (Err why) new = Broke (retr number) start new why

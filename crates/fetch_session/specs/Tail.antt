@@ -8,8 +8,9 @@ use Rattle.pop3_wire.specs.Place.{Place}
 use Rattle.pop3_client.specs.declared.fault.Asked.TheVariants.{Quit}
 use Rattle.pop3_client.specs.Turns.{Turn, asking, quit, rset, retr}
 use Rattle.pop3_client.specs.Conversation.{Talks}
-use Rattle.pop3_client.specs.declared.fault.Fault.{Fault}
-use Rattle.pop3_client.specs.declared.fault.Fault.TheVariants.{Refused, StoreRefused, SeenRefused, BadSeen}
+use Rattle.pop3_client.specs.declared.fault.ClientFault.{ClientFault}
+use Rattle.fetch_session.specs.declared.fault.Fault.{Fault}
+use Rattle.fetch_session.specs.declared.fault.Fault.TheVariants.{Refused, StoreRefused, SeenRefused, BadSeen}
 use Rattle.fetch_session.specs.declared.tail.Tail.{Tail}
 use Rattle.fetch_session.specs.declared.tail.Tail.TheVariants.{Nothing, Leave, Undo}
 
@@ -29,7 +30,7 @@ tail (BadSeen line) = Undo
 tail _ = Nothing
 
 -- the rest of the reply under way, if one is, was read and dropped (a whole one has no rest); or its turn broke
-abbrev pub Drops : Option Rest → Place → Result (Unit {0}) Fault → Place → Type 0
+abbrev pub Drops : Option Rest → Place → Result (Unit {0}) ClientFault → Place → Type 0
 Drops None old (Ok done) new = new ≡ old
 Drops None old (Err fault) new = ⊥
 Drops (Some rest) old result new = (rest.spot ≡ Done → (result ≡ Ok tt) × (new ≡ old))
@@ -46,11 +47,11 @@ pub record WentOn (turns : List Turn) (old new : Place) : Type 0 where
 -- with no reply under way, or a whole one, the tail was talked, or it stopped; with a reply, its turn and then the tail
 -- were talked, or stopped, from where that turn began, and what was sent and what came went on from before
 abbrev pub LeftBy : Fault → Option Rest → Place → Place → Type 0
-LeftBy fault None old new = (result : Result (Unit {0}) Fault) × Talks (turns_in (tail fault)) old result new
-LeftBy fault (Some rest) old new = (rest.spot ≡ Done → (result : Result (Unit {0}) Fault)
+LeftBy fault None old new = (result : Result (Unit {0}) ClientFault) × Talks (turns_in (tail fault)) old result new
+LeftBy fault (Some rest) old new = (rest.spot ≡ Done → (result : Result (Unit {0}) ClientFault)
     × Talks (turns_in (tail fault)) old result new)
     × ((number : ℕ) (start : Place) (text : List ℕ) → Fetching (retr number) start old rest text
-    → (result : Result (Unit {0}) Fault) × Talks (retr number ∷ turns_in (tail fault)) start result new
+    → (result : Result (Unit {0}) ClientFault) × Talks (retr number ∷ turns_in (tail fault)) start result new
     × WentOn (turns_in (tail fault)) old new)
 
 abbrev pub Left : Cut → Place → Place → Type 0

@@ -4,15 +4,15 @@ use Rattle.std.specs.Fmt.{decimal}
 use Rattle.std.specs.String.{string_bytes}
 use Rattle.rc_file.specs.declared.settings.Settings.{Settings}
 use Rattle.pop3_client.specs.declared.fault.Asked.{Asked}
-use Rattle.pop3_client.specs.declared.fault.Asked.TheVariants.{Greeting, User, Pass, Stat, Uidl, List as ListAsked, Retr, Dele, Quit}
-use Rattle.pop3_client.specs.declared.fault.Why.{Why}
-use Rattle.pop3_client.specs.declared.fault.Why.TheVariants as why
-use Rattle.pop3_client.specs.declared.fault.Fault.{Fault}
-use Rattle.pop3_client.specs.declared.fault.Fault.TheVariants.{ConnectionEnded, ReadFailed, WriteFailed}
-use Rattle.pop3_client.specs.declared.fault.Fault.TheVariants.{ReplyTooLong, BadReply, Refused, BadListing}
-use Rattle.pop3_client.specs.declared.fault.Fault.TheVariants.{ListingsDisagree, TooMany, TextTooLong, StoreRefused}
-use Rattle.pop3_client.specs.declared.fault.Fault.TheVariants.{SeenRefused, NoMemory, BadSeen}
-use Rattle.pop3_client.specs.Fault.{number_of}
+use Rattle.pop3_client.specs.declared.fault.Asked.TheVariants.{Greeting, User, Pass, Stat, Uidl, List as ListAsked, Retr, Dele, Rset, Quit}
+use Rattle.fetch_session.specs.declared.fault.Why.{Why}
+use Rattle.fetch_session.specs.declared.fault.Why.TheVariants as why
+use Rattle.fetch_session.specs.declared.fault.Fault.{Fault}
+use Rattle.fetch_session.specs.declared.fault.Fault.TheVariants.{ConnectionEnded, ReadFailed, WriteFailed}
+use Rattle.fetch_session.specs.declared.fault.Fault.TheVariants.{ReplyTooLong, BadReply, Refused, BadListing}
+use Rattle.fetch_session.specs.declared.fault.Fault.TheVariants.{ListingsDisagree, TooMany, TextTooLong, StoreRefused}
+use Rattle.fetch_session.specs.declared.fault.Fault.TheVariants.{SeenRefused, NoMemory, BadSeen}
+use Rattle.fetch_session.specs.Fault.{number_of}
 use Rattle.fetch_session.specs.declared.report.Outcome.{Outcome}
 use Rattle.fetch_session.specs.declared.report.Outcome.TheVariants.{Ended, Cut}
 use Rattle.fetch_session.specs.declared.report.Report.{Report}
@@ -29,6 +29,7 @@ asked_text Uidl = codes "UIDL"
 asked_text ListAsked = codes "LIST"
 asked_text (Retr number) = codes "RETR " ++ decimal number
 asked_text (Dele number) = codes "DELE " ++ decimal number
+asked_text Rset = codes "RSET"
 asked_text Quit = codes "QUIT"
 
 abbrev pub why_text : Why → List ℕ

@@ -25,13 +25,13 @@ ghost use Rattle.fetch_session.specs.Target.{AsEntries, in_mbox};
 ghost use Rattle.fetch_session.specs.Task.{stores};
 ghost use Rattle.fetch_session.specs.Work.{IsWritten};
 
-use crate::fault::{Cut, plain};
+use crate::fault::{Cut, Fault, Why, broken, plain};
 use crate::record::{intend, remember};
 use crate::report::{ReportLine, note};
 use crate::work::Ledger;
 use fetch_rules::marked_keeps_rows;
 use mail_store::{FlatFile, StoreFault, append_entry, entry_len, is_whole};
-use pop3_client::{Client, Fault, Why, conversations_are_paced};
+use pop3_client::{Client, conversations_are_paced};
 use pop3_wire::{BodyReader, PIECE_ROOM, Wire};
 use std::alloc::Global;
 use std::hash::BuildHasher;
@@ -68,7 +68,7 @@ fn read_text<W: Wire>(
     'pieces: loop {
         let piece = match client.next_piece(&mut rest, &mut out) {
             Ok(piece) => piece,
-            Err(fault) => return Err(plain(fault)),
+            Err(fault) => return Err(broken(fault)),
         };
         if let Err(_) = text.extend_from_slice(&out[..piece.put]) {
             return Err(plain(Fault::NoMemory));
@@ -151,7 +151,7 @@ pub(crate) fn take_into_mbox<W: Wire, F: FlatFile, H: BuildHasher>(
     marked_keeps_rows();
     let body = match client.open(ledger.alloc, number) {
         Ok(body) => body,
-        Err(fault) => return Err(plain(fault)),
+        Err(fault) => return Err(broken(fault)),
     };
     let text = match read_text(ledger.alloc, client, body) {
         Ok(text) => text,

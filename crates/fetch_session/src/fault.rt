@@ -1,9 +1,76 @@
-//! How a session is cut.
+//! A session's fault, and how a session is cut.
 ghost use Rattle.std.specs.Prelude.{◌≡◌, None};
-ghost use Rattle.fetch_session.specs.Fault.{cut_of};
+ghost use Rattle.fetch_session.specs.Fault.{cut_of, fault_of};
 
-use pop3_client::Fault;
+use pop3_client::{Asked, ClientFault};
 use pop3_wire::BodyReader;
+
+/// Why a store refused a call.
+#[derive(Clone, Copy, Debug, PartialEq, Eq)]
+pub enum Why {
+    /// A folder or a file isn't there.
+    Missing,
+    /// The device refused the call.
+    Refused,
+    /// The file is no mboxrd file.
+    NotMbox,
+}
+
+/// Why a session is cut. Each has a number, which `cut N` shows.
+#[derive(Clone, Copy, Debug, PartialEq, Eq)]
+pub enum Fault {
+    /// 1: the link gave 0 octets before the reply was whole.
+    ConnectionEnded,
+    /// 2: the link refused a `recv`.
+    ReadFailed,
+    /// 3: the link refused a `send`.
+    WriteFailed,
+    /// 4: 2,048 octets hold no whole line.
+    ReplyTooLong,
+    /// 5: a first line is neither positive nor negative, or STAT's doesn't give a count and a size.
+    BadReply,
+    /// 6: the reply to this is negative.
+    Refused(Asked),
+    /// 7: a row of a listing can't be read.
+    BadListing,
+    /// 8: both listings are whole, but don't agree with the count or with each other.
+    ListingsDisagree,
+    /// 9: there are more than 100,000 messages.
+    TooMany,
+    /// 10: 268,435,456 octets hold no whole body.
+    TextTooLong,
+    /// 11: the store refused a call.
+    StoreRefused(Why),
+    /// 12: the record's file refused a call.
+    SeenRefused,
+    /// 13: out of memory.
+    NoMemory,
+    /// 14: the record's file isn't understood; this is its first faulty line, counted from 1.
+    BadSeen(u32),
+}
+
+impl From<ClientFault> for Fault {
+    ghost use Rattle.std.specs.Prelude.{◌≡◌};
+    ghost use Rattle.fetch_session.specs.Fault.{fault_of};
+
+    ghost from_gives = { λ fault e. e ≡ fault_of fault };
+
+    fn from(fault: ClientFault) -> Fault {
+        match fault {
+            ClientFault::ConnectionEnded => Fault::ConnectionEnded,
+            ClientFault::ReadFailed => Fault::ReadFailed,
+            ClientFault::WriteFailed => Fault::WriteFailed,
+            ClientFault::ReplyTooLong => Fault::ReplyTooLong,
+            ClientFault::BadReply => Fault::BadReply,
+            ClientFault::Refused(asked) => Fault::Refused(asked),
+            ClientFault::BadListing => Fault::BadListing,
+            ClientFault::ListingsDisagree => Fault::ListingsDisagree,
+            ClientFault::TooMany => Fault::TooMany,
+            ClientFault::TextTooLong => Fault::TextTooLong,
+            ClientFault::NoMemory => Fault::NoMemory,
+        }
+    }
+}
 
 /// Why a session is cut, and the reply that is under way then, if one is. No public call returns or
 /// takes a `Cut`: it is public because the definitions of what a session did use it.
@@ -20,4 +87,11 @@ pub(crate) fn plain(fault: Fault) -> Cut
     ensures { result ≡ cut_of fault None }
 {
     Cut { fault, rest: None }
+}
+
+/// A cut because the conversation went wrong.
+pub(crate) fn broken(fault: ClientFault) -> Cut
+    ensures { result ≡ cut_of (fault_of fault) None }
+{
+    plain(Fault::from(fault))
 }

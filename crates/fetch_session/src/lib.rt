@@ -22,10 +22,9 @@ mod text;
 mod work;
 
 pub use account::{Account, Store};
-pub use fault::Cut;
-pub use laws::{steady_files_keep, stopping_cuts_short, turns_join, unsaved_files_keep};
+pub use fault::{Cut, Fault, Why};
+pub use laws::{steady_files_keep, stopping_cuts_short, unsaved_files_keep};
 pub use one_session::session;
-pub use pop3_client::{Fault, Why};
 pub use preview::{Preview, pretend};
 pub use prospect::{Fate, Prospect};
 pub use report::{Outcome, Report, ReportLine};

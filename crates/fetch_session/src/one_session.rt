@@ -18,7 +18,7 @@ ghost use Rattle.fetch_session.specs.Target.{AfterTakingIn, IsCalm, IsSoundMaild
 ghost use Rattle.fetch_session.specs.Target.{is_sound, kind_of, maildir_of, mbox_of, stores_of, target_of};
 
 use crate::account::Account;
-use crate::fault::{Cut, plain};
+use crate::fault::{Cut, Fault, broken, plain};
 use crate::opening::enter;
 use crate::plan::carry_out;
 use crate::report::{Outcome, Report, ReportLine, report_of};
@@ -26,7 +26,7 @@ use crate::tail::leave;
 use crate::terms::Terms;
 use crate::work::Work;
 use mail_store::{FlatFile, MaildirDisk};
-use pop3_client::{Client, Fault, conversations_are_paced};
+use pop3_client::{Client, conversations_are_paced};
 use pop3_wire::{PIECE_ROOM, Wire};
 use std::hash::BuildHasher;
 use std::mem;
@@ -73,7 +73,7 @@ fn proceed<W: Wire, D: MaildirDisk, F: FlatFile, H: BuildHasher>(
     conversations_are_paced();
     let listing = match enter(work.ledger.alloc, terms.settings, client) {
         Ok(listing) => listing,
-        Err(fault) => return Err(plain(fault)),
+        Err(fault) => return Err(broken(fault)),
     };
     counts.total = listing.len();
     if let Err(_) = work.ledger.lines.reserve(2 * listing.len() as usize) {

@@ -9,7 +9,7 @@ ghost use Rattle.fetch_session.specs.Opening.{Enters};
 
 use fetch_rules::Settings;
 use mail_terms::Listing;
-use pop3_client::{Client, Fault};
+use pop3_client::{Client, ClientFault, turns_join};
 use pop3_wire::Wire;
 use std::alloc::Global;
 
@@ -18,7 +18,7 @@ pub(crate) fn enter<W: Wire>(
     alloc: Global,
     settings: &Settings,
     client: &mut Client<'_, W>,
-) -> Result<Listing, Fault>
+) -> Result<Listing, ClientFault>
     requires { IsValid settings.now }
     ensures link { HasSameLink client.old client.new }
     ensures counted { CountsRefusals W.Wire client.old result client.new }
@@ -27,6 +27,7 @@ pub(crate) fn enter<W: Wire>(
         (Enters (string_bytes settings.now.username) (string_bytes settings.now.password)
         (place_of W.Wire client.old) result (place_of W.Wire client.new)) }
 {
+    turns_join();
     let name = settings.username.as_bytes();
     let password = settings.password.as_bytes();
     if let Err(fault) = client.log_in(alloc, name, password) {

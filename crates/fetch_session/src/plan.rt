@@ -11,7 +11,7 @@ ghost use Rattle.fetch_session.specs.Lasting.{CarriesForGood, is_sure};
 ghost use Rattle.fetch_session.specs.Parts.{KeepsLink, KeepsStore};
 ghost use Rattle.fetch_session.specs.Report.{HasRoom};
 
-use crate::fault::{Cut, plain};
+use crate::fault::{Cut, broken, plain};
 use crate::readiness::{Ready, prepare};
 use crate::report::skipped_in;
 use crate::step::do_steps;
@@ -19,7 +19,7 @@ use crate::terms::Terms;
 use crate::work::Work;
 use fetch_rules::{Listing, firsts_are_fetched};
 use mail_store::{FlatFile, MaildirDisk};
-use pop3_client::{Client, conversations_are_paced};
+use pop3_client::{Client, conversations_are_paced, turns_join};
 use pop3_wire::Wire;
 use std::hash::BuildHasher;
 
@@ -48,6 +48,7 @@ pub fn carry_out<W: Wire, D: MaildirDisk, F: FlatFile, H: BuildHasher>(
         new.place new.store new.file new.lines skipped.new work.new.store work.new.ledger.file)) }
 {
     conversations_are_paced();
+    turns_join();
     firsts_are_fetched();
     let ready = match prepare(
         work.ledger.alloc,
@@ -67,6 +68,6 @@ pub fn carry_out<W: Wire, D: MaildirDisk, F: FlatFile, H: BuildHasher>(
     }
     match client.quit() {
         Ok(()) => Ok(()),
-        Err(fault) => Err(plain(fault)),
+        Err(fault) => Err(broken(fault)),
     }
 }

@@ -12,7 +12,7 @@ ghost use Rattle.fetch_session.specs.Target.{AfterTakingIn, IsCalm, is_sound, ki
 
 use crate::account::{Account, Store};
 use crate::appending::refused;
-use crate::fault::{Cut, plain};
+use crate::fault::{Cut, Fault, broken, plain};
 use crate::opening::enter;
 use crate::prospect::{Prospect, prospects};
 use crate::readiness::{ask_held, read};
@@ -22,7 +22,7 @@ use crate::terms::Terms;
 use crate::work::Work;
 use fetch_rules::{Listing, Seen, plan};
 use mail_store::{AccountId, FlatFile, MaildirDisk, peek_mbox};
-use pop3_client::{Client, Fault};
+use pop3_client::Client;
 use pop3_wire::Wire;
 use std::alloc::{AllocError, Global};
 use std::hash::BuildHasher;
@@ -200,7 +200,7 @@ fn survey<W: Wire, D: MaildirDisk, F: FlatFile, H: BuildHasher>(
 {
     let listing = match enter(work.ledger.alloc, terms.settings, client) {
         Ok(listing) => listing,
-        Err(fault) => return Err(plain(fault)),
+        Err(fault) => return Err(broken(fault)),
     };
     preview.total = listing.len();
     let foreseen = match foresee(
@@ -222,7 +222,7 @@ fn survey<W: Wire, D: MaildirDisk, F: FlatFile, H: BuildHasher>(
     preview.prospects = prospects;
     match client.quit() {
         Ok(()) => Ok(()),
-        Err(fault) => Err(plain(fault)),
+        Err(fault) => Err(broken(fault)),
     }
 }
 

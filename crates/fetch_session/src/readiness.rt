@@ -16,6 +16,7 @@ ghost use Rattle.fetch_session.specs.Record.{Gets, Reads, ReadAs, Merges, IsLine
 
 use crate::account::Store;
 use crate::appending::refused;
+use crate::fault::{Fault, Why};
 use crate::record::{grow, save};
 use crate::terms::Terms;
 use fetch_rules::{
@@ -25,7 +26,6 @@ use fetch_rules::{
 use mail_store::{
     AccountId, FlatFile, Folder, MaildirDisk, StoreFault, check_mbox, held, peek_mbox, settle_file,
 };
-use pop3_client::{Fault, Why};
 use std::alloc::{AllocError, Global};
 use std::hash::BuildHasher;
 use std::vec::Vec;

@@ -10,9 +10,9 @@ ghost use Rattle.fetch_session.specs.Record.{Writes, Saves, Steady, bytes_in, he
 ghost use Rattle.mail_store.specs.Power.{KeepsBytes};
 ghost use Rattle.fetch_session.specs.Lasting.{IsSafe};
 
+use crate::fault::Fault;
 use fetch_rules::{Seen, appended_counts, bytes_stand, cut_is_ignored};
 use mail_store::FlatFile;
-use pop3_client::Fault;
 use std::hash::BuildHasher;
 
 /// Writes the whole record to the file. No intent is open.

@@ -6,8 +6,8 @@ ghost use Rattle.fetch_session.specs.Report.{HasRoom, is_deletion, is_taken, len
 ghost use Rattle.fetch_session.specs.Report.{retrieved_in, length_of, deleted_in, skipped_in, most_bytes, most_lines};
 ghost use Rattle.fetch_session.specs.Report.{Reports};
 
+use crate::fault::Fault;
 use fetch_rules::Step;
-use pop3_client::Fault;
 use std::vec::Vec;
 
 /// What was done with one message. Numbers count from 1.

@@ -14,13 +14,13 @@ ghost use Rattle.pop3_wire.specs.Link.{WhereSound};
 
 use crate::account::Store;
 use crate::appending::take_into_mbox;
-use crate::fault::{Cut, plain};
+use crate::fault::{Cut, broken};
 use crate::report::{ReportLine, note};
 use crate::storing::{reread, take_into_maildir};
 use crate::work::Work;
 use fetch_rules::{Listing, Step};
 use mail_store::{AccountId, FlatFile, MaildirDisk, one_more_is_held};
-use pop3_client::{Client, conversations_are_paced};
+use pop3_client::{Client, conversations_are_paced, turns_join};
 use pop3_wire::Wire;
 use std::alloc::Global;
 use std::hash::BuildHasher;
@@ -99,7 +99,7 @@ fn delete<W: Wire>(
             note(lines, ReportLine::Deleted { number });
             Ok(())
         }
-        Err(fault) => Err(plain(fault)),
+        Err(fault) => Err(broken(fault)),
     }
 }
 
@@ -145,6 +145,7 @@ fn do_step<W: Wire, D: MaildirDisk, F: FlatFile, H: BuildHasher>(
     ensures does { DoesTasks W.Wire D.MaildirDisk F.FlatFile account.now (task_of first.entry ∷ deleting step.delete step.number)
         client.old work.old result client.new work.new }
 {
+    turns_join();
     do_task(client, work, account, first)?;
     if !step.delete {
         return Ok(());
@@ -170,6 +171,7 @@ pub fn do_steps<W: Wire, D: MaildirDisk, F: FlatFile, H: BuildHasher>(
     ensures does { DoesTasks W.Wire D.MaildirDisk F.FlatFile account.now (tasks_planned steps.now listing.now held.now)
         client.old work.old result client.new work.new }
 {
+    turns_join();
     for i in 0..listing.len() {
         let place = i as usize;
         let step = steps[place];

@@ -24,7 +24,7 @@ ghost use Rattle.fetch_session.specs.Target.{AsFiles, Stores, Target, in_maildir
 ghost use Rattle.fetch_session.specs.Task.{rereads, stores};
 ghost use Rattle.fetch_session.specs.Work.{IsWritten};
 
-use crate::fault::{Cut, plain};
+use crate::fault::{Cut, Fault, Why, broken, plain};
 use crate::record::remember;
 use crate::report::{ReportLine, note};
 use crate::work::Ledger;
@@ -32,7 +32,7 @@ use fetch_rules::marked_keeps_rows;
 use mail_store::{
     AccountId, FlatFile, MaildirDisk, StoreFault, add_size, file_stem, unheld_ids_are_not_there,
 };
-use pop3_client::{Client, Fault, Why, conversations_are_paced};
+use pop3_client::{Client, ClientFault, conversations_are_paced};
 use pop3_wire::{BodyReader, PIECE_ROOM, Wire};
 use std::alloc::Global;
 use std::hash::BuildHasher;
@@ -131,7 +131,7 @@ pub(crate) fn store_text<W: Wire, D: MaildirDisk>(
             Ok(piece) => piece,
             Err(fault) => {
                 disk.abandon();
-                return Err(plain(fault));
+                return Err(broken(fault));
             }
         };
         if let Err(fault) = put_piece(disk, &out[..piece.put]) {
@@ -154,7 +154,10 @@ pub(crate) fn store_text<W: Wire, D: MaildirDisk>(
 }
 
 /// Takes a text that is under way, drops it, and returns its length, in bytes, lines ended by LF.
-pub(crate) fn pass_text<W: Wire>(client: &mut Client<'_, W>, body: BodyReader) -> Result<u64, Fault>
+pub(crate) fn pass_text<W: Wire>(
+    client: &mut Client<'_, W>,
+    body: BodyReader,
+) -> Result<u64, ClientFault>
     requires open { body.spot ≢ Done }
     requires within { body.left ≤ text_limit }
     ensures link { HasSameLink client.old client.new }
@@ -197,14 +200,14 @@ pub(crate) fn reread<W: Wire>(
     conversations_are_paced();
     let body = match client.open(alloc, number) {
         Ok(body) => body,
-        Err(fault) => return Err(plain(fault)),
+        Err(fault) => return Err(broken(fault)),
     };
     match pass_text(client, body) {
         Ok(length) => {
             note(lines, ReportLine::Held { number, length });
             Ok(())
         }
-        Err(fault) => Err(plain(fault)),
+        Err(fault) => Err(broken(fault)),
     }
 }
 
@@ -249,7 +252,7 @@ pub(crate) fn take_into_maildir<W: Wire, D: MaildirDisk, F: FlatFile, H: BuildHa
     };
     let body = match client.open(ledger.alloc, number) {
         Ok(body) => body,
-        Err(fault) => return Err(plain(fault)),
+        Err(fault) => return Err(broken(fault)),
     };
     let length = match store_text(client, disk, stem, body) {
         Ok(length) => length,

@@ -6,8 +6,8 @@ ghost use Rattle.pop3_client.specs.Conversation.{Talks};
 ghost use Rattle.fetch_session.specs.Refusal.{RefusesNone, RefusesAtMostOne};
 ghost use Rattle.fetch_session.specs.Tail.{turns_in, tail, Drops, Left};
 
-use crate::fault::Cut;
-use pop3_client::{Asked, Client, Fault, conversations_are_paced};
+use crate::fault::{Cut, Fault};
+use pop3_client::{Asked, Client, ClientFault, conversations_are_paced, turns_join};
 use pop3_wire::{BodyReader, Wire};
 
 /// What is said after a fault.
@@ -31,7 +31,7 @@ fn tail_of(fault: Fault) -> Tail
     }
 }
 
-fn say_tail<W: Wire>(client: &mut Client<'_, W>, kind: Tail) -> Result<(), Fault>
+fn say_tail<W: Wire>(client: &mut Client<'_, W>, kind: Tail) -> Result<(), ClientFault>
     ensures link { HasSameLink client.old client.new }
     ensures counted { CountsRefusals W.Wire client.old result client.new }
     ensures nothing { kind ≡ Tail.Nothing → result ≡ Ok tt }
@@ -49,7 +49,7 @@ fn say_tail<W: Wire>(client: &mut Client<'_, W>, kind: Tail) -> Result<(), Fault
 fn drop_under_way<W: Wire>(
     client: &mut Client<'_, W>,
     rest: Option<BodyReader>,
-) -> Result<(), Fault>
+) -> Result<(), ClientFault>
     ensures link { HasSameLink client.old client.new }
     ensures counted { CountsRefusals W.Wire client.old result client.new }
     ensures nothing { rest ≡ None → result ≡ Ok tt }
@@ -71,6 +71,7 @@ pub fn leave<W: Wire>(client: &mut Client<'_, W>, cut: Cut)
         (Left cut (place_of W.Wire client.old) (place_of W.Wire client.new)) }
 {
     conversations_are_paced();
+    turns_join();
     let Cut { fault, rest } = cut;
     if let Err(_) = drop_under_way(client, rest) {
         return;

@@ -1,12 +1,14 @@
 //! The texts of faults and reports. They contain nothing of a password.
 ghost use Rattle.std.specs.Prelude.{◌≡◌, ◌++◌, IfOk, codes};
 ghost use Rattle.std.specs.String.{string_bytes};
+ghost use Rattle.fetch_session.specs.Fault.{number_of};
 ghost use Rattle.fetch_session.specs.Text.{asked_text, fault_text, heading, line_text, message_text};
 ghost use Rattle.fetch_session.specs.Text.{outcome_number, report_text, summary};
 
+use crate::fault::{Fault, Why};
 use crate::report::{Outcome, Report, ReportLine};
 use fetch_rules::Settings;
-use pop3_client::{Asked, Fault, Why};
+use pop3_client::Asked;
 use std::alloc::{AllocError, Global};
 
 /// What a refused reply was asked for, after `server refused `.
@@ -22,6 +24,7 @@ fn refused_text(alloc: Global, asked: Asked) -> Result<String, AllocError>
         Asked::List => String::from_str(alloc, "server refused LIST"),
         Asked::Retr(number) => format!(in alloc; "server refused RETR {number}"),
         Asked::Dele(number) => format!(in alloc; "server refused DELE {number}"),
+        Asked::Rset => String::from_str(alloc, "server refused RSET"),
         Asked::Quit => String::from_str(alloc, "server refused QUIT"),
     }
 }
@@ -50,13 +53,35 @@ pub fn fault_text(alloc: Global, fault: &Fault) -> Result<String, AllocError>
     }
 }
 
+/// The number of a fault, as `cut N` shows it.
+fn number_of(fault: Fault) -> u8
+    ensures { result ≡ number_of fault }
+{
+    match fault {
+        Fault::ConnectionEnded => 1,
+        Fault::ReadFailed => 2,
+        Fault::WriteFailed => 3,
+        Fault::ReplyTooLong => 4,
+        Fault::BadReply => 5,
+        Fault::Refused(_) => 6,
+        Fault::BadListing => 7,
+        Fault::ListingsDisagree => 8,
+        Fault::TooMany => 9,
+        Fault::TextTooLong => 10,
+        Fault::StoreRefused(_) => 11,
+        Fault::SeenRefused => 12,
+        Fault::NoMemory => 13,
+        Fault::BadSeen(_) => 14,
+    }
+}
+
 /// The number of an outcome: 0 if the session ended, else its fault's.
 pub fn fault_number(outcome: &Outcome) -> u8
     ensures { result ≡ outcome_number outcome.now }
 {
     match outcome {
         Outcome::Ended => 0,
-        Outcome::Cut(fault) => pop3_client::fault_number(*fault),
+        Outcome::Cut(fault) => number_of(*fault),
     }
 }
 

@@ -24,21 +24,3 @@ module _ {W : Type 0} (link : Ghosts W) where
       → WhereSound link.sound link.leads_to a b P → WhereSound link.sound link.leads_to b c Q → WhereSound link.sound link.leads_to c d R → (P → Q → R → S)
       → WhereSound link.sound link.leads_to a d S
   and_then_two {Q = Q} {R = R} on first second third all = and_then on first (and_then {R = Q × R} on second third (λ q r. (q, r))) (λ p both. all p both.0 both.1)
-
-  -- what a call did, leaving out what the link leads to
-  pub did_so : {a b : W} {P Q : Type 0} → WhereSound link.sound link.leads_to a b P → (P → Q) → link.sound b → link.sound a × Q
-  did_so did words sound = let all = did sound in (all.0, words all.2)
-
-  pub did_both : {a b c : W} {P Q R : Type 0} → WhereSound link.sound link.leads_to a b P → WhereSound link.sound link.leads_to b c Q → (P → Q → R)
-      → link.sound c → link.sound a × R
-  did_both first second both sound =
-      let then = second sound in
-      let all = first then.0 in
-      (all.0, both all.2 then.2)
-
-  -- what is known so far, and then a call
-  pub so_far : {a b c : W} {P Q R : Type 0} → (link.sound b → link.sound a × P) → WhereSound link.sound link.leads_to b c Q → (P → Q → R) → link.sound c → link.sound a × R
-  so_far first second both sound =
-      let then = second sound in
-      let all = first then.0 in
-      (all.0, both all.1 then.2)

@@ -1,6 +1,6 @@
-pub mod ClientLemmas
+mod ClientLemmas
 mod LawLemmas
 mod ListingLemmas
 mod MostLemmas
-pub mod TalkLemmas
+mod TalkLemmas
 mod TextLemmas

@@ -13,8 +13,8 @@ use Rattle.pop3_wire.specs.Link.{Link}
 use Rattle.pop3_wire.specs.Place.{Place, at, GoesOn, Gains, HasLine}
 use Rattle.pop3_wire.specs.Bodies.{Drew}
 use Rattle.pop3_client.specs.declared.fault.Asked.{Asked}
-use Rattle.pop3_client.specs.declared.fault.Fault.{Fault}
-use Rattle.pop3_client.specs.declared.fault.Fault.TheVariants.{ConnectionEnded, ReadFailed, WriteFailed, ReplyTooLong, BadReply, Refused, BadListing, ListingsDisagree, TooMany, TextTooLong, StoreRefused, SeenRefused, NoMemory, BadSeen}
+use Rattle.pop3_client.specs.declared.fault.ClientFault.{ClientFault}
+use Rattle.pop3_client.specs.declared.fault.ClientFault.TheVariants.{ConnectionEnded, ReadFailed, WriteFailed, ReplyTooLong, BadReply, Refused, BadListing, ListingsDisagree, TooMany, TextTooLong, NoMemory}
 use Rattle.pop3_client.specs.Turns.{Turn, uidl, list, IsRow, IsListing, IsShort, gives_count, LinesFit, line_limit, most}
 use Rattle.pop3_client.specs.Causes.{IsPartOfListing, IsPartOfBody, HasRows, NextLine, BeginsPositive, Cause}
 use Rattle.pop3_client.specs.Conversation.{Opened}
@@ -116,11 +116,11 @@ module _ {R : Type 0} (turn : Turn) (StandsFor : List ℕ → R → Type 0) (old
   }
 
   -- the rows stop at one that waits
-  pub rows_stop : (fault : Fault) → RowsCause fault turn old.link here.link (old.waiting ++ now.gained) → NotTaken turn old here fault
+  pub rows_stop : (fault : ClientFault) → RowsCause fault turn old.link here.link (old.waiting ++ now.gained) → NotTaken turn old here fault
   rows_stop fault cause = record { gained = now.gained; used = now.lines; drew = now.drew; cause = cause; has = now.has }
 
   -- neither a row nor the end mark came
-  pub rows_cause : (fault : Fault) (n : ℕ) (new : Place) (more : List ℕ) → n ≡ length rows → Gains here new more → RowCause fault n here.link new.link new.waiting
+  pub rows_cause : (fault : ClientFault) (n : ℕ) (new : Place) (more : List ℕ) → n ≡ length rows → Gains here new more → RowCause fault n here.link new.link new.waiting
       → NotTaken turn old new fault
   rows_cause fault n new more count gains why = record {
     gained = now.gained ++ more;
@@ -133,7 +133,7 @@ module _ {R : Type 0} (turn : Turn) (StandsFor : List ℕ → R → Type 0) (old
       has : HasRows turn (old.waiting ++ (now.gained ++ more)) new.waiting now.lines
       has = more_waits new more gains
 
-      by : (f : Fault) → RowCause f n here.link new.link new.waiting → RowsCause f turn old.link new.link (old.waiting ++ (now.gained ++ more))
+      by : (f : ClientFault) → RowCause f n here.link new.link new.waiting → RowsCause f turn old.link new.link (old.waiting ++ (now.gained ++ more))
       by ConnectionEnded w = (w.0, (new.waiting, now.lines, has, w.1))
       by ReadFailed w = (subst (λ (k : ℕ). k < new.link.failures) now.steady.failures w.0, (new.waiting, now.lines, has, w.1))
       by ReplyTooLong w = (new.waiting, now.lines, has, w)
@@ -187,7 +187,7 @@ next_line_of turn bytes after row rows begins there = record {
 }
 
 -- why a listing isn't good, as a cause of its whole reply
-cause_of_rows : (fault : Fault) (turn : Turn) (old new : Link) (bytes after : List ℕ) → BeginsPositive bytes after → IsListing turn
+cause_of_rows : (fault : ClientFault) (turn : Turn) (old new : Link) (bytes after : List ℕ) → BeginsPositive bytes after → IsListing turn
     → RowsCause fault turn old new after → Cause fault turn old new bytes × ((to : Asked) → fault ≡ Refused to → ⊥)
 cause_of_rows ConnectionEnded turn old new bytes after begins listing why = ((why.0, inr (after, begins, part_of_body after turn listing why.1)), λ to is. cc)
 cause_of_rows ReadFailed turn old new bytes after begins listing why = ((why.0, inr (after, begins, part_of_body after turn listing why.1)), λ to is. cc)
@@ -201,7 +201,7 @@ cause_of_rows NoMemory turn old new bytes after begins listing why =
 cause_of_rows _ turn old new bytes after begins listing why = absurd why
 
 -- a listing was asked for, and its rows taken or not
-pub lists_of : {R : Type 0} (turn : Turn) (IsThisRow : List ℕ → R → Type 0) (line : List ℕ) (old mid new : Place) (result : Result (List R) Fault)
+pub lists_of : {R : Type 0} (turn : Turn) (IsThisRow : List ℕ → R → Type 0) (line : List ℕ) (old mid new : Place) (result : Result (List R) ClientFault)
     → Opened turn line old mid → IsListing turn → TakesRows turn IsThisRow mid result new → ListsRows turn IsThisRow old result new
 lists_of turn IsThisRow line old mid new (Ok rows) begun listing takes = (
   record { first = line; body = Some takes.0 },
@@ -225,7 +225,7 @@ listed old mid new uids sizes first second = record {
 }
 
 -- and joined, or not
-pub lists_joined : (count : ℕ) (old new : Place) (uids : List UidRow) (sizes : List ScanRow) (result : Result (List Item) Fault) → Listed old new uids sizes
+pub lists_joined : (count : ℕ) (old new : Place) (uids : List UidRow) (sizes : List ScanRow) (result : Result (List Item) ClientFault) → Listed old new uids sizes
     → IfOk result (Joins count uids sizes) → IfErr result (λ fault. ((fault ≡ ListingsDisagree) × (Agree count uids sizes → ⊥)) ⊎ (fault ≡ NoMemory)) → GetsListing count old result new
 lists_joined count old new uids sizes (Ok items) all ok err = (uids, sizes, all, ok)
 lists_joined count old new uids sizes (Err fault) all ok err = elim err [

@@ -15,8 +15,8 @@ use Rattle.pop3_wire.specs.Commands.{line_of}
 use Rattle.pop3_wire.specs.Link.{Link}
 use Rattle.pop3_wire.specs.Place.{Place, at, GoesOn, Gains, HasLine, HasNoLine}
 use Rattle.pop3_client.specs.declared.fault.Asked.{Asked}
-use Rattle.pop3_client.specs.declared.fault.Fault.{Fault}
-use Rattle.pop3_client.specs.declared.fault.Fault.TheVariants.{ConnectionEnded, ReadFailed, WriteFailed, ReplyTooLong, BadReply, Refused, ListingsDisagree, TooMany}
+use Rattle.pop3_client.specs.declared.fault.ClientFault.{ClientFault}
+use Rattle.pop3_client.specs.declared.fault.ClientFault.TheVariants.{ConnectionEnded, ReadFailed, WriteFailed, ReplyTooLong, BadReply, Refused, ListingsDisagree, TooMany}
 use Rattle.pop3_client.specs.Turns.{Turn, turn_bytes, asking, Names, stat, uidl, list, rset, quit, gives_count, Fits, IsBody, IsGood, line_limit, IsShort, most}
 use Rattle.pop3_client.specs.Causes.{Cause, BeginsPositive, FirstLine}
 use Rattle.pop3_client.specs.Conversation.{Opened, Talked, NoLineCause, TakesRefusal, Heard, Broke, NotAnswered, Stopped, Sent, GivesFew, AsksTurn, Completes, Talks}
@@ -30,7 +30,7 @@ pub none_in_all : (limit : ℕ) (bytes : List ℕ) → HasNoLine limit bytes →
 none_in_all limit bytes none short = subst IsLine (take_all limit bytes (omega arith)) none.none
 
 -- no line came, so no reply did
-pub no_line_no_reply : (fault : Fault) (turn : Turn) (old new : Link) (bytes : List ℕ) → NoLineCause fault old new bytes → Cause fault turn old new bytes
+pub no_line_no_reply : (fault : ClientFault) (turn : Turn) (old new : Link) (bytes : List ℕ) → NoLineCause fault old new bytes → Cause fault turn old new bytes
 no_line_no_reply ConnectionEnded turn old new bytes why = (why.0, inl why.1)
 no_line_no_reply ReadFailed turn old new bytes why = (why.0, inl why.1)
 no_line_no_reply WriteFailed turn old new bytes why = why
@@ -39,7 +39,7 @@ no_line_no_reply ListingsDisagree turn old new bytes why = why
 no_line_no_reply other turn old new bytes why = absurd why
 
 -- a cause depends on the old link only by its failure count
-pub cause_since : (fault : Fault) (turn : Turn) (old said new : Link) (bytes : List ℕ) → said.failures ≡ old.failures → Cause fault turn said new bytes → Cause fault turn old new bytes
+pub cause_since : (fault : ClientFault) (turn : Turn) (old said new : Link) (bytes : List ℕ) → said.failures ≡ old.failures → Cause fault turn said new bytes → Cause fault turn old new bytes
 cause_since ReadFailed turn old said new bytes same why = (subst (λ (n : ℕ). n < new.failures) same why.0, why.1)
 cause_since other turn old said new bytes same why = why
 
@@ -74,7 +74,7 @@ opened turn old said mid gained n rest is gains has steady positive fits =
     }
 
 -- nothing is stated of what is used before a fault that is no refusal
-pub takes_other : (fault : Fault) (used : List ℕ) → ((to : Asked) → fault ≡ Refused to → ⊥) → TakesRefusal fault used
+pub takes_other : (fault : ClientFault) (used : List ℕ) → ((to : Asked) → fault ≡ Refused to → ⊥) → TakesRefusal fault used
 takes_other (Refused to) used other = absurd (other to refl)
 takes_other rest used other = tt
 
@@ -82,18 +82,18 @@ pub drew_of : (old new : Place) (gained : List ℕ) → Gains old new gained →
 drew_of old new gained gains = record { got = gains.got; sent = gains.sent }
 
 -- nothing was used
-heard_unused : {fault : Fault} {turn : Turn} {old new : Place} {gained : List ℕ} → Gains old new gained → Cause fault turn old.link new.link (old.waiting ++ gained)
+heard_unused : {fault : ClientFault} {turn : Turn} {old new : Place} {gained : List ℕ} → Gains old new gained → Cause fault turn old.link new.link (old.waiting ++ gained)
     → TakesRefusal fault [] → Heard turn old (Err fault) new
 heard_unused {gained = gained} gains cause takes =
     record { gained = gained; used = []; sent = gains.sent; got = gains.got; heard = sym gains.waiting; within = omega arith; cause = cause; takes = takes }
 
 -- no line came
-pub heard_none : (fault : Fault) (turn : Turn) (old new : Place) (gained : List ℕ) → Gains old new gained
+pub heard_none : (fault : ClientFault) (turn : Turn) (old new : Place) (gained : List ℕ) → Gains old new gained
     → NoLineCause fault old.link new.link new.waiting → Heard turn old (Err fault) new
 heard_none fault turn old new gained gains why =
     let here = rw gains.waiting at why in
     heard_unused gains (no_line_no_reply fault turn old.link new.link (old.waiting ++ gained) here)
-    (takes_other fault [] (λ to is. subst (λ (f : Fault). NoLineCause f old.link new.link (old.waiting ++ gained)) is here))
+    (takes_other fault [] (λ to is. subst (λ (f : ClientFault). NoLineCause f old.link new.link (old.waiting ++ gained)) is here))
 
 -- a line came
 module _ (turn : Turn) (old mid : Place) (gained : List ℕ) (n : ℕ) (gains : Gains old mid gained) (has : HasLine line_limit mid.waiting n) where
@@ -121,7 +121,7 @@ module _ (turn : Turn) (old mid : Place) (gained : List ℕ) (n : ℕ) (gains : 
   heard_bad none = heard_unused gains (take n mid.waiting, first_came, none Negative, λ rest first. absurd (none Positive rest first)) tt
 
 -- a turn was sent whole, and its reply isn't good
-pub broke_there : (turn : Turn) (old : Place) (said : Link) (new : Place) (fault : Fault)
+pub broke_there : (turn : Turn) (old : Place) (said : Link) (new : Place) (fault : ClientFault)
     → said ≡ record old.link { sent = old.link.sent ++ turn_bytes turn } → Heard turn (at said old.waiting) (Err fault) new → Broke turn old new fault
 broke_there turn old said new fault is heard =
     inr (inl record {
@@ -149,7 +149,7 @@ pub nothing_said : (link : Link) → link ≡ record link { sent = link.sent ++ 
 nothing_said link = ap (λ (s : List ℕ). record link { sent = s }) (sym (append-nil link.sent))
 
 -- a turn wasn't sent whole
-pub broke_saying : (turn : Turn) (old new : Place) (fault : Fault) → Sent (turn_bytes turn) old.link (Err fault) new.link → new.waiting ≡ old.waiting → Broke turn old new fault
+pub broke_saying : (turn : Turn) (old new : Place) (fault : ClientFault) → Sent (turn_bytes turn) old.link (Err fault) new.link → new.waiting ≡ old.waiting → Broke turn old new fault
 broke_saying turn old new fault said waits =
     let is = said.1.3 in
     inl (
@@ -166,13 +166,13 @@ broke_saying turn old new fault said waits =
     )
 
 -- why STAT's line isn't good
-pub few_cause : (fault : Fault) (old new : Link) (line bytes : List ℕ) → FirstLine bytes line
+pub few_cause : (fault : ClientFault) (old new : Link) (line bytes : List ℕ) → FirstLine bytes line
     → GivesFew line (Err fault) → Cause fault stat old new bytes × ((to : Asked) → fault ≡ Refused to → ⊥)
 few_cause BadReply old new line bytes first why = ((line, first, why.0, λ rest read. (refl, why.1 rest read)), λ to is. cc)
 few_cause TooMany old new line bytes first why = (inl (refl, (line, why.0, why.1, why.2, first, why.3, why.4, why.5)), λ to is. cc)
 few_cause other old new line bytes first why = absurd why
 
-pub few_heard : (fault : Fault) (said mid : Place) (gained : List ℕ) (n : ℕ) → Gains said mid gained → HasLine line_limit mid.waiting n
+pub few_heard : (fault : ClientFault) (said mid : Place) (gained : List ℕ) (n : ℕ) → Gains said mid gained → HasLine line_limit mid.waiting n
     → GivesFew (take n mid.waiting) (Err fault) → Heard stat said (Err fault) mid
 few_heard fault said mid gained n gains has why =
     let cause = few_cause fault said.link mid.link (take n mid.waiting) (said.waiting ++ gained) (first_came stat said mid gained n gains has) why in
@@ -234,7 +234,7 @@ talked_body turn line old mid new lines gained begun drew steady heard is = reco
 }
 
 -- a turn broke after its good first line
-pub not_answered_behind : (turn : Turn) (line : List ℕ) (old mid new : Place) (gained used : List ℕ) (fault : Fault) → Opened turn line old mid
+pub not_answered_behind : (turn : Turn) (line : List ℕ) (old mid new : Place) (gained used : List ℕ) (fault : ClientFault) → Opened turn line old mid
     → Drew mid.link new.link gained → Cause fault turn mid.link new.link (ended line ++ (mid.waiting ++ gained))
     → mid.waiting ++ gained ≡ used ++ new.waiting → line_limit + length used ≤ most turn → ((to : Asked) → fault ≡ Refused to → ⊥) → NotAnswered turn old new fault
 not_answered_behind turn line old mid new gained used fault begun drew why rest small other =
@@ -250,12 +250,12 @@ not_answered_behind turn line old mid new gained used fault begun drew why rest 
       takes = takes_other fault (ended line ++ used) other;
     }
 
-pub stopped_first : (turn : Turn) (turns : List Turn) (old new : Place) (fault : Fault) → Broke turn old new fault → Stopped (turn ∷ turns) old new fault
+pub stopped_first : (turn : Turn) (turns : List Turn) (old new : Place) (fault : ClientFault) → Broke turn old new fault → Stopped (turn ∷ turns) old new fault
 stopped_first turn turns old new fault broke =
     record { done = []; replies = []; next = turn; later = turns; mid = old; split = refl; talked = talked_none old; broke = broke }
 
 -- after turns that were talked, others stopped
-pub stopped_behind : (xs ys : List Turn) (rs : List WholeReply) (a b new : Place) (fault : Fault) → Talked xs rs a b → Stopped ys b new fault → Stopped (xs ++ ys) a new fault
+pub stopped_behind : (xs ys : List Turn) (rs : List WholeReply) (a b new : Place) (fault : ClientFault) → Talked xs rs a b → Stopped ys b new fault → Stopped (xs ++ ys) a new fault
 stopped_behind xs ys rs a b new fault first then = record {
   done = xs ++ then.done;
   replies = rs ++ then.replies;
@@ -276,17 +276,17 @@ pub begins_of : (turn : Turn) (line : List ℕ) (old mid : Place) (after : List 
 begins_of turn line old mid after begun = record { line = line; rest = begun.rest; is = begun.is; short = begun.short; whole = refl; positive = begun.positive }
 
 -- a turn with a reply of one line was completed, or it broke
-pub asks_completes : (turn : Turn) (old new : Place) (result : Result (Unit {0}) Fault) → gives_body turn ≡ false → AsksTurn turn old result new → Completes turn old result new
+pub asks_completes : (turn : Turn) (old new : Place) (result : Result (Unit {0}) ClientFault) → gives_body turn ≡ false → AsksTurn turn old result new → Completes turn old result new
 asks_completes turn old new (Ok done) none asks = (record { first = asks.0; body = None }, talked_line turn asks.0 old new asks.1 none)
 asks_completes turn old new (Err fault) none asks = asks
 
 -- one turn is a conversation
-pub completes_talks : (turn : Turn) (old new : Place) (result : Result (Unit {0}) Fault) → Completes turn old result new → Talks (turn ∷ []) old result new
+pub completes_talks : (turn : Turn) (old new : Place) (result : Result (Unit {0}) ClientFault) → Completes turn old result new → Talks (turn ∷ []) old result new
 completes_talks turn old new (Ok done) completes = (completes.0 ∷ [], completes.1)
 completes_talks turn old new (Err fault) completes = stopped_first turn [] old new fault completes
 
 -- a turn before a conversation
-pub completes_then : (turn : Turn) (turns : List Turn) (old mid new : Place) (reply : WholeReply) (result : Result (Unit {0}) Fault)
+pub completes_then : (turn : Turn) (turns : List Turn) (old mid new : Place) (reply : WholeReply) (result : Result (Unit {0}) ClientFault)
     → Talked (turn ∷ []) (reply ∷ []) old mid → Talks turns mid result new → Talks (turn ∷ turns) old result new
 completes_then turn turns old mid new reply (Ok done) first then = (reply ∷ then.0, talked_on (turn ∷ []) turns (reply ∷ []) then.0 old mid new first then.1)
 completes_then turn turns old mid new reply (Err fault) first then = stopped_behind (turn ∷ []) turns (reply ∷ []) old mid new fault first then

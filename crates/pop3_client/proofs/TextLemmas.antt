@@ -10,8 +10,8 @@ use Rattle.pop3_wire.specs.declared.body_reader.BodyFault.TheVariants.{Ended, Fa
 use Rattle.pop3_wire.specs.declared.unstuffer.Spot.{Spot}
 use Rattle.pop3_wire.specs.declared.unstuffer.Spot.TheVariants.{Done}
 use Rattle.pop3_client.specs.declared.fault.Asked.{Asked}
-use Rattle.pop3_client.specs.declared.fault.Fault.{Fault}
-use Rattle.pop3_client.specs.declared.fault.Fault.TheVariants.{ConnectionEnded, ReadFailed, TextTooLong, Refused}
+use Rattle.pop3_client.specs.declared.fault.ClientFault.{ClientFault}
+use Rattle.pop3_client.specs.declared.fault.ClientFault.TheVariants.{ConnectionEnded, ReadFailed, TextTooLong, Refused}
 use Rattle.pop3_client.specs.Turns.{text_limit, retr}
 use Rattle.pop3_client.specs.Causes.{Cause}
 use Rattle.pop3_client.specs.Conversation.{Opened, NotAnswered}
@@ -34,7 +34,7 @@ dropped number old new body text now done = let whole = fetched number old new b
 -- the turn broke while its text was being taken
 module _ (number : ℕ) (start mid new : Place) (line : List ℕ) (begun : Opened (retr number) line start mid) (leaves : LeavesRest text_limit mid new) (gained : List ℕ)
     (drew : Drew mid.link new.link gained) where
-  there : (fault : Fault) → Cause fault (retr number) mid.link new.link (ended line ++ (mid.waiting ++ gained)) → ((to : Asked) → fault ≡ Refused to → ⊥) → NotAnswered (retr number) start new fault
+  there : (fault : ClientFault) → Cause fault (retr number) mid.link new.link (ended line ++ (mid.waiting ++ gained)) → ((to : Asked) → fault ≡ Refused to → ⊥) → NotAnswered (retr number) start new fault
   there fault cause other =
       let same : leaves.gained ≡ gained = append_cancel_left mid.link.got leaves.gained gained (sym leaves.got ∙ drew.got) in
       not_answered_behind (retr number) line start mid new gained leaves.used fault begun drew cause (subst (λ (g : List ℕ). mid.waiting ++ g ≡ leaves.used ++ new.waiting) same leaves.heard) (omega (arith, leaves.within)) other

@@ -9,10 +9,10 @@ use Rattle.pop3_wire.specs.Fields.{number_and_size}
 use Rattle.pop3_wire.specs.Link.{Link}
 use Rattle.pop3_wire.specs.Place.{HasNoLine}
 use Rattle.pop3_wire.specs.declared.command.Command.TheVariants.{UidlAll, ListAll, Retr}
-use Rattle.pop3_client.specs.declared.fault.Fault.{Fault}
-use Rattle.pop3_client.specs.declared.fault.Fault.TheVariants.{ConnectionEnded, ReadFailed, WriteFailed, ReplyTooLong}
-use Rattle.pop3_client.specs.declared.fault.Fault.TheVariants.{BadReply, Refused, BadListing, ListingsDisagree}
-use Rattle.pop3_client.specs.declared.fault.Fault.TheVariants.{TooMany, TextTooLong, StoreRefused, SeenRefused, NoMemory, BadSeen}
+use Rattle.pop3_client.specs.declared.fault.ClientFault.{ClientFault}
+use Rattle.pop3_client.specs.declared.fault.ClientFault.TheVariants.{ConnectionEnded, ReadFailed, WriteFailed, ReplyTooLong}
+use Rattle.pop3_client.specs.declared.fault.ClientFault.TheVariants.{BadReply, Refused, BadListing, ListingsDisagree}
+use Rattle.pop3_client.specs.declared.fault.ClientFault.TheVariants.{TooMany, TextTooLong, NoMemory}
 use Rattle.mail_terms.specs.Listing.{message_limit}
 use Rattle.pop3_client.specs.Turns.{Turn, Names, gives_count, retr, line_limit, text_limit, IsShort, IsListing, IsRow}
 
@@ -76,7 +76,7 @@ pub record FirstLine (bytes line : List ℕ) : Type 0 where
   pub whole : bytes ≡ ended line ++ after
 
 -- why a reply isn't good, given the octets of it that have come
-abbrev pub Cause : Fault → Turn → Link → Link → List ℕ → Type 0
+abbrev pub Cause : ClientFault → Turn → Link → Link → List ℕ → Type 0
 Cause ConnectionEnded turn old new bytes = (new.ended ≡ true) × NotWhole turn bytes
 Cause ReadFailed turn old new bytes = (old.failures < new.failures) × NotWhole turn bytes
 Cause WriteFailed turn old new bytes = ⊥
@@ -95,8 +95,5 @@ Cause TooMany turn old new bytes =
     ⊎ ((row : List ℕ) × NextLine turn bytes row message_limit)
 Cause TextTooLong turn old new bytes = ((number : ℕ) × (turn ≡ retr number)) × ((after : List ℕ) × BeginsPositive bytes after
     × HasNoBody (take text_limit after) × (text_limit ≤ length after))
-Cause (StoreRefused why) turn old new bytes = ⊥
-Cause SeenRefused turn old new bytes = ⊥
 Cause NoMemory turn old new bytes = (row : List ℕ) × (rows : ℕ) × NextLine turn bytes row rows
     × (rows < message_limit) × IsRow turn row
-Cause (BadSeen line) turn old new bytes = ⊥

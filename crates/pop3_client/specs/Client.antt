@@ -4,7 +4,7 @@ use Rattle.pop3_wire.specs.declared.wire.Wire.{Ghosts}
 use Rattle.pop3_wire.specs.Link.{Link, CountsRefusal, WhereSound}
 use Rattle.pop3_wire.specs.Place.{Place, at}
 use Rattle.pop3_client.specs.declared.client.Client.{Client}
-use Rattle.pop3_client.specs.declared.fault.Fault.{Fault}
+use Rattle.pop3_client.specs.declared.fault.ClientFault.{ClientFault}
 use Rattle.pop3_client.specs.Conversation.{is_refusal}
 
 -- the link, and the octets of it that wait to be used
@@ -20,7 +20,7 @@ abbrev pub HasSameLink : {W : Type 0} → Client W → Client W → Type 0
 HasSameLink old new = new.wire.ghost_name ≡ old.wire.ghost_name
 
 -- the failure count of its link rises by one, up to its greatest value, if a call was refused, and stays otherwise
-abbrev pub CountsRefusals : {W T : Type 0} → Ghosts W → Client W → Result T Fault → Client W → Type 0
+abbrev pub CountsRefusals : {W T : Type 0} → Ghosts W → Client W → Result T ClientFault → Client W → Type 0
 CountsRefusals link old result new = CountsRefusal is_refusal (link.history old.wire.now) result (link.history new.wire.now)
 
 -- what is known of a call if the link is sound after it: it was sound before, the old link leads to the new

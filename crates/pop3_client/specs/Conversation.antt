@@ -11,9 +11,9 @@ use Rattle.pop3_wire.specs.declared.command.Command.TheVariants.{Retr, Dele}
 use Rattle.pop3_wire.specs.Fields.{number_and_size}
 use Rattle.pop3_wire.specs.Link.{Link}
 use Rattle.pop3_wire.specs.Place.{Place, GoesOn, Gains, HasLine}
-use Rattle.pop3_client.specs.declared.fault.Fault.{Fault}
-use Rattle.pop3_client.specs.declared.fault.Fault.TheVariants.{ConnectionEnded, ReadFailed, WriteFailed, ReplyTooLong}
-use Rattle.pop3_client.specs.declared.fault.Fault.TheVariants.{BadReply, Refused, TooMany, NoMemory}
+use Rattle.pop3_client.specs.declared.fault.ClientFault.{ClientFault}
+use Rattle.pop3_client.specs.declared.fault.ClientFault.TheVariants.{ConnectionEnded, ReadFailed, WriteFailed, ReplyTooLong}
+use Rattle.pop3_client.specs.declared.fault.ClientFault.TheVariants.{BadReply, Refused, TooMany, NoMemory}
 use Rattle.pop3_client.specs.Turns.{Turn, turn_bytes, asking, greeting, user, pass, stat, rset, quit, line_limit}
 use Rattle.mail_terms.specs.Listing.{message_limit}
 use Rattle.pop3_client.specs.Turns.{IsShort, most, Fits, IsGood}
@@ -51,7 +51,7 @@ may_want (Some (Dele number)) = true
 may_want _ = false
 
 -- a negative reply is used whole; nothing is stated of what was used before any other fault
-abbrev pub TakesRefusal : Fault → List ℕ → Type 0
+abbrev pub TakesRefusal : ClientFault → List ℕ → Type 0
 TakesRefusal (Refused to) used = (line : List ℕ) × IsLine line × (used ≡ ended line)
 TakesRefusal _ used = Unit {0}
 
@@ -67,7 +67,7 @@ pub record SentInPart (turn : Turn) (old new : Place) : Type 0 where
 
 -- the turn was sent whole, and its reply isn't whole or isn't good; these octets of it were used, and the
 -- rest waits
-pub record NotAnswered (turn : Turn) (old new : Place) (fault : Fault) : Type 0 where
+pub record NotAnswered (turn : Turn) (old new : Place) (fault : ClientFault) : Type 0 where
   pub gained : List ℕ
   pub used : List ℕ
   pub sent : new.link.sent ≡ old.link.sent ++ turn_bytes turn
@@ -79,14 +79,14 @@ pub record NotAnswered (turn : Turn) (old new : Place) (fault : Fault) : Type 0 
 
 -- a turn broke: not all of it was sent; or it wasn't answered well; or memory ran out before it, and nothing
 -- changed
-abbrev pub Broke : Turn → Place → Place → Fault → Type 0
+abbrev pub Broke : Turn → Place → Place → ClientFault → Type 0
 Broke turn old new fault =
     ((fault ≡ WriteFailed) × SentInPart turn old new)
     ⊎ NotAnswered turn old new fault
     ⊎ ((fault ≡ NoMemory) × (may_want turn ≡ true) × (new ≡ old))
 
 -- some of the turns were completed, and the next one broke
-pub record Stopped (turns : List Turn) (old new : Place) (fault : Fault) : Type 0 where
+pub record Stopped (turns : List Turn) (old new : Place) (fault : ClientFault) : Type 0 where
   pub done : List Turn
   pub replies : List WholeReply
   pub next : Turn
@@ -97,22 +97,22 @@ pub record Stopped (turns : List Turn) (old new : Place) (fault : Fault) : Type 
   pub broke : Broke next mid new fault
 
 -- these turns were completed, or the conversation stopped at one of them
-abbrev pub Talks : List Turn → Place → Result (Unit {0}) Fault → Place → Type 0
+abbrev pub Talks : List Turn → Place → Result (Unit {0}) ClientFault → Place → Type 0
 Talks turns old (Ok done) new = (replies : List WholeReply) × Talked turns replies old new
 Talks turns old (Err fault) new = Stopped turns old new fault
 
 -- the first line of a turn's reply was taken, or the turn broke
-abbrev pub AsksTurn : Turn → Place → Result (Unit {0}) Fault → Place → Type 0
+abbrev pub AsksTurn : Turn → Place → Result (Unit {0}) ClientFault → Place → Type 0
 AsksTurn turn old (Ok done) new = (line : List ℕ) × Opened turn line old new
 AsksTurn turn old (Err fault) new = Broke turn old new fault
 
 -- a turn was completed, or it broke
-abbrev pub Completes : Turn → Place → Result (Unit {0}) Fault → Place → Type 0
+abbrev pub Completes : Turn → Place → Result (Unit {0}) ClientFault → Place → Type 0
 Completes turn old (Ok done) new = (reply : WholeReply) × Talked (turn ∷ []) (reply ∷ []) old new
 Completes turn old (Err fault) new = Broke turn old new fault
 
 -- STAT was completed, and its reply gives this count; or it broke
-abbrev pub CountsMessages : Place → Result ℕ Fault → Place → Type 0
+abbrev pub CountsMessages : Place → Result ℕ ClientFault → Place → Type 0
 CountsMessages old (Ok count) new = (reply : WholeReply) × Talked (stat ∷ []) (reply ∷ []) old new × GivesCount reply count
 CountsMessages old (Err fault) new = Broke stat old new fault
 
@@ -154,25 +154,31 @@ pub record Paced (turns : List Turn) (old new : Place) : Type 0 where
 
 -- each conversation, whole or stopped, is paced
 abbrev pub ConversationsArePaced : Type 0
-ConversationsArePaced = (turns : List Turn) (old new : Place) (result : Result (Unit {0}) Fault)
+ConversationsArePaced = (turns : List Turn) (old new : Place) (result : Result (Unit {0}) ClientFault)
     → Talks turns old result new → Paced turns old new
+
+-- no turns make a conversation in which nothing happens, and turns after turns make one conversation
+pub record TurnsJoin : Type 0 where
+  pub none : (place : Place) → Talked [] [] place place
+  pub on : (turns others : List Turn) (replies more : List WholeReply) (old mid new : Place)
+      → Talked turns replies old mid → Talked others more mid new → Talked (turns ++ others) (replies ++ more) old new
 
 -- ---- the parts of a turn
 
 -- why no line waits, given the octets that wait
-abbrev pub NoLineCause : Fault → Link → Link → List ℕ → Type 0
+abbrev pub NoLineCause : ClientFault → Link → Link → List ℕ → Type 0
 NoLineCause ConnectionEnded old new bytes = (new.ended ≡ true) × IsPartOfLine bytes
 NoLineCause ReadFailed old new bytes = (old.failures < new.failures) × IsPartOfLine bytes
 NoLineCause ReplyTooLong old new bytes = IsOverlong bytes
 NoLineCause _ old new bytes = ⊥
 
 -- a line waits, or why none does
-abbrev pub Waits : Place → Result ℕ Fault → Place → Type 0
+abbrev pub Waits : Place → Result ℕ ClientFault → Place → Type 0
 Waits old (Ok n) new = HasLine line_limit new.waiting n × GoesOn old.link new.link
 Waits old (Err fault) new = NoLineCause fault old.link new.link new.waiting
 
 -- no positive first line came: nothing was sent, and these octets were used
-pub record NotHeard (turn : Turn) (old new : Place) (fault : Fault) : Type 0 where
+pub record NotHeard (turn : Turn) (old new : Place) (fault : ClientFault) : Type 0 where
   pub gained : List ℕ
   pub used : List ℕ
   pub sent : new.link.sent ≡ old.link.sent
@@ -183,19 +189,19 @@ pub record NotHeard (turn : Turn) (old new : Place) (fault : Fault) : Type 0 whe
   pub takes : TakesRefusal fault used
 
 -- a positive first line waits, or why none does
-abbrev pub Heard : Turn → Place → Result ℕ Fault → Place → Type 0
+abbrev pub Heard : Turn → Place → Result ℕ ClientFault → Place → Type 0
 Heard turn old (Ok n) new = (gained : List ℕ) × Gains old new gained × HasLine line_limit new.waiting n × GoesOn old.link new.link
     × ((rest : List ℕ) × IsFirstLine (take n new.waiting) Positive rest)
 Heard turn old (Err fault) new = NotHeard turn old new fault
 
 -- octets were sent whole, or a prefix of them and the call was refused
-abbrev pub Sent : List ℕ → Link → Result (Unit {0}) Fault → Link → Type 0
+abbrev pub Sent : List ℕ → Link → Result (Unit {0}) ClientFault → Link → Type 0
 Sent bytes old (Ok done) new = new ≡ record old { sent = old.sent ++ bytes }
 Sent bytes old (Err fault) new = (fault ≡ WriteFailed)
     × ((front rest : List ℕ) × (bytes ≡ front ++ rest) × (new ≡ record old { sent = old.sent ++ front; failures = old.failures + 1 }))
 
 -- a positive first line gives a count of at most 100,000 messages, or why it doesn't
-abbrev pub GivesFew : List ℕ → Result ℕ Fault → Type 0
+abbrev pub GivesFew : List ℕ → Result ℕ ClientFault → Type 0
 GivesFew line (Ok count) = (rest : List ℕ) × (size : ℕ) × IsFirstLine line Positive rest
     × (number_and_size rest ≡ Ok (count, size)) × (count ≤ message_limit)
 GivesFew line (Err BadReply) = ((rest : List ℕ) → IsFirstLine line Negative rest → ⊥)
@@ -205,7 +211,7 @@ GivesFew line (Err TooMany) = (rest : List ℕ) × (count size : ℕ) × IsFirst
 GivesFew line (Err _) = ⊥
 
 -- whether a fault is a refused call of the link
-abbrev pub is_refusal : Fault → Bool
+abbrev pub is_refusal : ClientFault → Bool
 is_refusal ReadFailed = true
 is_refusal WriteFailed = true
 is_refusal _ = false

@@ -10,9 +10,9 @@ use Rattle.pop3_wire.specs.Bodies.{Drew}
 use Rattle.mail_terms.specs.Listing.{Item, Agree, Joins, message_limit}
 use Rattle.mail_terms.specs.declared.listing.UidRow.{UidRow}
 use Rattle.mail_terms.specs.declared.listing.ScanRow.{ScanRow}
-use Rattle.pop3_client.specs.declared.fault.Fault.{Fault}
-use Rattle.pop3_client.specs.declared.fault.Fault.TheVariants.{ConnectionEnded, ReadFailed, ReplyTooLong, BadListing}
-use Rattle.pop3_client.specs.declared.fault.Fault.TheVariants.{ListingsDisagree, TooMany, NoMemory}
+use Rattle.pop3_client.specs.declared.fault.ClientFault.{ClientFault}
+use Rattle.pop3_client.specs.declared.fault.ClientFault.TheVariants.{ConnectionEnded, ReadFailed, ReplyTooLong, BadListing}
+use Rattle.pop3_client.specs.declared.fault.ClientFault.TheVariants.{ListingsDisagree, TooMany, NoMemory}
 use Rattle.pop3_client.specs.Turns.{Turn, uidl, list, line_limit, IsShort, IsRow, LinesFit}
 use Rattle.pop3_client.specs.Causes.{IsPartOfListing, HasRows, IsOverlong}
 use Rattle.pop3_client.specs.Conversation.{NoLineCause, Talked, Stopped, Broke}
@@ -27,7 +27,7 @@ pub record Listed (old new : Place) (uids : List UidRow) (sizes : List ScanRow) 
 
 -- both listings were taken, and these are the messages, joined; or the conversation stopped; or the listings don't
 -- agree with the count and with each other; or memory ran out while they were joined, and nothing else was sent
-abbrev pub GetsListing : ℕ → Place → Result (List Item) Fault → Place → Type 0
+abbrev pub GetsListing : ℕ → Place → Result (List Item) ClientFault → Place → Type 0
 GetsListing count old (Ok items) new = (uids : List UidRow) × (sizes : List ScanRow) × Listed old new uids sizes
     × Joins count uids sizes items
 GetsListing count old (Err fault) new = Stopped (uidl ∷ list ∷ []) old new fault
@@ -38,7 +38,7 @@ GetsListing count old (Err fault) new = Stopped (uidl ∷ list ∷ []) old new f
 -- ---- the parts of a listing
 
 -- why neither a row nor the end mark waits, after this many rows were taken
-abbrev pub RowCause : Fault → ℕ → Link → Link → List ℕ → Type 0
+abbrev pub RowCause : ClientFault → ℕ → Link → Link → List ℕ → Type 0
 RowCause ConnectionEnded rows old new bytes = NoLineCause ConnectionEnded old new bytes
 RowCause ReadFailed rows old new bytes = NoLineCause ReadFailed old new bytes
 RowCause ReplyTooLong rows old new bytes = IsOverlong bytes
@@ -47,7 +47,7 @@ RowCause TooMany rows old new bytes = (row behind : List ℕ) × (message_limit 
 RowCause _ rows old new bytes = ⊥
 
 -- a row waits, or the end mark was taken, or why neither
-abbrev pub NextRow : ℕ → Place → Result (Option ℕ) Fault → Place → Type 0
+abbrev pub NextRow : ℕ → Place → Result (Option ℕ) ClientFault → Place → Type 0
 NextRow rows old (Ok None) new = (gained : List ℕ) × Drew old.link new.link gained × GoesOn old.link new.link
     × (old.waiting ++ gained ≡ ended dot ++ new.waiting)
 NextRow rows old (Ok (Some n)) new = (gained : List ℕ) × Gains old new gained × GoesOn old.link new.link
@@ -64,7 +64,7 @@ pub record RowBehind (turn : Turn) (after row : List ℕ) (rows : ℕ) : Type 0 
   pub short : IsShort row
 
 -- why a listing isn't good, given the octets after its first line
-abbrev pub RowsCause : Fault → Turn → Link → Link → List ℕ → Type 0
+abbrev pub RowsCause : ClientFault → Turn → Link → Link → List ℕ → Type 0
 RowsCause ConnectionEnded turn old new after = (new.ended ≡ true) × IsPartOfListing turn after
 RowsCause ReadFailed turn old new after = (old.failures < new.failures) × IsPartOfListing turn after
 RowsCause ReplyTooLong turn old new after = (behind : List ℕ) × (lines : List (List ℕ))
@@ -86,7 +86,7 @@ pub record TookLines (turn : Turn) (old new : Place) (lines : List (List ℕ)) :
   pub heard : old.waiting ++ gained ≡ body_of lines ++ new.waiting
 
 -- why the rows after a first line weren't taken; these of them were used
-pub record NotTaken (turn : Turn) (old new : Place) (fault : Fault) : Type 0 where
+pub record NotTaken (turn : Turn) (old new : Place) (fault : ClientFault) : Type 0 where
   pub gained : List ℕ
   pub used : List (List ℕ)
   pub drew : Drew old.link new.link gained
@@ -94,12 +94,12 @@ pub record NotTaken (turn : Turn) (old new : Place) (fault : Fault) : Type 0 whe
   pub has : HasRows turn (old.waiting ++ gained) new.waiting used
 
 -- the rows after a first line were taken, or why not
-abbrev pub TakesRows : {R : Type 0} → Turn → (List ℕ → R → Type 0) → Place → Result (List R) Fault → Place → Type 0
+abbrev pub TakesRows : {R : Type 0} → Turn → (List ℕ → R → Type 0) → Place → Result (List R) ClientFault → Place → Type 0
 TakesRows turn IsThisRow old (Ok rows) new = (lines : List (List ℕ)) × TookLines turn old new lines × AllZip IsThisRow lines rows
 TakesRows turn IsThisRow old (Err fault) new = NotTaken turn old new fault
 
 -- a listing was asked for and taken, or its turn broke
-abbrev pub ListsRows : {R : Type 0} → Turn → (List ℕ → R → Type 0) → Place → Result (List R) Fault → Place → Type 0
+abbrev pub ListsRows : {R : Type 0} → Turn → (List ℕ → R → Type 0) → Place → Result (List R) ClientFault → Place → Type 0
 ListsRows turn IsThisRow old (Ok rows) new = (reply : WholeReply) × Talked (turn ∷ []) (reply ∷ []) old new
     × HasListing IsThisRow reply rows
 ListsRows turn IsThisRow old (Err fault) new = Broke turn old new fault

@@ -1,11 +1,12 @@
 -- The text of a message, piece by piece.
-use Rattle.std.specs.Prelude.{◌≡◌, ℕ, List, [], ◌∷◌, ◌++◌, take, Option, None, Some, Result, Ok, Err, IsTrue}
+use Rattle.std.specs.Prelude.{◌≡◌, ◌≢◌, ◌≤◌, ◌<◌, ◌↔◌, ℕ, List, [], ◌∷◌, ◌++◌, length, take, Option, None, Some, Result, Ok, Err, IsTrue}
 use Rattle.pop3_wire.specs.Body.{text_of}
 use Rattle.pop3_wire.specs.Place.{Place}
 use Rattle.pop3_wire.specs.Reading.{WholeReply}
 use Rattle.pop3_wire.specs.Bodies.{Rest, UnderWay}
 use Rattle.pop3_wire.specs.declared.body_reader.Piece.{Piece}
-use Rattle.pop3_client.specs.declared.fault.Fault.{Fault}
+use Rattle.pop3_wire.specs.declared.unstuffer.Spot.TheVariants.{Done}
+use Rattle.pop3_client.specs.declared.fault.ClientFault.{ClientFault}
 use Rattle.pop3_client.specs.Turns.{Turn, text_limit}
 use Rattle.pop3_client.specs.Conversation.{Talked, Opened, Broke, NotAnswered}
 
@@ -27,17 +28,24 @@ pub record Fetching (turn : Turn) (old new : Place) (body : Rest) (text : List �
   pub under : UnderWay text_limit mid new body text
 
 -- a text was asked for, and can be taken; or its turn broke
-abbrev pub Opens : Turn → Place → Result Rest Fault → Place → Type 0
+abbrev pub Opens : Turn → Place → Result Rest ClientFault → Place → Type 0
 Opens turn old (Ok body) new = Fetching turn old new body []
 Opens turn old (Err fault) new = Broke turn old new fault
 
+-- a piece was taken of what was left of a body: what it adds to the text is in the buffer, it says whether the body has ended, and if it
+-- hasn't, less is left
+pub record TookPiece (old : Rest) (piece : Piece) (out : List ℕ) (new : Rest) : Type 0 where
+  pub fits : piece.put ≤ length out
+  pub ended : IsTrue piece.ended ↔ (new.spot ≡ Done)
+  pub less : new.spot ≢ Done → new.left < old.left
+
 -- the next piece of a text, which is whole after the last one; or its turn broke
-abbrev pub FetchesPiece : Turn → Place → List ℕ → Result Piece Fault → List ℕ → Place → Rest → Type 0
+abbrev pub FetchesPiece : Turn → Place → List ℕ → Result Piece ClientFault → List ℕ → Place → Rest → Type 0
 FetchesPiece turn start text (Ok piece) out new body = Fetching turn start new body (text ++ take piece.put out)
     × (IsTrue piece.ended → Fetched turn start (text ++ take piece.put out) new)
 FetchesPiece turn start text (Err fault) out new body = NotAnswered turn start new fault
 
 -- the rest of a text was taken to its end, or its reply isn't whole: nothing was sent meanwhile
-abbrev pub TakesRest : Turn → Place → Result (Unit {0}) Fault → Place → Type 0
+abbrev pub TakesRest : Turn → Place → Result (Unit {0}) ClientFault → Place → Type 0
 TakesRest turn start (Ok done) new = (reply : WholeReply) × Talked (turn ∷ []) (reply ∷ []) start new
 TakesRest turn start (Err fault) new = NotAnswered turn start new fault

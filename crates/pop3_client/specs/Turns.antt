@@ -14,7 +14,7 @@ use Rattle.pop3_wire.specs.declared.command.Command.TheVariants.{User, Pass, Sta
 use Rattle.pop3_client.specs.declared.fault.Asked.{Asked}
 use Rattle.pop3_client.specs.declared.fault.Asked.TheVariants.{Greeting as ByGreeting, User as ByUser, Pass as ByPass}
 use Rattle.pop3_client.specs.declared.fault.Asked.TheVariants.{Stat as ByStat, Uidl as ByUidl, Retr as ByRetr}
-use Rattle.pop3_client.specs.declared.fault.Asked.TheVariants.{Dele as ByDele, Quit as ByQuit}
+use Rattle.pop3_client.specs.declared.fault.Asked.TheVariants.{Dele as ByDele, Rset as ByRset, Quit as ByQuit}
 use Rattle.pop3_client.specs.declared.fault.Asked.TheVariants.{List as ByList}
 
 -- a turn: the command that is sent, or none for the greeting
@@ -60,7 +60,7 @@ rset = Some Rset
 abbrev pub quit : Turn
 quit = Some Quit
 
--- the turn whose refusal has this name; a refused RSET, which is never shown, has QUIT's
+-- the turn whose refusal has this name
 abbrev pub Names : Asked → Turn → Type 0
 Names ByGreeting turn = turn ≡ greeting
 Names ByUser turn = (name : List ℕ) × (turn ≡ user name)
@@ -70,7 +70,8 @@ Names ByUidl turn = turn ≡ uidl
 Names ByList turn = turn ≡ list
 Names (ByRetr number) turn = turn ≡ retr number
 Names (ByDele number) turn = turn ≡ dele number
-Names ByQuit turn = (turn ≡ quit) ⊎ (turn ≡ rset)
+Names ByRset turn = turn ≡ rset
+Names ByQuit turn = turn ≡ quit
 
 -- ---- limits
 

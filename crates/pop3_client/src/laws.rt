@@ -1,9 +1,14 @@
 //! What holds of every conversation.
-ghost use Rattle.pop3_client.specs.Conversation.{ConversationsArePaced};
+ghost use Rattle.pop3_client.specs.Conversation.{ConversationsArePaced, TurnsJoin};
 
 /// A conversation sends its turns' octets in order. It begins a command only after a whole and
 /// good reply to each command before it has come. In all it takes at most as many octets as its
 /// turns may take.
 pub fn conversations_are_paced()
     ensures { ConversationsArePaced }
+{}
+
+/// No turns make a conversation in which nothing happens, and turns after turns make one conversation.
+pub fn turns_join()
+    ensures { TurnsJoin }
 {}

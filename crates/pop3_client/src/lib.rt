@@ -12,5 +12,5 @@ mod talk;
 mod text;
 
 pub use client::Client;
-pub use fault::{Asked, Fault, Why, fault_number};
-pub use laws::conversations_are_paced;
+pub use fault::{Asked, ClientFault};
+pub use laws::{conversations_are_paced, turns_join};

@@ -6,12 +6,11 @@ ghost use Rattle.pop3_wire.specs.Bodies.{items_of};
 ghost use Rattle.pop3_wire.specs.Place.{HasLine};
 ghost use Rattle.pop3_wire.specs.Reading.{IsUidLine, IsScanLine};
 ghost use Rattle.pop3_client.specs.Client.{HasSameLink, CountsRefusals, WhereLinkSound};
-ghost use Rattle.pop3_client.specs.Fault.{IsOfConversation};
 ghost use Rattle.pop3_client.specs.Turns.{line_limit};
 ghost use Rattle.pop3_client.specs.Listing.{NextRow, TakesRows, ListsRows, GetsListing};
 
 use crate::client::Client;
-use crate::fault::Fault;
+use crate::fault::ClientFault;
 use crate::row::ListedRow;
 use mail_terms::{Listing, ListingFault, MESSAGE_LIMIT, ScanRow, UidRow};
 use pop3_wire::{Wire, is_end_mark};
@@ -19,19 +18,24 @@ use std::alloc::Global;
 use std::vec::Vec;
 
 /// The messages of both listings, which have to agree with the count and with each other.
-fn joined(alloc: Global, count: u32, uids: &[UidRow], sizes: &[ScanRow]) -> Result<Listing, Fault>
+fn joined(
+    alloc: Global,
+    count: u32,
+    uids: &[UidRow],
+    sizes: &[ScanRow],
+) -> Result<Listing, ClientFault>
     requires few { count ≤ message_limit }
     requires legal { All (λ row. IsLegalId row.uid.items) uids.now }
     ensures legal { IfOk result (λ listing. All (λ item. IsLegalId item.uid) listing) }
     ensures ok { IfOk result (Joins count uids.now sizes.now) }
-    ensures err { IfErr result (λ fault. ((fault ≡ Fault.ListingsDisagree) × (Agree count uids.now sizes.now → ⊥))
-        ⊎ (fault ≡ Fault.NoMemory)) }
+    ensures err { IfErr result (λ fault. ((fault ≡ ClientFault.ListingsDisagree) × (Agree count uids.now sizes.now → ⊥))
+        ⊎ (fault ≡ ClientFault.NoMemory)) }
 {
     match Listing::join(alloc, count, uids, sizes) {
         Ok(listing) => Ok(listing),
-        Err(ListingFault::Disagree) => Err(Fault::ListingsDisagree),
-        Err(ListingFault::TooMany) => Err(Fault::TooMany),
-        Err(ListingFault::NoMemory) => Err(Fault::NoMemory),
+        Err(ListingFault::Disagree) => Err(ClientFault::ListingsDisagree),
+        Err(ListingFault::TooMany) => Err(ClientFault::TooMany),
+        Err(ListingFault::NoMemory) => Err(ClientFault::NoMemory),
     }
 }
 
@@ -39,10 +43,9 @@ impl<'a, W: Wire> Client<'a, W> {
     /// Waits for the next line of a listing of which `rows` rows were taken, and returns its
     /// length; the line isn't taken yet. None at the end mark, which is taken. TooMany for a row
     /// after the 100,000th.
-    fn next_row(&mut self, rows: usize) -> Result<Option<usize>, Fault>
+    fn next_row(&mut self, rows: usize) -> Result<Option<usize>, ClientFault>
         ensures link { HasSameLink self.old self.new }
         ensures counted { CountsRefusals W.Wire self.old result self.new }
-        ensures own { IfErr result IsOfConversation }
         ensures line { IfOk result (λ found. IfSome found (HasLine line_limit self.new.reader)) }
         ensures few { IfOk result (λ found. IfSome found (λ n. rows < message_limit)) }
         ensures next { WhereLinkSound W.Wire self.old self.new (λ old new. NextRow rows old result new) }
@@ -56,16 +59,15 @@ impl<'a, W: Wire> Client<'a, W> {
             return Ok(None);
         }
         if rows >= MESSAGE_LIMIT as usize {
-            return Err(Fault::TooMany);
+            return Err(ClientFault::TooMany);
         }
         Ok(Some(length))
     }
 
     /// Takes the rows of a listing, and checks each when it is whole.
-    fn rows<R: ListedRow>(&mut self, alloc: Global) -> Result<Vec<R>, Fault>
+    fn rows<R: ListedRow>(&mut self, alloc: Global) -> Result<Vec<R>, ClientFault>
         ensures link { HasSameLink self.old self.new }
         ensures counted { CountsRefusals W.Wire self.old result self.new }
-        ensures own { IfErr result IsOfConversation }
         ensures fit { IfOk result (λ rows. All R.is_fit rows.items) }
         ensures takes { WhereLinkSound W.Wire self.old self.new
             (λ old new. TakesRows R.turn R.stands_for old (items_of result) new) }
@@ -83,16 +85,15 @@ impl<'a, W: Wire> Client<'a, W> {
             };
             match rows.push(row) {
                 Ok(()) => self.reader.skip(length + 2),
-                Err(_) => return Err(Fault::NoMemory),
+                Err(_) => return Err(ClientFault::NoMemory),
             }
         }
     }
 
     /// Asks for a listing, and takes it.
-    fn listing<R: ListedRow>(&mut self, alloc: Global) -> Result<Vec<R>, Fault>
+    fn listing<R: ListedRow>(&mut self, alloc: Global) -> Result<Vec<R>, ClientFault>
         ensures link { HasSameLink self.old self.new }
         ensures counted { CountsRefusals W.Wire self.old result self.new }
-        ensures own { IfErr result IsOfConversation }
         ensures fit { IfOk result (λ rows. All R.is_fit rows.items) }
         ensures lists { WhereLinkSound W.Wire self.old self.new
             (λ old new. ListsRows R.turn R.stands_for old (items_of result) new) }
@@ -105,11 +106,10 @@ impl<'a, W: Wire> Client<'a, W> {
 
     /// Asks for the unique-ids and the sizes (UIDL, LIST) of `count` messages. Each row is
     /// checked when it is whole; both listings have to agree with the count and with each other.
-    pub fn list(&mut self, alloc: Global, count: u32) -> Result<Listing, Fault>
+    pub fn list(&mut self, alloc: Global, count: u32) -> Result<Listing, ClientFault>
         requires { count ≤ message_limit }
         ensures link { HasSameLink self.old self.new }
         ensures counted { CountsRefusals W.Wire self.old result self.new }
-        ensures own { IfErr result IsOfConversation }
         ensures legal { IfOk result (λ listing. All (λ item. IsLegalId item.uid) listing) }
         ensures lists { WhereLinkSound W.Wire self.old self.new (λ old new. GetsListing count old result new) }
     {

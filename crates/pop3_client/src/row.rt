@@ -2,7 +2,7 @@
 ghost use Rattle.std.specs.Prelude.{◌≡◌, ◌⊎◌, ℕ, List, IfOk, IfErr};
 ghost use Rattle.pop3_client.specs.Turns.{Turn, IsListing, IsRow, Names, turn_bytes};
 
-use crate::fault::{Asked, Fault};
+use crate::fault::{Asked, ClientFault};
 use mail_terms::{ScanRow, UidRow};
 use pop3_wire::{read_scan, read_uid, without_dot};
 use std::alloc::Global;
@@ -28,11 +28,11 @@ pub(crate) trait ListedRow: Drop {
         ensures { result.now ≡ turn_bytes turn };
 
     /// The row that a line of the body stands for.
-    fn read(alloc: Global, line: &[u8]) -> Result<Self, Fault>
+    fn read(alloc: Global, line: &[u8]) -> Result<Self, ClientFault>
         ensures ok { IfOk result (λ row. stands_for line.now row) }
         ensures fit { IfOk result (λ row. is_fit row) }
-        ensures err { IfErr result (λ fault. ((fault ≡ Fault.NoMemory) × IsRow turn line.now)
-            ⊎ ((fault ≡ Fault.BadListing) × (IsRow turn line.now → ⊥))) };
+        ensures err { IfErr result (λ fault. ((fault ≡ ClientFault.NoMemory) × IsRow turn line.now)
+            ⊎ ((fault ≡ ClientFault.BadListing) × (IsRow turn line.now → ⊥))) };
 
     // The turn asks for a listing, and a line that stands for a row is one of its rows.
     ghost is_listing: { IsListing turn };
@@ -61,13 +61,13 @@ impl ListedRow for UidRow {
         b"UIDL\r\n"
     }
 
-    fn read(alloc: Global, line: &[u8]) -> Result<UidRow, Fault> {
+    fn read(alloc: Global, line: &[u8]) -> Result<UidRow, ClientFault> {
         match read_uid(without_dot(line)) {
             Ok((number, uid)) => Ok(UidRow {
                 number,
                 uid: Vec::from_slice(alloc, uid)?,
             }),
-            Err(_) => Err(Fault::BadListing),
+            Err(_) => Err(ClientFault::BadListing),
         }
     }
 
@@ -96,10 +96,10 @@ impl ListedRow for ScanRow {
         b"LIST\r\n"
     }
 
-    fn read(_alloc: Global, line: &[u8]) -> Result<ScanRow, Fault> {
+    fn read(_alloc: Global, line: &[u8]) -> Result<ScanRow, ClientFault> {
         match read_scan(without_dot(line)) {
             Ok((number, size)) => Ok(ScanRow { number, size }),
-            Err(_) => Err(Fault::BadListing),
+            Err(_) => Err(ClientFault::BadListing),
         }
     }
 

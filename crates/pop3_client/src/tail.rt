@@ -1,31 +1,27 @@
 //! The last turns of a session that was cut.
-ghost use Rattle.std.specs.Prelude.{IfErr};
 ghost use Rattle.pop3_client.specs.Client.{HasSameLink, CountsRefusals, WhereLinkSound};
-ghost use Rattle.pop3_client.specs.Fault.{IsOfConversation};
 ghost use Rattle.pop3_client.specs.Turns.{rset};
 ghost use Rattle.pop3_client.specs.Conversation.{Completes, Talks, undoing};
 
 use crate::client::Client;
-use crate::fault::{Asked, Fault};
+use crate::fault::{Asked, ClientFault};
 use pop3_wire::Wire;
 
 impl<'a, W: Wire> Client<'a, W> {
     /// Unmarks what was marked as deleted (RSET).
-    fn reset(&mut self) -> Result<(), Fault>
+    fn reset(&mut self) -> Result<(), ClientFault>
         ensures link { HasSameLink self.old self.new }
         ensures counted { CountsRefusals W.Wire self.old result self.new }
-        ensures own { IfErr result IsOfConversation }
         ensures completes { WhereLinkSound W.Wire self.old self.new (λ old new. Completes rset old result new) }
     {
-        self.ask(Asked::Quit, b"RSET\r\n")
+        self.ask(Asked::Rset, b"RSET\r\n")
     }
 
     /// Leaves after a fault that isn't the conversation's own: sends RSET, so that no marked message is
     /// removed, and after a positive reply QUIT. It reads both replies, and allocates nothing.
-    pub fn reset_and_quit(&mut self) -> Result<(), Fault>
+    pub fn reset_and_quit(&mut self) -> Result<(), ClientFault>
         ensures link { HasSameLink self.old self.new }
         ensures counted { CountsRefusals W.Wire self.old result self.new }
-        ensures own { IfErr result IsOfConversation }
         ensures talks { WhereLinkSound W.Wire self.old self.new (λ old new. Talks undoing old result new) }
     {
         if let Err(fault) = self.reset() {

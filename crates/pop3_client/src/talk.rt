@@ -1,16 +1,15 @@
 //! One turn of a conversation: a command is sent, and the first line of its reply is read
 //! (RFC 1939, section 3).
-ghost use Rattle.std.specs.Prelude.{◌≡◌, ◌≤◌, false, ℕ, List, take, IfOk, IfErr};
+ghost use Rattle.std.specs.Prelude.{◌≡◌, ◌≤◌, false, ℕ, List, take, IfOk};
 ghost use Rattle.pop3_wire.specs.Place.{Gains, HasLine};
 ghost use Rattle.pop3_wire.specs.Reply.{IsFirstLine};
 ghost use Rattle.pop3_client.specs.Client.{HasSameLink, CountsRefusals, WhereLinkSound};
-ghost use Rattle.pop3_client.specs.Fault.{IsOfConversation};
 ghost use Rattle.mail_terms.specs.Listing.{message_limit};
 ghost use Rattle.pop3_client.specs.Turns.{Turn, Names, turn_bytes, gives_count, greeting, dele, quit, line_limit};
 ghost use Rattle.pop3_client.specs.Conversation.{Waits, Heard, Sent, AsksTurn, CountsMessages, Completes, GivesFew};
 
 use crate::client::Client;
-use crate::fault::{Asked, Fault};
+use crate::fault::{Asked, ClientFault};
 use mail_terms::MESSAGE_LIMIT;
 use pop3_wire::{Command, LineFault, Status, Wire, command_bytes, read_stat, read_status};
 use std::alloc::Global;
@@ -20,20 +19,20 @@ const LINE_LIMIT: usize = 2_048;
 
 /// The number of messages that a positive first line gives. BadReply if it gives none, TooMany if
 /// it is above 100,000.
-fn count_of(line: &[u8]) -> Result<u32, Fault>
+fn count_of(line: &[u8]) -> Result<u32, ClientFault>
     requires { (rest : List ℕ) × IsFirstLine line.now Status.Positive rest }
     ensures { GivesFew line.now result }
 {
     let rest = match read_status(line) {
         Ok((_, rest)) => rest,
-        Err(_) => return Err(Fault::BadReply),
+        Err(_) => return Err(ClientFault::BadReply),
     };
     let count = match read_stat(rest) {
         Ok((count, _)) => count,
-        Err(_) => return Err(Fault::BadReply),
+        Err(_) => return Err(ClientFault::BadReply),
     };
     if count > MESSAGE_LIMIT {
-        return Err(Fault::TooMany);
+        return Err(ClientFault::TooMany);
     }
     Ok(count)
 }
@@ -41,42 +40,39 @@ fn count_of(line: &[u8]) -> Result<u32, Fault>
 impl<'a, W: Wire> Client<'a, W> {
     /// Takes from the link until a line of a reply waits, and returns its length; the line isn't
     /// taken yet.
-    pub(crate) fn next_line(&mut self) -> Result<usize, Fault>
+    pub(crate) fn next_line(&mut self) -> Result<usize, ClientFault>
         ensures link { HasSameLink self.old self.new }
         ensures counted { CountsRefusals W.Wire self.old result self.new }
-        ensures own { IfErr result IsOfConversation }
         ensures line { IfOk result (HasLine line_limit self.new.reader) }
         ensures waits { WhereLinkSound W.Wire self.old self.new
             (λ old new. ((gained : List ℕ) × Gains old new gained) × Waits old result new) }
     {
         match self.reader.line(self.wire, LINE_LIMIT) {
             Ok(length) => Ok(length),
-            Err(LineFault::Ended) => Err(Fault::ConnectionEnded),
-            Err(LineFault::Failed) => Err(Fault::ReadFailed),
-            Err(LineFault::TooLong) => Err(Fault::ReplyTooLong),
+            Err(LineFault::Ended) => Err(ClientFault::ConnectionEnded),
+            Err(LineFault::Failed) => Err(ClientFault::ReadFailed),
+            Err(LineFault::TooLong) => Err(ClientFault::ReplyTooLong),
         }
     }
 
     /// Sends bytes.
-    fn say(&mut self, bytes: &[u8]) -> Result<(), Fault>
+    fn say(&mut self, bytes: &[u8]) -> Result<(), ClientFault>
         ensures link { HasSameLink self.old self.new }
         ensures counted { CountsRefusals W.Wire self.old result self.new }
-        ensures own { IfErr result IsOfConversation }
         ensures silent { self.new.reader ≡ self.old.reader }
         ensures sent { WhereLinkSound W.Wire self.old self.new (λ old new. Sent bytes.now old.link result new.link) }
     {
         match self.wire.send(bytes) {
             Ok(()) => Ok(()),
-            Err(_) => Err(Fault::WriteFailed),
+            Err(_) => Err(ClientFault::WriteFailed),
         }
     }
 
     /// Waits for a positive first line, and returns its length; the line isn't taken yet. A
     /// negative one is a whole reply, and is taken.
-    fn hear(&mut self, asked: Asked) -> Result<usize, Fault>
+    fn hear(&mut self, asked: Asked) -> Result<usize, ClientFault>
         ensures link { HasSameLink self.old self.new }
         ensures counted { CountsRefusals W.Wire self.old result self.new }
-        ensures own { IfErr result IsOfConversation }
         ensures line { IfOk result (HasLine line_limit self.new.reader) }
         ensures positive { IfOk result (λ n. (rest : List ℕ) × IsFirstLine (take n self.new.reader) Status.Positive rest) }
         ensures heard { WhereLinkSound W.Wire self.old self.new
@@ -90,17 +86,16 @@ impl<'a, W: Wire> Client<'a, W> {
             Ok((Status::Positive, _)) => Ok(length),
             Ok((Status::Negative, _)) => {
                 self.reader.skip(length + 2);
-                Err(Fault::Refused(asked))
+                Err(ClientFault::Refused(asked))
             }
-            Err(_) => Err(Fault::BadReply),
+            Err(_) => Err(ClientFault::BadReply),
         }
     }
 
     /// Takes the greeting.
-    pub(crate) fn greet(&mut self) -> Result<(), Fault>
+    pub(crate) fn greet(&mut self) -> Result<(), ClientFault>
         ensures link { HasSameLink self.old self.new }
         ensures counted { CountsRefusals W.Wire self.old result self.new }
-        ensures own { IfErr result IsOfConversation }
         ensures asks { WhereLinkSound W.Wire self.old self.new (λ old new. AsksTurn greeting old result new) }
     {
         let length = match self.hear(Asked::Greeting) {
@@ -113,10 +108,9 @@ impl<'a, W: Wire> Client<'a, W> {
 
     /// Sends a command, and takes the first line of its reply. If the command is refused, the fault
     /// names it as `asked`. STAT isn't sent this way, since its first line has to give a count.
-    pub(crate) fn ask(&mut self, asked: Asked, bytes: &[u8]) -> Result<(), Fault>
+    pub(crate) fn ask(&mut self, asked: Asked, bytes: &[u8]) -> Result<(), ClientFault>
         ensures link { HasSameLink self.old self.new }
         ensures counted { CountsRefusals W.Wire self.old result self.new }
-        ensures own { IfErr result IsOfConversation }
         ensures asks { WhereLinkSound W.Wire self.old self.new
             (λ old new. (turn : Turn) → Names asked turn → gives_count turn ≡ false → bytes.now ≡ turn_bytes turn
             → AsksTurn turn old result new) }
@@ -133,10 +127,9 @@ impl<'a, W: Wire> Client<'a, W> {
     }
 
     /// Asks how many messages there are (STAT): at most 100,000.
-    pub fn count(&mut self) -> Result<u32, Fault>
+    pub fn count(&mut self) -> Result<u32, ClientFault>
         ensures link { HasSameLink self.old self.new }
         ensures counted { CountsRefusals W.Wire self.old result self.new }
-        ensures own { IfErr result IsOfConversation }
         ensures few { IfOk result (λ n. n ≤ message_limit) }
         ensures counts { WhereLinkSound W.Wire self.old self.new (λ old new. CountsMessages old result new) }
     {
@@ -158,23 +151,21 @@ impl<'a, W: Wire> Client<'a, W> {
 
     /// Asks to mark a message as deleted (DELE). The line is made first, so that nothing has
     /// changed if memory runs out.
-    pub fn delete(&mut self, alloc: Global, number: u32) -> Result<(), Fault>
+    pub fn delete(&mut self, alloc: Global, number: u32) -> Result<(), ClientFault>
         ensures link { HasSameLink self.old self.new }
         ensures counted { CountsRefusals W.Wire self.old result self.new }
-        ensures own { IfErr result IsOfConversation }
         ensures completes { WhereLinkSound W.Wire self.old self.new (λ old new. Completes (dele number) old result new) }
     {
         let Ok(line) = command_bytes(alloc, &Command::Dele(number)) else {
-            return Err(Fault::NoMemory);
+            return Err(ClientFault::NoMemory);
         };
         self.ask(Asked::Dele(number), &line)
     }
 
     /// Ends the session (QUIT). It allocates nothing.
-    pub fn quit(&mut self) -> Result<(), Fault>
+    pub fn quit(&mut self) -> Result<(), ClientFault>
         ensures link { HasSameLink self.old self.new }
         ensures counted { CountsRefusals W.Wire self.old result self.new }
-        ensures own { IfErr result IsOfConversation }
         ensures completes { WhereLinkSound W.Wire self.old self.new (λ old new. Completes quit old result new) }
     {
         self.ask(Asked::Quit, b"QUIT\r\n")

@@ -1,14 +1,13 @@
 //! The text of a message.
-ghost use Rattle.std.specs.Prelude.{◌≡◌, ◌≢◌, ◌≤◌, ◌<◌, ◌↔◌, ℕ, List, length, IsTrue, Ok, IfOk, OnOk, IfErr};
+ghost use Rattle.std.specs.Prelude.{◌≡◌, ◌≢◌, ◌≤◌, ℕ, List, Ok, IfOk, OnOk, IfErr};
 ghost use Rattle.pop3_wire.specs.declared.unstuffer.Spot.TheVariants.{Done};
 ghost use Rattle.pop3_wire.specs.Place.{Place};
 ghost use Rattle.pop3_client.specs.Client.{HasSameLink, CountsRefusals, WhereLinkSound, place_of};
-ghost use Rattle.pop3_client.specs.Fault.{IsOfConversation};
 ghost use Rattle.pop3_client.specs.Turns.{turn_bytes, retr, text_limit};
-ghost use Rattle.pop3_client.specs.Texts.{Fetching, Opens, FetchesPiece, TakesRest};
+ghost use Rattle.pop3_client.specs.Texts.{Fetching, Opens, TookPiece, FetchesPiece, TakesRest};
 
 use crate::client::Client;
-use crate::fault::{Asked, Fault};
+use crate::fault::{Asked, ClientFault};
 use pop3_wire::{BodyFault, BodyReader, Command, PIECE_ROOM, Piece, Wire, command_bytes};
 use std::alloc::Global;
 
@@ -17,10 +16,9 @@ const TEXT_LIMIT: usize = 268_435_456;
 
 impl<'a, W: Wire> Client<'a, W> {
     /// Sends a line, and takes the first line of the reply.
-    fn open_by(&mut self, number: u32, line: &[u8]) -> Result<BodyReader, Fault>
+    fn open_by(&mut self, number: u32, line: &[u8]) -> Result<BodyReader, ClientFault>
         ensures link { HasSameLink self.old self.new }
         ensures counted { CountsRefusals W.Wire self.old result self.new }
-        ensures own { IfErr result IsOfConversation }
         ensures open { IfOk result (λ body. body.spot ≢ Done) }
         ensures within { IfOk result (λ body. body.left ≤ text_limit) }
         ensures opens { WhereLinkSound W.Wire self.old self.new
@@ -34,16 +32,15 @@ impl<'a, W: Wire> Client<'a, W> {
 
     /// Asks for the text of a message (RETR), and takes the first line of the reply; `next_piece`
     /// takes the text. The line is made first, so that nothing has changed if memory runs out.
-    pub fn open(&mut self, alloc: Global, number: u32) -> Result<BodyReader, Fault>
+    pub fn open(&mut self, alloc: Global, number: u32) -> Result<BodyReader, ClientFault>
         ensures link { HasSameLink self.old self.new }
         ensures counted { CountsRefusals W.Wire self.old result self.new }
-        ensures own { IfErr result IsOfConversation }
         ensures open { IfOk result (λ body. body.spot ≢ Done) }
         ensures within { IfOk result (λ body. body.left ≤ text_limit) }
         ensures opens { WhereLinkSound W.Wire self.old self.new (λ old new. Opens (retr number) old result new) }
     {
         let Ok(line) = command_bytes(alloc, &Command::Retr(number)) else {
-            return Err(Fault::NoMemory);
+            return Err(ClientFault::NoMemory);
         };
         self.open_by(number, &line)
     }
@@ -54,35 +51,31 @@ impl<'a, W: Wire> Client<'a, W> {
         &mut self,
         body: &mut BodyReader,
         out: &mut [u8; PIECE_ROOM],
-    ) -> Result<Piece, Fault>
+    ) -> Result<Piece, ClientFault>
         requires { body.old.spot ≢ Done }
         ensures link { HasSameLink self.old self.new }
         ensures counted { CountsRefusals W.Wire self.old result self.new }
-        ensures own { IfErr result IsOfConversation }
-        ensures fits { IfOk result (λ piece. piece.put ≤ length out.new) }
-        ensures ended { IfOk result (λ piece. IsTrue piece.ended ↔ (body.new.spot ≡ Done)) }
-        ensures less { OnOk result (body.new.spot ≢ Done → body.new.left < body.old.left) }
-        ensures frugal { IfErr result (λ fault. fault ≢ Fault.NoMemory) }
+        ensures took { IfOk result (λ piece. TookPiece body.old piece out.new body.new) }
+        ensures frugal { IfErr result (λ fault. fault ≢ ClientFault.NoMemory) }
         ensures takes { WhereLinkSound W.Wire self.old self.new
             (λ old new. (number : ℕ) (start : Place) (text : List ℕ) → Fetching (retr number) start old body.old text
             → FetchesPiece (retr number) start text result out.new new body.new) }
     {
         match body.next(self.wire, &mut self.reader, out) {
             Ok(piece) => Ok(piece),
-            Err(BodyFault::Ended) => Err(Fault::ConnectionEnded),
-            Err(BodyFault::Failed) => Err(Fault::ReadFailed),
-            Err(BodyFault::TooLong) => Err(Fault::TextTooLong),
+            Err(BodyFault::Ended) => Err(ClientFault::ConnectionEnded),
+            Err(BodyFault::Failed) => Err(ClientFault::ReadFailed),
+            Err(BodyFault::TooLong) => Err(ClientFault::TextTooLong),
         }
     }
 
     /// Takes the rest of a text, and drops it. After a text's end nothing is left, and the link
     /// stays as it is. It allocates nothing.
-    pub fn drop_rest(&mut self, body: &mut BodyReader) -> Result<(), Fault>
+    pub fn drop_rest(&mut self, body: &mut BodyReader) -> Result<(), ClientFault>
         ensures link { HasSameLink self.old self.new }
         ensures counted { CountsRefusals W.Wire self.old result self.new }
-        ensures own { IfErr result IsOfConversation }
         ensures ended { OnOk result (body.new.spot ≡ Done) }
-        ensures frugal { IfErr result (λ fault. fault ≢ Fault.NoMemory) }
+        ensures frugal { IfErr result (λ fault. fault ≢ ClientFault.NoMemory) }
         ensures whole { body.old.spot ≡ Done → (result ≡ Ok tt) × (place_of W.Wire self.new ≡ place_of W.Wire self.old) }
         ensures completes { WhereLinkSound W.Wire self.old self.new
             (λ old new. (number : ℕ) (start : Place) (text : List ℕ) → Fetching (retr number) start old body.old text

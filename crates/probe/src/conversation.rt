@@ -1,7 +1,7 @@
 //! A conversation of `pop3_client` with standard input as the server.
 
 use anyhow::Result;
-use pop3_client::{Client, fault_number};
+use pop3_client::{Client, ClientFault};
 use pop3_wire::{StreamWire, Wire};
 use std::alloc::Global;
 use std::io;
@@ -11,7 +11,7 @@ fn text_length<W: Wire>(
     alloc: Global,
     client: &mut Client<'_, W>,
     number: u32,
-) -> Result<u64, pop3_client::Fault> {
+) -> Result<u64, ClientFault> {
     let mut body = client.open(alloc, number)?;
     let mut out = [0u8; 4097];
     let mut length = 0u64;
@@ -26,7 +26,7 @@ fn text_length<W: Wire>(
 }
 
 /// How many messages there are, and how many octets their texts have together.
-fn fetch_all<W: Wire>(alloc: Global, wire: &mut W) -> Result<(u32, u64), pop3_client::Fault> {
+fn fetch_all<W: Wire>(alloc: Global, wire: &mut W) -> Result<(u32, u64), ClientFault> {
     let mut client = Client::new(wire);
     client.log_in(alloc, b"u", b"p")?;
     let told = client.count()?;
@@ -45,7 +45,7 @@ pub fn fetch(rt: &HostRuntime) -> Result<()> {
     let mut wire = StreamWire::new(rt.stdin(), io::sink());
     match fetch_all(rt.alloc(), &mut wire) {
         Ok((messages, octets)) => println!(rt; "{messages} {octets}")?,
-        Err(fault) => println!(rt; "cut {}", fault_number(fault))?,
+        Err(_) => println!(rt; "cut")?,
     }
     Ok(())
 }

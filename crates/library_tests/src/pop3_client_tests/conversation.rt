@@ -2,7 +2,7 @@
 //! in pieces of several lengths.
 ghost use Rattle.std.specs.Prelude.{◌<◌};
 
-use pop3_client::{Client, Fault, fault_number};
+use pop3_client::{Client, ClientFault};
 use pop3_wire::ScriptWire;
 use std::alloc::Global;
 use std::process::Abort;
@@ -14,7 +14,7 @@ fn take_text(
     client: &mut Client<'_, ScriptWire>,
     number: u32,
     text: &mut Vec<u8>,
-) -> Result<(), Fault> {
+) -> Result<(), ClientFault> {
     let mut body = client.open(alloc, number)?;
     let mut out = [0u8; 4097];
     for _ in 0..u64::MAX {
@@ -32,7 +32,7 @@ fn take_all(
     alloc: Global,
     client: &mut Client<'_, ScriptWire>,
     taken: &mut Vec<u8>,
-) -> Result<(), Fault> {
+) -> Result<(), ClientFault> {
     client.log_in(alloc, b"u", b"p")?;
     let told = client.count()?;
     let listing = client.list(alloc, told)?;
@@ -44,21 +44,17 @@ fn take_all(
     client.quit()
 }
 
-/// The number of the fault, or 0, what was sent, and what was taken, if at
-/// most `cut` octets come at once.
+/// Whether all went well, what was sent, and what was taken, if at most `cut` octets come at once.
 fn outcome(alloc: Global, replies: &[u8], cut: usize) -> Result<String, Fail>
     requires { 0 < cut }
 {
     let mut wire = ScriptWire::new(alloc, Vec::from_slice(alloc, replies)?, cut);
     let mut client = Client::new(&mut wire);
     let mut taken = Vec::new(alloc);
-    let mut number = 0;
-    if let Err(fault) = take_all(alloc, &mut client, &mut taken) {
-        number = fault_number(fault);
-    }
+    let ended = take_all(alloc, &mut client, &mut taken).is_ok();
     let sent = String::from_utf8_lossy(alloc, wire.sent())?;
     let taken = String::from_utf8_lossy(alloc, taken.as_slice())?;
-    Ok(format!(in alloc; "{number}\n{sent}{taken}")?)
+    Ok(format!(in alloc; "{ended}\n{sent}{taken}")?)
 }
 
 /// A conversation over these replies has this outcome, in whatever pieces they come.
@@ -90,7 +86,7 @@ fn texts_come_in_pieces(rt: HostRuntime) -> Result<(), Fail> {
         replies.extend_from_slice(body.as_bytes())?;
         replies.extend_from_slice(b"+OK bye\r\n")?;
         let wanted = format!(in alloc;
-            "0\nUSER u\r\nPASS p\r\nSTAT\r\nUIDL\r\nLIST\r\nRETR 1\r\nQUIT\r\na1 {text}"
+            "true\nUSER u\r\nPASS p\r\nSTAT\r\nUIDL\r\nLIST\r\nRETR 1\r\nQUIT\r\na1 {text}"
         )?;
         has_outcome(&rt, &replies, wanted.as_str())?;
     }

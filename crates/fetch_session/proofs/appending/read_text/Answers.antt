@@ -2,7 +2,7 @@ use Rattle.std.proofs.Common.{inl, inr, ◌++◌, ℕ, List, take, sym, ◌∙�
 use Rattle.pop3_client.specs.Client.{place_of}
 use Rattle.pop3_client.specs.Texts.{Fetched, Fetching}
 use Rattle.pop3_client.specs.Turns.{retr}
-use Rattle.pop3_client.proofs.ClientLemmas.{and_then}
+use Rattle.fetch_session.proofs.LinkLemmas.{and_then}
 use Rattle.std.proofs.lemmas.Bool.{false≢true}
 use Rattle.fetch_session.proofs.MboxLemmas.{held_broke, held_wanting}
 use Rattle.fetch_session.proofs.RefusalLemmas.{before_cut, cut_by}
@@ -10,11 +10,11 @@ use Rattle.fetch_session.proofs.appending.read_text.Goals as goal
 
 pub returns-in-Err-clause-holds : goal.returns-in-Err-clause-holds
 returns-in-Err-clause-holds g c = and_then g.W.Wire g.met.W.Wire.leads_on c.pieces.invariant.1 c.in-Err.ensures.takes (λ before took number start now.
-    held_broke number start (place_of g.W.Wire c.next_piece.new.self) c.plain.result c.in-Err.fault c.plain.ensures (inr (inl (took number start c.pieces.text.items (before number start now)))))
+    held_broke number start (place_of g.W.Wire c.next_piece.new.self) c.broken.result c.in-Err.fault c.broken.ensures (inr (inl (took number start c.pieces.text.items (before number start now)))))
 
 pub returns-in-Err-extend_from_slice-clause-holds : goal.returns-in-Err-extend_from_slice-clause-holds
 returns-in-Err-extend_from_slice-clause-holds g c = and_then g.W.Wire g.met.W.Wire.leads_on c.pieces.invariant.1 c.in-Ok.ensures.takes (λ before took number start now.
-    held_wanting number start (place_of g.W.Wire c.next_piece.new.self) c.plain-in-Err-extend_from_slice.result c.next_piece.new.body (c.pieces.text.items ++ take c.in-Ok.piece.put c.next_piece.new.out) c.plain-in-Err-extend_from_slice.ensures
+    held_wanting number start (place_of g.W.Wire c.next_piece.new.self) c.plain.result c.next_piece.new.body (c.pieces.text.items ++ take c.in-Ok.piece.put c.next_piece.new.out) c.plain.ensures
     (took number start c.pieces.text.items (before number start now)).0)
 
 pub returns-then-piece-clause-holds : goal.returns-then-piece-clause-holds
@@ -23,7 +23,7 @@ returns-then-piece-clause-holds g c = and_then g.W.Wire g.met.W.Wire.leads_on c.
 
 pub pieces-preserved : goal.pieces-preserved
 pieces-preserved g c = (
-  λ done. false≢true (sym c.if-piece.false ∙ c.in-Ok.ensures.ended.1 done),
+  λ done. false≢true (sym c.if-piece.false ∙ c.in-Ok.ensures.took.ended.1 done),
   and_then g.W.Wire g.met.W.Wire.leads_on c.pieces.invariant.1 c.in-Ok.ensures.takes (λ before took number start now.
       subst (λ (text : List ℕ). Fetching (retr number) start (place_of g.W.Wire c.next_piece.new.self) c.next_piece.new.body text) (sym c.in_default.ensures.items) (took number start c.pieces.text.items (before number start now)).0),
   c.in-Ok.ensures.counted ∙ c.pieces.invariant.2,
@@ -32,5 +32,5 @@ pieces-preserved g c = (
 
 pub returns-in-Err-clause-counted : goal.returns-in-Err-clause-counted
 returns-in-Err-clause-counted g c =
-    before_cut (g.W.Wire.history c.args.client.now.wire.now) (g.W.Wire.history c.pieces.client.wire.now) (g.W.Wire.history c.next_piece.new.self.wire.now) c.plain.result c.pieces.invariant.2
-    (cut_by c.in-Err.fault c.plain.result (g.W.Wire.history c.pieces.client.wire.now) (g.W.Wire.history c.next_piece.new.self.wire.now) c.plain.ensures c.in-Err.ensures.counted)
+    before_cut (g.W.Wire.history c.args.client.now.wire.now) (g.W.Wire.history c.pieces.client.wire.now) (g.W.Wire.history c.next_piece.new.self.wire.now) c.broken.result c.pieces.invariant.2
+    (cut_by c.in-Err.fault c.broken.result (g.W.Wire.history c.pieces.client.wire.now) (g.W.Wire.history c.next_piece.new.self.wire.now) c.broken.ensures c.in-Err.ensures.counted)

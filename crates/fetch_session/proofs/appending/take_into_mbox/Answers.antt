@@ -18,7 +18,7 @@ use Rattle.fetch_session.proofs.PartLemmas.{link_cut, link_then_cut}
 use Rattle.fetch_session.specs.Parts.{KeepsLink}
 use Rattle.fetch_session.specs.Report.{Adds}
 use Rattle.fetch_session.proofs.RefusalLemmas.{before_cut}
-use Rattle.pop3_client.proofs.ClientLemmas.{and_then, did_both, did_so}
+use Rattle.fetch_session.proofs.LinkLemmas.{and_then, did_both, did_so}
 use Rattle.fetch_session.proofs.appending.take_into_mbox.Given.{Over}
 use Rattle.fetch_session.proofs.appending.take_into_mbox.Goals.{After-note, In-Ok-read_text}
 use Rattle.fetch_session.proofs.appending.take_into_mbox.Goals as goal
@@ -35,7 +35,7 @@ returns-in-Err-clause-takes g c = λ w m f.
       f,
       opened.1,
       text_broken AsEntries (stores c.args.number c.args.uid.now) _ (place_of g.W.Wire c.args.client.now) (place_of g.W.Wire c.open.new.self) (in_mbox (g.F.FlatFile.stored c.args.mbox.now)) (g.F.FlatFile.stored c.args.ledger.now.file) c.args.ledger.now.seen.rows c.args.ledger.now.lines.items
-          c.in-Err.fault c.plain.result refl c.plain.ensures opened.2,
+          c.in-Err.fault c.broken.result refl c.broken.ensures opened.2,
     )
 
 pub returns-in-Err-read_text-clause-takes : goal.returns-in-Err-read_text-clause-takes
@@ -136,7 +136,7 @@ took g c = record {
 }
 
 pub returns-then-not-is_whole-clause-link : goal.returns-then-not-is_whole-clause-link
-returns-then-not-is_whole-clause-link g c = link_then_cut c.plain-then-not-is_whole.ensures (took g (goal.at.returns-then-not-is_whole-clause-link g c).In-Ok-read_text)
+returns-then-not-is_whole-clause-link g c = link_then_cut c.plain.ensures (took g (goal.at.returns-then-not-is_whole-clause-link g c).In-Ok-read_text)
 
 pub returns-in-Err-append_text-clause-link : goal.returns-in-Err-append_text-clause-link
 returns-in-Err-append_text-clause-link g c = link_then_cut c.plain-in-Err-append_text.ensures (took g (goal.at.returns-in-Err-append_text-clause-link g c).In-Ok-read_text)
@@ -148,5 +148,5 @@ pub returns-clause-link : goal.returns-clause-link
 returns-clause-link g c = link_then_cut c.plain-in-Err-remember.ensures (took g (goal.at.returns-clause-link g c).In-Ok-read_text)
 
 pub returns-in-Err-clause-link : goal.returns-in-Err-clause-link
-returns-in-Err-clause-link g c = link_cut c.in-Err.fault c.open.ensures.link c.plain.ensures c.in-Err.ensures.counted
+returns-in-Err-clause-link g c = link_cut c.in-Err.fault c.open.ensures.link c.broken.ensures c.in-Err.ensures.counted
     (did_so g.W.Wire c.in-Err.ensures.opens (took_broke c.conversations_are_paced.ensures (retr c.args.number) _ _ c.in-Err.fault))

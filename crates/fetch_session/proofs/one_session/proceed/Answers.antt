@@ -1,10 +1,9 @@
 use Rattle.std.proofs.Common.{rules, ◌+◌, ◌*◌, length, Ok, Err, arith, refl, ◌∙◌, inl}
-use Rattle.mail_store.proofs.TakingLemmas.{part_same}
 use Rattle.pop3_client.specs.Client.{link_of, place_of}
 use Rattle.fetch_session.specs.Intake.{opening_limit, step_limit, tail_limit}
 use Rattle.fetch_session.specs.Session.{keeping, noted}
 use Rattle.fetch_session.specs.Target.{left_in, stores_of, target_of}
-use Rattle.fetch_session.proofs.SessionLemmas.{dealt}
+use Rattle.fetch_session.proofs.SessionLemmas.{dealt, part_same}
 use Rattle.fetch_session.proofs.IntakeLemmas.{took_entering, with_plain_tail, with_tail_on}
 use Rattle.fetch_session.proofs.RefusalLemmas.{cut_by, till_cut}
 use Rattle.fetch_session.specs.Lasting.{is_sure}
@@ -33,8 +32,13 @@ returns-clause-proceeds g c = λ w d f.
 pub returns-in-Err-clause-proceeds : goal.returns-in-Err-clause-proceeds
 returns-in-Err-clause-proceeds g c = λ w d f.
     let entered = c.in-Err.ensures.enters w in
-    let files = (stores_of g.D.MaildirDisk g.F.FlatFile c.args.work.now.store).maildir.files in
-    (entered.0, d, f, entered.1, (files, part_same files, search rules))
+    let files = (stores_of g.D.MaildirDisk g.F.FlatFile c.args.work.now.store).maildir.files in (
+      entered.0,
+      d,
+      f,
+      entered.1,
+      (files, part_same files, inl (record { why = c.in-Err.fault; is = c.broken.ensures; enters = entered.2; same = search rules; nothing = search rules })),
+    )
 
 pub returns-in-Err-reserve-clause-proceeds : goal.returns-in-Err-reserve-clause-proceeds
 returns-in-Err-reserve-clause-proceeds g c = λ w d f.
@@ -47,10 +51,10 @@ returns-in-Err-reserve-clause-proceeds g c = λ w d f.
 pub returns-in-Err-clause-link : goal.returns-in-Err-clause-link
 returns-in-Err-clause-link g c = record {
   same = c.enter.ensures.link;
-  counted = cut_by c.in-Err.fault c.plain.result (link_of g.W.Wire c.args.client.now) (link_of g.W.Wire c.enter.new.client) c.plain.ensures c.in-Err.ensures.counted;
+  counted = cut_by c.in-Err.fault c.broken.result (link_of g.W.Wire c.args.client.now) (link_of g.W.Wire c.enter.new.client) c.broken.ensures c.in-Err.ensures.counted;
   took = λ w.
       let entered = c.in-Err.ensures.enters w in
-      (entered.0, with_plain_tail c.plain.ensures (took_entering c.conversations_are_paced.ensures _ _ _ _ (Err c.in-Err.fault) entered.2) (omega arith));
+      (entered.0, with_plain_tail c.broken.ensures (took_entering c.conversations_are_paced.ensures _ _ _ _ (Err c.in-Err.fault) entered.2) (omega arith));
 }
 
 pub returns-in-Err-reserve-clause-link : goal.returns-in-Err-reserve-clause-link
@@ -59,7 +63,7 @@ returns-in-Err-reserve-clause-link g c = record {
   counted = inl c.in-Ok.ensures.counted;
   took = λ w.
       let entered = c.in-Ok.ensures.enters w in
-      (entered.0, with_plain_tail c.plain-in-Err-reserve.ensures (took_entering c.conversations_are_paced.ensures _ _ _ _ (Ok c.in-Ok.listing) entered.2) (omega arith));
+      (entered.0, with_plain_tail c.plain.ensures (took_entering c.conversations_are_paced.ensures _ _ _ _ (Ok c.in-Ok.listing) entered.2) (omega arith));
 }
 
 pub returns-clause-link : goal.returns-clause-link

@@ -84,7 +84,7 @@ returns-in-Ok-quit-clause-carries g c = λ w d f.
           c.do_steps.new.work.ledger.seen.rows,
           (carried g.D.MaildirDisk g.F.FlatFile c.prepare.new.store c.deref-2.result.now c.deref-3.result.now ready.2.2 c.deref-2.ensures.value c.deref-3.ensures.value
               (c.skipped_in.ensures ∙ ap skipped_in c.deref.ensures.value) (λ sure. still (c.in-Ok.ensures.lasts done.1 sure.0)) (λ sure. firm_both (c.in-Ok.ensures.file_lasts done.2 sure.1) (c.in-Ok.ensures.lasts done.1 sure.0)) (c.in_default.ensures.keeps.lasts d f).1
-              (good_quit completes.2.0 (place_of g.W.Wire c.quit.new.self) (in_kind c.prepare.new.store c.args.work.now.store c.args.terms.account.now c.prepare.ensures.kind done.4
+              (good_quit c.turns_join.ensures completes.2.0 (place_of g.W.Wire c.quit.new.self) (in_kind c.prepare.new.store c.args.work.now.store c.args.terms.account.now c.prepare.ensures.kind done.4
               (λ safe. safe)) completes.2.1)),
         ),
       ),
@@ -106,9 +106,9 @@ returns-clause-carries g c = λ w d f.
           c.do_steps.new.work.ledger.seen.rows,
           inr (carried g.D.MaildirDisk g.F.FlatFile c.prepare.new.store c.deref-2.result.now c.deref-3.result.now ready.2.2 c.deref-2.ensures.value c.deref-3.ensures.value
               (c.skipped_in.ensures ∙ ap skipped_in c.deref.ensures.value) (λ sure. still (c.in-Ok.ensures.lasts done.1 sure.0)) (λ sure. firm_both (c.in-Ok.ensures.file_lasts done.2 sure.1) (c.in-Ok.ensures.lasts done.1 sure.0)) (c.in_default.ensures.keeps.lasts d f).1
-              (good_broke (place_of g.W.Wire c.quit.new.self) c.in-Err-quit.fault c.plain-in-Err-quit.result
+              (good_broke c.turns_join.ensures (place_of g.W.Wire c.quit.new.self) c.in-Err-quit.fault c.broken.result
               (in_kind c.prepare.new.store c.args.work.now.store c.args.terms.account.now c.prepare.ensures.kind done.4
-              (λ safe. safe)) c.plain-in-Err-quit.ensures completes.2)),
+              (λ safe. safe)) c.broken.ensures completes.2)),
         ),
       ),
     )
@@ -142,17 +142,17 @@ returns-clause-link g c =
     let old = c.args.client.now in
     let mid = c.do_steps.new.client in
     let new = c.quit.new.self in
-    let cut = c.plain-in-Err-quit.result in
+    let cut = c.broken.result in
     record {
       same = c.quit.ensures.link ∙ done.same;
       counted = before_cut (link_of g.W.Wire old) (link_of g.W.Wire mid) (link_of g.W.Wire new) cut done.counted
-          (cut_by c.in-Err-quit.fault cut (link_of g.W.Wire mid) (link_of g.W.Wire new) c.plain-in-Err-quit.ensures c.in-Err-quit.ensures.counted);
+          (cut_by c.in-Err-quit.fault cut (link_of g.W.Wire mid) (link_of g.W.Wire new) c.broken.ensures c.in-Err-quit.ensures.counted);
       took = λ w.
           let completes = c.in-Err-quit.ensures.completes w in
           let took = done.took completes.0 in (
             took.0,
             with_tail_on (most + tail_limit) most line_limit (place_of g.W.Wire old) (place_of g.W.Wire mid) (place_of g.W.Wire new) (Err cut) (omega arith) took.1
-                (quit_broke c.conversations_are_paced.ensures (place_of g.W.Wire mid) (place_of g.W.Wire new) c.in-Err-quit.fault cut completes.2 c.plain-in-Err-quit.ensures),
+                (quit_broke c.conversations_are_paced.ensures (place_of g.W.Wire mid) (place_of g.W.Wire new) c.in-Err-quit.fault cut completes.2 c.broken.ensures),
           );
     }
 

@@ -1,5 +1,5 @@
 use Rattle.std.proofs.Common.{rules, List, Bool, ap, ◌∙◌}
-use Rattle.mail_store.proofs.TakingLemmas.{part_same}
+use Rattle.fetch_session.proofs.SessionLemmas.{part_same}
 use Rattle.fetch_rules.specs.Record.{merged}
 use Rattle.fetch_session.specs.Pretend.{foretold}
 use Rattle.fetch_session.specs.Target.{left_in, stores_of, target_of}

@@ -1,8 +1,8 @@
-use Rattle.std.proofs.Common.{rules, Err}
-use Rattle.mail_store.proofs.TakingLemmas.{part_same}
+use Rattle.std.proofs.Common.{rules, inl, Err}
+use Rattle.fetch_session.proofs.SessionLemmas.{part_same}
 use Rattle.pop3_client.specs.Client.{place_of}
 use Rattle.pop3_client.specs.Turns.{quit}
-use Rattle.pop3_client.proofs.TalkLemmas.{completes_talks}
+use Rattle.fetch_session.proofs.TalkLemmas.{completes_talks}
 use Rattle.fetch_session.specs.Session.{keeping}
 use Rattle.fetch_session.specs.Target.{left_in, stores_of, target_of}
 use Rattle.fetch_session.proofs.PretendLemmas.{not_ended}
@@ -24,16 +24,21 @@ returns-clause-surveys g c = λ w d f.
         ahead.2.1,
         not_ended c.args.terms.settings.now (target_of c.args.work.now.store c.args.terms.account.now) c.args.terms.now (place_of g.W.Wire c.args.client.now)
             (keeping (left_in (stores_of g.D.MaildirDisk g.F.FlatFile c.args.work.now.store) ahead.2.0) (g.F.FlatFile.stored c.args.work.now.ledger.file)) c.in-Ok.listing mid new
-            (keeping (stores_of g.D.MaildirDisk g.F.FlatFile c.foresee.new.store) (g.F.FlatFile.stored c.foresee.new.file)) c.in-Ok-foresee.foreseen c.len-preview.result c.in-Err-quit.fault c.plain-in-Err-quit.result
-            entered.2 ahead.2.2 c.len-preview.ensures.count (completes_talks quit mid new (Err c.in-Err-quit.fault) completes.2) c.plain-in-Err-quit.ensures,
+            (keeping (stores_of g.D.MaildirDisk g.F.FlatFile c.foresee.new.store) (g.F.FlatFile.stored c.foresee.new.file)) c.in-Ok-foresee.foreseen c.len-preview.result c.in-Err-quit.fault c.broken-in-Err-quit.result
+            entered.2 ahead.2.2 c.len-preview.ensures.count (completes_talks quit mid new (Err c.in-Err-quit.fault) completes.2) c.broken-in-Err-quit.ensures,
       ),
     )
 
 pub returns-in-Err-clause-surveys : goal.returns-in-Err-clause-surveys
 returns-in-Err-clause-surveys g c = λ w d f.
     let entered = c.in-Err.ensures.enters w in
-    let files = (stores_of g.D.MaildirDisk g.F.FlatFile c.args.work.now.store).maildir.files in
-    (entered.0, d, f, entered.1, (files, part_same files, search rules))
+    let files = (stores_of g.D.MaildirDisk g.F.FlatFile c.args.work.now.store).maildir.files in (
+      entered.0,
+      d,
+      f,
+      entered.1,
+      (files, part_same files, (inl (record { why = c.in-Err.fault; is = c.broken.ensures; enters = entered.2; nothing = search rules }), search rules)),
+    )
 
 pub returns-in-Ok-quit-clause-surveys : goal.returns-in-Ok-quit-clause-surveys
 returns-in-Ok-quit-clause-surveys g c = λ w d f.

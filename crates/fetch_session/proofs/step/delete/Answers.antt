@@ -1,6 +1,6 @@
 use Rattle.std.proofs.Common.{Ok, Err, refl}
 use Rattle.pop3_client.specs.Turns.{dele}
-use Rattle.pop3_client.proofs.ClientLemmas.{in_words, did_so}
+use Rattle.fetch_session.proofs.LinkLemmas.{in_words, did_so}
 use Rattle.fetch_session.specs.Task.{deletes}
 use Rattle.fetch_session.proofs.IntakeLemmas.{took_completing}
 use Rattle.fetch_session.proofs.PartLemmas.{link_cut}
@@ -13,7 +13,11 @@ returns-in-Ok-clause-deletes g c = λ target store file rows. in_words g.W.Wire 
 
 pub returns-in-Err-clause-deletes : goal.returns-in-Err-clause-deletes
 returns-in-Err-clause-deletes g c = λ target store file rows. in_words g.W.Wire c.in-Err.ensures.completes (λ completes.
-    text_broken target (deletes c.args.number) (dele c.args.number) _ _ store file rows c.args.lines.now.items c.in-Err.fault c.plain.result refl c.plain.ensures completes)
+    text_broken target (deletes c.args.number) (dele c.args.number) _ _ store file rows c.args.lines.now.items c.in-Err.fault c.broken.result refl c.broken.ensures completes)
+
+pub returns-in-Err-clause-link : goal.returns-in-Err-clause-link
+returns-in-Err-clause-link g c = link_cut c.in-Err.fault c.delete.ensures.link c.broken.ensures c.in-Err.ensures.counted
+    (did_so g.W.Wire c.in-Err.ensures.completes (took_completing c.conversations_are_paced.ensures (dele c.args.number) _ _ (Err c.in-Err.fault)))
 
 pub returns-in-Ok-clause-link : goal.returns-in-Ok-clause-link
 returns-in-Ok-clause-link g c = record {

@@ -16,4 +16,4 @@ returns-then-not-step-clause-does g c = rw (not-true c.args.step.delete c.if-not
 
 pub returns-clause-does : goal.returns-clause-does
 returns-clause-does g c = rw (not-false c.args.step.delete c.if-not-step.false)
-    (does_on g.met.W.Wire.leads_on (task_of c.args.first ∷ []) (deletes c.args.step.number ∷ []) c.do_task-2.result c.in_ok-do_task.ensures.keeps c.in_ok-do_task.ensures.does c.do_task-2.ensures.keeps c.do_task-2.ensures.does)
+    (does_on c.turns_join.ensures g.met.W.Wire.leads_on (task_of c.args.first ∷ []) (deletes c.args.step.number ∷ []) c.do_task-2.result c.in_ok-do_task.ensures.keeps c.in_ok-do_task.ensures.does c.do_task-2.ensures.keeps c.do_task-2.ensures.does)

@@ -41,7 +41,7 @@ loop-i-preserved g c =
     let d = (goal.at.loop-i-preserved g c).After-first_task-first in
     let inv = c.loop-i.invariant in
     let kept = c.in_ok-do_step.ensures.keeps in
-    (inv.0 ++ now g d, split g d, kept_on inv.0 (now g d) (Ok tt) inv.2 kept, does_on g.met.W.Wire.leads_on inv.0 (now g d) (Ok tt) inv.2 inv.3 kept c.in_ok-do_step.ensures.does)
+    (inv.0 ++ now g d, split g d, kept_on inv.0 (now g d) (Ok tt) inv.2 kept, does_on c.turns_join.ensures g.met.W.Wire.leads_on inv.0 (now g d) (Ok tt) inv.2 inv.3 kept c.in_ok-do_step.ensures.does)
 
 pub returns-in_err-do_step-clause-keeps : goal.returns-in_err-do_step-clause-keeps
 returns-in_err-do_step-clause-keeps g c =
@@ -58,7 +58,7 @@ returns-in_err-do_step-clause-does g c =
     let cut = c.in_err-do_step.field-0.0 in
     let kept = c.in_err-do_step.ensures.keeps in
     rw (p.1, p.2, split g d) (does_before (inv.0 ++ now g d) (later g d) (kept_on inv.0 (now g d) (Err cut) inv.2 kept)
-    (does_on g.met.W.Wire.leads_on inv.0 (now g d) (Err cut) inv.2 inv.3 kept c.in_err-do_step.ensures.does))
+    (does_on c.turns_join.ensures g.met.W.Wire.leads_on inv.0 (now g d) (Err cut) inv.2 inv.3 kept c.in_err-do_step.ensures.does))
 
 -- none is left
 all_done : (g : Over) (c : After-loop-i g) → tasks_planned c.args.steps.now c.args.listing.now c.args.held.now ≡ c.loop-i.invariant.0

@@ -8,7 +8,7 @@ use Rattle.mail_store.specs.FileName.{sized}
 use Rattle.std.specs.Prelude.{is_some, string_bytes}
 use Rattle.fetch_session.proofs.StoreLemmas.{refused_start, stopped_store, stopped_read, refused_piece, put_on, settled, refused_end, longer}
 use Rattle.fetch_session.proofs.LastLemmas.{keeps_mail_on, lasts_settled}
-use Rattle.pop3_client.proofs.ClientLemmas.{and_then}
+use Rattle.fetch_session.proofs.LinkLemmas.{and_then}
 use Rattle.fetch_session.proofs.RefusalLemmas.{before_cut, cut_by}
 use Rattle.fetch_session.proofs.storing.store_text.Given.{Over}
 use Rattle.fetch_session.proofs.storing.store_text.Goals.{After-put_piece}
@@ -48,9 +48,9 @@ returns-in-Err-next_piece-clause-stores g c =
           let was = inv.2 drops.0 in (
             was.0,
             stopped_store (g.D.MaildirDisk.maildir c.args.disk.now) (g.D.MaildirDisk.maildir c.pieces.disk) (g.D.MaildirDisk.maildir c.abandon.new.self) (string_bytes c.args.stem) inv.0
-                c.plain.result c.in-Err-next_piece.fault (c.requires.calm was.0) was.1 drops.1 c.plain.ensures,
+                c.broken.result c.in-Err-next_piece.fault (c.requires.calm was.0) was.1 drops.1 c.broken.ensures,
           ),
-      and_then g.W.Wire g.met.W.Wire.leads_on inv.3 c.in-Err-next_piece.ensures.takes (λ before took number start now. stopped_read number start (place_of g.W.Wire c.next_piece.new.self) inv.0 c.plain.result c.in-Err-next_piece.fault c.plain.ensures (inr (inl (took number start inv.0 (before number start now))))),
+      and_then g.W.Wire g.met.W.Wire.leads_on inv.3 c.in-Err-next_piece.ensures.takes (λ before took number start now. stopped_read number start (place_of g.W.Wire c.next_piece.new.self) inv.0 c.broken.result c.in-Err-next_piece.fault c.broken.ensures (inr (inl (took number start inv.0 (before number start now))))),
     )
 
 pub returns-in-Err-put_piece-clause-stores : goal.returns-in-Err-put_piece-clause-stores
@@ -62,7 +62,7 @@ returns-in-Err-put_piece-clause-stores g c =
           let puts = c.in-Err-put_piece.ensures.puts d in
           let was = inv.2 puts.0 in
           (was.0, refused_piece (g.D.MaildirDisk.maildir c.args.disk.now) (g.D.MaildirDisk.maildir c.pieces.disk) (g.D.MaildirDisk.maildir c.put_piece.new.disk) (string_bytes c.args.stem) inv.0 bytes (inv.0 ++ bytes) c.next_piece.new.body c.in-Err-put_piece.fault was.1 puts.1),
-      and_then g.W.Wire g.met.W.Wire.leads_on inv.3 c.in-Ok.ensures.takes (λ before took number start now. let more = took number start inv.0 (before number start now) in (more.0, λ done. more.1 (c.in-Ok.ensures.ended.1 done))),
+      and_then g.W.Wire g.met.W.Wire.leads_on inv.3 c.in-Ok.ensures.takes (λ before took number start now. let more = took number start inv.0 (before number start now) in (more.0, λ done. more.1 (c.in-Ok.ensures.took.ended.1 done))),
     )
 
 -- the piece was appended to what was written before
@@ -74,7 +74,7 @@ put g c puts =
     (was.0, put_on (g.D.MaildirDisk.maildir c.args.disk.now) (g.D.MaildirDisk.maildir c.pieces.disk) (g.D.MaildirDisk.maildir c.put_piece.new.disk) (string_bytes c.args.stem) inv.0 (take c.in-Ok.piece.put c.next_piece.new.out) was.1 puts.1)
 
 long : (g : Over) (c : After-put_piece g) → c.pieces.length + c.in-Ok.piece.put ≡ length (c.pieces.invariant.2.0 ++ take c.in-Ok.piece.put c.next_piece.new.out)
-long g c = longer c.pieces.length c.in-Ok.piece.put c.pieces.invariant.2.0 c.next_piece.new.out c.pieces.invariant.2.1 c.in-Ok.ensures.fits
+long g c = longer c.pieces.length c.in-Ok.piece.put c.pieces.invariant.2.0 c.next_piece.new.out c.pieces.invariant.2.1 c.in-Ok.ensures.took.fits
 
 pub settle_file-requires-clause-begun : goal.settle_file-requires-clause-begun
 settle_file-requires-clause-begun g c = λ d. ap (λ (m : Maildir). is_some m.begun) (put g (goal.at.settle_file-requires-clause-begun g c).After-put_piece (c.in_default-put_piece.ensures.puts d)).1
@@ -113,7 +113,7 @@ returns-in-Err-settle_file-clause-stores g c =
           let now = put g here (c.in_default-put_piece.ensures.puts ends.0) in (
             now.0,
             refused_end (g.D.MaildirDisk.maildir c.args.disk.now) (g.D.MaildirDisk.maildir c.put_piece.new.disk) (g.D.MaildirDisk.maildir c.settle_file.new.disk) (string_bytes c.args.stem) text
-                (c.pieces.length + c.in-Ok.piece.put) c.next_piece.new.body c.in-Err-settle_file.fault now.1 (long g here) (c.in-Ok.ensures.ended.0 c.if-piece.true) ends.1,
+                (c.pieces.length + c.in-Ok.piece.put) c.next_piece.new.body c.in-Err-settle_file.fault now.1 (long g here) (c.in-Ok.ensures.took.ended.0 c.if-piece.true) ends.1,
           ),
       and_then g.W.Wire g.met.W.Wire.leads_on inv.3 c.in-Ok.ensures.takes (λ before took number start now. let more = took number start inv.0 (before number start now) in (more.0, λ done. more.1 c.if-piece.true)),
     )
@@ -122,11 +122,11 @@ pub pieces-preserved : goal.pieces-preserved
 pieces-preserved g c =
     let here = (goal.at.pieces-preserved g c).After-put_piece in
     let inv = c.pieces.invariant.2 in
-    let not_done : c.next_piece.new.body.spot ≢ Done = λ done. false≢true (sym c.if-piece.false ∙ c.in-Ok.ensures.ended.1 done) in
+    let not_done : c.next_piece.new.body.spot ≢ Done = λ done. false≢true (sym c.if-piece.false ∙ c.in-Ok.ensures.took.ended.1 done) in
     let longest : length c.next_piece.new.out ≡ 4097 = c.next_piece.array_long in
-    let less : c.next_piece.new.body.left < c.pieces.rest.left = c.in-Ok.ensures.less not_done in (
+    let less : c.next_piece.new.body.left < c.pieces.rest.left = c.in-Ok.ensures.took.less not_done in (
       not_done,
-      omega (arith, c.pieces.invariant.1, c.in-Ok.ensures.fits, longest, less),
+      omega (arith, c.pieces.invariant.1, c.in-Ok.ensures.took.fits, longest, less),
       (
         inv.0 ++ take c.in-Ok.piece.put c.next_piece.new.out,
         long g here,
@@ -140,8 +140,8 @@ pieces-preserved g c =
 
 pub returns-in-Err-next_piece-clause-counted : goal.returns-in-Err-next_piece-clause-counted
 returns-in-Err-next_piece-clause-counted g c =
-    before_cut (g.W.Wire.history c.args.client.now.wire.now) (g.W.Wire.history c.pieces.client.wire.now) (g.W.Wire.history c.next_piece.new.self.wire.now) c.plain.result c.pieces.invariant.3
-    (cut_by c.in-Err-next_piece.fault c.plain.result (g.W.Wire.history c.pieces.client.wire.now) (g.W.Wire.history c.next_piece.new.self.wire.now) c.plain.ensures c.in-Err-next_piece.ensures.counted)
+    before_cut (g.W.Wire.history c.args.client.now.wire.now) (g.W.Wire.history c.pieces.client.wire.now) (g.W.Wire.history c.next_piece.new.self.wire.now) c.broken.result c.pieces.invariant.3
+    (cut_by c.in-Err-next_piece.fault c.broken.result (g.W.Wire.history c.pieces.client.wire.now) (g.W.Wire.history c.next_piece.new.self.wire.now) c.broken.ensures c.in-Err-next_piece.ensures.counted)
 
 -- ---- what outlives a loss of power
 

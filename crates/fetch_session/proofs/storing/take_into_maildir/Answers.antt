@@ -19,7 +19,7 @@ use Rattle.fetch_session.specs.Parts.{KeepsLink}
 use Rattle.fetch_session.specs.Report.{Adds}
 use Rattle.fetch_session.proofs.SceneLemmas.{all_sound}
 use Rattle.fetch_session.proofs.RefusalLemmas.{before_cut}
-use Rattle.pop3_client.proofs.ClientLemmas.{and_then, did_both, did_so}
+use Rattle.fetch_session.proofs.LinkLemmas.{and_then, did_both, did_so}
 use Rattle.fetch_session.proofs.storing.take_into_maildir.Given.{Over}
 use Rattle.fetch_session.proofs.storing.take_into_maildir.Goals.{After-note, After-store_text, In-Ok-store_text}
 use Rattle.fetch_session.proofs.storing.take_into_maildir.Goals as goal
@@ -105,7 +105,7 @@ returns-in-Err-open-clause-takes g c = λ w m f.
       f,
       opened.1,
       text_broken (AsFiles c.args.account.now) (stores c.args.number c.args.uid.now) (retr c.args.number) (place_of g.W.Wire c.args.client.now) (place_of g.W.Wire c.open.new.self) (in_maildir (g.D.MaildirDisk.maildir c.args.disk.now)) (g.F.FlatFile.stored c.args.ledger.now.file) c.args.ledger.now.seen.rows c.args.ledger.now.lines.items
-          c.in-Err-open.fault c.plain-in-Err-open.result refl c.plain-in-Err-open.ensures opened.2,
+          c.in-Err-open.fault c.broken.result refl c.broken.ensures opened.2,
     )
 
 pub returns-in-Err-store_text-clause-link : goal.returns-in-Err-store_text-clause-link
@@ -145,5 +145,5 @@ returns-in-Ok-remember-clause-lasts g c = λ d f safe.
     )
 
 pub returns-in-Err-open-clause-link : goal.returns-in-Err-open-clause-link
-returns-in-Err-open-clause-link g c = link_cut c.in-Err-open.fault c.open.ensures.link c.plain-in-Err-open.ensures c.in-Err-open.ensures.counted
+returns-in-Err-open-clause-link g c = link_cut c.in-Err-open.fault c.open.ensures.link c.broken.ensures c.in-Err-open.ensures.counted
     (did_so g.W.Wire c.in-Err-open.ensures.opens (took_broke c.conversations_are_paced.ensures (retr c.args.number) _ _ c.in-Err-open.fault))

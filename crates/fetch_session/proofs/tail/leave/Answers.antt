@@ -3,7 +3,7 @@ use Rattle.pop3_client.specs.Client.{place_of}
 use Rattle.pop3_client.specs.Conversation.{Talks}
 use Rattle.pop3_wire.specs.Link.{CountsRefusal}
 use Rattle.pop3_client.specs.Conversation.{is_refusal}
-use Rattle.pop3_client.specs.declared.fault.Fault.{Fault}
+use Rattle.pop3_client.specs.declared.fault.ClientFault.{ClientFault}
 use Rattle.fetch_session.specs.Tail.{turns_in}
 use Rattle.fetch_session.specs.declared.tail.Tail.{Tail}
 use Rattle.fetch_session.proofs.TailLemmas.{left_dropped, left_broken}
@@ -13,7 +13,7 @@ use Rattle.fetch_session.proofs.tail.leave.Goals as goal
 pub returns-in-Err-clause-leaves : goal.returns-in-Err-clause-leaves
 returns-in-Err-clause-leaves g c = λ w.
     let drops = c.in-Err.ensures.drops w in
-    (drops.0, drops.1, left_broken c.conversations_are_paced.ensures c.args.cut.fault c.args.cut.rest (place_of g.W.Wire c.args.client.now) (place_of g.W.Wire c.drop_under_way.new.client) c.in-Err.field-0 drops.2)
+    (drops.0, drops.1, left_broken c.turns_join.ensures c.conversations_are_paced.ensures c.args.cut.fault c.args.cut.rest (place_of g.W.Wire c.args.client.now) (place_of g.W.Wire c.drop_under_way.new.client) c.in-Err.field-0 drops.2)
 
 pub returns-clause-leaves : goal.returns-clause-leaves
 returns-clause-leaves g c = λ w.
@@ -21,10 +21,10 @@ returns-clause-leaves g c = λ w.
     let drops = c.in_default.ensures.drops says.0 in (
       drops.0,
       g.met.W.Wire.leads_on _ _ _ drops.1 says.1,
-      left_dropped c.conversations_are_paced.ensures c.args.cut.fault c.args.cut.rest (place_of g.W.Wire c.args.client.now)
+      left_dropped c.turns_join.ensures c.conversations_are_paced.ensures c.args.cut.fault c.args.cut.rest (place_of g.W.Wire c.args.client.now)
           (place_of g.W.Wire c.drop_under_way.new.client) _ c.say_tail.result drops.2 (rw c.tail_of.ensures at says.2),
     )
 
 pub returns-clause-silent : goal.returns-clause-silent
 returns-clause-silent g c =
-    λ none nothing. subst (λ (r : Result (Unit {0}) Fault). CountsRefusal is_refusal (g.W.Wire.history c.drop_under_way.new.client.wire.now) r (g.W.Wire.history c.say_tail.new.client.wire.now)) (c.say_tail.ensures.nothing (c.tail_of.ensures ∙ nothing)) c.say_tail.ensures.counted ∙ c.in_default.ensures.counted
+    λ none nothing. subst (λ (r : Result (Unit {0}) ClientFault). CountsRefusal is_refusal (g.W.Wire.history c.drop_under_way.new.client.wire.now) r (g.W.Wire.history c.say_tail.new.client.wire.now)) (c.say_tail.ensures.nothing (c.tail_of.ensures ∙ nothing)) c.say_tail.ensures.counted ∙ c.in_default.ensures.counted

@@ -4,8 +4,8 @@ use Rattle.pop3_client.specs.Turns.{quit}
 use Rattle.pop3_client.specs.Conversation.{Talks}
 use Rattle.fetch_session.specs.declared.tail.Tail.{Tail}
 use Rattle.fetch_session.specs.Tail.{turns_in}
-use Rattle.pop3_client.proofs.TalkLemmas.{completes_talks}
-use Rattle.pop3_client.proofs.ClientLemmas.{in_words}
+use Rattle.fetch_session.proofs.TalkLemmas.{completes_talks}
+use Rattle.fetch_session.proofs.LinkLemmas.{in_words}
 use Rattle.fetch_session.proofs.tail.say_tail.Goals as goal
 
 pub returns-in-Leave-clause-talks : goal.returns-in-Leave-clause-talks

@@ -17,7 +17,7 @@ pub pieces-preserved : goal.pieces-preserved
 pieces-preserved g c = (
   c.in-Ok.ensures.link ∙ c.pieces.invariant.0,
   c.in-Ok.ensures.counted ∙ c.pieces.invariant.1,
-  λ done. false≢true (sym c.if-piece.false ∙ c.in-Ok.ensures.ended.1 done),
+  λ done. false≢true (sym c.if-piece.false ∙ c.in-Ok.ensures.took.ended.1 done),
   and_then g.W.Wire g.met.W.Wire.leads_on c.pieces.invariant.3 c.in-Ok.ensures.takes (λ before took number start text now.
       let mid = before number start text now in (_, (took number start mid.0 mid.1).0)),
 )
@@ -25,4 +25,4 @@ pieces-preserved g c = (
 pub returns-then-piece-clause-completes : goal.returns-then-piece-clause-completes
 returns-then-piece-clause-completes g c = and_then g.W.Wire g.met.W.Wire.leads_on c.pieces.invariant.3 c.in-Ok.ensures.takes (λ before took number start text now.
     let mid = before number start text now in
-    dropped number start (place_of g.W.Wire c.next_piece.new.self) c.next_piece.new.body _ (took number start mid.0 mid.1).0 (c.in-Ok.ensures.ended.0 c.if-piece.true))
+    dropped number start (place_of g.W.Wire c.next_piece.new.self) c.next_piece.new.body _ (took number start mid.0 mid.1).0 (c.in-Ok.ensures.took.ended.0 c.if-piece.true))

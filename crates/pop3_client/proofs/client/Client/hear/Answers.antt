@@ -3,7 +3,7 @@ use Rattle.pop3_wire.specs.Place.{at}
 use Rattle.pop3_wire.specs.Reply.{IsFirstLine}
 use Rattle.pop3_wire.specs.declared.reply.Status.{Status}
 use Rattle.pop3_wire.specs.declared.reply.Status.TheVariants.{Positive, Negative}
-use Rattle.pop3_client.specs.declared.fault.Fault.TheVariants.{Refused}
+use Rattle.pop3_client.specs.declared.fault.ClientFault.TheVariants.{Refused}
 use Rattle.pop3_client.specs.Client.{place_of}
 use Rattle.pop3_client.specs.Conversation.{Heard}
 use Rattle.pop3_client.proofs.ClientLemmas.{in_words}

@@ -1,5 +1,5 @@
 use Rattle.std.proofs.Common.{◌∷◌, [], inr, refl, ◌∙◌}
-use Rattle.pop3_client.specs.declared.fault.Fault.TheVariants.{NoMemory}
+use Rattle.pop3_client.specs.declared.fault.ClientFault.TheVariants.{NoMemory}
 use Rattle.pop3_client.specs.Turns.{greeting, user, pass}
 use Rattle.pop3_client.proofs.ClientLemmas.{no_call, in_words}
 use Rattle.pop3_client.proofs.TalkLemmas.{stopped_first}

@@ -1,4 +1,4 @@
-use Rattle.std.proofs.Common.{inl, refl}
+use Rattle.std.proofs.Common.{refl}
 use Rattle.pop3_wire.specs.Commands.{line_of}
 use Rattle.pop3_client.specs.Turns.{quit}
 use Rattle.pop3_client.proofs.ClientLemmas.{in_words}
@@ -7,4 +7,4 @@ use Rattle.pop3_client.proofs.client.Client.quit.Goals as goal
 
 pub returns-clause-completes : goal.returns-clause-completes
 unfolding line_of
-returns-clause-completes g c = in_words g.W.Wire c.ask.ensures.asks (λ asks. asks_completes quit _ _ c.ask.result refl (asks quit (inl refl) refl refl))
+returns-clause-completes g c = in_words g.W.Wire c.ask.ensures.asks (λ asks. asks_completes quit _ _ c.ask.result refl (asks quit refl refl refl))

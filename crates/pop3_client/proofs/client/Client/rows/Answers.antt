@@ -1,8 +1,8 @@
 use Rattle.std.proofs.Common.{◌≡◌, ◌<◌, ◌+◌, ◌++◌, ◌∙◌, inl, inr, ℕ, List, length, take, drop, refl, sym, subst, arith}
 use Rattle.std.specs.Prelude.{All}
 use Rattle.std.proofs.lemmas.List.Elements.{All-nil, All-push}
-use Rattle.pop3_client.specs.declared.fault.Fault.{Fault}
-use Rattle.pop3_client.specs.declared.fault.Fault.TheVariants.{NoMemory}
+use Rattle.pop3_client.specs.declared.fault.ClientFault.{ClientFault}
+use Rattle.pop3_client.specs.declared.fault.ClientFault.TheVariants.{NoMemory}
 use Rattle.pop3_client.specs.Client.{place_of}
 use Rattle.mail_terms.specs.Listing.{message_limit}
 use Rattle.pop3_client.specs.Turns.{IsRow}
@@ -38,7 +38,7 @@ returns-in-Err-read-clause-takes g c =
     let now = took_on _ _ _ _ _ before here next.0 next.1 next.2 in
     let there = row_behind _ _ _ _ _ now n next.3 next.4 in
     let turn = g.R.ListedRow.turn in
-    let P : Fault → Type 0 = λ (f : Fault). RowsCause f turn (g.W.Wire.history c.args.self.now.wire.now) here.link (c.args.self.now.reader ++ now.gained) in
+    let P : ClientFault → Type 0 = λ (f : ClientFault). RowsCause f turn (g.W.Wire.history c.args.self.now.wire.now) here.link (c.args.self.now.reader ++ now.gained) in
     rows_stop _ _ _ _ _ now c.in-Err-read.fault (elim c.in-Err-read.ensures.err [
       | inl wanting ↦ subst P (sym wanting.0) (take n here.waiting, length c.rows.rows.items, there, omega arith, subst (λ (l : List ℕ). IsRow turn (take n l)) c.waiting.ensures.value wanting.1)
       | inr unread ↦ subst P (sym unread.0) (take n here.waiting, length c.rows.rows.items, there, omega arith, subst (λ (l : List ℕ). IsRow turn (take n l) → ⊥) c.waiting.ensures.value unread.1)

@@ -1,0 +1,33 @@
+-- What is known of calls in a row, if the link is sound after them.
+use Rattle.pop3_wire.specs.declared.wire.Wire.{Ghosts}
+use Rattle.pop3_wire.specs.Link.{WhereSound}
+
+module _ {W : Type 0} (link : Ghosts W) where
+  -- what follows from what a call did
+  pub in_words : {a b : W} {P Q : Type 0} → WhereSound link.sound link.leads_to a b P → (P → Q) → WhereSound link.sound link.leads_to a b Q
+  in_words did words sound = let all = did sound in (all.0, all.1, words all.2)
+
+  -- a call and then another
+  pub and_then : {a b c : W} {P Q R : Type 0} → ((u v w : W) → link.leads_to u v → link.leads_to v w → link.leads_to u w)
+      → WhereSound link.sound link.leads_to a b P → WhereSound link.sound link.leads_to b c Q → (P → Q → R) → WhereSound link.sound link.leads_to a c R
+  and_then on first second both sound =
+      let then = second sound in
+      let all = first then.0 in
+      (all.0, on _ _ _ all.1 then.1, both all.2 then.2)
+
+  -- three calls
+  pub and_then_two : {a b c d : W} {P Q R S : Type 0} → ((u v w : W) → link.leads_to u v → link.leads_to v w → link.leads_to u w)
+      → WhereSound link.sound link.leads_to a b P → WhereSound link.sound link.leads_to b c Q → WhereSound link.sound link.leads_to c d R → (P → Q → R → S)
+      → WhereSound link.sound link.leads_to a d S
+  and_then_two {Q = Q} {R = R} on first second third all = and_then on first (and_then {R = Q × R} on second third (λ q r. (q, r))) (λ p both. all p both.0 both.1)
+
+  -- what a call did, leaving out what the link leads to
+  pub did_so : {a b : W} {P Q : Type 0} → WhereSound link.sound link.leads_to a b P → (P → Q) → link.sound b → link.sound a × Q
+  did_so did words sound = let all = did sound in (all.0, words all.2)
+
+  pub did_both : {a b c : W} {P Q R : Type 0} → WhereSound link.sound link.leads_to a b P → WhereSound link.sound link.leads_to b c Q → (P → Q → R)
+      → link.sound c → link.sound a × R
+  did_both first second both sound =
+      let then = second sound in
+      let all = first then.0 in
+      (all.0, both all.2 then.2)
