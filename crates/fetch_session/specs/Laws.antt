@@ -5,9 +5,7 @@ use Rattle.fetch_rules.specs.Record.{Held, none_open, marked_all}
 use Rattle.mail_store.specs.FlatFile.{Stored}
 use Rattle.mail_store.specs.Maildir.{File}
 use Rattle.pop3_wire.specs.Reading.{WholeReply, reply_bytes}
-use Rattle.pop3_wire.specs.Place.{Place}
-use Rattle.pop3_client.specs.Conversation.{Talked}
-use Rattle.pop3_client.specs.Turns.{Turn, IsGood}
+use Rattle.pop3_client.specs.Turns.{IsGood}
 use Rattle.fetch_session.specs.declared.fault.Fault.{Fault}
 use Rattle.fetch_session.specs.declared.fault.Cut.{Cut}
 use Rattle.fetch_session.specs.declared.fault.Fault.TheVariants.{StoreRefused, SeenRefused, NoMemory}
