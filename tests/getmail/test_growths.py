@@ -100,6 +100,7 @@ class FetchedTexts(unittest.TestCase):
                 with Account(server.port) as account:
                     run = account.run(**refusal.environment())
                     ends[run.status, run.err] += 1
+                    self.assertEqual(run.status == 0, run.err == b"", "a failure has a line, and only a failure")
                     if refusal.came() and run.status != 0:
                         self.assertIn(account.held(), ([], [(b"a", text)]))
                     else:
@@ -124,6 +125,7 @@ class CompletedSessions(unittest.TestCase):
             with self.subTest(growth=refusal.number), Server(self.MESSAGES) as server, Account(server.port) as account:
                 thread = server.begin_session()
                 run = account.run("-q", "-d", **refusal.environment())
+                self.assertEqual(run.status == 0, run.err == b"", "a failure has a line, and only a failure")
                 held = account.held()
                 self.assertEqual(held, self.MESSAGES[:len(held)])
                 self.assertEqual(run.status == 0, len(held) == 3 and server.messages == [])

@@ -163,6 +163,9 @@ class BeforeSessions(unittest.TestCase):
         warning = f"getmail: warning: others than its owner may read or write {self.account.rcfile}\n"
         self.assertTrue(run.err.decode().startswith(warning), run.err)
         self.assertEqual(self.account.run().err, f"getmail: cannot connect to {LOOPBACK}:1\n".encode())
+        self.account.rcfile.rename(self.account.folder / "rc\nfile")
+        run = self.account.run("--why", "-r", "rc\nfile")
+        self.assertIn(b"/rc\\x0afile\n", run.err)
 
 
 del Sessions

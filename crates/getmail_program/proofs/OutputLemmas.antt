@@ -1,12 +1,14 @@
 -- What one write after another has written.
-use Rattle.std.proofs.Common.{ℕ, List, Option, ◌++◌}
+use Rattle.std.proofs.Common.{◌≡◌, ℕ, List, Option, ◌++◌, append_assoc, codes, subst, sym}
 use Rattle.std.proofs.KnownBytes.{Appends-trans}
 use Rattle.rc_file.specs.declared.settings.Settings.{Settings}
+use Rattle.pop3_client.specs.declared.fault.Fault.{Fault}
+use Rattle.fetch_session.specs.Text.{fault_text}
 use Rattle.fetch_session.specs.declared.report.Outcome.{Outcome}
 use Rattle.getmail_program.specs.declared.output.Output.{Output}
 use Rattle.getmail_program.specs.declared.why.Errors.{Errors}
-use Rattle.getmail_program.specs.Output.{Puts}
-use Rattle.getmail_program.specs.Telling.{TellsCut, outcome_line}
+use Rattle.getmail_program.specs.Output.{Puts, number_text}
+use Rattle.getmail_program.specs.Telling.{TellsCut, fault_line, outcome_line}
 
 pub puts_both : {W : Type 0} (contents : W → Option (List ℕ)) (old mid new : Output W) (first second : List ℕ)
     → Puts contents old first mid → Puts contents mid second new → Puts contents old (first ++ second) new
@@ -21,3 +23,12 @@ pub said : {E : Type 0} (contents : E → Option (List ℕ)) (settings : Setting
     → Puts contents old.err (((outcome_line outcome ++ cut.reason) ++ next) ++ (outcome_line ahead ++ later.reason)) last.err
 said contents settings outcome ahead next old first second last cut put later =
     puts_both contents old.err second.err last.err _ _ (puts_both contents old.err first.err second.err _ _ cut.puts put) later.puts
+
+-- the line of a fault in pieces
+pub in_pieces : {W : Type 0} (contents : W → Option (List ℕ)) (fault : Fault) (words : List ℕ) (number : Option ℕ) (a b c d e : Output W)
+    → fault_text fault ≡ words ++ number_text number → Puts contents a (codes "getmail: ") b → Puts contents b words c
+    → Puts contents c (number_text number) d → Puts contents d (codes "\n") e → Puts contents a (fault_line fault) e
+in_pieces contents fault words number a b c d e is first second third fourth =
+    subst (λ (text : List ℕ). Puts contents a (codes "getmail: " ++ (text ++ codes "\n")) e) (sym is)
+    (subst (λ (text : List ℕ). Puts contents a (codes "getmail: " ++ text) e) (sym (append_assoc words (number_text number) (codes "\n")))
+    (puts_both contents a b e _ _ first (puts_both contents b c e _ _ second (puts_both contents c d e _ _ third fourth))))

@@ -1,5 +1,5 @@
 -- What is told at a session's end.
-use Rattle.std.specs.Prelude.{◌≡◌, ◌⊎◌, ℕ, Bool, true, false, ◌==◌, List, [], ◌++◌, Option, None, Some, codes}
+use Rattle.std.specs.Prelude.{◌≡◌, ◌⊎◌, ℕ, Bool, true, false, ◌==◌, List, [], ◌++◌, Option, None, Some, codes, if◌then◌else◌}
 use Rattle.std.specs.Fmt.{decimal}
 use Rattle.std.specs.String.{string_bytes}
 use Rattle.rc_file.specs.declared.settings.Settings.{Settings}
@@ -7,7 +7,7 @@ use Rattle.fetch_session.specs.declared.fault.Fault.{Fault}
 use Rattle.fetch_session.specs.declared.report.Outcome.{Outcome}
 use Rattle.fetch_session.specs.declared.report.Outcome.TheVariants.{Ended, Cut}
 use Rattle.fetch_session.specs.Telling.{preview_text}
-use Rattle.fetch_session.specs.Text.{fault_text, report_text}
+use Rattle.fetch_session.specs.Text.{fault_text, outcome_number, report_text}
 use Rattle.getmail_program.specs.declared.output.Output.{Output}
 use Rattle.getmail_program.specs.declared.output.Refusal.{Refusal}
 use Rattle.getmail_program.specs.declared.output.Refusal.TheVariants.{NoMemory, Refused}
@@ -49,11 +49,15 @@ reason_line settings reason =
     ((codes "getmail: " ++ (string_bytes settings.username ++ (codes "@" ++ (string_bytes settings.server
     ++ (codes ":" ++ (decimal settings.port ++ codes ": ")))))) ++ reason) ++ codes "\n"
 
--- the line of a text that wasn't written to standard output
-abbrev pub unwritten_line : Option Refusal → List ℕ
-unwritten_line None = []
-unwritten_line (Some NoMemory) = codes "getmail: out of memory\n"
-unwritten_line (Some Refused) = codes "getmail: cannot write standard output\n"
+-- a session was cut for want of memory, which the line of its fault says
+abbrev pub lacks_memory : Outcome → Bool
+lacks_memory outcome = outcome_number outcome == 13
+
+-- the line of a text that wasn't written to standard output; want of memory is told once
+abbrev pub unwritten_line : Outcome → Option Refusal → List ℕ
+unwritten_line outcome None = []
+unwritten_line outcome (Some NoMemory) = if lacks_memory outcome then [] else codes "getmail: out of memory\n"
+unwritten_line outcome (Some Refused) = codes "getmail: cannot write standard output\n"
 
 -- ---- what is written at a session's end
 
@@ -92,5 +96,5 @@ pub record TellsAll {O E : Type 0} (out_contents : O → Option (List ℕ)) (err
   pub is_reason : IsReason settings old.reasons (outcome_of told) reason
   pub further : List ℕ
   pub is_further : IsReason settings old.reasons foreseen further
-  pub said : Puts err_contents old.err (((outcome_line (outcome_of told) ++ reason) ++ unwritten_line out'.refusal)
+  pub said : Puts err_contents old.err (((outcome_line (outcome_of told) ++ reason) ++ unwritten_line (outcome_of told) out'.refusal)
       ++ (outcome_line foreseen ++ further)) new.err

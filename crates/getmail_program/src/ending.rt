@@ -1,19 +1,22 @@
 //! What is written to standard error at a session's end.
-ghost use Rattle.std.specs.Prelude.{◌≡◌, ◌≤◌, false, IfOk};
-ghost use Rattle.std.specs.String.{string_bytes};
+ghost use Rattle.std.specs.Prelude.{◌≡◌, ◌≤◌, false};
 ghost use Rattle.getmail_program.specs.Output.{Puts};
-ghost use Rattle.getmail_program.specs.Telling.{TellsAll, TellsCut, fault_line, outcome_line, status_when, unwritten_line};
+ghost use Rattle.getmail_program.specs.Telling.{TellsAll, TellsCut, lacks_memory, outcome_line, status_when, unwritten_line};
 
 use crate::doubt::doubt_of;
 use crate::failure::OUT_OF_MEMORY;
+use crate::fault_line::put_fault;
 use crate::output::{Output, Refusal};
 use crate::told::Told;
 use crate::why::{Errors, reason_line};
 use fetch_rules::Settings;
-use fetch_session::{Fault, Outcome, fault_text};
-use std::alloc::{AllocError, Global};
+use fetch_session::{Outcome, fault_number};
+use std::alloc::Global;
 use std::io::Write;
 use std::rt::Files;
+
+/// The number of want of memory among faults.
+const NO_MEMORY: u8 = 13;
 
 /// When a session is, where its texts go, and whether it only shows what it would do.
 #[derive(Clone, Copy)]
@@ -33,27 +36,6 @@ pub struct Fetched {
     pub status: u8,
     /// Whether it had nothing to fetch.
     pub is_idle: bool,
-}
-
-/// The line of a fault.
-fn fault_line(alloc: Global, fault: &Fault) -> Result<String, AllocError>
-    ensures { IfOk result (λ line. string_bytes line ≡ fault_line fault.now) }
-{
-    let text = fault_text(alloc, fault)?;
-    format!(in alloc; "getmail: {text}\n")
-}
-
-/// Writes a fault's line, or that memory ran out, if it does here.
-fn put_fault<E: Write>(alloc: Global, fault: &Fault, err: &mut Output<E>)
-    ensures { Puts E.contents err.old (fault_line fault.now) err.new }
-{
-    match fault_line(alloc, fault) {
-        Ok(line) => err.put(line.as_bytes()),
-        Err(_) => {
-            err.put(OUT_OF_MEMORY.as_bytes());
-            err.lack_memory();
-        }
-    }
 }
 
 /// Writes the line of the fault that cut a session, if one did.
@@ -82,13 +64,27 @@ fn tell_cut<E: Write>(
     errors.err.put(reason.as_slice());
 }
 
-/// The line of a text that wasn't written to standard output.
-pub fn unwritten_line(refusal: Option<Refusal>) -> &'static str
-    ensures { result.now ≡ unwritten_line refusal }
+/// Whether a session was cut for want of memory, which the line of its fault says.
+fn lacks_memory(outcome: &Outcome) -> bool
+    ensures { result ≡ lacks_memory outcome.now }
+{
+    fault_number(outcome) == NO_MEMORY
+}
+
+/// The line of a text that wasn't written to standard output after a session that came out in this way. Want
+/// of memory is told once.
+pub fn unwritten_line(outcome: &Outcome, refusal: Option<Refusal>) -> &'static str
+    ensures { result.now ≡ unwritten_line outcome.now refusal }
 {
     match refusal {
         None => "",
-        Some(Refusal::NoMemory) => OUT_OF_MEMORY,
+        Some(Refusal::NoMemory) => {
+            if lacks_memory(outcome) {
+                ""
+            } else {
+                OUT_OF_MEMORY
+            }
+        }
         Some(Refusal::Refused) => "getmail: cannot write standard output\n",
     }
 }
@@ -140,7 +136,9 @@ pub fn tell_all<R: Files + AllocGlobal, O: Write, E: Write>(
     let outcome = told.outcome();
     told.write(alloc, settings, out);
     tell_cut(alloc, settings, manner.destination, &outcome, errors);
-    errors.err.put(unwritten_line(out.refusal()).as_bytes());
+    errors
+        .err
+        .put(unwritten_line(&outcome, out.refusal()).as_bytes());
     let ahead = foreseen(host, settings, manner.destination, told, manner.pretends);
     tell_cut(alloc, settings, manner.destination, &ahead, errors);
     Fetched {

@@ -5,6 +5,7 @@ mod devices;
 mod doubt;
 mod ending;
 mod failure;
+mod fault_line;
 mod output;
 mod place;
 mod progress;

@@ -1,8 +1,9 @@
 //! A writer that remembers whether it refused something.
 ghost use Rattle.std.specs.Prelude.{◌≡◌, None, Some, OnOk};
+ghost use Rattle.std.specs.Fmt.{decimal};
 ghost use Rattle.std.specs.Io.KnownBytes.{Appends};
 ghost use Rattle.std.specs.IoError.{error_kind};
-ghost use Rattle.getmail_program.specs.Output.{Puts};
+ghost use Rattle.getmail_program.specs.Output.{Puts, number_text};
 
 use std::io::{self, ErrorKind, Write};
 
@@ -41,6 +42,14 @@ fn write_whole<W: Write>(writer: &mut W, octets: &[u8]) -> io::Result<()>
     writer.flush()
 }
 
+/// Writes a number, and flushes the writer.
+fn write_number<W: Write>(writer: &mut W, number: u32) -> io::Result<()>
+    ensures { OnOk result (Appends (W.contents writer.old) (W.contents writer.new) (decimal number)) }
+{
+    write!(writer, "{number}")?;
+    writer.flush()
+}
+
 impl<W: Write> Output<W> {
     /// A writer that refused nothing yet.
     pub fn new(writer: W) -> Output<W>
@@ -73,6 +82,18 @@ impl<W: Write> Output<W> {
         ensures { Puts W.contents self.old octets.now self.new }
     {
         if let Err(error) = write_whole(&mut self.writer, octets) {
+            self.refusal = Some(refusal_of(&error));
+        }
+    }
+
+    /// Writes a number, if there is one.
+    pub fn put_number(&mut self, number: Option<u32>)
+        ensures { Puts W.contents self.old (number_text number) self.new }
+    {
+        let Some(number) = number else {
+            return self.put(b"");
+        };
+        if let Err(error) = write_number(&mut self.writer, number) {
             self.refusal = Some(refusal_of(&error));
         }
     }

@@ -124,7 +124,8 @@ fn rehearse_with<R: Read + Drop, W: Write + Drop, E: Write, T: Write + Drop>(
         return 1;
     };
     if let Err(error) = write_outcome(alloc, &mut output, &maildir, &report.outcome) {
-        let _ = err.write_all(unwritten_line(Some(refusal_of(&error))).as_bytes());
+        let line = unwritten_line(&Outcome::Ended, Some(refusal_of(&error)));
+        let _ = err.write_all(line.as_bytes());
         return 1;
     }
     if report.outcome == Outcome::Ended {

@@ -12,14 +12,17 @@ use crate::words::Words;
 use fetch_rules::{Dest, Flags, Settings, Warning, override_with, read_rc, warning_text};
 use mail_store::{AccountId, account_id};
 use std::alloc::{AllocError, Global};
-use std::fs;
 use std::io::{self, Read, Write};
 use std::os::unix::fs::PermissionsExt;
 use std::rt::Files;
-use trace::{Reasons, TracedHost};
+use std::{fs, str};
+use trace::{Reasons, TracedHost, line_text};
 
 /// One octet more than an rc file may have, so that a longer one is noticed.
 const RC_ROOM: u64 = 65_537;
+
+/// The warning of a file that others may read, before its path.
+const OTHERS: &str = "getmail: warning: others than its owner may read or write ";
 
 /// The paths of a run.
 #[derive(Drop)]
@@ -69,12 +72,19 @@ fn is_others_too<R: Files>(host: &R, path: &str) -> bool {
 }
 
 /// Warns if others may read or write the rc file, which has a password.
-fn warn_of_others<R: Files + Eprint, E: Write + Copy>(host: &TracedHost<R, E>, path: &str) {
+fn warn_of_others<R: Files + Eprint + AllocGlobal, E: Write + Copy>(
+    host: &TracedHost<R, E>,
+    path: &str,
+) {
     let rt = host.inner();
-    if is_others_too(rt, path) {
-        let _ = rt.eprintln(format_args!(
-            "getmail: warning: others than its owner may read or write {path}"
-        ));
+    if !is_others_too(rt, path) {
+        return;
+    }
+    let Ok(line) = line_text(rt.alloc(), OTHERS, path.as_bytes()) else {
+        return;
+    };
+    if let Ok(line) = str::from_utf8(line.as_slice()) {
+        let _ = rt.eprintln(line.trim_end());
     }
 }
 

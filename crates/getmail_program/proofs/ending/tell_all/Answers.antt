@@ -1,4 +1,4 @@
-use Rattle.std.proofs.Common.{◌∙◌, ℕ, List, ap, ap₂, subst}
+use Rattle.std.proofs.Common.{◌∙◌, ℕ, List, ap₂, subst}
 use Rattle.getmail_program.specs.Output.{Puts}
 use Rattle.getmail_program.specs.Telling.{IsReason, TellsCut, status_when, unwritten_line}
 use Rattle.getmail_program.proofs.OutputLemmas.{said}
@@ -9,7 +9,7 @@ returns-clause-told g c =
     let cut = subst (λ outcome. TellsCut g.E.Write.contents c.args.settings.now outcome c.args.errors.now c.tell_cut.new.errors)
     c.outcome-outcome.ensures c.tell_cut.ensures in
     let unwritten = subst (λ (octets : List ℕ). Puts g.E.Write.contents c.tell_cut.new.errors.err octets c.put.new.self)
-    (c.as_bytes.ensures.value ∙ c.unwritten_line.ensures ∙ ap unwritten_line c.refusal.ensures) c.put.ensures in
+    (c.as_bytes.ensures.value ∙ c.unwritten_line.ensures ∙ ap₂ unwritten_line c.outcome-outcome.ensures c.refusal.ensures) c.put.ensures in
     record {
       idle = c.is_idle.ensures;
       reported = c.write.ensures;
