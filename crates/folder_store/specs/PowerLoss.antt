@@ -2,15 +2,15 @@
 use Rattle.std.specs.Prelude.{◌≡◌, ℕ, ◌≤◌, ◌<◌, ◌/◌, List, [], ◌∷◌, ◌++◌, length, take, slice_index, Bool}
 use Rattle.std.specs.Prelude.{true, false, Option, Some, None, Result, ◌⊎◌, OnOk}
 use Rattle.mail_store.specs.declared.fault.StoreFault.{StoreFault}
-use Rattle.mail_store.specs.Settling.{page_size}
+use Rattle.mail_store.specs.Settling.{block_size}
 use Rattle.folder_store.specs.FileFolder.{Directory, Blob, Older, find, content_at, secured}
 
--- the byte at a place and all after it in its page of the file are zeros
+-- the byte at a place and all after it in its block of the file are zeros
 abbrev pub IsZeroFrom : List ℕ → ℕ → Type 0
-IsZeroFrom left i = (j : ℕ) → i ≤ j → j < length left → j / page_size ≡ i / page_size → slice_index left j ≡ 0
+IsZeroFrom left i = (j : ℕ) → i ≤ j → j < length left → j / block_size ≡ i / block_size → slice_index left j ≡ 0
 
 -- the byte at a place of what is left of a file: the one in memory, the one on the disk, or zero, and then all
--- after it in its page are zeros too
+-- after it in its block are zeros too
 abbrev pub IsByteLeft : List ℕ → List ℕ → List ℕ → ℕ → Type 0
 IsByteLeft content flushed left i =
     ((i < length content) × (slice_index left i ≡ slice_index content i))

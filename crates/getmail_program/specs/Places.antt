@@ -59,10 +59,12 @@ pub record AreAsked (flags : Flags) (settings : Settings) : Type 0 where
   pub agree : is_contradiction flags ≡ false
   pub changed : content_of settings ≡ overridden content flags
 
--- a run's destination is the one of its settings, and its record is in the folder that the words name
+-- a run's destination is the one of its settings, its record is in the folder that the words name, and what is cut off from
+-- an mboxrd file is kept beside the record
 pub record IsPlaced (words : Words) (setup : Setup) : Type 0 where
   pub home : List ℕ
   pub destination_is : string_bytes setup.destination ≡ whole_path home (path_in setup.settings.dest)
   pub home_of_folder : List ℕ
+  pub rests_is : string_bytes setup.rests ≡ string_bytes setup.record ++ codes ".rest"
   pub record_is : string_bytes setup.record
       ≡ record_path (whole_path home_of_folder (folder_given (option_map string_bytes words.dir))) setup

@@ -47,51 +47,84 @@ type HostMaildir<'a, R> = FolderMaildir<HostFolders<'a, R>>;
 /// The mboxrd file or the record of a run.
 type HostRecord<'a, R> = HostFile<'a, HostFolder<'a, R>>;
 
-/// The store at a destination's path. An entry of an mboxrd file is flushed once: what a loss of
-/// power left of one is found and cut off by the next run.
+/// The paths of a run.
+#[derive(Clone, Copy)]
+struct Paths<'a> {
+    destination: &'a str,
+    record: &'a str,
+    /// Where is kept what is cut off from an mboxrd file.
+    rests: &'a str,
+}
+
+/// The store of a run. An entry of an mboxrd file is flushed once: what a loss of power left of one
+/// is found and cut off by the next run.
 fn store_at<'a, R: Files + Clock + AllocGlobal + Clone + Drop>(
     host: &'a R,
     dest: &Dest,
-    path: &'a str,
+    paths: Paths<'a>,
     mark: ProcessMark,
 ) -> Store<HostMaildir<'a, R>, HostRecord<'a, R>>
     ensures kind { kind_of result ≡ kind_in dest.now }
     ensures calm { IsCalm ⟦<HostMaildir<'a, R> as MaildirDisk>⟧ ⟦<HostRecord<'a, R> as FlatFile>⟧ result }
 {
     match dest {
-        Dest::Maildir(_) => Store::Maildir(FolderMaildir::at(host, path, mark)),
-        Dest::Mboxrd(_) => Store::Mboxrd(HostFile::at(host, path, mark)),
+        Dest::Maildir(_) => Store::Maildir(FolderMaildir::at(host, paths.destination, mark)),
+        Dest::Mboxrd(_) => Store::Mboxrd(HostFile::keeping(
+            host,
+            paths.destination,
+            paths.rests,
+            mark,
+        )),
     }
 }
 
 /// The account of a run.
 type HostAccount<'a, R, H> = Account<HostMaildir<'a, R>, HostRecord<'a, R>, H>;
 
-/// The account of a run, with the store at the first path and the record at the second one.
+/// The account of a run, with its store and its record.
 fn account_at<'a, R: Files + Clock + AllocGlobal + Clone + Drop, H: BuildHasher>(
     host: &'a R,
     settings: Settings,
-    paths: (&'a str, &'a str),
+    paths: Paths<'a>,
     drawn: (H, ProcessMark),
 ) -> HostAccount<'a, R, H>
     requires { IsValid settings }
     ensures settings { result.settings ≡ settings }
     ensures kind { kind_of result.store ≡ kind_in settings.dest }
 {
-    let (destination, record) = paths;
     let (hasher, mark) = drawn;
-    let store = store_at(host, &settings.dest, destination, mark);
-    let record = HostFile::by_pages(host, record, mark);
+    let store = store_at(host, &settings.dest, paths, mark);
+    let record = HostFile::by_pages(host, paths.record, mark);
     Account::new(host.alloc(), settings, store, record, hasher)
+}
+
+/// Writes where is kept what was cut off from an mboxrd file, if it isn't known to have been a part of
+/// an entry that was appended since; else it is removed.
+fn tell_rests<R: Files + Clock + AllocGlobal + Clone + Drop, E: Write>(
+    mbox: &HostRecord<'_, R>,
+    rests: &str,
+    err: &mut E,
+) {
+    mbox.drop_ours();
+    if mbox.keeps_others() {
+        let _ = err.write_all(b"getmail: what was cut off from the mbox file is kept in ");
+        let _ = err.write_all(rests.as_bytes());
+        let _ = err.write_all(b"\n");
+    }
 }
 
 /// Closes the account of a run, and removes what killed runs of it left, unless the run had nothing
 /// to fetch.
-fn close<R: Files + Clock + AllocGlobal + Clone + Drop, H: BuildHasher + Drop>(
+fn close<R: Files + Clock + AllocGlobal + Clone + Drop, H: BuildHasher + Drop, E: Write>(
     account: HostAccount<'_, R, H>,
     is_idle: bool,
+    rests: &str,
+    err: &mut E,
 ) {
     let (settings, store, record) = account.into_parts();
+    if let Store::Mboxrd(mbox) = &store {
+        tell_rests(mbox, rests, err);
+    }
     if is_idle {
         return;
     }
@@ -151,10 +184,15 @@ pub fn fetch_over<
         settings,
         destination,
         record,
+        rests,
         pretends,
     } = setup;
     let wire = ShownWire::new(host.alloc(), wire, screen_of(&errors, &settings));
-    let paths = (destination.as_str(), record.as_str());
+    let paths = Paths {
+        destination: destination.as_str(),
+        record: record.as_str(),
+        rests: rests.as_str(),
+    };
     let mut account = account_at(host, settings, paths, drawn);
     let manner = Manner {
         now: seconds_now(host),
@@ -163,7 +201,8 @@ pub fn fetch_over<
     let err = &mut errors.err;
     let fetched = hold(host.alloc(), &mut account, wire, manner, out, err);
     let settings = account.settings();
-    let status = end(host, settings, paths.0, pretends, &fetched, &mut errors);
-    close(account, fetched.is_idle);
+    let destination = paths.destination;
+    let status = end(host, settings, destination, pretends, &fetched, &mut errors);
+    close(account, fetched.is_idle, paths.rests, &mut errors.err);
     status
 }

@@ -31,6 +31,8 @@ pub struct Setup {
     pub destination: String,
     /// The record's path.
     pub record: String,
+    /// The path of the file in which is kept what is cut off from an mboxrd file.
+    pub rests: String,
     /// Whether the run only shows what it would do.
     pub pretends: bool,
 }
@@ -136,6 +138,13 @@ fn record_path(alloc: Global, folder: &str, settings: &Settings) -> Result<Strin
     joined(alloc, folder, name.as_str())
 }
 
+/// The path of the file in which is kept what is cut off from an mboxrd file.
+fn rests_path(alloc: Global, record: &str) -> Result<String, AllocError>
+    ensures { IfOk result (λ path. string_bytes path ≡ record.now ++ codes ".rest") }
+{
+    format!(in alloc; "{record}.rest")
+}
+
 /// The path of a destination, a Maildir or an mboxrd file.
 fn destination_path<'a, R: Env + AllocGlobal>(rt: &R, dest: &Dest) -> Result<String, Failure<'a>>
     ensures { IfOk result (λ path. (home : List ℕ) × (string_bytes path ≡ whole_path home (path_in dest.now))) }
@@ -165,10 +174,12 @@ pub fn set_up<'a, R: Files + Env + Eprint + AllocGlobal, E: Write + Copy>(
     let settings = settings_of(host, path.as_str(), words, reasons)?;
     let destination = destination_path(rt, &settings.dest)?;
     let record = record_path(rt.alloc(), folder.as_str(), &settings)?;
+    let rests = rests_path(rt.alloc(), record.as_str())?;
     Ok(Setup {
         settings,
         destination,
         record,
+        rests,
         pretends: words.pretend,
     })
 }
