@@ -111,8 +111,8 @@ class Intents(unittest.TestCase):
         length = len(entry(text))
         first = entry(TEXTS[0])
         for block in (512, 1024, 4096):
-            for begin in range(0, len(first) + length, 4096 + block):
-                for kept in (0, 1, block - 1):
+            for begin in range(0, len(first) + length, 8192 - block):
+                for kept in (0, block - 1):
                     for end in (length - 1, length):
                         whole = bytearray(first + entry(text)[:end])
                         start, stop = max(begin + kept, len(first)), min(begin + block, len(whole))

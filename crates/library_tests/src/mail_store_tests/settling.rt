@@ -138,7 +138,10 @@ fn settles_a_real_file(rt: HostRuntime) -> Result<(), Fail> {
     let mut file = HostFile::at(&rt, path, mark_of(&rt)?);
     for (size, answer, left) in [(70, Ok(true), 70), (35, Ok(false), 0), (0, Ok(false), 0)] {
         file.replace(front_of_entry(size))?;
-        assert!(rt; settle_file(rt.alloc(), &mut file, 0, 70) == answer, "{size} octets");
+        assert!(rt;
+            settle_file(rt.alloc(), &mut file, 0, 70) == answer,
+            "{size} octets"
+        );
         assert_eq!(rt; file.load()?.len(), left);
     }
     fs::remove_file(&rt, path)?;
