@@ -10,6 +10,12 @@ use mail_store::StoreFault;
 /// How many octets are kept by one write.
 const PIECE: usize = 4_096;
 
+/// Whether an entry has all that is kept, at its place; zeros, as a loss of power leaves them, don't
+/// count.
+fn has_all(entry: &[u8], kept: &[u8]) -> bool {
+    kept.len() <= entry.len() && kept.iter().zip(entry).all(|(one, other)| *one == 0 || one == other)
+}
+
 /// A file in a folder of a file system, in which is kept what is cut off from another file. There
 /// need be none. It is never written over: what is kept comes after what is there.
 #[derive(Drop)]
@@ -23,7 +29,7 @@ pub struct Rests<'a, F: FileFolder + Drop> {
     may_be_there: bool,
     /// Whether this run kept something.
     has_kept: bool,
-    /// Whether bytes that were appended to the other file begin with all that is kept.
+    /// Whether bytes that were appended to the other file have all that is kept.
     are_ours: bool,
 }
 
@@ -45,7 +51,7 @@ impl<'a, F: FileFolder + Drop> Rests<'a, F> {
         self.has_kept && !self.are_ours
     }
 
-    /// Whether bytes that were appended since begin with all that is kept.
+    /// Whether bytes that were appended since have all that is kept.
     pub fn are_ours(&self) -> bool {
         self.are_ours
     }
@@ -93,7 +99,7 @@ impl<'a, F: FileFolder + Drop> Rests<'a, F> {
             return;
         }
         match self.folder.read(self.name) {
-            Ok(kept) => self.are_ours = bytes.starts_with(kept.as_slice()),
+            Ok(kept) => self.are_ours = has_all(bytes, kept.as_slice()),
             Err(_) => self.are_ours = false,
         }
         self.may_be_there = self.has_kept && !self.are_ours;
