@@ -77,6 +77,37 @@ class Intents(unittest.TestCase):
                 with self.subTest(length=length, mail=mail[:20]):
                     self.session(first + mail, [2, 3], first + mail + entries(TEXTS[1:]))
 
+    def test_mail_with_the_same_first_line(self):
+        """As mutt and Python's mailbox save it from another file of getmail: what is cut off is kept beside the record."""
+        first = entry(TEXTS[0])
+        for length in (60, 100, self.LENGTH - 1):
+            mail = entry(b"y" * (length - len(entry(b"\n"))) + b"\n")
+            with self.subTest(length=length), Server(THREE) as server, MboxAccount(server.port) as account:
+                kept = account.record.with_name(account.record.name + ".rest")
+                told = b"getmail: what was cut off from the mbox file is kept in %s\n" % os.fsencode(kept)
+                for round in (1, 2):
+                    account.mbox.write_bytes(first + mail)
+                    account.record.write_bytes(b"getmail-seen 2\na 5 1\nb 5 0\nc 5 0\n! b %d %d\n" % (len(first), self.LENGTH))
+                    thread = server.begin_session()
+                    self.assertEqual(account.run("-q"), programs.Run(0, b"", told))
+                    thread.join(programs.SECONDS)
+                    self.assertEqual(account.content(), entries(TEXTS))
+                    self.assertEqual(kept.read_bytes(), mail * round)
+
+    def test_a_rest_that_is_ours(self):
+        """Its message is fetched in a later run: what was kept is removed."""
+        first = entry(TEXTS[0])
+        with Server(THREE) as server, MboxAccount(server.port) as account:
+            kept = account.record.with_name(account.record.name + ".rest")
+            account.mbox.write_bytes(first)
+            kept.write_bytes(entry(TEXTS[1])[:100])
+            account.record.write_bytes(b"getmail-seen 2\na 5 1\nb 5 0\nc 5 0\n")
+            thread = server.begin_session()
+            self.assertEqual(account.run("-q"), GOOD)
+            thread.join(programs.SECONDS)
+            self.assertEqual(account.content(), entries(TEXTS))
+            self.assertFalse(kept.exists())
+
     def test_mail_of_several_of_them(self):
         """The first has getmail's own first line; what is there is more than one entry."""
         first, mail = entry(TEXTS[0]), entry(b"x\n") + OTHER

@@ -6,7 +6,8 @@ ghost use Rattle.mail_terms.specs.FailureCount.{greatest_count};
 use crate::device::FileFolder;
 use crate::host::HostFolder;
 use crate::process_mark::ProcessMark;
-use crate::steps::{Appending, append_in, cut_flushed, flush_both, replace_flushed};
+use crate::rests::{Rests, append_noting, cut_keeping};
+use crate::steps::{Appending, flush_both, replace_flushed};
 use crate::system::name_in;
 use crate::tally::tally;
 use mail_store::{Edges, FlatFile, StoreFault, admit, refuse};
@@ -27,6 +28,8 @@ pub struct HostFile<'a, F: FileFolder + Drop> {
     appending: Appending,
     /// Whether the file's bytes and its name were flushed.
     is_flushed: bool,
+    /// Where what is cut off is kept, if it is.
+    rests: Option<Rests<'a, F>>,
     failures: FailureCount,
 }
 
@@ -46,6 +49,7 @@ impl<'a, F: FileFolder + Drop> HostFile<'a, F> {
             name,
             appending,
             is_flushed: false,
+            rests: None,
             failures: FailureCount::new(),
         }
     }
@@ -59,6 +63,7 @@ impl<'a, F: FileFolder + Drop> HostFile<'a, F> {
             name: _,
             appending: _,
             is_flushed: _,
+            rests: _,
             failures: _,
         } = self;
         folder
@@ -123,6 +128,46 @@ impl<'a, R: Files + Clock + AllocGlobal + Clone + Drop> HostFile<'a, HostFolder<
             name_in(path),
             Appending::ByPages,
         )
+    }
+
+    /// The file at a path, as `at` has it. What is cut off is first kept in the file at another path,
+    /// after what that has, unless it is a part of bytes of this run whose `append` was refused.
+    pub fn keeping(
+        rt: &'a R,
+        path: &'a str,
+        rests: &'a str,
+        mark: ProcessMark,
+    ) -> HostFile<'a, HostFolder<'a, R>>
+        ensures { ⟦<HostFile<'a, HostFolder<'a, R>> as FlatFile>⟧.stored result ≡ unknown_file }
+    {
+        let kept = HostFolder::around(rt, rests, mark, false);
+        HostFile {
+            folder: HostFolder::around(rt, path, mark, false),
+            name: name_in(path),
+            appending: Appending::AtOnce,
+            is_flushed: false,
+            rests: Some(Rests::over(kept, name_in(rests))),
+            failures: FailureCount::new(),
+        }
+    }
+
+    /// Whether this run kept what it cut off, and appended nothing since that begins with it.
+    pub fn keeps_others(&self) -> bool {
+        match &self.rests {
+            Some(rests) => rests.has_others(),
+            None => false,
+        }
+    }
+
+    /// Removes the file in which it is kept what was cut off, if bytes that were appended since begin
+    /// with all of it.
+    pub fn drop_ours(&self) {
+        if let Some(rests) = &self.rests {
+            if rests.are_ours() {
+                let (folder, name) = rests.place();
+                folder.remove(name);
+            }
+        }
     }
 
     /// Removes the files that `replace` of killed runs left beside this one: those that weren't changed
@@ -200,7 +245,13 @@ impl<'a, F: FileFolder + Drop> FlatFile for HostFile<'a, F> {
 
     fn append(&mut self, bytes: &[u8]) -> Result<(), StoreFault> {
         admit(&self.failures)?;
-        match append_in(&mut self.folder, self.name, bytes, self.appending) {
+        match append_noting(
+            &mut self.folder,
+            self.name,
+            bytes,
+            self.appending,
+            &mut self.rests,
+        ) {
             Ok(()) => Ok(()),
             Err(_) => Err(self.doubt()),
         }
@@ -208,7 +259,7 @@ impl<'a, F: FileFolder + Drop> FlatFile for HostFile<'a, F> {
 
     fn cut_to(&mut self, len: u64) -> Result<(), StoreFault> {
         admit(&self.failures)?;
-        match cut_flushed(&mut self.folder, self.name, len) {
+        match cut_keeping(&mut self.folder, self.name, len, &mut self.rests) {
             Ok(()) => Ok(()),
             Err(_) => Err(self.doubt()),
         }

@@ -127,6 +127,13 @@ impl<'a, R: Files + Clock + AllocGlobal + Clone + Drop> HostFolder<'a, R> {
         }
     }
 
+    /// Removes a file, if it can be.
+    pub fn remove(&self, name: &str) {
+        if let Ok(path) = self.path_of(name) {
+            let _ = fs::remove_file(self.rt, path);
+        }
+    }
+
     /// The allocator of what the folder returns.
     pub fn alloc(&self) -> Global {
         self.rt.alloc()

@@ -15,6 +15,7 @@ mod maildir;
 mod memory;
 mod memory_folders;
 mod process_mark;
+mod rests;
 mod steps;
 mod system;
 mod tally;

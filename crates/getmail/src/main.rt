@@ -62,16 +62,20 @@ fn fetch(host: &Host<'_>, setup: Setup, mut errors: Errors<'_, Stderr>) -> u8
     };
     let link = link_over(host, &stream, link);
     let mut wire = ShownWire::new(rt.alloc(), link, errors.screen(&settings));
-    let (destination, record) = (paths.destination.as_str(), paths.record.as_str());
-    let mut account = account_at(host, settings, (destination, record), drawn);
+    let mut account = account_at(host, settings, &paths, drawn);
     let manner = Manner {
         now: seconds_now(rt),
-        destination,
+        destination: paths.destination.as_str(),
         pretends,
     };
     let mut out = Output::new(rt.stdout());
     let fetched = fetch_over(host, &mut account, &mut wire, manner, &mut out, &mut errors);
-    close(account, fetched.is_idle);
+    close(
+        account,
+        fetched.is_idle,
+        paths.rests.as_str(),
+        &mut errors.err,
+    );
     fetched.status
 }
 

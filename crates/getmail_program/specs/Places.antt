@@ -63,12 +63,14 @@ pub record AreAsked (flags : Flags) (settings : Settings) : Type 0 where
   pub agree : is_contradiction flags ≡ false
   pub changed : content_of settings ≡ overridden content flags
 
--- with this home the destination is the one of the settings, and the record is in the folder that the words name
+-- with this home the destination is the one of the settings, the record is in the folder that the words name, and what is
+-- cut off from an mboxrd file is kept beside it
 pub record AreFor (home : Option (List ℕ)) (words : Words) (settings : Settings) (paths : Paths) : Type 0 where
   pub destination_is : whole_path home (path_in settings.dest) ≡ Some (string_bytes paths.destination)
   pub folder : List ℕ
   pub folder_is : folder_path home (option_map string_bytes words.dir) ≡ Some folder
   pub record_is : string_bytes paths.record ≡ record_path folder settings
+  pub rests_is : string_bytes paths.rests ≡ string_bytes paths.record ++ codes ".rest"
 
 -- a run's settings and paths are those that an rc file, the words and the home mean
 pub record IsSetUp (home : Option (List ℕ)) (words : Words) (setup : Setup) : Type 0 where

@@ -1,5 +1,5 @@
 //! The settings of a run: those of the rc file, changed by the flags, and its paths.
-ghost use Rattle.std.specs.Prelude.{◌≡◌, Some, IfOk, option_map};
+ghost use Rattle.std.specs.Prelude.{◌≡◌, ◌++◌, Some, IfOk, codes, option_map};
 ghost use Rattle.std.specs.String.{string_bytes};
 ghost use Rattle.rc_file.specs.Settings.{IsValid};
 ghost use Rattle.fetch_session.specs.Account.{digits_of};
@@ -31,6 +31,8 @@ pub struct Paths {
     pub destination: String,
     /// The record's path.
     pub record: String,
+    /// The path of the file in which is kept what is cut off from an mboxrd file.
+    pub rests: String,
 }
 
 /// The settings and the paths of a run.
@@ -152,6 +154,13 @@ fn record_path(alloc: Global, folder: &str, settings: &Settings) -> Result<Strin
     joined(alloc, folder, name.as_str())
 }
 
+/// The path of the file in which is kept what is cut off from an mboxrd file.
+fn rests_path(alloc: Global, record: &str) -> Result<String, AllocError>
+    ensures { IfOk result (λ path. string_bytes path ≡ record.now ++ codes ".rest") }
+{
+    format!(in alloc; "{record}.rest")
+}
+
 /// The path of a destination, a Maildir or an mboxrd file.
 fn destination_path<'a>(
     alloc: Global,
@@ -178,9 +187,11 @@ fn places<'a>(
     let destination = destination_path(alloc, home, &settings.dest)?;
     let folder = folder(alloc, home, words.dir.as_deref())?;
     let record = record_path(alloc, folder.as_str(), settings)?;
+    let rests = rests_path(alloc, record.as_str())?;
     Ok(Paths {
         destination,
         record,
+        rests,
     })
 }
 

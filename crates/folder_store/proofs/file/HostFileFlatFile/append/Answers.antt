@@ -9,7 +9,7 @@ returns-in-Err-clause-appends g c = rw c.doubt.ensures.doubted (λ s.
     let now = c.args.self.now in
     let d = g.F.FileFolder.directory in (
       (told.0, c.in_ok-admit.ensures.admitted),
-      appends (d now.folder) (d c.append_in.new.folder) now.name.now c.args.bytes.now now.failures (now.failures + 1) (Err c.in-Err.field-0) told.1 refl,
+      appends (d now.folder) (d c.append_noting.new.folder) now.name.now c.args.bytes.now now.failures (now.failures + 1) (Err c.in-Err.field-0) told.1 refl,
     ))
 
 pub returns-in-Ok-clause-appends : goal.returns-in-Ok-clause-appends
@@ -18,20 +18,20 @@ returns-in-Ok-clause-appends g c = λ s.
     let now = c.args.self.now in
     let d = g.F.FileFolder.directory in (
       (told.0, c.in_ok-admit.ensures.admitted),
-      appends (d now.folder) (d c.append_in.new.folder) now.name.now c.args.bytes.now now.failures now.failures (Ok tt) told.1 refl,
+      appends (d now.folder) (d c.append_noting.new.folder) now.name.now c.args.bytes.now now.failures now.failures (Ok tt) told.1 refl,
     )
 
 pub returns-in-Ok-clause-keeps : goal.returns-in-Ok-clause-keeps
 returns-in-Ok-clause-keeps g c = λ s.
     let d = g.F.FileFolder.directory in
-    appends_keep (d c.args.self.now.folder) (d c.append_in.new.folder) c.args.self.now.name.now c.args.bytes.now (Ok tt) (c.in-Ok.ensures s.0).1
+    appends_keep (d c.args.self.now.folder) (d c.append_noting.new.folder) c.args.self.now.name.now c.args.bytes.now (Ok tt) (c.in-Ok.ensures s.0).1
 
 pub returns-in-Ok-clause-lasts : goal.returns-in-Ok-clause-lasts
 returns-in-Ok-clause-lasts g c = λ s.
     let d = g.F.FileFolder.directory in
-    append_lasts c.args.self.now.is_flushed (d c.args.self.now.folder) (d c.append_in.new.folder) c.args.self.now.name.now c.args.bytes.now (Ok tt) (c.in-Ok.ensures s.0).1
+    append_lasts c.args.self.now.is_flushed (d c.args.self.now.folder) (d c.append_noting.new.folder) c.args.self.now.name.now c.args.bytes.now (Ok tt) (c.in-Ok.ensures s.0).1
 
 pub returns-in-Err-clause-keeps : goal.returns-in-Err-clause-keeps
 returns-in-Err-clause-keeps g c = rw c.doubt.ensures.doubted (λ s.
     let d = g.F.FileFolder.directory in
-    appends_keep (d c.args.self.now.folder) (d c.append_in.new.folder) c.args.self.now.name.now c.args.bytes.now (Err c.in-Err.field-0) (c.in-Err.ensures s.0).1)
+    appends_keep (d c.args.self.now.folder) (d c.append_noting.new.folder) c.args.self.now.name.now c.args.bytes.now (Err c.in-Err.field-0) (c.in-Err.ensures s.0).1)

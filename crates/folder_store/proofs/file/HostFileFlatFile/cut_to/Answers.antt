@@ -9,20 +9,20 @@ returns-in-Err-clause-cuts g c = rw c.doubt.ensures.doubted (λ s.
     let now = c.args.self.now in
     let d = g.F.FileFolder.directory in (
       (told.0, c.in_ok-admit.ensures.admitted),
-      cuts (d now.folder) (d c.cut_flushed.new.folder) now.name.now c.args.len now.failures (now.failures + 1) (Err c.in-Err.field-0) told.1 refl,
+      cuts (d now.folder) (d c.cut_keeping.new.folder) now.name.now c.args.len now.failures (now.failures + 1) (Err c.in-Err.field-0) told.1 refl,
     ))
 
 pub returns-in-Ok-clause-lasts : goal.returns-in-Ok-clause-lasts
 returns-in-Ok-clause-lasts g c = λ s.
     let d = g.F.FileFolder.directory in
-    cut_lasts c.args.self.now.is_flushed (d c.args.self.now.folder) (d c.cut_flushed.new.folder) c.args.self.now.name.now c.args.len (Ok tt) (c.in-Ok.ensures s.0).1
+    cut_lasts c.args.self.now.is_flushed (d c.args.self.now.folder) (d c.cut_keeping.new.folder) c.args.self.now.name.now c.args.len (Ok tt) (c.in-Ok.ensures s.0).1
 
 pub returns-in-Ok-clause-keeps : goal.returns-in-Ok-clause-keeps
 returns-in-Ok-clause-keeps g c = λ s.
     let d = g.F.FileFolder.directory in
-    cuts_keep (d c.args.self.now.folder) (d c.cut_flushed.new.folder) c.args.self.now.name.now c.args.len (Ok tt) (c.in-Ok.ensures s.0).1
+    cuts_keep (d c.args.self.now.folder) (d c.cut_keeping.new.folder) c.args.self.now.name.now c.args.len (Ok tt) (c.in-Ok.ensures s.0).1
 
 pub returns-in-Err-clause-keeps : goal.returns-in-Err-clause-keeps
 returns-in-Err-clause-keeps g c = rw c.doubt.ensures.doubted (λ s.
     let d = g.F.FileFolder.directory in
-    cuts_keep (d c.args.self.now.folder) (d c.cut_flushed.new.folder) c.args.self.now.name.now c.args.len (Err c.in-Err.field-0) (c.in-Err.ensures s.0).1)
+    cuts_keep (d c.args.self.now.folder) (d c.cut_keeping.new.folder) c.args.self.now.name.now c.args.len (Err c.in-Err.field-0) (c.in-Err.ensures s.0).1)
