@@ -13,8 +13,8 @@ use command_line::StandIns;
 use fetch_rules::{RcFault, Settings};
 use folder_store::ProcessMark;
 use getmail_program::{
-    Errors, Failure, Manner, Output, Setup, ShownWire, Words, account_at, close, explain, fail,
-    failure_of, fetch_over, home, read_words, rehearse, seconds_now, set_up, tell,
+    Errors, Failure, Output, Setup, Words, explain, fail, failure_of, fetch_at, home, read_words,
+    rehearse, set_up, tell,
 };
 use std::env;
 use std::hash::RandomState;
@@ -42,41 +42,23 @@ fn prepare<'a, 'b>(host: &Host<'a>, settings: &Settings) -> Result<Prepared<'a>,
 }
 
 /// Connects, runs one session or only shows what it would do, and returns the exit status.
-fn fetch(host: &Host<'_>, setup: Setup, mut errors: Errors<'_, Stderr>) -> u8
+fn fetch(host: &Host<'_>, setup: Setup, errors: Errors<'_, Stderr>) -> u8
     requires { IsValid setup.settings }
     ensures { result ≤ 2 }
 {
     let rt = host.inner();
-    let Setup {
-        settings,
-        paths,
-        pretends,
-    } = setup;
-    let (drawn, link) = match prepare(host, &settings) {
+    let settings = &setup.settings;
+    let (drawn, link) = match prepare(host, settings) {
         Ok(prepared) => prepared,
         Err(failure) => return fail(rt, failure, None, &errors),
     };
     let stream = match connect(host, settings.server.as_str(), settings.port) {
         Ok(stream) => stream,
-        Err(failure) => return fail(rt, failure, Some(&settings), &errors),
+        Err(failure) => return fail(rt, failure, Some(settings), &errors),
     };
     let link = link_over(host, &stream, link);
-    let mut wire = ShownWire::new(rt.alloc(), link, errors.screen(&settings));
-    let mut account = account_at(host, settings, &paths, drawn);
-    let manner = Manner {
-        now: seconds_now(rt),
-        destination: paths.destination.as_str(),
-        pretends,
-    };
     let mut out = Output::new(rt.stdout());
-    let fetched = fetch_over(host, &mut account, &mut wire, manner, &mut out, &mut errors);
-    close(
-        account,
-        fetched.is_idle,
-        paths.rests.as_str(),
-        &mut errors.err,
-    );
-    fetched.status
+    fetch_at(host, setup, link, drawn, &mut out, errors)
 }
 
 /// Sets a run up, and runs it. Returns the exit status.

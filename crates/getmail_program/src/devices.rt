@@ -1,22 +1,27 @@
 //! The account of a run on a machine's files, and the time there.
-ghost use Rattle.std.specs.Prelude.{◌≡◌};
+ghost use Rattle.std.specs.Prelude.{◌≡◌, ◌≤◌};
 ghost use Rattle.rc_file.specs.Settings.{IsValid};
 ghost use Rattle.fetch_session.specs.Target.{IsCalm, kind_of};
 ghost use Rattle.getmail_program.specs.Places.{kind_in};
 
+use crate::ending::Manner;
 use crate::output::Output;
-use crate::setup::{Paths, account_of};
+use crate::run::fetch_over;
+use crate::setup::{Paths, Setup, account_of};
+use crate::shown_wire::ShownWire;
+use crate::why::Errors;
 use fetch_rules::{Dest, Settings};
 use fetch_session::{Account, Store};
 use folder_store::{FolderMaildir, HostFile, HostFolder, HostFolders, ProcessMark};
 use mail_store::{FlatFile, MaildirDisk};
+use pop3_wire::Wire;
 use std::hash::BuildHasher;
 use std::io::Write;
 use std::rt::{Clock, Files};
 use std::time::{SystemTime, UNIX_EPOCH};
 
 /// Now, in seconds since 1970; 0 before that.
-pub fn seconds_now(rt: &impl Clock) -> u64 {
+fn seconds_now(rt: &impl Clock) -> u64 {
     match SystemTime::now(rt) {
         Ok(now) => match now.duration_since(UNIX_EPOCH) {
             Ok(passed) => passed.as_secs(),
@@ -51,10 +56,10 @@ fn store_at<'a, R: Files + Clock + AllocGlobal + Clone + Drop>(
 }
 
 /// The account of a run.
-pub type HostAccount<'a, R, H> = Account<HostMaildir<'a, R>, HostRecord<'a, R>, H>;
+type HostAccount<'a, R, H> = Account<HostMaildir<'a, R>, HostRecord<'a, R>, H>;
 
 /// The account of a run, with its store and its record.
-pub fn account_at<'a, R: Files + Clock + AllocGlobal + Clone + Drop, H: BuildHasher>(
+fn account_at<'a, R: Files + Clock + AllocGlobal + Clone + Drop, H: BuildHasher>(
     host: &'a R,
     settings: Settings,
     paths: &'a Paths,
@@ -87,7 +92,7 @@ fn tell_rests<R: Files + Clock + AllocGlobal + Clone + Drop, E: Write>(
 
 /// Closes the account of a run, and removes what killed runs of it left, unless the run had nothing
 /// to fetch. Where is kept what it cut off from an mboxrd file goes to standard error.
-pub fn close<R: Files + Clock + AllocGlobal + Clone + Drop, H: BuildHasher + Drop, E: Write>(
+fn close<R: Files + Clock + AllocGlobal + Clone + Drop, H: BuildHasher + Drop, E: Write>(
     account: HostAccount<'_, R, H>,
     is_idle: bool,
     rests: &str,
@@ -104,4 +109,41 @@ pub fn close<R: Files + Clock + AllocGlobal + Clone + Drop, H: BuildHasher + Dro
         maildir.sweep(&account_of(&settings));
     }
     record.sweep();
+}
+
+/// Runs one session on a machine's files, or only previews it, and returns the exit status. The caller has
+/// drawn the hasher's keys and the mark of the files.
+pub fn fetch_at<
+    R: Files + Clock + AllocGlobal + Clone + Drop,
+    E: Write + Copy + Drop,
+    W: Wire + Drop,
+    H: BuildHasher + Drop,
+    O: Write,
+>(
+    host: &R,
+    setup: Setup,
+    wire: W,
+    drawn: (H, ProcessMark),
+    out: &mut Output<O>,
+    mut errors: Errors<'_, E>,
+) -> u8
+    requires { IsValid setup.settings }
+    ensures { result ≤ 1 }
+{
+    let Setup {
+        settings,
+        paths,
+        pretends,
+    } = setup;
+    let mut wire = ShownWire::new(host.alloc(), wire, errors.screen(&settings));
+    let mut account = account_at(host, settings, &paths, drawn);
+    let manner = Manner {
+        now: seconds_now(host),
+        destination: paths.destination.as_str(),
+        pretends,
+    };
+    let fetched = fetch_over(host, &mut account, &mut wire, manner, out, &mut errors);
+    let rests = paths.rests.as_str();
+    close(account, fetched.is_idle, rests, &mut errors.err);
+    fetched.status
 }

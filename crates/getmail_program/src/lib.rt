@@ -19,7 +19,7 @@ mod transcript;
 mod why;
 mod words;
 
-pub use devices::{HostAccount, account_at, close, seconds_now};
+pub use devices::fetch_at;
 pub use ending::{Fetched, Manner};
 pub use failure::{Failure, failure_of, tell};
 pub use output::{Output, Refusal};
