@@ -11,6 +11,7 @@ ghost use Rattle.fetch_session.specs.Lasting.{CarriesForGood, is_sure};
 ghost use Rattle.fetch_session.specs.Parts.{KeepsLink, KeepsStore};
 ghost use Rattle.fetch_session.specs.Report.{HasRoom};
 
+use crate::ending::end;
 use crate::fault::{Cut, plain};
 use crate::readiness::{Ready, prepare};
 use crate::report::skipped_in;
@@ -65,8 +66,8 @@ pub fn carry_out<W: Wire, D: MaildirDisk, F: FlatFile, H: BuildHasher>(
     if let Err(cut) = do_steps(client, work, terms.account, &steps, listing, &held) {
         return Err(cut);
     }
-    match client.quit() {
+    match end(client, work) {
         Ok(()) => Ok(()),
-        Err(fault) => Err(plain(fault)),
+        Err(cut) => Err(cut),
     }
 }
