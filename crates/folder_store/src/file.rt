@@ -100,6 +100,9 @@ impl<'a, R: Files + Clock + AllocGlobal + Clone + Drop> HostFile<'a, HostFolder<
     /// The file at a path, absolute or taken from the working folder. There need be none. What is
     /// appended is flushed once, which suits long texts whose writer finds and cuts off what a loss of
     /// power left of one.
+    ///
+    /// Once another program has changed the file since it was first measured, it is neither measured,
+    /// appended to nor cut: these calls are refused.
     pub fn at(rt: &'a R, path: &'a str, mark: ProcessMark) -> HostFile<'a, HostFolder<'a, R>>
         ensures { ⟦<HostFile<'a, HostFolder<'a, R>> as FlatFile>⟧.stored result ≡ unknown_file }
     {
