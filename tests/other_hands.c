@@ -15,6 +15,9 @@
 
    Just before the file of OTHER_GONE is opened to append to it, it is removed.
 
+   Just before octets are written to the file of OTHER_FULL, the text of OTHER_MAIL is appended to it, once; and then the
+   disk is full after one octet: the next write answers -1 with ENOSPC.
+
    The call for random octets of the number OTHER_RANDOM, counted from 1, answers -1 with ENOSYS. */
 
 #define _GNU_SOURCE
@@ -104,17 +107,45 @@ int open(const char *path, int flags, ...)
     return next(path, flags, mode);
 }
 
-int fsync(int file)
+/* The path of an open file. */
+static const char *path_of(int file)
 {
-    int (*next)(int) = dlsym(RTLD_NEXT, "fsync");
-    const char *length = getenv("OTHER_LENGTH");
-    char link[64], path[PATH_MAX];
-    struct stat found;
+    static char path[PATH_MAX];
+    char link[64];
     ssize_t end;
 
     snprintf(link, sizeof link, "/proc/self/fd/%d", file);
     end = readlink(link, path, sizeof path - 1);
     path[end < 0 ? 0 : end] = 0;
+    return path;
+}
+
+ssize_t write(int file, const void *octets, size_t count)
+{
+    static int full = 0;
+    ssize_t (*next)(int, const void *, size_t) = dlsym(RTLD_NEXT, "write");
+    const char *mail = getenv("OTHER_MAIL"), *path = path_of(file);
+    int other;
+
+    if (!is_named(path, "OTHER_FULL"))
+        return next(file, octets, count);
+    if (full) {
+        errno = ENOSPC;
+        return -1;
+    }
+    full = 1;
+    other = mail ? open(path, O_WRONLY | O_APPEND) : -1;
+    if (mail && (other < 0 || next(other, mail, strlen(mail)) < 0 || close(other)))
+        abort();
+    return next(file, octets, 1);
+}
+
+int fsync(int file)
+{
+    int (*next)(int) = dlsym(RTLD_NEXT, "fsync");
+    const char *length = getenv("OTHER_LENGTH"), *path = path_of(file);
+    struct stat found;
+
     if (length && is_named(path, "OTHER_SHRUNK") && !fstat(file, &found) && found.st_size > atol(length)) {
         if (truncate(path, 0))
             abort();

@@ -132,3 +132,15 @@ class Server:
         elif word == b"QUIT":
             self.messages = [message for _, message in self._left()]
         return b"+OK\r\n"
+
+
+class MeddlingServer(Server):
+    """A server that calls `meanwhile` with each command before it answers."""
+
+    def __init__(self, messages, meanwhile):
+        super().__init__(messages)
+        self.meanwhile = meanwhile
+
+    def _answer(self, command):
+        self.meanwhile(command.decode())
+        return super()._answer(command)

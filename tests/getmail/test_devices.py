@@ -7,22 +7,10 @@ import os
 
 from getmail.account import Account
 from getmail.one_account import RECORD_REFUSED, REFUSED, SILENT, THREE, OneAccount
-from getmail.server import Server
+from getmail.server import MeddlingServer, Server
 from harness import preload
 
 EACH_FETCHED_AND_DELETED = ["RETR 1", "DELE 1", "RETR 2", "DELE 2", "RETR 3", "DELE 3"]
-
-
-class MeddlingServer(Server):
-    """A server that calls `meanwhile` with each command before it answers."""
-
-    def __init__(self, messages, meanwhile):
-        super().__init__(messages)
-        self.meanwhile = meanwhile
-
-    def _answer(self, command):
-        self.meanwhile(command.decode())
-        return super()._answer(command)
 
 
 class Devices(OneAccount):

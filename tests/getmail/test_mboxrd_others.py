@@ -10,11 +10,12 @@ import pty
 import select
 import shutil
 import subprocess
+import time
 import unittest
 
 from getmail.mbox_account import OTHER, MboxAccount
-from getmail.server import Server
-from harness import programs
+from getmail.server import MeddlingServer, Server
+from harness import preload, programs
 from harness.mboxrd import entries, entry, quoted, unquoted
 
 THREE = [(b"a", b"one\n"), (b"b", b"two, a text of some octets\n" * 9), (b"c", b"three\n")]
@@ -23,6 +24,7 @@ LETTERS = [(b"l%d" % number, b"From: fred@example.org\nTo: u@example.org\nSubjec
             b"Message-ID: <%d@example.org>\n\n" % (number, number) + body) for number, body in enumerate((
                 b"plain\n", b"From the first\n>From the second\n>>From the third\n", b"\n\nFrom x\n\n", b"the last\n"))]
 GOOD = programs.Run(0, b"", b"")
+REFUSED = programs.Run(1, b"", b"getmail: destination refused\n")
 
 
 def foreign(length, first=b"From fred@example.org Sat Jan  3 01:05:34 1998\n"):
@@ -159,6 +161,109 @@ class Intents(unittest.TestCase):
                             thread.join(programs.SECONDS)
                             self.assertEqual(account.content(), first + entry(text))
                             self.assertEqual(server.messages, [])
+
+
+class Meanwhile(unittest.TestCase):
+    """Another program changes the file in mid-session: the session is cut, and nothing is deleted; the next one completes it."""
+
+    WHOLE = entries(TEXTS)
+
+    def check_cut(self, word, change, said, left, fetched):
+        """The file is changed in this way before the answer to a command; the session ends with these ones. The next one
+        fetches the messages of these numbers, after what is left, and deletes all."""
+        def meanwhile(command):
+            if command == word:
+                time.sleep(0.05)
+                change(account.mbox)
+
+        with MeddlingServer(THREE, meanwhile) as server, MboxAccount(server.port) as account:
+            thread = server.begin_session()
+            self.assertEqual(account.run("-q", "-d"), REFUSED)
+            thread.join(programs.SECONDS)
+            self.assertEqual(server.commands[-len(said):], said)
+            self.assertEqual(server.messages, THREE)
+            self.assertEqual(account.content(), left)
+            server.meanwhile = lambda command: None
+            thread = server.begin_session()
+            self.assertEqual(account.run("-q", "-d"), GOOD)
+            thread.join(programs.SECONDS)
+            self.assertEqual([command for command in server.commands if command.startswith("RETR")],
+                             [f"RETR {number}" for number in fetched])
+            self.assertEqual(server.messages, [])
+            self.assertEqual(account.content(), left + entries([TEXTS[number - 1] for number in fetched]))
+
+    def test_mail_that_is_appended_before_an_entry(self):
+        def append(mbox):
+            with mbox.open("ab") as file:
+                file.write(OTHER)
+
+        self.check_cut("RETR 2", append, ["DELE 1", "RETR 2", "RSET", "QUIT"], entry(TEXTS[0]) + OTHER, [2, 3])
+
+    def test_mail_that_is_appended_before_quit(self):
+        def append(mbox):
+            with mbox.open("ab") as file:
+                file.write(OTHER)
+
+        self.check_cut("DELE 3", append, ["RETR 3", "DELE 3", "RSET", "QUIT"], self.WHOLE + OTHER, [])
+
+    def test_a_file_that_python_writes_anew(self):
+        """Without the first message."""
+        def remove(path):
+            box = mailbox.mbox(path, create=False)
+            box.lock()
+            box.remove(0)
+            box.flush()
+            box.unlock()
+            box.close()
+
+        self.check_cut("RETR 3", remove, ["DELE 2", "RETR 3", "RSET", "QUIT"], entry(TEXTS[1]), [3])
+        self.check_cut("DELE 3", remove, ["RETR 3", "DELE 3", "RSET", "QUIT"], entries(TEXTS[1:]), [])
+
+    def test_a_file_of_the_same_octets(self):
+        """Written in place, or put in the place of the other."""
+        def put(mbox):
+            (mbox.parent / "new").write_bytes(mbox.read_bytes())
+            (mbox.parent / "new").rename(mbox)
+
+        for change in (lambda mbox: mbox.write_bytes(mbox.read_bytes()), put):
+            self.check_cut("DELE 3", change, ["RETR 3", "DELE 3", "RSET", "QUIT"], self.WHOLE, [])
+
+    def test_a_file_that_is_removed(self):
+        with MeddlingServer(THREE, lambda command: command == "DELE 3" and account.mbox.unlink()) as server, \
+                MboxAccount(server.port) as account:
+            thread = server.begin_session()
+            self.assertEqual(account.run("-q", "-d"), programs.Run(1, b"", b"getmail: destination missing\n"))
+            thread.join(programs.SECONDS)
+            self.assertEqual(server.commands[-2:], ["RSET", "QUIT"])
+            self.assertEqual(server.messages, THREE)
+
+    def test_a_session_that_deletes_nothing(self):
+        """It isn't looked at the file once more."""
+        with MeddlingServer(THREE, lambda command: command == "QUIT" and account.mbox.write_bytes(OTHER)) as server, \
+                MboxAccount(server.port) as account:
+            thread = server.begin_session()
+            self.assertEqual(account.run("-q"), GOOD)
+            thread.join(programs.SECONDS)
+            self.assertEqual(server.commands[-2:], ["RETR 3", "QUIT"])
+
+    def test_mail_that_is_appended_just_before_a_refused_write(self):
+        """It isn't cut off with the front of the entry that was written after it."""
+        with preload.library("other_hands") as library, Server(THREE) as server, MboxAccount(server.port) as account:
+            thread = server.begin_session()
+            run = account.run("-q", "-d", LD_PRELOAD=str(library), OTHER_FULL=str(account.mbox), OTHER_MAIL=OTHER.decode())
+            thread.join(programs.SECONDS)
+            self.assertEqual(run, REFUSED)
+            self.assertEqual(server.commands[-3:], ["RETR 1", "RSET", "QUIT"])
+            self.assertEqual(server.messages, THREE)
+            self.assertEqual(account.content(), OTHER + b"F")
+
+    def test_a_disk_that_fills_up(self):
+        """The front of an entry is cut off, if nobody else wrote."""
+        with preload.library("other_hands") as library, Server(THREE) as server, MboxAccount(server.port) as account:
+            thread = server.begin_session()
+            self.assertEqual(account.run("-q", "-d", LD_PRELOAD=str(library), OTHER_FULL=str(account.mbox)), REFUSED)
+            thread.join(programs.SECONDS)
+            self.assertEqual(account.content(), b"")
 
 
 class Readers(unittest.TestCase):

@@ -62,7 +62,8 @@ course_stopped target items dones next mid new cut (inl broken) = course items d
 course_stopped (AsFiles account) items dones next mid new cut (inr (inl refused)) = course items dones (spare_of account next mid new cut refused) (next ∷ [])
 course_stopped (AsFiles account) items dones next mid new cut (inr (inr unsaved)) = course items (dones ++ stored_done unsaved.number unsaved.uid unsaved.reply ∷ []) [] []
 course_stopped AsEntries items dones next mid new cut (inr (inl (inl wanting))) = course items dones [] (next ∷ [])
-course_stopped AsEntries items dones next mid new cut (inr (inl (inr refused))) = course items dones (refused.reply ∷ []) (next ∷ [])
+course_stopped AsEntries items dones next mid new cut (inr (inl (inr (inl refused)))) = course items dones (refused.reply ∷ []) (next ∷ [])
+course_stopped AsEntries items dones next mid new cut (inr (inl (inr (inr left)))) = course items dones [] []
 course_stopped AsEntries items dones next mid new cut (inr (inr unsaved)) = course items (dones ++ stored_done unsaved.number unsaved.uid unsaved.reply ∷ []) [] []
 
 abbrev pub course_does : (target : Target) (items : List Item) (tasks : List Task) (old new : Scene) (result : Result (Unit {0}) Cut) → Does target tasks old result new → Course

@@ -11,13 +11,13 @@ use Rattle.pop3_wire.specs.Reading.{WholeReply, reply_bytes}
 use Rattle.mail_store.specs.FlatFile.{Stored}
 use Rattle.mail_store.specs.Maildir.{File, Maildir, with_files}
 use Rattle.rc_file.specs.declared.settings.Settings.{Settings}
-use Rattle.pop3_client.specs.Conversation.{SentInPart, Talked}
+use Rattle.pop3_client.specs.Conversation.{SentInPart, Talked, TurnsJoin}
 use Rattle.pop3_client.specs.Turns.{Turn, IsGood, asking, quit, retr, rset, turn_bytes}
-use Rattle.pop3_client.specs.declared.fault.Fault.TheVariants.{SeenRefused, WriteFailed}
+use Rattle.pop3_client.specs.declared.fault.ClientFault.TheVariants as talk
 use Rattle.fetch_rules.specs.Plan.{planned}
 use Rattle.fetch_rules.specs.Record.{Row, marked, marked_all, none_open}
 use Rattle.fetch_session.specs.Fault.{cut_of}
-use Rattle.fetch_session.specs.Laws.{SteadyFilesKeep, TurnsJoin}
+use Rattle.fetch_session.specs.Laws.{SteadyFilesKeep}
 use Rattle.fetch_session.specs.Opening.{opening}
 use Rattle.fetch_session.specs.Plan.{Carried, Prepared}
 use Rattle.fetch_session.specs.Report.{Reports, skipped_in}
@@ -28,11 +28,12 @@ use Rattle.fetch_session.specs.Store.{Gained}
 use Rattle.fetch_session.specs.Target.{AsFiles, Stores, in_maildir}
 use Rattle.fetch_session.specs.Task.{Done, IsAnswered, Task, delivered, file_from, files_in, files_of, ids_of, lines_of, replies_of, task_in, tasks_of, turns_in, turns_of}
 use Rattle.fetch_session.specs.declared.fault.Cut.{Cut}
+use Rattle.fetch_session.specs.declared.fault.Fault.{Fault}
+use Rattle.fetch_session.specs.declared.fault.Fault.TheVariants.{SeenRefused, WriteFailed}
 use Rattle.fetch_session.specs.declared.report.Outcome.TheVariants.{Ended, Cut as WasCut}
 use Rattle.fetch_session.specs.declared.report.Report.{Report}
 use Rattle.fetch_session.specs.Account.{digits_of}
 use Rattle.fetch_session.specs.declared.report.Outcome.{Outcome}
-use Rattle.pop3_client.specs.declared.fault.Fault.{Fault}
 use Rattle.pop3_wire.specs.World.{Message}
 use Rattle.rc_file.specs.Settings.{IsValid}
 use Rattle.run_law.specs.Readings.{HonestIsGranted}
@@ -259,7 +260,7 @@ module _ (joins : TurnsJoin) (settings : Settings) (account : List â„•) (now : â
     got = (flat_map reply_bytes (replies_of (next âˆ· back)) ++ waits, got_is);
     session = session is.file (cut_of WriteFailed None)
         (scene (refused_at there) (in_maildir (maildir (files_of account front))) (file u.ready.file.failures) rows (lines_of front)) (refused_at there).link
-        (inl (record { none = refl; turn = is.turn; takes = is.takes; broke = inl (refl, refuses is.turn there); store = refl; file = refl; rows = refl; lines = refl }))
+        (inl (record { none = refl; turn = is.turn; takes = is.takes; broke = (talk.WriteFailed, refl, inl (refl, refuses is.turn there)); store = refl; file = refl; rows = refl; lines = refl }))
         (refused_at there, (Ok tt, ([], joins.none (refused_at there))), refl) refl;
   }
 
@@ -330,7 +331,7 @@ module _ (joins : TurnsJoin) (settings : Settings) (account : List â„•) (now : â
       session = session is.file (cut_of SeenRefused None) stopped (refused_at place).link (inr (inr not_saved)) (
         refused_at place,
         (
-          Err WriteFailed,
+          Err talk.WriteFailed,
           record {
             done = [];
             replies = [];

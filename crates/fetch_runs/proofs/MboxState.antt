@@ -8,6 +8,9 @@ use Rattle.std.proofs.lemmas.List.Concat.{flat_map-append}
 use Rattle.mail_terms.specs.Listing.{Item}
 use Rattle.rc_file.specs.declared.settings.Settings.{Settings}
 use Rattle.mail_store.specs.Mboxrd.{entry_of}
+use Rattle.mail_store.specs.MboxCalls.{RefusesLook}
+use Rattle.mail_store.specs.declared.fault.StoreFault.{StoreFault}
+use Rattle.mail_store.specs.declared.fault.StoreFault.TheVariants as looked
 use Rattle.pop3_wire.specs.Reading.{WholeReply}
 use Rattle.pop3_client.specs.Texts.{body_text}
 use Rattle.fetch_session.specs.Task.{Task, stores, rereads, Done, IsAnswered, tasks_of, texts_in, texts_of}
@@ -33,7 +36,7 @@ use Rattle.fetch_session.specs.Record.{Keeps, Steady, with_open}
 use Rattle.fetch_session.specs.Mbox.{MarksEntry, RefusesEntry, intent_of}
 use Rattle.fetch_session.specs.Scene.{Scene, EntryNotSaved, Went, Fell, Stops, Does, scene}
 use Rattle.fetch_runs.specs.MboxSteps.{mbox_holds}
-use Rattle.fetch_runs.proofs.StateCases.{is_ended, UnsavedIn, unsaved_why, Starts, Tally, tally_right, tally_numbers, tally_number, mid_rows, mid_keeps, part_all, tally_all, part_done, tally_bare, full_found, one_found, tally_spare, tally_old, tally_new, full_rows, tally_none}
+use Rattle.fetch_runs.proofs.StateCases.{is_ended, UnsavedIn, unsaved_why, Starts, Tally, tally_right, tally_numbers, tally_number, mid_rows, mid_keeps, part_all, tally_all, part_done, tally_bare, tally_before, full_found, one_found, tally_spare, tally_old, tally_new, full_rows, tally_none}
 use Rattle.fetch_rules.specs.Intents.{closed_rows}
 use Rattle.mail_store.specs.Held.{flags_of}
 use Rattle.pop3_wire.specs.Place.{Place}
@@ -180,6 +183,13 @@ module _ (steadies : SteadyFilesKeep) (unsaved : UnsavedFilesKeep) (mbox file : 
   leaves_entry NoMemory (same, inr (was, there, saves)) =
       with_nothing was there (ap (λ (s : Stored). s.content) same) (steadies file'.content (with_open rows (intent_of was uid text)) (saves.1 steady))
   leaves_entry other never = absurd never
+
+-- a file that was only looked at is as it was
+look_content : (why : StoreFault) (old new : Stored) → RefusesLook old why new → new.content ≡ old.content
+look_content looked.Missing old new is = ap (λ (s : Stored). s.content) is.1
+look_content looked.Refused old new is = ap (λ (s : Stored). s.content) is
+look_content looked.NotMbox old new is = ap (λ (s : Stored). s.content) is.1
+look_content looked.NoMemory old new never = absurd never
 
 -- ---- the account that a session left, and what it found
 
@@ -350,9 +360,13 @@ module _ (laws : Laws) (settings : Settings) (items : List Item) (now : ℕ) (he
       stopped : (stops : Stops AsEntries fell.next fell.mid cut new) → Stopped (course_stopped AsEntries items fell.dones fell.next fell.mid new cut stops)
       stopped (inl broken) = bare (ap (λ (s : Stores). s.mbox.content) broken.store) broken.file broken.lines
       stopped (inr (inl (inl wanting))) = bare (ap (λ (s : Stores). s.mbox.content) wanting.store) wanting.file wanting.lines
-      stopped (inr (inl (inr r))) =
+      stopped (inr (inl (inr (inl r)))) =
           refused r.number r.uid r.reply r.is r.talked.good
           (leaves_entry laws.steady laws.unsaved fell.mid.store.mbox fell.mid.file fell.mid.rows r.uid (body_text r.reply.body) new.store.mbox new.file (fell.went.saved starts.steady) cut.fault r.refuses) r.lines
+      stopped (inr (inl (inr (inr stays)))) =
+          lead_closed (tally_before laws p starts fell stays.lines) new.store.mbox new.file.content [] (sym (append-nil (texts_by fell.dones)))
+          (subst (λ (s : Stored). Keeps s.content (held_after fell.dones None)) (sym stays.file) (mid_keeps laws p starts fell.dones fell.mid fell.went))
+          (ap mail_in (look_content stays.refuses.0 fell.mid.store.mbox new.store.mbox stays.refuses.2 ∙ mid_content))
       stopped (inr (inr u)) = unsaved u
 
     pub does_leads : (result : Result (Unit {0}) Cut) (new : Scene) (does : Does AsEntries tasks old result new)

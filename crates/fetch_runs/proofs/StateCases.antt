@@ -174,6 +174,24 @@ module _ (laws : Laws) (p : Ground) where
       pub tally_bare : {refused unsaved : Type 0} → new.lines ≡ fell.mid.lines → Tally p false fell.dones [] (fell.next ∷ []) fell.dones fell.dones new.lines refused unsaved
       tally_bare = tally_next (ap (λ (l : List (ℕ × List ℕ)). found_by fell.dones ++ (l ++ [])) (nothing_found fell.next) ∙ append-nil (found_by fell.dones)) part_done (inl refl) (λ is. absurd (omega (arith, is)))
 
+      -- the next task wasn't begun
+      pub tally_before : {refused unsaved : Type 0} → new.lines ≡ fell.mid.lines → Tally p false fell.dones [] [] fell.dones fell.dones new.lines refused unsaved
+      tally_before told = record {
+        found = append-nil (found_by fell.dones);
+        whole = part_done;
+        part = part_done;
+        number = inl refl;
+        mark = inl refl;
+        begun = rw (append-nil (tasks_of fell.dones))
+            (safe_done (IsRecorded p fell.dones) p.items (tasks_of fell.dones) (fell.next ∷ fell.later) (subst (Safe (IsRecorded p fell.dones) p.items) part_done.split (safe_tasks laws p fell.dones)) recorded_done);
+        later = fell.next ∷ fell.later;
+        front = part_done.split ∙ ap (λ (ts : List Task). ts ++ (fell.next ∷ fell.later)) (sym (append-nil (tasks_of fell.dones)));
+        ends = not_ended;
+        counts = ap retrieved_in told ∙ mid_count fell.dones fell.mid fell.went;
+        one_more = λ is. absurd (omega (arith, is));
+        one_less = λ is. absurd (omega (arith, is));
+      }
+
       -- the next task retrieved a text
       module _ (number : ℕ) (uid : List ℕ) (reply : WholeReply) (is : fell.next ≡ stores number uid) (answered : AllZip IsGood (retr number ∷ []) (reply ∷ [])) where
         abbrev pub full : List Done

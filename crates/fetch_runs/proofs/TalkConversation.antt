@@ -123,7 +123,15 @@ ahead_stopped target items tasks old new cut fell = by target fell.went.lines fe
         (λ reply e. ap WasCut (spare_refused r.number fell.mid.place new.place r.rest r.text fell.mid.store.maildir new.store.maildir (stem_of account r.uid) cut.fault r.whole r.refuses reply e))
     by (AsFiles account) first (inr (inr unsaved)) = stored (AsFiles account) unsaved.number unsaved.uid unsaved.reply first unsaved.is unsaved.lines
     by AsEntries first (inr (inl (inl wanting))) = passed AsEntries [] first wanting.lines (λ reply e. tt)
-    by AsEntries first (inr (inl (inr refused))) = passed AsEntries (refused.reply ∷ []) first refused.lines (λ reply e. tt)
+    by AsEntries first (inr (inl (inr (inl refused)))) = passed AsEntries (refused.reply ∷ []) first refused.lines (λ reply e. tt)
+    by AsEntries first (inr (inl (inr (inr stays)))) = record {
+      later = fell.next ∷ fell.later;
+      same_items = refl;
+      split = fell.split ∙ ap (λ (ts : List Task). ts ++ (fell.next ∷ fell.later)) (sym (append-nil (tasks_of fell.dones)));
+      told = stays.lines ∙ first;
+      spare = λ reply e. no_spare reply e;
+      whole = tt;
+    }
     by AsEntries first (inr (inr unsaved)) = stored AsEntries unsaved.number unsaved.uid unsaved.reply first unsaved.is unsaved.lines
 
 ahead_does : (target : Target) (items : List Item) (tasks : List Task) (old new : Scene) (result : Result (Unit {0}) Cut) → (does : Does target tasks old result new)

@@ -314,9 +314,12 @@ module _ (joining : TurnsJoin) (paced : ConversationsArePaced) (items : List Ite
       by (AsFiles account) went (inr (inl refused)) = took_refused dones next first.place mid went.talked front went.each new cut last left account refused refused.refuses
       by (AsFiles account) went (inr (inr u)) = took_unsaved dones next first.place mid went.talked front went.each new cut last left u.number u.uid u.reply u.none u.is u.talked small
       by AsEntries went (inr (inl (inl wanting))) = took_wanting dones next first.place mid went.talked front went.each new cut last left wanting
-      by AsEntries went (inr (inl (inr refused))) =
+      by AsEntries went (inr (inl (inr (inl refused)))) =
           with_spare dones next first.place mid went.talked front went.each refused.number refused.uid refused.reply (tail_turns (tail cut.fault)) new.place last.link refused.is refused.talked
           (goes_tail (tail_turns (tail cut.fault)) new.place.link last.link (tailed cut new.place last refused.none left))
+      by AsEntries went (inr (inl (inr (inr stays)))) =
+          all_done dones (tail_turns (tail cut.fault)) first.place mid.place last.link went.talked front went.each
+          (goes_tail (tail_turns (tail cut.fault)) mid.place.link last.link (tailed cut mid.place last stays.none (subst (λ (p : Place). Left cut p last) stays.place left)))
       by AsEntries went (inr (inr u)) = took_unsaved dones next first.place mid went.talked front went.each new cut last left u.number u.uid u.reply u.none u.is u.talked small
 
   -- nothing was begun

@@ -1,6 +1,6 @@
 -- What follows once a record is ready, and what of it outlives a loss of power.
-use Rattle.std.proofs.Common.{◌≡◌, ℕ, Bool, List, [], ◌∷◌, ◌++◌, length, None, Ok, Err, refl, sym, ap, subst, ◌∙◌, inl, inr, arith, Result}
-use Rattle.std.proofs.lemmas.List.{length-map, append-nil}
+use Rattle.std.proofs.Common.{◌≡◌, ℕ, Bool, List, [], ◌∷◌, ◌++◌, length, None, refl, sym, ap, subst, ◌∙◌, inl, inr, arith, Result}
+use Rattle.std.proofs.lemmas.List.{length-map}
 use Rattle.std.proofs.lemmas.List.FromFn.{length-enumerate_from}
 use Rattle.pop3_wire.specs.Place.{Place}
 use Rattle.mail_terms.specs.Listing.{Item, numbered}
@@ -9,31 +9,25 @@ use Rattle.fetch_rules.specs.Plan.{IsQuiet, planned, step_of}
 use Rattle.rc_file.specs.declared.settings.Settings.{Settings}
 use Rattle.fetch_rules.specs.declared.steps.Step.{Step}
 use Rattle.mail_store.specs.FlatFile.{Stored}
-use Rattle.pop3_client.specs.Turns.{Turn, quit}
-use Rattle.pop3_wire.specs.Reading.{WholeReply}
-use Rattle.pop3_client.specs.Conversation.{TurnsJoin, Talked, Broke}
-use Rattle.pop3_client.specs.declared.fault.ClientFault.{ClientFault}
+use Rattle.pop3_client.specs.Turns.{quit}
 use Rattle.fetch_session.specs.declared.fault.Fault.{Fault}
 use Rattle.fetch_session.specs.declared.readiness.Ready.{Ready}
 use Rattle.fetch_session.specs.declared.fault.Cut.{Cut}
 use Rattle.fetch_session.specs.declared.report.ReportLine.{ReportLine}
-use Rattle.fetch_session.specs.Fault.{cut_of, fault_of}
-use Rattle.fetch_session.specs.Task.{Task, says, tasks_planned, Done}
+use Rattle.fetch_session.specs.Fault.{cut_of}
+use Rattle.fetch_session.specs.Task.{says, tasks_planned}
 use Rattle.fetch_session.specs.Readiness.{IsReady, Unready, Settles}
 use Rattle.fetch_session.specs.Target.{Target, Stores, AsFiles, AsEntries, in_mbox, stores_of}
 use Rattle.fetch_session.specs.Report.{skipped_in}
-use Rattle.fetch_session.specs.Scene.{Scene, scene, AllWent}
+use Rattle.fetch_session.specs.Scene.{Scene, scene}
 use Rattle.fetch_session.specs.Plan.{tasks_ahead, Unprepared}
-use Rattle.fetch_session.proofs.SceneLemmas.{brings_same, all_on, fell_on, fell_first}
-use Rattle.fetch_session.proofs.TakeLemmas.{text_broken}
 use Rattle.std.specs.Prelude.{◌⊎◌, All, Contains}
-use Rattle.std.proofs.lemmas.Grind.{flat_map-append}
 use Rattle.mail_store.specs.Maildir.{names_of}
 use Rattle.mail_store.specs.declared.maildir.disk.MaildirDisk.{Ghosts as DiskGhosts}
 use Rattle.mail_store.specs.declared.file.flat_file.FlatFile.{Ghosts as FileGhosts}
 use Rattle.fetch_session.specs.declared.account.Store.{Store}
 use Rattle.fetch_session.specs.declared.account.Store.TheVariants.{Maildir as InMaildir, Mboxrd as InMbox}
-use Rattle.fetch_session.specs.Lasting.{AllStayIn, CarriedForGood, DoesForGood, DonesLast, KeepsMailIn, Lasts, StayFrom, TextsLast}
+use Rattle.fetch_session.specs.Lasting.{AllStayIn, CarriedForGood, DoesForGood, KeepsMailIn, Lasts, StayFrom}
 
 pub planned_length : (settings : Settings) (rows : List Row) (items : List Item) (now : ℕ) → length (planned settings rows items now) ≡ length items
 planned_length settings rows items now = length-map (numbered items) (step_of settings rows items now) ∙ length-enumerate_from 1 items
@@ -41,46 +35,6 @@ planned_length settings rows items now = length-map (numbered items) (step_of se
 pub unprepared : {target : Target} {items : List Item} {now : ℕ} {place : Place} {store : Stores} {file : Stored} {lines : List ReportLine} {fault : Fault} {cut : Cut} {store' : Stores} {file' : Stored}
     → cut ≡ cut_of fault None → Unready target items now store file fault store' file' → Unprepared target items now place store file lines cut (scene place store' file' [] lines)
 unprepared plain why = rw plain (record { none = refl; unready = why; place_is = refl; lines_are = refl })
-
-unfoldable said : (target : Target) (turn : Turn) (reply : WholeReply) (s : Scene) (p : Place) → Talked (turn ∷ []) (reply ∷ []) s.place p → AllWent target (says turn ∷ []) s (record s { place = p })
-said target turn reply s p talked = record {
-  dones = record { task = says turn; replies = reply ∷ [] } ∷ [];
-  all = refl;
-  went = record { talked = talked; each = (talked.good, tt); stored = brings_same target (record { task = says turn; replies = reply ∷ [] }) s.store (λ account. refl) refl; rows = refl; saved = λ stands. stands; file_count = omega arith; lines = sym (append-nil s.lines) };
-}
-
--- a turn that stores nothing, after other tasks
-said_lasts : {D F : Type 0} (disk : DiskGhosts D) (files : FileGhosts F) (target : Target) (dones : List Done) (replies : List WholeReply) (old : Scene)
-    (store : Store D F) (f : F) → DonesLast disk files target dones old store f
-    → DonesLast disk files target (dones ++ record { task = says quit; replies = replies } ∷ []) old store f
-said_lasts disk files target dones replies old store f last = record {
-  texts = texts target last.texts;
-  rows = simp (flat_map-append, append-nil) last.rows;
-}
-  where
-    texts : (target : Target) → TextsLast disk files target dones old.store store
-        → TextsLast disk files target (dones ++ record { task = says quit; replies = replies } ∷ []) old.store store
-    texts (AsFiles account) last = simp (flat_map-append, append-nil) last
-    texts AsEntries last = λ was is. simp (flat_map-append, append-nil) (last was is)
-
--- QUIT was said after other tasks, and answered well or not
-module _ {D F : Type 0} {disk : DiskGhosts D} {files : FileGhosts F} {sure : Type 0} {target : Target} {xs : List Task} {a b : Scene} {end : Store D F} {f : F} where
-  pub good_quit : TurnsJoin → (reply : WholeReply) (p : Place) → DoesForGood disk files sure target xs a (Ok tt) b end f → Talked (quit ∷ []) (reply ∷ []) b.place p
-      → DoesForGood disk files sure target (xs ++ says quit ∷ []) a (Ok tt) (record b { place = p }) end f
-  unfolding all_on said
-  good_quit joining reply p does talked = record {
-    does = all_on joining target xs (says quit ∷ []) a b (record b { place = p }) does.does (said target quit reply b p talked);
-    lasts = λ s. said_lasts disk files target does.does.dones (reply ∷ []) a end f (does.lasts s);
-  }
-
-  pub good_broke : TurnsJoin → (p : Place) (fault : ClientFault) (cut : Cut) → DoesForGood disk files sure target xs a (Ok tt) b end f → cut ≡ cut_of (fault_of fault) None
-      → Broke quit b.place p fault → DoesForGood disk files sure target (xs ++ says quit ∷ []) a (Err cut) (record b { place = p }) end f
-  unfolding fell_on fell_first
-  good_broke joining p fault cut does plain broke = record {
-    does = fell_on joining target xs (says quit ∷ []) a b (record b { place = p }) cut does.does (fell_first target (says quit) [] b (record b { place = p }) cut
-        (text_broken target (says quit) quit b.place p b.store b.file b.rows b.lines fault cut refl plain broke));
-    lasts = λ s. subst (λ (dones : List Done). DonesLast disk files target dones a end f) (sym (append-nil does.does.dones)) (does.lasts s);
-  }
 
 -- the files that were there stay
 pub stay_from : {D F : Type 0} (disk : DiskGhosts D) (files : FileGhosts F) (target : Target) (was : Held) (old : Stores) (mid end : Store D F)

@@ -1,4 +1,5 @@
 mod CarryLemmas
+mod EndLemmas
 mod FreshLemmas
 mod IdleLemmas
 mod IntakeLemmas

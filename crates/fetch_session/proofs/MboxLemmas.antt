@@ -186,7 +186,7 @@ pub text_refused : {n : ℕ} {uid : List ℕ} {a b : Place} {mbox mbox' file fil
     → cut ≡ cut_of fault None → RefusesEntry mbox file rows uid bytes fault mbox' file' → rows' ≡ rows → lines' ≡ lines
     → Stops AsEntries (stores n uid) (scene a (in_mbox mbox) file rows lines) cut (scene b (in_mbox mbox') file' rows' lines')
 text_refused {n} {uid} {a} {b} {mbox} {mbox'} {file} {file'} {rows} text bytes fault (reply, talked, is) same plain refuses rows_are told =
-    inr (inl (inr (record {
+    inr (inl (inr (inl (record {
       none = ap (λ (c : Cut). c.rest) plain;
       number = n;
       uid = uid;
@@ -196,7 +196,7 @@ text_refused {n} {uid} {a} {b} {mbox} {mbox'} {file} {file'} {rows} text bytes f
       refuses = rw plain (rw (same, is) at refuses);
       rows = rows_are;
       lines = told;
-    })))
+    }))))
 
 -- its entry was appended, and the mark wasn't saved
 pub entry_not_saved : {n : ℕ} {uid : List ℕ} {a b : Place} {mbox mbox' file file' : Stored} {rows' : List Row} {lines lines' : List ReportLine} {cut : Cut} (octets : ℕ) (text bytes : List ℕ) (mid : Stored) (seen seen' : Loaded) (fault : Fault)

@@ -32,7 +32,7 @@ use Rattle.fetch_session.specs.Target.{Target, is_sound, kind_of, stores_of, tar
 use Rattle.fetch_session.specs.Task.{Task, stores, ids_in, ids_ahead, turns_in, turns_ahead, AreFresh, fetching, deleting, tasks_planned}
 use Rattle.fetch_session.specs.Work.{IsReady}
 use Rattle.fetch_session.proofs.FreshLemmas.{OneMore, ahead, fresh_grows}
-use Rattle.fetch_session.proofs.IntakeLemmas.{takes_on, takes_plain, took_less, took_nothing, with_any_tail}
+use Rattle.fetch_session.proofs.IntakeLemmas.{takes_on, takes_plain, took_less, took_nothing, with_any_tail, with_tail_on}
 use Rattle.fetch_session.proofs.LastLemmas.{good_before, good_more, in_kind, keeps_mail_on, keeps_same, none_came, none_lasts, rows_last, texts_ok}
 use Rattle.fetch_session.proofs.RefusalLemmas.{cut_by, till_cut}
 use Rattle.fetch_session.proofs.SceneLemmas.{all_append, all_none, all_weaker, fell_first, on_any}
@@ -135,6 +135,18 @@ module _ {W : Type 0} {link : WireGhosts W} where
         let later = then.took s in
         let before = first.took later.0 in
         (before.0, takes_on limit m n (place_of link a) (place_of link b) (place_of link c) r less before.1 later.1);
+  }
+
+  -- the same, with what is said after a fault
+  pub link_on_tail : {m n : ℕ} (limit : ℕ) {a b c : Client W} {r : Result (Unit {0}) Cut} → m + n ≤ limit → KeepsLink link (TookTillCut m) a (Ok tt) b
+      → KeepsLink link (TookWithTail n) b r c → KeepsLink link (TookWithTail limit) a r c
+  link_on_tail {m} {n} limit {a} {b} {c} {r} less first then = record {
+    same = then.same ∙ first.same;
+    counted = till_cut (link_of link a) (link_of link b) (link_of link c) r first.counted then.counted;
+    took = λ s.
+        let later = then.took s in
+        let before = first.took later.0 in
+        (before.0, with_tail_on limit m n (place_of link a) (place_of link b) (place_of link c) r less before.1 later.1);
   }
 
   pub link_still : {c : Client W} → KeepsLink link (TookTillCut 0) c (Ok tt) c

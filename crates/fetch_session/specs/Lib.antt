@@ -2,6 +2,7 @@ pub mod Fault
 pub mod Task
 pub mod Store
 pub mod Record
+pub mod Ending
 pub mod Scene
 pub mod Lasting
 pub mod Laws

@@ -5,10 +5,12 @@ use Rattle.mail_terms.specs.UniqueId.{IsLegalId}
 use Rattle.mail_store.specs.declared.file.flat_file.FlatFile.{Ghosts as FileGhosts}
 use Rattle.mail_store.specs.declared.maildir.disk.MaildirDisk.{Ghosts as DiskGhosts}
 use Rattle.mail_store.specs.FileName.{IsAccountText}
+use Rattle.fetch_rules.specs.Intents.{IsNoneOrOf}
 use Rattle.fetch_rules.specs.Record.{has_row}
 use Rattle.pop3_client.specs.Client.{HasSameLink, link_of, place_of}
 use Rattle.pop3_client.specs.Conversation.{most_of}
 use Rattle.pop3_client.specs.declared.client.Client.{Client}
+use Rattle.fetch_session.specs.declared.fault.Fault.{Fault}
 use Rattle.pop3_wire.specs.declared.wire.Wire.{Ghosts as WireGhosts}
 use Rattle.pop3_wire.specs.Place.{Place}
 use Rattle.fetch_session.specs.declared.fault.Cut.{Cut}
@@ -18,6 +20,7 @@ use Rattle.fetch_session.specs.declared.work.Ledger.{Ledger}
 use Rattle.fetch_session.specs.declared.work.Work.{Work}
 use Rattle.fetch_session.specs.Intake.{TookTillCut}
 use Rattle.fetch_session.specs.Lasting.{DoesForGood, IsSafeWork, KeepsMailIn}
+use Rattle.fetch_session.specs.Record.{Steady, held_in}
 use Rattle.fetch_session.specs.Refusal.{RefusesTillCut}
 use Rattle.fetch_session.specs.Report.{Adds, HasRoom}
 use Rattle.fetch_session.specs.Target.{is_sound, kind_of, stores_of, target_of}
@@ -58,6 +61,14 @@ pub record KeepsLedger {F H Z : Type 0} (file : FileGhosts F) (old : Ledger F H 
   pub sound : file.sound new.file → file.sound old.file
   pub written : OnOk result (IsWritten file new)
   pub rows : OnOk result (KeepsIds old.seen.rows new.seen.rows)
+
+-- nothing was noted, and the rows are the same; and if all went well, at most the intent of this id is open, and all is written down
+pub record KeepsRecord {F H Z : Type 0} (file : FileGhosts F) (uid : List ℕ) (old : Ledger F H Z) (result : Result (Unit {0}) Fault) (new : Ledger F H Z)
+    : Type 0 where
+  pub lines : new.lines ≡ old.lines
+  pub rows : new.seen.rows ≡ old.seen.rows
+  pub opened : OnOk result (IsNoneOrOf uid new.seen.intent)
+  pub steady : file.sound new.file → file.sound old.file × OnOk result (Steady (file.stored new.file).content (held_in new.seen))
 
 -- at most this many lines were noted, the store is of the same kind, and no file is begun in it
 pub record KeepsStore {D F H Z : Type 0} (disk : DiskGhosts D) (file : FileGhosts F) (most : ℕ) (old new : Work D F H Z) : Type 0 where

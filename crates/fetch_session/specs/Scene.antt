@@ -1,10 +1,10 @@
 -- The state of a session, and what a list of tasks does to it.
-use Rattle.std.specs.Prelude.{◌≡◌, ◌⊎◌, ◌≤◌, ℕ, List, [], ◌∷◌, ◌++◌, None, Some, Result, Ok, Err}
+use Rattle.std.specs.Prelude.{◌≡◌, ◌⊎◌, ◌≤◌, ℕ, true, List, [], ◌∷◌, ◌++◌, None, Some, Result, Ok, Err}
 use Rattle.pop3_wire.specs.Place.{Place}
 use Rattle.std.specs.List.{AllByRecursion}
 use Rattle.fetch_rules.specs.Record.{Row, none_open, marked, marked_all}
 use Rattle.mail_store.specs.FlatFile.{Stored}
-use Rattle.pop3_client.specs.Turns.{Turn, retr}
+use Rattle.pop3_client.specs.Turns.{Turn, quit, retr}
 use Rattle.pop3_wire.specs.Reading.{WholeReply}
 use Rattle.pop3_client.specs.Conversation.{Talked}
 use Rattle.fetch_session.specs.declared.report.ReportLine.{ReportLine}
@@ -14,12 +14,13 @@ use Rattle.pop3_wire.specs.Bodies.{Rest}
 use Rattle.pop3_wire.specs.declared.unstuffer.Spot.TheVariants.{Done as AtEnd}
 use Rattle.pop3_client.specs.Texts.{Fetching, Fetched, body_text}
 use Rattle.mail_store.specs.FileName.{stem_of}
-use Rattle.fetch_session.specs.Task.{Task, stores, Done, IsAnswered, turns_in, tasks_of, turns_of, replies_of, ids_of}
+use Rattle.fetch_session.specs.Task.{Task, says, stores, Done, IsAnswered, turns_in, tasks_of, turns_of, replies_of, ids_of}
 use Rattle.fetch_session.specs.Task.{file_from, delivered, lines_of}
 use Rattle.fetch_session.specs.Store.{RefusesText, Gained, Appended, Brings}
 use Rattle.fetch_session.specs.Target.{Target, AsFiles, AsEntries, Stores}
 use Rattle.fetch_session.specs.Mbox.{RefusesEntry, MarksEntry}
 use Rattle.fetch_session.specs.declared.fault.Fault.TheVariants.{NoMemory}
+use Rattle.fetch_session.specs.Ending.{RefusesAgain, has_deletions}
 use Rattle.fetch_session.specs.Record.{Steady, Saves}
 
 -- the link and what waits, what the store holds, the record's file, the record, and the lines noted so far
@@ -120,10 +121,21 @@ pub record EntryNotSaved (next : Task) (old new : Scene) (cut : Cut) : Type 0 wh
   pub saves : MarksEntry old.store.mbox old.file old.rows uid (body_text reply.body) cut.fault new.file
   pub lines : new.lines ≡ old.lines ++ delivered number reply ∷ []
 
--- the text wasn't stored
+-- a message was deleted, and the store, which was asked once more before QUIT, refused: QUIT wasn't said
+pub record NotLeft (next : Task) (old new : Scene) (cut : Cut) : Type 0 where
+  pub none : cut.rest ≡ None
+  pub is : next ≡ says quit
+  pub deleted : has_deletions old.lines ≡ true
+  pub refuses : RefusesAgain old.store cut.fault new.store
+  pub place : new.place ≡ old.place
+  pub file : new.file ≡ old.file
+  pub rows : new.rows ≡ old.rows
+  pub lines : new.lines ≡ old.lines
+
+-- the text wasn't stored, or QUIT wasn't said
 abbrev pub NotStored : Target → Task → Scene → Scene → Cut → Type 0
 NotStored (AsFiles account) next old new cut = NoFile account next old new cut
-NotStored AsEntries next old new cut = NoRoom next old new cut ⊎ NoEntry next old new cut
+NotStored AsEntries next old new cut = NoRoom next old new cut ⊎ (NoEntry next old new cut ⊎ NotLeft next old new cut)
 
 -- it was stored, and the record wasn't saved
 abbrev pub NotSaved : Target → Task → Scene → Scene → Cut → Type 0

@@ -1,7 +1,6 @@
 //! How a text is appended to an mboxrd file: it is read whole, its intent is written to the record,
 //! and then the entry is appended at once.
 ghost use Rattle.std.specs.Prelude.{◌≡◌, ◌≢◌, ℕ, List, [], None, true, OnOk};
-ghost use Rattle.fetch_rules.specs.Intents.{IsNoneOrOf};
 ghost use Rattle.fetch_rules.specs.Record.{has_row, none_open};
 ghost use Rattle.mail_terms.specs.Text.{IsWhole};
 ghost use Rattle.mail_terms.specs.UniqueId.{IsLegalId};
@@ -16,8 +15,8 @@ ghost use Rattle.fetch_session.specs.Intake.{TookTillCut};
 ghost use Rattle.fetch_session.specs.Mbox.{AppendsText, HoldsText, IsStoreFault};
 ghost use Rattle.mail_store.specs.Power.{KeepsBytes, KeepsWhole};
 ghost use Rattle.fetch_session.specs.Lasting.{IsSafe};
-ghost use Rattle.fetch_session.specs.Parts.{KeepsLedger, KeepsLink};
-ghost use Rattle.fetch_session.specs.Record.{Steady, held_in};
+ghost use Rattle.fetch_session.specs.Parts.{KeepsLedger, KeepsLink, KeepsRecord};
+ghost use Rattle.fetch_session.specs.Record.{Steady};
 ghost use Rattle.fetch_session.specs.Refusal.{RefusesTillCut};
 ghost use Rattle.fetch_session.specs.Report.{HasRoom};
 ghost use Rattle.fetch_session.specs.Scene.{scene, TakesTask, WhereAllSound};
@@ -91,12 +90,8 @@ fn append_text<F: FlatFile, H: BuildHasher>(
     requires row { has_row ledger.old.seen.rows uid.now ≡ true }
     requires closed { ledger.old.seen.intent ≡ None }
     requires steady { F.sound ledger.old.file → Steady (F.stored ledger.old.file).content (none_open ledger.old.seen.rows) }
-    ensures lines { ledger.new.lines ≡ ledger.old.lines }
-    ensures rows { ledger.new.seen.rows ≡ ledger.old.seen.rows }
+    ensures ledger { KeepsRecord F.FlatFile uid.now ledger.old result ledger.new }
     ensures before { F.sound mbox.new → F.sound mbox.old }
-    ensures opened { OnOk result (IsNoneOrOf uid.now ledger.new.seen.intent) }
-    ensures steady { F.sound ledger.new.file → F.sound ledger.old.file
-        × OnOk result (Steady (F.stored ledger.new.file).content (held_in ledger.new.seen)) }
     ensures appends { F.sound mbox.new → F.sound ledger.new.file → F.sound mbox.old × F.sound ledger.old.file
         × AppendsText (F.stored mbox.old) (F.stored ledger.old.file) ledger.old.seen uid.now text.now result
         (F.stored mbox.new) (F.stored ledger.new.file) ledger.new.seen }

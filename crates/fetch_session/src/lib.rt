@@ -3,6 +3,7 @@
 
 mod account;
 mod appending;
+mod ending;
 mod fault;
 mod laws;
 mod one_session;

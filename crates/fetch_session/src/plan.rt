@@ -11,7 +11,8 @@ ghost use Rattle.fetch_session.specs.Lasting.{CarriesForGood, is_sure};
 ghost use Rattle.fetch_session.specs.Parts.{KeepsLink, KeepsStore};
 ghost use Rattle.fetch_session.specs.Report.{HasRoom};
 
-use crate::fault::{Cut, broken, plain};
+use crate::ending::end;
+use crate::fault::{Cut, plain};
 use crate::readiness::{Ready, prepare};
 use crate::report::skipped_in;
 use crate::step::do_steps;
@@ -19,7 +20,7 @@ use crate::terms::Terms;
 use crate::work::Work;
 use fetch_rules::{Listing, firsts_are_fetched};
 use mail_store::{FlatFile, MaildirDisk};
-use pop3_client::{Client, conversations_are_paced, turns_join};
+use pop3_client::{Client, turns_join};
 use pop3_wire::Wire;
 use std::hash::BuildHasher;
 
@@ -47,7 +48,6 @@ pub fn carry_out<W: Wire, D: MaildirDisk, F: FlatFile, H: BuildHasher>(
         old.place left old.file old.lines result
         new.place new.store new.file new.lines skipped.new work.new.store work.new.ledger.file)) }
 {
-    conversations_are_paced();
     turns_join();
     firsts_are_fetched();
     let ready = match prepare(
@@ -66,8 +66,8 @@ pub fn carry_out<W: Wire, D: MaildirDisk, F: FlatFile, H: BuildHasher>(
     if let Err(cut) = do_steps(client, work, terms.account, &steps, listing, &held) {
         return Err(cut);
     }
-    match client.quit() {
+    match end(client, work) {
         Ok(()) => Ok(()),
-        Err(fault) => Err(broken(fault)),
+        Err(cut) => Err(cut),
     }
 }

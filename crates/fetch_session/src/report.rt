@@ -5,6 +5,7 @@ ghost use Rattle.mail_terms.specs.Listing.{message_limit};
 ghost use Rattle.fetch_session.specs.Report.{HasRoom, is_deletion, is_taken, length_in, takes_back, kept_lines};
 ghost use Rattle.fetch_session.specs.Report.{retrieved_in, length_of, deleted_in, skipped_in, most_bytes, most_lines};
 ghost use Rattle.fetch_session.specs.Report.{Reports};
+ghost use Rattle.fetch_session.specs.Ending.{has_deletions};
 
 use crate::fault::Fault;
 use fetch_rules::Step;
@@ -87,6 +88,13 @@ impl ReportLine {
     {
         matches!(self, ReportLine::Deleted { .. })
     }
+}
+
+/// Whether one of these lines reports a message that was deleted.
+pub(crate) fn has_deletions(lines: &[ReportLine]) -> bool
+    ensures { result ≡ has_deletions lines.now }
+{
+    lines.iter().any(|line| line.is_deletion())
 }
 
 /// Whether the server is asked to take back its marks, so that nothing is deleted.

@@ -2,8 +2,8 @@
 use Rattle.std.proofs.Common.{◌≡◌, ℕ, List, Option, ◌++◌, append_assoc, codes, subst, sym}
 use Rattle.std.proofs.KnownBytes.{Appends-trans}
 use Rattle.rc_file.specs.declared.settings.Settings.{Settings}
-use Rattle.pop3_client.specs.declared.fault.Fault.{Fault}
 use Rattle.fetch_session.specs.Text.{fault_text}
+use Rattle.fetch_session.specs.declared.fault.Fault.{Fault}
 use Rattle.fetch_session.specs.declared.report.Outcome.{Outcome}
 use Rattle.getmail_program.specs.declared.output.Output.{Output}
 use Rattle.getmail_program.specs.declared.why.Errors.{Errors}

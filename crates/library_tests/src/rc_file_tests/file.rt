@@ -67,7 +67,7 @@ use_apop = no
 type = Maildir
 path = ~/Maildir/
 # Or a file in the form mboxrd, which has to be there, and may be empty. Each account needs its own,
-# and no other program may write it while getmail works.
+# and no other program, not even a mail reader, may write it while getmail works.
 # type = Mboxrd
 # path = ~/mail/inbox
 

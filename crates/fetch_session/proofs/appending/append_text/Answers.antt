@@ -1,3 +1,4 @@
+use Rattle.std.proofs.Common.{refl}
 use Rattle.fetch_session.proofs.MboxLemmas.{appended_all, intended, not_appended, not_intended, not_measured}
 use Rattle.fetch_session.proofs.appending.append_text.Goals as goal
 
@@ -35,7 +36,21 @@ returns-in-Ok-append_entry-clause-appends g c = λ m f.
           c.in_default.ensures.opened saves.1 appends.1,
     )
 
-pub returns-in-Ok-append_entry-clause-steady : goal.returns-in-Ok-append_entry-clause-steady
-returns-in-Ok-append_entry-clause-steady g c = λ f.
-    let steady = c.in_default.ensures.steady f in
-    (steady.0, rw (c.intend.ensures.rows, c.in_default.ensures.opened) steady.1)
+pub returns-in-Err-clause-ledger : goal.returns-in-Err-clause-ledger
+returns-in-Err-clause-ledger g c = record { lines = refl; rows = refl; opened = tt; steady = λ f. (f, tt) }
+
+pub returns-in-Err-intend-clause-ledger : goal.returns-in-Err-intend-clause-ledger
+returns-in-Err-intend-clause-ledger g c = record { lines = refl; rows = c.intend.ensures.rows; opened = tt; steady = λ f. ((c.intend.ensures.steady f).0, tt) }
+
+pub returns-in-Err-append_entry-clause-ledger : goal.returns-in-Err-append_entry-clause-ledger
+returns-in-Err-append_entry-clause-ledger g c = record { lines = refl; rows = c.intend.ensures.rows; opened = tt; steady = λ f. ((c.in_default.ensures.steady f).0, tt) }
+
+pub returns-in-Ok-append_entry-clause-ledger : goal.returns-in-Ok-append_entry-clause-ledger
+returns-in-Ok-append_entry-clause-ledger g c = record {
+  lines = refl;
+  rows = c.intend.ensures.rows;
+  opened = rw c.in_default.ensures.opened refl;
+  steady = λ f.
+      let steady = c.in_default.ensures.steady f in
+      (steady.0, rw (c.intend.ensures.rows, c.in_default.ensures.opened) steady.1);
+}

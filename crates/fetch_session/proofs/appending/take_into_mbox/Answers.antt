@@ -25,7 +25,7 @@ use Rattle.fetch_session.proofs.appending.take_into_mbox.Goals as goal
 
 -- the line of the text is noted
 told : (g : Over) (c : After-note g) → c.note.new.lines.items ≡ c.args.ledger.now.lines.items ++ Delivered c.args.number c.len-length.result ∷ []
-told g c = c.note.ensures.items ∙ ap (λ (v : Vec ReportLine _). v.items ++ Delivered c.args.number c.len-length.result ∷ []) c.append_text.ensures.lines
+told g c = c.note.ensures.items ∙ ap (λ (v : Vec ReportLine _). v.items ++ Delivered c.args.number c.len-length.result ∷ []) c.append_text.ensures.ledger.lines
 
 pub returns-in-Err-clause-takes : goal.returns-in-Err-clause-takes
 returns-in-Err-clause-takes g c = λ w m f.
@@ -72,7 +72,7 @@ returns-in-Err-append_text-clause-takes g c = λ w m f.
       appends.1,
       text.1,
       text_refused c.in-Ok-read_text.text.items c.deref-2.result.now c.in-Err-append_text.fault text.2 c.deref-2.ensures.value c.plain-in-Err-append_text.ensures appends.2
-          c.append_text.ensures.rows (ap (λ (v : Vec ReportLine _). v.items) c.append_text.ensures.lines),
+          c.append_text.ensures.ledger.rows (ap (λ (v : Vec ReportLine _). v.items) c.append_text.ensures.ledger.lines),
     )
 
 pub returns-in-Ok-remember-clause-takes : goal.returns-in-Ok-remember-clause-takes
@@ -85,7 +85,7 @@ returns-in-Ok-remember-clause-takes g c = λ w m f.
       appends.1,
       text.1,
       entry_stored c.len-length.result c.in-Ok-read_text.text.items c.deref-2.result.now (g.F.FlatFile.stored c.append_text.new.ledger.file) c.args.ledger.now.seen c.append_text.new.ledger.seen text.2
-          c.deref-2.ensures.value (omega (arith, c.len-length.ensures, c.deref-2.ensures.len, ap length c.deref-2.ensures.value)) appends.2 c.append_text.ensures.rows c.in-Ok-remember.ensures.rows saved.1 (told g (goal.at.returns-in-Ok-remember-clause-takes g c).After-note),
+          c.deref-2.ensures.value (omega (arith, c.len-length.ensures, c.deref-2.ensures.len, ap length c.deref-2.ensures.value)) appends.2 c.append_text.ensures.ledger.rows c.in-Ok-remember.ensures.rows saved.1 (told g (goal.at.returns-in-Ok-remember-clause-takes g c).After-note),
     )
 
 pub returns-clause-takes : goal.returns-clause-takes
@@ -98,21 +98,21 @@ returns-clause-takes g c = λ w m f.
       appends.1,
       text.1,
       entry_not_saved c.len-length.result c.in-Ok-read_text.text.items c.deref-2.result.now (g.F.FlatFile.stored c.append_text.new.ledger.file) c.args.ledger.now.seen c.append_text.new.ledger.seen c.in-Err-remember.fault text.2
-          c.deref-2.ensures.value (omega (arith, c.len-length.ensures, c.deref-2.ensures.len, ap length c.deref-2.ensures.value)) c.plain-in-Err-remember.ensures appends.2 c.append_text.ensures.rows saved.1 (told g (goal.at.returns-clause-takes g c).After-note),
+          c.deref-2.ensures.value (omega (arith, c.len-length.ensures, c.deref-2.ensures.len, ap length c.deref-2.ensures.value)) c.plain-in-Err-remember.ensures appends.2 c.append_text.ensures.ledger.rows saved.1 (told g (goal.at.returns-clause-takes g c).After-note),
     )
 
 -- ---- what is written down
 
 noted : (g : Over) (c : After-note g) → Adds c.args.ledger.now.lines 1 c.note.new.lines
-noted g c = subst (λ lines. Adds lines 1 c.note.new.lines) c.append_text.ensures.lines (omega (arith, c.note.ensures.len), c.note.ensures.capacity)
+noted g c = subst (λ lines. Adds lines 1 c.note.new.lines) c.append_text.ensures.ledger.lines (omega (arith, c.note.ensures.len), c.note.ensures.capacity)
 
 pub returns-in-Ok-remember-clause-ledger : goal.returns-in-Ok-remember-clause-ledger
 returns-in-Ok-remember-clause-ledger g c = record {
   lines = noted g (goal.at.returns-in-Ok-remember-clause-ledger g c).After-note;
-  sound = λ f. (c.append_text.ensures.steady (c.in-Ok-remember.ensures.saves f).0).0;
+  sound = λ f. (c.append_text.ensures.ledger.steady (c.in-Ok-remember.ensures.saves f).0).0;
   written = record { closed = c.in-Ok-remember.ensures.closed; steady = λ f. (c.in-Ok-remember.ensures.steady f).1 };
   rows = λ other has. ap (λ (r : List Row). has_row r other) (c.in-Ok-remember.ensures.rows)
-      ∙ c.marked_keeps_rows.ensures c.append_text.new.ledger.seen.rows c.args.uid.now other ∙ ap (λ (r : List Row). has_row r other) c.append_text.ensures.rows ∙ has;
+      ∙ c.marked_keeps_rows.ensures c.append_text.new.ledger.seen.rows c.args.uid.now other ∙ ap (λ (r : List Row). has_row r other) c.append_text.ensures.ledger.rows ∙ has;
 }
 
 -- ---- the link

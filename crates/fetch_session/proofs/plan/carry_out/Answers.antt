@@ -1,22 +1,20 @@
 use Rattle.std.proofs.Common.{◌≡◌, ◌+◌, ◌*◌, ℕ, List, [], ◌∷◌, true, inl, inr, arith, length, Ok, Err, ap, ◌∙◌}
-use Rattle.pop3_client.specs.Client.{link_of, place_of}
+use Rattle.std.proofs.lemmas.List.{append-nil}
 use Rattle.mail_terms.specs.UniqueId.{IsLegalId}
 use Rattle.fetch_rules.specs.Plan.{planned}
 use Rattle.fetch_rules.specs.Record.{has_row}
-use Rattle.pop3_client.specs.Turns.{line_limit, quit}
+use Rattle.pop3_client.specs.Turns.{quit}
 use Rattle.fetch_session.specs.Target.{stores_of}
-use Rattle.fetch_session.specs.Task.{says}
+use Rattle.fetch_session.specs.Task.{says, tasks_planned}
 use Rattle.fetch_session.specs.Report.{skipped_in}
 use Rattle.fetch_session.specs.Intake.{TookTillCut, step_limit, tail_limit}
-use Rattle.fetch_session.specs.Parts.{KeepsLink, KeepsStore}
+use Rattle.fetch_session.specs.Parts.{IsReadyFor, KeepsLink, KeepsStore}
 use Rattle.fetch_session.proofs.PlanLemmas.{flags_same, fresh_firsts}
-use Rattle.fetch_session.proofs.CarryLemmas.{carried, firm_both, still, good_broke, good_quit, unprepared}
-use Rattle.fetch_session.proofs.IntakeLemmas.{took_less, took_on, with_tail_on, took_completing, quit_broke}
-use Rattle.fetch_session.proofs.PartLemmas.{link_idle, link_less, link_with_tail, most_planned, planned_all, store_less}
-use Rattle.fetch_session.proofs.RefusalLemmas.{before_cut, cut_by}
+use Rattle.fetch_session.proofs.CarryLemmas.{carried, firm_both, still, unprepared}
+use Rattle.fetch_session.proofs.PartLemmas.{does_on, kept_on, link_idle, link_less, link_on_tail, link_with_tail, most_planned, planned_all, store_less, store_on}
 use Rattle.fetch_session.proofs.LastLemmas.{good_before, in_kind}
 use Rattle.fetch_session.proofs.plan.carry_out.Given.{Over}
-use Rattle.fetch_session.proofs.plan.carry_out.Goals.{After-do_steps, In_default}
+use Rattle.fetch_session.proofs.plan.carry_out.Goals.{After-deref-3, After-do_steps, In_default}
 use Rattle.fetch_session.proofs.plan.carry_out.Goals as goal
 
 pub returns-in-Err-clause-carries : goal.returns-in-Err-clause-carries
@@ -24,8 +22,10 @@ returns-in-Err-clause-carries g c = λ w d f.
     let ready = c.in-Err.ensures.readies d f in
     (w, ready.0, ready.1, g.met.W.Wire.leads_same c.args.client.now.wire.now, (ready.2.0, ready.2.1, ([], inl (c.requires.none_skipped, unprepared c.plain.ensures ready.2.2))))
 
-pub do_steps-requires-clause-ready : goal.do_steps-requires-clause-ready
-do_steps-requires-clause-ready g c =
+-- all is ready for the planned steps
+ready_to_do : (g : Over) (c : After-deref-3 g) → IsReadyFor g.D.MaildirDisk g.F.FlatFile c.args.terms.account.now (tasks_planned c.deref-2.result.now c.args.listing.now c.deref-3.result.now)
+    (record c.args.work.now { store = c.prepare.new.store; ledger = record c.args.work.now.ledger { file = c.prepare.new.file; seen = c.prepare.new.seen } })
+ready_to_do g c =
     let account = c.args.terms.account.now in
     let items = c.args.listing.now in
     let rows = c.prepare.new.seen.rows in
@@ -46,6 +46,9 @@ do_steps-requires-clause-ready g c =
           (fresh_firsts account (stores_of g.D.MaildirDisk g.F.FlatFile c.prepare.new.store).maildir [] (planned c.args.terms.settings.now rows items c.args.terms.now) items
           (c.firsts_are_fetched.ensures c.args.terms.settings.now rows items c.args.terms.now) c.requires.legal);
     }
+
+pub do_steps-requires-clause-ready : goal.do_steps-requires-clause-ready
+do_steps-requires-clause-ready g c = ready_to_do g (goal.at.do_steps-requires-clause-ready g c).After-deref-3
 
 pub returns-in-Err-do_steps-clause-carries : goal.returns-in-Err-do_steps-clause-carries
 returns-in-Err-do_steps-clause-carries g c = λ w d f.
@@ -68,47 +71,56 @@ returns-in-Err-do_steps-clause-carries g c = λ w d f.
       ),
     )
 
-pub returns-in-Ok-quit-clause-carries : goal.returns-in-Ok-quit-clause-carries
-returns-in-Ok-quit-clause-carries g c = λ w d f.
-    let completes = c.in-Ok-quit.ensures.completes w in
-    let done = c.in_default.ensures.does completes.0 d f in
+pub end-requires : goal.end-requires
+end-requires g c =
+    let ready = ready_to_do g (goal.at.end-requires g c).After-deref-3 in
+    (c.in_default.ensures.keeps.next [] (rw (append-nil (tasks_planned c.deref-2.result.now c.args.listing.now c.deref-3.result.now)) ready)).ready
+
+pub returns-in-Ok-end-clause-carries : goal.returns-in-Ok-end-clause-carries
+returns-in-Ok-end-clause-carries g c = λ w d f.
+    let account = c.args.terms.account.now in
+    let tasks = tasks_planned c.deref-2.result.now c.args.listing.now c.deref-3.result.now in
+    let keeps = c.in-Ok-end.ensures.keeps account in
+    let done = does_on c.turns_join.ensures g.met.W.Wire.leads_on tasks (says quit ∷ []) (Ok tt) c.in_default.ensures.keeps c.in_default.ensures.does keeps (c.in-Ok-end.ensures.does account) w d f in
     let ready = c.in-Ok.ensures.readies done.1 done.2 in (
       done.0,
       ready.0,
       ready.1,
-      g.met.W.Wire.leads_on _ _ _ done.3 completes.1,
+      done.3,
       (
         ready.2.0,
         ready.2.1,
         (
-          c.do_steps.new.work.ledger.seen.rows,
+          c.end.new.work.ledger.seen.rows,
           (carried g.D.MaildirDisk g.F.FlatFile c.prepare.new.store c.deref-2.result.now c.deref-3.result.now ready.2.2 c.deref-2.ensures.value c.deref-3.ensures.value
-              (c.skipped_in.ensures ∙ ap skipped_in c.deref.ensures.value) (λ sure. still (c.in-Ok.ensures.lasts done.1 sure.0)) (λ sure. firm_both (c.in-Ok.ensures.file_lasts done.2 sure.1) (c.in-Ok.ensures.lasts done.1 sure.0)) (c.in_default.ensures.keeps.lasts d f).1
-              (good_quit c.turns_join.ensures completes.2.0 (place_of g.W.Wire c.quit.new.self) (in_kind c.prepare.new.store c.args.work.now.store c.args.terms.account.now c.prepare.ensures.kind done.4
-              (λ safe. safe)) completes.2.1)),
+              (c.skipped_in.ensures ∙ ap skipped_in c.deref.ensures.value) (λ sure. still (c.in-Ok.ensures.lasts done.1 sure.0)) (λ sure. firm_both (c.in-Ok.ensures.file_lasts done.2 sure.1) (c.in-Ok.ensures.lasts done.1 sure.0))
+              ((kept_on tasks (says quit ∷ []) (Ok tt) c.in_default.ensures.keeps keeps).lasts d f).1
+              (in_kind c.prepare.new.store c.args.work.now.store account c.prepare.ensures.kind done.4 (λ safe. safe))),
         ),
       ),
     )
 
 pub returns-clause-carries : goal.returns-clause-carries
 returns-clause-carries g c = λ w d f.
-    let completes = c.in-Err-quit.ensures.completes w in
-    let done = c.in_default.ensures.does completes.0 d f in
+    let account = c.args.terms.account.now in
+    let cut = c.in-Err-end.cut in
+    let tasks = tasks_planned c.deref-2.result.now c.args.listing.now c.deref-3.result.now in
+    let keeps = c.in-Err-end.ensures.keeps account in
+    let done = does_on c.turns_join.ensures g.met.W.Wire.leads_on tasks (says quit ∷ []) (Err cut) c.in_default.ensures.keeps c.in_default.ensures.does keeps (c.in-Err-end.ensures.does account) w d f in
     let ready = c.in-Ok.ensures.readies done.1 done.2 in (
       done.0,
       ready.0,
       ready.1,
-      g.met.W.Wire.leads_on _ _ _ done.3 completes.1,
+      done.3,
       (
         ready.2.0,
         ready.2.1,
         (
-          c.do_steps.new.work.ledger.seen.rows,
+          c.end.new.work.ledger.seen.rows,
           inr (carried g.D.MaildirDisk g.F.FlatFile c.prepare.new.store c.deref-2.result.now c.deref-3.result.now ready.2.2 c.deref-2.ensures.value c.deref-3.ensures.value
-              (c.skipped_in.ensures ∙ ap skipped_in c.deref.ensures.value) (λ sure. still (c.in-Ok.ensures.lasts done.1 sure.0)) (λ sure. firm_both (c.in-Ok.ensures.file_lasts done.2 sure.1) (c.in-Ok.ensures.lasts done.1 sure.0)) (c.in_default.ensures.keeps.lasts d f).1
-              (good_broke c.turns_join.ensures (place_of g.W.Wire c.quit.new.self) c.in-Err-quit.fault c.broken.result
-              (in_kind c.prepare.new.store c.args.work.now.store c.args.terms.account.now c.prepare.ensures.kind done.4
-              (λ safe. safe)) c.broken.ensures completes.2)),
+              (c.skipped_in.ensures ∙ ap skipped_in c.deref.ensures.value) (λ sure. still (c.in-Ok.ensures.lasts done.1 sure.0)) (λ sure. firm_both (c.in-Ok.ensures.file_lasts done.2 sure.1) (c.in-Ok.ensures.lasts done.1 sure.0))
+              ((kept_on tasks (says quit ∷ []) (Err cut) c.in_default.ensures.keeps keeps).lasts d f).1
+              (in_kind c.prepare.new.store c.args.work.now.store account c.prepare.ensures.kind done.4 (λ safe. safe))),
         ),
       ),
     )
@@ -123,38 +135,11 @@ returns-in-Err-do_steps-clause-link g c = link_with_tail (link_less (length c.ar
 did : (g : Over) (c : In_default g) → KeepsLink g.W.Wire (TookTillCut (length c.args.listing.now * step_limit)) c.args.client.now (Ok tt) c.do_steps.new.client
 did g c = link_less (length c.args.listing.now * step_limit) (most_planned c.deref-2.result.now c.args.listing.now c.deref-3.result.now).0 c.in_default.ensures.keeps.talk
 
-pub returns-in-Ok-quit-clause-link : goal.returns-in-Ok-quit-clause-link
-returns-in-Ok-quit-clause-link g c =
-    let done = did g (goal.at.returns-in-Ok-quit-clause-link g c).In_default in
-    record {
-      same = c.quit.ensures.link ∙ done.same;
-      counted = c.in-Ok-quit.ensures.counted ∙ done.counted;
-      took = λ w.
-          let completes = c.in-Ok-quit.ensures.completes w in
-          let took = done.took completes.0 in
-          (took.0, took_less (took_on took.1 (took_completing c.conversations_are_paced.ensures quit _ _ (Ok tt) completes.2)) (omega arith));
-    }
+pub returns-in-Ok-end-clause-link : goal.returns-in-Ok-end-clause-link
+returns-in-Ok-end-clause-link g c = link_on_tail (length c.args.listing.now * step_limit + tail_limit) (omega arith) (did g (goal.at.returns-in-Ok-end-clause-link g c).In_default) c.in-Ok-end.ensures.link
 
 pub returns-clause-link : goal.returns-clause-link
-returns-clause-link g c =
-    let done = did g (goal.at.returns-clause-link g c).In_default in
-    let most = length c.args.listing.now * step_limit in
-    let old = c.args.client.now in
-    let mid = c.do_steps.new.client in
-    let new = c.quit.new.self in
-    let cut = c.broken.result in
-    record {
-      same = c.quit.ensures.link ∙ done.same;
-      counted = before_cut (link_of g.W.Wire old) (link_of g.W.Wire mid) (link_of g.W.Wire new) cut done.counted
-          (cut_by c.in-Err-quit.fault cut (link_of g.W.Wire mid) (link_of g.W.Wire new) c.broken.ensures c.in-Err-quit.ensures.counted);
-      took = λ w.
-          let completes = c.in-Err-quit.ensures.completes w in
-          let took = done.took completes.0 in (
-            took.0,
-            with_tail_on (most + tail_limit) most line_limit (place_of g.W.Wire old) (place_of g.W.Wire mid) (place_of g.W.Wire new) (Err cut) (omega arith) took.1
-                (quit_broke c.conversations_are_paced.ensures (place_of g.W.Wire mid) (place_of g.W.Wire new) c.in-Err-quit.fault cut completes.2 c.broken.ensures),
-          );
-    }
+returns-clause-link g c = link_on_tail (length c.args.listing.now * step_limit + tail_limit) (omega arith) (did g (goal.at.returns-clause-link g c).In_default) c.in-Err-end.ensures.link
 
 -- the store was prepared, and then used
 stood : (g : Over) (c : After-do_steps g) → KeepsStore g.D.MaildirDisk g.F.FlatFile (2 * length c.args.listing.now) c.args.work.now c.do_steps.new.work
@@ -165,11 +150,11 @@ stood g c =
 pub returns-in-Err-do_steps-clause-store : goal.returns-in-Err-do_steps-clause-store
 returns-in-Err-do_steps-clause-store g c = stood g (goal.at.returns-in-Err-do_steps-clause-store g c).After-do_steps
 
-pub returns-in-Ok-quit-clause-store : goal.returns-in-Ok-quit-clause-store
-returns-in-Ok-quit-clause-store g c = stood g (goal.at.returns-in-Ok-quit-clause-store g c).After-do_steps
+pub returns-in-Ok-end-clause-store : goal.returns-in-Ok-end-clause-store
+returns-in-Ok-end-clause-store g c = store_on (omega arith) (stood g (goal.at.returns-in-Ok-end-clause-store g c).After-do_steps) c.end.ensures.store
 
 pub returns-clause-store : goal.returns-clause-store
-returns-clause-store g c = stood g (goal.at.returns-clause-store g c).After-do_steps
+returns-clause-store g c = store_on (omega arith) (stood g (goal.at.returns-clause-store g c).After-do_steps) c.end.ensures.store
 
 pub returns-in-Err-clause-link : goal.returns-in-Err-clause-link
 returns-in-Err-clause-link g c = link_with_tail (link_idle {limit = length c.args.listing.now * step_limit} c.plain.ensures)

@@ -1,0 +1,71 @@
+//! The end of a session whose planned steps were done.
+ghost use Rattle.std.specs.Prelude.{◌≡◌, ◌∷◌, ℕ, List, [], OnOk};
+ghost use Rattle.pop3_client.specs.Turns.{quit};
+ghost use Rattle.fetch_session.specs.Ending.{LooksAgain};
+ghost use Rattle.fetch_session.specs.Intake.{TookWithTail, tail_limit};
+ghost use Rattle.fetch_session.specs.Lasting.{IsSafeStore, KeepsMailIn, KeepsMboxIn};
+ghost use Rattle.fetch_session.specs.Parts.{DoesTasks, KeepsLink, KeepsSession, KeepsStore};
+ghost use Rattle.fetch_session.specs.Target.{is_sound, kind_of, stores_of};
+ghost use Rattle.fetch_session.specs.Task.{says};
+ghost use Rattle.fetch_session.specs.Work.{IsReady};
+
+use crate::account::Store;
+use crate::appending::refused;
+use crate::fault::{Cut, Fault, broken, plain};
+use crate::report::{ReportLine, has_deletions};
+use crate::work::Work;
+use mail_store::{FlatFile, MaildirDisk, peek_mbox};
+use pop3_client::{Client, conversations_are_paced};
+use pop3_wire::Wire;
+use std::hash::BuildHasher;
+
+/// If a message was deleted, looks at an mboxrd file once more, which its device refuses if others have
+/// changed it meanwhile. A Maildir isn't asked.
+fn look_again<D: MaildirDisk, F: FlatFile>(
+    store: &mut Store<D, F>,
+    lines: &[ReportLine],
+) -> Result<(), Fault>
+    ensures kind { kind_of store.new ≡ kind_of store.old }
+    ensures looks { is_sound D.MaildirDisk F.FlatFile store.new → is_sound D.MaildirDisk F.FlatFile store.old
+        × LooksAgain (kind_of store.old) lines.now (stores_of D.MaildirDisk F.FlatFile store.old) result
+        (stores_of D.MaildirDisk F.FlatFile store.new) }
+    ensures keeps { is_sound D.MaildirDisk F.FlatFile store.new
+        → KeepsMailIn D.MaildirDisk store.old store.new × KeepsMboxIn D.MaildirDisk F.FlatFile store.old store.new }
+    ensures safe { is_sound D.MaildirDisk F.FlatFile store.new → IsSafeStore F.FlatFile store.old
+        → OnOk result (IsSafeStore F.FlatFile store.new) }
+{
+    let Store::Mboxrd(mbox) = store else {
+        return Ok(());
+    };
+    if !has_deletions(lines) {
+        return Ok(());
+    }
+    match peek_mbox(mbox) {
+        Ok(()) => Ok(()),
+        Err(fault) => Err(refused(fault)),
+    }
+}
+
+/// Quits. If a message was deleted, an mboxrd file is looked at before: if others have changed it since
+/// the session began, QUIT isn't said, so that nothing is deleted.
+pub fn end<W: Wire, D: MaildirDisk, F: FlatFile, H: BuildHasher>(
+    client: &mut Client<'_, W>,
+    work: &mut Work<D, F, H>,
+) -> Result<(), Cut>
+    requires { IsReady D.MaildirDisk F.FlatFile work.old }
+    ensures link { KeepsLink W.Wire (TookWithTail tail_limit) client.old result client.new }
+    ensures store { KeepsStore D.MaildirDisk F.FlatFile 0 work.old work.new }
+    ensures keeps { (account : List ℕ) → KeepsSession W.Wire D.MaildirDisk F.FlatFile account (says quit ∷ [])
+        client.old work.old result client.new work.new }
+    ensures does { (account : List ℕ) → DoesTasks W.Wire D.MaildirDisk F.FlatFile account (says quit ∷ [])
+        client.old work.old result client.new work.new }
+{
+    conversations_are_paced();
+    if let Err(fault) = look_again(&mut work.store, &work.ledger.lines) {
+        return Err(plain(fault));
+    }
+    match client.quit() {
+        Ok(()) => Ok(()),
+        Err(fault) => Err(broken(fault)),
+    }
+}
