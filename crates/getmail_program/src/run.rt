@@ -40,8 +40,10 @@ pub fn fetch_over<
     ensures kind { kind_of account.new.store ≡ kind_of account.old.store }
     ensures within { result.status ≤ 1 }
     ensures fetched { (told : Told)
-        × HoldsSession W.Wire D.MaildirDisk F.FlatFile manner.entry.pretends manner.entry.now account.old wire.old.wire told account.new wire.new.wire
-        × TellsAll O.contents E.contents manner.entry.pretends account.old.settings told out.old errors.old result out.new errors.new }
+        × HoldsSession W.Wire D.MaildirDisk F.FlatFile manner.entry.pretends manner.entry.now account.old wire.old.wire told
+        account.new wire.new.wire
+        × TellsAll O.contents E.contents manner.entry.pretends account.old.settings told out.old errors.old result out.new
+        errors.new }
 {
     let told = hold(account, wire, manner.now, manner.pretends);
     tell_all(host, account.settings(), manner, &told, out, errors)

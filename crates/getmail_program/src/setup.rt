@@ -167,7 +167,8 @@ fn destination_path<'a>(
     home: Option<&str>,
     dest: &Dest,
 ) -> Result<String, Failure<'a>>
-    ensures { IfOk result (λ path. whole_path (option_map (λ text. text.now) home.entry) (path_in dest.now) ≡ Some (string_bytes path)) }
+    ensures { IfOk result (λ path. whole_path (option_map (λ text. text.now) home.entry) (path_in dest.now)
+        ≡ Some (string_bytes path)) }
 {
     match dest {
         Dest::Maildir(path) => whole_path(alloc, home, path.as_str()),
