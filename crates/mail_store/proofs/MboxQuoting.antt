@@ -1,12 +1,14 @@
 -- Quoting of lines and of texts.
 use Rattle.std.proofs.Common.{◌≡◌, ◌⊎◌, inl, inr, ℕ, suc, ◌+◌, ◌-◌, ◌*◌, ◌<◌, ◌≤◌, true, false, List, [], ◌∷◌, ◌++◌, length, take, drop, map, refl, sym, ap, ◌∙◌, arith, append_assoc}
+use Rattle.std.specs.Prelude.{◌==◌, ◌&&◌, cond}
 use Rattle.std.specs.List.{flat_map, prefix_len, AllByRecursion}
+use Rattle.std.proofs.lemmas.List.Sums.{count_by-le-length, sum_by-append}
 use Rattle.std.proofs.lemmas.Bool.{cases_Bool, true≢false}
 use Rattle.std.proofs.lemmas.Bool.Decides.{eqb_tells, Decides-eqb}
 use Rattle.std.proofs.lemmas.List.{take_at, length-append, take-append-drop}
 use Rattle.std.proofs.lemmas.Slice.Eq.{starts_is}
 use Rattle.mail_terms.specs.Text.{HasNoLf}
-use Rattle.mail_store.specs.Mboxrd.{lines_of, IsLine, from_words, begins_entry, is_greater, is_marked, quoted, unquoted, quoted_text, UnquotesQuoted}
+use Rattle.mail_store.specs.Mboxrd.{lines_of, IsLine, from_words, begins_entry, is_greater, is_marked, quoted, unquoted, quoted_text, unquoted_text, wire_size, UnquotesQuoted}
 use Rattle.mail_store.proofs.MboxLines.{joined, line_first, first_cut, whole_lines, lines_joined}
 
 -- ---- marked lines
@@ -189,3 +191,37 @@ counts_plain text rest line after marked was cut is =
     let same : length (quoted line) ≡ length line = ap length (quoted_plain line is) in
     let whole : length rest ≡ length line + length after = ap length cut.1 ∙ length-append line after in
     record { total = omega (arith, was.total, shown, same, whole); few = omega (arith, was.few, whole) }
+
+-- ---- the size of an unquoted text
+
+-- the lines of a text before `rest` take this many octets on the wire
+pub record Sizes (text rest : List ℕ) (size : ℕ) : Type 0 where
+  pub total : size + wire_size (unquoted_text rest) ≡ wire_size (unquoted_text text)
+  pub few : size + 2 * length rest ≤ 2 * length text
+
+wire_size-append : (xs ys : List ℕ) → wire_size (xs ++ ys) ≡ wire_size xs + wire_size ys
+wire_size-append xs ys =
+    let long = length-append xs ys in
+    let ends = sum_by-append (λ (byte : ℕ). cond (byte == 10) 1 0) xs ys in
+    omega (arith, long, ends)
+
+pub sizes_line : (text rest line after : List ℕ) (size more : ℕ) → Sizes text rest size → (lines_of rest ≡ line ∷ lines_of after) × (rest ≡ line ++ after)
+    → more ≡ wire_size (unquoted line) → more ≤ 2 * length line → Sizes text after (size + more)
+sizes_line text rest line after size more was cut is few =
+    let shown : wire_size (unquoted_text rest) ≡ wire_size (unquoted line) + wire_size (unquoted_text after) =
+    ap (λ (ls : List (List ℕ)). wire_size (flat_map unquoted ls)) cut.0 ∙ wire_size-append (unquoted line) (flat_map unquoted (lines_of after)) in
+    let whole : length rest ≡ length line + length after = ap length cut.1 ∙ length-append line after in
+    record { total = omega (arith, was.total, shown, is); few = omega (arith, was.few, whole, few) }
+
+unquoted_len : (line : List ℕ) → length (unquoted line) ≤ length line
+unquoted_len [] = omega arith
+unquoted_len (byte ∷ rest) = elim (cases_Bool (is_greater byte && is_marked rest)) [
+  | inl is ↦ rw is (omega arith)
+  | inr is ↦ rw is (omega arith)
+]
+
+pub line_bound : (line : List ℕ) → wire_size (unquoted line) ≤ 2 * length line
+line_bound line =
+    let less = unquoted_len line in
+    let ends = count_by-le-length (λ (byte : ℕ). byte == 10) (unquoted line) in
+    omega (arith, less, ends)

@@ -14,11 +14,11 @@ use Rattle.mail_store.specs.declared.fault.StoreFault.{StoreFault}
 use Rattle.mail_store.specs.declared.fault.StoreFault.TheVariants.{Refused}
 use Rattle.mail_store.specs.declared.file.flat_file.Edges.{Edges}
 use Rattle.mail_store.specs.FlatFile.{Stored, holding, counted, piece_at, Measures}
-use Rattle.mail_store.specs.Mboxrd.{separator, begins_entry, from_words, quoted_text, entry_of, MboxFile}
+use Rattle.mail_store.specs.Mboxrd.{separator, begins_entry, from_words, quoted_text, unquoted_text, entry_of, text_in, MboxFile}
 use Rattle.mail_store.specs.MboxScan.{IsApart}
-use Rattle.mail_store.specs.Settling.{block_size, is_lost, is_torn, MayBeLeft, begin_with, is_one_entry, ends_empty, is_ours, is_entry, stands_whole, settled_file, CountsWhole, IsCutOff, LeftoversAreSettled, FrontsAreSettled, WholeEntriesCount, ReadsBehind, SettlesFile}
+use Rattle.mail_store.specs.Settling.{block_size, is_lost, is_torn, MayBeLeft, begin_with, is_one_entry, ends_empty, is_ours, is_entry, has_size, is_whole, stands_whole, settled_file, CountsWhole, IsCutOff, LeftoversAreSettled, FrontsAreSettled, WholeEntriesCount, ReadsBehind, SettlesFile}
 use Rattle.mail_store.proofs.OneEntry.{holds_needle, needle, needle_there, one_entry_is}
-use Rattle.mail_store.proofs.MboxQuoting.{begins_with}
+use Rattle.mail_store.proofs.MboxQuoting.{begins_with, unquotes_quoted}
 use Rattle.mail_store.proofs.MboxGroups.{inner_apart, entry_group, entry_lines, entry_is_group, entry_adds_text, texts_go_on}
 
 -- ---- blocks
@@ -178,15 +178,15 @@ kept_holding : (old : Stored) (was : List ℕ) → old.content ≡ Some was → 
 kept_holding old was is = ap (λ (c : Option (List ℕ)). record old { content = c }) is
 
 -- nothing follows
-settles_none : (start len : ℕ) (was : List ℕ) → length (drop start was) ≡ 0 → (stands_whole start len was ≡ false) × (settled_file start len was ≡ was)
-settles_none start len was none =
+settles_none : (start len : ℕ) (listed : Option ℕ) (was : List ℕ) → length (drop start was) ≡ 0 → (stands_whole start len listed was ≡ false) × (settled_file start len listed was ≡ was)
+settles_none start len listed was none =
     let nil : drop start was ≡ [] = nil_from_length (drop start was) none in
-    let isn't : stands_whole start len was ≡ false = ap (λ (l : List ℕ). length l == len && is_entry start l) nil ∙ and-false (0 == len) in
-    (isn't, ap (λ (l : List ℕ). cond ((nat_lt 0 (length l) && nat_le (length l) len) && (is_ours start l && not (stands_whole start len was))) (take start was) was) nil)
+    let isn't : stands_whole start len listed was ≡ false = ap (λ (l : List ℕ). is_whole start len listed l) nil ∙ and-false (0 == len) in
+    (isn't, ap (λ (l : List ℕ). cond ((nat_lt 0 (length l) && nat_le (length l) len) && (is_ours start l && not (stands_whole start len listed was))) (take start was) was) nil)
 
 -- it is whole
-settles_whole : (start len : ℕ) (was : List ℕ) → stands_whole start len was ≡ true → settled_file start len was ≡ was
-settles_whole start len was whole =
+settles_whole : (start len : ℕ) (listed : Option ℕ) (was : List ℕ) → stands_whole start len listed was ≡ true → settled_file start len listed was ≡ was
+settles_whole start len listed was whole =
     ap (λ (b : Bool). cond ((nat_lt 0 (length rest) && nat_le (length rest) len) && (is_ours start rest && not b)) (take start was) was) whole
     ∙ ap (λ (b : Bool). cond ((nat_lt 0 (length rest) && nat_le (length rest) len) && b) (take start was) was) (and-false (is_ours start rest))
     ∙ ap (λ (b : Bool). cond b (take start was) was) (and-false (nat_lt 0 (length rest) && nat_le (length rest) len))
@@ -195,31 +195,32 @@ settles_whole start len was whole =
     rest = drop start was
 
 -- it is ours, and not whole
-settles_torn : (start len : ℕ) (was : List ℕ) → 0 < length (drop start was) → length (drop start was) ≤ len → is_ours start (drop start was) ≡ true
-    → stands_whole start len was ≡ false → settled_file start len was ≡ take start was
-settles_torn start len was some few ours isn't =
-    ap (λ (b : Bool). cond ((b && nat_le (length rest) len) && (is_ours start rest && not (stands_whole start len was))) (take start was) was) (lt-ltb 0 (length rest) some)
-    ∙ ap (λ (b : Bool). cond ((true && b) && (is_ours start rest && not (stands_whole start len was))) (take start was) was) (le-leb (length rest) len few)
-    ∙ ap (λ (b : Bool). cond ((true && true) && (b && not (stands_whole start len was))) (take start was) was) ours
+settles_torn : (start len : ℕ) (listed : Option ℕ) (was : List ℕ) → 0 < length (drop start was) → length (drop start was) ≤ len → is_ours start (drop start was) ≡ true
+    → stands_whole start len listed was ≡ false → settled_file start len listed was ≡ take start was
+settles_torn start len listed was some few ours isn't =
+    ap (λ (b : Bool). cond ((b && nat_le (length rest) len) && (is_ours start rest && not (stands_whole start len listed was))) (take start was) was) (lt-ltb 0 (length rest) some)
+    ∙ ap (λ (b : Bool). cond ((true && b) && (is_ours start rest && not (stands_whole start len listed was))) (take start was) was) (le-leb (length rest) len few)
+    ∙ ap (λ (b : Bool). cond ((true && true) && (b && not (stands_whole start len listed was))) (take start was) was) ours
     ∙ ap (λ (b : Bool). cond ((true && true) && (true && not b)) (take start was) was) isn't
   where
     rest : List ℕ
     rest = drop start was
 
 -- a front that is ours, after a file
-settles_behind : (file front : List ℕ) (len : ℕ) → 0 < length front → length front ≤ len → is_ours (length file) front ≡ true → stands_whole (length file) len (file ++ front) ≡ false
-    → settled_file (length file) len (file ++ front) ≡ file
-settles_behind file front len some few ours isn't =
+settles_behind : (file front : List ℕ) (len : ℕ) (listed : Option ℕ) → 0 < length front → length front ≤ len → is_ours (length file) front ≡ true → stands_whole (length file) len listed (file ++ front) ≡ false
+    → settled_file (length file) len listed (file ++ front) ≡ file
+settles_behind file front len listed some few ours isn't =
     let seam : drop (length file) (file ++ front) ≡ front = drop-append_seam file front in
     let size = ap length seam in
-    settles_torn (length file) len (file ++ front) (omega (arith, size, some)) (omega (arith, size, few)) (ap (is_ours (length file)) seam ∙ ours) isn't
+    settles_torn (length file) len listed (file ++ front) (omega (arith, size, some)) (omega (arith, size, few)) (ap (is_ours (length file)) seam ∙ ours) isn't
     ∙ take-append_seam file front
 
-whole_parts : (place len : ℕ) (bytes : List ℕ) → (length bytes == len && is_entry place bytes) ≡ true
+whole_parts : (place len : ℕ) (listed : Option ℕ) (bytes : List ℕ) → is_whole place len listed bytes ≡ true
     → (length bytes ≡ len) × (is_torn place bytes ≡ true → ⊥) × (EndsInZero bytes → ⊥)
-whole_parts place len bytes is =
-    let sized = and_parts (length bytes == len) (is_entry place bytes) is in
-    let formed = and_parts (is_ours place bytes) (not (is_torn place bytes) && ends_empty bytes) sized.1 in
+whole_parts place len listed bytes is =
+    let sized = and_parts (length bytes == len) (is_entry place bytes && has_size listed (text_in bytes)) is in
+    let told = and_parts (is_entry place bytes) (has_size listed (text_in bytes)) sized.1 in
+    let formed = and_parts (is_ours place bytes) (not (is_torn place bytes) && ends_empty bytes) told.0 in
     let ends = and_parts (not (is_torn place bytes)) (ends_empty bytes) formed.1 in (
       elim (eqb_tells (length bytes) len) [
         | inl p ↦ p.1
@@ -230,11 +231,11 @@ whole_parts place len bytes is =
     )
 
 pub left_settled : LeftoversAreSettled
-left_settled file text left whole is = elim (cases_Bool (stands_whole start len (file ++ left))) [
+left_settled file text left listed whole is = elim (cases_Bool (stands_whole start len listed (file ++ left))) [
   | inl stands ↦
-      let parts = whole_parts start len left (ap (λ (l : List ℕ). length l == len && is_entry start l) (sym seam) ∙ stands) in
+      let parts = whole_parts start len listed left (ap (λ (l : List ℕ). is_whole start len listed l) (sym seam) ∙ stands) in
       elim (same_or_torn start (entry_of text) left is parts.0) [
-        | inl same ↦ inl (stands, settles_whole start len (file ++ left) stands, same)
+        | inl same ↦ inl (stands, settles_whole start len listed (file ++ left) stands, same)
         | inr broken ↦ elim broken [
           | inl torn ↦ absurd (parts.1 torn)
           | inr last ↦ absurd (parts.2 last)
@@ -243,11 +244,11 @@ left_settled file text left whole is = elim (cases_Bool (stands_whole start len 
   | inr fails ↦ inr (
     fails,
     elim (cases_lt 0 (length left)) [
-      | inl some ↦ settles_behind file left len some (left_short start (entry_of text) left is) (left_ours start text left whole is) fails
+      | inl some ↦ settles_behind file left len listed some (left_short start (entry_of text) left is) (left_ours start text left whole is) fails
       | inr none ↦
           let nil : left ≡ [] = nil_from_length left (omega (arith, none)) in
           let size : length (drop start (file ++ left)) ≡ 0 = ap length (seam ∙ nil) in
-          (settles_none start len (file ++ left) size).1 ∙ ap (λ (l : List ℕ). file ++ l) nil ∙ append-nil file
+          (settles_none start len listed (file ++ left) size).1 ∙ ap (λ (l : List ℕ). file ++ l) nil ∙ append-nil file
     ],
   )
 ]
@@ -262,22 +263,61 @@ left_settled file text left whole is = elim (cases_Bool (stands_whole start len 
     seam = drop-append_seam file left
 
 pub fronts_settled : FrontsAreSettled
-fronts_settled file text front rest whole e =
-    left_settled file text front whole (subst (λ (l : List ℕ). MayBeLeft (length file) l front) (sym e) (front_left (length file) front rest))
+fronts_settled file text front rest listed whole e =
+    left_settled file text front listed whole (subst (λ (l : List ℕ). MayBeLeft (length file) l front) (sym e) (front_left (length file) front rest))
 
-all_four : (a b c d : Bool) → a ≡ true → b ≡ true → c ≡ true → d ≡ true → (a && (b && (c && d))) ≡ true
-all_four a b c d p q r t = rw (p, q, r, t) refl
+-- an entry has its text
+entry_text : (text : List ℕ) → IsWhole text → text_in (entry_of text) ≡ text
+entry_text text whole =
+    let behind = quoted_text text ++ 10 ∷ [] in
+    let long = length-append separator behind in
+    let ends = length-append (quoted_text text) (10 ∷ []) in
+    let size : length (entry_of text) - (length separator + 1) ≡ length (quoted_text text) = omega (arith, long, ends) in
+    ap (λ (n : ℕ). unquoted_text (take n (drop (length separator) (entry_of text)))) size
+    ∙ ap (λ (l : List ℕ). unquoted_text (take (length (quoted_text text)) l)) (drop-append_seam separator behind)
+    ∙ ap unquoted_text (take-append_seam (quoted_text text) (10 ∷ []))
+    ∙ unquotes_quoted text whole
+
+all_left : (file text : List ℕ) → MayBeLeft (length file) (entry_of text) (entry_of text)
+all_left file text =
+    subst (λ (l : List ℕ). MayBeLeft (length file) l (entry_of text)) (append-nil (entry_of text)) (front_left (length file) (entry_of text) [])
+
+all_five : (a b c d e : Bool) → a ≡ true → b ≡ true → c ≡ true → d ≡ true → e ≡ true → (a && ((b && (c && d)) && e)) ≡ true
+all_five a b c d e p q r t u = rw (p, q, r, t, u) refl
+
+none_of : (a b c : Bool) → c ≡ false → (a && (b && c)) ≡ false
+none_of a b c is = rw (is, and-false b, and-false a) refl
 
 pub whole_counts : WholeEntriesCount
-whole_counts file text whole unbroken =
-    let entry = entry_of text in
-    let start = length file in
-    let all : MayBeLeft start entry entry = subst (λ (l : List ℕ). MayBeLeft start l entry) (append-nil entry) (front_left start entry []) in
-    let stands : stands_whole start (length entry) (file ++ entry) ≡ true =
-    ap (λ (l : List ℕ). length l == length entry && is_entry start l) (drop-append_seam file entry)
-    ∙ all_four (length entry == length entry) (is_ours start entry) (not (is_torn start entry)) (ends_empty entry) (eq-eqb (length entry) (length entry) refl)
-    (left_ours start text entry whole all) (ap not unbroken) (entry_ends text whole) in
-    (stands, settles_whole start (length entry) (file ++ entry) stands, refl)
+whole_counts file text listed whole = (counts, cut)
+  where
+    entry : List ℕ
+    entry = entry_of text
+
+    start : ℕ
+    start = length file
+
+    size_is : has_size listed (text_in entry) ≡ has_size listed text
+    size_is = ap (has_size listed) (entry_text text whole)
+
+    seam : stands_whole start (length entry) listed (file ++ entry) ≡ is_whole start (length entry) listed entry
+    seam = ap (is_whole start (length entry) listed) (drop-append_seam file entry)
+
+    counts : has_size listed text ≡ true → is_torn start entry ≡ false → CountsWhole file text listed entry
+    counts sized unbroken =
+        let stands : stands_whole start (length entry) listed (file ++ entry) ≡ true =
+        seam ∙ all_five (length entry == length entry) (is_ours start entry) (not (is_torn start entry)) (ends_empty entry) (has_size listed (text_in entry)) (eq-eqb (length entry) (length entry) refl)
+        (left_ours start text entry whole (all_left file text)) (ap not unbroken) (entry_ends text whole) (size_is ∙ sized) in
+        (stands, settles_whole start (length entry) listed (file ++ entry) stands, refl)
+
+    cut : has_size listed text ≡ false → IsCutOff file text listed entry
+    cut other =
+        let fails : stands_whole start (length entry) listed (file ++ entry) ≡ false =
+        seam ∙ none_of (length entry == length entry) (is_entry start entry) (has_size listed (text_in entry)) (size_is ∙ other) in
+        elim (left_settled file text entry listed whole (all_left file text)) [
+          | inl is ↦ absurd (true≢false (sym is.0 ∙ fails))
+          | inr is ↦ is
+        ]
 
 -- ---- the ways out of `settle_file`
 
@@ -302,34 +342,34 @@ looked old mid new edges start behind bytes rest items measures is reads =
       same = reads.1 ∙ measures.1;
     }
 
-pub out_whole : (old new : Stored) (start len : ℕ) (rest : List ℕ) → Looked old new start rest → (length rest == len && is_entry start rest) ≡ true → SettlesFile old start len (Ok true) new
-out_whole old new start len rest is test =
-    let whole : stands_whole start len is.was ≡ true = ap (λ (l : List ℕ). length l == len && is_entry start l) (sym is.rest_is) ∙ test in
-    (is.was, is.content, sym whole, is.same ∙ kept_holding old is.was is.content ∙ ap (holding old) (sym (settles_whole start len is.was whole)))
+pub out_whole : (old new : Stored) (start len : ℕ) (listed : Option ℕ) (rest : List ℕ) → Looked old new start rest → is_whole start len listed rest ≡ true → SettlesFile old start len listed (Ok true) new
+out_whole old new start len listed rest is test =
+    let whole : stands_whole start len listed is.was ≡ true = ap (λ (l : List ℕ). is_whole start len listed l) (sym is.rest_is) ∙ test in
+    (is.was, is.content, sym whole, is.same ∙ kept_holding old is.was is.content ∙ ap (holding old) (sym (settles_whole start len listed is.was whole)))
 
-cut_is : (old new : Stored) (start len : ℕ) (rest : List ℕ) → (is : Looked old new start rest) → 0 < length rest → length rest ≤ len → is_ours start rest ≡ true
-    → (length rest == len && is_entry start rest) ≡ false → (stands_whole start len is.was ≡ false) × (settled_file start len is.was ≡ take start is.was)
-cut_is old new start len rest is some few ours test =
-    let fails : stands_whole start len is.was ≡ false = ap (λ (l : List ℕ). length l == len && is_entry start l) (sym is.rest_is) ∙ test in
+cut_is : (old new : Stored) (start len : ℕ) (listed : Option ℕ) (rest : List ℕ) → (is : Looked old new start rest) → 0 < length rest → length rest ≤ len → is_ours start rest ≡ true
+    → is_whole start len listed rest ≡ false → (stands_whole start len listed is.was ≡ false) × (settled_file start len listed is.was ≡ take start is.was)
+cut_is old new start len listed rest is some few ours test =
+    let fails : stands_whole start len listed is.was ≡ false = ap (λ (l : List ℕ). is_whole start len listed l) (sym is.rest_is) ∙ test in
     let size = ap length is.rest_is in
-    (fails, settles_torn start len is.was (omega (arith, size, some)) (omega (arith, size, few)) (ap (is_ours start) (sym is.rest_is) ∙ ours) fails)
+    (fails, settles_torn start len listed is.was (omega (arith, size, some)) (omega (arith, size, few)) (ap (is_ours start) (sym is.rest_is) ∙ ours) fails)
 
-pub out_cut : (old mid new : Stored) (start len : ℕ) (rest : List ℕ) → Looked old mid start rest → 0 < length rest → length rest ≤ len → is_ours start rest ≡ true
-    → (length rest == len && is_entry start rest) ≡ false → ((was : List ℕ) → mid.content ≡ Some was → new ≡ holding mid (take start was)) → SettlesFile old start len (Ok false) new
-out_cut old mid new start len rest is some few ours test cuts =
-    let told = cut_is old mid start len rest is some few ours test in (
+pub out_cut : (old mid new : Stored) (start len : ℕ) (listed : Option ℕ) (rest : List ℕ) → Looked old mid start rest → 0 < length rest → length rest ≤ len → is_ours start rest ≡ true
+    → is_whole start len listed rest ≡ false → ((was : List ℕ) → mid.content ≡ Some was → new ≡ holding mid (take start was)) → SettlesFile old start len listed (Ok false) new
+out_cut old mid new start len listed rest is some few ours test cuts =
+    let told = cut_is old mid start len listed rest is some few ours test in (
       is.was,
       is.content,
       sym told.0,
       cuts is.was (ap (λ (s : Stored). s.content) is.same ∙ is.content) ∙ ap (λ (s : Stored). holding s (take start is.was)) is.same ∙ ap (holding old) (sym told.1),
     )
 
-pub out_refused : (old mid new : Stored) (start len : ℕ) (rest : List ℕ) (fault : StoreFault) → Looked old mid start rest → 0 < length rest → length rest ≤ len → is_ours start rest ≡ true
-    → (length rest == len && is_entry start rest) ≡ false → fault ≡ Refused
-    → ((was : List ℕ) → mid.content ≡ Some was → (new ≡ counted mid) ⊎ (new ≡ counted (holding mid (take start was)))) → SettlesFile old start len (Err fault) new
-out_refused old mid new start len rest fault is some few ours test refused cuts =
-    let told = cut_is old mid start len rest is some few ours test in
-    subst (λ (f : StoreFault). SettlesFile old start len (Err f) new) (sym refused) (elim (cuts is.was (ap (λ (s : Stored). s.content) is.same ∙ is.content)) [
+pub out_refused : (old mid new : Stored) (start len : ℕ) (listed : Option ℕ) (rest : List ℕ) (fault : StoreFault) → Looked old mid start rest → 0 < length rest → length rest ≤ len → is_ours start rest ≡ true
+    → is_whole start len listed rest ≡ false → fault ≡ Refused
+    → ((was : List ℕ) → mid.content ≡ Some was → (new ≡ counted mid) ⊎ (new ≡ counted (holding mid (take start was)))) → SettlesFile old start len listed (Err fault) new
+out_refused old mid new start len listed rest fault is some few ours test refused cuts =
+    let told = cut_is old mid start len listed rest is some few ours test in
+    subst (λ (f : StoreFault). SettlesFile old start len listed (Err f) new) (sym refused) (elim (cuts is.was (ap (λ (s : Stored). s.content) is.same ∙ is.content)) [
       | inl kept ↦ inl (kept ∙ ap counted is.same)
       | inr cut ↦ inr (is.was, is.content, cut ∙ ap (λ (s : Stored). counted (holding s (take start is.was))) is.same ∙ ap (λ (l : List ℕ). counted (holding old l)) (sym told.1))
     ])

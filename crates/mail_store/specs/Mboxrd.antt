@@ -1,7 +1,7 @@
 -- Texts in an mboxrd file: how a line is quoted, what an entry is, and which texts a file stands for.
-use Rattle.std.specs.Prelude.{◌≡◌, ◌⊎◌, ◌==◌, ◌&&◌, ℕ, Bool, false, List, [], ◌∷◌, ◌++◌, true, map}
+use Rattle.std.specs.Prelude.{◌≡◌, ◌⊎◌, ◌==◌, ◌&&◌, ◌+◌, ◌-◌, ℕ, Bool, false, List, [], ◌∷◌, ◌++◌, true, map, length, take, drop}
 use Rattle.std.specs.Prelude.{if◌then◌else◌, codes, nat_eq}
-use Rattle.std.specs.List.{flat_map, onto_first, starts_with, AllByRecursion}
+use Rattle.std.specs.List.{count_by, flat_map, onto_first, starts_with, AllByRecursion}
 use Rattle.mail_terms.specs.Text.{IsWhole, HasNoLf}
 
 -- ---- lines
@@ -63,6 +63,14 @@ separator = codes "From MAILER-DAEMON Thu Jan  1 00:00:00 1970\n"
 -- the entry of a text: that line, the quoted text and an empty line
 abbrev pub entry_of : List ℕ → List ℕ
 entry_of text = separator ++ (quoted_text text ++ 10 ∷ [])
+
+-- the text of an entry: what is between its first line and its last one, which is empty, unquoted
+abbrev pub text_in : List ℕ → List ℕ
+text_in entry = unquoted_text (take (length entry - (length separator + 1)) (drop (length separator) entry))
+
+-- how many octets a whole text takes on the wire, without stuffing: each LF is sent as CR LF (RFC 1939, section 11)
+abbrev pub wire_size : List ℕ → ℕ
+wire_size text = length text + count_by (λ byte. byte == 10) text
 
 -- lines of a file that stand for a text, without the empty line after them
 pub record Group : Type 0 where

@@ -1,13 +1,13 @@
 -- What a file has from the place on where an entry was about to be appended when a session was cut, and what becomes of it.
 use Rattle.std.specs.Prelude.{◌≡◌, ◌⊎◌, ◌==◌, ◌&&◌, ◌||◌, ◌+◌, ◌-◌, ◌%◌, not, ℕ, Bool, true, false, List, [], ◌∷◌, ◌++◌}
-use Rattle.std.specs.Prelude.{length, take, drop, Some, None, Result, Ok, Err, Vec, nat_eq, nat_lt, nat_le}
+use Rattle.std.specs.Prelude.{length, take, drop, Option, Some, None, Result, Ok, Err, Vec, nat_eq, nat_lt, nat_le}
 use Rattle.std.specs.Prelude.{if◌then◌else◌}
 use Rattle.std.specs.List.{ends_with, list_all}
 use Rattle.mail_terms.specs.Text.{IsWhole}
 use Rattle.mail_store.specs.declared.fault.StoreFault.{StoreFault}
 use Rattle.mail_store.specs.declared.fault.StoreFault.TheVariants.{Missing, Refused, NotMbox, NoMemory}
 use Rattle.mail_store.specs.FlatFile.{Stored, holding, counted, piece_at, Denies}
-use Rattle.mail_store.specs.Mboxrd.{lines_of, begins_entry, separator, entry_of}
+use Rattle.mail_store.specs.Mboxrd.{lines_of, begins_entry, separator, entry_of, text_in, wire_size}
 
 -- ---- what a loss of power leaves
 
@@ -58,46 +58,57 @@ is_ours place bytes = begin_with place separator bytes && is_one_entry bytes
 abbrev pub is_entry : ℕ → List ℕ → Bool
 is_entry place bytes = is_ours place bytes && (not (is_torn place bytes) && ends_empty bytes)
 
+-- the size of a text is the one that is listed for its message, where one is
+abbrev pub has_size : Option ℕ → List ℕ → Bool
+has_size None text = true
+has_size (Some size) text = wire_size text == size
+
+-- they are an entry of this length, and its text has the listed size
+abbrev pub is_whole : ℕ → ℕ → Option ℕ → List ℕ → Bool
+is_whole place len listed bytes = length bytes == len && (is_entry place bytes && has_size listed (text_in bytes))
+
 -- ---- settling
 
 -- whether the entry of this length that was to be appended at `start` is there whole
-abbrev pub stands_whole : ℕ → ℕ → List ℕ → Bool
-stands_whole start len file = length (drop start file) == len && is_entry start (drop start file)
+abbrev pub stands_whole : ℕ → ℕ → Option ℕ → List ℕ → Bool
+stands_whole start len listed file = is_whole start len listed (drop start file)
 
 -- whether some of it is there, but not whole
-abbrev pub stands_torn : ℕ → ℕ → List ℕ → Bool
-stands_torn start len file =
+abbrev pub stands_torn : ℕ → ℕ → Option ℕ → List ℕ → Bool
+stands_torn start len listed file =
     (nat_lt 0 (length (drop start file)) && nat_le (length (drop start file)) len)
-    && (is_ours start (drop start file) && not (stands_whole start len file))
+    && (is_ours start (drop start file) && not (stands_whole start len listed file))
 
 -- the file once it is settled: cut back to `start` if the entry is torn
-abbrev pub settled_file : ℕ → ℕ → List ℕ → List ℕ
-settled_file start len file = if stands_torn start len file then take start file else file
+abbrev pub settled_file : ℕ → ℕ → Option ℕ → List ℕ → List ℕ
+settled_file start len listed file = if stands_torn start len listed file then take start file else file
 
 -- what is left of the entry of a text, after a file, is all of it, counts as whole and stays
-abbrev pub CountsWhole : List ℕ → List ℕ → List ℕ → Type 0
-CountsWhole file text left = (stands_whole (length file) (length (entry_of text)) (file ++ left) ≡ true)
-    × (settled_file (length file) (length (entry_of text)) (file ++ left) ≡ file ++ left) × (left ≡ entry_of text)
+abbrev pub CountsWhole : List ℕ → List ℕ → Option ℕ → List ℕ → Type 0
+CountsWhole file text listed left = (stands_whole (length file) (length (entry_of text)) listed (file ++ left) ≡ true)
+    × (settled_file (length file) (length (entry_of text)) listed (file ++ left) ≡ file ++ left) × (left ≡ entry_of text)
 
 -- it doesn't count as whole, and the file is cut back to what it was
-abbrev pub IsCutOff : List ℕ → List ℕ → List ℕ → Type 0
-IsCutOff file text left = (stands_whole (length file) (length (entry_of text)) (file ++ left) ≡ false)
-    × (settled_file (length file) (length (entry_of text)) (file ++ left) ≡ file)
+abbrev pub IsCutOff : List ℕ → List ℕ → Option ℕ → List ℕ → Type 0
+IsCutOff file text listed left = (stands_whole (length file) (length (entry_of text)) listed (file ++ left) ≡ false)
+    × (settled_file (length file) (length (entry_of text)) listed (file ++ left) ≡ file)
 
 -- a law: what a loss of power leaves of an entry that was appended to a file is all of it and counts as whole, or is cut off
 abbrev pub LeftoversAreSettled : Type 0
-LeftoversAreSettled = (file text left : List ℕ) → IsWhole text → MayBeLeft (length file) (entry_of text) left
-    → CountsWhole file text left ⊎ IsCutOff file text left
+LeftoversAreSettled = (file text left : List ℕ) (listed : Option ℕ) → IsWhole text
+    → MayBeLeft (length file) (entry_of text) left → CountsWhole file text listed left ⊎ IsCutOff file text listed left
 
 -- a law: so is a front of an entry
 abbrev pub FrontsAreSettled : Type 0
-FrontsAreSettled = (file text front rest : List ℕ) → IsWhole text → entry_of text ≡ front ++ rest
-    → CountsWhole file text front ⊎ IsCutOff file text front
+FrontsAreSettled = (file text front rest : List ℕ) (listed : Option ℕ) → IsWhole text → entry_of text ≡ front ++ rest
+    → CountsWhole file text listed front ⊎ IsCutOff file text listed front
 
--- a law: an entry that is all there counts as whole, unless its own text has a zero at the end of a block
+-- a law: an entry that is all there counts as whole if its text has the listed size, unless that text has a zero at the
+-- end of a block; with another size it is cut off
 abbrev pub WholeEntriesCount : Type 0
-WholeEntriesCount = (file text : List ℕ) → IsWhole text → is_torn (length file) (entry_of text) ≡ false
-    → CountsWhole file text (entry_of text)
+WholeEntriesCount = (file text : List ℕ) (listed : Option ℕ) → IsWhole text
+    → (has_size listed text ≡ true → is_torn (length file) (entry_of text) ≡ false → CountsWhole file text listed (entry_of text))
+    × (has_size listed text ≡ false → IsCutOff file text listed (entry_of text))
 
 -- ---- what the calls do
 
@@ -112,11 +123,12 @@ ReadsBehind old start behind (Err NoMemory) new = new ≡ old
 
 -- `settle_file`: the file is settled, and the answer is whether the entry is there whole; there is no file; a call was
 -- refused, and the file is as it was, or settled; or memory ran out, and the file is as it was
-abbrev pub SettlesFile : Stored → ℕ → ℕ → Result Bool StoreFault → Stored → Type 0
-SettlesFile old start len (Ok whole) new =
-    (was : List ℕ) × (old.content ≡ Some was) × (whole ≡ stands_whole start len was) × (new ≡ holding old (settled_file start len was))
-SettlesFile old start len (Err Missing) new = (old.content ≡ None) × (new ≡ old)
-SettlesFile old start len (Err Refused) new = (new ≡ counted old)
-    ⊎ ((was : List ℕ) × (old.content ≡ Some was) × (new ≡ counted (holding old (settled_file start len was))))
-SettlesFile old start len (Err NotMbox) new = ⊥
-SettlesFile old start len (Err NoMemory) new = new ≡ old
+abbrev pub SettlesFile : Stored → ℕ → ℕ → Option ℕ → Result Bool StoreFault → Stored → Type 0
+SettlesFile old start len listed (Ok whole) new =
+    (was : List ℕ) × (old.content ≡ Some was) × (whole ≡ stands_whole start len listed was)
+    × (new ≡ holding old (settled_file start len listed was))
+SettlesFile old start len listed (Err Missing) new = (old.content ≡ None) × (new ≡ old)
+SettlesFile old start len listed (Err Refused) new = (new ≡ counted old)
+    ⊎ ((was : List ℕ) × (old.content ≡ Some was) × (new ≡ counted (holding old (settled_file start len listed was))))
+SettlesFile old start len listed (Err NotMbox) new = ⊥
+SettlesFile old start len listed (Err NoMemory) new = new ≡ old

@@ -1,11 +1,11 @@
 //! Entries of an mboxrd file: a line that begins with `From `, the quoted text and an empty line.
 
-ghost use Rattle.std.specs.Prelude.{◌≡◌, ◌≢◌, ◌↔◌, List, ℕ, length, IfErr, IfOk, IsTrue, OnOk};
+ghost use Rattle.std.specs.Prelude.{◌≡◌, ◌≢◌, ◌↔◌, ◌+◌, ◌-◌, List, ℕ, drop, length, take, IfErr, IfOk, IsTrue, OnOk};
 ghost use Rattle.mail_terms.specs.FailureCount.{Tallies, refuses};
 ghost use Rattle.mail_store.specs.Fault.{is_refusal};
 ghost use Rattle.mail_store.specs.FlatFile.{edges_of};
 ghost use Rattle.mail_terms.specs.Text.{IsWhole};
-ghost use Rattle.mail_store.specs.Mboxrd.{MayGoOn, entry_of, EntryAddsText, OneReading, TextsMayGoOn};
+ghost use Rattle.mail_store.specs.Mboxrd.{MayGoOn, entry_of, separator, EntryAddsText, OneReading, TextsMayGoOn};
 ghost use Rattle.mail_store.specs.Power.{KeepsBytes, KeepsWhole, LastsWhole};
 ghost use Rattle.mail_store.specs.MboxCalls.{Looks, Checks, AppendsEntry, TalliesEntry};
 
@@ -89,6 +89,18 @@ fn entry_of(alloc: Global, text: &[u8]) -> Result<Vec<u8>, AllocError>
     put_quoted(&mut entry, text)?;
     entry.push(b'\n')?;
     Ok(entry)
+}
+
+/// The quoted text of an entry: what is between its first line and its last one, which is empty.
+pub(crate) fn quoted_in(entry: &[u8]) -> &[u8]
+    ensures { result.now ≡ take (length entry.now - (length separator + 1)) (drop (length separator) entry.now) }
+{
+    let ends = SEPARATOR.len() + 1;
+    if entry.len() < ends {
+        return &entry[..0];
+    }
+    let (quoted, _) = entry[SEPARATOR.len()..].split_at(entry.len() - ends);
+    quoted
 }
 
 /// How many bytes the entry of a text takes. The text must be whole (see `is_whole`).

@@ -5,7 +5,7 @@ ghost use Rattle.std.specs.Prelude.{◌≡◌, ◌⊎◌, ◌↔◌, ◌<◌, �
 ghost use Rattle.std.specs.List.{prefix_len};
 ghost use Rattle.mail_terms.specs.Text.{IsWhole, HasNoLf};
 ghost use Rattle.mail_store.specs.Mboxrd.{IsLine, begins_entry, is_greater, is_marked, quoted_text, unquoted};
-ghost use Rattle.mail_store.specs.Mboxrd.{unquoted_text, UnquotesQuoted};
+ghost use Rattle.mail_store.specs.Mboxrd.{unquoted_text, wire_size, UnquotesQuoted};
 
 use memchr::memchr;
 use std::alloc::{AllocError, Global};
@@ -78,6 +78,40 @@ pub fn quoted_len(text: &[u8]) -> usize
         rest = after;
     }
     text.len() + marked
+}
+
+/// A line of an entry as it was: without the first `>` if it is `>` at least once and then `From `.
+fn unquoted(line: &[u8]) -> &[u8]
+    ensures { result.now ≡ unquoted line.now }
+{
+    if is_quoted(line) {
+        return &line[1..];
+    }
+    line
+}
+
+/// How many octets a line of an entry takes on the wire, once it is unquoted.
+fn line_size(line: &[u8]) -> usize
+    ensures value { result ≡ wire_size (unquoted line.now) }
+    ensures bound { result ≤ 2 * length line.now }
+{
+    let text = unquoted(line);
+    text.len() + text.iter().filter(|byte| **byte == b'\n').count()
+}
+
+/// How many octets the text that a quoted one stands for takes on the wire, without stuffing: each
+/// LF is sent as CR LF.
+pub fn text_size(quoted: &[u8]) -> u64
+    ensures { result ≡ wire_size (unquoted_text quoted.now) }
+{
+    let mut size = 0;
+    let mut rest = quoted;
+    while !rest.is_empty() {
+        let (line, after) = rest.split_at(line_len(rest));
+        size += line_size(line) as u64;
+        rest = after;
+    }
+    size
 }
 
 /// Appends the quoted text to `out`, in runs of lines. If memory runs out, a part of it may have

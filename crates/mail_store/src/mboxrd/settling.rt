@@ -3,13 +3,15 @@
 ghost use Rattle.std.specs.Prelude.{◌≡◌, ◌≢◌, ◌↔◌, ◌==◌, ◌&&◌, ◌+◌, ◌%◌, ◌≤◌, ◌<◌, ◌^◌, length, IfErr, IfOk, IsTrue, OnOk};
 ghost use Rattle.mail_terms.specs.FailureCount.{Tallies, refuses};
 ghost use Rattle.mail_store.specs.Fault.{is_refusal};
+ghost use Rattle.mail_store.specs.Mboxrd.{text_in};
 ghost use Rattle.mail_store.specs.Power.{LastsWhole};
-ghost use Rattle.mail_store.specs.Settling.{block_size, begin_with, ends_empty, is_entry, is_lost, is_one_entry, is_ours, is_torn};
+ghost use Rattle.mail_store.specs.Settling.{block_size, begin_with, ends_empty, has_size, is_entry, is_lost, is_one_entry, is_ours, is_torn, is_whole};
 ghost use Rattle.mail_store.specs.Settling.{FrontsAreSettled, LeftoversAreSettled, ReadsBehind, SettlesFile, WholeEntriesCount};
 
 use crate::fault::StoreFault;
 use crate::file::flat_file::FlatFile;
-use crate::mboxrd::entry::SEPARATOR;
+use crate::mboxrd::entry::{SEPARATOR, quoted_in};
+use crate::mboxrd::quoting::text_size;
 use memchr::memmem;
 use std::alloc::Global;
 use std::vec::Vec;
@@ -97,12 +99,22 @@ fn is_entry(place: u64, bytes: &[u8]) -> bool
     is_ours(place, bytes) && !is_torn(place, bytes) && ends_empty(bytes)
 }
 
-/// Whether octets are the whole entry of this length.
-fn is_whole(place: u64, len: u64, bytes: &[u8]) -> bool
-    requires { place + length bytes.now < 2 ^ 64 }
-    ensures { result ≡ (length bytes.now == len && is_entry place bytes.now) }
+/// Whether the text of an entry has the listed size, where one is listed.
+fn has_size(listed: Option<u64>, entry: &[u8]) -> bool
+    ensures { result ≡ has_size listed (text_in entry.now) }
 {
-    bytes.len() as u64 == len && is_entry(place, bytes)
+    match listed {
+        Some(size) => text_size(quoted_in(entry)) == size,
+        None => true,
+    }
+}
+
+/// Whether octets are the whole entry of this length, and its text has the listed size.
+fn is_whole(place: u64, len: u64, listed: Option<u64>, bytes: &[u8]) -> bool
+    requires { place + length bytes.now < 2 ^ 64 }
+    ensures { result ≡ is_whole place len listed bytes.now }
+{
+    bytes.len() as u64 == len && is_entry(place, bytes) && has_size(listed, bytes)
 }
 
 /// Whether `behind` octets may be a part of an entry of this length, or all of it.
@@ -134,14 +146,16 @@ fn read_behind<F: FlatFile>(
 }
 
 /// Settles what follows `start` in a file, where an entry of `len` octets was about to be appended
-/// when a session was cut, and returns whether it is there whole.
+/// when a session was cut, and returns whether it is there whole. `listed` is the size that the
+/// server lists for its message now, None if that isn't listed.
 ///
 /// What follows is looked at first. It is ours only if it is no longer than the entry, begins as an
 /// entry's first line does, as far as both go, and no other line begins with `From `. From any
 /// octet of that line on there may be zeros to the end of the block. What isn't ours isn't touched.
-/// What is ours is whole only if it has the entry's length, its last line is empty, and the last
-/// octet of no block is zero, as a loss of power can leave it; otherwise the file is cut back to
-/// `start`. An entry that has such a zero in its own text is cut off too, and fetched once more.
+/// What is ours is whole only if it has the entry's length, its last line is empty, its text has the
+/// listed size, and the last octet of no block is zero, as a loss of power can leave it; otherwise
+/// the file is cut back to `start`. An entry that has such a zero in its own text, or whose listed
+/// size is another one, is cut off too, and fetched once more.
 ///
 /// Missing if there is no file. Refused if the device refused: the file is as it was, or settled.
 /// NoMemory if memory runs out: the file is as it was.
@@ -150,9 +164,10 @@ pub fn settle_file<F: FlatFile>(
     file: &mut F,
     start: u64,
     len: u64,
+    listed: Option<u64>,
 ) -> Result<bool, StoreFault>
     ensures settles { F.sound file.new → F.sound file.old
-        × SettlesFile (F.stored file.old) start len result (F.stored file.new) }
+        × SettlesFile (F.stored file.old) start len listed result (F.stored file.new) }
     ensures fault { IfErr result (λ e. e ≢ StoreFault.NotMbox) }
     ensures lasts { F.sound file.new → F.is_sure file.old
         → OnOk result (F.is_sure file.new × LastsWhole (F.stored file.new).content (F.outlives file.new)) }
@@ -168,7 +183,7 @@ pub fn settle_file<F: FlatFile>(
     if (rest.len() as u64) < behind || !is_ours(start, rest) {
         return Ok(false);
     }
-    if is_whole(start, len, rest) {
+    if is_whole(start, len, listed, rest) {
         return Ok(true);
     }
     if let Err(fault) = file.cut_to(start) {
@@ -189,7 +204,8 @@ pub fn fronts_of_entries_are_settled()
     ensures { FrontsAreSettled }
 {}
 
-/// An entry that is all there counts as whole, unless its text has a zero at the end of a block.
+/// An entry that is all there counts as whole if its text has the listed size, unless that text has
+/// a zero at the end of a block; with another size it is cut off.
 pub fn whole_entries_count()
     ensures { WholeEntriesCount }
 {}

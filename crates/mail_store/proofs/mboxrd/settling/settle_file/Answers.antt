@@ -11,7 +11,7 @@ returns-then-is_whole-clause-settles g c = λ sound.
     let seen = g.F.FlatFile.stored c.read_behind.new.file in
     let rest = c.as_slice-rest.result.now in
     let is = looked old (g.F.FlatFile.stored c.edges.new.self) seen c.in_ok-edges.edges c.args.start c.saturating_sub-behind.result c.in_ok-bytes.bytes rest c.as_slice-rest.ensures.value measures.1 left reads.1 in
-    (measures.0, out_whole old seen c.args.start c.args.len rest is (sym c.is_whole.ensures ∙ c.if-is_whole.true))
+    (measures.0, out_whole old seen c.args.start c.args.len c.args.listed rest is (sym c.is_whole.ensures ∙ c.if-is_whole.true))
 
 pub returns-in-Err-clause-settles : goal.returns-in-Err-clause-settles
 returns-in-Err-clause-settles g c = λ sound.
@@ -29,7 +29,7 @@ returns-in-Err-clause-settles g c = λ sound.
     let within = c.in_ok-bytes.ensures.within in
     let size = ap length c.as_slice-rest.ensures.value in (
       measures.0,
-      out_refused old seen (g.F.FlatFile.stored c.cut_to.new.self) c.args.start c.args.len rest c.in-Err.fault is (omega (arith, some, c.if-rest-behind.false)) (omega (arith, few, within, size))
+      out_refused old seen (g.F.FlatFile.stored c.cut_to.new.self) c.args.start c.args.len c.args.listed rest c.in-Err.fault is (omega (arith, some, c.if-rest-behind.false)) (omega (arith, few, within, size))
           (sym c.is_ours.ensures ∙ c.if-not-is_ours.false) (sym c.is_whole.ensures ∙ c.if-is_whole.false) c.in-Err.ensures.fault cuts.1,
     )
 
@@ -49,6 +49,6 @@ returns-clause-settles g c = λ sound.
     let within = c.in_ok-bytes.ensures.within in
     let size = ap length c.as_slice-rest.ensures.value in (
       measures.0,
-      out_cut old seen (g.F.FlatFile.stored c.cut_to.new.self) c.args.start c.args.len rest is (omega (arith, some, c.if-rest-behind.false)) (omega (arith, few, within, size))
+      out_cut old seen (g.F.FlatFile.stored c.cut_to.new.self) c.args.start c.args.len c.args.listed rest is (omega (arith, some, c.if-rest-behind.false)) (omega (arith, few, within, size))
           (sym c.is_ours.ensures ∙ c.if-not-is_ours.false) (sym c.is_whole.ensures ∙ c.if-is_whole.false) cuts.1,
     )
