@@ -1,6 +1,6 @@
 -- What a loss of power leaves of an entry, and what settling does to the file that it is in.
-use Rattle.std.proofs.Common.{◌≡◌, ◌⊎◌, inl, inr, ℕ, suc, ◌+◌, ◌-◌, ◌<◌, ◌≤◌, ◌%◌, Bool, true, false, cond, ◌&&◌, ◌||◌, List, [], ◌∷◌, ◌++◌, length, take, drop, Option, Some, Ok, Err, refl, sym, ap, subst, ◌∙◌, arith, length-append}
-use Rattle.std.specs.Prelude.{not, ◌==◌, nat_eq, nat_lt, nat_le, slice_index, Vec}
+use Rattle.std.proofs.Common.{get_or, ◌≡◌, ◌⊎◌, inl, inr, ℕ, suc, ◌+◌, ◌-◌, ◌<◌, ◌≤◌, ◌%◌, Bool, true, false, cond, ◌&&◌, ◌||◌, List, [], ◌∷◌, ◌++◌, length, take, drop, Option, Some, Ok, Err, refl, sym, ap, subst, ◌∙◌, arith, length-append}
+use Rattle.std.specs.Prelude.{bytes_eq, HoldsAt, not, ◌==◌, nat_eq, nat_lt, nat_le, slice_index, Vec}
 use Rattle.std.specs.Cmp.Lexicographic.{pointwise}
 use Rattle.std.specs.List.{list_all, AllByRecursion}
 use Rattle.std.proofs.lemmas.Bool.{and_parts, cases_Bool, cases_lt, or_cases, or_right, true≢false, lt-ltb, le-leb, eq-eqb}
@@ -9,6 +9,7 @@ use Rattle.std.proofs.Math.Bool.{and-false, or-true}
 use Rattle.std.proofs.lemmas.List.{append-nil, length-drop, nil_from_length, take_all}
 use Rattle.std.proofs.lemmas.Option.{same_Some}
 use Rattle.std.proofs.Math.Seq.{drop-append_seam, drop-cons, take-append_seam}
+use Rattle.mail_terms.specs.Listing.{Item}
 use Rattle.mail_terms.specs.Text.{IsWhole}
 use Rattle.mail_store.specs.declared.fault.StoreFault.{StoreFault}
 use Rattle.mail_store.specs.declared.fault.StoreFault.TheVariants.{Refused}
@@ -16,7 +17,7 @@ use Rattle.mail_store.specs.declared.file.flat_file.Edges.{Edges}
 use Rattle.mail_store.specs.FlatFile.{Stored, holding, counted, piece_at, Measures}
 use Rattle.mail_store.specs.Mboxrd.{separator, begins_entry, from_words, quoted_text, unquoted_text, entry_of, text_in, MboxFile}
 use Rattle.mail_store.specs.MboxScan.{IsApart}
-use Rattle.mail_store.specs.Settling.{block_size, is_lost, is_torn, MayBeLeft, begin_with, is_one_entry, ends_empty, is_ours, is_entry, has_size, is_whole, stands_whole, settled_file, CountsWhole, IsCutOff, LeftoversAreSettled, FrontsAreSettled, WholeEntriesCount, ReadsBehind, SettlesFile}
+use Rattle.mail_store.specs.Settling.{block_size, is_lost, is_torn, MayBeLeft, begin_with, is_one_entry, ends_empty, is_ours, is_entry, listed_size, has_size, is_whole, stands_whole, settled_file, CountsWhole, IsCutOff, LeftoversAreSettled, FrontsAreSettled, WholeEntriesCount, ReadsBehind, SettlesFile}
 use Rattle.mail_store.proofs.OneEntry.{holds_needle, needle, needle_there, one_entry_is}
 use Rattle.mail_store.proofs.MboxQuoting.{begins_with, unquotes_quoted}
 use Rattle.mail_store.proofs.MboxGroups.{inner_apart, entry_group, entry_lines, entry_is_group, entry_adds_text, texts_go_on}
@@ -373,3 +374,30 @@ out_refused old mid new start len listed rest fault is some few ours test refuse
       | inl kept ↦ inl (kept ∙ ap counted is.same)
       | inr cut ↦ inr (is.was, is.content, cut ∙ ap (λ (s : Stored). counted (holding s (take start is.was))) is.same ∙ ap (λ (l : List ℕ). counted (holding old l)) (sym told.1))
     ])
+
+-- ---- the listed size
+
+no_item : Item
+no_item = record { uid = []; size = 0 }
+
+-- this message has another id
+pub listed_later : (items : List Item) (i : ℕ) (uid id : List ℕ) (same : Bool) → listed_size (drop i items) uid ≡ listed_size items uid → i < length items
+    → HoldsAt (λ (item : Item). id ≡ item.uid) items i → same ≡ bytes_eq id uid → same ≡ false → listed_size (drop (i + 1) items) uid ≡ listed_size items uid
+listed_later items i uid id same was within at is other =
+    let next : i + 1 ≡ suc i = omega arith in
+    let item = get_or items i no_item in
+    let tells : bytes_eq item.uid uid ≡ false = ap (λ (b : List ℕ). bytes_eq b uid) (sym (at no_item)) ∙ sym is ∙ other in
+    ap (λ (k : ℕ). listed_size (drop k items) uid) next
+    ∙ ap (λ (b : Bool). cond b (Some item.size) (listed_size (drop (suc i) items) uid)) (sym tells)
+    ∙ ap (λ (l : List Item). listed_size l uid) (sym (drop-cons items i no_item within)) ∙ was
+
+-- this message has the id
+pub listed_here : (items : List Item) (i : ℕ) (uid id : List ℕ) (size : ℕ) (same : Bool) → listed_size (drop i items) uid ≡ listed_size items uid → i < length items
+    → HoldsAt (λ (item : Item). id ≡ item.uid) items i → HoldsAt (λ (item : Item). size ≡ item.size) items i → same ≡ bytes_eq id uid → same ≡ true
+    → Some size ≡ listed_size items uid
+listed_here items i uid id size same was within at sized is one =
+    let item = get_or items i no_item in
+    let tells : bytes_eq item.uid uid ≡ true = ap (λ (b : List ℕ). bytes_eq b uid) (sym (at no_item)) ∙ sym is ∙ one in
+    ap (λ (s : ℕ). Some s) (sized no_item)
+    ∙ ap (λ (b : Bool). cond b (Some item.size) (listed_size (drop (suc i) items) uid)) (sym tells)
+    ∙ ap (λ (l : List Item). listed_size l uid) (sym (drop-cons items i no_item within)) ∙ was

@@ -1,8 +1,9 @@
 -- What a file has from the place on where an entry was about to be appended when a session was cut, and what becomes of it.
 use Rattle.std.specs.Prelude.{◌≡◌, ◌⊎◌, ◌==◌, ◌&&◌, ◌||◌, ◌+◌, ◌-◌, ◌%◌, not, ℕ, Bool, true, false, List, [], ◌∷◌, ◌++◌}
 use Rattle.std.specs.Prelude.{length, take, drop, Option, Some, None, Result, Ok, Err, Vec, nat_eq, nat_lt, nat_le}
-use Rattle.std.specs.Prelude.{if◌then◌else◌}
+use Rattle.std.specs.Prelude.{bytes_eq, if◌then◌else◌}
 use Rattle.std.specs.List.{ends_with, list_all}
+use Rattle.mail_terms.specs.Listing.{Item}
 use Rattle.mail_terms.specs.Text.{IsWhole}
 use Rattle.mail_store.specs.declared.fault.StoreFault.{StoreFault}
 use Rattle.mail_store.specs.declared.fault.StoreFault.TheVariants.{Missing, Refused, NotMbox, NoMemory}
@@ -57,6 +58,11 @@ is_ours place bytes = begin_with place separator bytes && is_one_entry bytes
 -- ends where they end: with an empty line, so not with a zero
 abbrev pub is_entry : ℕ → List ℕ → Bool
 is_entry place bytes = is_ours place bytes && (not (is_torn place bytes) && ends_empty bytes)
+
+-- the size that is listed for the message with this id, where one is listed; the first, if there are several
+abbrev pub listed_size : List Item → List ℕ → Option ℕ
+listed_size [] uid = None
+listed_size (item ∷ items) uid = if bytes_eq item.uid uid then Some item.size else listed_size items uid
 
 -- the size of a text is the one that is listed for its message, where one is
 abbrev pub has_size : Option ℕ → List ℕ → Bool

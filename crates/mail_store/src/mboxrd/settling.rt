@@ -5,13 +5,14 @@ ghost use Rattle.mail_terms.specs.FailureCount.{Tallies, refuses};
 ghost use Rattle.mail_store.specs.Fault.{is_refusal};
 ghost use Rattle.mail_store.specs.Mboxrd.{text_in};
 ghost use Rattle.mail_store.specs.Power.{LastsWhole};
-ghost use Rattle.mail_store.specs.Settling.{block_size, begin_with, ends_empty, has_size, is_entry, is_lost, is_one_entry, is_ours, is_torn, is_whole};
+ghost use Rattle.mail_store.specs.Settling.{block_size, begin_with, ends_empty, has_size, is_entry, is_lost, is_one_entry, listed_size, is_ours, is_torn, is_whole};
 ghost use Rattle.mail_store.specs.Settling.{FrontsAreSettled, LeftoversAreSettled, ReadsBehind, SettlesFile, WholeEntriesCount};
 
 use crate::fault::StoreFault;
 use crate::file::flat_file::FlatFile;
 use crate::mboxrd::entry::{SEPARATOR, quoted_in};
 use crate::mboxrd::quoting::text_size;
+use mail_terms::Listing;
 use memchr::memmem;
 use std::alloc::Global;
 use std::vec::Vec;
@@ -97,6 +98,18 @@ fn is_entry(place: u64, bytes: &[u8]) -> bool
     ensures { result ≡ is_entry place bytes.now }
 {
     is_ours(place, bytes) && !is_torn(place, bytes) && ends_empty(bytes)
+}
+
+/// The size that is listed for the message with this id, None if it isn't listed.
+pub fn listed_size(listing: &Listing, uid: &[u8]) -> Option<u64>
+    ensures { result ≡ listed_size listing.now uid.now }
+{
+    for i in 0..listing.len() {
+        if listing.uid(i) == uid {
+            return Some(listing.size(i));
+        }
+    }
+    None
 }
 
 /// Whether the text of an entry has the listed size, where one is listed.
