@@ -37,16 +37,16 @@ pub unprepared : {target : Target} {items : List Item} {now : ℕ} {place : Plac
 unprepared plain why = rw plain (record { none = refl; unready = why; place_is = refl; lines_are = refl })
 
 -- the files that were there stay
-pub stay_from : {D F : Type 0} (disk : DiskGhosts D) (files : FileGhosts F) (target : Target) (was : Held) (old : Stores) (mid end : Store D F)
-    → Settles target was old (stores_of disk files mid) → AllStayIn disk mid → KeepsMailIn disk mid end → StayFrom disk target old end
-stay_from disk files (AsFiles account) was old (InMaildir device) end settles all keeps = λ name inside.
+pub stay_from : {D F : Type 0} (disk : DiskGhosts D) (files : FileGhosts F) (target : Target) (was : Held) (items : List Item) (old : Stores) (mid end : Store D F)
+    → Settles target was items old (stores_of disk files mid) → AllStayIn disk mid → KeepsMailIn disk mid end → StayFrom disk target old end
+stay_from disk files (AsFiles account) was items old (InMaildir device) end settles all keeps = λ name inside.
     keeps.0 name (all name (subst (λ (s : Stores). Contains (names_of s.maildir.files) name) (sym settles) inside))
-stay_from disk files (AsFiles account) was old (InMbox device) end settles all keeps = λ name inside.
+stay_from disk files (AsFiles account) was items old (InMbox device) end settles all keeps = λ name inside.
     absurd (nothing (subst (λ (s : Stores). Contains (names_of s.maildir.files) name) (sym settles) inside))
   where
     nothing : {name : List ℕ} → Contains (names_of (in_mbox (files.stored device)).maildir.files) name → ⊥
     nothing c = absurd (omega (arith, c.1))
-stay_from disk files AsEntries was old mid end settles all keeps = tt
+stay_from disk files AsEntries was items old mid end settles all keeps = tt
 
 pub firm_both : {P A B C : Type 0} → P ⊎ A → P ⊎ (B × C) → P ⊎ (A × B)
 firm_both (inl p) both = inl p
@@ -80,7 +80,7 @@ carried {D} {F} disk files {sure} {safe} {settings} {target} {items} {now} {plac
   where
     quiet_or_stays : All IsQuiet ready.steps.items ⊎ AllStayIn disk before → All IsQuiet (planned settings after items now) ⊎ StayFrom disk target store end
     quiet_or_stays (inl quiet) = inl (subst (λ (ss : List Step). All IsQuiet ss) is.steps quiet)
-    quiet_or_stays (inr stays) = inr (stay_from disk files target is.was store before end is.settles stays keeps)
+    quiet_or_stays (inr stays) = inr (stay_from disk files target is.was items store before end is.settles stays keeps)
 
     quiet_or_lasts : (P : Type 0) → (safe → P) → All IsQuiet ready.steps.items ⊎ safe → All IsQuiet (planned settings after items now) ⊎ P
     quiet_or_lasts P good (inl quiet) = inl (subst (λ (ss : List Step). All IsQuiet ss) is.steps quiet)

@@ -69,15 +69,15 @@ no_place Entries items old new refusal fault is told = (asks_refused None old.mb
 
 module _ {D F : Type 0} (disk : DiskGhosts D) (files : FileGhosts F) (account : List ℕ) where
   -- a store that was only looked at
-  settles_same : (store : Store D F) (was : Held) (new : Stores) → was.intent ≡ None → ChecksStore {T = Unit {0}} (kind_of store) (stores_of disk files store) (Ok tt) new
-      → Settles (target_of store account) was (stores_of disk files store) new
-  settles_same (InMaildir device) was new closed ((news, curs, same), others) = same_stores new (in_maildir (disk.maildir device)) same others
-  settles_same (InMbox device) was new closed (((bytes, goes_on), same), others) =
+  settles_same : (store : Store D F) (was : Held) (items : List Item) (new : Stores) → was.intent ≡ None → ChecksStore {T = Unit {0}} (kind_of store) (stores_of disk files store) (Ok tt) new
+      → Settles (target_of store account) was items (stores_of disk files store) new
+  settles_same (InMaildir device) was items new closed ((news, curs, same), others) = same_stores new (in_maildir (disk.maildir device)) same others
+  settles_same (InMbox device) was items new closed (((bytes, goes_on), same), others) =
       rw closed (bytes, goes_on.0, same ∙ held_same (files.stored device) bytes goes_on.0, goes_on.1)
 
-  rows_same : (store : Store D F) (was : Held) → was.intent ≡ None → rows_in (target_of store account) (stores_of disk files store) was ≡ was.rows
-  rows_same (InMaildir device) was closed = refl
-  rows_same (InMbox device) was closed = rw closed refl
+  rows_same : (store : Store D F) (was : Held) (items : List Item) → was.intent ≡ None → rows_in (target_of store account) (stores_of disk files store) was items ≡ was.rows
+  rows_same (InMaildir device) was items closed = refl
+  rows_same (InMbox device) was items closed = rw closed refl
 
   pub rests_ok : {settings : Settings} {items : List Item} {now : ℕ} (store : Store D F) (new : Stores) (file read : Stored) (loaded : Loaded) (ready : Ready)
       → ((rows : List Row) (listing : List Item) (held : List Bool) (now : ℕ) → IsRecord rows → All (λ (item : Item). is_delivered rows item.uid ≡ true) listing → merged rows listing held now ≡ rows)
@@ -89,11 +89,11 @@ module _ {D F : Type 0} (disk : DiskGhosts D) (files : FileGhosts F) (account : 
     stood = read_keeps file.content loaded stood;
     held = quiet_same ready.steps.items items ready.held.items (flags_in (target_of store account) (stores_of disk files store) items) idle.quiet counted (flags_length (target_of store account) (stores_of disk files store) items);
     rows = sym (law loaded.rows items (flags_in (target_of store account) (stores_of disk files store) items) now idle.is_record idle.known)
-        ∙ ap (λ (rows : List Row). merged rows items (flags_in (target_of store account) (stores_of disk files store) items) now) (sym (rows_same store (held_in loaded) closed));
+        ∙ ap (λ (rows : List Row). merged rows items (flags_in (target_of store account) (stores_of disk files store) items) now) (sym (rows_same store (held_in loaded) items closed));
     steps = idle.planned;
     saved = subst (λ (s : Stored). Steady s.content (none_open loaded.rows)) (sym read_is) (read_steady file.content loaded stood fresh).0;
     file_count = ap (λ (s : Stored). s.failures) read_is;
-    settles = settles_same store (held_in loaded) new closed rests;
+    settles = settles_same store (held_in loaded) items new closed rests;
   }
 
   pub rests_refused : (items : List Item) (now : ℕ) (store : Store D F) (new : Stores) (file read : Stored) (loaded : Loaded) (fault : Fault)

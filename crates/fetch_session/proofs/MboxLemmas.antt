@@ -53,52 +53,52 @@ content_of a b is = ap (λ (s : Stored). s.content) is
 -- ---- settling
 
 -- an intent was ended: there was no file, or it is settled
-settled_is : (intent : Option Intent) (old mid : Stored) (stored : Bool) → SettlesIntent intent old (Ok stored) mid
-    → ((old.content ≡ None) × (mid ≡ old)) ⊎ ((was : List ℕ) × (old.content ≡ Some was) × (stored ≡ is_stored intent was) × (mid ≡ holding old (closed_file intent was)))
-settled_is None old mid stored (whole, same) =
+settled_is : (intent : Option Intent) (items : List Item) (old mid : Stored) (stored : Bool) → SettlesIntent intent items old (Ok stored) mid
+    → ((old.content ≡ None) × (mid ≡ old)) ⊎ ((was : List ℕ) × (old.content ≡ Some was) × (stored ≡ is_stored intent items was) × (mid ≡ holding old (closed_file intent items was)))
+settled_is None items old mid stored (whole, same) =
     elim (either old.content) [
       | inl none ↦ inl (none, same)
       | inr (was, some) ↦ inr (was, some, whole, same ∙ held_same old was some)
     ]
-settled_is (Some intent) old mid stored (was, some, whole, now) = inr (was, some, whole, now)
+settled_is (Some intent) items old mid stored (was, some, whole, now) = inr (was, some, whole, now)
 
-pub asks_ok : (intent : Option Intent) (old mid new : Stored) (stored : Bool) (items : List Item) (found : Found) → SettlesIntent intent old (Ok stored) mid → Checks {T = Unit {0}} mid (Ok tt) new → found.stored ≡ stored → found.held.items ≡ none_held items
+pub asks_ok : (intent : Option Intent) (old mid new : Stored) (stored : Bool) (items : List Item) (found : Found) → SettlesIntent intent items old (Ok stored) mid → Checks {T = Unit {0}} mid (Ok tt) new → found.stored ≡ stored → found.held.items ≡ none_held items
     → AsksMbox intent old items (Ok found) new
 asks_ok intent old mid new stored items found settles ((bytes, goes_on), same) stored_is flags =
-    elim (settled_is intent old mid stored settles) [
+    elim (settled_is intent items old mid stored settles) [
       | inl (none, is) ↦ none_some mid.content bytes (content_of mid old is ∙ none) goes_on.0
       | inr (was, some, whole, now) ↦ (
-          let closed : closed_file intent was ≡ bytes = cc (rw now at goes_on.0) in
+          let closed : closed_file intent items was ≡ bytes = cc (rw now at goes_on.0) in
           (was, some, stored_is ∙ whole, same ∙ now, rw closed goes_on.1, flags)
           )
     ]
 
-at_most : (intent : Option Intent) (old mid new : Stored) (stored : Bool) → SettlesIntent intent old (Ok stored) mid → new.content ≡ mid.content → IsSettledAtMost intent old new
-at_most intent old mid new stored settles same =
-    elim (settled_is intent old mid stored settles) [
+at_most : (intent : Option Intent) (items : List Item) (old mid new : Stored) (stored : Bool) → SettlesIntent intent items old (Ok stored) mid → new.content ≡ mid.content → IsSettledAtMost intent items old new
+at_most intent items old mid new stored settles same =
+    elim (settled_is intent items old mid stored settles) [
       | inl (none, is) ↦ inl (same ∙ content_of mid old is)
-      | inr (was, some, whole, now) ↦ inr (was, some, same ∙ content_of mid (holding old (closed_file intent was)) now)
+      | inr (was, some, whole, now) ↦ inr (was, some, same ∙ content_of mid (holding old (closed_file intent items was)) now)
     ]
 
-failures_kept : (intent : Option Intent) (old mid : Stored) (stored : Bool) → SettlesIntent intent old (Ok stored) mid → mid.failures ≡ old.failures
-failures_kept None old mid stored is = ap (λ (s : Stored). s.failures) is.1
-failures_kept (Some intent) old mid stored is = ap (λ (s : Stored). s.failures) is.3
+failures_kept : (intent : Option Intent) (items : List Item) (old mid : Stored) (stored : Bool) → SettlesIntent intent items old (Ok stored) mid → mid.failures ≡ old.failures
+failures_kept None items old mid stored is = ap (λ (s : Stored). s.failures) is.1
+failures_kept (Some intent) items old mid stored is = ap (λ (s : Stored). s.failures) is.3
 
 -- the file was refused
-pub asks_refused : (intent : Option Intent) (old mid new : Stored) (stored : Bool) (items : List Item) (why : StoreFault) (fault : Fault) → SettlesIntent intent old (Ok stored) mid → RefusesLook mid why new → IsStoreFault why fault
+pub asks_refused : (intent : Option Intent) (old mid new : Stored) (stored : Bool) (items : List Item) (why : StoreFault) (fault : Fault) → SettlesIntent intent items old (Ok stored) mid → RefusesLook mid why new → IsStoreFault why fault
     → AsksMbox intent old items (Err fault) new
 asks_refused intent old mid new stored items refused.Missing fault settles (none, same) is =
-    rw is (elim (settled_is intent old mid stored settles) [
+    rw is (elim (settled_is intent items old mid stored settles) [
       | inl (missing, is) ↦ (missing, same ∙ is)
-      | inr (was, some, whole, now) ↦ none_some mid.content (closed_file intent was) none (content_of mid (holding old (closed_file intent was)) now)
+      | inr (was, some, whole, now) ↦ none_some mid.content (closed_file intent items was) none (content_of mid (holding old (closed_file intent items was)) now)
     ])
 asks_refused intent old mid new stored items refused.Refused fault settles same is =
-    rw is (rw (same, failures_kept intent old mid stored settles), at_most intent old mid new stored settles (content_of new (counted mid) same))
+    rw is (rw (same, failures_kept intent items old mid stored settles), at_most intent items old mid new stored settles (content_of new (counted mid) same))
 asks_refused intent old mid new stored items refused.NotMbox fault settles ((bytes, is_mid, other), same) is =
-    rw is (elim (settled_is intent old mid stored settles) [
+    rw is (elim (settled_is intent items old mid stored settles) [
       | inl (none, is) ↦ none_some mid.content bytes (content_of mid old is ∙ none) is_mid
       | inr (was, some, whole, now) ↦ (
-          let closed : closed_file intent was ≡ bytes = cc (rw now at is_mid) in
+          let closed : closed_file intent items was ≡ bytes = cc (rw now at is_mid) in
           (was, some, λ goes_on. other (rw closed at goes_on), same ∙ now)
           )
     ])

@@ -30,12 +30,12 @@ use Rattle.fetch_session.proofs.RecordLemmas.{read_keeps, steady_keeps, not_whol
 
 -- the rows once the open intent was ended by what was found, which messages are held, and the store
 found_is : (target : Target) (store store' : Stores) (items : List Item) (was : Held) (found : Found) → FindsIn target was.intent store items (Ok found) store'
-    → (closed_rows found.stored was.rows was.intent ≡ rows_in target store was) × (found.held.items ≡ flags_in target store items) × Settles target was store store'
+    → (closed_rows found.stored was.rows was.intent ≡ rows_in target store was items) × (found.held.items ≡ flags_in target store items) × Settles target was items store store'
 found_is (AsFiles account) store store' items was found (held, stored, same) = (rw stored (not_whole was.rows was.intent), held, same)
 found_is AsEntries store store' items was found (bytes, is, stored, now, goes_on, held) = (rw (stored, is), held, (bytes, is, now, goes_on))
 
-settled_at_most : (file : Stored) (store store' : Stores) (was : Held) → Keeps file.content was → Settles AsEntries was store store' → IsSettledBy file store.mbox store'.mbox
-settled_at_most file store store' was kept (bytes, is, now, goes_on) =
+settled_at_most : (items : List Item) (file : Stored) (store store' : Stores) (was : Held) → Keeps file.content was → Settles AsEntries was items store store' → IsSettledBy items file store.mbox store'.mbox
+settled_at_most items file store store' was kept (bytes, is, now, goes_on) =
     inr (was, kept, inr (bytes, is, ap (λ (s : Stored). s.content) now))
 
 -- ---- nothing was planned
@@ -55,12 +55,12 @@ files_refused (StoreRefused why.Refused) maildir file maildir' file' is = is
 files_refused NoMemory maildir file maildir' file' is = is
 files_refused _ maildir file maildir' file' never = absurd never
 
-mbox_refused : (fault : Fault) (items : List Item) (was : Held) (mbox file mbox' file' : Stored) → Keeps file.content was → AsksMbox was.intent mbox items (Err fault) mbox' → MboxUnready fault mbox file mbox' file'
+mbox_refused : (fault : Fault) (items : List Item) (was : Held) (mbox file mbox' file' : Stored) → Keeps file.content was → AsksMbox was.intent mbox items (Err fault) mbox' → MboxUnready items fault mbox file mbox' file'
 mbox_refused (StoreRefused why.Missing) items was mbox file mbox' file' kept is = is
 mbox_refused (StoreRefused why.Refused) items was mbox file mbox' file' kept (up, most) =
     (omega (arith, up), inr (was, kept, most))
 mbox_refused (StoreRefused why.NotMbox) items was mbox file mbox' file' kept (bytes, is, other, now) =
-    ((closed_file was.intent bytes, ap (λ (s : Stored). s.content) now, other), inr (was, kept, inr (bytes, is, ap (λ (s : Stored). s.content) now)))
+    ((closed_file was.intent items bytes, ap (λ (s : Stored). s.content) now, other), inr (was, kept, inr (bytes, is, ap (λ (s : Stored). s.content) now)))
 mbox_refused NoMemory items was mbox file mbox' file' kept (same, most) = inr (was, kept, most)
 mbox_refused _ items was mbox file mbox' file' kept never = absurd never
 
@@ -88,16 +88,16 @@ module _ (settings : Settings) (target : Target) (items : List Item) (now : ℕ)
   failures_same : read.failures ≡ file.failures
   failures_same = ap (λ (s : Stored). s.failures) same
 
-  settles : Settles target (held_in loaded) store store'
+  settles : Settles target (held_in loaded) items store store'
   settles = (found_is target store store' items (held_in loaded) found finds).2
 
-  risen_cause : file.failures < new.failures → (t : Target) → Settles t (held_in loaded) store store' → CausesUnready t SeenRefused store file store' new
+  risen_cause : file.failures < new.failures → (t : Target) → Settles t (held_in loaded) items store store' → CausesUnready t items SeenRefused store file store' new
   risen_cause risen (AsFiles account) is = (risen, ap (λ (s : Stores). s.maildir) is)
-  risen_cause risen AsEntries is = (risen, settled_at_most file store store' (held_in loaded) kept is)
+  risen_cause risen AsEntries is = (risen, settled_at_most items file store store' (held_in loaded) kept is)
 
-  wants_cause : (t : Target) → Settles t (held_in loaded) store store' → CausesUnready t NoMemory store file store' new
+  wants_cause : (t : Target) → Settles t (held_in loaded) items store store' → CausesUnready t items NoMemory store file store' new
   wants_cause (AsFiles account) is = ap (λ (s : Stores). s.maildir) is
-  wants_cause AsEntries is = settled_at_most file store store' (held_in loaded) kept is
+  wants_cause AsEntries is = settled_at_most items file store store' (held_in loaded) kept is
 
   pub unsaved_merge : (fault : Fault) → Merges read (held_in loaded) (none_open here) (Err fault) new → Unready target items now store file fault store' new
   unsaved_merge SeenRefused merges = record {

@@ -5,7 +5,6 @@ use Rattle.fetch_rules.specs.Record.{Row, Intent, Loaded, none_open, marked}
 use Rattle.mail_store.specs.FlatFile.{Stored, holding, counted}
 use Rattle.mail_store.specs.Mboxrd.{MayGoOn, entry_of}
 use Rattle.mail_store.specs.MboxCalls.{GoesOn, IsOther}
-use Rattle.mail_store.specs.Settling.{stands_whole, settled_file}
 use Rattle.mail_store.specs.declared.fault.StoreFault.{StoreFault}
 use Rattle.mail_store.specs.declared.fault.StoreFault.TheVariants as refused
 use Rattle.pop3_wire.specs.Bodies.{Rest}
@@ -31,31 +30,31 @@ IsStoreFault refused.NoMemory fault = fault ≡ NoMemory
 -- ---- before the first text
 
 -- the open intent, if there is one, was settled: whether its entry is whole; there is no file; a call was refused; or memory ran out
-abbrev pub SettlesIntent : Option Intent → Stored → Result Bool Fault → Stored → Type 0
-SettlesIntent None old (Ok whole) new = (whole ≡ false) × (new ≡ old)
-SettlesIntent None old (Err fault) new = ⊥
-SettlesIntent (Some intent) old (Ok whole) new = (was : List ℕ) × (old.content ≡ Some was)
-    × (whole ≡ stands_whole intent.start intent.len was) × (new ≡ holding old (settled_file intent.start intent.len was))
-SettlesIntent (Some intent) old (Err (StoreRefused Missing)) new = (old.content ≡ None) × (new ≡ old)
-SettlesIntent (Some intent) old (Err (StoreRefused Refused)) new = (new ≡ counted old)
-    ⊎ ((was : List ℕ) × (old.content ≡ Some was) × (new ≡ counted (holding old (settled_file intent.start intent.len was))))
-SettlesIntent (Some intent) old (Err NoMemory) new = new ≡ old
-SettlesIntent (Some intent) old (Err _) new = ⊥
+abbrev pub SettlesIntent : Option Intent → List Item → Stored → Result Bool Fault → Stored → Type 0
+SettlesIntent None items old (Ok whole) new = (whole ≡ false) × (new ≡ old)
+SettlesIntent None items old (Err fault) new = ⊥
+SettlesIntent (Some intent) items old (Ok whole) new = (was : List ℕ) × (old.content ≡ Some was)
+    × (whole ≡ is_stored (Some intent) items was) × (new ≡ holding old (closed_file (Some intent) items was))
+SettlesIntent (Some intent) items old (Err (StoreRefused Missing)) new = (old.content ≡ None) × (new ≡ old)
+SettlesIntent (Some intent) items old (Err (StoreRefused Refused)) new = (new ≡ counted old)
+    ⊎ ((was : List ℕ) × (old.content ≡ Some was) × (new ≡ counted (holding old (closed_file (Some intent) items was))))
+SettlesIntent (Some intent) items old (Err NoMemory) new = new ≡ old
+SettlesIntent (Some intent) items old (Err _) new = ⊥
 
 -- the file's bytes are as they were, or settled
-abbrev pub IsSettledAtMost : Option Intent → Stored → Stored → Type 0
-IsSettledAtMost intent old new = (new.content ≡ old.content)
-    ⊎ ((was : List ℕ) × (old.content ≡ Some was) × (new.content ≡ Some (closed_file intent was)))
+abbrev pub IsSettledAtMost : Option Intent → List Item → Stored → Stored → Type 0
+IsSettledAtMost intent items old new = (new.content ≡ old.content)
+    ⊎ ((was : List ℕ) × (old.content ≡ Some was) × (new.content ≡ Some (closed_file intent items was)))
 
 -- the file was settled, and an entry may follow it; there is none; a call was refused; no entry may follow; or memory ran out
 abbrev pub AsksMbox : Option Intent → Stored → List Item → Result Found Fault → Stored → Type 0
-AsksMbox intent old items (Ok found) new = (was : List ℕ) × (old.content ≡ Some was) × (found.stored ≡ is_stored intent was)
-    × (new ≡ holding old (closed_file intent was)) × MayGoOn (closed_file intent was) × (found.held.items ≡ none_held items)
+AsksMbox intent old items (Ok found) new = (was : List ℕ) × (old.content ≡ Some was) × (found.stored ≡ is_stored intent items was)
+    × (new ≡ holding old (closed_file intent items was)) × MayGoOn (closed_file intent items was) × (found.held.items ≡ none_held items)
 AsksMbox intent old items (Err (StoreRefused Missing)) new = (old.content ≡ None) × (new ≡ old)
-AsksMbox intent old items (Err (StoreRefused Refused)) new = (new.failures ≡ old.failures + 1) × IsSettledAtMost intent old new
+AsksMbox intent old items (Err (StoreRefused Refused)) new = (new.failures ≡ old.failures + 1) × IsSettledAtMost intent items old new
 AsksMbox intent old items (Err (StoreRefused NotMbox)) new = (was : List ℕ) × (old.content ≡ Some was)
-    × (MayGoOn (closed_file intent was) → ⊥) × (new ≡ holding old (closed_file intent was))
-AsksMbox intent old items (Err NoMemory) new = (new.failures ≡ old.failures) × IsSettledAtMost intent old new
+    × (MayGoOn (closed_file intent items was) → ⊥) × (new ≡ holding old (closed_file intent items was))
+AsksMbox intent old items (Err NoMemory) new = (new.failures ≡ old.failures) × IsSettledAtMost intent items old new
 AsksMbox intent old items (Err _) new = ⊥
 
 -- ---- a text

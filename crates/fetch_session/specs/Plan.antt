@@ -30,7 +30,7 @@ pub record Prepared (target : Target) (items : List Item) (now : ℕ) (place : P
   pub saved : Steady mid.file.content (none_open mid.rows)
   pub file_count : mid.file.failures ≡ file.failures
   pub place_is : mid.place ≡ place
-  pub settles : Settles target was store mid.store
+  pub settles : Settles target was items store mid.store
   pub lines_are : mid.lines ≡ lines
 
 -- it wasn't: nothing was said

@@ -92,7 +92,7 @@ pub record Foretells (settings : Settings) (target : Target) (items : List Item)
 abbrev pub Foresees : Settings → Target → List Item → ℕ → Keeping → Result Foreseen Fault → Keeping → Type 0
 Foresees settings target items now old (Ok foreseen) new =
     Foretells settings target items now old foreseen.unsettled foreseen.prospects.items × IsUntouched target old new
-Foresees settings target items now old (Err fault) new = CausesUnready target fault old.store old.file new.store new.file
+Foresees settings target items now old (Err fault) new = CausesUnready target items fault old.store old.file new.store new.file
     × IsUntouched target old new
 
 -- ---- the session
@@ -123,7 +123,7 @@ pub record NotReady (settings : Settings) (target : Target) (old : Place) (befor
   pub fault : Fault
   pub is : cut ≡ cut_of fault None
   pub enters : Enters_with settings old (Ok items) new
-  pub cause : CausesUnready target fault before.store before.file after.store after.file
+  pub cause : CausesUnready target items fault before.store before.file after.store after.file
   pub nothing : told ≡ told_nothing (length items)
 
 -- the preview says what would be done with the listed messages, and QUIT was sent

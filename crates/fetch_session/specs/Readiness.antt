@@ -42,14 +42,14 @@ FindsIn (AsFiles account) intent old items (Err fault) new = FindsRefused old.ma
 FindsIn AsEntries intent old items result new = AsksMbox intent old.mbox items result new.mbox
 
 -- the store was asked, and in an mboxrd file what the open intent had left was cut off or counted
-abbrev pub Settles : Target → Held → Stores → Stores → Type 0
-Settles (AsFiles account) was old new = new ≡ old
-Settles AsEntries was old new = (bytes : List ℕ) × (old.mbox.content ≡ Some bytes)
-    × (new.mbox ≡ holding old.mbox (closed_file was.intent bytes)) × MayGoOn (closed_file was.intent bytes)
+abbrev pub Settles : Target → Held → List Item → Stores → Stores → Type 0
+Settles (AsFiles account) was items old new = new ≡ old
+Settles AsEntries was items old new = (bytes : List ℕ) × (old.mbox.content ≡ Some bytes)
+    × (new.mbox ≡ holding old.mbox (closed_file was.intent items bytes)) × MayGoOn (closed_file was.intent items bytes)
 
 -- the record once its open intent was ended and the listing merged into it
 abbrev pub merged_in : Target → Stores → Held → List Item → ℕ → List Row
-merged_in target store was items now = merged (rows_in target store was) items (flags_in target store items) now
+merged_in target store was items now = merged (rows_in target store was items) items (flags_in target store items) now
 
 -- what the store holds can change neither the record nor what is done: each listed id is recorded as delivered, and the steps that are
 -- planned neither fetch nor delete anything
@@ -92,7 +92,7 @@ pub record IsReady (settings : Settings) (target : Target) (items : List Item) (
   pub steps : ready.steps.items ≡ planned settings after items now
   pub saved : Steady file'.content (none_open after)
   pub file_count : file'.failures ≡ file.failures
-  pub settles : Settles target was store store'
+  pub settles : Settles target was items store store'
 
 -- why it isn't ready
 abbrev pub UnreadyCause : Fault → Maildir → Stored → Maildir → Stored → Type 0
@@ -105,33 +105,33 @@ UnreadyCause NoMemory maildir file maildir' file' = maildir' ≡ maildir
 UnreadyCause _ maildir file maildir' file' = ⊥
 
 -- the mboxrd file is as it was, or settled by the intent of the record that was read
-abbrev pub IsSettledBy : Stored → Stored → Stored → Type 0
-IsSettledBy file mbox mbox' = (mbox'.content ≡ mbox.content)
-    ⊎ ((was : Held) × Keeps file.content was × IsSettledAtMost was.intent mbox mbox')
+abbrev pub IsSettledBy : List Item → Stored → Stored → Stored → Type 0
+IsSettledBy items file mbox mbox' = (mbox'.content ≡ mbox.content)
+    ⊎ ((was : Held) × Keeps file.content was × IsSettledAtMost was.intent items mbox mbox')
 
-abbrev pub MboxUnready : Fault → Stored → Stored → Stored → Stored → Type 0
-MboxUnready SeenRefused mbox file mbox' file' = (file.failures < file'.failures) × IsSettledBy file mbox mbox'
-MboxUnready (BadSeen line) mbox file mbox' file' = Misread file line file' × (mbox' ≡ mbox)
-MboxUnready (StoreRefused Missing) mbox file mbox' file' = (mbox.content ≡ None) × (mbox' ≡ mbox)
-MboxUnready (StoreRefused Refused) mbox file mbox' file' = (mbox.failures < mbox'.failures) × IsSettledBy file mbox mbox'
-MboxUnready (StoreRefused NotMbox) mbox file mbox' file' = ((bytes : List ℕ) × (mbox'.content ≡ Some bytes) × (MayGoOn bytes → ⊥))
-    × IsSettledBy file mbox mbox'
-MboxUnready NoMemory mbox file mbox' file' = IsSettledBy file mbox mbox'
-MboxUnready _ mbox file mbox' file' = ⊥
+abbrev pub MboxUnready : List Item → Fault → Stored → Stored → Stored → Stored → Type 0
+MboxUnready items SeenRefused mbox file mbox' file' = (file.failures < file'.failures) × IsSettledBy items file mbox mbox'
+MboxUnready items (BadSeen line) mbox file mbox' file' = Misread file line file' × (mbox' ≡ mbox)
+MboxUnready items (StoreRefused Missing) mbox file mbox' file' = (mbox.content ≡ None) × (mbox' ≡ mbox)
+MboxUnready items (StoreRefused Refused) mbox file mbox' file' = (mbox.failures < mbox'.failures) × IsSettledBy items file mbox mbox'
+MboxUnready items (StoreRefused NotMbox) mbox file mbox' file' = ((bytes : List ℕ) × (mbox'.content ≡ Some bytes) × (MayGoOn bytes → ⊥))
+    × IsSettledBy items file mbox mbox'
+MboxUnready items NoMemory mbox file mbox' file' = IsSettledBy items file mbox mbox'
+MboxUnready items _ mbox file mbox' file' = ⊥
 
-abbrev pub CausesUnready : Target → Fault → Stores → Stored → Stores → Stored → Type 0
-CausesUnready (AsFiles account) fault store file store' file' = UnreadyCause fault store.maildir file store'.maildir file'
-CausesUnready AsEntries fault store file store' file' = MboxUnready fault store.mbox file store'.mbox file'
+abbrev pub CausesUnready : Target → List Item → Fault → Stores → Stored → Stores → Stored → Type 0
+CausesUnready (AsFiles account) items fault store file store' file' = UnreadyCause fault store.maildir file store'.maildir file'
+CausesUnready AsEntries items fault store file store' file' = MboxUnready items fault store.mbox file store'.mbox file'
 
 -- the file is as it was; or the store was settled first, and the file stands for the record or for the merged one
 abbrev pub IsMergedAtMost : Target → List Item → ℕ → Stores → Stored → Stores → Stored → Type 0
 IsMergedAtMost target items now store file store' file' = (file'.content ≡ file.content)
-    ⊎ ((was : Held) × Keeps file.content was × Settles target was store store' × (Keeps file'.content was
+    ⊎ ((was : Held) × Keeps file.content was × Settles target was items store store' × (Keeps file'.content was
     ⊎ Keeps file'.content (none_open (merged_in target store was items now))))
 
 pub record Unready (target : Target) (items : List Item) (now : ℕ) (store : Stores) (file : Stored)
     (fault : Fault) (store' : Stores) (file' : Stored) : Type 0 where
-  pub cause : CausesUnready target fault store file store' file'
+  pub cause : CausesUnready target items fault store file store' file'
   pub content : IsMergedAtMost target items now store file store' file'
 
 abbrev pub Readies : Settings → Target → List Item → ℕ → Stores → Stored → Result Ready Fault → List Row → Stores → Stored → Type 0

@@ -8,7 +8,7 @@ use Rattle.mail_store.specs.declared.file.flat_file.FlatFile.{Ghosts as FileGhos
 use Rattle.mail_store.specs.FlatFile.{Stored}
 use Rattle.mail_store.specs.Held.{flags_of}
 use Rattle.mail_store.specs.Maildir.{File, IsPart, Maildir, with_files}
-use Rattle.mail_store.specs.Settling.{stands_whole, settled_file}
+use Rattle.mail_store.specs.Settling.{listed_size, stands_whole, settled_file}
 use Rattle.fetch_session.specs.declared.account.Store.{Store}
 use Rattle.fetch_session.specs.declared.account.Store.TheVariants.{Maildir as InMaildir, Mboxrd as InMbox}
 
@@ -103,15 +103,15 @@ abbrev pub flags_in : Target → Stores → List Item → List Bool
 flags_in (AsFiles account) store items = flags_of account store.maildir items
 flags_in AsEntries store items = none_held items
 
--- whether the entry of an open intent is whole in a file
-abbrev pub is_stored : Option Intent → List ℕ → Bool
-is_stored None bytes = false
-is_stored (Some intent) bytes = stands_whole intent.start intent.len bytes
+-- whether the entry of an open intent is whole in a file, by what is listed
+abbrev pub is_stored : Option Intent → List Item → List ℕ → Bool
+is_stored None items bytes = false
+is_stored (Some intent) items bytes = stands_whole intent.start intent.len (listed_size items intent.uid) bytes
 
 -- the file once the open intent is closed
-abbrev pub closed_file : Option Intent → List ℕ → List ℕ
-closed_file None bytes = bytes
-closed_file (Some intent) bytes = settled_file intent.start intent.len bytes
+abbrev pub closed_file : Option Intent → List Item → List ℕ → List ℕ
+closed_file None items bytes = bytes
+closed_file (Some intent) items bytes = settled_file intent.start intent.len (listed_size items intent.uid) bytes
 
 -- the bytes of an mboxrd file; none if it isn't there
 abbrev pub mail_in : Option (List ℕ) → List ℕ
@@ -119,6 +119,6 @@ mail_in None = []
 mail_in (Some bytes) = bytes
 
 -- the rows of a record once its open intent is closed
-abbrev pub rows_in : Target → Stores → Held → List Row
-rows_in (AsFiles account) store was = was.rows
-rows_in AsEntries store was = closed_rows (is_stored was.intent (mail_in store.mbox.content)) was.rows was.intent
+abbrev pub rows_in : Target → Stores → Held → List Item → List Row
+rows_in (AsFiles account) store was items = was.rows
+rows_in AsEntries store was items = closed_rows (is_stored was.intent items (mail_in store.mbox.content)) was.rows was.intent

@@ -24,7 +24,8 @@ use fetch_rules::{
     listed_has_row, plan, plan_of_known,
 };
 use mail_store::{
-    AccountId, FlatFile, Folder, MaildirDisk, StoreFault, check_mbox, held, peek_mbox, settle_file,
+    AccountId, FlatFile, Folder, MaildirDisk, StoreFault, check_mbox, held, listed_size,
+    peek_mbox, settle_file,
 };
 use std::alloc::{AllocError, Global};
 use std::hash::BuildHasher;
@@ -126,21 +127,23 @@ pub(crate) fn ask_held<D: MaildirDisk>(
     }
 }
 
-/// Settles the open intent of the record in the mboxrd file, and returns whether its entry is
-/// whole. If no intent is open, the file isn't asked.
+/// Settles the open intent of the record in the mboxrd file, by the size that is listed for its
+/// message, and returns whether its entry is whole. If no intent is open, the file isn't asked.
 fn settle<F: FlatFile, H: BuildHasher>(
     alloc: Global,
     mbox: &mut F,
     seen: &Seen<H>,
+    listing: &Listing,
 ) -> Result<bool, Fault>
     ensures settles { F.sound mbox.new → F.sound mbox.old
-        × SettlesIntent seen.now.intent (F.stored mbox.old) result (F.stored mbox.new) }
+        × SettlesIntent seen.now.intent listing.now (F.stored mbox.old) result (F.stored mbox.new) }
     ensures lasts { F.sound mbox.new → F.is_sure mbox.old → OnOk result (F.is_sure mbox.new) }
 {
     let Some(intent) = seen.intent() else {
         return Ok(false);
     };
-    match settle_file(alloc, mbox, intent.start, intent.len) {
+    let listed = listed_size(listing, intent.uid);
+    match settle_file(alloc, mbox, intent.start, intent.len, listed) {
         Ok(whole) => Ok(whole),
         Err(fault) => Err(refused(fault)),
     }
@@ -159,7 +162,7 @@ fn ask_mbox<F: FlatFile, H: BuildHasher>(
         × AsksMbox seen.now.intent (F.stored mbox.old) listing.now result (F.stored mbox.new) }
     ensures lasts { F.sound mbox.new → F.is_sure mbox.old → OnOk result (IsSafe F.FlatFile mbox.new) }
 {
-    let stored = match settle(alloc, mbox, seen) {
+    let stored = match settle(alloc, mbox, seen, listing) {
         Ok(stored) => stored,
         Err(fault) => return Err(fault),
     };
