@@ -81,14 +81,14 @@ can_end filtered frame before settings come now is same =
 pub mbox_can_end : DistinctAreFiltered → MboxCanEnd
 mbox_can_end filtered frame before settings come now world same only_new =
     let here : List Message = maildrop_of frame.all come before.gone in
-    let rows : List Row = merged (settled before.account).rows (listing_of here) (none_held (listing_of here)) now in
+    let rows : List Row = merged (settled (listing_of here) before.account).rows (listing_of here) (none_held (listing_of here)) now in
     let effect : Effect = all_fetched now settings rows here in
     let n : ℕ = length effect.texts in
     let can = can_fetch filtered frame.all world come before.gone now settings rows in
     let after : MboxAccount = record {
       rows = marked_all rows (ids_wanted (take n (wanted settings rows (listing_of here))));
       intent = None;
-      file = (settled before.account).file ++ entries (take n effect.texts);
+      file = (settled (listing_of here) before.account).file ++ entries (take n effect.texts);
     } in
     let stores : MboxStores settings before.account effect after = record {
       stored = n;

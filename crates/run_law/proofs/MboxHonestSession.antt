@@ -38,15 +38,15 @@ module _ (drop : List Message) (settings : Settings) (before : MboxAccount) (eff
     (honest : IsHonest (mbox_wanted settings before effect) drop effect) where
   -- what comes after the whole entries
   abbrev Tail : Type 0
-  Tail = (rest : List ℕ) × (after.file ≡ (settled before).file ++ (entries (take s.stored effect.texts) ++ rest))
+  Tail = (rest : List ℕ) × (after.file ≡ (settled effect.listing before).file ++ (entries (take s.stored effect.texts) ++ rest))
       × ((rest ≡ []) ⊎ ((next : Message) × (behind : List ℕ) × IsIn drop next × (entry_of next.text ≡ rest ++ behind)))
 
-  tail_of : IsClosed ((settled before).file ++ entries (take s.stored effect.texts)) after ⊎ IsBroken settings before effect s.stored after → Tail
-  tail_of (inl closed) = ([], closed.file ∙ ap (λ l. (settled before).file ++ l) (sym (append-nil (entries (take s.stored effect.texts)))), inl refl)
+  tail_of : IsClosed ((settled effect.listing before).file ++ entries (take s.stored effect.texts)) after ⊎ IsBroken settings before effect s.stored after → Tail
+  tail_of (inl closed) = ([], closed.file ∙ ap (λ l. (settled effect.listing before).file ++ l) (sym (append-nil (entries (take s.stored effect.texts)))), inl refl)
   tail_of (inr broken) =
       let at = text_at drop (mbox_wanted settings before effect) effect.texts s.stored broken.text honest.texts broken.got in (
         broken.opened.front,
-        broken.opened.file ∙ append_assoc (settled before).file (entries (take s.stored effect.texts)) broken.opened.front,
+        broken.opened.file ∙ append_assoc (settled effect.listing before).file (entries (take s.stored effect.texts)) broken.opened.front,
         inr (at.0, broken.opened.behind, at.1, sym (ap entry_of at.2) ∙ broken.opened.entry),
       )
 
@@ -60,7 +60,7 @@ module _ (drop : List Message) (settings : Settings) (before : MboxAccount) (eff
         messages = take s.stored found.0;
         each = all_take (IsIn drop) s.stored found.0 found.1;
         rest = tail.0;
-        file = tail.1 ∙ ap (λ l. (settled before).file ++ (l ++ tail.0)) stored;
+        file = tail.1 ∙ ap (λ l. (settled effect.listing before).file ++ (l ++ tail.0)) stored;
         at_most = tail.2;
       }
 

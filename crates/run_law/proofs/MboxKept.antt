@@ -15,7 +15,7 @@ use Rattle.fetch_rules.specs.Intents.{closed_rows}
 use Rattle.fetch_rules.specs.Wanted.{DistinctAreFiltered, wanted, candidates}
 use Rattle.mail_terms.specs.Listing.{Item, has_item}
 use Rattle.mail_store.specs.Mboxrd.{entry_of, MboxFile, EntryAddsText}
-use Rattle.mail_store.specs.Settling.{stands_whole, settled_file, FrontsAreSettled}
+use Rattle.mail_store.specs.Settling.{listed_size, stands_whole, settled_file, FrontsAreSettled}
 use Rattle.run_law.specs.Mails.{ids_of, is_selected, selected}
 use Rattle.run_law.specs.Steps.{IsHonest, AreTexts, ids_wanted}
 use Rattle.run_law.specs.Runs.{past_limit}
@@ -38,13 +38,13 @@ entries-append ms ns = ap entries (map-append (λ (m : Message). m.text) ms ns) 
 -- ---- a state that is settled
 
 -- no intent is open: the file ends after the entries of what is recorded
-pub record IsSettled (frame : MboxFrame) (account : MboxAccount) (old : List Message) : Type 0 where
+pub record IsSettled (frame : MboxFrame) (listing : List Item) (account : MboxAccount) (old : List Message) : Type 0 where
   pub done : List Message
   pub rest : List Message
   pub prefix : selected frame.max_size frame.all ≡ (frame.had ++ done) ++ rest
-  pub recorded : (id : List ℕ) → is_delivered (settled account).rows id ≡ has_id (ids_of (frame.had ++ done)) id
+  pub recorded : (id : List ℕ) → is_delivered (settled listing account).rows id ≡ has_id (ids_of (frame.had ++ done)) id
   pub more : (id : List ℕ) → has_id (ids_of (frame.had ++ old)) id ≡ true → has_id (ids_of (frame.had ++ done)) id ≡ true
-  pub file : (settled account).file ≡ frame.start ++ entries_of done
+  pub file : (settled listing account).file ≡ frame.start ++ entries_of done
 
 with_next : (frame : MboxFrame) (done : List Message) (m : Message) (id : List ℕ)
     → has_id (ids_of (frame.had ++ (done ++ m ∷ []))) id ≡ (has_id (ids_of (frame.had ++ done)) id || bytes_eq id m.uid)
@@ -62,23 +62,23 @@ next_whole frame state world kept next more is =
     (subst (AllByRecursion (λ (m : Message). IsWhole m.text)) (kept.prefix ∙ ap (λ l. (frame.had ++ kept.done) ++ l) is) (selected_whole frame world))).0
 
 -- what settling makes of an account with this open intent
-settled_is : (bytes uid text : List ℕ) (account : MboxAccount) → (o : IsOpen bytes uid text account)
-    → ((settled account).rows ≡ cond (stands_whole (length bytes) (length (entry_of text)) (bytes ++ o.front)) (marked account.rows uid) account.rows)
-    × ((settled account).file ≡ settled_file (length bytes) (length (entry_of text)) (bytes ++ o.front))
-settled_is bytes uid text account o = (
-  ap (λ i. closed_rows (is_stored i account.file) account.rows i) o.intent
-      ∙ ap (λ f. closed_rows (is_stored (Some (intent_of bytes uid text)) f) account.rows (Some (intent_of bytes uid text))) o.file,
-  ap (λ i. closed_file i account.file) o.intent ∙ ap (closed_file (Some (intent_of bytes uid text))) o.file,
+settled_is : (bytes uid text : List ℕ) (listing : List Item) (account : MboxAccount) → (o : IsOpen bytes uid text account)
+    → ((settled listing account).rows ≡ cond (stands_whole (length bytes) (length (entry_of text)) (listed_size listing uid) (bytes ++ o.front)) (marked account.rows uid) account.rows)
+    × ((settled listing account).file ≡ settled_file (length bytes) (length (entry_of text)) (listed_size listing uid) (bytes ++ o.front))
+settled_is bytes uid text listing account o = (
+  ap (λ i. closed_rows (is_stored i listing account.file) account.rows i) o.intent
+      ∙ ap (λ f. closed_rows (is_stored (Some (intent_of bytes uid text)) listing f) account.rows (Some (intent_of bytes uid text))) o.file,
+  ap (λ i. closed_file i listing account.file) o.intent ∙ ap (closed_file (Some (intent_of bytes uid text)) listing) o.file,
 )
 
-pub settle : FrontsAreSettled → RowLaws → (frame : MboxFrame) (state : MboxSituation) → IsWorld frame.all → (kept : MboxKept frame state) → IsSettled frame state.account kept.done
-settle fronts laws frame state world kept = elim kept.stands [
-  | inl closed ↦ no_more (ap (λ i. closed_rows (is_stored i state.account.file) state.account.rows i) closed.intent) (ap (λ i. closed_file i state.account.file) closed.intent ∙ closed.file)
+pub settle : FrontsAreSettled → RowLaws → (frame : MboxFrame) (listing : List Item) (state : MboxSituation) → IsWorld frame.all → (kept : MboxKept frame state) → IsSettled frame listing state.account kept.done
+settle fronts laws frame listing state world kept = elim kept.stands [
+  | inl closed ↦ no_more (ap (λ i. closed_rows (is_stored i listing state.account.file) state.account.rows i) closed.intent) (ap (λ i. closed_file i listing state.account.file) closed.intent ∙ closed.file)
   | inr o ↦
       let bytes : List ℕ = frame.start ++ entries_of kept.done in
-      let is = settled_is bytes o.next.uid o.next.text state.account o.opened in
+      let is = settled_is bytes o.next.uid o.next.text listing state.account o.opened in
       let rows = λ (b : Bool). cond b (marked state.account.rows o.next.uid) state.account.rows in
-      elim (fronts bytes o.next.text o.opened.front o.opened.behind (next_whole frame state world kept o.next o.more o.is_next) o.opened.entry) [
+      elim (fronts bytes o.next.text o.opened.front o.opened.behind (listed_size listing o.next.uid) (next_whole frame state world kept o.next o.more o.is_next) o.opened.entry) [
         | inl whole ↦ record {
           done = kept.done ++ o.next ∷ [];
           rest = o.more;
@@ -97,20 +97,20 @@ settle fronts laws frame state world kept = elim kept.stands [
       ]
 ]
   where
-    no_more : (settled state.account).rows ≡ state.account.rows → (settled state.account).file ≡ frame.start ++ entries_of kept.done → IsSettled frame state.account kept.done
+    no_more : (settled listing state.account).rows ≡ state.account.rows → (settled listing state.account).file ≡ frame.start ++ entries_of kept.done → IsSettled frame listing state.account kept.done
     no_more rows file = record { done = kept.done; rest = kept.rest; prefix = kept.prefix; recorded = λ id. ap (λ r. is_delivered r id) rows ∙ kept.recorded id; more = λ id e. e; file = file }
 
 -- ---- an account that is left, its file perhaps cut back
 
-reopened : FrontsAreSettled → (bytes uid text : List ℕ) (before after : MboxAccount) → IsWhole text → IsOpen bytes uid text before → after.intent ≡ before.intent
-    → after.file ≡ (settled before).file → IsOpen bytes uid text after
-reopened fronts bytes uid text before after whole-text o i f = elim (fronts bytes text o.front o.behind whole-text o.entry) [
+reopened : FrontsAreSettled → (bytes uid text : List ℕ) (listing : List Item) (before after : MboxAccount) → IsWhole text → IsOpen bytes uid text before → after.intent ≡ before.intent
+    → after.file ≡ (settled listing before).file → IsOpen bytes uid text after
+reopened fronts bytes uid text listing before after whole-text o i f = elim (fronts bytes text o.front o.behind (listed_size listing uid) whole-text o.entry) [
   | inl whole ↦ record { intent = i ∙ o.intent; front = o.front; behind = o.behind; entry = o.entry; file = cut ∙ whole.1 }
   | inr part ↦ record { intent = i ∙ o.intent; front = []; behind = entry_of text; entry = refl; file = cut ∙ part.1 ∙ sym (append-nil bytes) }
 ]
   where
-    cut : after.file ≡ settled_file (length bytes) (length (entry_of text)) (bytes ++ o.front)
-    cut = f ∙ (settled_is bytes uid text before o).1
+    cut : after.file ≡ settled_file (length bytes) (length (entry_of text)) (listed_size listing uid) (bytes ++ o.front)
+    cut = f ∙ (settled_is bytes uid text listing before o).1
 
 left_kept : FrontsAreSettled → (frame : MboxFrame) (before : MboxSituation) (v : MboxVisit) → IsWorld frame.all → MboxKept frame before → MboxLeaves before.account v.effect v.after
     → AllByRecursion (λ id. has_id v.effect.begun id ≡ true) v.vanished → MboxKept frame (after_visit before v)
@@ -123,7 +123,7 @@ left_kept fronts frame before v world kept h vanished = record {
   stands = elim kept.stands [
     | inl closed ↦ inl (record {
       intent = h.intent ∙ closed.intent;
-      file = grind (arith, h.file, closed.file, ap (λ i. closed_file i before.account.file) closed.intent);
+      file = grind (arith, h.file, closed.file, ap (λ i. closed_file i v.effect.listing before.account.file) closed.intent);
     })
     | inr o ↦ inr (record {
       next = o.next;
@@ -131,7 +131,7 @@ left_kept fronts frame before v world kept h vanished = record {
       is_next = o.is_next;
       opened = elim h.file [
         | inl same ↦ record { intent = h.intent ∙ o.opened.intent; front = o.opened.front; behind = o.opened.behind; entry = o.opened.entry; file = same ∙ o.opened.file }
-        | inr cut ↦ reopened fronts (frame.start ++ entries_of kept.done) o.next.uid o.next.text before.account v.after (next_whole frame before world kept o.next o.more o.is_next) o.opened h.intent cut
+        | inr cut ↦ reopened fronts (frame.start ++ entries_of kept.done) o.next.uid o.next.text v.effect.listing before.account v.after (next_whole frame before world kept o.next o.more o.is_next) o.opened h.intent cut
       ];
       row = ap (λ r. has_row r o.next.uid) h.rows ∙ o.row;
     })
@@ -209,14 +209,14 @@ module _ (fronts : FrontsAreSettled) (laws : RowLaws) (filtered : DistinctAreFil
   abbrev here : List Message
   here = mbox_shown frame before v
 
-  origin : IsSettled frame before.account kept.done
-  origin = settle fronts laws frame before world kept
+  origin : IsSettled frame v.effect.listing before.account kept.done
+  origin = settle fronts laws frame v.effect.listing before world kept
 
   abbrev scene : Scene
   scene = record { all = frame.all; gone = before.gone; come = v.come; settings = v.settings; rows = rows; done = frame.had ++ origin.done; rest = origin.rest }
 
   known : (id : List ℕ) → is_delivered rows id ≡ core.is_done scene id
-  known id = delivered_unheld laws (settled before.account).rows v.effect.listing v.effect.now id ∙ origin.recorded id
+  known id = delivered_unheld laws (settled v.effect.listing before.account).rows v.effect.listing v.effect.now id ∙ origin.recorded id
 
   is_scene : IsScene scene
   is_scene = record {
@@ -252,7 +252,7 @@ module _ (fronts : FrontsAreSettled) (laws : RowLaws) (filtered : DistinctAreFil
   has_rows : (n : ℕ) → AllByRecursion (λ (m : Message). has_row rows m.uid ≡ true) (take n ws)
   has_rows n = all_take (λ (m : Message). has_row rows m.uid ≡ true) n ws
       (all_map (λ (m : Message). has_id (ids_of here) m.uid ≡ true) (λ (m : Message). has_row rows m.uid ≡ true)
-      (λ m e. laws.listed (settled before.account).rows v.effect.listing (none_held v.effect.listing) v.effect.now m.uid
+      (λ m e. laws.listed (settled v.effect.listing before.account).rows v.effect.listing (none_held v.effect.listing) v.effect.now m.uid
       ∙ or_right _ _ (ap (λ l. has_item l m.uid) honest.listing ∙ has_listed here m.uid ∙ e))
       ws (core.fetched_here scene is_scene))
 
@@ -269,7 +269,7 @@ module _ (fronts : FrontsAreSettled) (laws : RowLaws) (filtered : DistinctAreFil
   appended = ap entries (texts_taken here qs v.effect.texts s.stored (wants_placed v.settings rows here) texts_are s.fetched
       ∙ ap (map (λ (m : Message). m.text)) (core.taken_is scene is_scene s.stored))
 
-  bytes_are : (settled before.account).file ++ entries (take s.stored v.effect.texts) ≡ frame.start ++ entries_of (origin.done ++ take s.stored ws)
+  bytes_are : (settled v.effect.listing before.account).file ++ entries (take s.stored v.effect.texts) ≡ frame.start ++ entries_of (origin.done ++ take s.stored ws)
   bytes_are = rw (origin.file, appended, entries-append origin.done (take s.stored ws)) (append_assoc frame.start (entries_of origin.done) (entries_of (take s.stored ws)))
 
   -- ---- the next state

@@ -232,16 +232,16 @@ has_text (suc n) (q ∷ qs) (t ∷ ts) id less is = elim (or_cases _ _ is) [
 
 -- what comes after the entries
 pub tail_of : (settings : Settings) (before : MboxAccount) (effect : Effect) (after : MboxAccount) → (s : MboxStores settings before effect after)
-    → (rest : List ℕ) × (after.file ≡ (settled before).file ++ (entries (take s.stored effect.texts) ++ rest))
+    → (rest : List ℕ) × (after.file ≡ (settled effect.listing before).file ++ (entries (take s.stored effect.texts) ++ rest))
 tail_of settings before effect after s = elim s.ending [
-  | inl closed ↦ ([], closed.file ∙ ap (λ l. (settled before).file ++ l) (sym (append-nil (entries (take s.stored effect.texts)))))
-  | inr broken ↦ (broken.opened.front, broken.opened.file ∙ append_assoc (settled before).file (entries (take s.stored effect.texts)) broken.opened.front)
+  | inl closed ↦ ([], closed.file ∙ ap (λ l. (settled effect.listing before).file ++ l) (sym (append-nil (entries (take s.stored effect.texts)))))
+  | inr broken ↦ (broken.opened.front, broken.opened.file ∙ append_assoc (settled effect.listing before).file (entries (take s.stored effect.texts)) broken.opened.front)
 ]
 
 module _ (laws : RowLaws) (settings : Settings) (before : MboxAccount) (effect : Effect) (after : MboxAccount) (s : MboxStores settings before effect after) where
-  kept_id : (id : List ℕ) → is_delivered after.rows id ≡ true → (is_delivered (settled before).rows id ≡ true) ⊎ HasText (mbox_wanted settings before effect) effect.texts id (entries (take s.stored effect.texts))
+  kept_id : (id : List ℕ) → is_delivered after.rows id ≡ true → (is_delivered (settled effect.listing before).rows id ≡ true) ⊎ HasText (mbox_wanted settings before effect) effect.texts id (entries (take s.stored effect.texts))
   kept_id id e = elim (delivered_marked laws.marks (mbox_rows before effect) (ids_wanted (take s.stored (mbox_wanted settings before effect))) id (ap (λ r. is_delivered r id) (sym s.rows) ∙ e)) [
-    | inl known ↦ inl (sym (delivered_unheld laws (settled before).rows effect.listing effect.now id) ∙ known)
+    | inl known ↦ inl (sym (delivered_unheld laws (settled effect.listing before).rows effect.listing effect.now id) ∙ known)
     | inr stored ↦ inr (has_text s.stored (mbox_wanted settings before effect) effect.texts id s.fetched stored)
   ]
 
@@ -262,7 +262,7 @@ module _ (laws : RowLaws) (settings : Settings) (before : MboxAccount) (effect :
             id_is = t.id_is;
             front = t.front;
             behind = t.behind ++ tail.0;
-            stands = tail.1 ∙ ap (λ l. (settled before).file ++ (l ++ tail.0)) t.stands ∙ simp append_assoc;
+            stands = tail.1 ∙ ap (λ l. (settled effect.listing before).file ++ (l ++ tail.0)) t.stands ∙ simp append_assoc;
           })
     ],
   )
@@ -283,7 +283,7 @@ mbox_sessions_are_safe laws settings before sent got effect after session =
       file = elim session.step [
         | inl (leaves, none) ↦ elim leaves.file [
           | inl same ↦ inl same
-          | inr cut ↦ inr ([], cut ∙ sym (append-nil (settled before).file))
+          | inr cut ↦ inr ([], cut ∙ sym (append-nil (settled effect.listing before).file))
         ]
         | inr (stores, reads) ↦ inr (_, (tail_of settings before effect after stores).1)
       ];

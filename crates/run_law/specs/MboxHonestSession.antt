@@ -22,7 +22,7 @@ pub record AppendsMessages (drop : List Message) (before : MboxAccount) (effect 
   pub messages : List Message
   pub each : AllByRecursion (IsIn drop) messages
   pub rest : List ℕ
-  pub file : after.file ≡ (settled before).file ++ (entries_of messages ++ rest)
+  pub file : after.file ≡ (settled effect.listing before).file ++ (entries_of messages ++ rest)
   pub at_most : (rest ≡ []) ⊎ ((next : Message) × (behind : List ℕ) × IsIn drop next × (entry_of next.text ≡ rest ++ behind))
 
 -- a law: if the conversation is honest, a session asked for no message, or appended messages of the maildrop and

@@ -26,20 +26,20 @@ pub record WasAppended (settings : Settings) (before : MboxAccount) (effect : Ef
   pub id_is : message.1.uid ≡ id
   pub front : List ℕ
   pub behind : List ℕ
-  pub stands : after.file ≡ (settled before).file ++ (front ++ (entry_of text ++ behind))
+  pub stands : after.file ≡ (settled effect.listing before).file ++ (front ++ (entry_of text ++ behind))
 
 -- a DELE gives the number, counted from 1, of a message that the settled record shows as delivered, or whose
 -- entry the session appended; no other command deletes
 abbrev pub MboxDeletesKept : Settings → MboxAccount → Effect → MboxAccount → Command → Type 0
 MboxDeletesKept settings before effect after (Dele number) =
     (0 < number) × (item : Item) × (slice_get effect.listing (number - 1) ≡ Some item)
-    × ((is_delivered (settled before).rows item.uid ≡ true) ⊎ WasAppended settings before effect after number item.uid)
+    × ((is_delivered (settled effect.listing before).rows item.uid ≡ true) ⊎ WasAppended settings before effect after number item.uid)
 MboxDeletesKept settings before effect after _ = Unit {0}
 
 -- the file is as it was, or begins with what it held after it was settled; and each DELE that was sent, the
 -- last perhaps in part, asks for such a message
 pub record MboxIsSafe (settings : Settings) (before : MboxAccount) (sent : List ℕ) (effect : Effect) (after : MboxAccount) : Type 0 where
-  pub file : (after.file ≡ before.file) ⊎ ((more : List ℕ) × (after.file ≡ (settled before).file ++ more))
+  pub file : (after.file ≡ before.file) ⊎ ((more : List ℕ) × (after.file ≡ (settled effect.listing before).file ++ more))
   pub commands : List Command
   pub asked : Asked commands sent
   pub deletes : AllByRecursion (MboxDeletesKept settings before effect after) commands

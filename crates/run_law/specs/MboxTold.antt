@@ -10,7 +10,7 @@ use Rattle.run_law.specs.Mboxes.{MboxAccount, settled, mbox_rows, mbox_wanted, e
 
 -- the settled file, with the entries of the first n texts appended
 abbrev pub bytes_at : MboxAccount → Effect → ℕ → List ℕ
-bytes_at before effect n = (settled before).file ++ entries (take n effect.texts)
+bytes_at before effect n = (settled effect.listing before).file ++ entries (take n effect.texts)
 
 -- the intent of the wanted message at this place is open
 pub record OpensAt (settings : Settings) (before : MboxAccount) (effect : Effect) (n : ℕ) (text : List ℕ)

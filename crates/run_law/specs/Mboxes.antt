@@ -8,7 +8,7 @@ use Rattle.fetch_rules.specs.Intents.{closed_rows}
 use Rattle.fetch_rules.specs.Wanted.{wanted}
 use Rattle.rc_file.specs.declared.settings.Settings.{Settings}
 use Rattle.mail_store.specs.Mboxrd.{entry_of}
-use Rattle.mail_store.specs.Settling.{stands_whole, settled_file}
+use Rattle.mail_store.specs.Settling.{listed_size, stands_whole, settled_file}
 use Rattle.run_law.specs.Steps.{Effect, ids_wanted}
 
 -- the rows of the record and its open intent, and the mboxrd file
@@ -17,22 +17,22 @@ pub record MboxAccount : Type 0 where
   pub intent : Option Intent
   pub file : List ℕ
 
--- whether the whole entry of an open intent is in the file
-abbrev pub is_stored : Option Intent → List ℕ → Bool
-is_stored None file = false
-is_stored (Some intent) file = stands_whole intent.start intent.len file
+-- whether the whole entry of an open intent is in the file, by what is listed
+abbrev pub is_stored : Option Intent → List Item → List ℕ → Bool
+is_stored None listing file = false
+is_stored (Some intent) listing file = stands_whole intent.start intent.len (listed_size listing intent.uid) file
 
 -- the file after the open intent is closed
-abbrev pub closed_file : Option Intent → List ℕ → List ℕ
-closed_file None file = file
-closed_file (Some intent) file = settled_file intent.start intent.len file
+abbrev pub closed_file : Option Intent → List Item → List ℕ → List ℕ
+closed_file None listing file = file
+closed_file (Some intent) listing file = settled_file intent.start intent.len (listed_size listing intent.uid) file
 
--- the account after the open intent is closed
-abbrev pub settled : MboxAccount → MboxAccount
-settled account = record {
-  rows = closed_rows (is_stored account.intent account.file) account.rows account.intent;
+-- the account after the open intent is closed, by what is listed
+abbrev pub settled : List Item → MboxAccount → MboxAccount
+settled listing account = record {
+  rows = closed_rows (is_stored account.intent listing account.file) account.rows account.intent;
   intent = None;
-  file = closed_file account.intent account.file;
+  file = closed_file account.intent listing account.file;
 }
 
 -- no message counts as held; only the record knows them
@@ -41,7 +41,7 @@ none_held listing = map (λ _. false) listing
 
 -- the record after it was settled and the listing was merged into it
 abbrev pub mbox_rows : MboxAccount → Effect → List Row
-mbox_rows before effect = merged (settled before).rows effect.listing (none_held effect.listing) effect.now
+mbox_rows before effect = merged (settled effect.listing before).rows effect.listing (none_held effect.listing) effect.now
 
 abbrev pub mbox_wanted : Settings → MboxAccount → Effect → List (ℕ × Item)
 mbox_wanted settings before effect = wanted settings (mbox_rows before effect) effect.listing
@@ -72,7 +72,7 @@ pub record IsOpen (bytes uid text : List ℕ) (account : MboxAccount) : Type 0 w
 pub record MboxLeaves (before : MboxAccount) (effect : Effect) (after : MboxAccount) : Type 0 where
   pub rows : after.rows ≡ before.rows
   pub intent : after.intent ≡ before.intent
-  pub file : (after.file ≡ before.file) ⊎ (after.file ≡ (settled before).file)
+  pub file : (after.file ≡ before.file) ⊎ (after.file ≡ (settled effect.listing before).file)
   pub begun : effect.begun ≡ []
   pub ended : effect.ended ≡ false
 
@@ -82,13 +82,13 @@ pub record IsBroken (settings : Settings) (before : MboxAccount) (effect : Effec
   pub text : List ℕ
   pub wanted : slice_get (mbox_wanted settings before effect) stored ≡ Some message
   pub got : slice_get effect.texts stored ≡ Some text
-  pub opened : IsOpen ((settled before).file ++ entries (take stored effect.texts)) message.1.uid text after
+  pub opened : IsOpen ((settled effect.listing before).file ++ entries (take stored effect.texts)) message.1.uid text after
 
 -- the account was settled, the listing merged, and the first `stored` of the wanted messages appended and recorded
 pub record MboxStores (settings : Settings) (before : MboxAccount) (effect : Effect) (after : MboxAccount) : Type 0 where
   pub stored : ℕ
   pub fetched : stored ≤ length effect.texts
   pub rows : after.rows ≡ marked_all (mbox_rows before effect) (ids_wanted (take stored (mbox_wanted settings before effect)))
-  pub ending : IsClosed ((settled before).file ++ entries (take stored effect.texts)) after ⊎ IsBroken settings before effect stored after
+  pub ending : IsClosed ((settled effect.listing before).file ++ entries (take stored effect.texts)) after ⊎ IsBroken settings before effect stored after
   pub begun : AllByRecursion (λ id. is_delivered after.rows id ≡ true) effect.begun
   pub ended : effect.ended ≡ true → (length (mbox_wanted settings before effect) ≤ stored) × (after.intent ≡ None)
