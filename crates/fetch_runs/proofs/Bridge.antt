@@ -328,7 +328,7 @@ module _ (adds : EntryAddsText) (settings : Settings) (before : MboxAccount) (ef
   added : (commands : List Command) (sent got : List ℕ) → MboxStores settings before effect after → Reads (mbox_wanted settings before effect) commands sent got effect → AddsTexts settings before effect after
   added commands sent got stores reads = record {
     all = omega (arith, same, few, least, stores.fetched);
-    texts = λ first stands. subst (λ (f : List ℕ). MboxFile f (first ++ effect.texts)) (sym file) (texts_stand adds (settled before).file first effect.texts whole stands);
+    texts = λ first stands. subst (λ (f : List ℕ). MboxFile f (first ++ effect.texts)) (sym file) (texts_stand adds (settled effect.listing before).file first effect.texts whole stands);
   }
     where
       same : length effect.texts ≡ length reads.found
@@ -344,9 +344,9 @@ module _ (adds : EntryAddsText) (settings : Settings) (before : MboxAccount) (ef
       whole = subst (AllByRecursion IsWhole) (sym reads.texts)
           (retrieved_whole (User reads.name ∷ Pass reads.word ∷ Stat ∷ UidlAll ∷ ListAll ∷ reads.more) (reads.user ∷ reads.pass ∷ reads.stat ∷ reads.uidl ∷ reads.list ∷ reads.replies) reads.found reads.retrieves)
 
-      file : after.file ≡ (settled before).file ++ entries effect.texts
+      file : after.file ≡ (settled effect.listing before).file ++ entries effect.texts
       file = elim stores.ending [
-        | inl closed ↦ closed.file ∙ ap (λ (l : List (List ℕ)). (settled before).file ++ entries l) (take_all stores.stored effect.texts (omega (arith, same, few, least)))
+        | inl closed ↦ closed.file ∙ ap (λ (l : List (List ℕ)). (settled effect.listing before).file ++ entries l) (take_all stores.stored effect.texts (omega (arith, same, few, least)))
         | inr broken ↦ absurd (some_none _ (sym broken.opened.intent ∙ (stores.ended ended).1))
       ]
 

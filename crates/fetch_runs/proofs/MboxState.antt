@@ -98,47 +98,47 @@ front_texts texts more dones are =
 
 -- no intent is open, and nothing follows the entries
 pub closed_at : {settings : Settings} {before : MboxAccount} {effect : Effect} {after : MboxAccount} (dones : List Done) (more : List (List ℕ)) → effect.texts ≡ texts_by dones ++ more
-    → after.intent ≡ None → after.file ≡ (settled before).file ++ entries (texts_by dones) → AllRecorded settings before effect (length (found_by dones)) after
+    → after.intent ≡ None → after.file ≡ (settled effect.listing before).file ++ entries (texts_by dones) → AllRecorded settings before effect (length (found_by dones)) after
 closed_at {before = before} {effect = effect} dones more are none file = record {
   text = [];
   front = [];
   behind = [];
-  file = file ∙ ap (λ (l : List (List ℕ)). (settled before).file ++ entries l) (sym (front_texts effect.texts more dones are)) ∙ sym (append-nil (bytes_at before effect (length (found_by dones))));
+  file = file ∙ ap (λ (l : List (List ℕ)). (settled effect.listing before).file ++ entries l) (sym (front_texts effect.texts more dones are)) ∙ sym (append-nil (bytes_at before effect (length (found_by dones))));
   ending = inl (none, refl);
 }
 
 -- the intent of the next entry is open
 pub opens_at : {settings : Settings} {before : MboxAccount} {effect : Effect} {after : MboxAccount} (dones : List Done) (text : List ℕ) (message : ℕ × Item)
     → effect.texts ≡ texts_by dones ++ text ∷ [] → slice_get (mbox_wanted settings before effect) (length (found_by dones)) ≡ Some message
-    → after.intent ≡ Some (law_intent ((settled before).file ++ entries (texts_by dones)) message.1.uid text) → OpensAt settings before effect (length (found_by dones)) text after
+    → after.intent ≡ Some (law_intent ((settled effect.listing before).file ++ entries (texts_by dones)) message.1.uid text) → OpensAt settings before effect (length (found_by dones)) text after
 opens_at {before = before} {effect = effect} dones text message are wanted intent = record {
   message = message;
   wanted = wanted;
   got = ap (λ (l : List (List ℕ)). slice_get l (length (found_by dones))) are
       ∙ ap (λ (n : ℕ). slice_get (texts_by dones ++ text ∷ []) n) (sym (length-map (found_by dones) text_found)) ∙ get_behind (texts_by dones) text [];
-  intent = intent ∙ ap (λ (l : List (List ℕ)). Some (law_intent ((settled before).file ++ entries l) message.1.uid text)) (sym (front_texts effect.texts (text ∷ []) dones are));
+  intent = intent ∙ ap (λ (l : List (List ℕ)). Some (law_intent ((settled effect.listing before).file ++ entries l) message.1.uid text)) (sym (front_texts effect.texts (text ∷ []) dones are));
 }
 
 -- and a prefix of it follows
 pub open_at : {settings : Settings} {before : MboxAccount} {effect : Effect} {after : MboxAccount} (dones : List Done) (text front behind : List ℕ) → effect.texts ≡ texts_by dones ++ text ∷ []
-    → OpensAt settings before effect (length (found_by dones)) text after → entry_of text ≡ front ++ behind → after.file ≡ ((settled before).file ++ entries (texts_by dones)) ++ front
+    → OpensAt settings before effect (length (found_by dones)) text after → entry_of text ≡ front ++ behind → after.file ≡ ((settled effect.listing before).file ++ entries (texts_by dones)) ++ front
     → AllRecorded settings before effect (length (found_by dones)) after
 open_at {before = before} {effect = effect} dones text front behind are opens entry file = record {
   text = text;
   front = front;
   behind = behind;
-  file = file ∙ ap (λ (l : List (List ℕ)). ((settled before).file ++ entries l) ++ front) (sym (front_texts effect.texts (text ∷ []) dones are));
+  file = file ∙ ap (λ (l : List (List ℕ)). ((settled effect.listing before).file ++ entries l) ++ front) (sym (front_texts effect.texts (text ∷ []) dones are));
   ending = inr (opens, entry);
 }
 
 -- and it is whole
 pub unrecorded_at : {settings : Settings} {before : MboxAccount} {effect : Effect} {after : MboxAccount} (dones full : List Done) (text : List ℕ) → effect.texts ≡ texts_by full
-    → length (found_by dones) + 1 ≡ length (found_by full) → OpensAt settings before effect (length (found_by dones)) text after → after.file ≡ (settled before).file ++ entries (texts_by full)
+    → length (found_by dones) + 1 ≡ length (found_by full) → OpensAt settings before effect (length (found_by dones)) text after → after.file ≡ (settled effect.listing before).file ++ entries (texts_by full)
     → LastUnrecorded settings before effect (length (found_by full)) (length (found_by dones)) after
 unrecorded_at {before = before} {effect = effect} dones full text are less opens file = record {
   one_less = less;
   text = text;
-  file = file ∙ ap (λ (l : List (List ℕ)). (settled before).file ++ entries l) (sym (front_texts effect.texts [] full (are ∙ sym (append-nil (texts_by full)))));
+  file = file ∙ ap (λ (l : List (List ℕ)). (settled effect.listing before).file ++ entries l) (sym (front_texts effect.texts [] full (are ∙ sym (append-nil (texts_by full)))));
   opens = opens;
 }
 
@@ -193,11 +193,11 @@ look_content looked.NoMemory old new never = absurd never
 
 -- ---- the account that a session left, and what it found
 
-abbrev pub rows_settled : Held → Stored → List Row
-rows_settled held mbox = (settled (mbox_holds held mbox)).rows
+abbrev pub rows_settled : List Item → Held → Stored → List Row
+rows_settled items held mbox = (settled items (mbox_holds held mbox)).rows
 
-abbrev pub bytes_settled : Held → Stored → List ℕ
-bytes_settled held mbox = (settled (mbox_holds held mbox)).file
+abbrev pub bytes_settled : List Item → Held → Stored → List ℕ
+bytes_settled items held mbox = (settled items (mbox_holds held mbox)).file
 
 abbrev pub held_with : List Row → Option Intent → Held
 held_with rows intent = record { rows = rows; intent = intent }
@@ -213,7 +213,7 @@ pub record MboxLeads (settings : Settings) (now : ℕ) (ended : Bool) (c : Cours
 
 -- the tasks are those of an account with an empty Maildir: no message counts as held
 abbrev pub ground : Settings → List Item → ℕ → Held → Stored → Ground
-ground settings items now held mbox = record { settings = settings; account = []; items = items; now = now; maildir = no_maildir; rows = rows_settled held mbox }
+ground settings items now held mbox = record { settings = settings; account = []; items = items; now = now; maildir = no_maildir; rows = rows_settled items held mbox }
 
 module _ (laws : Laws) (settings : Settings) (items : List Item) (now : ℕ) (held : Held) (mbox : Stored) where
   abbrev p : Ground
@@ -224,7 +224,7 @@ module _ (laws : Laws) (settings : Settings) (items : List Item) (now : ℕ) (he
   held_after dones intent = held_with (rows_after p dones) intent
 
   abbrev bytes_after : List Done → List ℕ
-  bytes_after dones = bytes_settled held mbox ++ entries (texts_by dones)
+  bytes_after dones = bytes_settled items held mbox ++ entries (texts_by dones)
 
   module _ {ended : Bool} {taken whole noted : List Done} {spare : List WholeReply} {under : List Task} {lines : List ReportLine} {unsaved : Type 0} (t : Tally p ended taken spare under whole noted lines (Unit {0}) unsaved)
       (mbox' : Stored) (content' : Option (List ℕ)) where
@@ -260,12 +260,12 @@ module _ (laws : Laws) (settings : Settings) (items : List Item) (now : ℕ) (he
   lead_closed {taken = taken} t mbox' content' more texts keeps file =
       lead t mbox' content' None keeps (inl (refl, closed_at taken more (ap (map text_found) t.found ∙ texts) refl file)) (λ is. refl)
 
-  module _ {tasks : List Task} {old : Scene} (starts : Starts p tasks old) (same_mbox : old.store.mbox.content ≡ Some (bytes_settled held mbox)) where
+  module _ {tasks : List Task} {old : Scene} (starts : Starts p tasks old) (same_mbox : old.store.mbox.content ≡ Some (bytes_settled items held mbox)) where
     -- what there was after the tasks that were done
     content_after : (dones : List Done) (mid : Scene) → Went AsEntries dones old mid → Part (tasks_on p) dones → mid.store.mbox.content ≡ Some (bytes_after dones)
     content_after dones mid went part =
         went.stored.content ∙ ap (option_map (λ (was : List ℕ). was ++ flat_map entry_of (texts_of dones))) same_mbox
-        ∙ ap (λ (ts : List (List ℕ)). Some (bytes_settled held mbox ++ entries ts)) (texts_same items dones (right_part laws p dones part))
+        ∙ ap (λ (ts : List (List ℕ)). Some (bytes_settled items held mbox ++ entries ts)) (texts_same items dones (right_part laws p dones part))
 
     module _ {cut : Cut} {new : Scene} (fell : Fell AsEntries tasks old cut new) where
       abbrev Stopped : Course → Type 0
@@ -305,7 +305,8 @@ module _ (laws : Laws) (settings : Settings) (items : List Item) (now : ℕ) (he
         opens c mbox' was items_are texts there =
             opens_at fell.dones text next_message.0 (texts ∙ full_texts) (rw items_are next_message.1)
             (ap (λ (l : List ℕ). Some (intent_of l uid text)) (same_Some was (bytes_after fell.dones) (sym there ∙ mid_content))
-            ∙ ap (λ (id : List ℕ). Some (intent_of (bytes_after fell.dones) id text)) (sym next_message.2))
+            ∙ ap (λ (id : List ℕ). Some (intent_of (bytes_after fell.dones) id text)) (sym next_message.2)
+            ∙ ap (λ (l : List Item). Some (intent_of (bytes_settled l held mbox ++ entries (texts_by fell.dones)) next_message.0.1.uid text)) (sym items_are))
 
         -- its entry wasn't appended, or only a prefix of it
         refused : LeavesEntry fell.mid.store.mbox fell.mid.rows uid text new.store.mbox new.file → new.lines ≡ fell.mid.lines → Stopped (course items fell.dones (reply ∷ []) (fell.next ∷ []))
@@ -339,8 +340,8 @@ module _ (laws : Laws) (settings : Settings) (items : List Item) (now : ℕ) (he
           content : new.store.mbox.content ≡ Some (bytes_after all)
           content =
               u.stored.content ∙ ap (option_map (λ (bytes : List ℕ). bytes ++ flat_map entry_of (body_text u.reply.body ∷ []))) mid_content
-              ∙ ap Some (append_assoc (bytes_settled held mbox) (entries (texts_by fell.dones)) (entries (body_text u.reply.body ∷ []))
-              ∙ ap (λ (l : List ℕ). bytes_settled held mbox ++ l) (sym (flat_map-append entry_of (texts_by fell.dones) (body_text u.reply.body ∷ [])) ∙ ap entries (sym (full_texts u.number u.uid u.reply u.is u.talked.good))))
+              ∙ ap Some (append_assoc (bytes_settled items held mbox) (entries (texts_by fell.dones)) (entries (body_text u.reply.body ∷ []))
+              ∙ ap (λ (l : List ℕ). bytes_settled items held mbox ++ l) (sym (flat_map-append entry_of (texts_by fell.dones) (body_text u.reply.body ∷ [])) ∙ ap entries (sym (full_texts u.number u.uid u.reply u.is u.talked.good))))
 
           by : MarksEntry fell.mid.store.mbox fell.mid.file fell.mid.rows u.uid (body_text u.reply.body) cut.fault new.file → Stopped (course items all [] [])
           by (was, there, between, first, second) =
@@ -378,22 +379,22 @@ module _ (laws : Laws) (settings : Settings) (items : List Item) (now : ℕ) (he
 
 -- ---- settling, as the session and as the law over runs has it
 
-same_stored : (intent : Option Intent) (bytes : List ℕ) → is_stored intent bytes ≡ Law.is_stored intent bytes
-same_stored None bytes = refl
-same_stored (Some intent) bytes = refl
+same_stored : (intent : Option Intent) (items : List Item) (bytes : List ℕ) → is_stored intent items bytes ≡ Law.is_stored intent items bytes
+same_stored None items bytes = refl
+same_stored (Some intent) items bytes = refl
 
-same_closed : (intent : Option Intent) (bytes : List ℕ) → closed_file intent bytes ≡ Law.closed_file intent bytes
-same_closed None bytes = refl
-same_closed (Some intent) bytes = refl
+same_closed : (intent : Option Intent) (items : List Item) (bytes : List ℕ) → closed_file intent items bytes ≡ Law.closed_file intent items bytes
+same_closed None items bytes = refl
+same_closed (Some intent) items bytes = refl
 
 held_same : (a b : Held) → a.rows ≡ b.rows → a.intent ≡ b.intent → a ≡ b
 held_same a b rows intent = ap (λ (r : List Row). held_with r a.intent) rows ∙ ap (λ (i : Option Intent). held_with b.rows i) intent
 
 -- a cause leaves the mboxrd file as it was, or settled
-settled_by : (fault : Fault) (mbox file mbox' file' : Stored) → MboxUnready fault mbox file mbox' file' → IsSettledBy file mbox mbox'
-settled_by (BadSeen line) mbox file mbox' file' is = inl (ap (λ (s : Stored). s.content) is.1)
-settled_by (StoreRefused why.Missing) mbox file mbox' file' is = inl (ap (λ (s : Stored). s.content) is.1)
-settled_by fault mbox file mbox' file' is = search rules
+settled_by : (items : List Item) (fault : Fault) (mbox file mbox' file' : Stored) → MboxUnready items fault mbox file mbox' file' → IsSettledBy items file mbox mbox'
+settled_by items (BadSeen line) mbox file mbox' file' is = inl (ap (λ (s : Stored). s.content) is.1)
+settled_by items (StoreRefused why.Missing) mbox file mbox' file' is = inl (ap (λ (s : Stored). s.content) is.1)
+settled_by items fault mbox file mbox' file' is = search rules
 
 -- nothing was asked for: the record is as it was, and the file is as it was, or settled
 pub record Rests (settings : Settings) (now : ℕ) (ended : Bool) (c : Course) (held : Held) (mbox mbox' : Stored) (content' : Option (List ℕ)) (lines : List ReportLine) : Type 0 where
@@ -413,26 +414,26 @@ module _ (laws : Laws) (settings : Settings) (items : List Item) (now : ℕ) (pl
       let one = laws.one file.content was.rows held.rows was.intent held.intent stood keeps in
       held_same was held one.0 one.1
 
-  closed_is : (was : Held) (bytes : List ℕ) → Keeps file.content was → store.mbox.content ≡ Some bytes → closed_file was.intent bytes ≡ bytes_settled held store.mbox
+  closed_is : (was : Held) (bytes : List ℕ) → Keeps file.content was → store.mbox.content ≡ Some bytes → closed_file was.intent items bytes ≡ bytes_settled items held store.mbox
   closed_is was bytes stood is =
-      ap (λ (h : Held). closed_file h.intent bytes) (was_held was stood) ∙ same_closed held.intent bytes
-      ∙ ap (λ (o : Option (List ℕ)). Law.closed_file held.intent (mail_in o)) (sym is)
+      ap (λ (h : Held). closed_file h.intent items bytes) (was_held was stood) ∙ same_closed held.intent items bytes
+      ∙ ap (λ (o : Option (List ℕ)). Law.closed_file held.intent items (mail_in o)) (sym is)
 
-  rows_are : (was : Held) → Keeps file.content was → rows_in AsEntries store was ≡ rows_settled held store.mbox
+  rows_are : (was : Held) → Keeps file.content was → rows_in AsEntries store was items ≡ rows_settled items held store.mbox
   rows_are was stood =
-      ap (λ (h : Held). rows_in AsEntries store h) (was_held was stood)
-      ∙ ap (λ (b : Bool). closed_rows b held.rows held.intent) (same_stored held.intent (mail_in store.mbox.content))
+      ap (λ (h : Held). rows_in AsEntries store h items) (was_held was stood)
+      ∙ ap (λ (b : Bool). closed_rows b held.rows held.intent) (same_stored held.intent items (mail_in store.mbox.content))
 
-  settled_content : (was : Held) (new : Stores) → Keeps file.content was → Settles AsEntries was store new → new.mbox.content ≡ Some (bytes_settled held store.mbox)
+  settled_content : (was : Held) (new : Stores) → Keeps file.content was → Settles AsEntries was items store new → new.mbox.content ≡ Some (bytes_settled items held store.mbox)
   settled_content was new stood (bytes, is, settled, goes_on) = ap (λ (s : Stored). s.content) settled ∙ ap Some (closed_is was bytes stood is)
 
   -- nothing was planned
   module _ (cut : Cut) (new : Scene) where
-    rests : new.lines ≡ lines → Keeps new.file.content held → (mail_in new.store.mbox.content ≡ mail_in store.mbox.content) ⊎ (mail_in new.store.mbox.content ≡ bytes_settled held store.mbox)
+    rests : new.lines ≡ lines → Keeps new.file.content held → (mail_in new.store.mbox.content ≡ mail_in store.mbox.content) ⊎ (mail_in new.store.mbox.content ≡ bytes_settled items held store.mbox)
         → Rests settings now false (course items [] [] []) held store.mbox new.store.mbox new.file.content new.lines
     rests same stands mail = record { none = refl; told = ap retrieved_in (same ∙ no_lines); keeps = stands; leaves = record { rows = refl; intent = refl; file = mail; begun = refl; ended = refl } }
 
-    mail_left : IsSettledBy file store.mbox new.store.mbox → (mail_in new.store.mbox.content ≡ mail_in store.mbox.content) ⊎ (mail_in new.store.mbox.content ≡ bytes_settled held store.mbox)
+    mail_left : IsSettledBy items file store.mbox new.store.mbox → (mail_in new.store.mbox.content ≡ mail_in store.mbox.content) ⊎ (mail_in new.store.mbox.content ≡ bytes_settled items held store.mbox)
     mail_left (inl same) = inl (ap mail_in same)
     mail_left (inr (was, stood, inl same)) = inl (ap mail_in same)
     mail_left (inr (was, stood, inr (bytes, is, settled))) = inr (ap mail_in settled ∙ closed_is was bytes stood is)
@@ -442,13 +443,13 @@ module _ (laws : Laws) (settings : Settings) (items : List Item) (now : ℕ) (pl
       where
         by : IsMergedAtMost AsEntries items now store file new.store new.file → Left settings now false (course items [] [] []) held store.mbox new.store.mbox new.file.content new.lines (UnsavedIn (Err cut))
         by (inl content) =
-            inl (rests is.lines_are (subst (λ (c : Option (List ℕ)). Keeps c held) (sym content) keeps) (mail_left (settled_by cut.fault store.mbox file new.store.mbox new.file is.unready.cause)))
+            inl (rests is.lines_are (subst (λ (c : Option (List ℕ)). Keeps c held) (sym content) keeps) (mail_left (settled_by items cut.fault store.mbox file new.store.mbox new.file is.unready.cause)))
         by (inr (was, stood, settled, inl stays)) =
             inl (rests is.lines_are (subst (λ (h : Held). Keeps new.file.content h) (was_held was stood) stays) (inr (ap mail_in (settled_content was new.store stood settled))))
         by (inr (was, stood, settled, inr merges)) =
             inr (lead_closed laws settings items now held store.mbox (tally_none laws (ground settings items now held store.mbox) new.lines (ap retrieved_in (is.lines_are ∙ no_lines))) new.store.mbox new.file.content [] refl
             (subst (λ (r : List Row). Keeps new.file.content (held_with (merged r items (flags_of [] no_maildir items) now) None)) (rows_are was stood) merges)
-            (ap mail_in (settled_content was new.store stood settled) ∙ sym (append-nil (bytes_settled held store.mbox))))
+            (ap mail_in (settled_content was new.store stood settled) ∙ sym (append-nil (bytes_settled items held store.mbox))))
 
   carried_leads : (result : Result (Unit {0}) Cut) (new : Scene) (skipped : ℕ) (is : Carried settings AsEntries items now place store file lines result new skipped)
       → MboxLeads settings now (is_ended result) (course_carried settings AsEntries items now place store file lines result new skipped is) held store.mbox new.store.mbox new.file.content new.lines (UnsavedIn result)

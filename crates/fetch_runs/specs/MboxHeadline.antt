@@ -157,7 +157,7 @@ IsPastCount frame state occasion message =
     (held : Held) × Keeps state.kept.file.content held
     × (has_id (ids_wanted (past_limit occasion.settings.max_count
     (candidates occasion.settings
-    (merged (settled (mbox_holds held state.kept.mbox)).rows listing (none_held listing) occasion.now) listing)))
+    (merged (settled listing (mbox_holds held state.kept.mbox)).rows listing (none_held listing) occasion.now) listing)))
     message.uid ≡ true)
 
 -- after an uncut session no intent is open and nothing of a next entry is left, and each message of the maildrop

@@ -17,7 +17,7 @@ use Rattle.fetch_runs.specs.MboxSteps.{mbox_holds, IsMboxStep}
 -- order
 pub record AddsTexts (settings : Settings) (before : MboxAccount) (effect : Effect) (after : MboxAccount) : Type 0 where
   pub all : length effect.texts ≡ length (mbox_wanted settings before effect)
-  pub texts : (first : List (List ℕ)) → MboxFile (settled before).file first → MboxFile after.file (first ++ effect.texts)
+  pub texts : (first : List (List ℕ)) → MboxFile (settled effect.listing before).file first → MboxFile after.file (first ++ effect.texts)
 
 -- a law: if the record's file stood for this record, a session is a step, and if it ended, it added these texts
 abbrev pub MboxSessionsAddTexts : Type 0
