@@ -144,3 +144,12 @@ class MeddlingServer(Server):
     def _answer(self, command):
         self.meanwhile(command.decode())
         return super()._answer(command)
+
+
+class OtherSizes(Server):
+    """A server that lists one octet more than each message has."""
+
+    def _answer(self, command):
+        if command == b"LIST":
+            return self._rows(lambda number, uid, text: b"%d %d\r\n" % (number, size_of(text) + 1))
+        return super()._answer(command)

@@ -14,7 +14,7 @@ import time
 import unittest
 
 from getmail.mbox_account import OTHER, MboxAccount
-from getmail.server import MeddlingServer, Server
+from getmail.server import MeddlingServer, OtherSizes, Server
 from harness import preload, programs
 from harness.mboxrd import entries, entry, quoted, unquoted
 
@@ -42,9 +42,9 @@ class Intents(unittest.TestCase):
     START = len(entry(TEXTS[0]))
     LENGTH = len(entry(TEXTS[1]))
 
-    def session(self, content, fetched, left, path=None, start=START):
+    def session(self, content, fetched, left, path=None, start=START, server_of=Server, messages=THREE):
         """A session over a file of this content fetches the messages of these numbers, and leaves `left`."""
-        with Server(THREE) as server, MboxAccount(server.port) as account:
+        with server_of(messages) as server, MboxAccount(server.port) as account:
             mbox = account.mbox
             if path is not None:
                 account.rcfile.write_text(account.rcfile.read_text().replace("~/mbox", f"~/{path}"))
@@ -71,6 +71,12 @@ class Intents(unittest.TestCase):
                 self.session(first + second[:count], [2, 3], entries(TEXTS))
         self.session(first + second, [3], entries(TEXTS))
 
+    def test_the_whole_entry_by_its_listed_size(self):
+        """With another size it is cut off and fetched again; it counts if its message isn't listed."""
+        whole = entries(TEXTS[:2])
+        self.session(whole, [2, 3], entries(TEXTS), server_of=OtherSizes)
+        self.session(whole, [2], entries(TEXTS), messages=[THREE[0], THREE[2]])
+
     def test_mail_of_another_program(self):
         """Shorter than the entry, as long, and longer."""
         first = entry(TEXTS[0])
@@ -82,7 +88,7 @@ class Intents(unittest.TestCase):
     def test_mail_with_the_same_first_line(self):
         """As mutt and Python's mailbox save it from another file of getmail: what is cut off is kept beside the record."""
         first = entry(TEXTS[0])
-        for length in (60, 100, self.LENGTH - 1):
+        for length in (60, 100, self.LENGTH - 1, self.LENGTH):
             mail = entry(b"y" * (length - len(entry(b"\n"))) + b"\n")
             with self.subTest(length=length), Server(THREE) as server, MboxAccount(server.port) as account:
                 kept = account.record.with_name(account.record.name + ".rest")

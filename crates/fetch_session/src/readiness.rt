@@ -24,8 +24,8 @@ use fetch_rules::{
     listed_has_row, plan, plan_of_known,
 };
 use mail_store::{
-    AccountId, FlatFile, Folder, MaildirDisk, StoreFault, check_mbox, held, listed_size,
-    peek_mbox, settle_file,
+    AccountId, FlatFile, Folder, MaildirDisk, StoreFault, check_mbox, held, listed_size, peek_mbox,
+    settle_file,
 };
 use std::alloc::{AllocError, Global};
 use std::hash::BuildHasher;

@@ -30,7 +30,7 @@ pub use mboxrd::entry::{
 pub use mboxrd::quoting::{is_whole, quote, unquote, unquoting_undoes_quoting};
 pub use mboxrd::reading::read_mbox;
 pub use mboxrd::settling::{
-    fronts_of_entries_are_settled, leftovers_of_entries_are_settled, listed_size,
-    settle_file, whole_entries_count,
+    fronts_of_entries_are_settled, leftovers_of_entries_are_settled, listed_size, settle_file,
+    whole_entries_count,
 };
 pub use refusal::{admit, refuse};

@@ -29,7 +29,7 @@ fn settled(
 ) -> Result<(Result<bool, StoreFault>, usize), Fail> {
     let mut file = MemoryFile::new(alloc);
     file.replace(bytes)?;
-    let answer = settle_file(alloc, &mut file, start, len);
+    let answer = settle_file(alloc, &mut file, start, len, None);
     Ok((answer, file.load()?.len()))
 }
 
@@ -132,6 +132,37 @@ fn counts_no_entry_with_a_hole(rt: HostRuntime) -> Result<(), Fail> {
     Ok(())
 }
 
+/// What settling answers for these bytes in a file of their own, if this size is listed, and how
+/// many octets the file has then.
+fn with_size(
+    alloc: Global,
+    bytes: &[u8],
+    size: u64,
+) -> Result<(Result<bool, StoreFault>, usize), Fail> {
+    let mut file = MemoryFile::new(alloc);
+    file.replace(bytes)?;
+    let answer = settle_file(alloc, &mut file, 0, bytes.len() as u64, Some(size));
+    Ok((answer, file.load()?.len()))
+}
+
+#[test]
+fn counts_an_entry_of_the_listed_size(rt: HostRuntime) -> Result<(), Fail> {
+    let alloc = rt.alloc();
+    for size in 0..40 {
+        let wanted = if size == 26 {
+            (Ok(true), 70)
+        } else {
+            (Ok(false), 0)
+        };
+        let found = with_size(alloc, ENTRY, size)?;
+        assert!(rt; found == wanted, "{size} octets are listed");
+    }
+    let empty = b"From MAILER-DAEMON Thu Jan  1 00:00:00 1970\n\n";
+    assert!(rt; with_size(alloc, empty, 0)? == (Ok(true), 45));
+    assert!(rt; with_size(alloc, empty, 1)? == (Ok(false), 0));
+    Ok(())
+}
+
 #[test]
 fn settles_a_real_file(rt: HostRuntime) -> Result<(), Fail> {
     let path = "settles_a_real_file";
@@ -139,12 +170,12 @@ fn settles_a_real_file(rt: HostRuntime) -> Result<(), Fail> {
     for (size, answer, left) in [(70, Ok(true), 70), (35, Ok(false), 0), (0, Ok(false), 0)] {
         file.replace(front_of_entry(size))?;
         assert!(rt;
-            settle_file(rt.alloc(), &mut file, 0, 70) == answer,
+            settle_file(rt.alloc(), &mut file, 0, 70, None) == answer,
             "{size} octets"
         );
         assert_eq!(rt; file.load()?.len(), left);
     }
     fs::remove_file(&rt, path)?;
-    assert!(rt; settle_file(rt.alloc(), &mut file, 0, 70) == Err(StoreFault::Missing));
+    assert!(rt; settle_file(rt.alloc(), &mut file, 0, 70, None) == Err(StoreFault::Missing));
     Ok(())
 }
