@@ -89,6 +89,7 @@ pub record MboxStores (settings : Settings) (before : MboxAccount) (effect : Eff
   pub stored : ℕ
   pub fetched : stored ≤ length effect.texts
   pub rows : after.rows ≡ marked_all (mbox_rows before effect) (ids_wanted (take stored (mbox_wanted settings before effect)))
-  pub ending : IsClosed ((settled effect.listing before).file ++ entries (take stored effect.texts)) after ⊎ IsBroken settings before effect stored after
+  pub ending : IsClosed ((settled effect.listing before).file ++ entries (take stored effect.texts)) after
+      ⊎ IsBroken settings before effect stored after
   pub begun : AllByRecursion (λ id. is_delivered after.rows id ≡ true) effect.begun
   pub ended : effect.ended ≡ true → (length (mbox_wanted settings before effect) ≤ stored) × (after.intent ≡ None)

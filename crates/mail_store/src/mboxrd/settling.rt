@@ -5,7 +5,8 @@ ghost use Rattle.mail_terms.specs.FailureCount.{Tallies, refuses};
 ghost use Rattle.mail_store.specs.Fault.{is_refusal};
 ghost use Rattle.mail_store.specs.Mboxrd.{text_in};
 ghost use Rattle.mail_store.specs.Power.{LastsWhole};
-ghost use Rattle.mail_store.specs.Settling.{block_size, begin_with, ends_empty, has_size, is_entry, is_lost, is_one_entry, listed_size, is_ours, is_torn, is_whole};
+ghost use Rattle.mail_store.specs.Settling.{block_size, begin_with, ends_empty, has_size, is_entry, is_lost, is_one_entry};
+ghost use Rattle.mail_store.specs.Settling.{is_ours, is_torn, is_whole, listed_size};
 ghost use Rattle.mail_store.specs.Settling.{FrontsAreSettled, LeftoversAreSettled, ReadsBehind, SettlesFile, WholeEntriesCount};
 
 use crate::fault::StoreFault;
