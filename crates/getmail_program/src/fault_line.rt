@@ -24,6 +24,7 @@ fn refused_words(asked: Asked) -> (&'static str, Option<u32>)
         Asked::List => ("server refused LIST", None),
         Asked::Retr(number) => ("server refused RETR ", Some(number)),
         Asked::Dele(number) => ("server refused DELE ", Some(number)),
+        Asked::Rset => ("server refused RSET", None),
         Asked::Quit => ("server refused QUIT", None),
     }
 }

@@ -46,7 +46,7 @@ fn use_record(rt: &HostRuntime, call: &str, subject: &str) -> Result<()> {
 fn main(rt: HostRuntime) -> Result<()> {
     let words: Vec<String> = env::args(&rt)?.collect(rt.alloc())?;
     match words.len() {
-        2 if words[1] == "client" => conversation::fetch(&rt),
+        2 if words[1].as_str() == "client" => conversation::fetch(&rt),
         3 => use_record(&rt, words[1].as_str(), words[2].as_str()),
         4 => use_store(
             &rt,
