@@ -19,6 +19,7 @@ use Rattle.fetch_session.specs.declared.fault.Cut.{Cut}
 use Rattle.fetch_session.specs.declared.fault.Fault.{Fault}
 use Rattle.fetch_session.specs.declared.report.Report.{Report}
 use Rattle.fetch_session.specs.declared.report.ReportLine.{ReportLine}
+use Rattle.fetch_session.specs.declared.report.Skips.{Skips}
 use Rattle.fetch_session.specs.Task.{Task, stores, rereads, deletes, Done, tasks_of}
 use Rattle.fetch_session.specs.Store.{RefusesText}
 use Rattle.fetch_session.specs.Plan.{tasks_ahead, Carried, Carries}
@@ -71,12 +72,12 @@ course_does target items tasks old new (Ok done) went = course items went.dones 
 course_does target items tasks old new (Err cut) fell = course_stopped target items fell.dones fell.next fell.mid new cut fell.stops
 
 abbrev pub course_carried : (settings : Settings) (target : Target) (items : List Item) (now : ℕ) (place : Place) (store : Stores) (file : Stored) (lines : List ReportLine)
-    (result : Result (Unit {0}) Cut) (new : Scene) (skipped : ℕ) → Carried settings target items now place store file lines result new skipped → Course
+    (result : Result (Unit {0}) Cut) (new : Scene) (skipped : Skips) → Carried settings target items now place store file lines result new skipped → Course
 course_carried settings target items now place store file lines result new skipped is =
     course_does target items (tasks_ahead settings target items now store is.mid.rows) is.mid new result is.does
 
 abbrev pub course_carries : (settings : Settings) (target : Target) (items : List Item) (now : ℕ) (place : Place) (store : Stores) (file : Stored) (lines : List ReportLine)
-    (result : Result (Unit {0}) Cut) (place' : Place) (store' : Stores) (file' : Stored) (lines' : List ReportLine) (skipped : ℕ)
+    (result : Result (Unit {0}) Cut) (place' : Place) (store' : Stores) (file' : Stored) (lines' : List ReportLine) (skipped : Skips)
     → Carries settings target items now place store file lines result place' store' file' lines' skipped → Course
 course_carries settings target items now place store file lines (Ok done) place' store' file' lines' skipped is =
     course_carried settings target items now place store file lines (Ok done) (scene place' store' file' is.0 lines') skipped is.1

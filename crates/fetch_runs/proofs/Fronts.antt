@@ -14,13 +14,12 @@ use Rattle.rc_file.specs.declared.settings.Settings.{Settings}
 use Rattle.pop3_client.specs.Conversation.{SentInPart, Talked, TurnsJoin}
 use Rattle.pop3_client.specs.Turns.{Turn, IsGood, asking, quit, retr, rset, turn_bytes}
 use Rattle.pop3_client.specs.declared.fault.ClientFault.TheVariants as talk
-use Rattle.fetch_rules.specs.Plan.{planned}
 use Rattle.fetch_rules.specs.Record.{Row, marked, marked_all, none_open}
 use Rattle.fetch_session.specs.Fault.{cut_of}
 use Rattle.fetch_session.specs.Laws.{SteadyFilesKeep}
 use Rattle.fetch_session.specs.Opening.{opening}
 use Rattle.fetch_session.specs.Plan.{Carried, Prepared}
-use Rattle.fetch_session.specs.Report.{Reports, skipped_in}
+use Rattle.fetch_session.specs.Report.{Reports, skips_planned}
 use Rattle.fetch_session.specs.Record.{Steady}
 use Rattle.fetch_session.specs.Scene.{Fell, FileNotSaved, Scene, Stops, Went, scene}
 use Rattle.fetch_session.specs.Session.{Dealt, Enters_with, Kept, LeavesLink, Noted, Proceeds, Session, kept, keeping, keeps_files, noted, outcome_of}
@@ -32,6 +31,7 @@ use Rattle.fetch_session.specs.declared.fault.Fault.{Fault}
 use Rattle.fetch_session.specs.declared.fault.Fault.TheVariants.{SeenRefused, WriteFailed}
 use Rattle.fetch_session.specs.declared.report.Outcome.TheVariants.{Ended, Cut as WasCut}
 use Rattle.fetch_session.specs.declared.report.Report.{Report}
+use Rattle.fetch_session.specs.declared.report.Skips.{Skips}
 use Rattle.fetch_session.specs.Account.{digits_of}
 use Rattle.fetch_session.specs.declared.report.Outcome.{Outcome}
 use Rattle.pop3_wire.specs.World.{Message}
@@ -181,8 +181,8 @@ module _ (joins : TurnsJoin) (settings : Settings) (account : List ℕ) (now : �
     lines = ap (λ l. l ++ lines_of front) (sym u.prepared.lines_are);
   }
 
-  abbrev skipped : ℕ
-  skipped = skipped_in (planned settings u.ready.rows u.items now)
+  abbrev skipped : Skips
+  skipped = skips_planned settings u.ready.rows u.items now
 
   -- a session that stopped in the next task and left the link so
   module _ (steady : Steady left.file.content (none_open rows)) (cut : Cut) (stopped : Scene) (cut_link : Link) (stops : Stops (AsFiles account) next.task here cut stopped)

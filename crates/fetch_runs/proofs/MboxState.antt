@@ -30,6 +30,7 @@ use Rattle.fetch_session.specs.declared.fault.Fault.{Fault}
 use Rattle.fetch_session.specs.declared.fault.Fault.TheVariants.{StoreRefused, SeenRefused, NoMemory, BadSeen}
 use Rattle.fetch_session.specs.declared.fault.Why.TheVariants as why
 use Rattle.fetch_session.specs.declared.report.ReportLine.{ReportLine}
+use Rattle.fetch_session.specs.declared.report.Skips.{Skips}
 use Rattle.fetch_session.specs.Report.{retrieved_in}
 use Rattle.fetch_session.specs.Laws.{SteadyFilesKeep, UnsavedFilesKeep}
 use Rattle.fetch_session.specs.Record.{Keeps, Steady, with_open}
@@ -451,7 +452,7 @@ module _ (laws : Laws) (settings : Settings) (items : List Item) (now : ℕ) (pl
             (subst (λ (r : List Row). Keeps new.file.content (held_with (merged r items (flags_of [] no_maildir items) now) None)) (rows_are was stood) merges)
             (ap mail_in (settled_content was new.store stood settled) ∙ sym (append-nil (bytes_settled items held store.mbox))))
 
-  carried_leads : (result : Result (Unit {0}) Cut) (new : Scene) (skipped : ℕ) (is : Carried settings AsEntries items now place store file lines result new skipped)
+  carried_leads : (result : Result (Unit {0}) Cut) (new : Scene) (skipped : Skips) (is : Carried settings AsEntries items now place store file lines result new skipped)
       → MboxLeads settings now (is_ended result) (course_carried settings AsEntries items now place store file lines result new skipped is) held store.mbox new.store.mbox new.file.content new.lines (UnsavedIn result)
   carried_leads result new skipped is =
       does_leads laws settings items now held store.mbox starts (settled_content is.prepared.was is.mid.store is.prepared.stood is.prepared.settles) result new is.does
@@ -462,7 +463,7 @@ module _ (laws : Laws) (settings : Settings) (items : List Item) (now : ℕ) (pl
       starts : Starts (ground settings items now held store.mbox) (tasks_ahead settings AsEntries items now store is.mid.rows) is.mid
       starts = record { tasks_are = ap (tasks_ahead settings AsEntries items now store) rows; rows = rows; lines = is.prepared.lines_are ∙ no_lines; steady = is.prepared.saved }
 
-  carries_leads : (result : Result (Unit {0}) Cut) (place' : Place) (store' : Stores) (file' : Stored) (lines' : List ReportLine) (skipped : ℕ)
+  carries_leads : (result : Result (Unit {0}) Cut) (place' : Place) (store' : Stores) (file' : Stored) (lines' : List ReportLine) (skipped : Skips)
       (is : Carries settings AsEntries items now place store file lines result place' store' file' lines' skipped)
       → Left settings now (is_ended result) (course_carries settings AsEntries items now place store file lines result place' store' file' lines' skipped is) held store.mbox store'.mbox file'.content lines' (UnsavedIn result)
   carries_leads (Ok done) place' store' file' lines' skipped is = inr (carried_leads (Ok done) (scene place' store' file' is.0 lines') skipped is.1)

@@ -18,6 +18,7 @@ use Rattle.fetch_session.specs.declared.fault.Fault.{Fault}
 use Rattle.fetch_session.specs.declared.fault.Fault.TheVariants.{StoreRefused}
 use Rattle.fetch_session.specs.declared.fault.Why.TheVariants as why
 use Rattle.fetch_session.specs.declared.report.ReportLine.{ReportLine}
+use Rattle.fetch_session.specs.declared.report.Skips.{Skips}
 use Rattle.fetch_session.specs.Record.{Keeps, KeepsRows}
 use Rattle.fetch_session.specs.Readiness.{IsMergedAtMost, UnreadyCause}
 use Rattle.fetch_session.specs.Report.{retrieved_in}
@@ -238,7 +239,7 @@ module _ (laws : Laws) (p : Ground) (place : Place) (file : Stored) (lines : Lis
           lead laws p none new.store.maildir new.file.content (same ∙ sym (append-nil p.maildir.files))
           (None, subst (λ (r : List Row). FileStandsFor new.file.content (merged r p.items (flags_of p.account p.maildir p.items) p.now) None) (same_rows was stood) merges)
 
-  carried_leads : (result : Result (Unit {0}) Cut) (new : Scene) (skipped : ℕ) (is : Carried p.settings (AsFiles p.account) p.items p.now place (in_maildir p.maildir) file lines result new skipped)
+  carried_leads : (result : Result (Unit {0}) Cut) (new : Scene) (skipped : Skips) (is : Carried p.settings (AsFiles p.account) p.items p.now place (in_maildir p.maildir) file lines result new skipped)
       → Leading p (is_ended result) (course_carried p.settings (AsFiles p.account) p.items p.now place (in_maildir p.maildir) file lines result new skipped is) new.store.maildir new.file.content new.lines (RefusedIn result) (UnsavedIn result)
   carried_leads result new skipped is = does_leads laws p starts (ap (λ (s : Stores). s.maildir) is.prepared.settles) result new is.does
     where
@@ -248,7 +249,7 @@ module _ (laws : Laws) (p : Ground) (place : Place) (file : Stored) (lines : Lis
       starts : Starts p (tasks_ahead p.settings p.account p.items p.now p.maildir is.mid.rows) is.mid
       starts = record { tasks_are = ap (tasks_ahead p.settings p.account p.items p.now p.maildir) rows; rows = rows; lines = is.prepared.lines_are ∙ no_lines; steady = is.prepared.saved }
 
-  carries_leads : (result : Result (Unit {0}) Cut) (place' : Place) (maildir' : Maildir) (file' : Stored) (lines' : List ReportLine) (skipped : ℕ)
+  carries_leads : (result : Result (Unit {0}) Cut) (place' : Place) (maildir' : Maildir) (file' : Stored) (lines' : List ReportLine) (skipped : Skips)
       (is : Carries p.settings (AsFiles p.account) p.items p.now place (in_maildir p.maildir) file lines result place' (in_maildir maildir') file' lines' skipped)
       → Leading p (is_ended result) (course_carries p.settings (AsFiles p.account) p.items p.now place (in_maildir p.maildir) file lines result place' (in_maildir maildir') file' lines' skipped is)
       maildir' file'.content lines' (RefusedIn result) (UnsavedIn result)

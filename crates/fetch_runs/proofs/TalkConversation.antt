@@ -24,6 +24,7 @@ use Rattle.fetch_session.specs.declared.fault.Fault.TheVariants.{StoreRefused, N
 use Rattle.fetch_session.specs.declared.fault.Why.TheVariants.{Refused}
 use Rattle.fetch_session.specs.declared.report.Outcome.TheVariants.{Cut as WasCut, Ended}
 use Rattle.fetch_session.specs.declared.report.ReportLine.{ReportLine}
+use Rattle.fetch_session.specs.declared.report.Skips.{Skips}
 use Rattle.fetch_session.specs.Task.{Task, stores, Done, task_in, tasks_of, lines_in, lines_of, delivered, says, skips, rereads, deletes, fetching, deleting, tasks_planned, turns_in, turns_of, IsAnswered}
 use Rattle.fetch_session.specs.Fault.{fault_of}
 use Rattle.fetch_session.specs.Tail.{tail, Left, turns_in as tail_turns}
@@ -176,7 +177,7 @@ module _ (joining : TurnsJoin) (paced : ConversationsArePaced) where
       (subst (AllByRecursion IsPlain) (fell.split ∙ sym (append_assoc (tasks_of fell.dones) (fell.next ∷ []) fell.later)) plain)) fell.stops leaves.1)
 
   module _ (settings : Settings) (target : Target) (items : List Item) (now : ℕ) (place : Place) (store : Stores) (file : Stored) (lines : List ReportLine) (few : length items ≤ 100000) where
-    dealing_carried : (result : Result (Unit {0}) Cut) (new : Scene) (skipped : ℕ) (link : Link) → (is : Carried settings target items now place store file lines result new skipped)
+    dealing_carried : (result : Result (Unit {0}) Cut) (new : Scene) (skipped : Skips) (link : Link) → (is : Carried settings target items now place store file lines result new skipped)
         → LeavesLink result new.place link → Dealing settings target items now store file lines new.lines (course_carried settings target items now place store file lines result new skipped is) place result link
     dealing_carried result new skipped link is leaves = record {
       rows = is.mid.rows;
@@ -204,7 +205,7 @@ module _ (joining : TurnsJoin) (paced : ConversationsArePaced) where
       found = inr refl;
     }
 
-    pub dealing : (result : Result (Unit {0}) Cut) (place' : Place) (store' : Stores) (file' : Stored) (lines' : List ReportLine) (skipped : ℕ) (link : Link)
+    pub dealing : (result : Result (Unit {0}) Cut) (place' : Place) (store' : Stores) (file' : Stored) (lines' : List ReportLine) (skipped : Skips) (link : Link)
         → (is : Carries settings target items now place store file lines result place' store' file' lines' skipped) → LeavesLink result place' link
         → Dealing settings target items now store file lines lines' (course_carries settings target items now place store file lines result place' store' file' lines' skipped is) place result link
     dealing (Ok done) place' store' file' lines' skipped link is leaves = dealing_carried (Ok done) (scene place' store' file' is.0 lines') skipped link is.1 leaves

@@ -5,7 +5,6 @@ use Rattle.pop3_wire.specs.Place.{Place, at}
 use Rattle.mail_terms.specs.Listing.{Item}
 use Rattle.rc_file.specs.declared.settings.Settings.{Settings}
 use Rattle.pop3_client.specs.Turns.{Turn}
-use Rattle.fetch_rules.specs.Plan.{planned}
 use Rattle.fetch_rules.specs.Record.{none_open, marked_all}
 use Rattle.fetch_session.specs.declared.fault.Fault.{Fault}
 use Rattle.fetch_session.specs.declared.report.Outcome.TheVariants.{Ended, Cut as WasCut}
@@ -13,7 +12,7 @@ use Rattle.fetch_session.specs.declared.report.Report.{Report}
 use Rattle.fetch_session.specs.declared.report.ReportLine.{ReportLine}
 use Rattle.fetch_session.specs.Plan.{Prepared, tasks_ahead}
 use Rattle.fetch_session.specs.Record.{Steady}
-use Rattle.fetch_session.specs.Report.{Reports, skipped_in}
+use Rattle.fetch_session.specs.Report.{Reports, skips_planned}
 use Rattle.fetch_session.specs.Scene.{Scene, Went}
 use Rattle.fetch_session.specs.Session.{Enters_with, Kept, Session}
 use Rattle.fetch_session.specs.Target.{AsFiles, in_maildir}
@@ -70,7 +69,7 @@ pub record IsCutThere (settings : Settings) (account : List ℕ) (now : ℕ) (li
   pub files : HasTheSameFiles after left
   pub sent : (later : List ℕ) × (link'.sent ≡ cut.sent ++ later)
   pub got : (later : List ℕ) × (link'.got ≡ cut.got ++ later)
-  pub session : (report : Report) → Reports (WasCut fault) (length items) (skipped_in (planned settings ready.rows items now)) lines report
+  pub session : (report : Report) → Reports (WasCut fault) (length items) (skips_planned settings ready.rows items now) lines report
       → Session settings account now link before report cut after
 
 -- the session, cut there, with this report
@@ -88,5 +87,5 @@ FrontsAreSessions = (world : World) (state : State) (occasion : Occasion) → Is
     → (there : IsCutThere occasion.settings (digits_of occasion.settings) occasion.now occasion.link state.kept occasion.link'
     uncut.items uncut.ready left)
     × ((report : Report) → Reports (WasCut there.fault) (length uncut.items)
-    (skipped_in (planned occasion.settings uncut.ready.rows uncut.items occasion.now)) there.lines report
+    (skips_planned occasion.settings uncut.ready.rows uncut.items occasion.now) there.lines report
     → IsStopped world state (cut_at occasion there.cut there.after report) left)

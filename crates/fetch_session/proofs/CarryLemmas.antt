@@ -18,7 +18,8 @@ use Rattle.fetch_session.specs.Fault.{cut_of}
 use Rattle.fetch_session.specs.Task.{says, tasks_planned}
 use Rattle.fetch_session.specs.Readiness.{IsReady, Unready, Settles}
 use Rattle.fetch_session.specs.Target.{Target, Stores, AsFiles, AsEntries, in_mbox, stores_of}
-use Rattle.fetch_session.specs.Report.{skipped_in}
+use Rattle.fetch_session.specs.declared.report.Skips.{Skips}
+use Rattle.fetch_session.specs.Report.{skips_of}
 use Rattle.fetch_session.specs.Scene.{Scene, scene}
 use Rattle.fetch_session.specs.Plan.{tasks_ahead, Unprepared}
 use Rattle.std.specs.Prelude.{◌⊎◌, All, Contains}
@@ -59,8 +60,8 @@ still (inr both) = inr both.1
 
 -- the planned tasks and QUIT were done once the record was ready, or as far as went well
 pub carried : {D F : Type 0} (disk : DiskGhosts D) (files : FileGhosts F) {sure safe : Type 0} {settings : Settings} {target : Target} {items : List Item} {now : ℕ} {place : Place} {store : Stores} {file : Stored} {lines : List ReportLine} {ready : Ready} {after : List Row}
-    (before : Store D F) {end : Store D F} {f : F} {file' : Stored} (steps : List Step) (held : List Bool) {skipped : ℕ} {r : Result (Unit {0}) Cut} {new : Scene}
-    → IsReady settings target items now store file ready after (stores_of disk files before) file' → steps ≡ ready.steps.items → held ≡ ready.held.items → skipped ≡ skipped_in ready.steps.items
+    (before : Store D F) {end : Store D F} {f : F} {file' : Stored} (steps : List Step) (held : List Bool) {skipped : Skips} {r : Result (Unit {0}) Cut} {new : Scene}
+    → IsReady settings target items now store file ready after (stores_of disk files before) file' → steps ≡ ready.steps.items → held ≡ ready.held.items → skipped ≡ skips_of settings after items now ready.steps.items
     → (sure → All IsQuiet ready.steps.items ⊎ AllStayIn disk before) → (sure → All IsQuiet ready.steps.items ⊎ safe) → KeepsMailIn disk before end
     → DoesForGood disk files safe target (tasks_planned steps items held ++ says quit ∷ []) (scene place (stores_of disk files before) file' after lines) r new end f
     → CarriedForGood disk files sure settings target items now place store file lines r new skipped end f
@@ -72,7 +73,7 @@ carried {D} {F} disk files {sure} {safe} {settings} {target} {items} {now} {plac
         mid = mid;
         prepared = record { was = is.was; stood = is.stood; rows = is.rows; saved = is.saved; file_count = is.file_count; place_is = refl; settles = is.settles; lines_are = refl };
         does = good.does;
-        skips = skipped_is ∙ ap skipped_in is.steps;
+        skips = skipped_is ∙ ap (skips_of settings after items now) is.steps;
       };
       lasts = λ s. quiet_or_lasts (Lasts disk files target (tasks_ahead settings target items now store after) mid r new good.does end f) good.lasts (firm s);
       stay = λ s. quiet_or_stays (all s);

@@ -1,6 +1,7 @@
 -- What a preview says of a listing, message by message.
-use Rattle.std.proofs.Common.{◌≡◌, ◌<◌, ◌≤◌, ◌+◌, ℕ, suc, Bool, true, false, List, [], ◌∷◌, ◌++◌, append_assoc, append-nil, drop, get_or, length, cond, add-one, refl, sym, ap, ◌∙◌, arith}
-use Rattle.std.proofs.lemmas.List.{drop_all}
+use Rattle.std.proofs.Common.{◌≡◌, ◌<◌, ◌≤◌, ◌+◌, ℕ, suc, Bool, true, false, List, [], ◌∷◌, ◌++◌, append_assoc, append-nil, drop, get_or, length, cond, add-one, refl, sym, ap, ap₂, ◌∙◌, arith}
+use Rattle.std.proofs.lemmas.List.{drop_all, get_or-map, length-map}
+use Rattle.std.proofs.lemmas.List.Sums.{sum_by-append}
 use Rattle.std.proofs.Math.Seq.{drop-cons}
 use Rattle.mail_terms.specs.Listing.{Item}
 use Rattle.rc_file.specs.declared.settings.Settings.{Settings}
@@ -10,7 +11,12 @@ use Rattle.fetch_session.specs.declared.prospect.Known.{Known}
 use Rattle.fetch_session.specs.declared.prospect.Prospect.{Prospect}
 use mir.Val.{bool_byte}
 use Rattle.fetch_session.proofs.FreshLemmas.{no_item, step_at}
-use Rattle.fetch_session.specs.Prospect.{known_of, prospect_of, prospects}
+use Rattle.fetch_session.specs.declared.prospect.Fate.{Fate}
+use Rattle.fetch_session.specs.declared.prospect.Fate.TheVariants.{Fetched, FetchedAndDeleted, Deleted, Held, DeliveredBefore, TooLarge, PastLimit, SameId}
+use Rattle.fetch_session.specs.declared.report.LeftOut.{LeftOut}
+use Rattle.fetch_session.specs.Prospect.{fate_of, known_of, prospect_of, prospects}
+use Rattle.fetch_session.specs.Report.{count_fates, is_for_id, is_for_limit, is_for_size, left_out_of, with_fate}
+use Rattle.fetch_session.specs.Target.{none_held}
 
 one_at_most : (b : Bool) → cond b 1 0 ≤ 1
 one_at_most true = omega arith
@@ -19,6 +25,38 @@ one_at_most false = omega arith
 byte_of : (b : Bool) → bool_byte b ≡ cond b 1 0
 byte_of true = refl
 byte_of false = refl
+
+-- a count grows by one at most
+with_at_most : (left : LeftOut) (fate : Fate) → ((with_fate left fate).too_large ≤ left.too_large + 1) × ((with_fate left fate).past_limit ≤ left.past_limit + 1)
+    × ((with_fate left fate).repeated ≤ left.repeated + 1)
+with_at_most left Fetched = (omega arith, omega arith, omega arith)
+with_at_most left FetchedAndDeleted = (omega arith, omega arith, omega arith)
+with_at_most left Deleted = (omega arith, omega arith, omega arith)
+with_at_most left Held = (omega arith, omega arith, omega arith)
+with_at_most left DeliveredBefore = (omega arith, omega arith, omega arith)
+with_at_most left TooLarge = (omega arith, omega arith, omega arith)
+with_at_most left PastLimit = (omega arith, omega arith, omega arith)
+with_at_most left SameId = (omega arith, omega arith, omega arith)
+
+plus_fate : (left : LeftOut) (fate : Fate) → with_fate left fate
+    ≡ record { too_large = left.too_large + cond (is_for_size fate) 1 0; past_limit = left.past_limit + cond (is_for_limit fate) 1 0; repeated = left.repeated + cond (is_for_id fate) 1 0 }
+plus_fate left Fetched = grind arith
+plus_fate left FetchedAndDeleted = grind arith
+plus_fate left Deleted = grind arith
+plus_fate left Held = grind arith
+plus_fate left DeliveredBefore = grind arith
+plus_fate left TooLarge = grind arith
+plus_fate left PastLimit = grind arith
+plus_fate left SameId = grind arith
+
+from_zero : (n : ℕ) → 0 + n ≡ n
+from_zero n = omega arith
+
+count_one : (test : Fate → Bool) (told : List Prospect) (p : Prospect) → count_fates test (told ++ p ∷ []) ≡ count_fates test told + cond (test p.fate) 1 0
+count_one test told p = sum_by-append (λ (q : Prospect). cond (test q.fate) 1 0) told (p ∷ []) ∙ ap (λ n. count_fates test told + n) (from_zero (cond (test p.fate) 1 0))
+
+one_more : (told : List Prospect) (p : Prospect) → with_fate (left_out_of told) p.fate ≡ left_out_of (told ++ p ∷ [])
+one_more told p = rw (count_one is_for_size told p, count_one is_for_limit told p, count_one is_for_id told p) (plus_fate (left_out_of told) p.fate)
 
 module _ (settings : Settings) (rows : List Row) (now : ℕ) where
   -- the preview has the first i messages, and `fetched` of them are fetched
@@ -49,3 +87,53 @@ module _ (settings : Settings) (rows : List Row) (now : ℕ) where
       → told ≡ prospects settings rows now 0 steps items flags
   told_all steps items flags i told fetched was past =
       sym (append-nil told) ∙ ap (λ (ss : List Step). told ++ prospects settings rows now fetched ss (drop i items) (drop i flags)) (sym (drop_all i steps past)) ∙ was.so_far
+
+  -- `left` counts the first i messages, and `fetched` of them are fetched
+  pub record IsCounted (steps : List Step) (items : List Item) (i : ℕ) (left : LeftOut) (fetched : ℕ) : Type 0 where
+    pub told : List Prospect
+    pub is_told : IsTold steps items (none_held items) i told fetched
+    pub counts : left ≡ left_out_of told
+    pub few : fetched ≤ i
+    pub size : left.too_large ≤ i
+    pub limit : left.past_limit ≤ i
+    pub id : left.repeated ≤ i
+
+  pub counted_none : (steps : List Step) (items : List Item) (left : LeftOut) → left ≡ left_out_of [] → IsCounted steps items 0 left 0
+  counted_none steps items left none = record {
+    told = [];
+    is_told = record { so_far = refl; few = omega arith };
+    counts = none;
+    few = omega arith;
+    size = rw none (omega arith);
+    limit = rw none (omega arith);
+    id = rw none (omega arith);
+  }
+
+  pub counted_more : (steps : List Step) (items : List Item) (i : ℕ) (left new : LeftOut) (fetched more : ℕ) (fate : Fate) → IsCounted steps items i left fetched
+      → i < length items → length steps ≡ length items → fate ≡ fate_of settings (step_at steps i) (known_of rows now false (get_or items i no_item)) fetched
+      → new ≡ with_fate left fate → more ≡ bool_byte (step_at steps i).retrieve → IsCounted steps items (i + 1) new (fetched + more)
+  counted_more steps items i left new fetched more fate was within all_steps fate_is new_is more_is = record {
+    told = was.told ++ p ∷ [];
+    is_told = is_told;
+    counts = new_is ∙ ap₂ with_fate was.counts fate_is ∙ one_more was.told p;
+    few = is_told.few;
+    size = rw new_is (omega (arith, was.size, (with_at_most left fate).0));
+    limit = rw new_is (omega (arith, was.limit, (with_at_most left fate).1));
+    id = rw new_is (omega (arith, was.id, (with_at_most left fate).2));
+  }
+    where
+      known : Known
+      known = known_of rows now false (get_or items i no_item)
+
+      p : Prospect
+      p = prospect_of settings now fetched (step_at steps i) known
+
+      unheld : known ≡ known_of rows now (get_or (none_held items) i false) (get_or items i no_item)
+      unheld = ap (λ held. known_of rows now held (get_or items i no_item)) (sym (get_or-map (λ (item : Item). false) items i no_item false within))
+
+      is_told : IsTold steps items (none_held items) (i + 1) (was.told ++ p ∷ []) (fetched + more)
+      is_told = told_more steps items (none_held items) i was.told fetched more known p was.is_told within all_steps (length-map items (λ (item : Item). false)) unheld refl more_is
+
+  pub counted_all : (steps : List Step) (items : List Item) (i : ℕ) (left : LeftOut) (fetched : ℕ) → IsCounted steps items i left fetched → length steps ≤ i
+      → left ≡ left_out_of (prospects settings rows now 0 steps items (none_held items))
+  counted_all steps items i left fetched was past = was.counts ∙ ap left_out_of (told_all steps items (none_held items) i was.told fetched was.is_told past)

@@ -18,10 +18,11 @@ use Rattle.fetch_session.specs.declared.account.Store.TheVariants.{Maildir as In
 use Rattle.fetch_session.specs.declared.fault.Cut.{Cut}
 use Rattle.fetch_session.specs.declared.report.Report.{Report}
 use Rattle.fetch_session.specs.declared.report.ReportLine.{ReportLine}
+use Rattle.fetch_session.specs.declared.report.Skips.{Skips}
 use Rattle.fetch_session.specs.declared.work.Work.{Work}
 use Rattle.fetch_session.specs.Plan.{Carried, Unprepared, tasks_ahead}
 use Rattle.fetch_session.specs.Record.{Steady}
-use Rattle.fetch_session.specs.Report.{Reports}
+use Rattle.fetch_session.specs.Report.{Reports, none_skipped}
 use Rattle.fetch_session.specs.Scene.{Scene, scene, Does}
 use Rattle.fetch_session.specs.Session.{Enters_with, Keeping, LeavesLink, NoRoom, NotEntered, Noted, outcome_of}
 use Rattle.fetch_session.specs.Target.{Target, AsFiles, AsEntries, Stores, stores_of}
@@ -126,21 +127,21 @@ StayFrom disk AsEntries old store = Unit {0}
 pub record CarriedForGood {D F : Type 0} (disk : DiskGhosts D) (files : FileGhosts F) (safe : Type 0) (settings : Settings)
     (target : Target) (items : List Item)
     (now : ℕ) (place : Place) (old : Stores) (file : Stored) (lines : List ReportLine) (result : Result (Unit {0}) Cut) (new : Scene)
-    (skipped : ℕ) (store : Store D F) (f : F) : Type 0 where
+    (skipped : Skips) (store : Store D F) (f : F) : Type 0 where
   pub carried : Carried settings target items now place old file lines result new skipped
   pub lasts : safe → All IsQuiet (planned settings carried.mid.rows items now) ⊎ Lasts disk files target
       (tasks_ahead settings target items now old carried.mid.rows) carried.mid result new carried.does store f
   pub stay : safe → All IsQuiet (planned settings carried.mid.rows items now) ⊎ StayFrom disk target old store
 
 abbrev pub CarriesForGood : {D F : Type 0} → DiskGhosts D → FileGhosts F → Type 0 → Settings → Target → List Item → ℕ → Place → Stores
-    → Stored → List ReportLine → Result (Unit {0}) Cut → Place → Stores → Stored → List ReportLine → ℕ → Store D F → F → Type 0
+    → Stored → List ReportLine → Result (Unit {0}) Cut → Place → Stores → Stored → List ReportLine → Skips → Store D F → F → Type 0
 CarriesForGood disk files safe settings target items now place old file lines (Ok done) place' new file' lines' skipped store f =
     (rows : List Row)
     × CarriedForGood disk files safe settings target items now place old file lines (Ok done)
     (scene place' new file' rows lines') skipped store f
 CarriesForGood disk files safe settings target items now place old file lines (Err cut) place' new file' lines' skipped store f =
     (rows : List Row)
-    × (((skipped ≡ 0) × Unprepared target items now place old file lines cut (scene place' new file' rows lines'))
+    × (((skipped ≡ none_skipped) × Unprepared target items now place old file lines cut (scene place' new file' rows lines'))
     ⊎ CarriedForGood disk files safe settings target items now place old file lines (Err cut)
     (scene place' new file' rows lines') skipped store f)
 

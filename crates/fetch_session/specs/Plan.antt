@@ -13,7 +13,8 @@ use Rattle.fetch_session.specs.Task.{Task, says, tasks_planned}
 use Rattle.fetch_session.specs.Readiness.{Settles, Unready, merged_in}
 use Rattle.fetch_session.specs.Record.{Keeps, Steady}
 use Rattle.fetch_session.specs.Target.{Target, Stores, flags_in}
-use Rattle.fetch_session.specs.Report.{skipped_in}
+use Rattle.fetch_session.specs.declared.report.Skips.{Skips}
+use Rattle.fetch_session.specs.Report.{none_skipped, skips_planned}
 use Rattle.fetch_session.specs.Scene.{Scene, scene, Does}
 
 -- what a session does once its record is ready: the planned tasks, then QUIT
@@ -44,19 +45,19 @@ pub record Unprepared (target : Target) (items : List Item) (now : ℕ) (place :
 -- what was planned was done, or as much as went well
 pub record Carried (settings : Settings) (target : Target) (items : List Item) (now : ℕ) (place : Place)
     (store : Stores) (file : Stored) (lines : List ReportLine) (result : Result (Unit {0}) Cut) (new : Scene)
-    (skipped : ℕ) : Type 0 where
+    (skipped : Skips) : Type 0 where
   pub mid : Scene
   pub prepared : Prepared target items now place store file lines mid
   pub does : Does target (tasks_ahead settings target items now store mid.rows) mid result new
-  pub skips : skipped ≡ skipped_in (planned settings mid.rows items now)
+  pub skips : skipped ≡ skips_planned settings mid.rows items now
 
 -- the listing's steps were prepared and carried out, or as far as went well
 abbrev pub Carries : Settings → Target → List Item → ℕ → Place → Stores → Stored → List ReportLine
-    → Result (Unit {0}) Cut → Place → Stores → Stored → List ReportLine → ℕ → Type 0
+    → Result (Unit {0}) Cut → Place → Stores → Stored → List ReportLine → Skips → Type 0
 Carries settings target items now place store file lines (Ok done) place' store' file' lines' skipped =
     (rows : List Row)
     × Carried settings target items now place store file lines (Ok done) (scene place' store' file' rows lines') skipped
 Carries settings target items now place store file lines (Err cut) place' store' file' lines' skipped =
     (rows : List Row)
-    × (((skipped ≡ 0) × Unprepared target items now place store file lines cut (scene place' store' file' rows lines'))
+    × (((skipped ≡ none_skipped) × Unprepared target items now place store file lines cut (scene place' store' file' rows lines'))
     ⊎ Carried settings target items now place store file lines (Err cut) (scene place' store' file' rows lines') skipped)

@@ -1,16 +1,26 @@
 -- What a report says about a session.
-use Rattle.std.specs.Prelude.{◌≡◌, ◌+◌, ◌*◌, ◌≤◌, ℕ, Bool, true, false, not, List, min, if◌then◌else◌, Vec}
+use Rattle.std.specs.Prelude.{◌≡◌, ◌+◌, ◌*◌, ◌≤◌, ℕ, Bool, true, false, not, List, [], min, if◌then◌else◌, Vec}
 use Rattle.std.specs.Vec.{vec_len, vec_capacity}
 use Rattle.std.specs.List.{filter, count_by, sum_by}
-use Rattle.mail_terms.specs.Listing.{message_limit}
 use Rattle.mail_terms.specs.Numeral.{greatest_size}
+use Rattle.mail_terms.specs.Listing.{Item, message_limit}
+use Rattle.rc_file.specs.declared.settings.Settings.{Settings}
+use Rattle.fetch_rules.specs.Plan.{planned}
+use Rattle.fetch_rules.specs.Record.{Row}
 use Rattle.fetch_rules.specs.declared.steps.Step.{Step}
 use Rattle.fetch_session.specs.declared.fault.Fault.TheVariants.{StoreRefused, SeenRefused, BadSeen}
+use Rattle.fetch_session.specs.declared.prospect.Fate.{Fate}
+use Rattle.fetch_session.specs.declared.prospect.Fate.TheVariants.{TooLarge, PastLimit, SameId}
+use Rattle.fetch_session.specs.declared.prospect.Prospect.{Prospect}
+use Rattle.fetch_session.specs.declared.report.LeftOut.{LeftOut}
+use Rattle.fetch_session.specs.declared.report.Skips.{Skips}
 use Rattle.fetch_session.specs.declared.report.Report.{Report}
 use Rattle.fetch_session.specs.declared.report.Outcome.{Outcome}
 use Rattle.fetch_session.specs.declared.report.Outcome.TheVariants.{Cut}
 use Rattle.fetch_session.specs.declared.report.ReportLine.{ReportLine}
 use Rattle.fetch_session.specs.declared.report.ReportLine.TheVariants.{Delivered, Held, Deleted}
+use Rattle.fetch_session.specs.Prospect.{prospects}
+use Rattle.fetch_session.specs.Target.{none_held}
 
 -- there is room for `n` more lines
 abbrev pub HasRoom : {Z : Type 0} → Vec ReportLine Z → ℕ → Type 0
@@ -54,6 +64,51 @@ without_deletions lines = filter (λ line. not (is_deletion line)) lines
 abbrev pub skipped_in : List Step → ℕ
 skipped_in steps = count_by (λ (step : Step). not step.retrieve) steps
 
+abbrev pub is_for_size : Fate → Bool
+is_for_size TooLarge = true
+is_for_size _ = false
+
+abbrev pub is_for_limit : Fate → Bool
+is_for_limit PastLimit = true
+is_for_limit _ = false
+
+abbrev pub is_for_id : Fate → Bool
+is_for_id SameId = true
+is_for_id _ = false
+
+-- how many of these messages have such a fate
+abbrev pub count_fates : (Fate → Bool) → List Prospect → ℕ
+count_fates test told = count_by (λ (prospect : Prospect). test prospect.fate) told
+
+-- how many of these messages are left out, by their reasons
+abbrev pub left_out_of : List Prospect → LeftOut
+left_out_of told = record {
+  too_large = count_fates is_for_size told;
+  past_limit = count_fates is_for_limit told;
+  repeated = count_fates is_for_id told;
+}
+
+-- the same, with one more such message
+abbrev pub with_fate : LeftOut → Fate → LeftOut
+with_fate left TooLarge = record left { too_large = left.too_large + 1 }
+with_fate left PastLimit = record left { past_limit = left.past_limit + 1 }
+with_fate left SameId = record left { repeated = left.repeated + 1 }
+with_fate left _ = left
+
+-- what these steps pass over, by a merged record: it has each message that the store holds as delivered
+abbrev pub skips_of : Settings → List Row → List Item → ℕ → List Step → Skips
+skips_of settings rows items now steps = record {
+  all = skipped_in steps;
+  left_out = left_out_of (prospects settings rows now 0 steps items (none_held items));
+}
+
+-- what the plan passes over
+abbrev pub skips_planned : Settings → List Row → List Item → ℕ → Skips
+skips_planned settings rows items now = skips_of settings rows items now (planned settings rows items now)
+
+abbrev pub none_skipped : Skips
+none_skipped = record { all = 0; left_out = left_out_of [] }
+
 -- whether the server is asked to take back its marks
 abbrev pub takes_back : Outcome → Bool
 takes_back (Cut (StoreRefused why)) = true
@@ -74,11 +129,12 @@ abbrev pub most_lines : ℕ
 most_lines = 2 * message_limit
 
 -- the report of a session with this outcome: `total` messages were listed, the plan passes over `skipped`, and these lines were noted
-pub record Reports (outcome : Outcome) (total skipped : ℕ) (lines : List ReportLine) (report : Report) : Type 0 where
+pub record Reports (outcome : Outcome) (total : ℕ) (skipped : Skips) (lines : List ReportLine) (report : Report) : Type 0 where
   pub outcome_is : report.outcome ≡ outcome
   pub total_is : report.total ≡ total
   pub retrieved_is : report.retrieved ≡ retrieved_in lines
   pub bytes_are : report.bytes ≡ most_bytes (length_of lines)
-  pub skipped_is : report.skipped ≡ skipped
+  pub skipped_is : report.skipped ≡ skipped.all
+  pub left_out_is : report.left_out ≡ skipped.left_out
   pub deleted_is : report.deleted ≡ deleted_in (kept_lines outcome lines)
   pub lines_are : report.lines.items ≡ kept_lines outcome lines

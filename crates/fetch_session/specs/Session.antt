@@ -14,20 +14,21 @@ use Rattle.fetch_session.specs.declared.report.Outcome.{Outcome}
 use Rattle.fetch_session.specs.declared.report.Outcome.TheVariants.{Ended, Cut as WasCut}
 use Rattle.fetch_session.specs.declared.report.Report.{Report}
 use Rattle.fetch_session.specs.declared.report.ReportLine.{ReportLine}
+use Rattle.fetch_session.specs.declared.report.Skips.{Skips}
 use Rattle.fetch_session.specs.Fault.{cut_of, fault_of}
 use Rattle.fetch_session.specs.Opening.{Enters}
 use Rattle.fetch_session.specs.Plan.{Carries}
 use Rattle.fetch_session.specs.Tail.{Left}
-use Rattle.fetch_session.specs.Report.{Reports}
+use Rattle.fetch_session.specs.Report.{Reports, none_skipped}
 use Rattle.fetch_session.specs.Target.{Target, AsFiles, AsEntries, Stores, in_maildir, in_mbox}
 
 -- what a session noted: how many messages were listed, how many its plan passes over, and what was done
 pub record Noted : Type 0 where
   pub total : ℕ
-  pub skipped : ℕ
+  pub skipped : Skips
   pub lines : List ReportLine
 
-abbrev pub noted : ℕ → ℕ → List ReportLine → Noted
+abbrev pub noted : ℕ → Skips → List ReportLine → Noted
 noted total skipped lines = record { total = total; skipped = skipped; lines = lines }
 
 -- what the store holds, and the record's file
@@ -59,7 +60,7 @@ pub record NotEntered (settings : Settings) (old : Place) (before : Keeping) (cu
   pub is : cut ≡ cut_of (fault_of why) None
   pub enters : Enters_with settings old (Err why) new
   pub same : after ≡ before
-  pub nothing : notes ≡ noted 0 0 []
+  pub nothing : notes ≡ noted 0 none_skipped []
 
 -- memory ran out for the notes on the listed messages
 pub record NoRoom (settings : Settings) (old : Place) (before : Keeping) (cut : Cut) (new : Place) (after : Keeping)
@@ -68,7 +69,7 @@ pub record NoRoom (settings : Settings) (old : Place) (before : Keeping) (cut : 
   pub is : cut ≡ cut_of NoMemory None
   pub enters : Enters_with settings old (Ok items) new
   pub same : after ≡ before
-  pub nothing : notes ≡ noted (length items) 0 []
+  pub nothing : notes ≡ noted (length items) none_skipped []
 
 -- the listing was known, and its messages were dealt with, or as far as went well
 pub record Dealt (settings : Settings) (target : Target) (now : ℕ) (old : Place) (before : Keeping)

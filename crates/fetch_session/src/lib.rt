@@ -28,6 +28,6 @@ pub use laws::{steady_files_keep, stopping_cuts_short, unsaved_files_keep};
 pub use one_session::session;
 pub use preview::{Preview, pretend};
 pub use prospect::{Fate, Prospect};
-pub use report::{Outcome, Report, ReportLine};
+pub use report::{LeftOut, Outcome, Report, ReportLine};
 pub use telling::preview_text;
 pub use text::{fault_number, fault_text, report_text};

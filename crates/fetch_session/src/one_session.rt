@@ -12,7 +12,7 @@ ghost use Rattle.fetch_session.specs.Intake.{GotAtMost, session_limit, TookWithT
 ghost use Rattle.fetch_session.specs.Refusal.{RefusesByOutcome};
 ghost use Rattle.fetch_session.specs.Lasting.{ProceedsForGood, SessionForGood, is_sure};
 ghost use Rattle.fetch_session.specs.Parts.{KeepsLink, KeepsStore};
-ghost use Rattle.fetch_session.specs.Report.{Reports, most_lines};
+ghost use Rattle.fetch_session.specs.Report.{Reports, most_lines, none_skipped};
 ghost use Rattle.fetch_session.specs.Session.{MboxSession, Session, keeping, kept, mbox_kept, noted};
 ghost use Rattle.fetch_session.specs.Target.{AfterTakingIn, IsCalm, IsSoundMaildir, IsSoundMbox};
 ghost use Rattle.fetch_session.specs.Target.{is_sound, kind_of, maildir_of, mbox_of, stores_of, target_of};
@@ -21,7 +21,7 @@ use crate::account::Account;
 use crate::fault::{Cut, Fault, broken, plain};
 use crate::opening::enter;
 use crate::plan::carry_out;
-use crate::report::{Outcome, Report, ReportLine, report_of};
+use crate::report::{Outcome, Report, ReportLine, Skips, none_skipped, report_of};
 use crate::tail::leave;
 use crate::terms::Terms;
 use crate::work::Work;
@@ -36,7 +36,7 @@ use std::vec::Vec;
 #[derive(Drop)]
 struct Counts {
     total: u32,
-    skipped: u32,
+    skipped: Skips,
 }
 
 /// The report of a session with this outcome.
@@ -58,7 +58,7 @@ fn proceed<W: Wire, D: MaildirDisk, F: FlatFile, H: BuildHasher>(
     requires valid { IsValid terms.settings.now }
     requires digits { IsAccountText terms.account.now }
     requires calm { IsCalm D.MaildirDisk F.FlatFile work.old.store }
-    requires nothing { (counts.old.total ≡ 0) × (counts.old.skipped ≡ 0)
+    requires nothing { (counts.old.total ≡ 0) × (counts.old.skipped ≡ none_skipped)
         × (work.old.ledger.lines.items ≡ []) × (vec_len work.old.ledger.lines ≡ 0) }
     ensures link { KeepsLink W.Wire (TookWithTail (opening_limit + (counts.new.total * step_limit + tail_limit))) client.old result
         client.new }
@@ -106,7 +106,7 @@ fn session_over<W: Wire, D: MaildirDisk, F: FlatFile, H: BuildHasher>(
     conversations_are_paced();
     let mut counts = Counts {
         total: 0,
-        skipped: 0,
+        skipped: none_skipped(),
     };
     account.work.ledger.lines = Vec::new(account.work.ledger.alloc);
     let terms = Terms {

@@ -9,12 +9,13 @@ ghost use Rattle.fetch_session.specs.Work.{WhereWorkSound};
 ghost use Rattle.fetch_session.specs.Intake.{TookWithTail, step_limit, tail_limit};
 ghost use Rattle.fetch_session.specs.Lasting.{CarriesForGood, is_sure};
 ghost use Rattle.fetch_session.specs.Parts.{KeepsLink, KeepsStore};
-ghost use Rattle.fetch_session.specs.Report.{HasRoom};
+ghost use Rattle.fetch_session.specs.Report.{HasRoom, none_skipped};
 
 use crate::ending::end;
 use crate::fault::{Cut, plain};
+use crate::prospect::skips_of;
 use crate::readiness::{Ready, prepare};
-use crate::report::skipped_in;
+use crate::report::Skips;
 use crate::step::do_steps;
 use crate::terms::Terms;
 use crate::work::Work;
@@ -31,13 +32,13 @@ pub fn carry_out<W: Wire, D: MaildirDisk, F: FlatFile, H: BuildHasher>(
     work: &mut Work<D, F, H>,
     terms: Terms<'_>,
     listing: &Listing,
-    skipped: &mut u32,
+    skipped: &mut Skips,
 ) -> Result<(), Cut>
     requires digits { IsAccountText terms.account.now }
     requires room { HasRoom work.old.ledger.lines (2 * length listing.now) }
     requires calm { IsCalm D.MaildirDisk F.FlatFile work.old.store }
     requires legal { AllByRecursion (λ item. IsLegalId item.uid) listing.now }
-    requires none_skipped { skipped.old ≡ 0 }
+    requires none_skipped { skipped.old ≡ none_skipped }
     requires few { length listing.now ≤ message_limit }
     ensures link { KeepsLink W.Wire (TookWithTail (length listing.now * step_limit + tail_limit)) client.old result client.new }
     ensures store { KeepsStore D.MaildirDisk F.FlatFile (2 * length listing.now) work.old work.new }
@@ -62,7 +63,7 @@ pub fn carry_out<W: Wire, D: MaildirDisk, F: FlatFile, H: BuildHasher>(
         Err(fault) => return Err(plain(fault)),
     };
     let Ready { held, steps } = ready;
-    *skipped = skipped_in(&steps);
+    *skipped = skips_of(terms, &work.ledger.seen, listing, &steps);
     if let Err(cut) = do_steps(client, work, terms.account, &steps, listing, &held) {
         return Err(cut);
     }

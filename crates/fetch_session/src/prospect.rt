@@ -1,8 +1,12 @@
 //! What a run would do with each message of a listing, and why it would do nothing with some.
-ghost use Rattle.std.specs.Prelude.{◌≡◌, ◌<◌, ◌&&◌, ◌||◌, ◌==◌, not, nat_le, length, HoldsAt, IfOk};
+ghost use Rattle.std.specs.Prelude.{◌≡◌, ◌<◌, ◌≤◌, ◌&&◌, ◌||◌, ◌==◌, false, not, nat_le, length, HoldsAt, IfOk};
+ghost use Rattle.mail_terms.specs.Listing.{message_limit};
 ghost use Rattle.fetch_rules.specs.Wanted.{is_within};
 ghost use Rattle.fetch_session.specs.Prospect.{due_of, due_second, fate_of, is_past_limit, known_of, prospect_of, prospects, reason, waits};
+ghost use Rattle.fetch_session.specs.Report.{left_out_of, skips_of, with_fate};
+ghost use Rattle.fetch_session.specs.Target.{none_held};
 
+use crate::report::{LeftOut, Skips, none_skipped, skipped_in};
 use crate::terms::Terms;
 use fetch_rules::{Listing, SECONDS_PER_DAY, Seen, Settings, Step};
 use std::alloc::{AllocError, Global};
@@ -185,4 +189,75 @@ pub(crate) fn prospects<H: BuildHasher>(
         fetched += u64::from(step.retrieve);
     }
     Ok(told)
+}
+
+impl LeftOut {
+    /// Counts a message with this fate, if it is left out although it isn't known.
+    fn count(&mut self, fate: Fate)
+        requires { (self.old.too_large < 4294967295) × (self.old.past_limit < 4294967295) × (self.old.repeated < 4294967295) }
+        ensures { self.new ≡ with_fate self.old fate }
+    {
+        match fate {
+            Fate::TooLarge => self.too_large += 1,
+            Fate::PastLimit => self.past_limit += 1,
+            Fate::SameId => self.repeated += 1,
+            _ => {}
+        }
+    }
+}
+
+/// What is done with message `i + 1`, or why nothing, if `fetched` before it are fetched. What the store
+/// holds isn't asked: the record has it as delivered.
+fn recorded_fate<H: BuildHasher>(
+    terms: Terms<'_>,
+    seen: &Seen<H>,
+    listing: &Listing,
+    step: Step,
+    fetched: u64,
+    i: u32,
+) -> Fate
+    requires { i < length listing.now }
+    ensures { HoldsAt (λ item. result ≡ fate_of terms.entry.settings.now step
+        (known_of seen.now.rows terms.entry.now false item) fetched) listing.now i }
+{
+    let known = known_of(seen, listing, false, terms.now, i);
+    fate_of(terms.settings, step, known, fetched)
+}
+
+/// How many messages that aren't known these steps leave out, by their reasons.
+fn left_out<H: BuildHasher>(
+    terms: Terms<'_>,
+    seen: &Seen<H>,
+    listing: &Listing,
+    steps: &[Step],
+) -> LeftOut
+    requires { length steps.now ≡ length listing.now }
+    ensures { result ≡ left_out_of (prospects terms.entry.settings.now seen.now.rows terms.entry.now 0 steps.now listing.now
+        (none_held listing.now)) }
+{
+    let mut left = none_skipped().left_out;
+    let mut fetched: u64 = 0;
+    for i in 0..listing.len() {
+        let step = steps[i as usize];
+        left.count(recorded_fate(terms, seen, listing, step, fetched, i));
+        fetched += u64::from(step.retrieve);
+    }
+    left
+}
+
+/// What these steps pass over, by the record once the listing is merged into it.
+pub(crate) fn skips_of<H: BuildHasher>(
+    terms: Terms<'_>,
+    seen: &Seen<H>,
+    listing: &Listing,
+    steps: &[Step],
+) -> Skips
+    requires all_steps { length steps.now ≡ length listing.now }
+    requires few { length listing.now ≤ message_limit }
+    ensures { result ≡ skips_of terms.entry.settings.now seen.now.rows listing.now terms.entry.now steps.now }
+{
+    Skips {
+        all: skipped_in(steps),
+        left_out: left_out(terms, seen, listing, steps),
+    }
 }

@@ -4,7 +4,7 @@ ghost use Rattle.std.specs.Vec.{vec_capacity};
 ghost use Rattle.mail_terms.specs.Listing.{message_limit};
 ghost use Rattle.fetch_session.specs.Report.{HasRoom, is_deletion, is_taken, length_in, takes_back, kept_lines};
 ghost use Rattle.fetch_session.specs.Report.{retrieved_in, length_of, deleted_in, skipped_in, most_bytes, most_lines};
-ghost use Rattle.fetch_session.specs.Report.{Reports};
+ghost use Rattle.fetch_session.specs.Report.{Reports, none_skipped};
 ghost use Rattle.fetch_session.specs.Ending.{has_deletions};
 
 use crate::fault::Fault;
@@ -33,6 +33,26 @@ pub enum Outcome {
     Cut(Fault),
 }
 
+/// How many messages that aren't known a session leaves out, by their reasons.
+#[derive(Clone, Copy, Debug, PartialEq, Eq)]
+pub struct LeftOut {
+    /// Their size is above the limit.
+    pub too_large: u32,
+    /// As many messages as a session may fetch come before them.
+    pub past_limit: u32,
+    /// An earlier message has their id.
+    pub repeated: u32,
+}
+
+/// How many messages a plan passes over.
+#[derive(Clone, Copy, Drop)]
+pub struct Skips {
+    /// All of them.
+    pub all: u32,
+    /// Those that aren't known.
+    pub left_out: LeftOut,
+}
+
 /// What a session did.
 #[derive(Drop)]
 pub struct Report {
@@ -46,10 +66,26 @@ pub struct Report {
     pub bytes: u64,
     /// How many messages the plan passes over, whether or not the session came to them.
     pub skipped: u32,
+    /// Of these, those that aren't known.
+    pub left_out: LeftOut,
     /// How many messages were deleted; 0 if the server was asked to take back its marks.
     pub deleted: u32,
     /// What was done, in order.
     pub lines: Vec<ReportLine>,
+}
+
+/// Before there is a plan, nothing is passed over.
+pub(crate) fn none_skipped() -> Skips
+    ensures { result ≡ none_skipped }
+{
+    Skips {
+        all: 0,
+        left_out: LeftOut {
+            too_large: 0,
+            past_limit: 0,
+            repeated: 0,
+        },
+    }
 }
 
 /// Adds a line, for which there is room.
@@ -180,7 +216,7 @@ fn kept_lines(outcome: &Outcome, lines: Vec<ReportLine>) -> Vec<ReportLine>
 pub(crate) fn report_of(
     outcome: Outcome,
     total: u32,
-    skipped: u32,
+    skipped: Skips,
     lines: Vec<ReportLine>,
 ) -> Report
     requires { length lines.items ≤ most_lines }
@@ -195,7 +231,8 @@ pub(crate) fn report_of(
         total,
         retrieved,
         bytes,
-        skipped,
+        skipped: skipped.all,
+        left_out: skipped.left_out,
         deleted,
         lines,
     }

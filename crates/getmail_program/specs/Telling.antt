@@ -1,9 +1,10 @@
 -- What is told at a session's end.
-use Rattle.std.specs.Prelude.{◌≡◌, ◌⊎◌, ℕ, Bool, true, false, ◌==◌, List, [], ◌++◌, Option, None, Some, codes, if◌then◌else◌}
+use Rattle.std.specs.Prelude.{◌≡◌, ◌⊎◌, ℕ, Bool, true, false, ◌==◌, List, [], ◌++◌, Option, None, Some, codes, length, if◌then◌else◌}
 use Rattle.std.specs.Fmt.{decimal}
 use Rattle.std.specs.String.{string_bytes}
 use Rattle.rc_file.specs.declared.settings.Settings.{Settings}
 use Rattle.fetch_session.specs.declared.fault.Fault.{Fault}
+use Rattle.fetch_session.specs.declared.report.LeftOut.{LeftOut}
 use Rattle.fetch_session.specs.declared.report.Outcome.{Outcome}
 use Rattle.fetch_session.specs.declared.report.Outcome.TheVariants.{Ended, Cut}
 use Rattle.fetch_session.specs.Telling.{preview_text}
@@ -49,6 +50,32 @@ reason_line settings reason =
     ((codes "getmail: " ++ (string_bytes settings.username ++ (codes "@" ++ (string_bytes settings.server
     ++ (codes ":" ++ (decimal settings.port ++ codes ": ")))))) ++ reason) ++ codes "\n"
 
+-- how many messages were left out for one reason, and its words
+abbrev pub count_text : ℕ → List ℕ → List ℕ
+count_text count words = if count == 0 then [] else decimal count ++ words
+
+-- two texts, with a comma between them if neither is empty
+abbrev pub with_comma : List ℕ → List ℕ → List ℕ
+with_comma first second =
+    if length first == 0 then second else if length second == 0 then first else first ++ (codes ", " ++ second)
+
+-- how many messages were left out for each reason
+abbrev pub left_out_text : LeftOut → List ℕ
+left_out_text left =
+    with_comma (with_comma (count_text left.too_large (codes " too large")) (count_text left.past_limit (codes " past the limit")))
+    (count_text left.repeated (codes " with a repeated unique-id"))
+
+-- the line on messages that were left out although they aren't known, if there are any
+abbrev pub left_out_line : Settings → LeftOut → List ℕ
+left_out_line settings left =
+    if length (left_out_text left) == 0 then [] else reason_line settings (codes "left out: " ++ left_out_text left)
+
+-- such a line is written if reasons are asked for; a preview tells of each message
+abbrev pub left_out_said : {R : Type 0} → Settings → Option R → Told → List ℕ
+left_out_said settings None told = []
+left_out_said settings (Some reasons) (Done report) = left_out_line settings report.left_out
+left_out_said settings (Some reasons) (Ahead preview) = []
+
 -- a session was cut for want of memory, which the line of its fault says
 abbrev pub lacks_memory : Outcome → Bool
 lacks_memory outcome = outcome_number outcome == 13
@@ -83,7 +110,8 @@ status_when Ended (Some why) foreseen = 1
 status_when (Cut fault) why foreseen = 1
 
 -- what a session said was written to `out`, and nothing else; to `err` were written the line of the fault that cut it with its reason,
--- the line of a text that wasn't written, and after a preview the line of the fault that would cut a run, with its reason
+-- the line of a text that wasn't written, after a preview the line of the fault that would cut a run, with its reason, and the line on
+-- messages that were left out
 pub record TellsAll {O E : Type 0} (out_contents : O → Option (List ℕ)) (err_contents : E → Option (List ℕ)) (pretends : Bool)
     (settings : Settings) (told : Told) (out : Output O) (old : Errors E) (fetched : Fetched) (out' : Output O) (new : Errors E)
     : Type 0 where
@@ -96,5 +124,5 @@ pub record TellsAll {O E : Type 0} (out_contents : O → Option (List ℕ)) (err
   pub is_reason : IsReason settings old.reasons (outcome_of told) reason
   pub further : List ℕ
   pub is_further : IsReason settings old.reasons foreseen further
-  pub said : Puts err_contents old.err (((outcome_line (outcome_of told) ++ reason) ++ unwritten_line (outcome_of told) out'.refusal)
-      ++ (outcome_line foreseen ++ further)) new.err
+  pub said : Puts err_contents old.err ((((outcome_line (outcome_of told) ++ reason) ++ unwritten_line (outcome_of told) out'.refusal)
+      ++ (outcome_line foreseen ++ further)) ++ left_out_said settings old.reasons told) new.err

@@ -6,6 +6,7 @@ ghost use Rattle.getmail_program.specs.Telling.{TellsAll, TellsCut, lacks_memory
 use crate::doubt::doubt_of;
 use crate::failure::OUT_OF_MEMORY;
 use crate::fault_line::put_fault;
+use crate::left_out::tell_left_out;
 use crate::output::{Output, Refusal};
 use crate::told::Told;
 use crate::why::{Errors, reason_line};
@@ -120,7 +121,8 @@ fn status_when(outcome: Outcome, refusal: Option<Refusal>, foreseen: Outcome) ->
 }
 
 /// Writes what a session says at its end to `out`, and to standard error the line of the fault that cut it
-/// and its reason, whether the text wasn't written, and, after a preview, the fault that would cut a run.
+/// and its reason, whether the text wasn't written, after a preview the fault that would cut a run, and how
+/// many messages were left out.
 pub fn tell_all<R: Files + AllocGlobal, O: Write, E: Write>(
     host: &R,
     settings: &Settings,
@@ -141,6 +143,7 @@ pub fn tell_all<R: Files + AllocGlobal, O: Write, E: Write>(
         .put(unwritten_line(&outcome, out.refusal()).as_bytes());
     let ahead = foreseen(host, settings, manner.destination, told, manner.pretends);
     tell_cut(alloc, settings, manner.destination, &ahead, errors);
+    tell_left_out(alloc, settings, told, errors);
     Fetched {
         status: status_when(outcome, out.refusal(), ahead),
         is_idle: told.is_idle(),

@@ -6,6 +6,7 @@ mod doubt;
 mod ending;
 mod failure;
 mod fault_line;
+mod left_out;
 mod output;
 mod place;
 mod progress;

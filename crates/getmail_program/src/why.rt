@@ -68,7 +68,7 @@ fn reason_of(
 }
 
 /// The line of a reason: `getmail: `, the account, and the reason.
-fn line_of(alloc: Global, settings: &Settings, reason: &[u8]) -> Result<Vec<u8>, AllocError>
+pub fn line_of(alloc: Global, settings: &Settings, reason: &[u8]) -> Result<Vec<u8>, AllocError>
     ensures { IfOk result (λ line. line.items ≡ reason_line settings.now reason.now) }
 {
     let Settings {

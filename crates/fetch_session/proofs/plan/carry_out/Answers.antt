@@ -6,7 +6,7 @@ use Rattle.fetch_rules.specs.Record.{has_row}
 use Rattle.pop3_client.specs.Turns.{quit}
 use Rattle.fetch_session.specs.Target.{stores_of}
 use Rattle.fetch_session.specs.Task.{says, tasks_planned}
-use Rattle.fetch_session.specs.Report.{skipped_in}
+use Rattle.fetch_session.specs.Report.{skips_of}
 use Rattle.fetch_session.specs.Intake.{TookTillCut, step_limit, tail_limit}
 use Rattle.fetch_session.specs.Parts.{IsReadyFor, KeepsLink, KeepsStore}
 use Rattle.fetch_session.proofs.PlanLemmas.{flags_same, fresh_firsts}
@@ -64,7 +64,7 @@ returns-in-Err-do_steps-clause-carries g c = λ w d f.
         (
           c.do_steps.new.work.ledger.seen.rows,
           inr (carried g.D.MaildirDisk g.F.FlatFile c.prepare.new.store c.deref-2.result.now c.deref-3.result.now ready.2.2 c.deref-2.ensures.value c.deref-3.ensures.value
-              (c.skipped_in.ensures ∙ ap skipped_in c.deref.ensures.value) (λ sure. still (c.in-Ok.ensures.lasts done.1 sure.0)) (λ sure. firm_both (c.in-Ok.ensures.file_lasts done.2 sure.1) (c.in-Ok.ensures.lasts done.1 sure.0)) (c.in-Err-do_steps.ensures.keeps.lasts d f).1
+              (c.skips_of.ensures ∙ ap (skips_of c.args.terms.settings.now c.prepare.new.seen.rows c.args.listing.now c.args.terms.now) c.deref.ensures.value) (λ sure. still (c.in-Ok.ensures.lasts done.1 sure.0)) (λ sure. firm_both (c.in-Ok.ensures.file_lasts done.2 sure.1) (c.in-Ok.ensures.lasts done.1 sure.0)) (c.in-Err-do_steps.ensures.keeps.lasts d f).1
               (good_before (says quit ∷ []) (in_kind c.prepare.new.store c.args.work.now.store c.args.terms.account.now c.prepare.ensures.kind done.4
               (λ safe. safe)))),
         ),
@@ -93,7 +93,7 @@ returns-in-Ok-end-clause-carries g c = λ w d f.
         (
           c.end.new.work.ledger.seen.rows,
           (carried g.D.MaildirDisk g.F.FlatFile c.prepare.new.store c.deref-2.result.now c.deref-3.result.now ready.2.2 c.deref-2.ensures.value c.deref-3.ensures.value
-              (c.skipped_in.ensures ∙ ap skipped_in c.deref.ensures.value) (λ sure. still (c.in-Ok.ensures.lasts done.1 sure.0)) (λ sure. firm_both (c.in-Ok.ensures.file_lasts done.2 sure.1) (c.in-Ok.ensures.lasts done.1 sure.0))
+              (c.skips_of.ensures ∙ ap (skips_of c.args.terms.settings.now c.prepare.new.seen.rows c.args.listing.now c.args.terms.now) c.deref.ensures.value) (λ sure. still (c.in-Ok.ensures.lasts done.1 sure.0)) (λ sure. firm_both (c.in-Ok.ensures.file_lasts done.2 sure.1) (c.in-Ok.ensures.lasts done.1 sure.0))
               ((kept_on tasks (says quit ∷ []) (Ok tt) c.in_default.ensures.keeps keeps).lasts d f).1
               (in_kind c.prepare.new.store c.args.work.now.store account c.prepare.ensures.kind done.4 (λ safe. safe))),
         ),
@@ -118,7 +118,7 @@ returns-clause-carries g c = λ w d f.
         (
           c.end.new.work.ledger.seen.rows,
           inr (carried g.D.MaildirDisk g.F.FlatFile c.prepare.new.store c.deref-2.result.now c.deref-3.result.now ready.2.2 c.deref-2.ensures.value c.deref-3.ensures.value
-              (c.skipped_in.ensures ∙ ap skipped_in c.deref.ensures.value) (λ sure. still (c.in-Ok.ensures.lasts done.1 sure.0)) (λ sure. firm_both (c.in-Ok.ensures.file_lasts done.2 sure.1) (c.in-Ok.ensures.lasts done.1 sure.0))
+              (c.skips_of.ensures ∙ ap (skips_of c.args.terms.settings.now c.prepare.new.seen.rows c.args.listing.now c.args.terms.now) c.deref.ensures.value) (λ sure. still (c.in-Ok.ensures.lasts done.1 sure.0)) (λ sure. firm_both (c.in-Ok.ensures.file_lasts done.2 sure.1) (c.in-Ok.ensures.lasts done.1 sure.0))
               ((kept_on tasks (says quit ∷ []) (Err cut) c.in_default.ensures.keeps keeps).lasts d f).1
               (in_kind c.prepare.new.store c.args.work.now.store account c.prepare.ensures.kind done.4 (λ safe. safe))),
         ),

@@ -1,7 +1,7 @@
 use Rattle.std.proofs.Common.{◌∙◌, ℕ, List, ap₂, subst}
 use Rattle.getmail_program.specs.Output.{Puts}
-use Rattle.getmail_program.specs.Telling.{IsReason, TellsCut, status_when, unwritten_line}
-use Rattle.getmail_program.proofs.OutputLemmas.{said}
+use Rattle.getmail_program.specs.Telling.{IsReason, TellsCut, left_out_said, status_when, unwritten_line}
+use Rattle.getmail_program.proofs.OutputLemmas.{puts_both, said}
 use Rattle.getmail_program.proofs.ending.tell_all.Goals as goal
 
 pub returns-clause-told : goal.returns-clause-told
@@ -10,6 +10,8 @@ returns-clause-told g c =
     c.outcome-outcome.ensures c.tell_cut.ensures in
     let unwritten = subst (λ (octets : List ℕ). Puts g.E.Write.contents c.tell_cut.new.errors.err octets c.put.new.self)
     (c.as_bytes.ensures.value ∙ c.unwritten_line.ensures ∙ ap₂ unwritten_line c.outcome-outcome.ensures c.refusal.ensures) c.put.ensures in
+    let left = subst (λ reasons. Puts g.E.Write.contents c.tell_cut-2.new.errors.err (left_out_said c.args.settings.now reasons c.args.told.now) c.tell_left_out.new.errors.err)
+    (c.tell_cut-2.ensures.same ∙ c.tell_cut.ensures.same) c.tell_left_out.ensures in
     record {
       idle = c.is_idle.ensures;
       reported = c.write.ensures;
@@ -22,5 +24,5 @@ returns-clause-told g c =
       further = c.tell_cut-2.ensures.reason;
       is_further = subst (λ reasons. IsReason c.args.settings.now reasons c.foreseen-ahead.result c.tell_cut-2.ensures.reason)
           c.tell_cut.ensures.same c.tell_cut-2.ensures.is_reason;
-      said = said _ _ _ _ _ _ _ _ _ cut unwritten c.tell_cut-2.ensures;
+      said = puts_both _ _ _ _ _ _ (said _ _ _ _ _ _ _ _ _ cut unwritten c.tell_cut-2.ensures) left;
     }

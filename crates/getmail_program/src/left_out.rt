@@ -1,0 +1,94 @@
+//! The line on messages that a session left out although they aren't known.
+ghost use Rattle.std.specs.Prelude.{◌≡◌, IfOk};
+ghost use Rattle.std.specs.String.{string_bytes};
+ghost use Rattle.getmail_program.specs.Output.{Puts};
+ghost use Rattle.getmail_program.specs.Telling.{count_text, left_out_line, left_out_said, left_out_text, with_comma};
+
+use crate::failure::OUT_OF_MEMORY;
+use crate::told::Told;
+use crate::why::{Errors, line_of};
+use fetch_rules::Settings;
+use fetch_session::LeftOut;
+use std::alloc::{AllocError, Global};
+use std::io::Write;
+use std::vec::Vec;
+
+/// How many messages were left out for one reason, and its words; empty if there are none.
+fn count_text(alloc: Global, count: u32, words: &str) -> Result<String, AllocError>
+    ensures { IfOk result (λ text. string_bytes text ≡ count_text count words.now) }
+{
+    if count == 0 {
+        return Ok(String::new(alloc));
+    }
+    format!(in alloc; "{count}{words}")
+}
+
+/// Two texts, with a comma between them if neither is empty.
+fn with_comma(alloc: Global, first: String, second: String) -> Result<String, AllocError>
+    ensures { IfOk result (λ text. string_bytes text ≡ with_comma (string_bytes first) (string_bytes second)) }
+{
+    if first.is_empty() {
+        return Ok(second);
+    }
+    if second.is_empty() {
+        return Ok(first);
+    }
+    format!(in alloc; "{first}, {second}")
+}
+
+/// How many messages were left out for each reason.
+fn left_out_text(alloc: Global, left: &LeftOut) -> Result<String, AllocError>
+    ensures { IfOk result (λ text. string_bytes text ≡ left_out_text left.now) }
+{
+    let large = count_text(alloc, left.too_large, " too large")?;
+    let past = count_text(alloc, left.past_limit, " past the limit")?;
+    let repeated = count_text(alloc, left.repeated, " with a repeated unique-id")?;
+    let both = with_comma(alloc, large, past)?;
+    with_comma(alloc, both, repeated)
+}
+
+/// The line on messages that were left out; empty if there are none.
+fn left_out_line(alloc: Global, settings: &Settings, left: &LeftOut) -> Result<Vec<u8>, AllocError>
+    ensures { IfOk result (λ line. line.items ≡ left_out_line settings.now left.now) }
+{
+    let counts = left_out_text(alloc, left)?;
+    if counts.is_empty() {
+        return Ok(Vec::new(alloc));
+    }
+    let text = format!(in alloc; "left out: {counts}")?;
+    line_of(alloc, settings, text.as_bytes())
+}
+
+/// What is to be written on messages that were left out.
+fn left_out_said<E>(
+    alloc: Global,
+    settings: &Settings,
+    told: &Told,
+    errors: &Errors<'_, E>,
+) -> Result<Vec<u8>, AllocError>
+    ensures { IfOk result (λ line. line.items ≡ left_out_said settings.now errors.now.reasons told.now) }
+{
+    match (errors.reasons, told) {
+        (Some(_), Told::Done(report)) => left_out_line(alloc, settings, &report.left_out),
+        _ => Ok(Vec::new(alloc)),
+    }
+}
+
+/// Writes how many messages that aren't known a session left out, by their reasons, if there are any and
+/// reasons are to be written.
+pub fn tell_left_out<E: Write>(
+    alloc: Global,
+    settings: &Settings,
+    told: &Told,
+    errors: &mut Errors<'_, E>,
+)
+    ensures { Puts E.contents errors.old.err (left_out_said settings.now errors.old.reasons told.now) errors.new.err }
+{
+    match left_out_said(alloc, settings, told, errors) {
+        Ok(line) => errors.err.put(line.as_slice()),
+        Err(_) => {
+            errors.err.put(OUT_OF_MEMORY.as_bytes());
+            errors.err.lack_memory();
+        }
+    }
+}
