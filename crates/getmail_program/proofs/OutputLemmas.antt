@@ -16,13 +16,14 @@ puts_both contents old mid new first second put more whole =
     let rest = more whole in let begun = put rest.0 in
     (begun.0, Appends-trans (contents old.writer) (contents mid.writer) (contents new.writer) first second begun.1 rest.1)
 
--- a cut, what was written next, and another cut
+-- a cut, what was written next, another cut, and what was written last
 pub said : {E : Type 0} (contents : E → Option (List ℕ)) (settings : Settings) (outcome ahead : Outcome) (next : List ℕ)
-    (old first second last : Errors E) (cut : TellsCut contents settings outcome old first) → Puts contents first.err next second.err
-    → (later : TellsCut contents settings ahead second last)
-    → Puts contents old.err (((outcome_line outcome ++ cut.reason) ++ next) ++ (outcome_line ahead ++ later.reason)) last.err
-said contents settings outcome ahead next old first second last cut put later =
-    puts_both contents old.err second.err last.err _ _ (puts_both contents old.err first.err second.err _ _ cut.puts put) later.puts
+    (old first second third : Errors E) (more : List ℕ) (last : Output E) (cut : TellsCut contents settings outcome old first) → Puts contents first.err next second.err
+    → (later : TellsCut contents settings ahead second third) → Puts contents third.err more last
+    → Puts contents old.err ((((outcome_line outcome ++ cut.reason) ++ next) ++ (outcome_line ahead ++ later.reason)) ++ more) last
+said contents settings outcome ahead next old first second third more last cut put later left =
+    puts_both contents old.err third.err last _ more
+    (puts_both contents old.err second.err third.err _ _ (puts_both contents old.err first.err second.err _ _ cut.puts put) later.puts) left
 
 -- the line of a fault in pieces
 pub in_pieces : {W : Type 0} (contents : W → Option (List ℕ)) (fault : Fault) (words : List ℕ) (number : Option ℕ) (a b c d e : Output W)

@@ -1,7 +1,7 @@
 use Rattle.std.proofs.Common.{◌∙◌, ℕ, List, ap₂, subst}
 use Rattle.getmail_program.specs.Output.{Puts}
 use Rattle.getmail_program.specs.Telling.{IsReason, TellsCut, left_out_said, status_when, unwritten_line}
-use Rattle.getmail_program.proofs.OutputLemmas.{puts_both, said}
+use Rattle.getmail_program.proofs.OutputLemmas.{said}
 use Rattle.getmail_program.proofs.ending.tell_all.Goals as goal
 
 pub returns-clause-told : goal.returns-clause-told
@@ -24,5 +24,6 @@ returns-clause-told g c =
       further = c.tell_cut-2.ensures.reason;
       is_further = subst (λ reasons. IsReason c.args.settings.now reasons c.foreseen-ahead.result c.tell_cut-2.ensures.reason)
           c.tell_cut.ensures.same c.tell_cut-2.ensures.is_reason;
-      said = puts_both _ _ _ _ _ _ (said _ _ _ _ _ _ _ _ _ cut unwritten c.tell_cut-2.ensures) left;
+      said = said _ _ _ _ _ _ _ _ _ (left_out_said c.args.settings.now c.args.errors.now.reasons c.args.told.now) c.tell_left_out.new.errors.err cut unwritten
+          c.tell_cut-2.ensures left;
     }
