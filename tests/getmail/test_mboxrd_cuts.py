@@ -186,6 +186,19 @@ class RefusedSteps(Shared):
     def test_with_its_effect_and_all_later_ones(self):
         self.check_each_step("whole", True, "-d", messages=LONG)
 
+    def check_settled(self, account, entry):
+        """The next session stores the rest. What a refused one had kept is kept once more, and then named."""
+        kept = account.record.with_name(account.record.name + ".rest")
+        run = self.session(account, "-d")
+        if run != GOOD:
+            told = b"getmail: what was cut off from the mbox file is kept in %s\n" % bytes(kept)
+            self.assertEqual(run, programs.Run(0, b"", told))
+            beginnings = kept.read_bytes().split(b"From ")
+            self.assertEqual(beginnings[0], b"")
+            self.assertTrue(all(entry.startswith(b"From " + part) for part in beginnings[1:]))
+        self.check_whole(account, THREE)
+        self.assertEqual(self.server.messages, [])
+
     def test_each_step_of_a_session_that_settles(self):
         """Part of the second entry is in the file; the session that settles it is refused a step, the next isn't."""
         rest = 70
@@ -199,7 +212,7 @@ class RefusedSteps(Shared):
                                                % (start, len(entries([THREE[1][1]]))))
                     run, lines = self.refused_session(account, number, effect, words=("-d",))
                     self.check_left(account, THREE, self.server)
-                    self.check_completed(account, THREE, "-d")
+                    self.check_settled(account, entries([THREE[1][1]]))
                     if not any(line.startswith("refused ") for line in lines):
                         break
 
