@@ -53,6 +53,9 @@ class Rehearsal(unittest.TestCase):
     def test_a_command_that_is_refused(self):
         self.check([b"+OK\r\n", b"-ERR\r\n", b"+OK\r\n"], ["S: +OK", "C: USER u", "S: -ERR", "C: QUIT", "S: +OK"])
 
+    def test_a_line_that_is_too_long(self):
+        self.check([b"+OK " + b"x" * 3000], ["S: +OK " + "x" * 508])
+
     def test_octets_above_ascii(self):
         """They are shown if all of the line is UTF-8, and no control character is among them."""
         for line, shown in ((b"\xe2\x82\xac 5", "€ 5"), (b"\xe2\x82\xac \xff", r"\xe2\x82\xac \xff"),

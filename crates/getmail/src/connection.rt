@@ -7,7 +7,7 @@ use std::alloc::AllocError;
 use std::io;
 use std::net::{SocketAddr, TcpStream, ToSocketAddrs};
 use std::time::Duration;
-use trace::{Side, Traced, TracedWire};
+use trace::{Traced, TracedWire};
 
 /// How long one address of the server has to take the connection.
 const CONNECT_SECONDS: u64 = 60;
@@ -102,5 +102,5 @@ pub fn link_over<'s, 'a>(
     let reader = Traced::new(alloc, stream, peer.as_str(), trace);
     let writer = Traced::new(alloc, stream, peer.as_str(), trace);
     let wire = StreamWire::new(reader, writer);
-    TracedWire::new(alloc, wire, Side::Client, trace, password)
+    TracedWire::new(alloc, wire, trace, password)
 }

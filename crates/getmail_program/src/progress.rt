@@ -3,14 +3,15 @@ ghost use Rattle.std.specs.Prelude.{◌≡◌, IfOk};
 ghost use Rattle.std.specs.String.{string_bytes};
 ghost use Rattle.getmail_program.specs.Progress.{progress_text};
 
+use pop3_wire::{Command, Note, read_command, read_stat, read_status};
 use std::alloc::{AllocError, Global};
 
 /// How many octets of a message come before the line is shown again.
 const STEP: u64 = 65_536;
 
-/// What the next reply holds.
+/// What the reply to the last command holds.
 #[derive(Clone, Copy, Debug, PartialEq, Eq)]
-enum Reply {
+enum Asked {
     /// The number of messages.
     Count,
     /// A message.
@@ -26,24 +27,14 @@ pub struct Progress {
     number: u32,
     octets: u64,
     due: u64,
-    reply: Reply,
+    asked: Asked,
 }
 
-/// The number of a numeral after one more digit, at most the greatest of 32 bits.
-fn with_digit(number: u32, octet: u8) -> u32 {
-    let digit = octet.saturating_sub(b'0');
-    number.saturating_mul(10).saturating_add(u32::from(digit))
-}
-
-/// The number of the message that RETR asks for.
-fn number_in(argument: &[u8]) -> u32 {
-    let mut number = 0u32;
-    for octet in argument {
-        if octet.is_ascii_digit() {
-            number = with_digit(number, *octet);
-        }
-    }
-    number
+/// The number of messages in the reply to STAT, if it gives one.
+fn total_in(answer: &[u8]) -> Option<u32> {
+    let (_, rest) = read_status(answer).ok()?;
+    let (total, _) = read_stat(rest).ok()?;
+    Some(total)
 }
 
 impl Progress {
@@ -54,43 +45,40 @@ impl Progress {
             number: 0,
             octets: 0,
             due: 0,
-            reply: Reply::Other,
+            asked: Asked::Other,
         }
     }
 
     /// A command was sent.
-    pub fn sent(&mut self, command: &[u8]) {
-        self.reply = Reply::Other;
-        if command == b"STAT\r\n".as_slice() {
-            self.total = 0;
-            self.reply = Reply::Count;
-        }
-        if let Some(argument) = command.strip_prefix(b"RETR ".as_slice()) {
-            self.number = number_in(argument);
-            self.octets = 0;
-            self.due = 0;
-            self.reply = Reply::Message;
-        }
-    }
-
-    /// Reads one octet of STAT's reply: the first number in it is the total.
-    fn count(&mut self, octet: u8) {
-        if octet.is_ascii_digit() {
-            self.total = with_digit(self.total, octet);
-        } else if self.total > 0 {
-            self.reply = Reply::Other;
+    fn ask(&mut self, command: Command) {
+        match command {
+            Command::Stat => self.asked = Asked::Count,
+            Command::Retr(number) => {
+                self.asked = Asked::Message;
+                self.number = number;
+                self.octets = 0;
+                self.due = 0;
+            }
+            _ => {}
         }
     }
 
-    /// Octets came from the server.
-    pub fn came(&mut self, octets: &[u8]) {
-        if self.reply == Reply::Message {
-            self.octets = self.octets.saturating_add(octets.len() as u64);
-            return;
-        }
-        for octet in octets {
-            if self.reply == Reply::Count {
-                self.count(*octet);
+    /// Takes note of a part of the conversation.
+    pub fn note(&mut self, alloc: Global, part: Note<'_>) {
+        match part {
+            Note::Command(line) => {
+                self.asked = Asked::Other;
+                if let Ok(command) = read_command(alloc, line) {
+                    self.ask(command);
+                }
+            }
+            Note::Reply(answer) => {
+                if self.asked == Asked::Count {
+                    self.total = total_in(answer).unwrap_or(0);
+                }
+            }
+            Note::Body { octets, .. } => {
+                self.octets = self.octets.saturating_add(octets as u64);
             }
         }
     }
@@ -98,7 +86,7 @@ impl Progress {
     /// Whether the line is to be shown now: a message has begun, or much more of it came since the last
     /// time.
     pub fn is_due(&mut self) -> bool {
-        if self.reply != Reply::Message || self.octets < self.due {
+        if self.asked != Asked::Message || self.octets < self.due {
             return false;
         }
         self.due = self.octets.saturating_add(STEP);

@@ -16,7 +16,7 @@ use std::alloc::{AllocError, Global};
 use std::hash::{BuildHasherDefault, FoldHasher};
 use std::io;
 use std::io::{Read, Write};
-use trace::{Side, TracedWire};
+use trace::TracedWire;
 
 const SERVER: &str = "rehearsal";
 
@@ -115,7 +115,7 @@ fn rehearse_with<R: Read + Drop, W: Write + Drop, E: Write, T: Write + Drop>(
         BuildHasherDefault::<FoldHasher>::new(),
     );
     let wire = StreamWire::new(input, Transcript::new(output));
-    let mut wire = TracedWire::new(alloc, wire, Side::Client, trace, None);
+    let mut wire = TracedWire::new(alloc, wire, trace, None);
     let report = session(&mut account, &mut wire, 0);
     let (_input, transcript) = wire.into_inner().into_parts();
     let mut output = transcript.into_inner();

@@ -2,7 +2,7 @@
 ghost use Rattle.std.specs.Prelude.{◌≡◌};
 
 use crate::progress::Progress;
-use pop3_wire::{Wire, WireDown};
+use pop3_wire::{Note, Wire, WireDown};
 use std::alloc::Global;
 use std::io::{self, Write};
 
@@ -39,11 +39,12 @@ impl<W: Wire, S: Write> ShownWire<W, S> {
         }
     }
 
-    /// Shows how far the fetch is, if it is time to.
-    fn show(&mut self)
+    /// Takes note of a part of the conversation, and shows how far the fetch is, if it is time to.
+    fn show(&mut self, part: Note<'_>)
         ensures { self.new.wire ≡ self.old.wire }
     {
         if let Some(screen) = &mut self.screen {
+            self.progress.note(self.alloc, part);
             if self.progress.is_due() {
                 self.is_shown = true;
                 if let Ok(text) = self.progress.text(self.alloc) {
@@ -75,17 +76,16 @@ impl<W: Wire, S: Write> Wire for ShownWire<W, S> {
     ghost leads_to = { λ u v. W.leads_to u.wire v.wire };
 
     fn send(&mut self, bytes: &[u8]) -> Result<(), WireDown> {
-        self.wire.send(bytes)?;
-        self.progress.sent(bytes);
-        self.show();
-        Ok(())
+        self.wire.send(bytes)
     }
 
     fn recv(&mut self, buf: &mut [u8]) -> Result<usize, WireDown> {
-        let count = self.wire.recv(buf)?;
-        self.progress.came(&buf[..count]);
-        self.show();
-        Ok(count)
+        self.wire.recv(buf)
+    }
+
+    fn note(&mut self, part: Note<'_>) {
+        self.show(part);
+        self.wire.note(part)
     }
 
     fn failures(&self) -> u64 {

@@ -50,7 +50,7 @@ impl<'a, W: Wire> Client<'a, W> {
         ensures few { IfOk result (λ found. IfSome found (λ n. rows < message_limit)) }
         ensures next { WhereLinkSound W.Wire self.old self.new (λ old new. NextRow rows old result new) }
     {
-        let length = match self.next_line() {
+        let length = match self.next_line(false) {
             Ok(length) => length,
             Err(fault) => return Err(fault),
         };

@@ -3,7 +3,7 @@
 ghost use Rattle.std.specs.Prelude.{◌≡◌, ◌≤◌, false, ℕ, List, take, IfOk};
 ghost use Rattle.pop3_wire.specs.Place.{Gains, HasLine};
 ghost use Rattle.pop3_wire.specs.Reply.{IsFirstLine};
-ghost use Rattle.pop3_client.specs.Client.{HasSameLink, CountsRefusals, WhereLinkSound};
+ghost use Rattle.pop3_client.specs.Client.{HasSameLink, CountsRefusals, WhereLinkSound, link_of};
 ghost use Rattle.mail_terms.specs.Listing.{message_limit};
 ghost use Rattle.pop3_client.specs.Turns.{Turn, Names, turn_bytes, gives_count, greeting, dele, quit, line_limit};
 ghost use Rattle.pop3_client.specs.Conversation.{Waits, Heard, Sent, AsksTurn, CountsMessages, Completes, GivesFew};
@@ -11,7 +11,9 @@ ghost use Rattle.pop3_client.specs.Conversation.{Waits, Heard, Sent, AsksTurn, C
 use crate::client::Client;
 use crate::fault::{Asked, ClientFault};
 use mail_terms::MESSAGE_LIMIT;
-use pop3_wire::{Command, LineFault, Status, Wire, command_bytes, read_stat, read_status};
+use pop3_wire::{
+    Command, LineFault, Note, Status, Wire, command_bytes, is_end_mark, read_stat, read_status,
+};
 use std::alloc::Global;
 
 /// The longest line of a reply in octets, its CR LF included.
@@ -38,9 +40,46 @@ fn count_of(line: &[u8]) -> Result<u32, ClientFault>
 }
 
 impl<'a, W: Wire> Client<'a, W> {
+    /// Tells the link something of the conversation.
+    pub(crate) fn tell(&mut self, part: Note<'_>)
+        ensures link { HasSameLink self.old self.new }
+        ensures silent { self.new.reader ≡ self.old.reader }
+        ensures same { link_of W.Wire self.new ≡ link_of W.Wire self.old }
+        ensures kept { WhereLinkSound W.Wire self.old self.new (λ old new. new ≡ old) }
+    {
+        self.wire.note(part);
+    }
+
+    /// Tells the link of a line of a reply that waits, which has this length: its first line, or one of
+    /// its body.
+    fn tell_line(&mut self, is_first: bool, length: usize)
+        ensures link { HasSameLink self.old self.new }
+        ensures silent { self.new.reader ≡ self.old.reader }
+        ensures same { link_of W.Wire self.new ≡ link_of W.Wire self.old }
+        ensures kept { WhereLinkSound W.Wire self.old self.new (λ old new. new ≡ old) }
+    {
+        let waiting = self.reader.waiting();
+        let line = &waiting[..length.min(waiting.len())];
+        if is_first {
+            return self.wire.note(Note::Reply(line));
+        }
+        let octets = length.saturating_add(2);
+        let ended = is_end_mark(line);
+        let text = if ended {
+            b"".as_slice()
+        } else {
+            &waiting[..octets.min(waiting.len())]
+        };
+        self.wire.note(Note::Body {
+            text,
+            octets,
+            ended,
+        });
+    }
+
     /// Takes from the link until a line of a reply waits, and returns its length; the line isn't
-    /// taken yet.
-    pub(crate) fn next_line(&mut self) -> Result<usize, ClientFault>
+    /// taken yet. It is the first line of the reply, or one of its body.
+    pub(crate) fn next_line(&mut self, is_first: bool) -> Result<usize, ClientFault>
         ensures link { HasSameLink self.old self.new }
         ensures counted { CountsRefusals W.Wire self.old result self.new }
         ensures line { IfOk result (HasLine line_limit self.new.reader) }
@@ -48,20 +87,27 @@ impl<'a, W: Wire> Client<'a, W> {
             (λ old new. ((gained : List ℕ) × Gains old new gained) × Waits old result new) }
     {
         match self.reader.line(self.wire, LINE_LIMIT) {
-            Ok(length) => Ok(length),
+            Ok(length) => {
+                self.tell_line(is_first, length);
+                Ok(length)
+            }
             Err(LineFault::Ended) => Err(ClientFault::ConnectionEnded),
             Err(LineFault::Failed) => Err(ClientFault::ReadFailed),
-            Err(LineFault::TooLong) => Err(ClientFault::ReplyTooLong),
+            Err(LineFault::TooLong) => {
+                self.tell_line(is_first, LINE_LIMIT);
+                Err(ClientFault::ReplyTooLong)
+            }
         }
     }
 
-    /// Sends bytes.
+    /// Sends a command, its CR LF included.
     fn say(&mut self, bytes: &[u8]) -> Result<(), ClientFault>
         ensures link { HasSameLink self.old self.new }
         ensures counted { CountsRefusals W.Wire self.old result self.new }
         ensures silent { self.new.reader ≡ self.old.reader }
         ensures sent { WhereLinkSound W.Wire self.old self.new (λ old new. Sent bytes.now old.link result new.link) }
     {
+        self.tell(Note::Command(&bytes[..bytes.len().saturating_sub(2)]));
         match self.wire.send(bytes) {
             Ok(()) => Ok(()),
             Err(_) => Err(ClientFault::WriteFailed),
@@ -78,7 +124,7 @@ impl<'a, W: Wire> Client<'a, W> {
         ensures heard { WhereLinkSound W.Wire self.old self.new
             (λ old new. (turn : Turn) → Names asked turn → Heard turn old result new) }
     {
-        let length = match self.next_line() {
+        let length = match self.next_line(true) {
             Ok(length) => length,
             Err(fault) => return Err(fault),
         };

@@ -8,7 +8,7 @@ ghost use Rattle.pop3_client.specs.Texts.{Fetching, Opens, TookPiece, FetchesPie
 
 use crate::client::Client;
 use crate::fault::{Asked, ClientFault};
-use pop3_wire::{BodyFault, BodyReader, Command, PIECE_ROOM, Piece, Wire, command_bytes};
+use pop3_wire::{BodyFault, BodyReader, Command, Note, PIECE_ROOM, Piece, Wire, command_bytes};
 use std::alloc::Global;
 
 /// The greatest body of RETR in octets, end mark included.
@@ -62,7 +62,14 @@ impl<'a, W: Wire> Client<'a, W> {
             → FetchesPiece (retr number) start text result out.new new body.new) }
     {
         match body.next(self.wire, &mut self.reader, out) {
-            Ok(piece) => Ok(piece),
+            Ok(piece) => {
+                self.tell(Note::Body {
+                    text: &out[..piece.put],
+                    octets: piece.octets,
+                    ended: piece.ended,
+                });
+                Ok(piece)
+            }
             Err(BodyFault::Ended) => Err(ClientFault::ConnectionEnded),
             Err(BodyFault::Failed) => Err(ClientFault::ReadFailed),
             Err(BodyFault::TooLong) => Err(ClientFault::TextTooLong),

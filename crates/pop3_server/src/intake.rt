@@ -9,7 +9,7 @@ ghost use Rattle.pop3_server.specs.Serving.{Hears, TakesMore, Found};
 ghost use Rattle.pop3_wire.specs.Bodies.{Drew};
 
 use crate::fault::ServerFault;
-use pop3_wire::{LineReader, Wire};
+use pop3_wire::{LineReader, Note, Wire};
 use std::marker::Model;
 
 /// How many octets a server reads from one connection; it treats what follows as the end of input.
@@ -104,8 +104,24 @@ impl Intake {
         }
     }
 
-    /// Drops the rest of a line that is too long, and its CR LF.
+    /// Drops a line that is too long, and its CR LF. The link is told of its front.
     fn long_line<W: Wire>(&mut self, wire: &mut W) -> Result<NextLine, ServerFault>
+        requires none { HasNoLine MAX_LINE self.old.octets }
+        requires long { MAX_LINE ≤ length self.old.octets }
+        ensures counted { CountsFailure (W.history wire.old) result (W.history wire.new) }
+        ensures err { IfErr result (λ e. e ≡ ServerFault.ReadFailed) }
+        ensures found { IfOk result (λ heard. Found heard self.new) }
+        ensures fewer { length self.new.octets + 2 * self.new.left < length self.old.octets + 2 * self.old.left }
+        ensures hears { WhereSound W.sound W.leads_to wire.old wire.new
+            (Hears (W.history wire.old) self.old result (W.history wire.new) self.new) }
+    {
+        let waiting = self.waiting();
+        wire.note(Note::Command(&waiting[..MAX_LINE.min(waiting.len())]));
+        self.drop_line(wire)
+    }
+
+    /// Drops a line that is too long, and its CR LF.
+    fn drop_line<W: Wire>(&mut self, wire: &mut W) -> Result<NextLine, ServerFault>
         requires none { HasNoLine MAX_LINE self.old.octets }
         requires long { MAX_LINE ≤ length self.old.octets }
         ensures counted { CountsFailure (W.history wire.old) result (W.history wire.new) }

@@ -10,18 +10,50 @@ use crate::journal::{Event, Journal, NoJournal};
 use crate::maildrop::Maildrop;
 use crate::server::{Begun, Server};
 use crate::text_part::{ROOM, TextBody};
-use pop3_wire::Wire;
+use pop3_wire::{Note, Wire, cut_line};
 
 /// How many octets of a text are gathered before they are sent, if more of it follows.
 const CHUNK: usize = 65_536;
 
-/// Sends bytes, all of them at once.
-fn send<W: Wire>(wire: &mut W, bytes: &[u8]) -> Result<(), ServerFault>
+/// Tells the link of a piece of an answer: its first line, and what it has of a body. `is_first` and
+/// `is_last` say whether the answer begins and ends with it.
+fn tell_piece<W: Wire>(wire: &mut W, piece: &[u8], is_first: bool, is_last: bool)
+    ensures same { W.history wire.new ≡ W.history wire.old }
+    ensures kept { W.sound wire.new → W.sound wire.old × W.leads_to wire.old wire.new }
+{
+    let mut body = piece;
+    if is_first {
+        let (line, rest) = cut_line(piece).unwrap_or((piece, b""));
+        wire.note(Note::Reply(line));
+        if rest.is_empty() {
+            return;
+        }
+        body = rest;
+    }
+    let mut text = body;
+    if is_last {
+        text = body.strip_suffix(b".\r\n".as_slice()).unwrap_or(body);
+    }
+    wire.note(Note::Body {
+        text,
+        octets: body.len(),
+        ended: is_last,
+    });
+}
+
+/// Sends a piece of an answer, all of it at once.
+fn send<W: Wire>(
+    wire: &mut W,
+    bytes: &[u8],
+    is_first: bool,
+    is_last: bool,
+) -> Result<(), ServerFault>
     ensures counted { CountsFailure (W.history wire.old) result (W.history wire.new) }
     ensures err { IfErr result (λ e. e ≡ ServerFault.WriteFailed) }
     ensures sends { WhereSound W.sound W.leads_to wire.old wire.new
         (Sends (W.history wire.old) bytes.now result (W.history wire.new)) }
 {
+    tell_piece(wire, bytes, is_first, is_last);
     match wire.send(bytes) {
         Ok(()) => Ok(()),
         Err(_) => Err(ServerFault::WriteFailed),
@@ -67,6 +99,7 @@ fn answer_line<D: Maildrop, W: Wire, J: Journal>(
     ensures answers { WhereSound W.sound W.leads_to wire.old wire.new
         (SendsAnswer D.sound D.mail server.old line.now (W.history wire.old) result server.new (W.history wire.new)) }
 {
+    wire.note(Note::Command(line));
     let Begun { answer, rest } = match server.begin(line, CHUNK) {
         Ok(begun) => begun,
         Err(fault) => return Err(fault),
@@ -74,14 +107,16 @@ fn answer_line<D: Maildrop, W: Wire, J: Journal>(
     tell(journal, answer.event);
     let closing = answer.closing;
     let mut bytes = answer.bytes;
+    let mut is_first = true;
     let mut rest = rest;
     if let Err(fault) = make_room(&mut bytes, &rest) {
         return Err(fault);
     }
     loop {
-        if let Err(fault) = send(wire, bytes.as_slice()) {
+        if let Err(fault) = send(wire, bytes.as_slice(), is_first, rest.is_none()) {
             return Err(fault);
         }
+        is_first = false;
         let Some(text) = rest else {
             return Ok(closing);
         };
@@ -133,7 +168,7 @@ pub fn serve_and_note<D: Maildrop, W: Wire, J: Journal>(
         Ok(hello) => hello,
         Err(fault) => return Err(fault),
     };
-    if let Err(fault) = send(wire, hello.bytes.as_slice()) {
+    if let Err(fault) = send(wire, hello.bytes.as_slice(), true, true) {
         return Err(fault);
     }
     let mut intake = Intake::new();
@@ -145,7 +180,7 @@ pub fn serve_and_note<D: Maildrop, W: Wire, J: Journal>(
         match heard {
             NextLine::End => return Ok(()),
             NextLine::LongLine => {
-                if let Err(fault) = send(wire, b"-ERR bad command\r\n") {
+                if let Err(fault) = send(wire, b"-ERR bad command\r\n", true, true) {
                     return Err(fault);
                 }
             }

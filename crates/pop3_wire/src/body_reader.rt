@@ -76,6 +76,8 @@ fn use_waiting(
 pub struct Piece {
     /// How many octets of the text were put into the buffer.
     pub put: usize,
+    /// How many octets of the body it is.
+    pub octets: usize,
     /// Whether the body ended.
     pub ended: bool,
 }
@@ -142,6 +144,7 @@ impl BodyReader {
         self.left -= fed.used;
         Ok(Piece {
             put: fed.put,
+            octets: fed.used,
             ended: fed.ended,
         })
     }

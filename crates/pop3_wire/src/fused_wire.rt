@@ -4,6 +4,7 @@ ghost use Rattle.mail_terms.specs.FailureCount.{greatest_count};
 ghost use Rattle.pop3_wire.specs.Link.{Sends, Receives, CountsFailure, WhereSound};
 ghost use Rattle.pop3_wire.specs.Fuse.{fused_link, fused_is_sound, fused_leads_to, Burns};
 
+use crate::note::Note;
 use crate::wire::{Wire, WireDown};
 use mail_terms::FailureCount;
 use std::marker::Model;
@@ -99,6 +100,10 @@ impl<W: Wire> Wire for FusedWire<W> {
                 Err(down)
             }
         }
+    }
+
+    fn note(&mut self, part: Note<'_>) {
+        self.wire.note(part)
     }
 
     fn failures(&self) -> u64 {

@@ -13,6 +13,7 @@ mod fused_wire;
 mod keyword;
 mod line;
 mod line_reader;
+mod note;
 mod reply;
 mod script_wire;
 mod stream_wire;
@@ -33,6 +34,7 @@ pub use fused_wire::FusedWire;
 pub use line::{cut_line, only_one_line};
 pub use line_reader::{LineFault, LineReader};
 pub use mail_terms::{Bytes, is_legal_id};
+pub use note::Note;
 pub use reply::{
     Status, only_one_list_of_lines, only_one_reading, read_status, replies_are_read_as_written,
 };

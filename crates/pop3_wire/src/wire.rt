@@ -2,6 +2,7 @@
 ghost use Rattle.std.specs.Prelude.{◌≡◌, ◌≤◌, ◌<◌, length, IfOk};
 ghost use Rattle.pop3_wire.specs.Link.{Link, Sends, Receives, CountsFailure, WhereSound};
 
+use crate::note::Note;
 use thiserror::Error;
 
 /// A call of a link was refused.
@@ -39,6 +40,13 @@ pub trait Wire {
         ensures counted { CountsFailure (history self.old) result (history self.new) }
         ensures got { WhereSound sound leads_to self.old self.new
             (Receives (history self.old) result buf.new (history self.new)) };
+
+    /// Takes note of a part of the conversation. Both ends tell it what they send and read, and nothing
+    /// of that changes the link: only links that show conversations do anything here.
+    fn note(&mut self, _part: Note<'_>)
+        ensures same { history self.new ≡ history self.old }
+        ensures kept { sound self.new → sound self.old × leads_to self.old self.new }
+    {}
 
     /// How many calls were refused.
     fn failures(&self) -> u64

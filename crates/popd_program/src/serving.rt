@@ -19,7 +19,7 @@ use std::random::RandomSource;
 use std::rt::{Clock, Files};
 use std::thread;
 use std::time::Duration;
-use trace::{Side, Traced, TracedWire};
+use trace::{Traced, TracedWire};
 
 /// How long the server waits after a connection that couldn't be accepted: without a free descriptor,
 /// the next one can't be accepted at once either.
@@ -59,7 +59,7 @@ where
     let reader = Traced::new(host.alloc(), input.0, input.1, err);
     let writer = Traced::new(host.alloc(), output.0, output.1, err);
     let link = StreamWire::new(reader, writer);
-    let mut wire = TracedWire::new(host.alloc(), link, Side::Server, err, None);
+    let mut wire = TracedWire::new(host.alloc(), link, err, None);
     serve_and_note(server, &mut wire, journal)
 }
 

@@ -2,8 +2,6 @@
 #![tactic(auto)]
 
 mod command;
-mod conversation;
-mod front;
 mod host;
 mod line;
 mod reasons;
@@ -17,4 +15,4 @@ pub use line::line_text;
 pub use reasons::{Keeper, Reasons};
 pub use refusal::{reason, refusal_text, tell_refusal};
 pub use traced::Traced;
-pub use wire::{Side, TracedWire};
+pub use wire::TracedWire;

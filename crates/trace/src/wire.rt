@@ -1,28 +1,84 @@
 //! A link that is traced.
-ghost use Rattle.std.specs.Prelude.{◌≡◌, is_some};
+ghost use Rattle.std.specs.Prelude.{◌≡◌};
 
-use crate::conversation::Conversation;
-use pop3_wire::{Wire, WireDown};
+use crate::command::{shown_answer, shown_command};
+use crate::line::{count_text, cut, write_line};
+use pop3_wire::{Note, Wire, WireDown};
 use std::alloc::Global;
-use std::io::Write;
+use std::io::{self, Write};
 
-/// Which end of the link is traced.
-#[derive(Clone, Copy, Debug, PartialEq, Eq)]
-pub enum Side {
-    /// The one that sends commands.
-    Client,
-    /// The one that sends answers.
-    Server,
+/// The octets of a body's last line, a full stop and CR LF.
+const END_MARK: u64 = 3;
+
+/// Where a conversation is shown: each command, the first line of each answer, and how much followed it.
+#[derive(Drop)]
+struct Trace<E> {
+    alloc: Global,
+    err: E,
+    /// The password, if answers are searched for it.
+    password: Option<Vec<u8>>,
+    /// How much has come of the body under way.
+    lines: u64,
+    octets: u64,
+}
+
+impl<E: Write> Trace<E> {
+    fn show_command(&mut self, command: &[u8]) -> io::Result<()> {
+        write_line(
+            self.alloc,
+            &mut self.err,
+            "C: ",
+            cut(shown_command(command)),
+        )
+    }
+
+    fn show_answer(&mut self, answer: &[u8]) -> io::Result<()> {
+        self.lines = 0;
+        self.octets = 0;
+        let answer = match &self.password {
+            Some(password) => shown_answer(answer, password.as_slice()),
+            None => answer,
+        };
+        write_line(self.alloc, &mut self.err, "S: ", cut(answer))
+    }
+
+    fn show_count(&mut self) -> io::Result<()> {
+        let octets = self.octets.saturating_sub(END_MARK);
+        let text = count_text(self.alloc, self.lines, octets)?;
+        write_line(self.alloc, &mut self.err, "S: ", text.as_bytes())
+    }
+
+    /// More of a body came.
+    fn count(&mut self, text: &[u8], octets: usize) {
+        let lines = text.iter().filter(|octet| **octet == b'\n').count();
+        self.lines = self.lines.saturating_add(lines as u64);
+        self.octets = self.octets.saturating_add(octets as u64);
+    }
+
+    /// Shows a part of the conversation, unless it is within a body.
+    fn show(&mut self, part: Note<'_>) -> io::Result<()> {
+        match part {
+            Note::Command(command) => self.show_command(command),
+            Note::Reply(answer) => self.show_answer(answer),
+            Note::Body {
+                text,
+                octets,
+                ended,
+            } => {
+                self.count(text, octets);
+                if ended { self.show_count() } else { Ok(()) }
+            }
+        }
+    }
 }
 
 /// A link that passes each call on. If there is a writer, it gets a line for each command, for the first
 /// line of each answer, and for how much followed it: `C: ` or `S: `, then at most 512 octets. Passwords
-/// aren't shown. A line that can't be written changes nothing.
+/// aren't shown. A line that can't be written, or for which there is no memory, is left out.
 #[derive(Drop)]
 pub struct TracedWire<W, E> {
     wire: W,
-    side: Side,
-    trace: Option<Conversation<E>>,
+    trace: Option<Trace<E>>,
 }
 
 impl<W: Wire, E: Write + Drop> TracedWire<W, E> {
@@ -30,18 +86,22 @@ impl<W: Wire, E: Write + Drop> TracedWire<W, E> {
     pub fn new(
         alloc: Global,
         wire: W,
-        side: Side,
         err: Option<E>,
         password: Option<Vec<u8>>,
     ) -> TracedWire<W, E>
-        ensures wire { (result.wire ≡ wire) × (result.side ≡ side) }
-        ensures traced { is_some result.trace ≡ is_some err }
+        ensures { result.wire ≡ wire }
     {
         let trace = match err {
-            Some(err) => Some(Conversation::new(alloc, err, password)),
+            Some(err) => Some(Trace {
+                alloc,
+                err,
+                password,
+                lines: 0,
+                octets: 0,
+            }),
             None => None,
         };
-        TracedWire { wire, side, trace }
+        TracedWire { wire, trace }
     }
 
     /// The link inside.
@@ -50,30 +110,6 @@ impl<W: Wire, E: Write + Drop> TracedWire<W, E> {
     {
         let TracedWire { wire, .. } = self;
         wire
-    }
-
-    fn note_sent(&mut self, octets: &[u8])
-        ensures wire { (self.new.wire ≡ self.old.wire) × (self.new.side ≡ self.old.side) }
-        ensures traced { is_some self.new.trace ≡ is_some self.old.trace }
-    {
-        if let Some(trace) = &mut self.trace {
-            match self.side {
-                Side::Client => trace.client_sends(octets),
-                Side::Server => trace.server_sends(octets),
-            }
-        }
-    }
-
-    fn note_got(&mut self, octets: &[u8])
-        ensures wire { (self.new.wire ≡ self.old.wire) × (self.new.side ≡ self.old.side) }
-        ensures traced { is_some self.new.trace ≡ is_some self.old.trace }
-    {
-        if let Some(trace) = &mut self.trace {
-            match self.side {
-                Side::Client => trace.client_gets(octets),
-                Side::Server => trace.server_gets(octets),
-            }
-        }
     }
 }
 
@@ -85,14 +121,18 @@ impl<W: Wire, E: Write + Drop> Wire for TracedWire<W, E> {
     ghost leads_to = { λ u v. W.leads_to u.wire v.wire };
 
     fn send(&mut self, bytes: &[u8]) -> Result<(), WireDown> {
-        self.note_sent(bytes);
         self.wire.send(bytes)
     }
 
     fn recv(&mut self, buf: &mut [u8]) -> Result<usize, WireDown> {
-        let count = self.wire.recv(buf)?;
-        self.note_got(&buf[..count]);
-        Ok(count)
+        self.wire.recv(buf)
+    }
+
+    fn note(&mut self, part: Note<'_>) {
+        if let Some(trace) = &mut self.trace {
+            let _ = trace.show(part);
+        }
+        self.wire.note(part)
     }
 
     fn failures(&self) -> u64 {

@@ -1,9 +1,9 @@
 //! The lines of a trace.
 
 use crate::no_memory_tests::watched::{begin, end, tell, tell_answer, tell_bytes, tell_text};
-use pop3_wire::{ScriptWire, Wire};
+use pop3_wire::{Note, ScriptWire, Wire};
 use std::test::Fail;
-use trace::{Side, TracedWire, line_text, refusal_text};
+use trace::{TracedWire, line_text, refusal_text};
 
 fn tell_line(rt: &HostRuntime) {
     begin(rt);
@@ -37,8 +37,9 @@ fn send_traced(rt: &HostRuntime) -> Result<(), Fail> {
     let alloc = rt.alloc();
     let script = ScriptWire::new(alloc, Vec::from_slice(alloc, b"+OK\r\n")?, 4096);
     let err: Vec<u8> = Vec::new(alloc);
-    let mut wire = TracedWire::new(alloc, script, Side::Client, Some(err), None);
+    let mut wire = TracedWire::new(alloc, script, Some(err), None);
     begin(rt);
+    wire.note(Note::Command(b"NOOP".as_slice()));
     let answer = wire.send(b"NOOP\r\n");
     end(rt);
     tell(rt, if answer.is_ok() { "sent" } else { "refused" });

@@ -1,6 +1,7 @@
-use Rattle.std.proofs.Common.{◌≡◌, ◌++◌, ℕ, List, [], Option, refl, sym, ap, subst, ◌∙◌, append_assoc}
+use Rattle.std.proofs.Common.{◌≡◌, ◌++◌, ℕ, List, [], Option, sym, ap, subst, ◌∙◌, append_assoc}
 use Rattle.std.specs.Prelude.{vec_capacity}
 use Rattle.std.proofs.lemmas.List.{append-nil}
+use Rattle.pop3_wire.specs.Link.{Link}
 use Rattle.pop3_server.specs.declared.text_part.TextBody.{TextBody}
 use Rattle.pop3_server.specs.AnswersLines.{MakesAnswer}
 use Rattle.pop3_server.proofs.SendLemmas.{part_sent, room_for, sent_on}
@@ -9,14 +10,16 @@ use Rattle.pop3_server.proofs.serving.answer_line.Goals as goal
 pub loop-fault-init : goal.loop-fault-init
 loop-fault-init g c =
     let before = g.W.Wire.history c.args.wire.now in (
-      refl,
+      ap (λ (l : Link). l.failures) c.note.ensures.same,
       c.in-Ok.ensures.closing,
       room_for 65536 (vec_capacity c.make_room.new.buffer) c.in-Ok.begun.rest c.in-Ok.ensures.follows c.in_default.ensures.room,
       (
         [],
         subst (λ (l : List ℕ). MakesAnswer g.D.Maildrop.sound g.D.Maildrop.mail c.args.server.now c.args.line.now l c.in-Ok.begun.rest c.begin.new.self)
             (sym c.make_room.ensures.same) c.in-Ok.ensures.ok,
-        λ s. (s, g.met.W.Wire.leads_same c.args.wire.now, ap (λ (l : List ℕ). record before { sent = l }) (sym (append-nil before.sent))),
+        λ s.
+            let kept = c.note.ensures.kept s in
+            (kept.0, kept.1, c.note.ensures.same ∙ ap (λ (l : List ℕ). record before { sent = l }) (sym (append-nil before.sent))),
       ),
     )
 

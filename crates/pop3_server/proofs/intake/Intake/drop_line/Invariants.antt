@@ -1,7 +1,7 @@
 use Rattle.std.proofs.Common.{◌≡◌, ◌<◌, ◌+◌, ◌*◌, ℕ, List, length}
 use Rattle.pop3_wire.specs.Bodies.{Drew}
 use Rattle.pop3_server.proofs.ServeIntakeLemmas.{Dropping}
-use Rattle.pop3_server.proofs.intake.Intake.long_line.Given as goal
+use Rattle.pop3_server.proofs.intake.Intake.drop_line.Given as goal
 
 abbrev pub invariant-loop-length : goal.invariant-loop-length
 invariant-loop-length g l = ((g.W.Wire.history l.wire).failures ≡ (g.W.Wire.history l.fn.wire).failures)
