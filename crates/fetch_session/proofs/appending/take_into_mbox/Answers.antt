@@ -74,7 +74,7 @@ returns-in-Err-append_text-clause-takes g c = λ w m f.
       appends.0,
       appends.1,
       text.1,
-      text_refused c.in-Ok-read_text.text.items c.in-Ok-read_text.text.items c.in-Err-append_text.fault text.2 refl c.plain-in-Err-append_text.ensures appends.2
+      text_refused c.in-Ok-read_text.text.items c.in-Err-append_text.fault text.2 c.plain-in-Err-append_text.ensures appends.2
           c.append_text.ensures.ledger.rows (ap (λ (v : Vec ReportLine _). v.items) c.append_text.ensures.ledger.lines),
     )
 
@@ -87,8 +87,8 @@ returns-in-Ok-remember-clause-takes g c = λ w m f.
       appends.0,
       appends.1,
       text.1,
-      entry_stored c.len-length.result c.in-Ok-read_text.text.items c.in-Ok-read_text.text.items (g.F.FlatFile.stored c.append_text.new.ledger.file) c.args.ledger.now.seen c.append_text.new.ledger.seen text.2
-          refl (long g (goal.at.returns-in-Ok-remember-clause-takes g c).After-len-length) appends.2 c.append_text.ensures.ledger.rows c.in-Ok-remember.ensures.rows saved.1 (told g (goal.at.returns-in-Ok-remember-clause-takes g c).After-note),
+      entry_stored c.len-length.result c.in-Ok-read_text.text.items (g.F.FlatFile.stored c.append_text.new.ledger.file) c.args.ledger.now.seen c.append_text.new.ledger.seen text.2
+          (long g (goal.at.returns-in-Ok-remember-clause-takes g c).After-len-length) appends.2 c.append_text.ensures.ledger.rows c.in-Ok-remember.ensures.rows saved.1 (told g (goal.at.returns-in-Ok-remember-clause-takes g c).After-note),
     )
 
 pub returns-in-Err-remember-clause-takes : goal.returns-in-Err-remember-clause-takes
@@ -100,8 +100,8 @@ returns-in-Err-remember-clause-takes g c = λ w m f.
       appends.0,
       appends.1,
       text.1,
-      entry_not_saved c.len-length.result c.in-Ok-read_text.text.items c.in-Ok-read_text.text.items (g.F.FlatFile.stored c.append_text.new.ledger.file) c.args.ledger.now.seen c.append_text.new.ledger.seen c.in-Err-remember.fault text.2
-          refl (long g (goal.at.returns-in-Err-remember-clause-takes g c).After-len-length) c.plain-in-Err-remember.ensures appends.2 c.append_text.ensures.ledger.rows saved.1 (told g (goal.at.returns-in-Err-remember-clause-takes g c).After-note),
+      entry_not_saved c.len-length.result c.in-Ok-read_text.text.items (g.F.FlatFile.stored c.append_text.new.ledger.file) c.args.ledger.now.seen c.append_text.new.ledger.seen c.in-Err-remember.fault text.2
+          (long g (goal.at.returns-in-Err-remember-clause-takes g c).After-len-length) c.plain-in-Err-remember.ensures appends.2 c.append_text.ensures.ledger.rows saved.1 (told g (goal.at.returns-in-Err-remember-clause-takes g c).After-note),
     )
 
 -- ---- what is written down
