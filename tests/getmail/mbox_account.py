@@ -18,6 +18,7 @@ class MboxAccount(Account):
         super().__init__(port, options, user, above)
         self.rcfile.write_text(self.rcfile.read_text().replace(MAILDIR_LINES, MBOXRD_LINES))
         self.mbox = self.home / "mbox"
+        self.kept = self.record.with_name(self.record.name + ".rest")
         self.begun = begun
         self.mbox.write_bytes(begun)
         self.mbox.chmod(0o600)

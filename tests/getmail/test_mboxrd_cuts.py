@@ -104,7 +104,14 @@ class Shared(Cut):
         self.server.wait_for_end()
         return run
 
+    def tear(self, account, count):
+        """So many octets of the second entry are in the file, and its intent is open."""
+        start = len(account.begun + entries([b"one\n"]))
+        account.mbox.write_bytes((account.begun + entries(texts_of(THREE)))[:start + count])
+        account.record.write_bytes(b"getmail-seen 2\na 0 1\nb 0 0\nc 0 0\n! b %d %d\n" % (start, len(entries([THREE[1][1]]))))
+
     def check_completed(self, account, messages, *words):
+        """One more session says nothing, not even of what a torn entry left, and completes the file."""
         self.assertEqual(self.session(account, *words), GOOD)
         self.check_whole(account, messages)
         if words:
@@ -186,33 +193,16 @@ class RefusedSteps(Shared):
     def test_with_its_effect_and_all_later_ones(self):
         self.check_each_step("whole", True, "-d", messages=LONG)
 
-    def check_settled(self, account, entry):
-        """The next session stores the rest. What a refused one had kept is kept once more, and then named."""
-        kept = account.record.with_name(account.record.name + ".rest")
-        run = self.session(account, "-d")
-        if run != GOOD:
-            told = b"getmail: what was cut off from the mbox file is kept in %s\n" % bytes(kept)
-            self.assertEqual(run, programs.Run(0, b"", told))
-            beginnings = kept.read_bytes().split(b"From ")
-            self.assertEqual(beginnings[0], b"")
-            self.assertTrue(all(entry.startswith(b"From " + part) for part in beginnings[1:]))
-        self.check_whole(account, THREE)
-        self.assertEqual(self.server.messages, [])
-
     def test_each_step_of_a_session_that_settles(self):
-        """Part of the second entry is in the file; the session that settles it is refused a step, the next isn't."""
-        rest = 70
+        """The session that settles a torn entry is refused a step, the next isn't."""
         for effect in ("none", "half", "whole"):
             for number in range(1, MOST_STEPS):
                 self.server.messages = list(THREE)
                 with self.subTest(effect=effect, number=number), MboxAccount(self.server.port, begun=OTHER) as account:
-                    start = len(OTHER + entries([b"one\n"]))
-                    account.mbox.write_bytes((OTHER + entries(texts_of(THREE)))[:start + rest - 49])
-                    account.record.write_bytes(b"getmail-seen 2\na 0 1\nb 0 0\nc 0 0\n! b %d %d\n"
-                                               % (start, len(entries([THREE[1][1]]))))
+                    self.tear(account, 21)
                     run, lines = self.refused_session(account, number, effect, words=("-d",))
                     self.check_left(account, THREE, self.server)
-                    self.check_settled(account, entries([THREE[1][1]]))
+                    self.check_completed(account, THREE, "-d")
                     if not any(line.startswith("refused ") for line in lines):
                         break
 
@@ -302,19 +292,26 @@ class Killed(Shared):
         self.check_left(account, messages, self.server)
         self.check_completed(account, messages, *words)
 
-    def test_after_each_change(self):
+    def check_each_change(self, messages, begin):
         with preload.library("note_changes") as library:
             for number in range(1, MOST_STEPS):
-                self.server.messages = list(LONG)
+                self.server.messages = list(messages)
                 with self.subTest(number=number), MboxAccount(self.server.port, begun=OTHER) as account:
+                    begin(account)
                     run = self.session(account, "-d", LD_PRELOAD=str(library), CHANGES_NOTE=str(account.home / "note"),
                                        CHANGES_KILLED=str(number))
                     if run.status == 0:
-                        self.assertGreater(number, 30)
+                        self.assertGreater(number, 20)
                         return
                     self.assertEqual(run.status, -signal.SIGKILL)
-                    self.check_killed(account, LONG, "-d")
+                    self.check_killed(account, messages, "-d")
         self.fail(f"more than {MOST_STEPS} changes")
+
+    def test_after_each_change(self):
+        self.check_each_change(LONG, lambda account: None)
+
+    def test_after_each_change_of_a_session_that_settles(self):
+        self.check_each_change(THREE, lambda account: self.tear(account, 21))
 
     def play(self, account, moment=None):
         """A session, killed `moment` seconds after its start unless that is None; how long it took."""

@@ -85,36 +85,71 @@ class Intents(unittest.TestCase):
                 with self.subTest(length=length, mail=mail[:20]):
                     self.session(first + mail, [2, 3], first + mail + entries(TEXTS[1:]))
 
-    def test_mail_with_the_same_first_line(self):
-        """As mutt and Python's mailbox save it from another file of getmail: what is cut off is kept beside the record."""
+    def settle(self, server, account, rest, text=TEXTS[1]):
+        """A session finds these octets where an entry was about to be."""
         first = entry(TEXTS[0])
+        account.mbox.write_bytes(first + rest)
+        account.record.write_bytes(b"getmail-seen 2\na 5 1\nb 5 0\nc 5 0\n! b %d %d\n" % (len(first), len(entry(text))))
+        thread = server.begin_session()
+        run = account.run("-q")
+        thread.join(programs.SECONDS)
+        return run
+
+    def told(self, account):
+        """What a session says that cut off what it doesn't know to be its own."""
+        return programs.Run(0, b"", b"getmail: what was cut off from the mbox file is kept in %s\n" % os.fsencode(account.kept))
+
+    def test_mail_with_the_same_first_line(self):
+        """As mutt and Python's mailbox save it from another file of getmail: what is cut off is kept beside the record, each
+        mail once, for the owner alone."""
         for length in (60, 100, self.LENGTH - 1, self.LENGTH):
-            mail = entry(b"y" * (length - len(entry(b"\n"))) + b"\n")
+            one, two = (entry(octet * (length - len(entry(b"\n"))) + b"\n") for octet in (b"y", b"z"))
             with self.subTest(length=length), Server(THREE) as server, MboxAccount(server.port) as account:
-                kept = account.record.with_name(account.record.name + ".rest")
-                told = b"getmail: what was cut off from the mbox file is kept in %s\n" % os.fsencode(kept)
-                for round in (1, 2):
-                    account.mbox.write_bytes(first + mail)
-                    account.record.write_bytes(b"getmail-seen 2\na 5 1\nb 5 0\nc 5 0\n! b %d %d\n" % (len(first), self.LENGTH))
-                    thread = server.begin_session()
-                    self.assertEqual(account.run("-q"), programs.Run(0, b"", told))
-                    thread.join(programs.SECONDS)
+                for mail, all_kept in ((one, one), (one, one), (two, one + two), (two, one + two), (one, one + two + one)):
+                    self.assertEqual(self.settle(server, account, mail), self.told(account))
                     self.assertEqual(account.content(), entries(TEXTS))
-                    self.assertEqual(kept.read_bytes(), mail * round)
+                    self.assertEqual(account.kept.read_bytes(), all_kept)
+                    self.assertEqual(account.kept.stat().st_mode & 0o777, 0o600)
 
     def test_a_rest_that_is_ours(self):
         """Its message is fetched in a later run: what was kept is removed."""
         first = entry(TEXTS[0])
         with Server(THREE) as server, MboxAccount(server.port) as account:
-            kept = account.record.with_name(account.record.name + ".rest")
             account.mbox.write_bytes(first)
-            kept.write_bytes(entry(TEXTS[1])[:100])
+            account.kept.write_bytes(entry(TEXTS[1])[:100])
             account.record.write_bytes(b"getmail-seen 2\na 5 1\nb 5 0\nc 5 0\n")
             thread = server.begin_session()
             self.assertEqual(account.run("-q"), GOOD)
             thread.join(programs.SECONDS)
             self.assertEqual(account.content(), entries(TEXTS))
-            self.assertFalse(kept.exists())
+            self.assertFalse(account.kept.exists())
+
+    def test_a_rest_that_a_killed_run_had_kept(self):
+        """All of it or its front isn't kept again, and is removed with the rest; but what others have there stays."""
+        text = b"From me\n" + b"a line of the text\n" * 600
+        whole = entry(text)
+        for rest in (whole[:100], whole[:8192], whole[:-1]):
+            half = rest[:len(rest) // 2]
+            for had, left in ((b"", None), (half, None), (rest[:-1], None), (rest, None), (OTHER, OTHER + rest),
+                              (OTHER + rest, OTHER + rest), (OTHER + half, OTHER + half + rest)):
+                with self.subTest(rest=len(rest), had=len(had)), \
+                        Server([THREE[0], (b"b", text), THREE[2]]) as server, MboxAccount(server.port) as account:
+                    account.kept.write_bytes(had)
+                    self.assertEqual(self.settle(server, account, rest, text), GOOD if left is None else self.told(account))
+                    self.assertEqual(account.content(), entries([TEXTS[0], text, TEXTS[2]]))
+                    self.assertEqual(account.kept.read_bytes() if account.kept.exists() else None, left)
+
+    def test_a_rest_that_cannot_be_kept(self):
+        """Nothing is cut off while a folder has that name; the next session goes on."""
+        rest = entry(TEXTS[1])[:100]
+        with Server(THREE) as server, MboxAccount(server.port) as account:
+            account.kept.mkdir()
+            self.assertEqual(self.settle(server, account, rest), REFUSED)
+            self.assertEqual(account.content(), entry(TEXTS[0]) + rest)
+            account.kept.rmdir()
+            self.assertEqual(self.settle(server, account, rest), GOOD)
+            self.assertEqual(account.content(), entries(TEXTS))
+            self.assertFalse(account.kept.exists())
 
     def test_mail_of_several_of_them(self):
         """The first has getmail's own first line; what is there is more than one entry."""

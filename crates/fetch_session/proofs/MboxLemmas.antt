@@ -1,16 +1,14 @@
 -- What is done to an mboxrd file, and what it leaves.
-use Rattle.std.proofs.Common.{◌≡◌, ◌⊎◌, inl, inr, ◌+◌, ℕ, Bool, List, [], ◌∷◌, ◌++◌, length, Option, None, Some, Ok, Err, refl, sym, ap, subst, ◌∙◌, arith, append_assoc}
-use Rattle.std.proofs.lemmas.Option.{none-some, same_Some}
+use Rattle.std.proofs.Common.{◌≡◌, ◌⊎◌, inl, inr, ℕ, Bool, List, [], ◌∷◌, ◌++◌, length, Option, None, Some, Ok, Err, refl, sym, ap, subst, ◌∙◌, arith, append_assoc}
+use Rattle.std.proofs.lemmas.Option.{none-some}
 use Rattle.std.proofs.lemmas.List.{append-nil}
 use Rattle.pop3_wire.specs.Body.{kept, text_of, unstuffed}
 use Rattle.mail_terms.specs.Listing.{Item}
 use Rattle.mail_terms.specs.Text.{IsWhole}
-use Rattle.std.specs.Prelude.{option_map}
-use Rattle.std.specs.List.{flat_map}
 use Rattle.fetch_rules.specs.Record.{Row, Held, Intent, Loaded, none_open, marked}
-use Rattle.mail_store.specs.FlatFile.{Stored, holding, counted, edges_of, Denies, Measures}
-use Rattle.mail_store.specs.Mboxrd.{MayGoOn, entry_of}
-use Rattle.mail_store.specs.MboxCalls.{GoesOn, RefusesLook, Checks, AppendsEntry}
+use Rattle.mail_store.specs.FlatFile.{Stored, holding, counted, Measures}
+use Rattle.mail_store.specs.Mboxrd.{entry_of}
+use Rattle.mail_store.specs.MboxCalls.{RefusesLook, Checks, AppendsEntry}
 use Rattle.mail_store.specs.declared.fault.StoreFault.{StoreFault}
 use Rattle.mail_store.specs.declared.fault.StoreFault.TheVariants as refused
 use Rattle.mail_store.specs.declared.file.flat_file.Edges.{Edges}
@@ -26,13 +24,12 @@ use Rattle.fetch_session.specs.declared.fault.Fault.TheVariants.{SeenRefused, No
 use Rattle.fetch_session.specs.declared.readiness.Found.{Found}
 use Rattle.fetch_session.specs.Fault.{cut_of, fault_of}
 use Rattle.fetch_session.specs.Mbox.{AppendsText, AsksMbox, HoldsText, IsIntended, IsSettledAtMost, IsStoreFault, MarksEntry, RefusesEntry, SettlesIntent, intent_of}
-use Rattle.fetch_session.specs.Record.{Saves, Steady, held_in, intent_at, with_open}
+use Rattle.fetch_session.specs.Record.{Saves, held_in, intent_at, with_open}
 use Rattle.fetch_session.specs.Scene.{scene, Stops, TakesTask}
 use Rattle.fetch_session.specs.Store.{Appended}
 use Rattle.fetch_session.specs.Task.{stores}
 use Rattle.fetch_session.specs.declared.report.ReportLine.{ReportLine}
 use Rattle.fetch_session.specs.declared.report.ReportLine.TheVariants.{Delivered}
-use Rattle.fetch_session.proofs.RecordLemmas.{held as with_held}
 use Rattle.fetch_session.specs.Target.{AsEntries, Stores, closed_file, in_mbox, is_stored, none_held}
 
 -- ---- contents
@@ -182,10 +179,10 @@ not_held {n} {uid} (none, inr (wants, (rest, text, fetching))) =
     inr (inl (inl (record { none = none; number = n; uid = uid; rest = rest; text = text; is = refl; wants = wants; fetching = fetching; store = refl; file = refl; rows = refl; lines = refl })))
 
 -- it wasn't appended
-pub text_refused : {n : ℕ} {uid : List ℕ} {a b : Place} {mbox mbox' file file' : Stored} {rows rows' : List Row} {lines lines' : List ReportLine} {cut : Cut} (text bytes : List ℕ) (fault : Fault) → Fetched (retr n) a text b → bytes ≡ text
-    → cut ≡ cut_of fault None → RefusesEntry mbox file rows uid bytes fault mbox' file' → rows' ≡ rows → lines' ≡ lines
+pub text_refused : {n : ℕ} {uid : List ℕ} {a b : Place} {mbox mbox' file file' : Stored} {rows rows' : List Row} {lines lines' : List ReportLine} {cut : Cut} (text : List ℕ) (fault : Fault) → Fetched (retr n) a text b
+    → cut ≡ cut_of fault None → RefusesEntry mbox file rows uid text fault mbox' file' → rows' ≡ rows → lines' ≡ lines
     → Stops AsEntries (stores n uid) (scene a (in_mbox mbox) file rows lines) cut (scene b (in_mbox mbox') file' rows' lines')
-text_refused {n} {uid} {a} {b} {mbox} {mbox'} {file} {file'} {rows} text bytes fault (reply, talked, is) same plain refuses rows_are told =
+text_refused {n} {uid} {a} {b} {mbox} {mbox'} {file} {file'} {rows} text fault (reply, talked, is) plain refuses rows_are told =
     inr (inl (inr (inl (record {
       none = ap (λ (c : Cut). c.rest) plain;
       number = n;
@@ -193,18 +190,17 @@ text_refused {n} {uid} {a} {b} {mbox} {mbox'} {file} {file'} {rows} text bytes f
       reply = reply;
       is = refl;
       talked = talked;
-      refuses = rw plain (rw (same, is) at refuses);
+      refuses = rw plain (rw is at refuses);
       rows = rows_are;
       lines = told;
     }))))
 
 -- its entry was appended, and the mark wasn't saved
-pub entry_not_saved : {n : ℕ} {uid : List ℕ} {a b : Place} {mbox mbox' file file' : Stored} {rows' : List Row} {lines lines' : List ReportLine} {cut : Cut} (octets : ℕ) (text bytes : List ℕ) (mid : Stored) (seen seen' : Loaded) (fault : Fault)
-    → Fetched (retr n) a text b → bytes ≡ text → octets ≡ length text → cut ≡ cut_of fault None → AppendsText mbox file seen uid bytes (Ok tt) mbox' mid seen' → seen'.rows ≡ seen.rows → Saves mid (held_in seen') (none_open (marked seen'.rows uid)) (Err fault) file'
+pub entry_not_saved : {n : ℕ} {uid : List ℕ} {a b : Place} {mbox mbox' file file' : Stored} {rows' : List Row} {lines lines' : List ReportLine} {cut : Cut} (octets : ℕ) (text : List ℕ) (mid : Stored) (seen seen' : Loaded) (fault : Fault)
+    → Fetched (retr n) a text b → octets ≡ length text → cut ≡ cut_of fault None → AppendsText mbox file seen uid text (Ok tt) mbox' mid seen' → seen'.rows ≡ seen.rows → Saves mid (held_in seen') (none_open (marked seen'.rows uid)) (Err fault) file'
     → lines' ≡ lines ++ Delivered n octets ∷ [] → Stops AsEntries (stores n uid) (scene a (in_mbox mbox) file seen.rows lines) cut (scene b (in_mbox mbox') file' rows' lines')
-entry_not_saved {n} {uid} {a} {b} {mbox} {mbox'} {file} {file'} {rows'} {lines} {lines'} {cut} octets text bytes mid seen seen' fault (reply, talked, is) same long plain (was, goes_on, now, opened, saves) rows_are marks told =
-    let text_is : bytes ≡ body_text reply.body = same ∙ is in
-    let held_is : held_in seen' ≡ with_open seen.rows (intent_of was uid bytes) = rw (rows_are, opened) in
+entry_not_saved {n} {uid} {a} {b} {mbox} {mbox'} {file} {file'} {rows'} {lines} {lines'} {cut} octets text mid seen seen' fault (reply, talked, is) long plain (was, goes_on, now, opened, saves) rows_are marks told =
+    let held_is : held_in seen' ≡ with_open seen.rows (intent_of was uid text) = rw (rows_are, opened) in
     inr (inr (record {
       none = ap (λ (c : Cut). c.rest) plain;
       number = n;
@@ -212,8 +208,8 @@ entry_not_saved {n} {uid} {a} {b} {mbox} {mbox'} {file} {file'} {rows'} {lines} 
       reply = reply;
       is = refl;
       talked = talked;
-      stored = rw (← text_is) (appended_one mbox mbox' was bytes goes_on.0 now);
-      saves = subst (λ (t : List ℕ). MarksEntry mbox file seen.rows uid t cut.fault file') text_is (
+      stored = rw (← is) (appended_one mbox mbox' was text goes_on.0 now);
+      saves = subst (λ (t : List ℕ). MarksEntry mbox file seen.rows uid t cut.fault file') is (
         was,
         goes_on.0,
         mid,
@@ -225,19 +221,18 @@ entry_not_saved {n} {uid} {a} {b} {mbox} {mbox'} {file} {file'} {rows'} {lines} 
     }))
 
 -- it was appended and marked
-pub entry_stored : {n : ℕ} {uid : List ℕ} {a b : Place} {mbox mbox' file file' : Stored} {rows' : List Row} {lines lines' : List ReportLine} (octets : ℕ) (text bytes : List ℕ) (mid : Stored) (seen seen' : Loaded)
-    → Fetched (retr n) a text b → bytes ≡ text → octets ≡ length text → AppendsText mbox file seen uid bytes (Ok tt) mbox' mid seen' → seen'.rows ≡ seen.rows → rows' ≡ marked seen'.rows uid → Saves mid (held_in seen') (none_open (marked seen'.rows uid)) (Ok tt) file'
+pub entry_stored : {n : ℕ} {uid : List ℕ} {a b : Place} {mbox mbox' file file' : Stored} {rows' : List Row} {lines lines' : List ReportLine} (octets : ℕ) (text : List ℕ) (mid : Stored) (seen seen' : Loaded)
+    → Fetched (retr n) a text b → octets ≡ length text → AppendsText mbox file seen uid text (Ok tt) mbox' mid seen' → seen'.rows ≡ seen.rows → rows' ≡ marked seen'.rows uid → Saves mid (held_in seen') (none_open (marked seen'.rows uid)) (Ok tt) file'
     → lines' ≡ lines ++ Delivered n octets ∷ [] → TakesTask AsEntries (stores n uid) (scene a (in_mbox mbox) file seen.rows lines) (Ok tt) (scene b (in_mbox mbox') file' rows' lines')
-entry_stored {n} {uid} {a} {b} {mbox} {mbox'} {file} {file'} {rows'} {lines} {lines'} octets text bytes mid seen seen' (reply, talked, is) same long (was, goes_on, now, opened, saves) rows_are mark marks told =
-    let text_is : bytes ≡ body_text reply.body = same ∙ is in (
-      reply ∷ [],
-      record {
-        talked = talked;
-        each = (talked.good, tt);
-        stored = rw (← text_is) (appended_one mbox mbox' was bytes goes_on.0 now);
-        rows = rw rows_are at mark;
-        saved = λ stood. rw mark (marks.1 (rw (rows_are, opened) (saves.1 stood)));
-        file_count = omega (arith, saves.0, marks.0);
-        lines = simp (told, long, is);
-      },
-    )
+entry_stored {n} {uid} {a} {b} {mbox} {mbox'} {file} {file'} {rows'} {lines} {lines'} octets text mid seen seen' (reply, talked, is) long (was, goes_on, now, opened, saves) rows_are mark marks told = (
+  reply ∷ [],
+  record {
+    talked = talked;
+    each = (talked.good, tt);
+    stored = rw (← is) (appended_one mbox mbox' was text goes_on.0 now);
+    rows = rw rows_are at mark;
+    saved = λ stood. rw mark (marks.1 (rw (rows_are, opened) (saves.1 stood)));
+    file_count = omega (arith, saves.0, marks.0);
+    lines = simp (told, long, is);
+  },
+)

@@ -83,9 +83,9 @@ fn append_text<F: FlatFile, H: BuildHasher>(
     mbox: &mut F,
     ledger: &mut Ledger<F, H>,
     uid: &[u8],
-    text: &[u8],
+    text: Vec<u8>,
 ) -> Result<(), Fault>
-    requires whole { IsWhole text.now }
+    requires whole { IsWhole text.items }
     requires legal { IsLegalId uid.now }
     requires row { has_row ledger.old.seen.rows uid.now ≡ true }
     requires closed { ledger.old.seen.intent ≡ None }
@@ -93,7 +93,7 @@ fn append_text<F: FlatFile, H: BuildHasher>(
     ensures ledger { KeepsRecord F.FlatFile uid.now ledger.old result ledger.new }
     ensures before { F.sound mbox.new → F.sound mbox.old }
     ensures appends { F.sound mbox.new → F.sound ledger.new.file → F.sound mbox.old × F.sound ledger.old.file
-        × AppendsText (F.stored mbox.old) (F.stored ledger.old.file) ledger.old.seen uid.now text.now result
+        × AppendsText (F.stored mbox.old) (F.stored ledger.old.file) ledger.old.seen uid.now text.items result
         (F.stored mbox.new) (F.stored ledger.new.file) ledger.new.seen }
     ensures keeps { F.sound mbox.new → F.sound ledger.new.file
         → KeepsWhole (F.stored mbox.old).content (F.outlives mbox.old) (F.outlives mbox.new)
@@ -105,11 +105,11 @@ fn append_text<F: FlatFile, H: BuildHasher>(
         Ok(edges) => edges,
         Err(fault) => return Err(refused(fault)),
     };
-    let len = entry_len(text);
+    let len = entry_len(&text);
     if let Err(fault) = intend(&mut ledger.file, &mut ledger.seen, uid, edges.size, len) {
         return Err(fault);
     }
-    match append_entry(ledger.alloc, mbox, text) {
+    match append_entry(mbox, text) {
         Ok(()) => Ok(()),
         Err(fault) => Err(refused(fault)),
     }
@@ -155,10 +155,10 @@ pub(crate) fn take_into_mbox<W: Wire, F: FlatFile, H: BuildHasher>(
     if !is_whole(&text) {
         return Err(plain(Fault::BadReply));
     }
-    if let Err(fault) = append_text(mbox, ledger, uid, &text) {
+    let length = text.len() as u64;
+    if let Err(fault) = append_text(mbox, ledger, uid, text) {
         return Err(plain(fault));
     }
-    let length = text.len() as u64;
     note(&mut ledger.lines, ReportLine::Delivered { number, length });
     match remember(&mut ledger.file, &mut ledger.seen, uid) {
         Ok(()) => Ok(()),

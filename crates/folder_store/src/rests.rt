@@ -1,6 +1,6 @@
 //! What is cut off from a file, kept in a file of its own.
 
-ghost use Rattle.std.specs.Prelude.{◌≡◌};
+ghost use Rattle.std.specs.Prelude.{◌≡◌, ◌≤◌, length, IsTrue};
 ghost use Rattle.folder_store.specs.HostFile.{AppendsFlushed, CutsFlushed};
 
 use crate::device::FileFolder;
@@ -10,9 +10,10 @@ use mail_store::StoreFault;
 /// How many octets are kept by one write.
 const PIECE: usize = 4_096;
 
-/// Whether an entry has all that is kept, at its place; zeros, as a loss of power leaves them, don't
-/// count.
-fn has_all(entry: &[u8], kept: &[u8]) -> bool {
+/// Whether an entry begins with what is kept; zeros, as a loss of power leaves them, don't count.
+fn begins_with(entry: &[u8], kept: &[u8]) -> bool
+    ensures { IsTrue result → length kept.now ≤ length entry.now }
+{
     kept.len() <= entry.len()
         && kept
             .iter()
@@ -21,7 +22,8 @@ fn has_all(entry: &[u8], kept: &[u8]) -> bool {
 }
 
 /// A file in a folder of a file system, in which is kept what is cut off from another file. There
-/// need be none. It is never written over: what is kept comes after what is there.
+/// need be none. It is never written over: what is kept comes after what is there, without what a
+/// refused or killed cut kept of the same octets.
 #[derive(Drop)]
 pub struct Rests<'a, F: FileFolder + Drop> {
     folder: F,
@@ -65,23 +67,53 @@ impl<'a, F: FileFolder + Drop> Rests<'a, F> {
         (&self.folder, self.name)
     }
 
-    // Makes the file, unless it is there.
-    fn make(&mut self) -> Result<(), StoreFault> {
+    // The size of the file, which is made unless it is there.
+    fn make(&mut self) -> Result<u64, StoreFault> {
         match self.folder.edges(self.name) {
-            Ok(_) => Ok(()),
-            Err(StoreFault::Missing) => replace_flushed(&mut self.folder, self.name, &[]),
+            Ok(edges) => Ok(edges.size),
+            Err(StoreFault::Missing) => {
+                replace_flushed(&mut self.folder, self.name, &[])?;
+                Ok(0)
+            }
             Err(fault) => Err(fault),
         }
+    }
+
+    // How many octets of another file from `start` to `end` are kept already: all, if the file ends
+    // with them; as many as it has, if it has no others; or none. The other file is only read.
+    fn kept_of(
+        &mut self,
+        other: &mut F,
+        name: &str,
+        start: u64,
+        end: u64,
+    ) -> Result<u64, StoreFault>
+        ensures { F.sound other.new → F.sound other.old × (F.directory other.new ≡ F.directory other.old) }
+    {
+        let size = self.make()?;
+        let shared = size.min(end.saturating_sub(start));
+        let mut theirs = [0u8; PIECE];
+        let mut ours = [0u8; PIECE];
+        let mut done = 0u64;
+        while done < shared {
+            let place = size.saturating_sub(shared).saturating_add(done);
+            let count = self.folder.read_at(self.name, place, &mut ours)?;
+            let in_other = other.read_at(name, start.saturating_add(done), &mut theirs)?;
+            if count == 0 || count > in_other || ours[..count] != theirs[..count] {
+                return Ok(0);
+            }
+            done = done.saturating_add(count as u64);
+        }
+        Ok(shared)
     }
 
     // Keeps the bytes of another file from `start` on, and flushes them. The other file is only read.
     fn keep(&mut self, other: &mut F, name: &str, start: u64) -> Result<(), StoreFault>
         ensures { F.sound other.new → F.sound other.old × (F.directory other.new ≡ F.directory other.old) }
     {
-        self.make()?;
         let edges = other.edges(name)?;
+        let mut at = start.saturating_add(self.kept_of(other, name, start, edges.size)?);
         let mut buf = [0u8; PIECE];
-        let mut at = start;
         while at < edges.size {
             let count = other.read_at(name, at, &mut buf)?;
             if count == 0 {
@@ -101,17 +133,28 @@ impl<'a, F: FileFolder + Drop> Rests<'a, F> {
         Ok(())
     }
 
+    // Whether an entry begins with all that is kept.
+    fn is_in(&mut self, entry: &[u8]) -> Result<bool, StoreFault> {
+        let mut buf = [0u8; PIECE];
+        let mut at = 0u64;
+        let mut rest = entry;
+        'pieces: loop {
+            let count = self.folder.read_at(self.name, at, &mut buf)?;
+            if count == 0 || !begins_with(rest, &buf[..count]) {
+                return Ok(count == 0);
+            }
+            at = at.saturating_add(count as u64);
+            rest = &rest[count..];
+        }
+    }
+
     // Notes that bytes were appended to the other file, or refused.
     fn note(&mut self, bytes: &[u8], is_done: bool) {
         self.is_refused = !is_done;
-        if !is_done || !self.may_be_there {
-            return;
+        if is_done && self.may_be_there {
+            self.are_ours = self.is_in(bytes).unwrap_or(false);
+            self.may_be_there = self.has_kept && !self.are_ours;
         }
-        match self.folder.read(self.name) {
-            Ok(kept) => self.are_ours = has_all(bytes, kept.as_slice()),
-            Err(_) => self.are_ours = false,
-        }
-        self.may_be_there = self.has_kept && !self.are_ours;
     }
 }
 

@@ -1,10 +1,10 @@
 -- Texts cut into lines, each with its LF.
-use Rattle.std.proofs.Common.{◌≡◌, ◌≢◌, ◌⊎◌, inl, inr, ℕ, zero, suc, ◌+◌, ◌<◌, List, [], ◌∷◌, ◌++◌, length, take, drop, refl, sym, ap, ◌∙◌, arith, append_assoc}
+use Rattle.std.proofs.Common.{◌≡◌, ◌≢◌, ◌⊎◌, inl, inr, ℕ, zero, suc, ◌+◌, ◌-◌, ◌<◌, ◌≤◌, List, [], ◌∷◌, ◌++◌, length, take, drop, refl, sym, ap, ◌∙◌, arith, append_assoc}
 use Rattle.std.specs.Prelude.{slice_index}
 use Rattle.std.specs.List.{flat_map, onto_first, AllByRecursion}
 use Rattle.std.proofs.lemmas.Bool.Decides.{eqb_tells}
 use Rattle.std.proofs.lemmas.Grind.{common_steps}
-use Rattle.std.proofs.lemmas.List.{take-append-drop}
+use Rattle.std.proofs.lemmas.List.{drop-append-le, get_or-drop, length-append, length-drop, take-append-drop, take_at}
 use Rattle.mail_terms.specs.Text.{IsWhole, HasNoLf}
 use Rattle.mail_store.specs.Mboxrd.{lines_of, IsLine}
 
@@ -80,6 +80,24 @@ first_cut text n some found = elim found [
       let all : take n text ≡ text = grind (arith, common_steps, p.0) in
       let none : drop n text ≡ [] = grind (arith, common_steps, p.0) in
       rw (all, none) (piece_alone text p.1 some)
+]
+
+-- what follows the last LF but the one at the end of a whole text is a line
+pub line_back : (text hay : List ℕ) (n : ℕ) → IsWhole text → 0 < length text → hay ≡ take (length text - 1) text → n ≤ length hay
+    → ((k : ℕ) → n ≤ k → k < length hay → slice_index hay k ≢ 10) → IsLine (drop n text)
+line_back text hay n whole some is within none = elim whole [
+  | inl e ↦ let no : length text ≡ 0 = ap length e in absurd (omega (arith, some, no))
+  | inr p ↦
+      let size : length text ≡ length p.0 + 1 = ap length p.1 ∙ length-append p.0 (10 ∷ []) in
+      let same : hay ≡ p.0 = is ∙ ap (take (length text - 1)) p.1 ∙ take_at p.0 (10 ∷ []) (length text - 1) (omega (arith, size)) in
+      let long = ap length same in
+      let rest = length-drop n p.0 in
+      record {
+        words = drop n p.0;
+        plain = plain_all (drop n p.0) (λ k inside at. none (n + k) (omega arith) (omega (arith, inside, rest, long))
+            (ap (λ (l : List ℕ). slice_index l (n + k)) same ∙ sym (get_or-drop n p.0 k 0) ∙ at));
+        ended = ap (drop n) p.1 ∙ drop-append-le n p.0 (10 ∷ []) (omega (arith, within, long));
+      }
 ]
 
 -- ---- whole texts

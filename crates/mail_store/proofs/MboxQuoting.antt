@@ -1,15 +1,16 @@
 -- Quoting of lines and of texts.
-use Rattle.std.proofs.Common.{◌≡◌, ◌⊎◌, inl, inr, ℕ, suc, ◌+◌, ◌-◌, ◌*◌, ◌<◌, ◌≤◌, true, false, List, [], ◌∷◌, ◌++◌, length, take, drop, map, refl, sym, ap, ◌∙◌, arith, append_assoc}
-use Rattle.std.specs.Prelude.{◌==◌, ◌&&◌, cond}
+use Rattle.std.proofs.Common.{◌≡◌, ◌⊎◌, inl, inr, ℕ, suc, ◌+◌, ◌-◌, ◌*◌, ◌<◌, ◌≤◌, true, false, List, [], ◌∷◌, ◌++◌, length, take, drop, map, refl, sym, ap, subst, ◌∙◌, arith, append_assoc}
+use Rattle.std.specs.Prelude.{◌==◌, ◌&&◌, cond, replicate, slice_range}
 use Rattle.std.specs.List.{flat_map, prefix_len, AllByRecursion}
 use Rattle.std.proofs.lemmas.List.Sums.{count_by-le-length, sum_by-append}
 use Rattle.std.proofs.lemmas.Bool.{cases_Bool, true≢false}
 use Rattle.std.proofs.lemmas.Bool.Decides.{eqb_tells, Decides-eqb}
-use Rattle.std.proofs.lemmas.List.{take_at, length-append, take-append-drop}
+use Rattle.std.proofs.lemmas.List.{append-nil, drop_all, drop_at, drop-append-le, drop-drop, drop-replicate, drop-take, length-append, length-drop, length-replicate, length-take-le, take_all, take_at, take-append-drop, take-take}
+use Rattle.std.proofs.lemmas.List.Concat.{flat_map-append}
 use Rattle.std.proofs.lemmas.Slice.Eq.{starts_is}
-use Rattle.mail_terms.specs.Text.{HasNoLf}
-use Rattle.mail_store.specs.Mboxrd.{lines_of, IsLine, from_words, begins_entry, is_greater, is_marked, quoted, unquoted, quoted_text, unquoted_text, wire_size, UnquotesQuoted}
-use Rattle.mail_store.proofs.MboxLines.{joined, line_first, first_cut, whole_lines, lines_joined}
+use Rattle.mail_terms.specs.Text.{HasNoLf, IsWhole}
+use Rattle.mail_store.specs.Mboxrd.{entry_of, separator, lines_of, IsLine, from_words, begins_entry, is_greater, is_marked, quoted, unquoted, quoted_text, unquoted_text, wire_size, UnquotesQuoted}
+use Rattle.mail_store.proofs.MboxLines.{joined, line_first, first_cut, lines_kept, whole_lines, lines_joined}
 
 -- ---- marked lines
 
@@ -150,6 +151,158 @@ pub copies_all : (shows : List ℕ → List ℕ) (old out run rest text : List �
     → out ++ run ≡ old ++ flat_map shows (lines_of text)
 copies_all shows old out run rest text was none =
     ap (λ (l : List ℕ). out ++ l) (was.split ∙ ap (λ (l : List ℕ). was.front ++ l) (none ∙ ap (λ (l : List ℕ). flat_map shows (lines_of l)) (sym none))) ∙ was.shown
+
+-- ---- quoting a text within its own bytes, from its end
+
+longer_lines : (lines : List (List ℕ)) → length (joined lines) ≤ length (flat_map quoted lines)
+longer_lines [] = omega arith
+longer_lines (line ∷ lines) =
+    let more = longer_lines lines in
+    let plain = length-append line (joined lines) in
+    let shown = length-append (quoted line) (flat_map quoted lines) in
+    elim (cases_Bool (is_marked line)) [
+      | inl is ↦ let one = ap length (quoted_marked line is) in omega (arith, more, plain, shown, one)
+      | inr is ↦ let same = ap length (quoted_plain line is) in omega (arith, more, plain, shown, same)
+    ]
+
+pub quoted_longer : (text : List ℕ) → length text ≤ length (quoted_text text)
+quoted_longer text = let more = longer_lines (lines_of text) in let same = ap length (lines_joined text) in omega (arith, more, same)
+
+pub quoted_first : (line after : List ℕ) → IsLine line → quoted_text (line ++ after) ≡ quoted line ++ quoted_text after
+quoted_first line after is = ap (flat_map quoted) (line_first line after is)
+
+pub quoted_last : (front line : List ℕ) → IsWhole front → IsLine line → quoted_text (front ++ line) ≡ quoted_text front ++ quoted line
+quoted_last front line whole is =
+    let parts : lines_of (front ++ line) ≡ lines_of front ++ lines_of line =
+    ap (λ (l : List ℕ). lines_of (l ++ line)) (sym (lines_joined front)) ∙ lines_kept (lines_of front) line (whole_lines front whole) in
+    let alone : quoted_text line ≡ quoted line = ap quoted_text (sym (append-nil line)) ∙ quoted_first line [] is ∙ append-nil (quoted line) in
+    ap (flat_map quoted) parts ∙ flat_map-append quoted (lines_of front) (lines_of line) ∙ ap (λ (l : List ℕ). quoted_text front ++ l) alone
+
+-- of the text, the lines before `from` are where they were, and the others are quoted and end at `end`
+pub record Quoting (text old bytes : List ℕ) (from to end : ℕ) : Type 0 where
+  pub fits : from ≤ length text
+  pub size : length bytes ≡ length old
+  pub whole : IsWhole (take from text)
+  pub front : take from bytes ≡ take from text
+  pub room : length (quoted_text (take from text)) ≤ to
+  pub place : to + length (quoted_text (drop from text)) ≡ end
+  pub back : drop to bytes ≡ quoted_text (drop from text) ++ drop end old
+
+pub quoting_none : (old : List ℕ) (count end : ℕ) → count ≤ length old → IsWhole (take count old) → length (quoted_text (take count old)) ≤ end
+    → Quoting (take count old) old old count end end
+quoting_none old count end fits whole room =
+    let size = length-take-le count old fits in
+    let all : take count (take count old) ≡ take count old = take_all count (take count old) (omega (arith, size)) in
+    let none : drop count (take count old) ≡ [] = drop_all count (take count old) (omega (arith, size)) in
+    record {
+      fits = omega (arith, size);
+      size = refl;
+      whole = rw all whole;
+      front = sym all;
+      room = rw all room;
+      place = rw none (omega arith);
+      back = rw none refl;
+    }
+
+-- the last line before `from`
+pub record Last (text bytes : List ℕ) (start from : ℕ) : Type 0 where
+  pub line : List ℕ
+  pub is : IsLine line
+  pub whole : IsWhole (take start text)
+  pub fits : start ≤ from
+  pub taken : slice_range bytes start from ≡ line
+  pub before : take from text ≡ take start text ++ line
+  pub behind : drop start text ≡ line ++ drop from text
+
+pub last_cut : (text old bytes : List ℕ) (from to end start : ℕ) → Quoting text old bytes from to end → start < length (take from bytes)
+    → IsWhole (take start (take from bytes)) → IsLine (drop start (take from bytes)) → Last text bytes start from
+last_cut text old bytes from to end start was inside whole line =
+    let size = length-take-le from text was.fits in
+    let same : length (take from bytes) ≡ from = ap length was.front ∙ size in
+    let within : start ≤ from = omega (arith, inside, same) in
+    let front : take start (take from bytes) ≡ take start text = ap (take start) was.front ∙ take-take start from text within in
+    let sum : start + (from - start) ≡ from = omega (arith, within) in
+    record {
+      line = drop start (take from text);
+      is = subst IsLine (ap (drop start) was.front) line;
+      whole = subst IsWhole front whole;
+      fits = within;
+      taken = sym (drop-take start (from - start) bytes) ∙ ap (λ (n : ℕ). drop start (take n bytes)) sum ∙ ap (drop start) was.front;
+      before = sym (take-append-drop start (take from text)) ∙ ap (λ (l : List ℕ). l ++ drop start (take from text)) (take-take start from text within);
+      behind = ap (drop start) (sym (take-append-drop from text)) ∙ drop-append-le start (take from text) (drop from text) (omega (arith, within, size));
+    }
+
+-- there is room for the line before what is quoted
+pub last_room : (text old bytes : List ℕ) (from to end start : ℕ) → Quoting text old bytes from to end → (last : Last text bytes start from)
+    → (length (quoted_text (take start text)) + length (quoted last.line) ≤ to) × (start ≤ length (quoted_text (take start text)))
+last_room text old bytes from to end start was last =
+    let shown = ap (λ (l : List ℕ). length (quoted_text l)) last.before ∙ ap length (quoted_last (take start text) last.line last.whole last.is)
+    ∙ length-append (quoted_text (take start text)) (quoted last.line) in
+    let size = length-take-le start text (omega (arith, last.fits, was.fits)) in
+    let longer = quoted_longer (take start text) in
+    (omega (arith, shown, was.room), omega (arith, size, longer))
+
+pub quoting_more : (text old bytes new : List ℕ) (from to end start place : ℕ) → Quoting text old bytes from to end → (last : Last text bytes start from)
+    → length new ≡ length bytes → take start new ≡ take start bytes → place + length (quoted last.line) ≡ to
+    → drop place new ≡ quoted last.line ++ drop to bytes → Quoting text old new start place end
+quoting_more text old bytes new from to end start place was last size front moved back =
+    let room = last_room text old bytes from to end start was last in
+    let shown : quoted_text (drop start text) ≡ quoted last.line ++ quoted_text (drop from text) =
+    ap quoted_text last.behind ∙ quoted_first last.line (drop from text) last.is in
+    let long = ap length shown ∙ length-append (quoted last.line) (quoted_text (drop from text)) in
+    record {
+      fits = omega (arith, last.fits, was.fits);
+      size = size ∙ was.size;
+      whole = last.whole;
+      front = front ∙ sym (take-take start from bytes last.fits) ∙ ap (take start) was.front ∙ take-take start from text last.fits;
+      room = omega (arith, room.0, moved);
+      place = omega (arith, long, moved, was.place);
+      back = back ∙ ap (λ (l : List ℕ). quoted last.line ++ l) was.back ∙ sym (append_assoc (quoted last.line) (quoted_text (drop from text)) (drop end old))
+          ∙ ap (λ (l : List ℕ). l ++ drop end old) (sym shown);
+    }
+
+-- ---- making a text its entry
+
+-- there is room for the entry: the text, and after it line ends
+pub record Room (text bytes : List ℕ) (count size : ℕ) : Type 0 where
+  pub long : length bytes ≡ size
+  pub within : count ≤ size
+  pub front : take count bytes ≡ text
+  pub shown : length separator + length (quoted_text text) + 1 ≡ size
+  pub back : drop (size - 1) bytes ≡ 10 ∷ []
+
+pub room_made : (text bytes : List ℕ) (count size : ℕ) → count ≡ length text → size ≡ length (entry_of text)
+    → bytes ≡ take size text ++ replicate (size - count) 10 → Room text bytes count size
+room_made text bytes count size is total filled =
+    let parts = length-append separator (quoted_text text ++ 10 ∷ []) in
+    let ends : length (quoted_text text ++ 10 ∷ []) ≡ length (quoted_text text) + 1 = length-append (quoted_text text) (10 ∷ []) in
+    let longer = quoted_longer text in
+    let whole : bytes ≡ text ++ replicate (size - count) 10 =
+    filled ∙ ap (λ (l : List ℕ). l ++ replicate (size - count) 10) (take_all size text (omega (arith, total, parts, ends, longer))) in
+    let more = length-replicate {A = ℕ} (size - count) 10 in
+    let sum = ap length whole ∙ length-append text (replicate (size - count) 10) in
+    let place : size - 1 ≡ count + (size - count - 1) = omega (arith, is, total, parts, ends, longer) in
+    let one : size - count - (size - count - 1) ≡ 1 = omega (arith, is, total, parts, ends, longer) in
+    record {
+      long = omega (arith, sum, more, is, total, parts, ends, longer);
+      within = omega (arith, is, total, parts, ends, longer);
+      front = ap (take count) whole ∙ take_at text (replicate (size - count) 10) count (sym is);
+      shown = omega (arith, total, parts, ends);
+      back = ap (λ (n : ℕ). drop n bytes) place ∙ sym (drop-drop (size - count - 1) count bytes)
+          ∙ ap (λ (l : List ℕ). drop (size - count - 1) l) (ap (drop count) whole ∙ drop_at text (replicate (size - count) 10) count (sym is))
+          ∙ drop-replicate (size - count - 1) (size - count) 10 ∙ ap (λ (n : ℕ). replicate n 10) one;
+    }
+
+-- the first line was written before the quoted text
+pub entry_made : (text given bytes rest : List ℕ) (len place : ℕ) → given ≡ separator ++ drop (length separator) bytes → length bytes ≡ len
+    → place ≡ length separator → drop place bytes ≡ quoted_text text ++ 10 ∷ [] → take len (given ++ rest) ≡ entry_of text
+entry_made text given bytes rest len place is long at back =
+    let same : given ≡ entry_of text = is ∙ ap (λ (n : ℕ). separator ++ drop n bytes) (sym at) ∙ ap (λ (l : List ℕ). separator ++ l) back in
+    let size = ap length is ∙ length-append separator (drop (length separator) bytes) in
+    let cut = length-drop (length separator) bytes in
+    let some = ap length back ∙ length-append (quoted_text text) (10 ∷ []) in
+    let behind = length-drop place bytes in
+    take_at given rest len (omega (arith, size, cut, long, at, some, behind)) ∙ same
 
 -- ---- one line cut off a text
 

@@ -24,7 +24,7 @@ fn append_texts<F: FlatFile>(alloc: Global, file: &mut F, text: &[u8], count: u3
     requires { IsWhole text.now }
 {
     for _ in 0..count {
-        append_entry(alloc, file, text)?;
+        append_entry(file, Vec::from_slice(alloc, text)?)?;
     }
     Ok(())
 }

@@ -28,7 +28,7 @@ fn appends_to_a_real_file(rt: HostRuntime) -> Result<(), Fail> {
     fs::write(&rt, path, b"")?;
     let mut file = HostFile::at(&rt, path, mark_of(&rt)?);
     assert!(rt; is_whole(TEXT));
-    append_entry(rt.alloc(), &mut file, TEXT)?;
+    append_entry(&mut file, Vec::from_slice(rt.alloc(), TEXT)?)?;
     let texts = read_mbox(rt.alloc(), &file.load()?)?;
     assert!(rt; texts.len() == 1 && texts[0].as_slice() == TEXT);
     fs::remove_file(&rt, path)?;
@@ -70,14 +70,14 @@ fn writes_to_no_other_file(rt: HostRuntime) -> Result<(), Fail> {
     file.replace(b"abc\n")?;
     assert!(rt; is_whole(TEXT));
     assert_eq!(rt;
-        append_entry(alloc, &mut file, TEXT),
+        append_entry(&mut file, Vec::from_slice(alloc, TEXT)?),
         Err(StoreFault::NotMbox)
     );
     let bytes = file.load()?;
     assert!(rt; bytes.as_slice() == b"abc\n".as_slice());
     let mut file = MemoryFile::missing(alloc);
     assert_eq!(rt;
-        append_entry(alloc, &mut file, TEXT),
+        append_entry(&mut file, Vec::from_slice(alloc, TEXT)?),
         Err(StoreFault::Missing)
     );
     assert_eq!(rt; check_mbox(&mut file), Err(StoreFault::Missing));

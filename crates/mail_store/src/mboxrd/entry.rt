@@ -1,6 +1,6 @@
 //! Entries of an mboxrd file: a line that begins with `From `, the quoted text and an empty line.
 
-ghost use Rattle.std.specs.Prelude.{◌≡◌, ◌≢◌, ◌↔◌, ◌+◌, ◌-◌, List, ℕ, drop, length, take, IfErr, IfOk, IsTrue, OnOk};
+ghost use Rattle.std.specs.Prelude.{◌≡◌, ◌≢◌, ◌↔◌, ◌≤◌, ◌+◌, ◌-◌, ◌++◌, List, ℕ, drop, length, take, IfErr, IfOk, IsTrue, OnOk};
 ghost use Rattle.mail_terms.specs.FailureCount.{Tallies, refuses};
 ghost use Rattle.mail_store.specs.Fault.{is_refusal};
 ghost use Rattle.mail_store.specs.FlatFile.{edges_of};
@@ -11,8 +11,8 @@ ghost use Rattle.mail_store.specs.MboxCalls.{Looks, Checks, AppendsEntry, Tallie
 
 use crate::fault::StoreFault;
 use crate::file::flat_file::{Edges, FlatFile};
-use crate::mboxrd::quoting::{put_quoted, quoted_len};
-use std::alloc::{AllocError, Global};
+use crate::mboxrd::quoting::{quote_within, quoted_len};
+use std::alloc::AllocError;
 
 pub const SEPARATOR: &[u8] = b"From MAILER-DAEMON Thu Jan  1 00:00:00 1970\n";
 
@@ -80,15 +80,25 @@ fn entry_size(text: &[u8]) -> usize
     SEPARATOR.len() + quoted_len(text) + 1
 }
 
-/// The entry of a text.
-fn entry_of(alloc: Global, text: &[u8]) -> Result<Vec<u8>, AllocError>
-    ensures { IfOk result (λ entry. entry.items ≡ entry_of text.now) }
+/// Writes over the first bytes.
+fn put_front(bytes: &mut [u8], front: &[u8])
+    requires { length front.now ≤ length bytes.old }
+    ensures { bytes.new ≡ front.now ++ drop (length front.now) bytes.old }
 {
-    let mut entry = Vec::with_capacity(alloc, entry_size(text))?;
-    entry.extend_from_slice(SEPARATOR)?;
-    put_quoted(&mut entry, text)?;
-    entry.push(b'\n')?;
-    Ok(entry)
+    bytes[..front.len()].copy_from_slice(front);
+}
+
+/// Makes a text its entry, within its own memory. If memory runs out, it is as it was.
+fn make_entry(text: &mut Vec<u8>) -> Result<(), AllocError>
+    requires { IsWhole text.old.items }
+    ensures { OnOk result (text.new.items ≡ entry_of text.old.items) }
+{
+    let count = text.len();
+    let size = entry_size(text);
+    text.resize(size, b'\n')?;
+    quote_within(text, count, size - 1);
+    put_front(text, SEPARATOR);
+    Ok(())
 }
 
 /// The quoted text of an entry: what is between its first line and its last one, which is empty.
@@ -111,22 +121,24 @@ pub fn entry_len(text: &[u8]) -> u64
     entry_size(text) as u64
 }
 
-/// Appends the entry of a text to a file, by one `append`. The text must be whole (see `is_whole`).
+/// Appends the entry of a text to a file, by one `append`. The text must be whole (see `is_whole`), and
+/// the entry takes its memory.
 /// Missing if there is no file, NotMbox if it isn't empty and doesn't both begin with `From ` and
 /// end with LF LF, NoMemory if memory runs out: the file is then as it was. Refused if the device
 /// refused; after a refused `append` the file is cut back to the size that it had, and only if that
 /// is refused too may a front of the entry be left there.
-pub fn append_entry<F: FlatFile>(alloc: Global, file: &mut F, text: &[u8]) -> Result<(), StoreFault>
-    requires { IsWhole text.now }
+pub fn append_entry<F: FlatFile>(file: &mut F, text: Vec<u8>) -> Result<(), StoreFault>
+    requires { IsWhole text.items }
     ensures appends { F.sound file.new → F.sound file.old
-        × AppendsEntry (F.stored file.old) text.now result (F.stored file.new) }
+        × AppendsEntry (F.stored file.old) text.items result (F.stored file.new) }
     ensures keeps { F.sound file.new → KeepsWhole (F.stored file.old).content (F.outlives file.old) (F.outlives file.new) }
     ensures lasts { F.sound file.new → F.is_sure file.old
         → OnOk result (F.is_sure file.new × LastsWhole (F.stored file.new).content (F.outlives file.new)) }
     ensures count { TalliesEntry result (F.stored file.old).failures (F.stored file.new).failures }
 {
     let edges = look_at(file)?;
-    let entry = entry_of(alloc, text)?;
+    let mut entry = text;
+    make_entry(&mut entry)?;
     if let Err(fault) = file.append(&entry) {
         let _ = file.cut_to(edges.size);
         return Err(fault);

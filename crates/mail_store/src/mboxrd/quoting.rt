@@ -1,13 +1,13 @@
 //! Quoting of texts for an mboxrd file, in which `From ` at the start of a line begins an entry: a
 //! line that is `>` any number of times and then `From ` gets one more `>` (mboxrd).
 
-ghost use Rattle.std.specs.Prelude.{◌≡◌, ◌⊎◌, ◌↔◌, ◌<◌, ◌≤◌, ◌*◌, ◌++◌, ◌∷◌, [], length, take, drop, IfOk, IsTrue, OnOk, false};
+ghost use Rattle.std.specs.Prelude.{◌≡◌, ◌⊎◌, ◌↔◌, ◌<◌, ◌≤◌, ◌*◌, ◌+◌, ◌++◌, ◌∷◌, [], length, take, drop, slice_range, IfOk, IsTrue, OnOk, false};
 ghost use Rattle.std.specs.List.{prefix_len};
 ghost use Rattle.mail_terms.specs.Text.{IsWhole, HasNoLf};
-ghost use Rattle.mail_store.specs.Mboxrd.{IsLine, begins_entry, is_greater, is_marked, quoted_text, unquoted};
+ghost use Rattle.mail_store.specs.Mboxrd.{IsLine, begins_entry, is_greater, is_marked, quoted, quoted_text, unquoted};
 ghost use Rattle.mail_store.specs.Mboxrd.{unquoted_text, wire_size, UnquotesQuoted};
 
-use memchr::memchr;
+use memchr::{memchr, memrchr};
 use std::alloc::{AllocError, Global};
 
 /// Whether a text is empty or ends in LF.
@@ -131,6 +131,60 @@ pub fn put_quoted(out: &mut Vec<u8>, text: &[u8]) -> Result<(), AllocError>
         rest = after;
     }
     out.extend_from_slice(run)
+}
+
+/// Where the last line of a whole text begins.
+fn last_line(text: &[u8]) -> usize
+    requires some { 0 < length text.now }
+    requires whole { IsWhole text.now }
+    ensures fits { result < length text.now }
+    ensures front { IsWhole (take result text.now) }
+    ensures line { IsLine (drop result text.now) }
+{
+    match memrchr(b'\n', &text[..text.len() - 1]) {
+        Some(place) => place + 1,
+        None => 0,
+    }
+}
+
+/// Moves a line, which is the bytes from `start` to `end`, so that it ends at `to`, with one more `>`
+/// if it is marked. Returns where it begins then.
+fn move_line(bytes: &mut Vec<u8>, start: usize, end: usize, to: usize) -> usize
+    requires order { (start ≤ end) × (end ≤ to) × (to ≤ length bytes.old.items) }
+    requires room { start + length (quoted (slice_range bytes.old.items start end)) ≤ to }
+    ensures size { length bytes.new.items ≡ length bytes.old.items }
+    ensures front { take start bytes.new.items ≡ take start bytes.old.items }
+    ensures place { result + length (quoted (slice_range bytes.old.items start end)) ≡ to }
+    ensures back { drop result bytes.new.items ≡ quoted (slice_range bytes.old.items start end) ++ drop to bytes.old.items }
+{
+    let marked = is_marked(&bytes[start..end]);
+    let place = to - (end - start);
+    bytes.copy_within(start..end, place);
+    if !marked {
+        return place;
+    }
+    bytes[place - 1] = b'>';
+    place - 1
+}
+
+/// Quotes the text that is the first `count` bytes, from its last line to its first, so that it ends
+/// at `end`. Returns where it begins then.
+pub fn quote_within(bytes: &mut Vec<u8>, count: usize, end: usize) -> usize
+    requires fits { (count ≤ length bytes.old.items) × (end ≤ length bytes.old.items) }
+    requires whole { IsWhole (take count bytes.old.items) }
+    requires room { length (quoted_text (take count bytes.old.items)) ≤ end }
+    ensures size { length bytes.new.items ≡ length bytes.old.items }
+    ensures place { result + length (quoted_text (take count bytes.old.items)) ≡ end }
+    ensures quoted { drop result bytes.new.items ≡ quoted_text (take count bytes.old.items) ++ drop end bytes.old.items }
+{
+    let mut from = count;
+    let mut to = end;
+    while from > 0 {
+        let start = last_line(&bytes[..from]);
+        to = move_line(bytes, start, from, to);
+        from = start;
+    }
+    to
 }
 
 /// A text as it is in an entry: each line that is `>` any number of times and then `From ` gets one

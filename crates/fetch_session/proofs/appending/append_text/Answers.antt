@@ -1,17 +1,23 @@
-use Rattle.std.proofs.Common.{refl}
+use Rattle.std.proofs.Common.{◌≡◌, List, ℕ, length, refl, ap, ◌∙◌}
+use Rattle.mail_store.specs.Mboxrd.{entry_of}
 use Rattle.fetch_session.proofs.MboxLemmas.{appended_all, intended, not_appended, not_intended, not_measured}
+use Rattle.fetch_session.proofs.appending.append_text.Given.{Over}
 use Rattle.fetch_session.proofs.appending.append_text.Goals as goal
+use Rattle.fetch_session.proofs.appending.append_text.Goals.{After-entry_len-len}
+
+long : (g : Over) (c : After-entry_len-len g) → c.entry_len-len.result ≡ length (entry_of c.args.text.items)
+long g c = c.entry_len-len.ensures ∙ ap (λ (l : List ℕ). length (entry_of l)) c.deref.ensures.value
 
 pub returns-in-Err-clause-appends : goal.returns-in-Err-clause-appends
 returns-in-Err-clause-appends g c = λ m f.
     let measures = c.in-Err.ensures.measures m in
-    (measures.0, f, not_measured (g.F.FlatFile.stored c.args.mbox.now) (g.F.FlatFile.stored c.edges.new.self) (g.F.FlatFile.stored c.args.ledger.now.file) c.args.ledger.now.seen.rows c.args.uid.now c.args.text.now c.in-Err.fault c.refused.result measures.1 c.refused.ensures)
+    (measures.0, f, not_measured (g.F.FlatFile.stored c.args.mbox.now) (g.F.FlatFile.stored c.edges.new.self) (g.F.FlatFile.stored c.args.ledger.now.file) c.args.ledger.now.seen.rows c.args.uid.now c.args.text.items c.in-Err.fault c.refused.result measures.1 c.refused.ensures)
 
 pub returns-in-Err-intend-clause-appends : goal.returns-in-Err-intend-clause-appends
 returns-in-Err-intend-clause-appends g c = λ m f.
     let measures = c.in-Ok.ensures.measures m in
     let saves = c.in-Err-intend.ensures.saves f in
-    (measures.0, saves.0, not_intended (g.F.FlatFile.stored c.args.mbox.now) (g.F.FlatFile.stored c.edges.new.self) (g.F.FlatFile.stored c.args.ledger.now.file) (g.F.FlatFile.stored c.intend.new.file) c.args.ledger.now.seen.rows c.args.uid.now c.args.text.now c.in-Ok.edges c.entry_len-len.result c.in-Err-intend.fault measures.1 c.entry_len-len.ensures saves.1)
+    (measures.0, saves.0, not_intended (g.F.FlatFile.stored c.args.mbox.now) (g.F.FlatFile.stored c.edges.new.self) (g.F.FlatFile.stored c.args.ledger.now.file) (g.F.FlatFile.stored c.intend.new.file) c.args.ledger.now.seen.rows c.args.uid.now c.args.text.items c.in-Ok.edges c.entry_len-len.result c.in-Err-intend.fault measures.1 (long g (goal.at.returns-in-Err-intend-clause-appends g c).After-entry_len-len) saves.1)
 
 pub returns-in-Err-append_entry-clause-appends : goal.returns-in-Err-append_entry-clause-appends
 returns-in-Err-append_entry-clause-appends g c = λ m f.
@@ -20,8 +26,8 @@ returns-in-Err-append_entry-clause-appends g c = λ m f.
     let saves = c.in_default.ensures.saves f in (
       measures.0,
       saves.0,
-      not_appended (g.F.FlatFile.stored c.args.mbox.now) (g.F.FlatFile.stored c.edges.new.self) (g.F.FlatFile.stored c.append_entry.new.file) (g.F.FlatFile.stored c.args.ledger.now.file) (g.F.FlatFile.stored c.intend.new.file) c.args.ledger.now.seen.rows c.args.uid.now c.args.text.now c.in-Ok.edges c.in-Err-append_entry.fault c.refused-in-Err-append_entry.result measures.1
-          (intended (g.F.FlatFile.stored c.args.mbox.now) (g.F.FlatFile.stored c.edges.new.self) (g.F.FlatFile.stored c.args.ledger.now.file) (g.F.FlatFile.stored c.intend.new.file) c.args.ledger.now.seen.rows c.args.uid.now c.args.text.now c.in-Ok.edges c.entry_len-len.result measures.1 c.entry_len-len.ensures saves.1)
+      not_appended (g.F.FlatFile.stored c.args.mbox.now) (g.F.FlatFile.stored c.edges.new.self) (g.F.FlatFile.stored c.append_entry.new.file) (g.F.FlatFile.stored c.args.ledger.now.file) (g.F.FlatFile.stored c.intend.new.file) c.args.ledger.now.seen.rows c.args.uid.now c.args.text.items c.in-Ok.edges c.in-Err-append_entry.fault c.refused-in-Err-append_entry.result measures.1
+          (intended (g.F.FlatFile.stored c.args.mbox.now) (g.F.FlatFile.stored c.edges.new.self) (g.F.FlatFile.stored c.args.ledger.now.file) (g.F.FlatFile.stored c.intend.new.file) c.args.ledger.now.seen.rows c.args.uid.now c.args.text.items c.in-Ok.edges c.entry_len-len.result measures.1 (long g (goal.at.returns-in-Err-append_entry-clause-appends g c).After-entry_len-len) saves.1)
           appends.1 c.refused-in-Err-append_entry.ensures,
     )
 
@@ -32,7 +38,7 @@ returns-in-Ok-append_entry-clause-appends g c = λ m f.
     let saves = c.in_default.ensures.saves f in (
       measures.0,
       saves.0,
-      appended_all (g.F.FlatFile.stored c.args.mbox.now) (g.F.FlatFile.stored c.edges.new.self) (g.F.FlatFile.stored c.append_entry.new.file) (g.F.FlatFile.stored c.args.ledger.now.file) (g.F.FlatFile.stored c.intend.new.file) c.args.ledger.now.seen c.intend.new.seen c.args.uid.now c.args.text.now c.in-Ok.edges c.entry_len-len.result measures.1 c.entry_len-len.ensures
+      appended_all (g.F.FlatFile.stored c.args.mbox.now) (g.F.FlatFile.stored c.edges.new.self) (g.F.FlatFile.stored c.append_entry.new.file) (g.F.FlatFile.stored c.args.ledger.now.file) (g.F.FlatFile.stored c.intend.new.file) c.args.ledger.now.seen c.intend.new.seen c.args.uid.now c.args.text.items c.in-Ok.edges c.entry_len-len.result measures.1 (long g (goal.at.returns-in-Ok-append_entry-clause-appends g c).After-entry_len-len)
           c.in_default.ensures.opened saves.1 appends.1,
     )
 

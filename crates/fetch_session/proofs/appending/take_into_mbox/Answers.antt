@@ -20,8 +20,11 @@ use Rattle.fetch_session.specs.Report.{Adds}
 use Rattle.fetch_session.proofs.RefusalLemmas.{before_cut}
 use Rattle.fetch_session.proofs.LinkLemmas.{and_then, did_both, did_so}
 use Rattle.fetch_session.proofs.appending.take_into_mbox.Given.{Over}
-use Rattle.fetch_session.proofs.appending.take_into_mbox.Goals.{After-note, In-Ok-read_text}
+use Rattle.fetch_session.proofs.appending.take_into_mbox.Goals.{After-len-length, After-note, In-Ok-read_text}
 use Rattle.fetch_session.proofs.appending.take_into_mbox.Goals as goal
+
+long : (g : Over) (c : After-len-length g) → c.len-length.result ≡ length c.in-Ok-read_text.text.items
+long g c = let same = ap length c.deref.ensures.value in omega (arith, c.len-length.ensures, c.deref.ensures.len, same)
 
 -- the line of the text is noted
 told : (g : Over) (c : After-note g) → c.note.new.lines.items ≡ c.args.ledger.now.lines.items ++ Delivered c.args.number c.len-length.result ∷ []
@@ -61,7 +64,7 @@ returns-then-not-is_whole-clause-takes g c = λ w m f.
     absurd (true≢false (sym (c.is_whole.ensures.1 (rw (c.deref.ensures.value, fetched.2) (body_whole fetched.0.body))) ∙ c.if-not-is_whole.true))
 
 pub append_text-requires-clause-whole : goal.append_text-requires-clause-whole
-append_text-requires-clause-whole g c = subst IsWhole (c.deref.ensures.value ∙ sym c.deref-2.ensures.value) (c.is_whole.ensures.0 c.if-not-is_whole.false)
+append_text-requires-clause-whole g c = subst IsWhole c.deref.ensures.value (c.is_whole.ensures.0 c.if-not-is_whole.false)
 
 pub returns-in-Err-append_text-clause-takes : goal.returns-in-Err-append_text-clause-takes
 returns-in-Err-append_text-clause-takes g c = λ w m f.
@@ -71,7 +74,7 @@ returns-in-Err-append_text-clause-takes g c = λ w m f.
       appends.0,
       appends.1,
       text.1,
-      text_refused c.in-Ok-read_text.text.items c.deref-2.result.now c.in-Err-append_text.fault text.2 c.deref-2.ensures.value c.plain-in-Err-append_text.ensures appends.2
+      text_refused c.in-Ok-read_text.text.items c.in-Err-append_text.fault text.2 c.plain-in-Err-append_text.ensures appends.2
           c.append_text.ensures.ledger.rows (ap (λ (v : Vec ReportLine _). v.items) c.append_text.ensures.ledger.lines),
     )
 
@@ -84,21 +87,21 @@ returns-in-Ok-remember-clause-takes g c = λ w m f.
       appends.0,
       appends.1,
       text.1,
-      entry_stored c.len-length.result c.in-Ok-read_text.text.items c.deref-2.result.now (g.F.FlatFile.stored c.append_text.new.ledger.file) c.args.ledger.now.seen c.append_text.new.ledger.seen text.2
-          c.deref-2.ensures.value (omega (arith, c.len-length.ensures, c.deref-2.ensures.len, ap length c.deref-2.ensures.value)) appends.2 c.append_text.ensures.ledger.rows c.in-Ok-remember.ensures.rows saved.1 (told g (goal.at.returns-in-Ok-remember-clause-takes g c).After-note),
+      entry_stored c.len-length.result c.in-Ok-read_text.text.items (g.F.FlatFile.stored c.append_text.new.ledger.file) c.args.ledger.now.seen c.append_text.new.ledger.seen text.2
+          (long g (goal.at.returns-in-Ok-remember-clause-takes g c).After-len-length) appends.2 c.append_text.ensures.ledger.rows c.in-Ok-remember.ensures.rows saved.1 (told g (goal.at.returns-in-Ok-remember-clause-takes g c).After-note),
     )
 
-pub returns-clause-takes : goal.returns-clause-takes
-returns-clause-takes g c = λ w m f.
+pub returns-in-Err-remember-clause-takes : goal.returns-in-Err-remember-clause-takes
+returns-in-Err-remember-clause-takes g c = λ w m f.
     let saved = c.in-Err-remember.ensures.saves f in
     let appends = c.in_default.ensures.appends m saved.0 in
-    let text = read g (goal.at.returns-clause-takes g c).In-Ok-read_text w in (
+    let text = read g (goal.at.returns-in-Err-remember-clause-takes g c).In-Ok-read_text w in (
       text.0,
       appends.0,
       appends.1,
       text.1,
-      entry_not_saved c.len-length.result c.in-Ok-read_text.text.items c.deref-2.result.now (g.F.FlatFile.stored c.append_text.new.ledger.file) c.args.ledger.now.seen c.append_text.new.ledger.seen c.in-Err-remember.fault text.2
-          c.deref-2.ensures.value (omega (arith, c.len-length.ensures, c.deref-2.ensures.len, ap length c.deref-2.ensures.value)) c.plain-in-Err-remember.ensures appends.2 c.append_text.ensures.ledger.rows saved.1 (told g (goal.at.returns-clause-takes g c).After-note),
+      entry_not_saved c.len-length.result c.in-Ok-read_text.text.items (g.F.FlatFile.stored c.append_text.new.ledger.file) c.args.ledger.now.seen c.append_text.new.ledger.seen c.in-Err-remember.fault text.2
+          (long g (goal.at.returns-in-Err-remember-clause-takes g c).After-len-length) c.plain-in-Err-remember.ensures appends.2 c.append_text.ensures.ledger.rows saved.1 (told g (goal.at.returns-in-Err-remember-clause-takes g c).After-note),
     )
 
 -- ---- what is written down
@@ -144,8 +147,8 @@ returns-in-Err-append_text-clause-link g c = link_then_cut c.plain-in-Err-append
 pub returns-in-Ok-remember-clause-link : goal.returns-in-Ok-remember-clause-link
 returns-in-Ok-remember-clause-link g c = took g (goal.at.returns-in-Ok-remember-clause-link g c).In-Ok-read_text
 
-pub returns-clause-link : goal.returns-clause-link
-returns-clause-link g c = link_then_cut c.plain-in-Err-remember.ensures (took g (goal.at.returns-clause-link g c).In-Ok-read_text)
+pub returns-in-Err-remember-clause-link : goal.returns-in-Err-remember-clause-link
+returns-in-Err-remember-clause-link g c = link_then_cut c.plain-in-Err-remember.ensures (took g (goal.at.returns-in-Err-remember-clause-link g c).In-Ok-read_text)
 
 pub returns-in-Err-clause-link : goal.returns-in-Err-clause-link
 returns-in-Err-clause-link g c = link_cut c.in-Err.fault c.open.ensures.link c.broken.ensures c.in-Err.ensures.counted

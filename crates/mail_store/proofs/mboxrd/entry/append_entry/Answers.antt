@@ -15,7 +15,7 @@ returns-in-Err-clause-appends g c = λ sound.
     let looks = c.in_ok-edges.ensures.looks appends.0 in (
       looks.0,
       refused (g.F.FlatFile.stored c.args.file.now) (g.F.FlatFile.stored c.look_at.new.file) (g.F.FlatFile.stored c.append.new.self) (g.F.FlatFile.stored c.cut_to.new.self)
-          c.args.text.now c.deref.result.now c.in_ok-edges.edges c.in-Err.fault c.cut_to.result c.in-Err.ensures.fault looks.1 (c.deref.ensures.value ∙ c.in_ok-entry.ensures) appends.1 cuts.1,
+          c.args.text.items c.deref.result.now c.in_ok-edges.edges c.in-Err.fault c.cut_to.result c.in-Err.ensures.fault looks.1 (c.deref.ensures.value ∙ c.in_ok-make_entry.ensures) appends.1 cuts.1,
     )
 
 pub returns-clause-appends : goal.returns-clause-appends
@@ -24,5 +24,5 @@ returns-clause-appends g c = λ sound.
     let looks = c.in_ok-edges.ensures.looks appends.0 in (
       looks.0,
       appended (g.F.FlatFile.stored c.args.file.now) (g.F.FlatFile.stored c.look_at.new.file) (g.F.FlatFile.stored c.append.new.self)
-          c.args.text.now c.deref.result.now c.in_ok-edges.edges looks.1 (c.deref.ensures.value ∙ c.in_ok-entry.ensures) appends.1,
+          c.args.text.items c.deref.result.now c.in_ok-edges.edges looks.1 (c.deref.ensures.value ∙ c.in_ok-make_entry.ensures) appends.1,
     )
