@@ -99,7 +99,8 @@ pub trait FlatFile {
             × Appends (stored self.old) bytes.now result (stored self.new) }
         ensures fault { IfErr result (λ e. e ≡ StoreFault.Refused) }
         ensures keeps { sound self.new → LeavesLonger (may_leave self.old) (may_leave self.new)
-            × (is_on_disk self.old → LeavesPart (stored self.old).content bytes.now (may_leave self.new)) }
+            × (LastsWhole (stored self.old).content (is_on_disk self.old) (may_leave self.old)
+            → LeavesPart (stored self.old).content bytes.now (may_leave self.new)) }
         ensures lasts { sound self.new → is_sure self.old → is_on_disk self.old
             → OnOk result (is_sure self.new × LastsWhole (stored self.new).content (is_on_disk self.new) (may_leave self.new)) }
         ensures count { Tallies (refuses is_refusal result) (stored self.old).failures (stored self.new).failures };
