@@ -1,5 +1,8 @@
 //! Devices that keep one file.
 
+ghost use Rattle.std.specs.Prelude.{◌≡◌, ℕ, List, Some};
+ghost use Rattle.mail_store.specs.Power.{KeepsBytes, LastsWhole, LeavesLonger, LeavesNoMore, Outlives};
+
 use crate::fault::StoreFault;
 
 /// The size of a file and its ends.
@@ -124,10 +127,22 @@ pub trait FlatFile {
             × Replaces (stored self.old) bytes.now result (stored self.new) }
         ensures fault { IfErr result (λ e. e ≡ StoreFault.Refused) }
         ensures leaves { sound self.new → LeavesEither (may_leave self.old) bytes.now (may_leave self.new) }
-        ensures lasts { sound self.new → OnOk result (is_sure self.new × LastsWhole (stored self.new).content (is_on_disk self.new) (may_leave self.new)) }
+        ensures lasts { sound self.new
+            → OnOk result (is_sure self.new × LastsWhole (stored self.new).content (is_on_disk self.new) (may_leave self.new)) }
         ensures count { Tallies (refuses is_refusal result) (stored self.old).failures (stored self.new).failures };
 
     /// How many calls were refused.
     fn failures(&self) -> u64
         ensures { result ≡ (stored self.now).failures };
 }
+
+/// What a loss of power would have left before some calls it would still leave after them, as long
+/// as each leaves no more, or only what is longer.
+pub fn calls_keep_bytes<F: FlatFile>()
+    ensures longer { (u v : F) → LeavesNoMore (F.may_leave u) (F.may_leave v) → LeavesLonger (F.may_leave u) (F.may_leave v) }
+    ensures joined { (u v w : F) → LeavesLonger (F.may_leave u) (F.may_leave v) → LeavesLonger (F.may_leave v) (F.may_leave w)
+        → LeavesLonger (F.may_leave u) (F.may_leave w) }
+    ensures bytes { (u v : F) → LeavesLonger (F.may_leave u) (F.may_leave v) → KeepsBytes (F.may_leave u) (F.may_leave v) }
+    ensures whole { (u : F) (bytes : List ℕ) → LastsWhole (F.stored u).content (F.is_on_disk u) (F.may_leave u)
+        → (F.stored u).content ≡ Some bytes → Outlives (F.may_leave u) bytes }
+{}
