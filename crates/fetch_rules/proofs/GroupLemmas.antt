@@ -91,7 +91,7 @@ longer version bytes lines more old rest tail cut none each tail_is = record {
       ∙ ap (λ (xs : List ℕ). header version ++ xs) (sym (append_assoc (flat_map text_of lines) (flat_map text_of more) rest) ∙ ap (λ (xs : List ℕ). xs ++ rest) (sym (flat_map-append text_of lines more)));
 }
 
-feedless : (rest : List ℕ) → HasNo 10 rest → has_line_feed rest ≡ false
+pub feedless : (rest : List ℕ) → HasNo 10 rest → has_line_feed rest ≡ false
 feedless [] plain = refl
 feedless (x ∷ xs) plain = ap (λ (b : Bool). b || has_line_feed xs) (ne_eqb x 10 plain.0) ∙ feedless xs plain.1
 
@@ -228,7 +228,7 @@ each_front : (done left : List Row) → AllByRecursion IsRow (done ++ left) → 
 each_front [] left each = tt
 each_front (row ∷ done) left each = (each.0, each_front done left each.1)
 
-has_bytes_behind : (front : List ℕ) (byte : ℕ) (more : List ℕ) → has_bytes (front ++ byte ∷ more) ≡ true
+pub has_bytes_behind : (front : List ℕ) (byte : ℕ) (more : List ℕ) → has_bytes (front ++ byte ∷ more) ≡ true
 has_bytes_behind [] byte more = refl
 has_bytes_behind (c ∷ front) byte more = refl
 

@@ -28,3 +28,4 @@ mod ReadLemmas
 mod RecordLemmas
 mod RowLemmas
 mod TakeLemmas
+mod TornLemmas

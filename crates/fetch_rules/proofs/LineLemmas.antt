@@ -31,7 +31,7 @@ cut_unique s (c ∷ a) (d ∷ b) x y p q e =
     (ap (λ (k : ℕ). k ∷ a) parts.0 ∙ ap (λ (xs : List ℕ). d ∷ xs) rest.0, rest.1)
 
 -- two ends of a word
-ends_clash : (s t : ℕ) (a b x y : List ℕ) → s ≢ t → HasNo t a → HasNo s b → a ++ s ∷ x ≡ b ++ t ∷ y → ⊥
+pub ends_clash : (s t : ℕ) (a b x y : List ℕ) → s ≢ t → HasNo t a → HasNo s b → a ++ s ∷ x ≡ b ++ t ∷ y → ⊥
 ends_clash s t [] [] x y other p q e = other (same_cons s t x y e).0
 ends_clash s t [] (d ∷ b) x y other p q e = q.0 (sym (same_cons s d x (b ++ t ∷ y) e).0)
 ends_clash s t (c ∷ a) [] x y other p q e = p.0 (same_cons c t (a ++ s ∷ x) y e).0
@@ -129,9 +129,10 @@ text_unique (GroupLine m) (GroupLine n) x y is_m is_n e =
     (same_cons 32 32 _ _ (same_cons 43 43 _ _ plain).1).1 in
     (ap GroupLine (decimal_injective m n (fits_of m is_m.1) (fits_of n is_n.1) same.0), same.1)
 
--- a line is its body and LF
+-- a line is its body and LF, and no byte of the body is below a space
 pub record HasBody (line : Line) : Type 0 where
   pub body : List ℕ
+  pub clean : (s : ℕ) → s < 32 → HasNo s body
   pub plain : HasNo 10 body
   pub text_is : (behind : List ℕ) → text_of line ++ behind ≡ body ++ 10 ∷ behind
 
@@ -139,47 +140,50 @@ HasNo-append : (s : ℕ) (a b : List ℕ) → HasNo s a → HasNo s b → HasNo 
 HasNo-append s [] b p q = q
 HasNo-append s (c ∷ a) b p q = (p.0, HasNo-append s a b p.1 q)
 
-state_body : (d : Bool) → HasNo 10 (32 ∷ (if d then 49 else 48) ∷ [])
-state_body true = ((λ same. absurd (omega (arith, same))), ((λ same. absurd (omega (arith, same))), tt))
-state_body false = ((λ same. absurd (omega (arith, same))), ((λ same. absurd (omega (arith, same))), tt))
+state_body : (s : ℕ) → s < 32 → (d : Bool) → HasNo s (32 ∷ (if d then 49 else 48) ∷ [])
+state_body s low true = ((λ same. absurd (omega (arith, low, same))), ((λ same. absurd (omega (arith, low, same))), tt))
+state_body s low false = ((λ same. absurd (omega (arith, low, same))), ((λ same. absurd (omega (arith, low, same))), tt))
 
 state_text : (d : Bool) (behind : List ℕ) → 32 ∷ (state_of d ++ behind) ≡ (32 ∷ (if d then 49 else 48) ∷ []) ++ 10 ∷ behind
 state_text true behind = refl
 state_text false behind = refl
 
-pub body_of : (line : Line) → IsLine line → HasBody line
-body_of (RowLine row) is = record {
-  body = row.uid ++ 32 ∷ (decimal row.first_seen ++ 32 ∷ (if row.delivered then 49 else 48) ∷ []);
-  plain = HasNo-append 10 row.uid _ (HasNo-uid 10 (omega arith) row is)
-      ((λ same. absurd (omega (arith, same))), HasNo-append 10 (decimal row.first_seen) _ (HasNo-decimal 10 (omega arith) row.first_seen is.fits) (state_body row.delivered));
-  text_is = λ behind.
-      line_split row behind
-      ∙ ap (λ (xs : List ℕ). row.uid ++ 32 ∷ (decimal row.first_seen ++ xs)) (state_text row.delivered behind)
-      ∙ sym (append_assoc row.uid (32 ∷ (decimal row.first_seen ++ 32 ∷ (if row.delivered then 49 else 48) ∷ [])) (10 ∷ behind)
-      ∙ ap (λ (xs : List ℕ). row.uid ++ 32 ∷ xs) (append_assoc (decimal row.first_seen) (32 ∷ (if row.delivered then 49 else 48) ∷ []) (10 ∷ behind)));
-}
-body_of (GroupLine n) is = record {
-  body = 43 ∷ 32 ∷ decimal n;
-  plain = ((λ same. absurd (omega (arith, same))), ((λ same. absurd (omega (arith, same))), HasNo-decimal 10 (omega arith) n (fits_of n is.1)));
-  text_is = λ behind. group_split n behind;
-}
-body_of (IntentLine i) is = record {
-  body = 33 ∷ 32 ∷ (i.uid ++ 32 ∷ (decimal i.start ++ 32 ∷ decimal i.len));
-  plain = (
-    (λ same. absurd (omega (arith, same))),
-    (
-      (λ same. absurd (omega (arith, same))),
-      HasNo-append 10 i.uid _ (HasNo-id 10 (omega arith) i.uid is.legal) (
-        (λ same. absurd (omega (arith, same))),
-        HasNo-append 10 (decimal i.start) _ (HasNo-decimal 10 (omega arith) i.start is.start)
-            ((λ same. absurd (omega (arith, same))), HasNo-decimal 10 (omega arith) i.len is.len),
-      ),
+abbrev body : Line → List ℕ
+body (RowLine row) = row.uid ++ 32 ∷ (decimal row.first_seen ++ 32 ∷ (if row.delivered then 49 else 48) ∷ [])
+body (GroupLine n) = 43 ∷ 32 ∷ decimal n
+body (IntentLine i) = 33 ∷ 32 ∷ (i.uid ++ 32 ∷ (decimal i.start ++ 32 ∷ decimal i.len))
+
+clean_body : (line : Line) → IsLine line → (s : ℕ) → s < 32 → HasNo s (body line)
+clean_body (RowLine row) is s low = HasNo-append s row.uid _ (HasNo-uid s (omega (arith, low)) row is)
+    ((λ same. absurd (omega (arith, low, same))), HasNo-append s (decimal row.first_seen) _ (HasNo-decimal s (omega (arith, low)) row.first_seen is.fits) (state_body s low row.delivered))
+clean_body (GroupLine n) is s low =
+    ((λ same. absurd (omega (arith, low, same))), ((λ same. absurd (omega (arith, low, same))), HasNo-decimal s (omega (arith, low)) n (fits_of n is.1)))
+clean_body (IntentLine i) is s low = (
+  (λ same. absurd (omega (arith, low, same))),
+  (
+    (λ same. absurd (omega (arith, low, same))),
+    HasNo-append s i.uid _ (HasNo-id s (omega (arith, low)) i.uid is.legal) (
+      (λ same. absurd (omega (arith, low, same))),
+      HasNo-append s (decimal i.start) _ (HasNo-decimal s (omega (arith, low)) i.start is.start)
+          ((λ same. absurd (omega (arith, low, same))), HasNo-decimal s (omega (arith, low)) i.len is.len),
     ),
-  );
-  text_is = λ behind. intent_split i behind
-      ∙ sym (ap (λ (xs : List ℕ). 33 ∷ 32 ∷ xs) (append_assoc i.uid (32 ∷ (decimal i.start ++ 32 ∷ decimal i.len)) (10 ∷ behind)
-      ∙ ap (λ (xs : List ℕ). i.uid ++ 32 ∷ xs) (append_assoc (decimal i.start) (32 ∷ decimal i.len) (10 ∷ behind))));
-}
+  ),
+)
+
+body_text : (line : Line) (behind : List ℕ) → text_of line ++ behind ≡ body line ++ 10 ∷ behind
+body_text (RowLine row) behind =
+    line_split row behind
+    ∙ ap (λ (xs : List ℕ). row.uid ++ 32 ∷ (decimal row.first_seen ++ xs)) (state_text row.delivered behind)
+    ∙ sym (append_assoc row.uid (32 ∷ (decimal row.first_seen ++ 32 ∷ (if row.delivered then 49 else 48) ∷ [])) (10 ∷ behind)
+    ∙ ap (λ (xs : List ℕ). row.uid ++ 32 ∷ xs) (append_assoc (decimal row.first_seen) (32 ∷ (if row.delivered then 49 else 48) ∷ []) (10 ∷ behind)))
+body_text (GroupLine n) behind = group_split n behind
+body_text (IntentLine i) behind =
+    intent_split i behind
+    ∙ sym (ap (λ (xs : List ℕ). 33 ∷ 32 ∷ xs) (append_assoc i.uid (32 ∷ (decimal i.start ++ 32 ∷ decimal i.len)) (10 ∷ behind)
+    ∙ ap (λ (xs : List ℕ). i.uid ++ 32 ∷ xs) (append_assoc (decimal i.start) (32 ∷ decimal i.len) (10 ∷ behind))))
+
+pub body_of : (line : Line) → IsLine line → HasBody line
+body_of line is = record { body = body line; clean = clean_body line is; plain = clean_body line is 10 (omega arith); text_is = body_text line }
 
 -- what has no LF holds no line
 pub uncut : (s : ℕ) (a y xs : List ℕ) → HasNo s xs → xs ≡ a ++ s ∷ y → ⊥

@@ -8,5 +8,6 @@ pub mod Record
 pub mod RecordFile
 pub mod RecordGrowth
 pub mod RecordMeaning
+pub mod RecordTorn
 pub mod Rows
 pub mod Wanted

@@ -6,6 +6,7 @@ ghost use Rattle.mail_terms.specs.Listing.{Item, Joins, has_item, is_flagged};
 ghost use Rattle.fetch_rules.specs.Laws.{FetchesFirsts};
 ghost use Rattle.fetch_rules.specs.Plan.{planned, retrieved};
 ghost use Rattle.fetch_rules.specs.Record.{Row, IsRecord, has_row, is_delivered, marked, merged};
+ghost use Rattle.fetch_rules.specs.RecordTorn.{TornIsIgnoredOrSeen};
 ghost use Rattle.fetch_rules.specs.Wanted.{wanted};
 
 use mail_terms::{ScanRow, UidRow};
@@ -62,4 +63,10 @@ pub fn marked_keeps_rows()
 pub fn rows_join_in_one_way()
     ensures { (n : ℕ) (uids : List UidRow) (sizes : List ScanRow) (one other : List Item)
         → Joins n uids sizes one → Joins n uids sizes other → one ≡ other }
+{}
+
+/// What a loss of power leaves of a group or an intent that was appended to a file of version 2, and
+/// isn't all of it, counts for nothing; but if a line ends behind a zero in it, the file is refused.
+pub fn torn_is_ignored_or_seen()
+    ensures { TornIsIgnoredOrSeen }
 {}

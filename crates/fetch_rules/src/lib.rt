@@ -14,7 +14,7 @@ mod steps;
 pub use laws::{
     delivered_has_row, firsts_are_fetched, held_is_delivered, known_listings_change_nothing,
     listed_has_row, marked_is_delivered, marked_keeps_rows, plans_fetch_wanted,
-    rows_join_in_one_way,
+    rows_join_in_one_way, torn_is_ignored_or_seen,
 };
 pub use mail_terms::{
     Listing, ListingFault, MESSAGE_LIMIT, ScanRow, UidRow, have_legal_ids, is_legal_id,

@@ -1,8 +1,8 @@
 mod Files
 mod MemoryFiles
 mod MemoryLoss
+mod Leaving
 mod PowerLoss
-mod Lasting
 mod MailMoves
 mod MailLearns
 mod MailLooks

@@ -1,33 +1,22 @@
 -- What a loss of power leaves of a folder after each call.
-use Rattle.std.proofs.Common.{◌≡◌, ℕ, ◌≤◌, ◌<◌, length, refl, List, [], ◌∷◌, ◌++◌, take, min, false, map, sym, ap, subst, ◌∙◌, arith, Option, Some, None, Result, Ok, Err, inl, inr, length-append, append_assoc, slice_index}
-use Rattle.std.specs.Prelude.{◌⊎◌, option_map, bytes_eq, OnOk, is_err}
-use Rattle.std.proofs.lemmas.List.{append-nil, length-take, get_or-take, get_or_append_left}
+use Rattle.std.proofs.Common.{◌≡◌, ℕ, zero, suc, ◌+◌, ◌-◌, ◌%◌, ◌≤◌, ◌<◌, length, refl, List, [], ◌∷◌, ◌++◌, take, min, Bool, true, false, sym, ap, subst, ◌∙◌, arith, Option, Some, None, Result, Ok, Err, inl, inr, length-append, append_assoc, slice_index}
+use Rattle.std.specs.Prelude.{◌⊎◌, ◌==◌, ◌/◌, option_map, bytes_eq, if◌then◌else◌, OnOk, is_err}
+use Rattle.std.specs.List.{list_all}
+use Rattle.std.proofs.lemmas.List.{append-nil, length-take, get_or-take, get_or_append_left, get_or-append-add}
 use Rattle.std.proofs.lemmas.Grind.{same_number_lists}
+use Rattle.std.proofs.lemmas.Slice.Eq.{bytes_eq-Decides}
 use Rattle.std.proofs.Math.Seq.{take-append_seam, take-length}
-use Rattle.std.proofs.lemmas.Bool.{true≢false, cases_Bool, cases_lt}
+use Rattle.std.proofs.lemmas.Bool.{true≢false, cases_Bool, cases_lt, eq-eqb}
 use Rattle.mail_store.specs.declared.fault.StoreFault.{StoreFault}
+use Rattle.mail_store.specs.Power.{LastsWhole, LeavesEither, LeavesPart}
+use Rattle.mail_store.specs.Settling.{block_size, is_lost, MayBeLeft}
 use Rattle.folder_store.specs.FileFolder.{Directory, Entry, Blob, Older, entry, find, appended, cut, flushed, doubted, secured, content_in, content_at, FlushesFile, FlushesNames}
 use Rattle.folder_store.specs.HostFile.{Holds, MayBeFlushed, IsSoFar, IsPartAppended, AppendsFlushed, CutsFlushed, ReplacesFlushed}
-use Rattle.folder_store.specs.PowerLoss.{IsZeroFrom, IsTorn, IsLeft, IsLeftOf, WasOnce, MayBe, IsFlushed, IsSure, IsOnDisk, DiskStands, DiskIsKnown, OutlivesPower, PowerCanBeLost, IsTornBehind, LeavesBehind, AppendsForGood, CutsForGood, ReplacesForGood}
-use Rattle.folder_store.proofs.Files.{content_is, holds_changed}
+use Rattle.folder_store.specs.PowerLoss.{IsZeroFrom, IsByteLeft, IsTorn, Loses, IsLeftOf, WasOnce, MayBe, IsFlushed, IsSure, IsOnDisk, IsKnown, DiskStands, DiskIsKnown, PowerLeaves, AppendsForGood, CutsForGood, ReplacesForGood}
+use Rattle.folder_store.proofs.Files.{content_is, find_here, find_later, holds_changed}
+use Rattle.folder_store.proofs.Leaving.{no_rest, left_of, flushed_sure, may_held, appends_longer, cuts_front}
 
 -- ---- what is left of a file
-
-no_rest : (xs rest : List ℕ) → length (xs ++ rest) ≤ length xs → xs ++ rest ≡ xs
-no_rest xs [] le = append-nil xs
-no_rest xs (x ∷ rest) le = absurd (omega (arith, le, length-append xs (x ∷ rest)))
-
--- of a file that is on the disk its bytes are left
-left_of : (bytes left : List ℕ) → IsLeft (secured bytes) left → left ≡ bytes
-left_of bytes left (inl e) = e
-left_of bytes left (inr (inl e)) = e
-left_of bytes left (inr (inr t)) =
-    let e : left ≡ bytes ++ t.behind = t.kept ∙ ap (λ (xs : List ℕ). xs ++ t.behind) (take-length bytes) in
-    e ∙ no_rest bytes t.behind (subst (λ (xs : List ℕ). length xs ≤ length bytes) e (short t.most))
-  where
-    short : (length left ≤ length bytes) ⊎ (length left ≡ length bytes) → length left ≤ length bytes
-    short (inl le) = le
-    short (inr same) = omega (arith, same)
 
 left_secured : (bytes : List ℕ) (left : Option (List ℕ)) → IsLeftOf (Some (secured bytes)) left → left ≡ Some bytes
 left_secured bytes None h = absurd h
@@ -39,7 +28,7 @@ left_flushed None (Some left) is h = absurd h
 left_flushed (Some b) left is h = left_secured b.content left (subst (λ (x : Blob). IsLeftOf (Some x) left) is h)
 
 -- the names are on the disk, so a name leads to what calls see there
-pub left_named : (d : Directory) (name : List ℕ) (left : Option (List ℕ)) → d.older ≡ [] → MayBe d name left → IsLeftOf (find name d.entries) left
+left_named : (d : Directory) (name : List ℕ) (left : Option (List ℕ)) → d.older ≡ [] → MayBe d name left → IsLeftOf (find name d.entries) left
 left_named d name left named (inl h) = h
 left_named d name left named (inr was) = absurd (subst (λ (older : List Older). WasOnce older name left) named was)
 
@@ -62,87 +51,83 @@ left_kept old new name left is h may =
 
 -- ---- `append`
 
-none_behind : (was bytes : List ℕ) → IsTornBehind was bytes was
-none_behind was bytes = record {
-  behind = [];
-  parts = sym (append-nil was);
-  most = omega (arith, length-append was bytes);
-  each = λ i from below. absurd (omega (arith, from, below));
-}
+-- what may be left of bytes that were appended at a place, and of more of them, is a part
+part_all : (place : ℕ) (bytes : List ℕ) → MayBeLeft place bytes bytes
+part_all place [] = tt
+part_all place (byte ∷ bytes) = (inl refl, part_all (place + 1) bytes)
 
-all_behind : (was bytes : List ℕ) → IsTornBehind was bytes (was ++ bytes)
-all_behind was bytes = record { behind = bytes; parts = refl; most = omega arith; each = λ i from below. inl refl }
+part_more : (place : ℕ) (front rest left : List ℕ) → MayBeLeft place front left → MayBeLeft place (front ++ rest) left
+part_more place front rest [] is = tt
+part_more place [] rest (byte ∷ left) is = absurd is
+part_more place (word ∷ front) rest (byte ∷ left) is = (is.0, part_more (place + 1) front rest left is.1)
 
--- some of the bytes that weren't flushed are left
-some_behind : (was bytes left : List ℕ) → IsTorn (was ++ bytes) was (length was) left → IsTornBehind was bytes left
-some_behind was bytes left t = record {
-  behind = t.behind;
-  parts = t.kept ∙ ap (λ (xs : List ℕ). xs ++ t.behind) (take-append_seam was bytes);
-  most = short t.most;
-  each = λ i from below. byte i from (t.each i from below);
-}
+part_later : (place : ℕ) (first more left : List ℕ) → MayBeLeft (place + length first) more left → MayBeLeft place (first ++ more) (first ++ left)
+part_later place [] more left is = subst (λ (n : ℕ). MayBeLeft n more left) (omega arith) is
+part_later place (byte ∷ first) more left is =
+    (inl refl, part_later (place + 1) first more left (subst (λ (n : ℕ). MayBeLeft n more left) (omega arith) is))
+
+-- zeros up to the end of a block, by their places and by recursion
+are_zeros : (n : ℕ) (bytes : List ℕ) → ((j : ℕ) → j < n → j < length bytes → slice_index bytes j ≡ 0) → list_all (λ byte. byte == 0) (take n bytes) ≡ true
+are_zeros zero bytes zeros = refl
+are_zeros (suc n) [] zeros = refl
+are_zeros (suc n) (byte ∷ bytes) zeros =
+    rw (eq-eqb byte 0 (zeros 0 (omega arith) (omega arith)))
+    (are_zeros n bytes (λ j below within. zeros (suc j) (omega (arith, below)) (omega (arith, within))))
+
+abbrev IsZeroBehind : ℕ → List ℕ → ℕ → Type 0
+IsZeroBehind place left i = (j : ℕ) → i ≤ j → j < length left → (place + j) / block_size ≡ (place + i) / block_size → slice_index left j ≡ 0
+
+each_part : (place : ℕ) (bytes left : List ℕ) → length left ≤ length bytes
+    → ((i : ℕ) → i < length left → (slice_index left i ≡ slice_index bytes i) ⊎ IsZeroBehind place left i) → MayBeLeft place bytes left
+each_part place bytes [] le each = tt
+each_part place [] (byte ∷ left) le each = absurd (omega (arith, le))
+each_part place (word ∷ bytes) (byte ∷ left) le each = (here (each 0 (omega arith)), each_part (place + 1) bytes left (omega (arith, le)) (λ i below. later i (each (suc i) (omega (arith, below)))))
   where
-    short : (length left ≤ length (was ++ bytes)) ⊎ (length left ≡ length was) → length left ≤ length (was ++ bytes)
-    short (inl le) = le
-    short (inr same) = omega (arith, same, length-append was bytes)
+    here : (byte ≡ word) ⊎ IsZeroBehind place (byte ∷ left) 0 → (byte ≡ word) ⊎ (is_lost place (byte ∷ left) ≡ true)
+    here (inl e) = inl e
+    here (inr zeros) = inr (are_zeros (block_size - place % block_size) (byte ∷ left) (λ j below within. zeros j (omega arith) within (omega (arith, below))))
 
-    byte : (i : ℕ) → length was ≤ i
-        → ((i < length (was ++ bytes)) × (slice_index left i ≡ slice_index (was ++ bytes) i))
-        ⊎ (((i < length was) × (slice_index left i ≡ slice_index was i)) ⊎ ((i < length (was ++ bytes)) × IsZeroFrom left i))
-        → (slice_index left i ≡ slice_index (was ++ bytes) i) ⊎ IsZeroFrom left i
-    byte i from (inl (in_content, e)) = inl e
-    byte i from (inr (inl (in_flushed, e))) = absurd (omega (arith, from, in_flushed))
-    byte i from (inr (inr (in_content, zeros))) = inr zeros
+    later : (i : ℕ) → (slice_index left i ≡ slice_index bytes i) ⊎ IsZeroBehind place (byte ∷ left) (suc i)
+        → (slice_index left i ≡ slice_index bytes i) ⊎ IsZeroBehind (place + 1) left i
+    later i (inl e) = inl e
+    later i (inr zeros) = inr (λ j from within block. zeros (suc j) (omega (arith, from)) (omega (arith, within)) (omega (arith, block)))
 
--- the byte at a place doesn't depend on what comes after
-byte_before : (xs ys zs : List ℕ) (i : ℕ) → i < length xs → slice_index (xs ++ ys) i ≡ slice_index (xs ++ zs) i
-byte_before xs ys zs i below = get_or_append_left xs ys 0 i below ∙ sym (get_or_append_left xs zs 0 i below)
+-- of a file that was on the disk the old bytes are left, and a part of those that were appended
+abbrev LeavesBehind : List ℕ → List ℕ → Option (List ℕ) → Type 0
+LeavesBehind was bytes left = (behind : List ℕ) × (left ≡ Some (was ++ behind)) × MayBeLeft (length was) bytes behind
 
--- what an append of a front of some bytes may leave, an append of all may leave
-behind_more : (was front rest left : List ℕ) → IsTornBehind was front left → IsTornBehind was (front ++ rest) left
-behind_more was front rest left t = record {
-  behind = t.behind;
-  parts = t.parts;
-  most = omega (arith, t.most, length-append was front, length-append was (front ++ rest), length-append front rest);
-  each = λ i from below. elim (t.each i from below) [
-    | inl e ↦ inl (e ∙ whole i (inside i below))
-    | inr zeros ↦ inr zeros
-  ];
-}
+some_behind : (was bytes left : List ℕ) → IsTorn (was ++ bytes) was (length was) left → LeavesBehind was bytes (Some left)
+some_behind was bytes left t = (
+  t.behind,
+  ap Some parts,
+  each_part (length was) bytes t.behind (short t.most) (λ i below. byte i (t.each (length was + i) (omega arith) (omega (arith, below, size)))),
+)
   where
-    inside : (i : ℕ) → i < length left → i < length (was ++ front)
-    inside i below = omega (arith, below, t.most)
+    parts : left ≡ was ++ t.behind
+    parts = t.kept ∙ ap (λ (xs : List ℕ). xs ++ t.behind) (take-append_seam was bytes)
 
-    whole : (i : ℕ) → i < length (was ++ front) → slice_index (was ++ front) i ≡ slice_index (was ++ (front ++ rest)) i
-    whole i before =
-        sym (get_or_append_left (was ++ front) rest 0 i before) ∙ ap (λ (xs : List ℕ). slice_index xs i) (append_assoc was front rest)
+    size : length left ≡ length was + length t.behind
+    size = ap length parts ∙ length-append was t.behind
 
--- the same for an append to a front that is there whole
-behind_earlier : (was first more left : List ℕ) → IsTornBehind (was ++ first) more left → IsTornBehind was (first ++ more) left
-behind_earlier was first more left t = record {
-  behind = first ++ t.behind;
-  parts = t.parts ∙ append_assoc was first t.behind;
-  most = subst (λ (xs : List ℕ). length left ≤ length xs) (append_assoc was first more) t.most;
-  each = λ i from below. elim (cases_lt i (length (was ++ first))) [
-    | inl before ↦ inl (ap (λ (xs : List ℕ). slice_index xs i) t.parts ∙ byte_before (was ++ first) t.behind more i before ∙ whole i)
-    | inr after ↦ elim (t.each i after below) [
-      | inl e ↦ inl (e ∙ whole i)
-      | inr zeros ↦ inr zeros
-    ]
-  ];
-}
-  where
-    whole : (i : ℕ) → slice_index ((was ++ first) ++ more) i ≡ slice_index (was ++ (first ++ more)) i
-    whole i = ap (λ (xs : List ℕ). slice_index xs i) (append_assoc was first more)
+    short : (length left ≤ length (was ++ bytes)) ⊎ (length left ≡ length was) → length t.behind ≤ length bytes
+    short (inl le) = omega (arith, le, size, length-append was bytes)
+    short (inr same) = omega (arith, same, size)
+
+    at : (i : ℕ) → slice_index left (length was + i) ≡ slice_index t.behind i
+    at i = ap (λ (xs : List ℕ). slice_index xs (length was + i)) parts ∙ get_or-append-add was t.behind i 0
+
+    byte : (i : ℕ) → IsByteLeft (was ++ bytes) was left (length was + i)
+        → (slice_index t.behind i ≡ slice_index bytes i) ⊎ IsZeroBehind (length was) t.behind i
+    byte i (inl (in_content, e)) = inl (sym (at i) ∙ e ∙ get_or-append-add was bytes i 0)
+    byte i (inr (inl (in_flushed, e))) = absurd (omega (arith, in_flushed))
+    byte i (inr (inr (in_content, zeros))) =
+        inr (λ j from within block. sym (at j) ∙ zeros (length was + j) (omega (arith, from)) (omega (arith, within, size)) block)
 
 loose_behind : (was bytes : List ℕ) (left : Option (List ℕ)) → IsLeftOf (Some (appended (secured was) bytes)) left → LeavesBehind was bytes left
 loose_behind was bytes None h = absurd h
-loose_behind was bytes (Some left) (inl e) = (left, refl, subst (λ (xs : List ℕ). IsTornBehind was bytes xs) (sym e) (none_behind was bytes))
-loose_behind was bytes (Some left) (inr (inl e)) = (left, refl, subst (λ (xs : List ℕ). IsTornBehind was bytes xs) (sym e) (all_behind was bytes))
-loose_behind was bytes (Some left) (inr (inr t)) = (left, refl, some_behind was bytes left t)
-
-tight_behind : (was bytes : List ℕ) (left : Option (List ℕ)) → left ≡ Some (was ++ bytes) → LeavesBehind was bytes left
-tight_behind was bytes left e = (was ++ bytes, e, all_behind was bytes)
+loose_behind was bytes (Some left) (inl e) = ([], ap Some (e ∙ sym (append-nil was)), tt)
+loose_behind was bytes (Some left) (inr (inl e)) = (bytes, ap Some e, part_all (length was) bytes)
+loose_behind was bytes (Some left) (inr (inr t)) = some_behind was bytes left t
 
 -- what is left if the last bytes may be flushed
 part_behind : (was front : List ℕ) (b c : Blob) (left : Option (List ℕ)) → b ≡ secured was → MayBeFlushed (appended b front) c
@@ -150,8 +135,8 @@ part_behind : (was front : List ℕ) (b c : Blob) (left : Option (List ℕ)) →
 part_behind was front b c left s (inl e) h =
     loose_behind was front left (subst (λ (x : Blob). IsLeftOf (Some x) left) (e ∙ ap (λ (x : Blob). appended x front) s) h)
 part_behind was front b c left s (inr (inl e)) h =
-    tight_behind was front left
-    (left_secured (was ++ front) left (subst (λ (x : Blob). IsLeftOf (Some x) left) (e ∙ ap (λ (x : Blob). flushed (appended x front)) s) h))
+    let all = left_secured (was ++ front) left (subst (λ (x : Blob). IsLeftOf (Some x) left) (e ∙ ap (λ (x : Blob). flushed (appended x front)) s) h) in
+    (front, all, part_all (length was) front)
 part_behind was front b c left s (inr (inr e)) h =
     loose_behind was front left (subst (λ (x : Blob). IsLeftOf (Some x) left) (e ∙ ap (λ (x : Blob). doubted (appended x front)) s) h)
 
@@ -165,19 +150,20 @@ pieces_behind : (was bytes first front rest : List ℕ) (b c : Blob) (left : Opt
     → IsPartAppended first front b c → IsLeftOf (Some c) left → LeavesBehind was bytes left
 pieces_behind was bytes first front rest b c left s parts is h =
     let t = part_behind (was ++ first) front is.so_far c left (so_far_secured was first b is.so_far s is.is_flushed) is.is h in (
-      t.0,
-      t.1,
-      subst (λ (xs : List ℕ). IsTornBehind was xs t.0) (sym parts)
-          (behind_earlier was first (front ++ rest) t.0 (behind_more (was ++ first) front rest t.0 t.2)),
+      first ++ t.0,
+      t.1 ∙ ap Some (append_assoc was first t.0),
+      subst (λ (xs : List ℕ). MayBeLeft (length was) xs (first ++ t.0)) (sym parts)
+          (part_later (length was) first (front ++ rest) t.0
+          (part_more (length was + length first) front rest t.0 (subst (λ (n : ℕ). MayBeLeft n front t.0) (length-append was first) t.2))),
     )
 
-append_leaves : (old new : Directory) (name bytes : List ℕ) (r : Result (Unit {0}) StoreFault) → AppendsFlushed old name bytes r new
-    → (was : List ℕ) (left : Option (List ℕ)) → IsOnDisk old name → content_at old name ≡ Some was → MayBe new name left → LeavesBehind was bytes left
-append_leaves old new name bytes (Ok done) (b, c, at, is, h) was left on has may =
+append_leaves : (old new : Directory) (name bytes : List ℕ) (r : Result (Unit {0}) StoreFault) → AppendsFlushed old name bytes r new → IsOnDisk old name
+    → LeavesPart (content_at old name) bytes (MayBe new name)
+append_leaves old new name bytes (Ok done) (b, c, at, is, h) on was has left may =
     subst (λ (xs : List ℕ). LeavesBehind xs bytes left) (content_is old name was b at has)
     (part_behind b.content bytes b c left (was_secured old name b at on) (inr (inl is)) (left_held old new name left c on h may))
-append_leaves old new name bytes (Err e) (inl h) was left on has may = (was, left_kept old new name left on h may ∙ has, none_behind was bytes)
-append_leaves old new name bytes (Err e) (inr (first, front, rest, parts, (b, c, at, is, h))) was left on has may =
+append_leaves old new name bytes (Err e) (inl h) on was has left may = ([], left_kept old new name left on h may ∙ has ∙ ap Some (sym (append-nil was)), tt)
+append_leaves old new name bytes (Err e) (inr (first, front, rest, parts, (b, c, at, is, h))) on was has left may =
     subst (λ (xs : List ℕ). LeavesBehind xs bytes left) (content_is old name was b at has)
     (pieces_behind b.content bytes first front rest b c left (was_secured old name b at on) parts is (left_held old new name left c on h may))
 
@@ -201,6 +187,7 @@ append_outlives old new name bytes (Err e) t = tt
 pub appends_for_good : (old new : Directory) (name bytes : List ℕ) (r : Result (Unit {0}) StoreFault) → AppendsFlushed old name bytes r new
     → AppendsForGood old name bytes r new
 appends_for_good old new name bytes r t = record {
+  longer = appends_longer old new name bytes r t;
   leaves = append_leaves old new name bytes r t;
   outlives = append_outlives old new name bytes r t;
 }
@@ -272,6 +259,7 @@ cut_outlives old new name len (Err e) t = tt
 pub cuts_for_good : (old new : Directory) (name : List ℕ) (len : ℕ) (r : Result (Unit {0}) StoreFault) → CutsFlushed old name len r new
     → CutsForGood old name len r new
 cuts_for_good old new name len r t = record {
+  fronts = cuts_front old new name len r t;
   leaves = cut_leaves old new name len r t;
   outlives = cut_outlives old new name len r t;
 }
@@ -279,19 +267,24 @@ cuts_for_good old new name len r t = record {
 -- ---- `replace`
 
 replace_leaves : (old new : Directory) (name bytes : List ℕ) (r : Result (Unit {0}) StoreFault) → ReplacesFlushed old name bytes r new
-    → (left : Option (List ℕ)) → IsOnDisk old name → MayBe new name left → (left ≡ content_at old name) ⊎ (left ≡ Some bytes)
-replace_leaves old new name bytes (Ok done) h left on may =
-    inr (left_secured bytes left (subst (λ (o : Option Blob). IsLeftOf o left) h.leads_to (left_named new name left h.named may)))
-replace_leaves old new name bytes (Err e) (inl h) left on may = inl (left_kept old new name left on h may)
-replace_leaves old new name bytes (Err e) (inr (inl h)) left on may = elim may [
-  | inl now ↦ inr (left_secured bytes left (subst (λ (o : Option Blob). IsLeftOf o left) h.leads_to now))
-  | inr was ↦ elim (subst (λ (older : List Older). WasOnce older name left) h.named was) [
-    | inl last ↦ inl (left_flushed (find name old.entries) left on.flushed last.1)
-    | inr before ↦ absurd (subst (λ (older : List Older). WasOnce older name left) on.named before)
-  ]
-]
-replace_leaves old new name bytes (Err e) (inr (inr h)) left on may =
-    inr (left_secured bytes left (subst (λ (o : Option Blob). IsLeftOf o left) h.leads_to (left_named new name left h.named may)))
+    → LeavesEither (MayBe old name) bytes (MayBe new name)
+replace_leaves old new name bytes r t left may = by r t
+  where
+    of_new : (older : List Older) → Holds new name (Some (secured bytes)) older → (WasOnce older name left → MayBe old name left ⊎ (left ≡ Some bytes))
+        → MayBe old name left ⊎ (left ≡ Some bytes)
+    of_new older h is = elim (may_held new name (Some (secured bytes)) older h left may) [
+      | inl now ↦ inr (left_secured bytes left now)
+      | inr was ↦ is was
+    ]
+
+    by : (r : Result (Unit {0}) StoreFault) → ReplacesFlushed old name bytes r new → MayBe old name left ⊎ (left ≡ Some bytes)
+    by (Ok done) h = of_new [] h (λ was. absurd was)
+    by (Err e) (inl h) = inl (may_held new name (find name old.entries) old.older h left may)
+    by (Err e) (inr (inl h)) = of_new _ h (λ was. elim was [
+      | inl last ↦ inl (inl last.1)
+      | inr before ↦ inl (inr before)
+    ])
+    by (Err e) (inr (inr h)) = of_new [] h (λ was. absurd was)
 
 replace_outlives : (old new : Directory) (name bytes : List ℕ) (r : Result (Unit {0}) StoreFault) → ReplacesFlushed old name bytes r new
     → OnOk r (IsOnDisk new name)
@@ -310,11 +303,7 @@ replaces_for_good old new name bytes r t = record {
 
 -- ---- `load`, `edges`, `read_at`
 
--- a file of which no flush was refused is on the disk once it is flushed
-pub flushed_sure : (b : Blob) → b.is_doubted ≡ false → flushed b ≡ secured b.content
-flushed_sure b sure = rw sure refl
-
--- and its name too, once the file and then the names are flushed
+-- a file of which no flush was refused, and its name, are on the disk once the file and then the names are flushed
 pub both_on_disk : (old mid new : Directory) (name : List ℕ) (r : Result (Unit {0}) StoreFault) → IsSure (find name old.entries)
     → FlushesFile {T = Unit {0}} old name (Ok tt) mid → FlushesNames mid r new → OnOk r (IsOnDisk new name)
 both_on_disk old mid new name (Ok done) sure (b, at, e) names =
@@ -326,7 +315,7 @@ both_on_disk old mid new name (Ok done) sure (b, at, e) names =
 both_on_disk old mid new name (Err fault) sure flush names = tt
 
 -- what `OnOk` says of an answer that isn't an error
-pub asked : {T E : Type 0} (r : Result T E) (P : Type 0) → is_err r ≡ false → OnOk r P → P
+asked : {T E : Type 0} (r : Result T E) (P : Type 0) → is_err r ≡ false → OnOk r P → P
 asked (Ok done) P well h = h
 asked (Err e) P well h = absurd (true≢false well)
 
@@ -342,23 +331,66 @@ disk_is_known is_flushed d name is = record { sure = flushed_is_sure (find name 
 pub disk_stands : DiskStands
 disk_stands d name h = λ left may. left_flushed (find name d.entries) left h.flushed (left_named d name left h.named may)
 
-pub outlives_power : OutlivesPower
-outlives_power old new name bytes stands loses = stands (content_at new name) (loses.each name)
+-- what is on the disk is known to be there, and a loss of power leaves exactly that
+pub told_lasts : (is_flushed : Bool) (d : Directory) (name : List ℕ) → IsOnDisk d name
+    → IsKnown is_flushed d name × LastsWhole (content_at d name) (IsOnDisk d name) (MayBe d name)
+told_lasts is_flushed d name is = (disk_is_known is_flushed d name is, λ bytes has. (is, λ left may. disk_stands d name is left may ∙ has))
 
--- the folder once everything is on the disk
-secured_entry : Entry → Entry
-secured_entry e = entry e.name (secured e.blob.content)
+-- a call that only reads answered, once the file was flushed
+pub told_again : {T : Type 0} (r : Result T StoreFault) (is_flushed flag : Bool) (old mid new : Directory) (name name' : List ℕ) → is_err r ≡ false
+    → mid ≡ old → name' ≡ name → (IsKnown is_flushed mid name → OnOk r (IsOnDisk new name)) → IsKnown is_flushed old name
+    → IsKnown flag new name' × LastsWhole (content_at new name') (IsOnDisk new name') (MayBe new name')
+told_again r is_flushed flag old mid new name name' well same named on_disk known =
+    told_lasts flag new name' (subst (λ (n : List ℕ). IsOnDisk new n) (sym named)
+    (asked r (IsOnDisk new name) well (on_disk (subst (λ (d : Directory). IsKnown is_flushed d name) (sym same) known))))
 
+-- the folder once everything is on the disk, and under one name is what is to be left there
 secured_blob : Blob → Blob
 secured_blob b = secured b.content
 
-find_secured : (name : List ℕ) (es : List Entry) → find name (map secured_entry es) ≡ option_map secured_blob (find name es)
-unfolding secured_entry secured_blob
-find_secured name [] = refl
-find_secured name (e ∷ es) = elim (cases_Bool (bytes_eq name e.name)) [
-  | inl same ↦ rw same refl
-  | inr apart ↦ rw apart (find_secured name es)
+abbrev others : List ℕ → List Entry → List Entry
+others name [] = []
+others name (e ∷ es) = if bytes_eq name e.name then others name es else entry e.name (secured e.blob.content) ∷ others name es
+
+abbrev entries_left : List ℕ → Option (List ℕ) → List Entry → List Entry
+entries_left name None es = others name es
+entries_left name (Some bytes) es = entry name (secured bytes) ∷ others name es
+
+differ : (one two : List ℕ) → (one ≡ two → ⊥) → bytes_eq one two ≡ false
+differ one two apart = elim (cases_Bool (bytes_eq one two)) [
+  | inl same ↦ absurd (apart ((bytes_eq-Decides one two).0 same))
+  | inr not ↦ not
 ]
+
+find_not : (name : List ℕ) (es : List Entry) → find name (others name es) ≡ None
+find_not name [] = refl
+find_not name (e ∷ es) = elim (cases_Bool (bytes_eq name e.name)) [
+  | inl same ↦ rw same (find_not name es)
+  | inr apart ↦ rw apart (find_later name (entry e.name (secured e.blob.content)) (others name es) apart ∙ find_not name es)
+]
+
+find_left : (name : List ℕ) (left : Option (List ℕ)) (es : List Entry) → find name (entries_left name left es) ≡ option_map secured left
+find_left name None es = find_not name es
+find_left name (Some bytes) es = find_here name (entry name (secured bytes)) (others name es) ((bytes_eq-Decides name name).1 refl)
+
+find_others : (name other : List ℕ) (es : List Entry) → (other ≡ name → ⊥) → find other (others name es) ≡ option_map secured_blob (find other es)
+unfolding secured_blob
+find_others name other [] apart = refl
+find_others name other (e ∷ es) apart = elim (cases_Bool (bytes_eq name e.name)) [
+  | inl same ↦
+      let not : bytes_eq other e.name ≡ false = differ other e.name (λ is. apart (is ∙ sym ((bytes_eq-Decides name e.name).0 same))) in
+      rw (same, not) (find_others name other es apart)
+  | inr not ↦ elim (cases_Bool (bytes_eq other e.name)) [
+    | inl here ↦ rw (not, here) refl
+    | inr later ↦ rw (not, later) (find_others name other es apart)
+  ]
+]
+
+find_other : (name other : List ℕ) (left : Option (List ℕ)) (es : List Entry) → (other ≡ name → ⊥)
+    → find other (entries_left name left es) ≡ option_map secured_blob (find other es)
+find_other name other None es apart = find_others name other es apart
+find_other name other (Some bytes) es apart =
+    find_later other (entry name (secured bytes)) (others name es) (differ other name apart) ∙ find_others name other es apart
 
 may_arrive : (o : Option Blob) → IsLeftOf o (option_map content_in (option_map secured_blob o))
 unfolding secured_blob
@@ -370,18 +402,40 @@ unfolding secured_blob
 secured_is_flushed None = tt
 secured_is_flushed (Some b) = refl
 
-pub power_can_be_lost : PowerCanBeLost
-power_can_be_lost old =
-    let new : Directory = record old { entries = map secured_entry old.entries; older = []; made = None } in
-    let at : (name : List ℕ) → find name new.entries ≡ option_map secured_blob (find name old.entries) = λ name. find_secured name old.entries in (
-      new,
-      record {
-        can_make = refl;
-        each = λ name. inl (subst (λ (o : Option Blob). IsLeftOf (find name old.entries) (option_map content_in o)) (sym (at name)) (may_arrive (find name old.entries)));
-        on_disk = λ name. record {
-          named = refl;
-          flushed = subst (λ (o : Option Blob). IsFlushed o) (sym (at name)) (secured_is_flushed (find name old.entries));
-        };
-        made = refl;
-      },
-    )
+left_is_flushed : (left : Option (List ℕ)) → IsFlushed (option_map secured left)
+left_is_flushed None = tt
+left_is_flushed (Some bytes) = refl
+
+left_content : (left : Option (List ℕ)) → option_map content_in (option_map secured left) ≡ left
+left_content None = refl
+left_content (Some bytes) = refl
+
+loses_so : (old : Directory) (name : List ℕ) (left : Option (List ℕ)) → MayBe old name left
+    → (new : Directory) × Loses old new × (content_at new name ≡ left)
+loses_so old name left may = (
+  record old { entries = entries_left name left old.entries; older = []; made = None },
+  record { can_make = refl; each = each; on_disk = λ n. record { named = refl; flushed = on n }; made = refl },
+  content,
+)
+  where
+    content : option_map content_in (find name (entries_left name left old.entries)) ≡ left
+    content = ap (option_map content_in) (find_left name left old.entries) ∙ left_content left
+
+    each : (n : List ℕ) → MayBe old n (option_map content_in (find n (entries_left name left old.entries)))
+    each n = elim (cases_Bool (bytes_eq n name)) [
+      | inl same ↦ subst (λ (m : List ℕ). MayBe old m (option_map content_in (find m (entries_left name left old.entries)))) (sym ((bytes_eq-Decides n name).0 same))
+          (subst (λ (o : Option (List ℕ)). MayBe old name o) (sym content) may)
+      | inr apart ↦ inl (subst (λ (o : Option Blob). IsLeftOf (find n old.entries) (option_map content_in o))
+          (sym (find_other name n left old.entries (λ is. true≢false (sym ((bytes_eq-Decides n name).1 is) ∙ apart)))) (may_arrive (find n old.entries)))
+    ]
+
+    on : (n : List ℕ) → IsFlushed (find n (entries_left name left old.entries))
+    on n = elim (cases_Bool (bytes_eq n name)) [
+      | inl same ↦ subst (λ (m : List ℕ). IsFlushed (find m (entries_left name left old.entries))) (sym ((bytes_eq-Decides n name).0 same))
+          (subst (λ (o : Option Blob). IsFlushed o) (sym (find_left name left old.entries)) (left_is_flushed left))
+      | inr apart ↦ subst (λ (o : Option Blob). IsFlushed o)
+          (sym (find_other name n left old.entries (λ is. true≢false (sym ((bytes_eq-Decides n name).1 is) ∙ apart)))) (secured_is_flushed (find n old.entries))
+    ]
+
+pub power_leaves : PowerLeaves
+power_leaves old name left = (loses_so old name left, λ after. subst (λ (o : Option (List ℕ)). MayBe old name o) after.2 (after.1.each name))

@@ -1,7 +1,8 @@
 -- What a loss of power may leave of a folder, and what each call of a device leaves to it.
-use Rattle.std.specs.Prelude.{◌≡◌, ℕ, ◌≤◌, ◌<◌, ◌/◌, List, [], ◌∷◌, ◌++◌, length, take, slice_index, Bool}
+use Rattle.std.specs.Prelude.{◌≡◌, ◌↔◌, ℕ, ◌≤◌, ◌<◌, ◌/◌, List, [], ◌∷◌, ◌++◌, length, take, slice_index, Bool}
 use Rattle.std.specs.Prelude.{true, false, Option, Some, None, Result, ◌⊎◌, OnOk}
 use Rattle.mail_store.specs.declared.fault.StoreFault.{StoreFault}
+use Rattle.mail_store.specs.Power.{LeavesEither, LeavesFronts, LeavesLonger, LeavesPart}
 use Rattle.mail_store.specs.Settling.{block_size}
 use Rattle.folder_store.specs.FileFolder.{Directory, Blob, Older, find, content_at, secured}
 
@@ -75,14 +76,10 @@ Stands d name bytes = (left : Option (List ℕ)) → MayBe d name left → left 
 abbrev pub DiskStands : Type 0
 DiskStands = (d : Directory) (name : List ℕ) → IsOnDisk d name → Stands d name (content_at d name)
 
--- what `Stands` says is left under a name is there after a loss of power
-abbrev pub OutlivesPower : Type 0
-OutlivesPower =
-    (old new : Directory) (name : List ℕ) (bytes : Option (List ℕ)) → Stands old name bytes → Loses old new → content_at new name ≡ bytes
-
--- a loss of power is possible in each state
-abbrev pub PowerCanBeLost : Type 0
-PowerCanBeLost = (old : Directory) → (new : Directory) × Loses old new
+-- a loss of power leaves one of these under the name, and each of them may be what it leaves
+abbrev pub PowerLeaves : Type 0
+PowerLeaves = (old : Directory) (name : List ℕ) (left : Option (List ℕ))
+    → MayBe old name left ↔ ((new : Directory) × Loses old new × (content_at new name ≡ left))
 
 -- no flush of the file of this name was refused, as far as the device saw; and if it knows that the file is
 -- flushed, the file and the names are on the disk
@@ -94,52 +91,22 @@ pub record IsKnown (is_flushed : Bool) (d : Directory) (name : List ℕ) : Type 
 abbrev pub DiskIsKnown : Type 0
 DiskIsKnown = (is_flushed : Bool) (d : Directory) (name : List ℕ) → IsOnDisk d name → IsKnown is_flushed d name
 
--- what is left of a file after an append: the old bytes, and new ones, perhaps not all, each as it is, or zero, and
--- then all after it in its page of the file are zeros too
-pub record IsTornBehind (was bytes left : List ℕ) : Type 0 where
-  pub behind : List ℕ
-  pub parts : left ≡ was ++ behind
-  pub most : length left ≤ length (was ++ bytes)
-  pub each : (i : ℕ) → length was ≤ i → i < length left → (slice_index left i ≡ slice_index (was ++ bytes) i) ⊎ IsZeroFrom left i
-
-abbrev pub LeavesBehind : List ℕ → List ℕ → Option (List ℕ) → Type 0
-LeavesBehind was bytes left = (text : List ℕ) × (left ≡ Some text) × IsTornBehind was bytes text
-
--- `append`: whatever it answers, the old bytes and a part of the new ones are left, and after Ok all
+-- `append`: whatever it answers, a loss of power leaves what it could have left before, or more bytes behind; of a file
+-- that was on the disk the old bytes and a part of the new ones, and after Ok all
 pub record AppendsForGood {T : Type 0} (old : Directory) (name bytes : List ℕ) (r : Result T StoreFault) (new : Directory) : Type 0 where
-  pub leaves : (was : List ℕ) (left : Option (List ℕ)) → IsOnDisk old name → content_at old name ≡ Some was
-      → MayBe new name left → LeavesBehind was bytes left
+  pub longer : LeavesLonger (MayBe old name) (MayBe new name)
+  pub leaves : IsOnDisk old name → LeavesPart (content_at old name) bytes (MayBe new name)
   pub outlives : OnOk r (IsOnDisk old name → IsOnDisk new name)
 
--- `cut_to`: the old bytes are left, or the first of them, and after Ok only these
+-- `cut_to`: what could have been left before, or the first bytes of it, or more bytes behind; of a file that was on the
+-- disk the old bytes or the first of them, and after Ok only these
 pub record CutsForGood {T : Type 0} (old : Directory) (name : List ℕ) (len : ℕ) (r : Result T StoreFault) (new : Directory) : Type 0 where
+  pub fronts : LeavesFronts len (MayBe old name) (MayBe new name)
   pub leaves : (was : List ℕ) (left : Option (List ℕ)) → IsOnDisk old name → content_at old name ≡ Some was → MayBe new name left
       → (left ≡ Some was) ⊎ (left ≡ Some (take len was))
   pub outlives : OnOk r (IsOnDisk old name → IsOnDisk new name)
 
--- `replace`: what was there, a file or none, is left, or the new bytes; after Ok only these, whatever was there
+-- `replace`: what could have been left before, a file or none, or the new bytes; after Ok only these, whatever was there
 pub record ReplacesForGood {T : Type 0} (old : Directory) (name bytes : List ℕ) (r : Result T StoreFault) (new : Directory) : Type 0 where
-  pub leaves : (left : Option (List ℕ)) → IsOnDisk old name → MayBe new name left → (left ≡ content_at old name) ⊎ (left ≡ Some bytes)
+  pub leaves : LeavesEither (MayBe old name) bytes (MayBe new name)
   pub outlives : OnOk r (IsOnDisk new name)
-
--- ---- what stays, call after call
-
--- these bytes are the first of the file, in memory and on the disk
-pub record IsFront (bytes : List ℕ) (b : Blob) : Type 0 where
-  pub rest : List ℕ
-  pub more : List ℕ
-  pub content : b.content ≡ bytes ++ rest
-  pub flushed : b.flushed ≡ bytes ++ more
-  pub uncut : length bytes ≤ b.uncut
-
--- whatever a loss of power leaves under the name is a file that begins with these bytes
-pub record FrontStands (d : Directory) (name bytes : List ℕ) : Type 0 where
-  pub blob : Blob
-  pub leads_to : find name d.entries ≡ Some blob
-  pub named : d.older ≡ []
-  pub front : IsFront bytes blob
-
--- if `FrontStands` holds, the file begins with these bytes after a loss of power
-abbrev pub FrontsOutlivePower : Type 0
-FrontsOutlivePower = (old new : Directory) (name bytes : List ℕ) → FrontStands old name bytes → Loses old new
-    → (rest : List ℕ) × (content_at new name ≡ Some (bytes ++ rest))

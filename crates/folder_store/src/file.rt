@@ -36,8 +36,8 @@ pub struct HostFile<'a, F: FileFolder + Drop> {
 impl<'a, F: FileFolder + Drop> HostFile<'a, F> {
     ghost use Rattle.folder_store.specs.HostFile.{Flushes, stored_in};
     ghost use Rattle.folder_store.specs.FileFolder.{find};
-    ghost use Rattle.folder_store.specs.PowerLoss.{FrontStands, IsKnown, IsOnDisk, IsSure};
-    ghost use Rattle.mail_store.specs.Power.{KeepsBytes};
+    ghost use Rattle.folder_store.specs.PowerLoss.{IsKnown, IsOnDisk, IsSure, MayBe};
+    ghost use Rattle.mail_store.specs.Power.{LeavesNoMore};
 
     /// The file of a name in a folder. There need be none.
     pub fn over(folder: F, name: &'a str, appending: Appending) -> HostFile<'a, F>
@@ -75,8 +75,8 @@ impl<'a, F: FileFolder + Drop> HostFile<'a, F> {
             × Flushes (F.directory self.old.folder) self.old.name.now (F.directory self.new.folder) }
         ensures on_disk { F.sound self.new.folder → IsKnown self.old.is_flushed (F.directory self.old.folder) self.old.name.now
             → OnOk result (IsOnDisk (F.directory self.new.folder) self.old.name.now) }
-        ensures keeps { F.sound self.new.folder → KeepsBytes (FrontStands (F.directory self.old.folder) self.old.name.now)
-            (FrontStands (F.directory self.new.folder) self.old.name.now) }
+        ensures keeps { F.sound self.new.folder → LeavesNoMore (MayBe (F.directory self.old.folder) self.old.name.now)
+            (MayBe (F.directory self.new.folder) self.old.name.now) }
         ensures doubted { OnErr result (self.new.is_flushed ≡ false) }
         ensures others { self.new ≡ record self.old { folder = self.new.folder; is_flushed = self.new.is_flushed } }
     {
@@ -184,11 +184,13 @@ impl<'a, F: FileFolder + Drop> FlatFile for HostFile<'a, F> {
     ghost use Rattle.std.specs.Prelude.{◌<◌};
     ghost use Rattle.mail_terms.specs.FailureCount.{greatest_count};
     ghost use Rattle.folder_store.specs.HostFile.{stored_in};
-    ghost use Rattle.folder_store.specs.PowerLoss.{FrontStands, IsKnown};
+    ghost use Rattle.folder_store.specs.PowerLoss.{IsKnown, IsOnDisk, MayBe};
 
     ghost stored = { λ f. stored_in (F.directory f.folder) f.name.now f.failures };
 
-    ghost outlives = { λ f bytes. FrontStands (F.directory f.folder) f.name.now bytes };
+    ghost may_leave = { λ f left. MayBe (F.directory f.folder) f.name.now left };
+
+    ghost is_on_disk = { λ f. IsOnDisk (F.directory f.folder) f.name.now };
 
     ghost is_sure = { λ f. IsKnown f.is_flushed (F.directory f.folder) f.name.now };
 

@@ -2,30 +2,20 @@
 //! the law.
 
 ghost use Rattle.std.specs.Prelude.{List};
-ghost use Rattle.folder_store.specs.PowerLoss.{DiskIsKnown, DiskStands, FrontsOutlivePower, OutlivesPower, PowerCanBeLost};
+ghost use Rattle.folder_store.specs.PowerLoss.{DiskIsKnown, DiskStands, PowerLeaves};
 ghost use Rattle.folder_store.specs.HostFile.{AppendsLast, CutsLast, ReplacesLast};
 ghost use Rattle.folder_store.specs.MailCalls.{BothBring, MadeBringsNone};
 ghost use Rattle.folder_store.specs.MailFolders.{Directories, MailFile, Moved, OneMoves};
 ghost use Rattle.folder_store.specs.MailPower.{LeftMailIsOnDisk, MailCanLosePower, MailOnDiskIsLeft, OutlivingMailIsLeft, StayingMailIsLeft};
-
-/// Power can be lost in each state of a folder.
-pub fn power_can_be_lost()
-    ensures { PowerCanBeLost }
-{}
 
 /// A loss of power leaves what calls see under a name whose file is on the disk.
 pub fn disk_stands()
     ensures { DiskStands }
 {}
 
-/// If a loss of power may leave only one thing under a name, it is there after one.
-pub fn outlives_power()
-    ensures { OutlivesPower }
-{}
-
-/// If all that a loss of power may leave of a file begins with some bytes, the file does after one.
-pub fn fronts_outlive_power()
-    ensures { FrontsOutlivePower }
+/// What may be left under a name is exactly what a loss of power may leave there.
+pub fn power_leaves()
+    ensures { PowerLeaves }
 {}
 
 /// What is on the disk is known to be there, whether or not a device knows it.

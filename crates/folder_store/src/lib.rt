@@ -28,7 +28,7 @@ pub use host::HostFolder;
 pub use host_folders::HostFolders;
 pub use laws::{
     calls_bring_mail, disk_is_known, disk_stands, left_mail_is_on_disk, mail_can_lose_power,
-    mail_outlives_power, outlives_power, power_can_be_lost, readers_move, writes_outlive_power,
+    mail_outlives_power, power_leaves, readers_move, writes_outlive_power,
 };
 pub use mail_folders::MailFolders;
 pub use maildir::FolderMaildir;

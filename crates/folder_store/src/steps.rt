@@ -3,8 +3,8 @@
 ghost use Rattle.std.specs.Prelude.{◌≡◌, None, OnErr, OnOk};
 ghost use Rattle.folder_store.specs.FileFolder.{find};
 ghost use Rattle.folder_store.specs.HostFile.{AppendsPiece, AppendsFlushed, CutsFlushed, Flushes, PutsFlushed, ReplacesFlushed};
-ghost use Rattle.folder_store.specs.PowerLoss.{FrontStands, IsOnDisk, IsSure};
-ghost use Rattle.mail_store.specs.Power.{KeepsBytes};
+ghost use Rattle.folder_store.specs.PowerLoss.{IsOnDisk, IsSure, MayBe};
+ghost use Rattle.mail_store.specs.Power.{LeavesNoMore};
 
 use crate::device::FileFolder;
 use mail_store::StoreFault;
@@ -116,7 +116,7 @@ pub fn flush_both<F: FileFolder>(folder: &mut F, name: &str) -> Result<(), Store
     ensures flushes { F.sound folder.new → F.sound folder.old
         × Flushes (F.directory folder.old) name.now (F.directory folder.new) }
     ensures keeps { F.sound folder.new
-        → KeepsBytes (FrontStands (F.directory folder.old) name.now) (FrontStands (F.directory folder.new) name.now) }
+        → LeavesNoMore (MayBe (F.directory folder.old) name.now) (MayBe (F.directory folder.new) name.now) }
     ensures on_disk { F.sound folder.new → IsSure (find name.now (F.directory folder.old).entries)
         → OnOk result (IsOnDisk (F.directory folder.new) name.now) }
 {

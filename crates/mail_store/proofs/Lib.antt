@@ -2,6 +2,7 @@ mod AccountLemmas
 mod Deliveries
 mod FusedCalls
 mod HeldLemmas
+mod Leavings
 mod MboxAppends
 mod MboxGroups
 mod MboxLines

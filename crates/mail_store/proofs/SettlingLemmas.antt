@@ -15,7 +15,7 @@ use Rattle.mail_store.specs.declared.fault.StoreFault.{StoreFault}
 use Rattle.mail_store.specs.declared.fault.StoreFault.TheVariants.{Refused}
 use Rattle.mail_store.specs.declared.file.flat_file.Edges.{Edges}
 use Rattle.mail_store.specs.FlatFile.{Stored, holding, counted, piece_at, Measures}
-use Rattle.mail_store.specs.Mboxrd.{separator, begins_entry, from_words, quoted_text, unquoted_text, entry_of, text_in, MboxFile}
+use Rattle.mail_store.specs.Mboxrd.{separator, begins_entry, quoted_text, unquoted_text, entry_of, text_in, MboxFile}
 use Rattle.mail_store.specs.MboxScan.{IsApart}
 use Rattle.mail_store.specs.Settling.{block_size, is_lost, is_torn, MayBeLeft, begin_with, is_one_entry, ends_empty, is_ours, is_entry, listed_size, has_size, is_whole, stands_whole, settled_file, CountsWhole, IsCutOff, LeftoversAreSettled, FrontsAreSettled, WholeEntriesCount, ReadsBehind, SettlesFile}
 use Rattle.mail_store.proofs.OneEntry.{holds_needle, needle, needle_there, one_entry_is}

@@ -1,9 +1,10 @@
 -- What outlives a loss of power, as each device defines it.
-use Rattle.std.specs.Prelude.{◌≡◌, ◌⊎◌, ◌≤◌, ◌<◌, ℕ, List, bytes_eq, length, Option, Some, Result, Ok, Err, Vec, String, Contains}
+use Rattle.std.specs.Prelude.{◌≡◌, ◌⊎◌, ◌<◌, ℕ, List, ◌++◌, bytes_eq, length, take, Option, Some, option_map, Result, Ok, Err, Vec, String, Contains}
 use Rattle.std.specs.List.{filter}
 use Rattle.mail_store.specs.declared.fault.StoreFault.{StoreFault}
 use Rattle.mail_store.specs.declared.fault.StoreFault.TheVariants.{Missing, Refused, NotMbox, NoMemory}
 use Rattle.mail_store.specs.Maildir.{Maildir, File, mail, names_of, bases_told}
+use Rattle.mail_store.specs.Settling.{MayBeLeft}
 
 -- ---- a Maildir: names, without their marks, that stay in `new` or `cur`, and whole files that outlive a loss of power
 
@@ -39,23 +40,52 @@ SettledOutlives old name (Err fault) outlives = Unit {0}
 abbrev pub AllStay : Maildir → (List ℕ → Type 0) → Type 0
 AllStay maildir stays = (name : List ℕ) → Contains (names_of maildir.files) name → stays name
 
--- ---- a file: bytes with which it still begins after a loss of power
+-- ---- a file: what a loss of power may leave of it, None for no file
+
+-- a loss of power leaves nothing that it couldn't have left before
+abbrev pub LeavesNoMore : (Option (List ℕ) → Type 0) → (Option (List ℕ) → Type 0) → Type 0
+LeavesNoMore may_leave may_leave' = (left : Option (List ℕ)) → may_leave' left → may_leave left
+
+-- what is left of a file is as it was, or has more bytes behind
+abbrev pub IsLonger : Option (List ℕ) → Option (List ℕ) → Type 0
+IsLonger was left = (left ≡ was) ⊎ ((bytes : List ℕ) × (behind : List ℕ) × (was ≡ Some bytes) × (left ≡ Some (bytes ++ behind)))
+
+-- whatever a loss of power leaves is what it could have left before, or longer
+abbrev pub LeavesLonger : (Option (List ℕ) → Type 0) → (Option (List ℕ) → Type 0) → Type 0
+LeavesLonger may_leave may_leave' =
+    (left : Option (List ℕ)) → may_leave' left → (was : Option (List ℕ)) × may_leave was × IsLonger was left
+
+-- the same, or of the first `len` bytes of what it could have left before
+abbrev pub LeavesFronts : ℕ → (Option (List ℕ) → Type 0) → (Option (List ℕ) → Type 0) → Type 0
+LeavesFronts len may_leave may_leave' = (left : Option (List ℕ)) → may_leave' left
+    → (was : Option (List ℕ)) × may_leave was × (IsLonger was left ⊎ IsLonger (option_map (take len) was) left)
+
+-- `append`: if all of the file was on the disk, a loss of power leaves it, and what it may leave of the new bytes
+abbrev pub LeavesPart : Option (List ℕ) → List ℕ → (Option (List ℕ) → Type 0) → Type 0
+LeavesPart content bytes may_leave = (was : List ℕ) → content ≡ Some was → (left : Option (List ℕ)) → may_leave left
+    → (behind : List ℕ) × (left ≡ Some (was ++ behind)) × MayBeLeft (length was) bytes behind
+
+-- `replace`: what could have been left before, or the new bytes
+abbrev pub LeavesEither : (Option (List ℕ) → Type 0) → List ℕ → (Option (List ℕ) → Type 0) → Type 0
+LeavesEither may_leave bytes may_leave' = (left : Option (List ℕ)) → may_leave' left → may_leave left ⊎ (left ≡ Some bytes)
+
+-- the file, if there is one, is on the disk, and a loss of power leaves exactly its bytes
+abbrev pub LastsWhole : Option (List ℕ) → Type 0 → (Option (List ℕ) → Type 0) → Type 0
+LastsWhole content is_on_disk may_leave = (bytes : List ℕ) → content ≡ Some bytes
+    → is_on_disk × ((left : Option (List ℕ)) → may_leave left → left ≡ Some bytes)
+
+-- whatever a loss of power leaves begins with these bytes
+abbrev pub Outlives : (Option (List ℕ) → Type 0) → List ℕ → Type 0
+Outlives may_leave bytes = (left : Option (List ℕ)) → may_leave left → (rest : List ℕ) × (left ≡ Some (bytes ++ rest))
 
 -- what a loss of power would have left before, it would still leave
-abbrev pub KeepsBytes : (List ℕ → Type 0) → (List ℕ → Type 0) → Type 0
-KeepsBytes outlives outlives' = (bytes : List ℕ) → outlives bytes → outlives' bytes
-
--- the same, for at most `len` bytes
-abbrev pub KeepsFront : ℕ → (List ℕ → Type 0) → (List ℕ → Type 0) → Type 0
-KeepsFront len outlives outlives' = (bytes : List ℕ) → length bytes ≤ len → outlives bytes → outlives' bytes
-
--- all bytes of the file outlive a loss of power
-abbrev pub LastsWhole : Option (List ℕ) → (List ℕ → Type 0) → Type 0
-LastsWhole content outlives = (bytes : List ℕ) → content ≡ Some bytes → outlives bytes
+abbrev pub KeepsBytes : (Option (List ℕ) → Type 0) → (Option (List ℕ) → Type 0) → Type 0
+KeepsBytes may_leave may_leave' = (bytes : List ℕ) → Outlives may_leave bytes → Outlives may_leave' bytes
 
 -- all bytes that the file had still outlive a loss of power, if they did before
-abbrev pub KeepsWhole : Option (List ℕ) → (List ℕ → Type 0) → (List ℕ → Type 0) → Type 0
-KeepsWhole content outlives outlives' = (bytes : List ℕ) → content ≡ Some bytes → outlives bytes → outlives' bytes
+abbrev pub KeepsWhole : Option (List ℕ) → (Option (List ℕ) → Type 0) → (Option (List ℕ) → Type 0) → Type 0
+KeepsWhole content may_leave may_leave' =
+    (bytes : List ℕ) → content ≡ Some bytes → Outlives may_leave bytes → Outlives may_leave' bytes
 
 -- the call was refused, or this holds
 abbrev pub UnlessRefused : {T : Type 0} → Result T StoreFault → Type 0 → Type 0

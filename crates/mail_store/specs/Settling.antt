@@ -7,7 +7,7 @@ use Rattle.mail_terms.specs.Listing.{Item}
 use Rattle.mail_terms.specs.Text.{IsWhole}
 use Rattle.mail_store.specs.declared.fault.StoreFault.{StoreFault}
 use Rattle.mail_store.specs.declared.fault.StoreFault.TheVariants.{Missing, Refused, NotMbox, NoMemory}
-use Rattle.mail_store.specs.FlatFile.{Stored, holding, counted, piece_at, Denies}
+use Rattle.mail_store.specs.FlatFile.{Stored, holding, counted, piece_at}
 use Rattle.mail_store.specs.Mboxrd.{lines_of, begins_entry, separator, entry_of, text_in, wire_size}
 
 -- ---- what a loss of power leaves

@@ -254,13 +254,15 @@ impl<D: FlatFile> FlatFile for Fused<D> {
     ghost use Rattle.mail_terms.specs.FailureCount.{Tallies, refuses, greatest_count};
     ghost use Rattle.mail_store.specs.Fault.{IsDeviceFault};
     ghost use Rattle.mail_store.specs.FlatFile.{Loads, Measures, ReadsAt, Appends, Cuts, Replaces, HasBytes};
-    ghost use Rattle.mail_store.specs.Power.{KeepsBytes, KeepsFront, LastsWhole, UnlessRefused};
+    ghost use Rattle.mail_store.specs.Power.{LastsWhole, LeavesEither, LeavesFronts, LeavesLonger, LeavesNoMore, LeavesPart, UnlessRefused};
     ghost use Rattle.mail_store.specs.Fuse.{device_of, passes_left, effect_is_due, refusals, fused_file};
     ghost use Rattle.mail_store.specs.Fuse.{FusedIsSound, Burns, Fuses, AppendsBehind, ReplacesBehind};
 
     ghost stored = { λ f. fused_file D.stored f };
 
-    ghost outlives = { λ f. D.outlives (device_of f) };
+    ghost may_leave = { λ f. D.may_leave (device_of f) };
+
+    ghost is_on_disk = { λ f. D.is_on_disk (device_of f) };
 
     ghost is_sure = { λ f. D.is_sure (device_of f) };
 
@@ -270,10 +272,10 @@ impl<D: FlatFile> FlatFile for Fused<D> {
         ensures loads { FusedIsSound D.sound self.new → FusedIsSound D.sound self.old
             × Loads (fused_file D.stored self.old) result (fused_file D.stored self.new) }
         ensures fault { IfErr result IsDeviceFault }
-        ensures keeps { FusedIsSound D.sound self.new → KeepsBytes (D.outlives (device_of self.old)) (D.outlives (device_of self.new)) }
+        ensures keeps { FusedIsSound D.sound self.new → LeavesNoMore (D.may_leave (device_of self.old)) (D.may_leave (device_of self.new)) }
         ensures lasts { FusedIsSound D.sound self.new → D.is_sure (device_of self.old)
             → UnlessRefused result (D.is_sure (device_of self.new)
-            × LastsWhole (fused_file D.stored self.new).content (D.outlives (device_of self.new))) }
+            × LastsWhole (fused_file D.stored self.new).content (D.is_on_disk (device_of self.new)) (D.may_leave (device_of self.new))) }
         ensures count { Tallies (refuses is_refusal result) (refusals self.old) (refusals self.new) }
         ensures fuse { Fuses (λ d. (D.stored d).failures) self.old result self.new }
     {
@@ -287,7 +289,7 @@ impl<D: FlatFile> FlatFile for Fused<D> {
         ensures loads { FusedIsSound D.sound self.new → FusedIsSound D.sound self.old
             × Loads (fused_file D.stored self.old) result (fused_file D.stored self.new) }
         ensures fault { IfErr result IsDeviceFault }
-        ensures keeps { FusedIsSound D.sound self.new → KeepsBytes (D.outlives (device_of self.old)) (D.outlives (device_of self.new)) }
+        ensures keeps { FusedIsSound D.sound self.new → LeavesNoMore (D.may_leave (device_of self.old)) (D.may_leave (device_of self.new)) }
         ensures sure { FusedIsSound D.sound self.new → D.is_sure (device_of self.old) → D.is_sure (device_of self.new) }
         ensures count { Tallies (refuses is_refusal result) (refusals self.old) (refusals self.new) }
         ensures fuse { Fuses (λ d. (D.stored d).failures) self.old result self.new }
@@ -302,10 +304,10 @@ impl<D: FlatFile> FlatFile for Fused<D> {
         ensures measures { FusedIsSound D.sound self.new → FusedIsSound D.sound self.old
             × Measures (fused_file D.stored self.old) result (fused_file D.stored self.new) }
         ensures fault { IfErr result IsDeviceFault }
-        ensures keeps { FusedIsSound D.sound self.new → KeepsBytes (D.outlives (device_of self.old)) (D.outlives (device_of self.new)) }
+        ensures keeps { FusedIsSound D.sound self.new → LeavesNoMore (D.may_leave (device_of self.old)) (D.may_leave (device_of self.new)) }
         ensures lasts { FusedIsSound D.sound self.new → D.is_sure (device_of self.old)
             → UnlessRefused result (D.is_sure (device_of self.new)
-            × LastsWhole (fused_file D.stored self.new).content (D.outlives (device_of self.new))) }
+            × LastsWhole (fused_file D.stored self.new).content (D.is_on_disk (device_of self.new)) (D.may_leave (device_of self.new))) }
         ensures count { Tallies (refuses is_refusal result) (refusals self.old) (refusals self.new) }
         ensures fuse { Fuses (λ d. (D.stored d).failures) self.old result self.new }
     {
@@ -319,7 +321,7 @@ impl<D: FlatFile> FlatFile for Fused<D> {
         ensures measures { FusedIsSound D.sound self.new → FusedIsSound D.sound self.old
             × Measures (fused_file D.stored self.old) result (fused_file D.stored self.new) }
         ensures fault { IfErr result IsDeviceFault }
-        ensures keeps { FusedIsSound D.sound self.new → KeepsBytes (D.outlives (device_of self.old)) (D.outlives (device_of self.new)) }
+        ensures keeps { FusedIsSound D.sound self.new → LeavesNoMore (D.may_leave (device_of self.old)) (D.may_leave (device_of self.new)) }
         ensures sure { FusedIsSound D.sound self.new → D.is_sure (device_of self.old) → D.is_sure (device_of self.new) }
         ensures count { Tallies (refuses is_refusal result) (refusals self.old) (refusals self.new) }
         ensures fuse { Fuses (λ d. (D.stored d).failures) self.old result self.new }
@@ -334,10 +336,10 @@ impl<D: FlatFile> FlatFile for Fused<D> {
         ensures reads { IfOk result (λ count. count ≤ length buf.new) × (FusedIsSound D.sound self.new → FusedIsSound D.sound self.old
             × ReadsAt (fused_file D.stored self.old) start result buf.new (fused_file D.stored self.new)) }
         ensures fault { IfErr result IsDeviceFault }
-        ensures keeps { FusedIsSound D.sound self.new → KeepsBytes (D.outlives (device_of self.old)) (D.outlives (device_of self.new)) }
+        ensures keeps { FusedIsSound D.sound self.new → LeavesNoMore (D.may_leave (device_of self.old)) (D.may_leave (device_of self.new)) }
         ensures lasts { FusedIsSound D.sound self.new → D.is_sure (device_of self.old)
             → UnlessRefused result (D.is_sure (device_of self.new)
-            × LastsWhole (fused_file D.stored self.new).content (D.outlives (device_of self.new))) }
+            × LastsWhole (fused_file D.stored self.new).content (D.is_on_disk (device_of self.new)) (D.may_leave (device_of self.new))) }
         ensures count { Tallies (refuses is_refusal result) (refusals self.old) (refusals self.new) }
         ensures fuse { Fuses (λ d. (D.stored d).failures) self.old result self.new }
     {
@@ -352,11 +354,12 @@ impl<D: FlatFile> FlatFile for Fused<D> {
         ensures appends { FusedIsSound D.sound self.new → FusedIsSound D.sound self.old
             × Appends (fused_file D.stored self.old) bytes.now result (fused_file D.stored self.new) }
         ensures fault { IfErr result (λ e. e ≡ StoreFault.Refused) }
-        ensures keeps { FusedIsSound D.sound self.new → KeepsBytes (D.outlives (device_of self.old)) (D.outlives (device_of self.new)) }
-        ensures lasts { FusedIsSound D.sound self.new → D.is_sure (device_of self.old)
-            → LastsWhole (fused_file D.stored self.old).content (D.outlives (device_of self.old))
+        ensures keeps { FusedIsSound D.sound self.new → LeavesLonger (D.may_leave (device_of self.old)) (D.may_leave (device_of self.new))
+            × (LastsWhole (D.stored (device_of self.old)).content (D.is_on_disk (device_of self.old)) (D.may_leave (device_of self.old))
+            → LeavesPart (fused_file D.stored self.old).content bytes.now (D.may_leave (device_of self.new))) }
+        ensures lasts { FusedIsSound D.sound self.new → D.is_sure (device_of self.old) → D.is_on_disk (device_of self.old)
             → OnOk result (D.is_sure (device_of self.new)
-            × LastsWhole (fused_file D.stored self.new).content (D.outlives (device_of self.new))) }
+            × LastsWhole (fused_file D.stored self.new).content (D.is_on_disk (device_of self.new)) (D.may_leave (device_of self.new))) }
         ensures count { Tallies (refuses is_refusal result) (refusals self.old) (refusals self.new) }
         ensures fuse { (refusals self.old < greatest_count → Burns (λ d. (D.stored d).failures) self.old result self.new)
             × (passes_left self.old ≡ 0 → FusedIsSound D.sound self.new
@@ -377,11 +380,11 @@ impl<D: FlatFile> FlatFile for Fused<D> {
         ensures cuts { FusedIsSound D.sound self.new → FusedIsSound D.sound self.old
             × Cuts (fused_file D.stored self.old) len result (fused_file D.stored self.new) }
         ensures fault { IfErr result (λ e. e ≡ StoreFault.Refused) }
-        ensures keeps { FusedIsSound D.sound self.new → KeepsFront len (D.outlives (device_of self.old)) (D.outlives (device_of self.new)) }
-        ensures lasts { FusedIsSound D.sound self.new → D.is_sure (device_of self.old)
-            → LastsWhole (fused_file D.stored self.old).content (D.outlives (device_of self.old))
+        ensures keeps { FusedIsSound D.sound self.new → LeavesFronts len (D.may_leave (device_of self.old))
+            (D.may_leave (device_of self.new)) }
+        ensures lasts { FusedIsSound D.sound self.new → D.is_sure (device_of self.old) → D.is_on_disk (device_of self.old)
             → OnOk result (D.is_sure (device_of self.new)
-            × LastsWhole (fused_file D.stored self.new).content (D.outlives (device_of self.new))) }
+            × LastsWhole (fused_file D.stored self.new).content (D.is_on_disk (device_of self.new)) (D.may_leave (device_of self.new))) }
         ensures count { Tallies (refuses is_refusal result) (refusals self.old) (refusals self.new) }
         ensures fuse { Fuses (λ d. (D.stored d).failures) self.old result self.new }
     {
@@ -395,8 +398,10 @@ impl<D: FlatFile> FlatFile for Fused<D> {
         ensures replaces { FusedIsSound D.sound self.new → FusedIsSound D.sound self.old
             × Replaces (fused_file D.stored self.old) bytes.now result (fused_file D.stored self.new) }
         ensures fault { IfErr result (λ e. e ≡ StoreFault.Refused) }
+        ensures leaves { FusedIsSound D.sound self.new → LeavesEither (D.may_leave (device_of self.old)) bytes.now
+            (D.may_leave (device_of self.new)) }
         ensures lasts { FusedIsSound D.sound self.new → OnOk result (D.is_sure (device_of self.new)
-            × LastsWhole (fused_file D.stored self.new).content (D.outlives (device_of self.new))) }
+            × LastsWhole (fused_file D.stored self.new).content (D.is_on_disk (device_of self.new)) (D.may_leave (device_of self.new))) }
         ensures count { Tallies (refuses is_refusal result) (refusals self.old) (refusals self.new) }
         ensures fuse { (refusals self.old < greatest_count → Burns (λ d. (D.stored d).failures) self.old result self.new)
             × (passes_left self.old ≡ 0 → FusedIsSound D.sound self.new

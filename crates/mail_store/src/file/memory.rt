@@ -69,12 +69,14 @@ impl FlatFile for MemoryFile {
     ghost use Rattle.mail_terms.specs.FailureCount.{Tallies, refuses, greatest_count};
     ghost use Rattle.mail_store.specs.Fault.{is_refusal, IsDeviceFault};
     ghost use Rattle.mail_store.specs.FlatFile.{Measures, ReadsAt, Cuts, HasBytes};
-    ghost use Rattle.mail_store.specs.Power.{KeepsBytes, KeepsFront, LastsWhole, UnlessRefused};
+    ghost use Rattle.mail_store.specs.Power.{LastsWhole, LeavesFronts, LeavesNoMore, UnlessRefused};
 
     ghost stored = { λ f. f };
 
     // As long as the program runs, no loss of power reaches what is in memory.
-    ghost outlives = { λ f bytes. Unit {0} };
+    ghost may_leave = { λ f left. left ≡ f.content };
+
+    ghost is_on_disk = { λ f. Unit {0} };
 
     ghost is_sure = { λ f. Unit {0} };
 
@@ -100,11 +102,12 @@ impl FlatFile for MemoryFile {
         ensures measures { self.new.failures < greatest_count → (self.old.failures < greatest_count)
             × Measures self.old result self.new }
         ensures fault { IfErr result IsDeviceFault }
-        ensures keeps { self.new.failures < greatest_count → KeepsBytes (⟦<MemoryFile as FlatFile>⟧.outlives self.old)
-            (⟦<MemoryFile as FlatFile>⟧.outlives self.new) }
+        ensures keeps { self.new.failures < greatest_count → LeavesNoMore (⟦<MemoryFile as FlatFile>⟧.may_leave self.old)
+            (⟦<MemoryFile as FlatFile>⟧.may_leave self.new) }
         ensures lasts { self.new.failures < greatest_count → ⟦<MemoryFile as FlatFile>⟧.is_sure self.old
             → UnlessRefused result (⟦<MemoryFile as FlatFile>⟧.is_sure self.new
-            × LastsWhole self.new.content (⟦<MemoryFile as FlatFile>⟧.outlives self.new)) }
+            × LastsWhole self.new.content (⟦<MemoryFile as FlatFile>⟧.is_on_disk self.new)
+            (⟦<MemoryFile as FlatFile>⟧.may_leave self.new)) }
         ensures count { Tallies (refuses is_refusal result) self.old.failures self.new.failures }
         ensures answers { self.old.failures < greatest_count → result ≢ Err StoreFault.Refused }
     {
@@ -125,11 +128,12 @@ impl FlatFile for MemoryFile {
             × (self.new.failures < greatest_count → (self.old.failures < greatest_count)
             × ReadsAt self.old start result buf.new self.new) }
         ensures fault { IfErr result IsDeviceFault }
-        ensures keeps { self.new.failures < greatest_count → KeepsBytes (⟦<MemoryFile as FlatFile>⟧.outlives self.old)
-            (⟦<MemoryFile as FlatFile>⟧.outlives self.new) }
+        ensures keeps { self.new.failures < greatest_count → LeavesNoMore (⟦<MemoryFile as FlatFile>⟧.may_leave self.old)
+            (⟦<MemoryFile as FlatFile>⟧.may_leave self.new) }
         ensures lasts { self.new.failures < greatest_count → ⟦<MemoryFile as FlatFile>⟧.is_sure self.old
             → UnlessRefused result (⟦<MemoryFile as FlatFile>⟧.is_sure self.new
-            × LastsWhole self.new.content (⟦<MemoryFile as FlatFile>⟧.outlives self.new)) }
+            × LastsWhole self.new.content (⟦<MemoryFile as FlatFile>⟧.is_on_disk self.new)
+            (⟦<MemoryFile as FlatFile>⟧.may_leave self.new)) }
         ensures count { Tallies (refuses is_refusal result) self.old.failures self.new.failures }
         ensures answers { self.old.failures < greatest_count → result ≢ Err StoreFault.Refused }
     {
@@ -157,12 +161,13 @@ impl FlatFile for MemoryFile {
         ensures cuts { self.new.failures < greatest_count → (self.old.failures < greatest_count)
             × Cuts self.old len result self.new }
         ensures fault { IfErr result (λ e. e ≡ StoreFault.Refused) }
-        ensures keeps { self.new.failures < greatest_count → KeepsFront len (⟦<MemoryFile as FlatFile>⟧.outlives self.old)
-            (⟦<MemoryFile as FlatFile>⟧.outlives self.new) }
+        ensures keeps { self.new.failures < greatest_count → LeavesFronts len (⟦<MemoryFile as FlatFile>⟧.may_leave self.old)
+            (⟦<MemoryFile as FlatFile>⟧.may_leave self.new) }
         ensures lasts { self.new.failures < greatest_count → ⟦<MemoryFile as FlatFile>⟧.is_sure self.old
-            → LastsWhole self.old.content (⟦<MemoryFile as FlatFile>⟧.outlives self.old)
+            → ⟦<MemoryFile as FlatFile>⟧.is_on_disk self.old
             → OnOk result (⟦<MemoryFile as FlatFile>⟧.is_sure self.new
-            × LastsWhole self.new.content (⟦<MemoryFile as FlatFile>⟧.outlives self.new)) }
+            × LastsWhole self.new.content (⟦<MemoryFile as FlatFile>⟧.is_on_disk self.new)
+            (⟦<MemoryFile as FlatFile>⟧.may_leave self.new)) }
         ensures count { Tallies (refuses is_refusal result) self.old.failures self.new.failures }
         ensures answers { self.old.failures < greatest_count → IsOk result }
     {

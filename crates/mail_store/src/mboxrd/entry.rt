@@ -6,7 +6,7 @@ ghost use Rattle.mail_store.specs.Fault.{is_refusal};
 ghost use Rattle.mail_store.specs.FlatFile.{edges_of};
 ghost use Rattle.mail_terms.specs.Text.{IsWhole};
 ghost use Rattle.mail_store.specs.Mboxrd.{MayGoOn, entry_of, separator, EntryAddsText, OneReading, TextsMayGoOn};
-ghost use Rattle.mail_store.specs.Power.{KeepsBytes, KeepsWhole, LastsWhole};
+ghost use Rattle.mail_store.specs.Power.{KeepsWhole, LastsWhole, LeavesNoMore};
 ghost use Rattle.mail_store.specs.MboxCalls.{Looks, Checks, AppendsEntry, TalliesEntry};
 
 use crate::fault::StoreFault;
@@ -29,9 +29,9 @@ fn look_at<F: FlatFile>(file: &mut F) -> Result<Edges, StoreFault>
     ensures looks { F.sound file.new → F.sound file.old
         × Looks (F.stored file.old) result (F.stored file.new) }
     ensures fault { IfErr result (λ e. e ≢ StoreFault.NoMemory) }
-    ensures keeps { F.sound file.new → KeepsBytes (F.outlives file.old) (F.outlives file.new) }
+    ensures keeps { F.sound file.new → LeavesNoMore (F.may_leave file.old) (F.may_leave file.new) }
     ensures lasts { F.sound file.new → F.is_sure file.old
-        → OnOk result (F.is_sure file.new × LastsWhole (F.stored file.new).content (F.outlives file.new)) }
+        → OnOk result (F.is_sure file.new × LastsWhole (F.stored file.new).content (F.is_on_disk file.new) (F.may_leave file.new)) }
     ensures count { Tallies (refuses is_refusal result) (F.stored file.old).failures (F.stored file.new).failures }
 {
     let edges = file.edges()?;
@@ -48,9 +48,9 @@ pub fn check_mbox<F: FlatFile>(file: &mut F) -> Result<(), StoreFault>
     ensures checks { F.sound file.new → F.sound file.old
         × Checks (F.stored file.old) result (F.stored file.new) }
     ensures fault { IfErr result (λ e. e ≢ StoreFault.NoMemory) }
-    ensures keeps { F.sound file.new → KeepsBytes (F.outlives file.old) (F.outlives file.new) }
+    ensures keeps { F.sound file.new → LeavesNoMore (F.may_leave file.old) (F.may_leave file.new) }
     ensures lasts { F.sound file.new → F.is_sure file.old
-        → OnOk result (F.is_sure file.new × LastsWhole (F.stored file.new).content (F.outlives file.new)) }
+        → OnOk result (F.is_sure file.new × LastsWhole (F.stored file.new).content (F.is_on_disk file.new) (F.may_leave file.new)) }
     ensures count { Tallies (refuses is_refusal result) (F.stored file.old).failures (F.stored file.new).failures }
 {
     look_at(file)?;
@@ -62,7 +62,7 @@ pub fn peek_mbox<F: FlatFile>(file: &mut F) -> Result<(), StoreFault>
     ensures checks { F.sound file.new → F.sound file.old
         × Checks (F.stored file.old) result (F.stored file.new) }
     ensures fault { IfErr result (λ e. e ≢ StoreFault.NoMemory) }
-    ensures keeps { F.sound file.new → KeepsBytes (F.outlives file.old) (F.outlives file.new) }
+    ensures keeps { F.sound file.new → LeavesNoMore (F.may_leave file.old) (F.may_leave file.new) }
     ensures sure { F.sound file.new → F.is_sure file.old → F.is_sure file.new }
     ensures count { Tallies (refuses is_refusal result) (F.stored file.old).failures (F.stored file.new).failures }
 {
@@ -131,9 +131,9 @@ pub fn append_entry<F: FlatFile>(file: &mut F, text: Vec<u8>) -> Result<(), Stor
     requires { IsWhole text.items }
     ensures appends { F.sound file.new → F.sound file.old
         × AppendsEntry (F.stored file.old) text.items result (F.stored file.new) }
-    ensures keeps { F.sound file.new → KeepsWhole (F.stored file.old).content (F.outlives file.old) (F.outlives file.new) }
+    ensures keeps { F.sound file.new → KeepsWhole (F.stored file.old).content (F.may_leave file.old) (F.may_leave file.new) }
     ensures lasts { F.sound file.new → F.is_sure file.old
-        → OnOk result (F.is_sure file.new × LastsWhole (F.stored file.new).content (F.outlives file.new)) }
+        → OnOk result (F.is_sure file.new × LastsWhole (F.stored file.new).content (F.is_on_disk file.new) (F.may_leave file.new)) }
     ensures count { TalliesEntry result (F.stored file.old).failures (F.stored file.new).failures }
 {
     let edges = look_at(file)?;

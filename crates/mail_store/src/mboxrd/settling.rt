@@ -149,8 +149,8 @@ fn read_behind<F: FlatFile>(
         × ReadsBehind (F.stored file.old) start behind result (F.stored file.new) }
     ensures within { IfOk result (λ bytes. length bytes.items ≤ behind) }
     ensures fault { IfErr result (λ e. e ≢ StoreFault.NotMbox) }
-    ensures lasts { F.sound file.new → F.is_sure file.old → LastsWhole (F.stored file.old).content (F.outlives file.old)
-        → OnOk result (F.is_sure file.new × LastsWhole (F.stored file.new).content (F.outlives file.new)) }
+    ensures lasts { F.sound file.new → F.is_sure file.old
+        → OnOk result (F.is_sure file.new × LastsWhole (F.stored file.new).content (F.is_on_disk file.new) (F.may_leave file.new)) }
     ensures count { Tallies (refuses is_refusal result) (F.stored file.old).failures (F.stored file.new).failures }
 {
     let mut bytes = vec![in alloc; 0; behind as usize]?;
@@ -184,7 +184,7 @@ pub fn settle_file<F: FlatFile>(
         × SettlesFile (F.stored file.old) start len listed result (F.stored file.new) }
     ensures fault { IfErr result (λ e. e ≢ StoreFault.NotMbox) }
     ensures lasts { F.sound file.new → F.is_sure file.old
-        → OnOk result (F.is_sure file.new × LastsWhole (F.stored file.new).content (F.outlives file.new)) }
+        → OnOk result (F.is_sure file.new × LastsWhole (F.stored file.new).content (F.is_on_disk file.new) (F.may_leave file.new)) }
     ensures count { Tallies (refuses is_refusal result) (F.stored file.old).failures (F.stored file.new).failures }
 {
     let edges = file.edges()?;

@@ -1,6 +1,6 @@
 use Rattle.std.proofs.Common.{Err}
 use Rattle.folder_store.proofs.Files.{flushes_file, flushes_names, flushes_both}
-use Rattle.folder_store.proofs.Lasting.{flush_keeps, flush_names_keeps}
+use Rattle.folder_store.proofs.Leaving.{flush_keeps, flush_names_keeps}
 use Rattle.folder_store.proofs.PowerLoss.{both_on_disk}
 use Rattle.folder_store.proofs.steps.flush_both.Goals as goal
 
@@ -34,8 +34,8 @@ returns-in_err-flush-clause-keeps g c = λ s.
     flush_keeps (d c.args.folder.now) (d c.flush.new.self) c.args.name.now (Err c.in_err-flush.field-0.0) (c.in_err-flush.ensures s).1
 
 pub returns-clause-keeps : goal.returns-clause-keeps
-returns-clause-keeps g c = λ s bytes front.
+returns-clause-keeps g c = λ s left may.
     let d = g.F.FileFolder.directory in
     let names = c.flush_names.ensures s in
-    flush_names_keeps (d c.flush.new.self) (d c.flush_names.new.self) c.args.name.now c.flush_names.result names.1 bytes
-    (flush_keeps (d c.args.folder.now) (d c.flush.new.self) c.args.name.now c.flush.result (c.flush.ensures names.0).1 bytes front)
+    flush_keeps (d c.args.folder.now) (d c.flush.new.self) c.args.name.now c.flush.result (c.flush.ensures names.0).1 left
+    (flush_names_keeps (d c.flush.new.self) (d c.flush_names.new.self) c.args.name.now c.flush_names.result names.1 left may)

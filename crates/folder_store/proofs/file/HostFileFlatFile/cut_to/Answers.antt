@@ -1,6 +1,7 @@
 use Rattle.std.proofs.Common.{◌+◌, refl, Ok, Err}
 use Rattle.folder_store.proofs.Files.{cuts}
-use Rattle.folder_store.proofs.Lasting.{cut_lasts, cuts_keep}
+use Rattle.folder_store.proofs.Leaving.{cuts_front}
+use Rattle.folder_store.proofs.PowerLoss.{cuts_for_good, told_lasts}
 use Rattle.folder_store.proofs.file.HostFileFlatFile.cut_to.Goals as goal
 
 pub returns-in-Err-clause-cuts : goal.returns-in-Err-clause-cuts
@@ -13,16 +14,17 @@ returns-in-Err-clause-cuts g c = rw c.doubt.ensures.doubted (λ s.
     ))
 
 pub returns-in-Ok-clause-lasts : goal.returns-in-Ok-clause-lasts
-returns-in-Ok-clause-lasts g c = λ s.
+returns-in-Ok-clause-lasts g c = λ s known on.
     let d = g.F.FileFolder.directory in
-    cut_lasts c.args.self.now.is_flushed (d c.args.self.now.folder) (d c.cut_keeping.new.folder) c.args.self.now.name.now c.args.len (Ok tt) (c.in-Ok.ensures s.0).1
+    let told = cuts_for_good (d c.args.self.now.folder) (d c.cut_keeping.new.folder) c.args.self.now.name.now c.args.len (Ok tt) (c.in-Ok.ensures s.0).1 in
+    told_lasts c.args.self.now.is_flushed (d c.cut_keeping.new.folder) c.args.self.now.name.now (told.outlives on)
 
 pub returns-in-Ok-clause-keeps : goal.returns-in-Ok-clause-keeps
 returns-in-Ok-clause-keeps g c = λ s.
     let d = g.F.FileFolder.directory in
-    cuts_keep (d c.args.self.now.folder) (d c.cut_keeping.new.folder) c.args.self.now.name.now c.args.len (Ok tt) (c.in-Ok.ensures s.0).1
+    cuts_front (d c.args.self.now.folder) (d c.cut_keeping.new.folder) c.args.self.now.name.now c.args.len (Ok tt) (c.in-Ok.ensures s.0).1
 
 pub returns-in-Err-clause-keeps : goal.returns-in-Err-clause-keeps
 returns-in-Err-clause-keeps g c = rw c.doubt.ensures.doubted (λ s.
     let d = g.F.FileFolder.directory in
-    cuts_keep (d c.args.self.now.folder) (d c.cut_keeping.new.folder) c.args.self.now.name.now c.args.len (Err c.in-Err.field-0) (c.in-Err.ensures s.0).1)
+    cuts_front (d c.args.self.now.folder) (d c.cut_keeping.new.folder) c.args.self.now.name.now c.args.len (Err c.in-Err.field-0) (c.in-Err.ensures s.0).1)

@@ -1,7 +1,6 @@
 use Rattle.std.proofs.Common.{◌+◌, refl, true, Ok, Err}
 use Rattle.folder_store.proofs.Files.{replaces}
-use Rattle.folder_store.proofs.Lasting.{told_lasts}
-use Rattle.folder_store.proofs.PowerLoss.{replaces_for_good}
+use Rattle.folder_store.proofs.PowerLoss.{replaces_for_good, told_lasts}
 use Rattle.folder_store.proofs.file.HostFileFlatFile.replace.Goals as goal
 
 pub returns-in-Err-clause-replaces : goal.returns-in-Err-clause-replaces
@@ -19,3 +18,13 @@ returns-in-Ok-clause-lasts g c = λ s.
     let now = c.args.self.now in
     let told = replaces_for_good (d now.folder) (d c.replace_flushed.new.folder) now.name.now c.args.bytes.now (Ok tt) (c.in-Ok.ensures.replaces s.0).1 in
     told_lasts true (d c.replace_flushed.new.folder) now.name.now told.outlives
+
+pub returns-in-Ok-clause-leaves : goal.returns-in-Ok-clause-leaves
+returns-in-Ok-clause-leaves g c = λ s.
+    let d = g.F.FileFolder.directory in
+    (replaces_for_good (d c.args.self.now.folder) (d c.replace_flushed.new.folder) c.args.self.now.name.now c.args.bytes.now (Ok tt) (c.in-Ok.ensures.replaces s.0).1).leaves
+
+pub returns-in-Err-clause-leaves : goal.returns-in-Err-clause-leaves
+returns-in-Err-clause-leaves g c = rw c.doubt.ensures.doubted (λ s.
+    let d = g.F.FileFolder.directory in
+    (replaces_for_good (d c.args.self.now.folder) (d c.replace_flushed.new.folder) c.args.self.now.name.now c.args.bytes.now (Err c.in-Err.field-0) (c.in-Err.ensures.replaces s.0).1).leaves)

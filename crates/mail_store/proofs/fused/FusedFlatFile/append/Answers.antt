@@ -2,6 +2,7 @@ use Rattle.std.proofs.Common.{◌≡◌, ◌+◌, ◌/◌, length, take, drop, s
 use Rattle.std.proofs.lemmas.List.{take-append-drop}
 use Rattle.mail_store.specs.declared.fused.Fused.{Fused}
 use Rattle.mail_store.proofs.FusedCalls.{front_appended}
+use Rattle.mail_store.proofs.Leavings.{part_extends}
 use Rattle.mail_store.proofs.fused.FusedFlatFile.append.Goals as goal
 
 pub returns-then-self-clause-appends : goal.returns-then-self-clause-appends
@@ -15,4 +16,15 @@ returns-then-self-clause-appends g c = λ k.
       front_appended (g.D.FlatFile.stored c.args.self.now.device) (g.D.FlatFile.stored c.append.new.self)
           c.args.bytes.now (take half c.args.bytes.now) (drop half c.args.bytes.now) c.args.self.now.failures c.append.result
           (sym (take-append-drop half c.args.bytes.now)) inner.1,
+    )
+
+pub returns-then-self-clause-keeps : goal.returns-then-self-clause-keeps
+returns-then-self-clause-keeps g c = λ k.
+    let sound = subst (λ (f : Fused (g.row.D).Denot). g.D.FlatFile.sound f.device) c.blow.ensures.counted k.0 in
+    let old = c.args.self.now.device in
+    let half = length c.args.bytes.now / 2 in
+    rw c.blow.ensures.counted (
+    part_extends (g.D.FlatFile.stored old).content (g.D.FlatFile.is_on_disk old) c.args.bytes.now (take half c.args.bytes.now) (drop half c.args.bytes.now)
+    (g.D.FlatFile.may_leave old) (g.D.FlatFile.may_leave c.append.new.self)
+    (sym (take-append-drop half c.args.bytes.now)) (c.append.ensures.keeps sound)
     )

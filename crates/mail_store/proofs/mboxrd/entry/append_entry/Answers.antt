@@ -1,4 +1,8 @@
-use Rattle.std.proofs.Common.{◌∙◌}
+use Rattle.std.proofs.Common.{◌≡◌, ℕ, length, sym, ap, subst, ◌∙◌}
+use Rattle.std.proofs.lemmas.Option.{same_Some}
+use Rattle.mail_store.specs.declared.file.flat_file.Edges.{Edges}
+use Rattle.mail_store.specs.Power.{LeavesFronts}
+use Rattle.mail_store.proofs.Leavings.{cut_keeps}
 use Rattle.mail_store.proofs.MboxAppends.{may_cut, appended, refused}
 use Rattle.mail_store.proofs.mboxrd.entry.append_entry.Goals as goal
 
@@ -26,3 +30,17 @@ returns-clause-appends g c = λ sound.
       appended (g.F.FlatFile.stored c.args.file.now) (g.F.FlatFile.stored c.look_at.new.file) (g.F.FlatFile.stored c.append.new.self)
           c.args.text.items c.deref.result.now c.in_ok-edges.edges looks.1 (c.deref.ensures.value ∙ c.in_ok-make_entry.ensures) appends.1,
     )
+
+pub returns-in-Err-clause-keeps : goal.returns-in-Err-clause-keeps
+returns-in-Err-clause-keeps g c = λ sound bytes is outlives.
+    let cuts = c.cut_to.ensures.cuts sound in
+    let appends = c.in-Err.ensures.appends cuts.0 in
+    let looks = c.in_ok-edges.ensures.looks appends.0 in
+    let size : c.in_ok-edges.edges.size ≡ length bytes =
+    ap (λ (e : Edges). e.size) looks.1.0.2 ∙ ap length (same_Some looks.1.0.0 bytes (sym looks.1.0.1.0 ∙ is)) in
+    let appended = g.F.FlatFile.may_leave c.append.new.self in
+    let cut = g.F.FlatFile.may_leave c.cut_to.new.self in
+    cut_keeps (g.F.FlatFile.may_leave c.look_at.new.file) appended cut bytes
+    (λ left may. outlives left (c.in_ok-edges.ensures.keeps appends.0 left may))
+    (c.in-Err.ensures.keeps cuts.0).0
+    (subst (λ (n : ℕ). LeavesFronts n appended cut) size (c.cut_to.ensures.keeps sound))

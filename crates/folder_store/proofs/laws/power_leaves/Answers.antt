@@ -1,0 +1,5 @@
+use Rattle.folder_store.proofs.PowerLoss.{power_leaves}
+use Rattle.folder_store.proofs.laws.power_leaves.Goals as goal
+
+pub returns : goal.returns
+returns c = power_leaves
