@@ -1,10 +1,11 @@
 //! What is left of an entry that was about to be appended when a session was cut.
 
-ghost use Rattle.std.specs.Prelude.{◌≡◌, ◌≢◌, ◌↔◌, ◌==◌, ◌&&◌, ◌+◌, ◌%◌, ◌≤◌, ◌<◌, ◌^◌, length, IfErr, IfOk, IsTrue, OnOk};
+ghost use Rattle.std.specs.Prelude.{◌≡◌, ◌≢◌, ◌↔◌, ◌==◌, ◌&&◌, ◌+◌, ◌%◌, ◌≤◌, ◌<◌, ◌^◌, ◌∷◌, ℕ, List, true, length};
+ghost use Rattle.std.specs.Prelude.{IfErr, IfOk, IsTrue, OnOk};
 ghost use Rattle.mail_terms.specs.FailureCount.{Tallies, refuses};
 ghost use Rattle.mail_store.specs.Fault.{is_refusal};
 ghost use Rattle.mail_store.specs.Mboxrd.{text_in};
-ghost use Rattle.mail_store.specs.Power.{LastsWhole};
+ghost use Rattle.mail_store.specs.Power.{LastsWhole, LeavesFronts, LeavesNoMore};
 ghost use Rattle.mail_store.specs.Settling.{block_size, begin_with, ends_empty, has_size, is_entry, is_lost, is_one_entry};
 ghost use Rattle.mail_store.specs.Settling.{is_ours, is_torn, is_whole, listed_size};
 ghost use Rattle.mail_store.specs.Settling.{FrontsAreSettled, LeftoversAreSettled, ReadsBehind, SettlesFile, WholeEntriesCount};
@@ -149,6 +150,7 @@ fn read_behind<F: FlatFile>(
         × ReadsBehind (F.stored file.old) start behind result (F.stored file.new) }
     ensures within { IfOk result (λ bytes. length bytes.items ≤ behind) }
     ensures fault { IfErr result (λ e. e ≢ StoreFault.NotMbox) }
+    ensures keeps { F.sound file.new → LeavesNoMore (F.may_leave file.old) (F.may_leave file.new) }
     ensures lasts { F.sound file.new → F.is_sure file.old
         → OnOk result (F.is_sure file.new × LastsWhole (F.stored file.new).content (F.is_on_disk file.new) (F.may_leave file.new)) }
     ensures count { Tallies (refuses is_refusal result) (F.stored file.old).failures (F.stored file.new).failures }
@@ -183,6 +185,7 @@ pub fn settle_file<F: FlatFile>(
     ensures settles { F.sound file.new → F.sound file.old
         × SettlesFile (F.stored file.old) start len listed result (F.stored file.new) }
     ensures fault { IfErr result (λ e. e ≢ StoreFault.NotMbox) }
+    ensures keeps { F.sound file.new → LeavesFronts start (F.may_leave file.old) (F.may_leave file.new) }
     ensures lasts { F.sound file.new → F.is_sure file.old
         → OnOk result (F.is_sure file.new × LastsWhole (F.stored file.new).content (F.is_on_disk file.new) (F.may_leave file.new)) }
     ensures count { Tallies (refuses is_refusal result) (F.stored file.old).failures (F.stored file.new).failures }
@@ -222,4 +225,9 @@ pub fn fronts_of_entries_are_settled()
 /// a zero at the end of a block; with another size it is cut off.
 pub fn whole_entries_count()
     ensures { WholeEntriesCount }
+{}
+
+/// What is lost is zero.
+pub fn what_is_lost_is_zero()
+    ensures { (place byte : ℕ) (left : List ℕ) → is_lost place (byte ∷ left) ≡ true → byte ≡ 0 }
 {}
