@@ -2,7 +2,7 @@
 use Rattle.std.proofs.Common.{◌≡◌, ◌⊎◌, inl, inr, ◌-◌, ◌<◌, ℕ, zero, suc, true, false, List, [], ◌∷◌, Option, None, Some, refl, sym, ap, subst, ◌∙◌}
 use Rattle.std.specs.Prelude.{bytes_eq, slice_get}
 use Rattle.std.specs.List.{AllByRecursion}
-use Rattle.std.proofs.lemmas.Bool.{or_cases, true≢false, cases_Bool}
+use Rattle.std.proofs.lemmas.Bool.{or_cases, true≢false, cases_Bool, false_from_ne_true}
 use Rattle.std.proofs.lemmas.List.{append-nil}
 use Rattle.std.proofs.lemmas.Slice.Eq.{bytes_eq-Decides}
 use Rattle.std.proofs.lemmas.Option.{same_Some}
@@ -22,10 +22,10 @@ use Rattle.mail_terms.specs.UniqueId.{has_id, is_legal_id}
 use Rattle.run_law.specs.Mails.{item_of, listing_of, is_selected, WorldsShrink}
 use Rattle.run_law.specs.Accounts.{KeepsOthers, copies, files}
 use Rattle.run_law.specs.Steps.{Effect, Leaves, Stores, IsHonest, ids_wanted, merged_rows, wanted_at}
-use Rattle.run_law.specs.Runs.{IsFrame, Situation, Visit, Event as EventIn, Visited, Between as BetweenIn, Expired as ExpiredIn, Withdrawn as WithdrawnIn, TakenAway as TakenIn, BroughtBack as BroughtIn, Forgotten as ForgottenIn, Visits, Happens, after_event as after_in, frame_after as frame_in, Promises as PromisesIn, Kept, KeptStaysKept, KeptHoldsWhatIsLeft, StartsKept, LeavesOut, DeletesHeld, StoresOnlyNew as StoresNew, past_limit, NothingTakenHoldsExactly}
+use Rattle.run_law.specs.Runs.{IsFrame, Situation, Visit, Event as EventIn, Visited, Between as BetweenIn, Expired as ExpiredIn, Withdrawn as WithdrawnIn, TakenAway as TakenIn, BroughtBack as BroughtIn, Forgotten as ForgottenIn, PowerLost as PowerLostIn, Visits, IsLastStored as LastIn, Happens, after_event as after_in, frame_after as frame_in, Promises as PromisesIn, Kept, KeptStaysKept, KeptHoldsWhatIsLeft, StartsKept, LeavesOut, DeletesHeld, StoresOnlyNew as StoresNew, past_limit, NothingTakenHoldsExactly}
 use Rattle.run_law.specs.Sessions.{IsBegun, Link as LinkIn, LinksAreVisits}
 use Rattle.fetch_runs.specs.Steps.{holds, IsStep, SessionIsAStep}
-use Rattle.fetch_runs.specs.Headline.{World, IsSound, account_of, AreSettings, State, Occasion, Event, Fetched, Between, Expired, Withdrawn, TakenAway, BroughtBack, Forgotten, maildrop_at, IsSession, after_event, world_after, world_left, Follows, frame_of, situation, HoldsAPrefix, IsHeldAfter, IsPastCount, LeavesOutOnlyBeyondLimits, IsForHeld, FilesStay, StoresOnlyNew, Promised, IsKept, Headline, EmptyIsKept, HeadlineFromEmpty, state_after, IsRun, contents_of, IsRecorded, HoldsExactlyAPrefix, IsForOneHeld, IsWordForWord, LeaveAway, HeadlineWordForWord, StaysAway, LostRecordsAreForgotten, NewProcessesAreBetween, StopsAreRuns}
+use Rattle.fetch_runs.specs.Headline.{World, IsSound, account_of, AreSettings, State, Occasion, Event, Fetched, Between, Expired, Withdrawn, TakenAway, BroughtBack, Forgotten, PowerLost, maildrop_at, IsSession, after_event, world_after, world_left, Follows, IsLastStored, frame_of, situation, HoldsAPrefix, IsHeldAfter, IsPastCount, LeavesOutOnlyBeyondLimits, IsForHeld, FilesStay, StoresOnlyNew, Promised, IsKept, Headline, EmptyIsKept, HeadlineFromEmpty, state_after, IsRun, contents_of, IsRecorded, HoldsExactlyAPrefix, IsForOneHeld, IsWordForWord, LeaveAway, HeadlineWordForWord, StaysAway, LostRecordsAreForgotten, NewProcessesAreBetween, StopsAreRuns}
 use Rattle.fetch_runs.proofs.TalkCommands.{all_weaker, begins_of}
 use Rattle.fetch_session.specs.Session.{Kept as Holding}
 
@@ -190,6 +190,21 @@ one_event : Laws → (world : World) (state : State) (event : EventIn) (rows : L
 one_event laws world state event rows sound kept happens =
     let all = laws.stays (frame_of world) (situation rows state) (event ∷ []) (sound_frame laws.digits world sound) kept (happens, tt) in (all.0, all.1.0)
 
+-- what a loss of power left of a message's files, over the rows for which the record's file stood
+power_mail : Laws → (world : World) (state : State) (after : Holding) (rows : List Row) → KeepsRows state.kept.file.content rows → (id : List ℕ)
+    → (contents_of world after id ≡ contents_of world state.kept id) ⊎ ((contents_of world after id ≡ []) × ((has_id state.taken id ≡ true) ⊎ IsLastStored world state id))
+    → (contents_of world after id ≡ contents_of world state.kept id) ⊎ ((contents_of world after id ≡ []) × ((has_id state.taken id ≡ true) ⊎ LastIn (frame_of world) (situation rows state) id))
+power_mail laws world state after rows keeps id (inl same) = inl same
+power_mail laws world state after rows keeps id (inr (none, inl taken)) = inr (none, inl taken)
+power_mail laws world state after rows keeps id (inr (none, inr lastly)) = inr (
+  none,
+  inr (record {
+    unrecorded = false_from_ne_true (is_delivered rows id) (λ e. lastly.unrecorded (rows, keeps, e));
+    on_server = lastly.on_server;
+    last = lastly.last;
+  }),
+)
+
 event_promised : Laws → (world : World) (state : State) (event : Event) → IsSound world → IsKept world state → Follows world state event
     → Promised world state event × IsKept (world_after world event) (after_event state event)
 event_promised laws world state (Fetched occasion) sound is follows = fetched_promised laws world state occasion sound is.0 is.1 is.2 follows
@@ -213,6 +228,10 @@ event_promised laws world state (BroughtBack id after) sound is brought =
 event_promised laws world state (Forgotten after) sound is forgotten =
     let now = forgotten.record_is is.0 is.1 in
     let all = one_event laws world state (ForgottenIn (holds now.0 after.maildir)) is.0 sound is.2 (record { delivered = now.2; same = forgotten.mail }) in
+    (tt, (now.0, now.1, all.0))
+event_promised laws world state (PowerLost after) sound is lost =
+    let now = lost.record_is is.0 is.1 in
+    let all = one_event laws world state (PowerLostIn (holds now.0 after.maildir)) is.0 sound is.2 (record { mail = λ id legal. power_mail laws world state after is.0 is.1 id (lost.mail id legal); delivered = now.2 }) in
     (tt, (now.0, now.1, all.0))
 
 -- ---- any list of them
@@ -326,11 +345,18 @@ still_away laws world state (TakenAway other after) id sound is taken leave lega
 still_away laws world state (BroughtBack other after) id sound is brought leave legal away =
     (recorded_in state.kept after id brought.record_is away.0, brought.others id legal leave.0 ∙ away.1)
 still_away laws world state (Forgotten after) id sound is forgotten leave legal away = (leave.0, forgotten.mail id legal ∙ away.1)
+still_away laws world state (PowerLost after) id sound is lost leave legal away = (leave.0, none_left (lost.mail id legal))
+  where
+    none_left : (contents_of world after id ≡ contents_of world state.kept id) ⊎ ((contents_of world after id ≡ []) × ((has_id state.taken id ≡ true) ⊎ IsLastStored world state id))
+        → contents_of world after id ≡ []
+    none_left (inl same) = same ∙ away.1
+    none_left (inr gone) = gone.0
 
 one_left : (id : List ℕ) (event : Event) (events : List Event) → LeaveAway id (event ∷ events) → LeaveAway id (event ∷ []) × LeaveAway id events
 one_left id (Fetched occasion) events h = ((h.0, tt), h.1)
 one_left id (BroughtBack other after) events h = ((h.0, tt), h.1)
 one_left id (Forgotten after) events h = ((h.0, tt), h.1)
+one_left id (PowerLost after) events h = ((h.0, tt), h.1)
 one_left id other events h = (tt, h)
 
 stay_all : WorldsShrink → Headline → (world : World) (start : State) (events : List Event) (id : List ℕ) → IsSound world → IsKept world start → IsRun world start events

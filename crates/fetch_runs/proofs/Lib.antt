@@ -5,6 +5,7 @@ mod FrontsHonest
 mod HeadlineLemmas
 mod MboxHeadlineLemmas
 mod MboxState
+mod PowerLosses
 mod RunLemmas
 mod StateCases
 mod StateDone

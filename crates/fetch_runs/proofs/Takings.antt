@@ -41,7 +41,7 @@ others_left front other (f ∷ fs) apart = by (others_left front other fs apart)
 -- ---- what is left of an id's files
 
 -- all that an id's files held, or less
-part_copies : (front : List ℕ) (fs left : List File) → IsPart fs left → (copies left front ≡ copies fs front) ⊎ (length (copies left front) < length (copies fs front))
+pub part_copies : (front : List ℕ) (fs left : List File) → IsPart fs left → (copies left front ≡ copies fs front) ⊎ (length (copies left front) < length (copies fs front))
 part_copies front [] left is = inl (ap (λ (ts : List File). copies ts front) is)
 part_copies front (f ∷ fs) left (inl is) = by (part_copies front fs left is) (bytes_eq front (stem f.name)) refl
   where
@@ -61,7 +61,7 @@ part_copies front (f ∷ fs) left (inr (rest, e, is)) =
     by (inr less) true e = rw e (inr (omega (arith, less)))
 
 -- an id with files is held
-some_held : (account id : List ℕ) (fs : List File) → copies fs (stem_of account id) ≢ [] → list_any (λ (f : File). names_id account id f.name) fs ≡ true
+pub some_held : (account id : List ℕ) (fs : List File) → copies fs (stem_of account id) ≢ [] → list_any (λ (f : File). names_id account id f.name) fs ≡ true
 some_held account id [] some = absurd (some refl)
 some_held account id (f ∷ fs) some = by (some_held account id fs) (bytes_eq (stem_of account id) (stem f.name)) refl
   where
@@ -70,7 +70,7 @@ some_held account id (f ∷ fs) some = by (some_held account id fs) (bytes_eq (s
     by more true e = rw e refl
     by more false e = rw e (more (λ none. some (rw e none)))
 
-less_than_one : {A : Type 0} (xs ys : List A) → length xs < length ys → length ys ≤ 1 → (xs ≡ []) × (ys ≢ [])
+pub less_than_one : {A : Type 0} (xs ys : List A) → length xs < length ys → length ys ≤ 1 → (xs ≡ []) × (ys ≢ [])
 less_than_one [] ys less one = (refl, λ none. let e = ap length none in absurd (omega (arith, less, e)))
 less_than_one (x ∷ xs) ys less one = absurd (omega (arith, less, one))
 

@@ -24,7 +24,7 @@ use Rattle.fetch_session.specs.Record.{KeepsRows}
 use Rattle.fetch_session.specs.Session.{Kept, Session, kept}
 use Rattle.fetch_session.specs.declared.report.Outcome.TheVariants.{Ended}
 use Rattle.fetch_session.specs.declared.report.Report.{Report}
-use Rattle.run_law.specs.Mails.{listing_of, is_selected, texts_of, without}
+use Rattle.run_law.specs.Mails.{listing_of, is_selected, messages_after, selected, texts_of, without}
 use Rattle.run_law.specs.Accounts.{KeepsOthers, copies, files}
 use Rattle.run_law.specs.Steps.{ids_wanted}
 use Rattle.run_law.specs.Runs.{Frame, Situation, Kept as IsKeptIn, HoldsExactly, HoldsWhatIsLeft, past_limit}
@@ -80,8 +80,8 @@ pub record Occasion : Type 0 where
   pub vanished : List (List ℕ)
 
 -- a session; anything that leaves the record and the account's messages as they are; messages that are gone from the
--- server after they were fetched, or before; a message that its reader throws away or files elsewhere, or puts back; and a
--- record that is lost, or is replaced by an older one
+-- server after they were fetched, or before; a message that its reader throws away or files elsewhere, or puts back; a
+-- record that is lost, or is replaced by an older one; and a loss of power
 pub data Event : Type 0 where
   Fetched : Occasion → Event
   Between : Kept → Event
@@ -90,6 +90,7 @@ pub data Event : Type 0 where
   TakenAway : List ℕ → Kept → Event
   BroughtBack : List ℕ → Kept → Event
   Forgotten : Kept → Event
+  PowerLost : Kept → Event
 
 -- the maildrop of an occasion
 abbrev pub maildrop_at : World → State → Occasion → List Message
@@ -155,6 +156,31 @@ abbrev pub IsFetched : World → State → List ℕ → Type 0
 IsFetched world state id = (is_legal_id id ≡ true)
     × ((is_held (account_of world) state.kept.maildir id ≡ true) ⊎ (has_id state.taken id ≡ true))
 
+-- the record's file stands for a record in which the id is delivered
+abbrev pub IsRecorded : Kept → List ℕ → Type 0
+IsRecorded state id = (rows : List Row) × KeepsRows state.file.content rows × (is_delivered rows id ≡ true)
+
+-- the record doesn't show the message, the server still has it, and no later one of the selected messages is held or was
+-- taken away: a text and its name are flushed before its row is written, and before the next one is stored
+pub record IsLastStored (world : World) (state : State) (id : List ℕ) : Type 0 where
+  pub unrecorded : IsRecorded state.kept id → ⊥
+  pub on_server : has_id state.gone id ≡ false
+  pub last : AllByRecursion (λ (message : Message). IsNeither world state message.uid)
+      (messages_after id (selected world.max_size world.all))
+
+-- the record's file stands for rows of which each that is delivered was so before, or is held or was taken away
+abbrev pub ShowsWhatIsLeft : World → State → Kept → List Row → Type 0
+ShowsWhatIsLeft world state after rows = (now : List Row) × KeepsRows after.file.content now
+    × ((id : List ℕ) → is_delivered now id ≡ true
+    → (is_delivered rows id ≡ true) ⊎ IsFetched world (record state { kept = after }) id)
+
+-- power is lost. For each legal id the files hold what they held; or there is none, and the message was taken away before
+-- and stored again, or is the last that was stored
+pub record IsPowerLost (world : World) (state : State) (after : Kept) : Type 0 where
+  pub record_is : (rows : List Row) → KeepsRows state.kept.file.content rows → ShowsWhatIsLeft world state after rows
+  pub mail : (id : List ℕ) → is_legal_id id ≡ true → (contents_of world after id ≡ contents_of world state.kept id)
+      ⊎ ((contents_of world after id ≡ []) × ((has_id state.taken id ≡ true) ⊎ IsLastStored world state id))
+
 abbrev pub after_event : State → Event → State
 after_event state (Fetched occasion) = record state { kept = occasion.after; gone = state.gone ++ occasion.vanished }
 after_event state (Between after) = record state { kept = after }
@@ -163,6 +189,7 @@ after_event state (Withdrawn ids) = state
 after_event state (TakenAway id after) = record state { kept = after; taken = id ∷ state.taken }
 after_event state (BroughtBack id after) = record state { kept = after; taken = filter (λ other. not (bytes_eq other id)) state.taken }
 after_event state (Forgotten after) = record state { kept = after }
+after_event state (PowerLost after) = record state { kept = after }
 
 -- all mail goes on without the messages that are withdrawn
 abbrev pub world_after : World → Event → World
@@ -177,6 +204,7 @@ Follows world state (Withdrawn ids) = AllByRecursion (IsNeither world state) ids
 Follows world state (TakenAway id after) = IsTakenAway world state.kept id after
 Follows world state (BroughtBack id after) = IsBroughtBack world state id after
 Follows world state (Forgotten after) = IsForgotten world state.kept after
+Follows world state (PowerLost after) = IsPowerLost world state after
 
 abbrev pub IsRun : World → State → List Event → Type 0
 IsRun world state [] = Unit {0}
@@ -245,10 +273,6 @@ OthersStay world before after = KeepsOthers (account_of world) (holds [] before.
 pub record FilesStay (before after : Maildir) : Type 0 where
   pub gained : List File
   pub came : after.files ≡ before.files ++ gained
-
--- the record's file stands for a record in which the id is delivered
-abbrev pub IsRecorded : Kept → List ℕ → Type 0
-IsRecorded state id = (rows : List Row) × KeepsRows state.file.content rows × (is_delivered rows id ≡ true)
 
 -- if delivered messages aren't read again, none that is recorded as delivered is stored, and it stays recorded
 abbrev pub StoresOnlyNew : World → State → Occasion → Type 0
@@ -378,12 +402,14 @@ HeadlineWordForWord = (world : World) (start : State) (events : List Event) → 
 
 -- ---- what is taken away stays away
 
--- each of these sessions reads only what is new, no record forgets this message, and nobody puts it back
+-- each of these sessions reads only what is new, no record forgets this message, also where power is lost, and nobody
+-- puts it back
 abbrev pub LeaveAway : List ℕ → List Event → Type 0
 LeaveAway id [] = Unit {0}
 LeaveAway id (Fetched occasion ∷ events) = (occasion.settings.read_all ≡ false) × LeaveAway id events
 LeaveAway id (BroughtBack other after ∷ events) = (bytes_eq id other ≡ false) × LeaveAway id events
 LeaveAway id (Forgotten after ∷ events) = IsRecorded after id × LeaveAway id events
+LeaveAway id (PowerLost after ∷ events) = IsRecorded after id × LeaveAway id events
 LeaveAway id (_ ∷ events) = LeaveAway id events
 
 -- then a message that is recorded as delivered and isn't held is never stored again

@@ -9,5 +9,6 @@ pub mod MboxHonestSession
 pub mod MboxRuns
 pub mod MboxSteps
 pub mod MboxTexts
+pub mod Power
 pub mod Runs
 pub mod Steps

@@ -13,6 +13,7 @@ ghost use Rattle.fetch_runs.specs.MboxHeadline.{MboxStopsAreRuns, WritingsAreEve
 ghost use Rattle.fetch_runs.specs.MboxHonestSession.{MboxHonestSessions};
 ghost use Rattle.fetch_runs.specs.MboxSteps.{MboxSessionIsAStep};
 ghost use Rattle.fetch_runs.specs.MboxTexts.{MboxSessionsAddTexts};
+ghost use Rattle.fetch_runs.specs.Power.{PartsAreLosses};
 ghost use Rattle.fetch_runs.specs.Steps.{SessionIsAStep};
 
 use fetch_rules::{
@@ -100,7 +101,8 @@ pub fn honest_sessions()
 /// any file between `new` and `cur` and change its marks. Between two sessions a process may start
 /// anew; readers and other programs may do anything to files that aren't the account's; messages may be
 /// gone from the server, and one that wasn't fetched is then no longer part of its mail; a reader may
-/// take a message away, which then counts as held, and put it back; and the record may be lost.
+/// take a message away, which then counts as held, and put it back; the record may be lost; and power
+/// may be lost, which takes at most the last message that was stored, if the record doesn't show it.
 pub fn headline()
     ensures { Headline }
 {
@@ -140,6 +142,15 @@ pub fn recorded_stay_away()
 {
     headline();
     worlds_shrink();
+}
+
+/// A loss of power that leaves some of the files that calls see, in order, is part of a run, if the
+/// name of each message stays, but perhaps that of the last that was stored or of what was taken
+/// away before, and the record shows no more than it may.
+pub fn parts_are_losses()
+    ensures { PartsAreLosses }
+{
+    headline();
 }
 
 /// A record's file that is missing or empty is one that forgot, whatever it held.

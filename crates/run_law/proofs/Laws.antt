@@ -10,13 +10,14 @@ use Rattle.mail_store.specs.FileName.{is_held, stem_of}
 use Rattle.run_law.specs.Mails.{ids_of, selected, texts_of}
 use Rattle.run_law.specs.Accounts.{Account, files, copies, count_files}
 use Rattle.run_law.specs.Steps.{Effect, Leaves}
-use Rattle.run_law.specs.Runs.{Frame, IsFrame, Situation, Visit, Event, Visited, Between, Expired, Withdrawn, TakenAway, BroughtBack, Forgotten, Visits, Run, HoldsOf, Kept, LeavesMail, after_event, frame_after, Promises, KeptStaysKept, KeptHoldsWhatIsLeft, NothingTakenHoldsExactly}
+use Rattle.run_law.specs.Runs.{Frame, IsFrame, Situation, Visit, Event, Visited, Between, Expired, Withdrawn, TakenAway, BroughtBack, Forgotten, PowerLost, Visits, Run, HoldsOf, Kept, LeavesMail, after_event, frame_after, Promises, KeptStaysKept, KeptHoldsWhatIsLeft, NothingTakenHoldsExactly}
 use Rattle.run_law.proofs.Below.{Below}
 use Rattle.run_law.proofs.Lists.{front_is}
 use Rattle.run_law.proofs.Holds.{held_is_done, one_file}
 use Rattle.run_law.proofs.Ids.{none_vanish}
 use Rattle.run_law.proofs.Others.{between_kept, expired_kept, withdrawn_kept, taken_kept, brought_kept, forgotten_kept, frame_stays, done_distinct}
 use Rattle.run_law.proofs.Files.{held_done}
+use Rattle.run_law.proofs.Power.{power_kept}
 use Rattle.run_law.proofs.VisitKept.{visit_kept, deletes_held, keeps_others, leaves_out, stores_only_new}
 
 -- ---- an account whose files and rows stay
@@ -72,6 +73,7 @@ happened laws frame before (Expired ids) is kept h = (expired_kept frame before 
 happened laws frame before (Withdrawn ids) is kept h = (withdrawn_kept frame is before ids kept h.0, tt)
 happened laws frame before (BroughtBack id after) is kept h = (brought_kept frame is before id after kept h.0, tt)
 happened laws frame before (Forgotten after) is kept h = (forgotten_kept frame before after kept h.0, tt)
+happened laws frame before (PowerLost after) is kept h = (power_kept frame is before after kept h.0, tt)
 happened laws frame before (TakenAway id after) is kept h = (taken_kept frame before id after kept h.0, tt)
 
 pub kept_states : Below → KeptStaysKept

@@ -15,6 +15,8 @@ mod MboxKept
 mod MboxOthers
 mod Next
 mod Others
+mod Power
+mod PowerCuts
 mod Records
 mod Replied
 mod Safety

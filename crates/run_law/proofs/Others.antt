@@ -79,6 +79,11 @@ done_distinct frame is done rest e =
     subst (λ (l : List Message). Distinct (ids_of l)) (front_is done rest e)
     (distinct_take (length done) (selected frame.max_size frame.all) (distinct_filter (is_selected frame.max_size) frame.all (distinct_is frame.all is.world.distinct)))
 
+-- and legal ids
+pub done_legal : (frame : Frame) → IsFrame frame → (done rest : List Message) → selected frame.max_size frame.all ≡ done ++ rest → AllByRecursion IsLegal done
+done_legal frame is done rest e = all_front IsLegal done rest (subst (AllByRecursion IsLegal) e
+    (all_filter IsLegal (is_selected frame.max_size) frame.all (all_map IsMessage IsLegal (λ m h. h.legal) frame.all is.world.messages)))
+
 -- an id that is done has all its texts there
 done_texts : (frame : Frame) → IsFrame frame → (done rest : List Message) → selected frame.max_size frame.all ≡ done ++ rest → (id : List ℕ) → HasTextsOf done frame.all id
 done_texts frame is done rest e id =
@@ -141,12 +146,8 @@ module _ (frame : Frame) (is : IsFrame frame) (before : Situation) (ids : List (
         | inr taken ↦ both_ways (has_id before.taken m.uid) neither.1 taken
       ]))
 
-  legal_done : AllByRecursion IsLegal kept.done
-  legal_done = all_front IsLegal kept.done kept.rest (subst (AllByRecursion IsLegal) kept.prefix
-      (all_filter IsLegal (is_selected frame.max_size) frame.all (all_map IsMessage IsLegal (λ m h. h.legal) frame.all is.world.messages)))
-
   all_stay : AllByRecursion (λ (m : Message). stays m ≡ true) kept.done
-  all_stay = all_both IsLegal (λ (m : Message). has_id (ids_of kept.done) m.uid ≡ true) (λ (m : Message). stays m ≡ true) done_stays kept.done legal_done (members kept.done)
+  all_stay = all_both IsLegal (λ (m : Message). has_id (ids_of kept.done) m.uid ≡ true) (λ (m : Message). stays m ≡ true) done_stays kept.done (done_legal frame is kept.done kept.rest kept.prefix) (members kept.done)
 
   pub withdrawn_kept : Kept (frame_after frame (Withdrawn ids)) (after_event before (Withdrawn ids))
   withdrawn_kept = record {

@@ -36,7 +36,7 @@ module _ (laws : Below) (frame : Frame) (is : IsFrame frame) (before : Situation
   abbrev held : List ℕ → Bool
   held id = is_held frame.account before.account.maildir id
 
-  abbrev scene : Scene
+  abbrev pub scene : Scene
   scene = record { all = frame.all; gone = before.gone; come = v.come; settings = v.settings; rows = rows; done = kept.done; rest = kept.rest }
 
   -- ---- held, known, done
@@ -47,7 +47,7 @@ module _ (laws : Below) (frame : Frame) (is : IsFrame frame) (before : Situation
   known_parts : (id : List ℕ) → is_delivered rows id ≡ (is_delivered before.account.rows id || (has_item v.effect.listing id && held id))
   known_parts id = plan.known_parts laws.records frame is before kept v.settings v.come v.effect.now v.effect.listing honest.listing same id
 
-  known_done : (id : List ℕ) → is_delivered rows id ≡ true → core.is_done scene id ≡ true
+  pub known_done : (id : List ℕ) → is_delivered rows id ≡ true → core.is_done scene id ≡ true
   known_done id e = plan.known_done laws.records frame is before kept v.settings v.come v.effect.now v.effect.listing honest.listing same id
       (all_at (λ x. is_legal_id x ≡ true) here id (core.legal_here scene is_scene)) e
 
@@ -84,7 +84,7 @@ module _ (laws : Below) (frame : Frame) (is : IsFrame frame) (before : Situation
   files_are : files v.after ≡ files before.account ++ map (message_file frame.account) delivered
   files_are = new_is
 
-  copies_are : (id : List ℕ) → is_legal_id id ≡ true → copies (files v.after) (stem_of frame.account id)
+  pub copies_are : (id : List ℕ) → is_legal_id id ≡ true → copies (files v.after) (stem_of frame.account id)
       ≡ copies (files before.account) (stem_of frame.account id) ++ cond (not (held id)) (texts_of got id) []
   copies_are id l = ap (λ f. copies f (stem_of frame.account id)) files_are
       ∙ copies-append (files before.account) (map (message_file frame.account) delivered) (stem_of frame.account id)
@@ -95,7 +95,7 @@ module _ (laws : Below) (frame : Frame) (is : IsFrame frame) (before : Situation
   texts_after : (id : List ℕ) → texts_of (kept.done ++ stored) id ≡ texts_of kept.done id ++ cond (not (core.is_done scene id)) (texts_of got id) []
   texts_after id = texts-append kept.done stored id ∙ ap (λ t. texts_of kept.done id ++ t) (texts_filtered (λ x. not (core.is_done scene x)) got id)
 
-  holds_after : (id : List ℕ) → is_legal_id id ≡ true → HoldsOf frame (after_event before (Visited v)) (kept.done ++ stored) id
+  pub holds_after : (id : List ℕ) → is_legal_id id ≡ true → HoldsOf frame (after_event before (Visited v)) (kept.done ++ stored) id
   holds_after id l = elim (kept.holds id l) [
     | inl e ↦ inl (cc (copies_are id l, e, held_done frame.account before.account kept.done id e, texts_after id))
     | inr (taken, none) ↦
@@ -113,7 +113,7 @@ module _ (laws : Below) (frame : Frame) (is : IsFrame frame) (before : Situation
   abbrev is_done_after : List ℕ → Bool
   is_done_after id = core.is_done_after scene s.stored id
 
-  recorded_ids : ids_wanted (take s.recorded (wanted_at v.settings frame.account before.account v.effect)) ≡ ids_of (take s.recorded (fetched scene))
+  pub recorded_ids : ids_wanted (take s.recorded (wanted_at v.settings frame.account before.account v.effect)) ≡ ids_of (take s.recorded (fetched scene))
   recorded_ids = ap (λ w. ids_wanted (take s.recorded w)) wanted_is ∙ core.wanted_ids scene is_scene s.recorded
 
   recorded_after : (id : List ℕ) → is_delivered v.after.rows id ≡ true → is_done_after id ≡ true

@@ -8,6 +8,7 @@ pub mod MboxSessions
 pub mod MboxTold
 pub mod Mboxes
 pub mod Plans
+pub mod Power
 pub mod Readings
 pub mod Runs
 pub mod Safety

@@ -1,5 +1,5 @@
 -- The messages of a maildrop: their ids, their listing, and which of them are selected.
-use Rattle.std.specs.Prelude.{ℕ, Bool, not, List, map, bytes_eq}
+use Rattle.std.specs.Prelude.{ℕ, Bool, not, List, [], ◌∷◌, map, if◌then◌else◌, bytes_eq}
 use Rattle.std.specs.List.{filter}
 use Rattle.mail_terms.specs.Listing.{Item}
 use Rattle.fetch_rules.specs.Wanted.{is_within}
@@ -26,6 +26,11 @@ selected limit ms = filter (is_selected limit) ms
 -- the texts of the messages that have the id
 abbrev pub texts_of : List Message → List ℕ → List (List ℕ)
 texts_of ms id = map (λ (m : Message). m.text) (filter (λ (m : Message). bytes_eq id m.uid) ms)
+
+-- the messages after the one that has the id
+abbrev pub messages_after : List ℕ → List Message → List Message
+messages_after id [] = []
+messages_after id (m ∷ ms) = if bytes_eq id m.uid then ms else messages_after id ms
 
 -- the messages without those of these ids
 abbrev pub without : List (List ℕ) → List Message → List Message

@@ -9,7 +9,7 @@ use Rattle.mail_store.specs.FileName.{stem_of, is_held, IsAccountText}
 use Rattle.mail_store.specs.Held.{flags_of}
 use Rattle.mail_terms.specs.UniqueId.{is_legal_id, has_id}
 use Rattle.pop3_wire.specs.World.{Message, IsWorld, maildrop_of}
-use Rattle.run_law.specs.Mails.{ids_of, listing_of, is_selected, selected, texts_of, without}
+use Rattle.run_law.specs.Mails.{ids_of, listing_of, is_selected, selected, texts_of, messages_after, without}
 use Rattle.run_law.specs.Accounts.{Account, files, copies, KeepsOthers}
 use Rattle.run_law.specs.Steps.{Effect, Leaves, Stores, IsHonest, merged_rows, wanted_at, ids_wanted}
 
@@ -30,8 +30,8 @@ pub record Visit : Type 0 where
   pub after : Account
 
 -- a session; anything that leaves the record and the messages of the account as they are; messages that are gone from the
--- server after they were fetched, or before; a message that its reader throws away or files elsewhere, or puts back; and a
--- record that is lost, or is replaced by an older one
+-- server after they were fetched, or before; a message that its reader throws away or files elsewhere, or puts back; a
+-- record that is lost, or is replaced by an older one; and a loss of power
 pub data Event : Type 0 where
   Visited : Visit → Event
   Between : Account → Event
@@ -40,6 +40,7 @@ pub data Event : Type 0 where
   TakenAway : List ℕ → Account → Event
   BroughtBack : List ℕ → Account → Event
   Forgotten : Account → Event
+  PowerLost : Account → Event
 
 abbrev pub after_event : Situation → Event → Situation
 after_event before (Visited visit) = record before { account = visit.after; gone = before.gone ++ visit.vanished }
@@ -50,6 +51,7 @@ after_event before (TakenAway id after) = record before { account = after; taken
 after_event before (BroughtBack id after) =
     record before { account = after; taken = filter (λ other. not (bytes_eq other id)) before.taken }
 after_event before (Forgotten after) = record before { account = after }
+after_event before (PowerLost after) = record before { account = after }
 
 -- what stays throughout: the account's text, the limit on sizes, and all mail that wasn't withdrawn
 pub record Frame : Type 0 where
@@ -116,6 +118,25 @@ pub record Forgets (account : List ℕ) (before after : Account) : Type 0 where
   pub delivered : (id : List ℕ) → is_delivered after.rows id ≡ true → is_delivered before.rows id ≡ true
   pub same : (id : List ℕ) → is_legal_id id ≡ true → copies (files after) (stem_of account id) ≡ copies (files before) (stem_of account id)
 
+-- the record doesn't show the message, the server still has it, and no later one of the selected messages is held or was
+-- taken away: a text and its name are flushed before its row is written, and before the next one is stored
+pub record IsLastStored (frame : Frame) (before : Situation) (id : List ℕ) : Type 0 where
+  pub unrecorded : is_delivered before.account.rows id ≡ false
+  pub on_server : has_id before.gone id ≡ false
+  pub last : AllByRecursion (λ (m : Message). IsNeither frame.account before m.uid)
+      (messages_after id (selected frame.max_size frame.all))
+
+-- power is lost. For each legal id the files of its stem hold what they held; or there is none, and the message was taken
+-- away before and stored again, or is the last that was stored. What the record shows as delivered it showed before, or it
+-- is held or was taken away
+pub record LosesPower (frame : Frame) (before : Situation) (after : Account) : Type 0 where
+  pub mail : (id : List ℕ) → is_legal_id id ≡ true
+      → (copies (files after) (stem_of frame.account id) ≡ copies (files before.account) (stem_of frame.account id))
+      ⊎ ((copies (files after) (stem_of frame.account id) ≡ [])
+      × ((has_id before.taken id ≡ true) ⊎ IsLastStored frame before id))
+  pub delivered : (id : List ℕ) → is_delivered after.rows id ≡ true
+      → (is_delivered before.account.rows id ≡ true) ⊎ IsHeldOrTaken frame.account (record before { account = after }) id
+
 abbrev pub Happens : Frame → Situation → Event → Type 0
 Happens frame before (Visited visit) = Visits frame before visit
 Happens frame before (Between after) = LeavesMail frame.account before.account after
@@ -124,6 +145,7 @@ Happens frame before (Withdrawn ids) = AllByRecursion (IsNeither frame.account b
 Happens frame before (TakenAway id after) = TakesAway frame.account before.account id after
 Happens frame before (BroughtBack id after) = BringsBack frame before id after
 Happens frame before (Forgotten after) = Forgets frame.account before.account after
+Happens frame before (PowerLost after) = LosesPower frame before after
 
 -- the events happen in this order
 abbrev pub Run : Frame → Situation → List Event → Type 0

@@ -2,6 +2,7 @@
 #![tactic(auto)]
 
 ghost use Rattle.run_law.specs.Mails.{WorldsShrink};
+ghost use Rattle.run_law.specs.Power.{AllMayBeLeft, FirstMayBeLeft};
 ghost use Rattle.run_law.specs.Runs.{CanEnd, KeptHoldsWhatIsLeft, KeptStaysKept};
 ghost use Rattle.run_law.specs.Runs.{NothingTakenHoldsExactly, StartsKept, WantsNext};
 ghost use Rattle.run_law.specs.Readings.{HonestIsGranted, ListingIsMaildrop, MarksAreAsked, TextsAreMessages};
@@ -48,6 +49,26 @@ pub fn kept_states()
 pub fn worlds_shrink()
     ensures { WorldsShrink }
 {}
+
+/// A loss of power may leave all files, with a record that shows the same or less.
+#[tactic(auto, using(crate::proofs::Power::all_may_be_left))]
+pub fn all_may_be_left()
+    ensures { AllMayBeLeft }
+{}
+
+/// After a session from a kept state that was cut behind a text that it stored and didn't record, a
+/// loss of power may leave the files before that text.
+pub fn first_may_be_left()
+    ensures { FirstMayBeLeft }
+{
+    stems_differ();
+    names_have_stems();
+    marks_keep_the_base();
+    distinct_messages_are_filtered();
+    held_is_delivered();
+    flags_tell_what_is_held();
+    marked_is_delivered();
+}
 
 /// A kept state holds exactly the first of the selected messages, each once, except for those
 /// that were taken away.

@@ -1,0 +1,50 @@
+-- A loss of power that leaves some of the files is an event of a run.
+use Rattle.std.proofs.Common.{◌≡◌, ◌≢◌, ◌⊎◌, inl, inr, ◌<◌, ◌≤◌, ℕ, zero, suc, List, [], ◌∷◌, Bool, true, false, length, ap, refl, sym, ◌∙◌, arith}
+use Rattle.std.specs.Prelude.{bytes_eq, Contains}
+use Rattle.mail_terms.specs.UniqueId.{has_id, is_legal_id}
+use Rattle.mail_store.specs.FileName.{stem, stem_of}
+use Rattle.mail_store.specs.Maildir.{File, names_of}
+use Rattle.run_law.specs.Accounts.{copies}
+use Rattle.fetch_runs.specs.Headline.{World, State, Headline, IsLastStored, account_of, contents_of}
+use Rattle.fetch_runs.specs.Power.{IsSure, PartsAreLosses}
+use Rattle.fetch_runs.proofs.Takings.{less_than_one, part_copies, some_held}
+
+not_none : {A : Type 0} (x : A) (xs : List A) → x ∷ xs ≢ []
+not_none x xs none = cc
+
+-- a name with this stem is that of a file with it
+named_some : (front : List ℕ) (fs : List File) (name : List ℕ) → bytes_eq front (stem name) ≡ true → Contains (names_of fs) name → copies fs front ≢ []
+named_some front [] name same (k, below, is) = absurd (omega (arith, below))
+named_some front (f ∷ fs) name same (zero, below, is) = λ none.
+    let e : bytes_eq front (stem f.name) ≡ true = ap (λ n. bytes_eq front (stem n)) is ∙ same in
+    let there : copies (f ∷ fs) front ≡ f.content ∷ copies fs front = rw e refl in
+    not_none f.content (copies fs front) (sym there ∙ none)
+named_some front (f ∷ fs) name same (suc k, below, is) = by (bytes_eq front (stem f.name)) refl (named_some front fs name same (k, omega (arith, below), is))
+  where
+    by : (b : Bool) → bytes_eq front (stem f.name) ≡ b → copies fs front ≢ [] → copies (f ∷ fs) front ≢ []
+    by true e some none =
+        let there : copies (f ∷ fs) front ≡ f.content ∷ copies fs front = rw e refl in
+        not_none f.content (copies fs front) (sym there ∙ none)
+    by false e some none =
+        let more : copies (f ∷ fs) front ≡ copies fs front = rw e refl in
+        some (sym more ∙ none)
+
+pub parts_are_losses : Headline → PartsAreLosses
+parts_are_losses law world state staying left file sound is sure may record_is = record {
+  record_is = record_is;
+  mail = λ id legal. by id legal ((law world state [] sound is tt).0.once id legal) (part_copies (stem_of (account_of world) id) state.kept.maildir.files left may.part);
+}
+  where
+    may_go : (id : List ℕ) → copies left (stem_of (account_of world) id) ≡ [] → IsSure world staying id ⊎ (has_id state.taken id ≡ true) ⊎ IsLastStored world state id
+        → (has_id state.taken id ≡ true) ⊎ IsLastStored world state id
+    may_go id none (inl (name, stays, same)) = absurd (named_some (stem_of (account_of world) id) left name same (may.named name stays) none)
+    may_go id none (inr may') = may'
+
+    by : (id : List ℕ) → is_legal_id id ≡ true → length (contents_of world state.kept id) ≤ 1
+        → (copies left (stem_of (account_of world) id) ≡ contents_of world state.kept id) ⊎ (length (copies left (stem_of (account_of world) id)) < length (contents_of world state.kept id))
+        → (copies left (stem_of (account_of world) id) ≡ contents_of world state.kept id)
+        ⊎ ((copies left (stem_of (account_of world) id) ≡ []) × ((has_id state.taken id ≡ true) ⊎ IsLastStored world state id))
+    by id legal once (inl same) = inl same
+    by id legal once (inr less) =
+        let parts = less_than_one (copies left (stem_of (account_of world) id)) (contents_of world state.kept id) less once in
+        inr (parts.0, may_go id parts.0 (sure id legal (some_held (account_of world) id state.kept.maildir.files parts.1)))
