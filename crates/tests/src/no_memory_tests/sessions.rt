@@ -12,16 +12,13 @@ use fetch_session::{Report, pretend, session};
 use local_fetch::fetch_local;
 use mail_store::{FlatFile, MemoryFile};
 use pop3_server::{MemoryDrop, Server};
-use pop3_wire::{FusedWire, ScriptWire};
+use pop3_wire::ScriptWire;
 use std::alloc::Global;
 use std::test::Fail;
 use test_support::maildrop_of;
 
-/// The link of a session over written replies.
-type Link = FusedWire<ScriptWire>;
-
 /// Runs a session.
-fn run_one(rt: &HostRuntime, account: &mut Fred, wire: &mut Link) -> Report {
+fn run_one(rt: &HostRuntime, account: &mut Fred, wire: &mut ScriptWire) -> Report {
     begin(rt);
     let report = session(account, wire, 0);
     end(rt);
@@ -175,7 +172,7 @@ fn mbox_quoting_cut_row(rt: HostRuntime) -> Result<(), Fail> {
 }
 
 /// Prints what a session would do.
-fn pretend_one(rt: &HostRuntime, account: &mut Fred, wire: &mut Link) {
+fn pretend_one(rt: &HostRuntime, account: &mut Fred, wire: &mut ScriptWire) {
     begin(rt);
     let preview = pretend(account, wire, 0);
     end(rt);
@@ -207,7 +204,7 @@ fn pretend_mbox_row(rt: HostRuntime) -> Result<(), Fail> {
 }
 
 /// Runs two sessions by one call.
-fn run_both(rt: &HostRuntime, account: &mut Fred, first: Link, second: Link) {
+fn run_both(rt: &HostRuntime, account: &mut Fred, first: ScriptWire, second: ScriptWire) {
     let mut visits = [
         OneVisit {
             wire: first,
