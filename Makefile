@@ -39,7 +39,6 @@ check:
 quick:
 	@$$(dirname "$$(rt doc)")/bin/rattle fmt --check $$(find crates -name out -prune -o -name '*.rt' -print -o -name '*.antt' -print)
 	@python3 tests/check_edits.py
-	@python3 tests/test_sample.py
 	@python3 tests/test_documents.py
 
 # The tests from outside and the benchmarks also run a small program that makes the libraries' calls one by one.
@@ -53,7 +52,6 @@ test:
 	@./build.py getmail popd probe
 	cd crates/library_tests && rt test > /dev/null
 	cd crates/tests && rt test > /dev/null
-	python3 tests/test_sample.py
 	python3 tests/test_documents.py
 	python3 tests/run.py
 

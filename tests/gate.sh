@@ -10,7 +10,6 @@ trap 'rm -f "$log"' EXIT
 TIMEFORMAT='rt ci took %0U s of processor time, in %0R s'
 
 python3 tests/check_edits.py
-python3 tests/test_sample.py
 python3 tests/test_documents.py
 
 time rt ci | tee "$log"

@@ -207,6 +207,18 @@ class RcFile(Sessions):
         self.assertEqual(self.account.rcfile.stat().st_size, 65_536)
         self.check_commands([], FETCHED_AND_DELETED)
 
+    def test_the_sample(self):
+        """With the user's own server and password it fetches once what is new, and deletes nothing."""
+        text = (programs.ROOT / "docs/getmailrc.sample").read_text()
+        for old, new in (("server = mail.example.org\n# port = 110", f"server = {LOOPBACK}\nport = {self.server.port}"),
+                         ("username = fred\npassword = secret", "username = u\npassword = p")):
+            self.assertIn(old, text)
+            text = text.replace(old, new)
+        self.account.rcfile.write_text(text)
+        self.check_commands([], ALL_FETCHED)
+        self.check_commands([], [])
+        self.assertEqual(self.account.held(), THREE)
+
 
 class Home(Sessions):
     """A path that begins with `~/` is in the home; if none does, HOME isn't needed."""

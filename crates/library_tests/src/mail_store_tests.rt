@@ -1,10 +1,22 @@
-//! Tests of `mail_store`: names, and what stores in memory, files and folders do.
+//! Tests of `mail_store`: what a reader does to a Maildir in memory.
 
-mod exact_listing;
-pub mod file;
-mod fuse;
-pub mod maildir;
-mod mbox;
-pub mod name;
-mod power;
-mod settling;
+use mail_store::{Folder, MaildirDisk, MemoryMaildir};
+use std::test::Fail;
+
+#[test]
+fn a_reader_moves_a_file_to_cur_and_back(rt: HostRuntime) -> Result<(), Fail> {
+    let mut disk = MemoryMaildir::new(rt.alloc());
+    disk.begin("x")?;
+    assert!(rt; disk.is_begun() && !disk.has_file("one"));
+    disk.settle("one")?;
+    assert!(rt; !disk.move_to_cur("two", ":2,S")?);
+    assert!(rt; disk.move_to_cur("one", ":2,S")?);
+    assert!(rt; disk.has_file("one") && disk.files(Folder::New).is_empty());
+    assert!(rt; !disk.move_to_new("one")?);
+    assert!(rt; disk.move_to_new("one:2,S")?);
+    let files = disk.files(Folder::New);
+    assert_eq!(rt; files.len(), 1);
+    assert_eq!(rt; files[0].0.as_str(), "one");
+    assert!(rt; disk.files(Folder::Cur).is_empty());
+    Ok(())
+}

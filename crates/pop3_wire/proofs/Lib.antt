@@ -3,7 +3,6 @@ mod BodiesLemmas
 mod BodyLemmas
 mod CommandLineLemmas
 mod CommandRoundTrip
-mod EndlessLemmas
 mod HonestRows
 mod LineLemmas
 mod LineReaderLemmas

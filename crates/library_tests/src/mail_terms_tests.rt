@@ -1,3 +1,0 @@
-//! Tests of `mail_terms`: listings and ids.
-
-pub mod listing;

@@ -1,3 +1,0 @@
-//! Tests of `pop3_client`: whole conversations over a link in memory.
-
-mod conversation;

@@ -1,0 +1,10 @@
+use Rattle.std.proofs.Common.{◌∙◌, ap₂, refl}
+use Rattle.std.proofs.lemmas.Result.{IfOk-weaker}
+use Rattle.clap.specs.Words.{with_rule}
+use Rattle.popd_program.proofs.words.with_words.Goals as goal
+
+pub returns : goal.returns
+returns c =
+    let first = c.in_ok-command.ensures ∙ ap₂ with_rule refl c.word.ensures.rule in
+    let second = c.in_ok-command-2.ensures ∙ ap₂ with_rule first c.word-2.ensures.rule in
+    IfOk-weaker c.add-3.result _ _ (λ command added. added ∙ ap₂ with_rule second c.word-3.ensures.rule) c.add-3.ensures
