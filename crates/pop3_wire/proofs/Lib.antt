@@ -3,6 +3,7 @@ mod BodiesLemmas
 mod BodyLemmas
 mod CommandLineLemmas
 mod CommandRoundTrip
+mod EndlessLemmas
 mod HonestRows
 mod LineLemmas
 mod LineReaderLemmas

@@ -2,6 +2,7 @@ pub mod Bodies
 pub mod Body
 pub mod CommandLine
 pub mod Commands
+pub mod Endless
 pub mod Fields
 pub mod Fuse
 pub mod Honest

@@ -6,6 +6,7 @@ mod body;
 mod body_reader;
 mod command;
 mod command_line;
+mod endless_wire;
 mod fault;
 mod fields;
 mod fused_wire;
@@ -26,6 +27,7 @@ pub use command::{Command, command_bytes};
 pub use command_line::{
     commands_are_lines, fronts_are_asked, only_one_list_of_commands, read_as_written, read_command,
 };
+pub use endless_wire::EndlessWire;
 pub use fault::WireFault;
 pub use fields::{read_scan, read_stat, read_uid, scan_rows_have_a_form, uid_rows_have_a_form};
 pub use fused_wire::FusedWire;
