@@ -130,6 +130,8 @@ class Sessions:
 
 
 HEADER = "getmail-seen 2/"
+RECORD = f"{HEADER}a 5 0/b 6 1/"
+MERGED = f"{HEADER}a 5 1/b 6 1/c 9 0/"
 DELIVERED = ("one,S=2", "x/", "none begun")
 OPEN = (f"{SEPARATOR}one//", f"{HEADER}a 0 0/b 0 0/c 0 0/! a 0 49/")
 ALL = "Ended 3/3 14 s0 d0"
@@ -144,8 +146,11 @@ def pretended(kept):
 ROWS = {
     "wires::stuff_row": Row("stuff", ("a|..b|.|",)),
     "wires::unstuff_row": Row("unstuff", ("a/.b/",)),
+    "wires::endless_wire_row": changing("EndlessWire::send", ("",), ("sent",), ("QUIT|",), (REFUSED,)),
     "settings::rc_text_row": Row("rc_text", ("retriever.port has a bad value",)),
     "settings::warning_text_row": Row("warning_text", ("warning: line 10: options.timeout has no effect",)),
+    "records::read_row": Row("Seen::read", (f"{RECORD}! a 7 8/",)),
+    "records::merge_row": changing("Seen::merge", (RECORD,), ("changed",), (MERGED,)),
     "texts::quote_row": Row("quote", (">From x/",)),
     "texts::read_mbox_row": Row("read_mbox", ("From x/", "y/")),
     "texts::fault_text_row": Row("fault_text", ("server refused RETR 7",)),
@@ -156,13 +161,21 @@ ROWS = {
     "stores::move_to_cur_row": changing("MemoryMaildir::move_to_cur", DELIVERED, ("moved",), ("none begun",)),
     "servers::memory_text_row": Row("MemoryDrop::text", ("one/",)),
     "servers::folder_text_row": Row("MaildirDrop::text", ("one/",)),
+    "sessions::fresh_row": Session("session", ALL),
     "sessions::held_row": Session("session", "Ended 2/3 10 s1 d0"),
     "sessions::read_all_row": Session("session", ALL),
+    "sessions::delete_row": Session("session", "Ended 3/3 14 s0 d3"),
+    "sessions::delete_then_cut_row": Session("session", "Cut(ConnectionEnded) 2/3 8 s0 d2"),
+    "sessions::cut_in_second_row": Session("session", "Cut(ConnectionEnded) 1/3 4 s0 d0"),
     "sessions::record_append_refused_row": Session("session", "Cut(SeenRefused) 1/3 4 s0 d0"),
+    "sessions::refused_pass_row": Session("session", "Cut(Refused(Pass)) 0/0 0 s0 d0"),
+    "sessions::mbox_row": Session("session", ALL, is_mbox=True),
     "sessions::mbox_cut_row": Session("session", ALL, is_mbox=True),
     "sessions::mbox_whole_row": Session("session", "Ended 2/3 10 s1 d0", is_mbox=True),
+    "sessions::mbox_quoting_row": Session("session", "Ended 1/1 23 s0 d0", is_mbox=True, entries=QUOTED),
     "sessions::mbox_quoting_cut_row": Session("session", "Ended 1/1 23 s0 d0", is_mbox=True, entries=QUOTED),
     "sessions::pretend_mbox_row": pretended(OPEN),
     "sessions::run_sessions_row": Sessions("run_sessions"),
     "sessions::fetch_local_row": Session("fetch_local", ALL),
+    "sessions::fetch_local_mbox_row": Session("fetch_local", ALL, is_mbox=True),
 }

@@ -1,6 +1,12 @@
 //! Tests of `fetch_session` and `fetch_runs`: whole sessions over written replies, one after the other.
 
 mod cut;
+mod deletion;
+mod endless;
 mod list;
+mod record;
 mod refusal;
+mod reply;
+mod selection;
+mod text;
 pub mod visit;

@@ -2,3 +2,4 @@
 
 mod cuts;
 pub mod ends;
+pub mod mbox;

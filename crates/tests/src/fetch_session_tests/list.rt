@@ -4,7 +4,7 @@ use crate::fetch_session_tests::visit::{
     self, SOUND, account, counts, held, kept_by, nothing_kept, sent,
 };
 use fetch_runs::{Visit, run_sessions};
-use pop3_wire::ScriptWire;
+use pop3_wire::{FusedWire, ScriptWire};
 use std::alloc::{AllocError, Global};
 use std::process::Abort;
 use std::test::Fail;
@@ -13,7 +13,7 @@ use std::test::Fail;
 fn visits(
     alloc: Global,
     rows: &[(visit::Visit, &str)],
-) -> Result<Vec<Visit<ScriptWire>>, AllocError> {
+) -> Result<Vec<Visit<FusedWire<ScriptWire>>>, AllocError> {
     let mut visits = Vec::new(alloc);
     for (visit, _wanted) in rows {
         visits.push(Visit {
@@ -42,7 +42,7 @@ pub fn expect_by_one_call(
     let mut told = String::new(alloc);
     for ((visit, report), (_, wanted)) in visits.into_iter().zip(&reports).zip(rows) {
         let Visit { wire, now: _ } = visit;
-        let sent = sent(alloc, &wire)?;
+        let sent = sent(alloc, wire)?;
         let counts = counts(alloc, report)?;
         told = format!(in alloc; "{sent} {counts} - ")?;
         assert!(rt; wanted.starts_with(told.as_str()), "{told}");

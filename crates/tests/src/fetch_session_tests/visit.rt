@@ -6,7 +6,7 @@ use fetch_rules::{Settings, read_rc};
 use fetch_session::{Account, Report, Store, session};
 use mail_store::{FlatFile, Folder, Fused, MaildirDisk, MemoryFile, MemoryMaildir, stem, uid_of};
 use mail_terms::base;
-use pop3_wire::ScriptWire;
+use pop3_wire::{FusedWire, ScriptWire};
 use std::alloc::{AllocError, Global};
 use std::hash::{BuildHasherDefault, FoldHasher};
 use std::process::Abort;
@@ -49,6 +49,8 @@ pub struct Visit {
     pub now: u64,
     /// What the server sends, from its greeting on.
     pub replies: Vec<u8>,
+    /// How many calls the link passes.
+    pub calls: u64,
     pub disk: Fuse,
     pub record: Fuse,
 }
@@ -70,16 +72,18 @@ impl Visit {
             options: String::from_str(alloc, options)?,
             now,
             replies: octets,
+            calls: u64::MAX,
             disk: SOUND,
             record: SOUND,
         })
     }
 
     /// A new link of this session, which gives at most `cut` octets at once.
-    pub fn link(&self, alloc: Global, cut: usize) -> Result<ScriptWire, AllocError>
+    pub fn link(&self, alloc: Global, cut: usize) -> Result<FusedWire<ScriptWire>, AllocError>
         requires { 0 < cut }
     {
-        Ok(ScriptWire::new(alloc, self.replies.clone()?, cut))
+        let script = ScriptWire::new(alloc, self.replies.clone()?, cut);
+        Ok(FusedWire::new(script, self.calls))
     }
 }
 
@@ -179,8 +183,9 @@ pub fn shown(alloc: Global, bytes: &[u8]) -> Result<String, AllocError> {
 }
 
 /// What was sent; `P` stands for all that comes before the first RETR of a session that is logged in.
-pub fn sent(alloc: Global, wire: &ScriptWire) -> Result<String, AllocError> {
-    let text = shown(alloc, wire.sent())?;
+pub fn sent(alloc: Global, wire: FusedWire<ScriptWire>) -> Result<String, AllocError> {
+    let script = wire.into_inner();
+    let text = shown(alloc, script.sent())?;
     match text.strip_prefix("USER fred|PASS secret|STAT|UIDL|LIST|") {
         Some(rest) => format!(in alloc; "P|{rest}"),
         None => Ok(text),
@@ -248,7 +253,7 @@ pub fn run(alloc: Global, kept: Kept, visit: &Visit, cut: usize) -> Result<(Kept
     let mut account = account(alloc, options, kept, visit.disk, visit.record)?;
     let report = session(&mut account, &mut wire, visit.now);
     let kept = kept_by(alloc, account);
-    let sent = sent(alloc, &wire)?;
+    let sent = sent(alloc, wire)?;
     let counts = counts(alloc, &report)?;
     let held = held(alloc, &kept)?;
     let told = format!(in alloc; "{sent} {counts} - {held}")?;

@@ -3,12 +3,16 @@
 use crate::fetch_session_tests::visit::{
     Kept, SOUND, account, counts, held, kept_by, nothing_kept,
 };
+use fetch_runs::{Visit, run_sessions};
 use fetch_session::Report;
 use local_fetch::fetch_local;
+use mail_store::Folder;
 use pop3_server::{LoopWire, MemoryDrop, Server};
 use pop3_wire::FusedWire;
 use std::alloc::{AllocError, Global};
+use std::process::Abort;
 use std::test::Fail;
+use test_support::{maildrop_of, put};
 
 /// The messages of the maildrop.
 pub const MESSAGES: [(&str, &str); 3] = [("a", "one\n"), ("b", "two\n"), ("c", "three\n")];
@@ -58,5 +62,82 @@ fn ends_over_an_empty_maildrop(rt: HostRuntime) -> Result<(), Fail> {
     assert_eq!(rt; counts(alloc, &report)?.as_str(), "Ended 0/0 0 s0 d0");
     assert_eq!(rt; held(alloc, &ends.kept)?.as_str(), "- - none");
     assert!(rt; ends.maildrop.is_empty());
+    Ok(())
+}
+
+/// How these sessions ended.
+fn outcomes(alloc: Global, reports: &[Report]) -> Result<String, AllocError> {
+    let mut told = String::new(alloc);
+    for report in reports {
+        told.push_str(counts(alloc, report)?.as_str())?;
+        told.push_str("; ")?;
+    }
+    Ok(told)
+}
+
+/// Runs two sessions by one call, each over a link to a server of its own with the same messages,
+/// and returns how they ended and what is kept then.
+fn cut_and_whole(
+    alloc: Global,
+    cut: FusedWire<LoopWire<MemoryDrop>>,
+    whole: FusedWire<LoopWire<MemoryDrop>>,
+) -> Result<String, Fail> {
+    let mut account = account(alloc, "", nothing_kept(alloc), SOUND, SOUND)?;
+    let mut visits = [
+        Visit { wire: cut, now: 0 },
+        Visit {
+            wire: whole,
+            now: 7,
+        },
+    ];
+    let reports = run_sessions(alloc, &mut account, &mut visits);
+    let kept = kept_by(alloc, account);
+    let outcomes = outcomes(alloc, &reports?)?;
+    let held = held(alloc, &kept)?;
+    Ok(format!(in alloc; "{outcomes}{held}")?)
+}
+
+#[test]
+fn goes_on_after_a_cut_by_one_call(rt: HostRuntime) -> Result<(), Fail> {
+    let alloc = rt.alloc();
+    // the greeting, six commands with their replies, and RETR 2 without its own
+    let cut = link(alloc, maildrop_of(&rt, &MESSAGES)?, 14)?;
+    let whole = link(alloc, maildrop_of(&rt, &MESSAGES)?, u64::MAX)?;
+    assert_eq!(rt;
+        cut_and_whole(alloc, cut, whole)?.as_str(),
+        "Cut(ReadFailed) 1/3 4 s0 d0; Ended 2/3 10 s1 d0; a=one/ b=two/ c=three/ - - \
+         getmail-seen 2/a 0 0/b 0 0/c 0 0/+ 1/a 0 1/+ 1/b 0 1/+ 1/c 0 1/"
+    );
+    Ok(())
+}
+
+/// A maildrop of three hundred messages, the i-th of i lines.
+fn long_maildrop(rt: &(impl Abort + AllocGlobal)) -> Result<MemoryDrop, Fail> {
+    let alloc = rt.alloc();
+    let mut maildrop = MemoryDrop::new(alloc);
+    let mut text = Vec::new(alloc);
+    for i in 1u64..=300 {
+        text.extend_from_slice(&[b'x'; 80])?;
+        text.push(b'\n')?;
+        let uid = format!(in alloc; "m{i}")?;
+        put(&mut maildrop, uid.as_bytes(), text.as_slice())?;
+    }
+    Ok(maildrop)
+}
+
+#[test]
+fn fetches_and_deletes_three_hundred_messages(rt: HostRuntime) -> Result<(), Fail> {
+    let alloc = rt.alloc();
+    let ends = Ends {
+        kept: nothing_kept(alloc),
+        maildrop: long_maildrop(&rt)?,
+    };
+    let (ends, report) = fetch(alloc, "delete = true", ends)?;
+    assert_eq!(rt;
+        counts(alloc, &report)?.as_str(),
+        "Ended 300/300 3657150 s0 d300"
+    );
+    assert_eq!(rt; ends.kept.maildir.files(Folder::New).len(), 300);
+    assert_eq!(rt; ends.maildrop.len(), 0);
     Ok(())
 }

@@ -5,20 +5,23 @@ use crate::fetch_session_tests::visit::{
     nothing_kept,
 };
 use crate::local_fetch_tests::ends::{Ends, MESSAGES, fetch};
-use crate::no_memory_tests::mbox::{Files, files_of, mbox_account};
+use crate::local_fetch_tests::mbox::{Files, files_of, mbox_account};
 use crate::no_memory_tests::watched::{begin, end, tell, tell_bytes, tell_no_memory};
 use fetch_runs::{Visit as OneVisit, run_sessions};
 use fetch_session::{Report, pretend, session};
 use local_fetch::fetch_local;
 use mail_store::{FlatFile, MemoryFile};
 use pop3_server::{MemoryDrop, Server};
-use pop3_wire::ScriptWire;
+use pop3_wire::{FusedWire, ScriptWire};
 use std::alloc::Global;
 use std::test::Fail;
 use test_support::maildrop_of;
 
+/// The link of a session over written replies.
+type Link = FusedWire<ScriptWire>;
+
 /// Runs a session.
-fn run_one(rt: &HostRuntime, account: &mut Fred, wire: &mut ScriptWire) -> Report {
+fn run_one(rt: &HostRuntime, account: &mut Fred, wire: &mut Link) -> Report {
     begin(rt);
     let report = session(account, wire, 0);
     end(rt);
@@ -71,6 +74,12 @@ fn visit_twice(rt: &HostRuntime, kept: Kept, options: &str, replies: &[&str]) ->
     complete(rt, kept, options)
 }
 
+#[test]
+fn fresh_row(rt: HostRuntime) -> Result<(), Fail> {
+    let kept = nothing_kept(rt.alloc());
+    visit_twice(&rt, kept, "", &[LISTED, ONE, TWO, THREE, "+OK|"])
+}
+
 /// What is kept after a session over the first message alone.
 fn first_kept(rt: &HostRuntime) -> Result<Kept, Fail> {
     let kept = nothing_kept(rt.alloc());
@@ -93,12 +102,38 @@ fn read_all_row(rt: HostRuntime) -> Result<(), Fail> {
 }
 
 #[test]
+fn delete_row(rt: HostRuntime) -> Result<(), Fail> {
+    let kept = nothing_kept(rt.alloc());
+    let replies = [LISTED, ONE, "+OK|", TWO, "+OK|", THREE, "+OK|", "+OK|"];
+    visit_twice(&rt, kept, "delete = true", &replies)
+}
+
+#[test]
+fn delete_then_cut_row(rt: HostRuntime) -> Result<(), Fail> {
+    let kept = nothing_kept(rt.alloc());
+    let replies = [LISTED, ONE, "+OK|", TWO, "+OK|"];
+    visit_twice(&rt, kept, "delete = true", &replies)
+}
+
+#[test]
+fn cut_in_second_row(rt: HostRuntime) -> Result<(), Fail> {
+    let kept = nothing_kept(rt.alloc());
+    visit_twice(&rt, kept, "", &[LISTED, ONE, "+OK|tw"])
+}
+
+#[test]
 fn record_append_refused_row(rt: HostRuntime) -> Result<(), Fail> {
     let mut visit = Visit::new(rt.alloc(), "", 0, &[LISTED, ONE, "+OK|+OK|"])?;
     visit.record.passes = 3;
     visit.record.takes_effect = true;
     let kept = visit_once(&rt, nothing_kept(rt.alloc()), &visit)?;
     complete(&rt, kept, "")
+}
+
+#[test]
+fn refused_pass_row(rt: HostRuntime) -> Result<(), Fail> {
+    let kept = nothing_kept(rt.alloc());
+    visit_twice(&rt, kept, "", &["+OK|+OK|-ERR no|+OK|"])
 }
 
 /// Prints what an account with an mboxrd file keeps.
@@ -118,7 +153,7 @@ fn append_twice(
     let alloc = rt.alloc();
     let visit = Visit::new(alloc, "", 0, replies)?;
     let mut wire = visit.link(alloc, 4096)?;
-    let mut account = mbox_account(alloc, files)?;
+    let mut account = mbox_account(alloc, files, (SOUND, SOUND))?;
     let report = run_one(rt, &mut account, &mut wire);
     let files = files_of(alloc, account);
     tell_report(rt, &report);
@@ -140,6 +175,12 @@ fn files_with(alloc: Global, mbox: &[u8], record: &[u8]) -> Result<Files, Fail> 
         mbox: file_of(alloc, mbox)?,
         record: file_of(alloc, record)?,
     })
+}
+
+#[test]
+fn mbox_row(rt: HostRuntime) -> Result<(), Fail> {
+    let files = files_with(rt.alloc(), b"", b"")?;
+    append_twice(&rt, files, &[LISTED, ONE, TWO, THREE, "+OK|"], &MESSAGES)
 }
 
 /// A record whose first message was about to be appended, in an entry of 49 bytes.
@@ -165,6 +206,12 @@ const QUOTED: [(&str, &str); 1] = [("a", "From x\n>From y\n From z\n")];
 const QUOTED_REPLIES: [&str; 3] = [A_LISTED, "+OK|From x|>From y| From z|.|", "+OK|"];
 
 #[test]
+fn mbox_quoting_row(rt: HostRuntime) -> Result<(), Fail> {
+    let files = files_with(rt.alloc(), b"", b"")?;
+    append_twice(&rt, files, &QUOTED_REPLIES, &QUOTED)
+}
+
+#[test]
 fn mbox_quoting_cut_row(rt: HostRuntime) -> Result<(), Fail> {
     let front = b"From MAILER-DAEMON Thu Jan  1 00:00";
     let files = files_with(rt.alloc(), front, b"getmail-seen 2\na 0 0\n! a 0 70\n")?;
@@ -172,7 +219,7 @@ fn mbox_quoting_cut_row(rt: HostRuntime) -> Result<(), Fail> {
 }
 
 /// Prints what a session would do.
-fn pretend_one(rt: &HostRuntime, account: &mut Fred, wire: &mut ScriptWire) {
+fn pretend_one(rt: &HostRuntime, account: &mut Fred, wire: &mut Link) {
     begin(rt);
     let preview = pretend(account, wire, 0);
     end(rt);
@@ -187,7 +234,7 @@ fn pretend_mbox(rt: &HostRuntime, files: Files, replies: &[&str]) -> Result<File
     let alloc = rt.alloc();
     let visit = Visit::new(alloc, "", 0, replies)?;
     let mut wire = visit.link(alloc, 4096)?;
-    let mut account = mbox_account(alloc, files)?;
+    let mut account = mbox_account(alloc, files, (SOUND, SOUND))?;
     pretend_one(rt, &mut account, &mut wire);
     let files = files_of(alloc, account);
     tell_files(rt, &files);
@@ -204,7 +251,7 @@ fn pretend_mbox_row(rt: HostRuntime) -> Result<(), Fail> {
 }
 
 /// Runs two sessions by one call.
-fn run_both(rt: &HostRuntime, account: &mut Fred, first: ScriptWire, second: ScriptWire) {
+fn run_both(rt: &HostRuntime, account: &mut Fred, first: Link, second: Link) {
     let mut visits = [
         OneVisit {
             wire: first,
@@ -273,9 +320,17 @@ fn fetch_local_row(rt: HostRuntime) -> Result<(), Fail> {
 fn append_all(rt: &HostRuntime, files: Files, messages: &[(&str, &str)]) -> Result<Files, Fail> {
     let alloc = rt.alloc();
     let maildrop = maildrop_of(rt, messages)?;
-    let mut account = mbox_account(alloc, files)?;
+    let mut account = mbox_account(alloc, files, (SOUND, SOUND))?;
     fetch_one(rt, &mut account, maildrop);
     let files = files_of(alloc, account);
     tell_files(rt, &files);
     Ok(files)
+}
+
+#[test]
+fn fetch_local_mbox_row(rt: HostRuntime) -> Result<(), Fail> {
+    let files = files_with(rt.alloc(), b"", b"")?;
+    let files = append_all(&rt, files, &MESSAGES)?;
+    append_all(&rt, files, &MESSAGES)?;
+    Ok(())
 }

@@ -1,7 +1,8 @@
 //! Bodies and links.
 
 use crate::no_memory_tests::watched::{begin, end, tell, tell_bytes, tell_no_memory};
-use pop3_wire::{WireFault, stuff, unstuff};
+use pop3_wire::{EndlessWire, Wire, WireFault, stuff, unstuff};
+use std::test::Fail;
 
 /// Prints what a call answered.
 fn tell_wire(rt: &HostRuntime, answer: Result<Vec<u8>, WireFault>) {
@@ -40,4 +41,25 @@ fn unstuff_body(rt: &HostRuntime) {
 fn unstuff_row(rt: HostRuntime) {
     unstuff_body(&rt);
     unstuff_body(&rt);
+}
+
+fn send_to_endless(rt: &HostRuntime, wire: &mut EndlessWire) -> bool {
+    begin(rt);
+    let answer = wire.send(b"QUIT\r\n");
+    end(rt);
+    tell(rt, if answer.is_ok() { "sent" } else { "refused" });
+    tell_bytes(rt, wire.sent());
+    answer.is_ok()
+}
+
+#[test]
+fn endless_wire_row(rt: HostRuntime) -> Result<(), Fail> {
+    let alloc = rt.alloc();
+    let pattern = Vec::from_slice(alloc, b"a")?;
+    let mut wire = EndlessWire::new(alloc, Vec::new(alloc), pattern);
+    tell_bytes(&rt, wire.sent());
+    if !send_to_endless(&rt, &mut wire) {
+        send_to_endless(&rt, &mut wire);
+    }
+    Ok(())
 }

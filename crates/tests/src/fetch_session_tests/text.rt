@@ -1,0 +1,51 @@
+//! Texts that are stored, and the lines of faults.
+
+use crate::fetch_session_tests::visit::{A_LISTED, Visit, expect};
+use fetch_session::{Fault, Outcome, fault_number, fault_text};
+use pop3_client::Asked;
+use std::test::Fail;
+
+#[test]
+fn stores_texts_line_by_line(rt: HostRuntime) -> Result<(), Fail> {
+    let rows = [
+        ("+OK|.|", " 0 s0 d0 - a= "),
+        ("+OK|..|.|", " 2 s0 d0 - a=./ "),
+        ("+OK|Subject: a||..x|.|", " 15 s0 d0 - a=Subject: a//.x/ "),
+        // a CR before the line's end stays, and a lone LF ends no line of the reply
+        ("+OK|a\r|.|", " 3 s0 d0 - a=a| "),
+        ("+OK|a\n.\nb|.|", " 6 s0 d0 - a=a/./b/ "),
+    ];
+    for (reply, stored) in rows {
+        let wanted = format!(in rt.alloc();
+            "P|RETR 1|QUIT| Ended 1/1{stored}- - \
+            getmail-seen 2/a 0 0/+ 1/a 0 1/"
+        )?;
+        expect(
+            &rt,
+            &[(
+                Visit::new(rt.alloc(), "", 0, &[A_LISTED, reply, "+OK bye|"])?,
+                wanted.as_str(),
+            )],
+        )?;
+    }
+    Ok(())
+}
+
+#[test]
+fn tells_faults(rt: HostRuntime) -> Result<(), Fail> {
+    let rows = [
+        (Fault::Refused(Asked::Retr(2)), 6, "server refused RETR 2"),
+        (Fault::Refused(Asked::Dele(3)), 6, "server refused DELE 3"),
+        (
+            Fault::Refused(Asked::Greeting),
+            6,
+            "server refused greeting",
+        ),
+        (Fault::BadSeen(7), 14, "seen file not understood at line 7"),
+    ];
+    for (fault, number, wanted) in rows {
+        assert_eq!(rt; fault_text(rt.alloc(), &fault)?.as_str(), wanted);
+        assert_eq!(rt; fault_number(&Outcome::Cut(fault)), number);
+    }
+    Ok(())
+}
