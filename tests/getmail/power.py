@@ -57,7 +57,7 @@ class Scene:
     is_first: bool = True
     is_killed: bool = False
     is_mboxrd: bool = False
-    block: int = power.PAGE
+    block: int = power.BLOCK
 
     def wanted(self):
         """What is fetched."""

@@ -17,7 +17,7 @@ import os
 from dataclasses import dataclass
 from pathlib import Path
 
-PAGE = 4096
+BLOCK = 512
 
 
 @dataclass(frozen=True)
@@ -129,7 +129,7 @@ class Watched:
             return []
         path = next((path for path, named in self.paths.items() if named == file), "")
         if word == "write":
-            return list(blocks_of(file, int(rest[1]), octets, self.blocks.get(path, PAGE)))
+            return list(blocks_of(file, int(rest[1]), octets, self.blocks.get(path, BLOCK)))
         if word == "length":
             return [Length(file, int(rest[1]))]
         return [Flush(file, path)]

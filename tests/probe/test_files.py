@@ -59,16 +59,16 @@ class Files(unittest.TestCase):
         self.assertEqual((run.status, run.err), (0, b""))
         self.assertEqual(stat.S_IMODE(self.file.stat().st_mode), 0o600)
 
-    def append_pages(self, held, count, refused=None):
+    def append_blocks(self, held, count, refused=None):
         self.file.write_bytes(b"." * held)
-        return self.watcher.run(self.work, "pages", self.file, count, refused)
+        return self.watcher.run(self.work, "blocks", self.file, count, refused)
 
-    def test_an_append_by_pages_is_flushed_at_each_border(self):
+    def test_an_append_by_blocks_is_flushed_at_each_border(self):
         """After the flush of the file's content and of its name, as the program reads the file's ends first."""
-        for held, count, parts in ((100, 10_000, [3_996, 4_096, 1_908]), (4_000, 96, [96]), (4_000, 97, [96, 1]),
-                                   (4_096, 4_096, [4_096]), (0, 1, [1])):
+        for held, count, parts in ((100, 1_200, [412, 512, 276]), (500, 12, [12]), (500, 13, [12, 1]), (512, 512, [512]),
+                                   (0, 1, [1])):
             with self.subTest(held=held, count=count):
-                run, calls = self.append_pages(held, count)
+                run, calls = self.append_blocks(held, count)
                 self.assertEqual((run.status, run.err), (0, b""))
                 self.assertEqual(calls[:2], [("fsync", "done", "seen"), ("fsync", "done", str(self.work))])
                 calls = calls[2:]
@@ -79,16 +79,16 @@ class Files(unittest.TestCase):
                 self.assertEqual(calls, [])
                 self.assertEqual(self.file.read_bytes(), b"." * held + b"x" * count)
 
-    def test_no_page_is_written_after_a_refused_flush(self):
-        """The third flush is that of the first page."""
-        run, _ = self.append_pages(100, 10_000, 3)
+    def test_no_block_is_written_after_a_refused_flush(self):
+        """The third flush is that of the first block."""
+        run, _ = self.append_blocks(100, 10_000, 3)
         self.assertEqual(run.status, 1)
         self.assertIn(b"destination refused", run.err)
-        self.assertEqual(self.file.read_bytes(), b"." * 100 + b"x" * 3_996)
+        self.assertEqual(self.file.read_bytes(), b"." * 100 + b"x" * 412)
 
     def test_nothing_is_told_of_a_file_that_is_not_flushed(self):
         for refused in (1, 2):
-            run, calls = self.append_pages(100, 1, refused)
+            run, calls = self.append_blocks(100, 1, refused)
             self.assertEqual((run.status, len(calls)), (1, refused))
             self.assertIn(b"destination refused", run.err)
             self.assertEqual(self.file.read_bytes(), b"." * 100)

@@ -106,7 +106,7 @@ piece_done old mid new name bytes (Err fault) (b, at, e) flush =
       flush_refused old mid new name b (appended b bytes) at e (λ x y. MayBeFlushed (appended x bytes) y) (λ y may. may) fault flush,
     )
 
--- `append_pages`: the pieces one after another
+-- `append_blocks`: the pieces one after another
 appended_twice : (b : Blob) (xs ys : List ℕ) → flushed (appended (flushed (appended b xs)) ys) ≡ flushed (appended b (xs ++ ys))
 appended_twice b xs ys = by b.content b.flushed b.uncut b.is_doubted
   where

@@ -118,15 +118,16 @@ impl<'a, R: Files + Clock + AllocGlobal + Clone + Drop> HostFile<'a, HostFolder<
         )
     }
 
-    /// The file at a path, likewise. What is appended is flushed at each border of 4,096 octets of the
-    /// file before more is written, so that a loss of power leaves a front of it: for short texts.
-    pub fn by_pages(rt: &'a R, path: &'a str, mark: ProcessMark) -> HostFile<'a, HostFolder<'a, R>>
+    /// The file at a path, likewise. What is appended is flushed at each border of 512 octets of the
+    /// file before more is written, so that a loss of power leaves a front of it, and perhaps zeros behind
+    /// that: for short texts.
+    pub fn by_blocks(rt: &'a R, path: &'a str, mark: ProcessMark) -> HostFile<'a, HostFolder<'a, R>>
         ensures { ⟦<HostFile<'a, HostFolder<'a, R>> as FlatFile>⟧.stored result ≡ unknown_file }
     {
         HostFile::over(
             HostFolder::around(rt, path, mark, true),
             name_in(path),
-            Appending::ByPages,
+            Appending::ByBlocks,
         )
     }
 

@@ -9,16 +9,17 @@ ghost use Rattle.mail_store.specs.Power.{LeavesNoMore};
 use crate::device::FileFolder;
 use mail_store::StoreFault;
 
-/// How many octets of a file the system writes to the disk at once.
-const PAGE: usize = 4_096;
+/// How many octets of a file a disk writes at once, at least.
+const BLOCK: usize = 512;
 
 /// How an append goes to the disk.
 #[derive(Clone, Copy, PartialEq, Eq)]
 pub enum Appending {
-    /// With one flush. After a loss of power a later page may be there and an earlier one missing.
+    /// With one flush. After a loss of power a later block may be there and an earlier one missing.
     AtOnce,
-    /// Each page is flushed before the next is written, so that at any moment a front of it is there.
-    ByPages,
+    /// Each block is flushed before the next is written, so that at any moment a front of it is there, and
+    /// perhaps zeros behind it.
+    ByBlocks,
 }
 
 /// Flushes the file made, puts it under a name, and flushes the names.
@@ -40,18 +41,18 @@ fn append_flushed<F: FileFolder>(folder: &mut F, name: &str, bytes: &[u8]) -> Re
     folder.flush(name)
 }
 
-/// The same, but flushes at each border of 4,096 octets of the file before it writes more.
-fn append_pages<F: FileFolder>(folder: &mut F, name: &str, bytes: &[u8]) -> Result<(), StoreFault>
+/// The same, but flushes at each border of 512 octets of the file before it writes more.
+fn append_blocks<F: FileFolder>(folder: &mut F, name: &str, bytes: &[u8]) -> Result<(), StoreFault>
     ensures { F.sound folder.new → F.sound folder.old
         × AppendsFlushed (F.directory folder.old) name.now bytes.now result (F.directory folder.new) }
 {
     let size = folder.size(name)?;
-    let room = PAGE - (size % PAGE as u64) as usize;
+    let room = BLOCK - (size % BLOCK as u64) as usize;
     let (front, mut rest) = bytes.split_at(room.min(bytes.len()));
     append_flushed(folder, name, front)?;
     while !rest.is_empty() {
-        let (page, after) = rest.split_at(PAGE.min(rest.len()));
-        append_flushed(folder, name, page)?;
+        let (block, after) = rest.split_at(BLOCK.min(rest.len()));
+        append_flushed(folder, name, block)?;
         rest = after;
     }
     Ok(())
@@ -69,7 +70,7 @@ pub fn append_in<F: FileFolder>(
 {
     match appending {
         Appending::AtOnce => append_flushed(folder, name, bytes),
-        Appending::ByPages => append_pages(folder, name, bytes),
+        Appending::ByBlocks => append_blocks(folder, name, bytes),
     }
 }
 

@@ -71,7 +71,7 @@ fn account_at<'a, R: Files + Clock + AllocGlobal + Clone + Drop, H: BuildHasher>
 {
     let (hasher, mark) = drawn;
     let store = store_at(host, &settings.dest, paths, mark);
-    let record = HostFile::by_pages(host, paths.record.as_str(), mark);
+    let record = HostFile::by_blocks(host, paths.record.as_str(), mark);
     Account::new(host.alloc(), settings, store, record, hasher)
 }
 

@@ -14,7 +14,7 @@ use std::env;
 
 fn tell_usage(rt: &HostRuntime) -> Result<()> {
     println!(rt; "usage: probe client, or judge FILE, or session|read COUNT,")?;
-    println!(rt; "       or held|deliver|rewrite|append|pages|sweep|texts|quote PATH COUNT")?;
+    println!(rt; "       or held|deliver|rewrite|append|blocks|sweep|texts|quote PATH COUNT")?;
     Ok(())
 }
 
@@ -25,7 +25,7 @@ fn use_store(rt: &HostRuntime, call: &str, path: &str, count: u32) -> Result<()>
         "deliver" => stores::time_deliver(rt, path, count),
         "rewrite" => stores::rewrite(rt, path, count),
         "append" => mbox::append(rt, path, count),
-        "pages" => stores::append_pages(rt, path, count),
+        "blocks" => stores::append_blocks(rt, path, count),
         "sweep" => stores::sweep(rt, path),
         "texts" => mbox::time_texts(rt, path),
         "quote" => mbox::time_quote(rt, path),

@@ -97,9 +97,9 @@ fn append_once<F: FlatFile>(alloc: Global, file: &mut F, count: u32) -> Result<(
     Ok(file.append(&text)?)
 }
 
-/// Appends one text of `count` bytes to a file, page by page as to a record.
-pub fn append_pages(rt: &HostRuntime, path: &str, count: u32) -> Result<()> {
-    let mut file = HostFile::by_pages(rt, path, mark_of(rt)?);
+/// Appends one text of `count` bytes to a file, block by block as to a record.
+pub fn append_blocks(rt: &HostRuntime, path: &str, count: u32) -> Result<()> {
+    let mut file = HostFile::by_blocks(rt, path, mark_of(rt)?);
     append_once(rt.alloc(), &mut file, count)?;
     println!(rt; "{count}")?;
     Ok(())
@@ -108,7 +108,7 @@ pub fn append_pages(rt: &HostRuntime, path: &str, count: u32) -> Result<()> {
 /// Removes what killed runs left beside the record of a Maildir.
 fn sweep_record(rt: &HostRuntime, path: &str, mark: ProcessMark) -> Result<()> {
     let record = format!(in rt.alloc(); "{path}/seen")?;
-    HostFile::by_pages(rt, record.as_str(), mark).sweep();
+    HostFile::by_blocks(rt, record.as_str(), mark).sweep();
     Ok(())
 }
 

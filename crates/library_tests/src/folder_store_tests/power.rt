@@ -68,7 +68,7 @@ fn names_are_told_until_their_files_are_taken_away(rt: HostRuntime) -> Result<()
 
 #[test]
 fn a_file_outlives_a_loss_of_power(rt: HostRuntime) -> Result<(), Fail> {
-    for appending in [Appending::AtOnce, Appending::ByPages] {
+    for appending in [Appending::AtOnce, Appending::ByBlocks] {
         for left in WAYS {
             let mut file = HostFile::over(MemoryFolder::new(rt.alloc()), "kept", appending);
             file.replace(b"abc")?;

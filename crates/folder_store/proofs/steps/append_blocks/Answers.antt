@@ -4,7 +4,7 @@ use Rattle.mail_store.specs.declared.fault.StoreFault.{StoreFault}
 use Rattle.folder_store.specs.FileFolder.{Directory}
 use Rattle.folder_store.specs.HostFile.{AppendsPiece, AppendsFlushed}
 use Rattle.folder_store.proofs.Files.{first_refused, later_refused, later_done, in_parts}
-use Rattle.folder_store.proofs.steps.append_pages.Goals as goal
+use Rattle.folder_store.proofs.steps.append_blocks.Goals as goal
 
 pub returns-in_err-append_flushed : goal.returns-in_err-append_flushed
 returns-in_err-append_flushed g c = λ s.

@@ -1,6 +1,6 @@
 use Rattle.std.proofs.Common.{◌≡◌, ◌++◌, ℕ, List, length}
 use Rattle.folder_store.specs.HostFile.{Becomes, IsAppended}
-use Rattle.folder_store.proofs.steps.append_pages.Given as goal
+use Rattle.folder_store.proofs.steps.append_blocks.Given as goal
 
 abbrev pub invariant-loop-rest : goal.invariant-loop-rest
 invariant-loop-rest g l =
