@@ -5,7 +5,7 @@ use Rattle.std.proofs.lemmas.Grind.{flat_map-append}
 use Rattle.std.specs.List.{flat_map, AllZip}
 use Rattle.pop3_wire.specs.Reading.{WholeReply, reply_bytes}
 use Rattle.pop3_wire.specs.Place.{Place}
-use Rattle.pop3_client.specs.Turns.{Turn, turn_bytes, asking, IsGood, most}
+use Rattle.pop3_client.specs.Turns.{Turn, turn_bytes, asking, IsGood}
 use Rattle.pop3_client.specs.Conversation.{Talked, most_of, IsFrontOfNext, Paced, ConversationsArePaced}
 use Rattle.pop3_client.proofs.MostLemmas.{reply_within}
 use Rattle.pop3_client.proofs.TalkLemmas.{append_on}

@@ -1,5 +1,5 @@
 -- How the parts of a turn make a turn, and turns make a conversation.
-use Rattle.std.proofs.Common.{◌≡◌, inl, inr, ◌<◌, ◌≤◌, ◌+◌, ℕ, false, List, [], ◌∷◌, ◌++◌, length, take, drop, min, None, Some, Result, Ok, Err, refl, sym, ap, subst, ◌∙◌, arith, append_assoc, length-append, codes}
+use Rattle.std.proofs.Common.{◌≡◌, inl, inr, ◌<◌, ◌≤◌, ◌+◌, ℕ, false, List, [], ◌∷◌, ◌++◌, length, take, drop, None, Some, Result, Ok, Err, refl, sym, ap, subst, ◌∙◌, arith, append_assoc, length-append, codes}
 use Rattle.std.proofs.lemmas.Bool.{false≢true}
 use Rattle.std.proofs.lemmas.List.{append-nil, take_all, length-take}
 use Rattle.std.specs.List.{flat_map, AllZip}
@@ -17,7 +17,7 @@ use Rattle.pop3_wire.specs.Place.{Place, at, GoesOn, Gains, HasLine, HasNoLine}
 use Rattle.pop3_client.specs.declared.fault.Asked.{Asked}
 use Rattle.pop3_client.specs.declared.fault.ClientFault.{ClientFault}
 use Rattle.pop3_client.specs.declared.fault.ClientFault.TheVariants.{ConnectionEnded, ReadFailed, WriteFailed, ReplyTooLong, BadReply, Refused, ListingsDisagree, TooMany}
-use Rattle.pop3_client.specs.Turns.{Turn, turn_bytes, asking, Names, stat, uidl, list, rset, quit, gives_count, Fits, IsBody, IsGood, line_limit, IsShort, most}
+use Rattle.pop3_client.specs.Turns.{Turn, turn_bytes, Names, stat, gives_count, Fits, IsBody, IsGood, line_limit, IsShort, most}
 use Rattle.pop3_client.specs.Causes.{Cause, BeginsPositive, FirstLine}
 use Rattle.pop3_client.specs.Conversation.{Opened, Talked, NoLineCause, TakesRefusal, Heard, Broke, NotAnswered, Stopped, Sent, GivesFew, AsksTurn, Completes, Talks}
 use Rattle.pop3_client.proofs.MostLemmas.{most_least}

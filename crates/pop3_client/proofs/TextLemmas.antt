@@ -1,8 +1,8 @@
 -- A text that is being taken, and its reply.
-use Rattle.std.proofs.Common.{◌≡◌, inr, ◌<◌, ◌≤◌, ◌+◌, ℕ, List, ◌++◌, length, Some, Ok, refl, sym, ap, subst, ◌∙◌, arith}
+use Rattle.std.proofs.Common.{◌≡◌, inr, ℕ, List, ◌++◌, length, Some, Ok, refl, sym, ap, subst, ◌∙◌, arith}
 use Rattle.std.proofs.lemmas.List.{append_cancel_left}
 use Rattle.pop3_wire.specs.Line.{ended}
-use Rattle.pop3_wire.specs.Body.{Body, body_of}
+use Rattle.pop3_wire.specs.Body.{Body}
 use Rattle.pop3_wire.specs.Place.{Place}
 use Rattle.pop3_wire.specs.Bodies.{Rest, LeavesRest, Drew, BodyCause}
 use Rattle.pop3_wire.specs.Unstuffing.{Reaches}

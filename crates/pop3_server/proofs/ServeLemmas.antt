@@ -11,10 +11,9 @@ use Rattle.pop3_wire.specs.Link.{Link}
 use Rattle.pop3_wire.specs.Place.{HasLine}
 use Rattle.pop3_server.specs.declared.fault.ServerFault.{ServerFault}
 use Rattle.pop3_server.specs.declared.fault.ServerFault.TheVariants.{ReadFailed, WriteFailed, MaildropFailed, NoMemory}
-use Rattle.pop3_server.specs.declared.state.State.{State}
 use Rattle.pop3_server.specs.declared.text_part.TextBody.{TextBody}
 use Rattle.pop3_server.specs.Maildrop.{Mail}
-use Rattle.pop3_server.specs.ServerMachine.{Machine, Action, Say, Open, Give, Leave, Answers, greeting, said, is_open}
+use Rattle.pop3_server.specs.ServerMachine.{Machine, greeting, said, is_open}
 use Rattle.pop3_server.specs.LoopLaws.{runs_on}
 use Rattle.pop3_server.specs.AnswersLines.{AnswersLines, AnswersLine, MakesAnswer, SameServer}
 use Rattle.pop3_server.specs.Got.{Waiting}

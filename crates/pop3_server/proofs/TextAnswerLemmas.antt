@@ -4,14 +4,12 @@ use Rattle.std.proofs.Math.Seq.{take-add}
 use Rattle.std.proofs.lemmas.List.{append-nil, append_cancel_left, drop_all}
 use Rattle.mail_terms.specs.FailureCount.{Tallies}
 use Rattle.pop3_wire.specs.World.{Message}
-use Rattle.pop3_server.specs.declared.maildrop.DropFault.{DropFault}
-use Rattle.pop3_server.specs.declared.maildrop.DropFault.TheVariants.{Refused, NoMemory}
 use Rattle.pop3_server.specs.declared.rows.MessageRow.{MessageRow}
 use Rattle.pop3_server.specs.declared.state.State.{State}
 use Rattle.pop3_server.specs.declared.state.State.TheVariants.{Authorization, Transaction, Closed}
 use Rattle.pop3_server.specs.declared.text_part.TextBody.{TextBody}
-use Rattle.pop3_server.specs.Maildrop.{Denies, GivesPart, HasPlace, Mail, is_refusal, there}
-use Rattle.pop3_server.specs.ServerMachine.{Answers, Action, Give, Tied, Unanswered, text_body}
+use Rattle.pop3_server.specs.Maildrop.{GivesPart, HasPlace, Mail, there}
+use Rattle.pop3_server.specs.ServerMachine.{Answers, Action, Give, Tied, text_body}
 use Rattle.pop3_server.specs.TextAnswer.{BeginsAnswer, BeginsTextAt, OnlyReads, after_call}
 use Rattle.pop3_server.specs.TextBody.{belonging, still}
 use Rattle.pop3_server.specs.TextPiece.{is_open_after, sent_end, sent_piece}

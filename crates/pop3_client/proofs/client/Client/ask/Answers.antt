@@ -1,7 +1,5 @@
-use Rattle.std.proofs.Common.{List, ℕ, Err, take, sym, subst}
-use Rattle.pop3_wire.specs.Place.{at}
+use Rattle.std.proofs.Common.{take}
 use Rattle.pop3_client.specs.Client.{place_of}
-use Rattle.pop3_client.specs.Conversation.{Opened, Sent}
 use Rattle.pop3_client.proofs.ClientLemmas.{in_words, and_then}
 use Rattle.pop3_client.proofs.TalkLemmas.{sent_for, opened, fits_other, broke_saying, broke_there}
 use Rattle.pop3_client.proofs.client.Client.ask.Goals as goal

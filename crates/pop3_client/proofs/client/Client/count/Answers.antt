@@ -1,10 +1,8 @@
-use Rattle.std.proofs.Common.{List, ℕ, take, sym, subst, refl, None, Ok, Err}
-use Rattle.pop3_wire.specs.Reply.{IsFirstLine}
-use Rattle.pop3_wire.specs.declared.reply.Status.TheVariants.{Positive}
+use Rattle.std.proofs.Common.{List, ℕ, take, subst, refl, None, Err}
 use Rattle.pop3_wire.specs.Place.{at}
 use Rattle.pop3_client.specs.Client.{place_of}
 use Rattle.pop3_client.specs.Turns.{stat}
-use Rattle.pop3_client.specs.Conversation.{Opened, Sent, GivesFew}
+use Rattle.pop3_client.specs.Conversation.{GivesFew}
 use Rattle.pop3_client.proofs.ClientLemmas.{in_words, and_then}
 use Rattle.pop3_client.proofs.TalkLemmas.{stat_bytes, sent_for, opened, broke_saying, broke_there, few_heard, talked_line}
 use Rattle.pop3_client.proofs.client.Client.count.Goals as goal

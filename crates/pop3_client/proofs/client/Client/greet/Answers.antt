@@ -1,8 +1,6 @@
-use Rattle.std.proofs.Common.{take, sym, subst, refl, List, ℕ}
-use Rattle.pop3_wire.specs.Place.{at}
+use Rattle.std.proofs.Common.{take, refl}
 use Rattle.pop3_client.specs.Client.{place_of}
 use Rattle.pop3_client.specs.Turns.{greeting}
-use Rattle.pop3_client.specs.Conversation.{Opened}
 use Rattle.pop3_client.proofs.ClientLemmas.{in_words}
 use Rattle.pop3_client.proofs.TalkLemmas.{opened, fits_other, broke_there, nothing_said}
 use Rattle.pop3_client.proofs.client.Client.greet.Goals as goal

@@ -1,11 +1,4 @@
-use Rattle.std.proofs.Common.{List, ℕ, take, sym, subst, Err}
-use Rattle.pop3_wire.specs.Place.{at}
-use Rattle.pop3_wire.specs.Reply.{IsFirstLine}
-use Rattle.pop3_wire.specs.declared.reply.Status.{Status}
-use Rattle.pop3_wire.specs.declared.reply.Status.TheVariants.{Positive, Negative}
-use Rattle.pop3_client.specs.declared.fault.ClientFault.TheVariants.{Refused}
 use Rattle.pop3_client.specs.Client.{place_of}
-use Rattle.pop3_client.specs.Conversation.{Heard}
 use Rattle.pop3_client.proofs.ClientLemmas.{in_words}
 use Rattle.pop3_client.proofs.TalkLemmas.{heard_none, heard_refused, heard_bad}
 use Rattle.pop3_client.proofs.client.Client.hear.Goals as goal
