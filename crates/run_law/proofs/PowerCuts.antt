@@ -1,5 +1,5 @@
 -- After a session that was cut behind a text that it stored and didn't record, a loss of power may leave the files before that.
-use Rattle.std.proofs.Common.{◌≡◌, ◌⊎◌, inl, inr, ℕ, zero, suc, List, [], ◌∷◌, ◌++◌, Bool, true, false, not, cond, take, refl, sym, ◌∙◌, ap, subst, append_assoc, arith}
+use Rattle.std.proofs.Common.{◌≡◌, ◌⊎◌, ◌≤◌, ◌+◌, inl, inr, ℕ, zero, suc, List, [], ◌∷◌, ◌++◌, Bool, true, false, not, cond, take, refl, sym, ◌∙◌, ap, subst, append_assoc, arith}
 use Rattle.std.specs.Prelude.{bytes_eq}
 use Rattle.std.specs.List.{filter, AllByRecursion}
 use Rattle.std.proofs.lemmas.Bool.{both_ways, cases_Bool, false_from_ne_true, or_cases, or_from, or_parts, true≢false}
@@ -12,7 +12,7 @@ use Rattle.fetch_rules.specs.Record.{is_delivered}
 use Rattle.mail_store.specs.FileName.{is_held, stem_of}
 use Rattle.run_law.specs.Accounts.{Account, files, copies}
 use Rattle.run_law.specs.Mails.{ids_of, selected, texts_of, messages_after}
-use Rattle.run_law.specs.Power.{FirstMayBeLeft, LeavesFirst}
+use Rattle.run_law.specs.Power.{FirstMayBeLeft, LeavesFirst, UncountedMayBeLost}
 use Rattle.run_law.specs.Runs.{Frame, IsFrame, Situation, Visit, Visited, IsNeither, IsLastStored, Kept, after_event, shown}
 use Rattle.run_law.specs.Steps.{IsHonest, Stores, wanted_at, ids_wanted}
 use Rattle.run_law.proofs.Below.{Below}
@@ -247,3 +247,35 @@ module _ (laws : Below) (frame : Frame) (is : IsFrame frame) (before : Situation
 
 pub first_may_be_left : Below → FirstMayBeLeft
 first_may_be_left laws frame before v n left is kept h = record { mail = is_left laws frame is before v kept n left h; delivered = λ id e. inl (h.delivered id e) }
+
+-- ---- a session given by its numbers
+
+pub uncounted_may_be_lost : FirstMayBeLeft → UncountedMayBeLost
+uncounted_may_be_lost law frame before v left is kept same honest vanished told more came files delivered = law frame before v told.k left is kept (record {
+  same = same;
+  stores = record {
+    stored = told.k + 1;
+    recorded = told.j;
+    order = let l = fewer_marks in omega (arith, l);
+    fetched = omega (arith, more);
+    came = came;
+    rows = elim told.rows [
+      | inl marked ↦ inr marked
+      | inr old ↦ inl old
+    ];
+    begun = told.begun;
+    ended = λ e. let all = told.ended e in omega (arith, all);
+  };
+  honest = honest;
+  vanished = vanished;
+  stored = refl;
+  recorded = fewer_marks;
+  files = files;
+  delivered = delivered;
+})
+  where
+    fewer_marks : told.j ≤ told.k
+    fewer_marks = elim told.marks [
+      | inl e ↦ omega (arith, e)
+      | inr e ↦ omega (arith, e)
+    ]

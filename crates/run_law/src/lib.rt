@@ -2,7 +2,7 @@
 #![tactic(auto)]
 
 ghost use Rattle.run_law.specs.Mails.{WorldsShrink};
-ghost use Rattle.run_law.specs.Power.{AllMayBeLeft, FirstMayBeLeft};
+ghost use Rattle.run_law.specs.Power.{AllMayBeLeft, FirstMayBeLeft, UncountedMayBeLost};
 ghost use Rattle.run_law.specs.Runs.{CanEnd, KeptHoldsWhatIsLeft, KeptStaysKept};
 ghost use Rattle.run_law.specs.Runs.{NothingTakenHoldsExactly, StartsKept, WantsNext};
 ghost use Rattle.run_law.specs.Readings.{HonestIsGranted, ListingIsMaildrop, MarksAreAsked, TextsAreMessages};
@@ -68,6 +68,14 @@ pub fn first_may_be_left()
     held_is_delivered();
     flags_tell_what_is_held();
     marked_is_delivered();
+}
+
+/// So it is with a session given by its numbers that stored one text more than it counts.
+#[tactic(auto, using(crate::proofs::PowerCuts::uncounted_may_be_lost))]
+pub fn uncounted_may_be_lost()
+    ensures { UncountedMayBeLost }
+{
+    first_may_be_left();
 }
 
 /// A kept state holds exactly the first of the selected messages, each once, except for those
