@@ -220,7 +220,12 @@ fn recorded_fate<H: BuildHasher>(
     ensures { HoldsAt (λ item. result ≡ fate_of terms.entry.settings.now step
         (known_of seen.now.rows terms.entry.now false item) fetched) listing.now i }
 {
-    let known = known_of(seen, listing, false, terms.now, i);
+    let known = Known {
+        size: listing.size(i),
+        held: false,
+        delivered: seen.is_delivered(listing.uid(i)),
+        since: terms.now,
+    };
     fate_of(terms.settings, step, known, fetched)
 }
 
