@@ -230,7 +230,7 @@ fn recorded_fate<H: BuildHasher>(
 }
 
 /// How many messages that aren't known these steps leave out, by their reasons.
-fn left_out<H: BuildHasher>(
+fn count_left_out<H: BuildHasher>(
     terms: Terms<'_>,
     seen: &Seen<H>,
     listing: &Listing,
@@ -248,6 +248,24 @@ fn left_out<H: BuildHasher>(
         fetched += u64::from(step.retrieve);
     }
     left
+}
+
+/// How many messages that aren't known these steps leave out, by their reasons. If all are known, they
+/// aren't looked up one by one.
+fn left_out<H: BuildHasher>(
+    terms: Terms<'_>,
+    seen: &Seen<H>,
+    listing: &Listing,
+    steps: &[Step],
+) -> LeftOut
+    requires { length steps.now ≡ length listing.now }
+    ensures { result ≡ left_out_of (prospects terms.entry.settings.now seen.now.rows terms.entry.now 0 steps.now listing.now
+        (none_held listing.now)) }
+{
+    if terms.settings.read_all || !seen.knows(listing) {
+        return count_left_out(terms, seen, listing, steps);
+    }
+    none_skipped().left_out
 }
 
 /// What these steps pass over, by the record once the listing is merged into it.
