@@ -1,11 +1,12 @@
 -- What a preview says of a listing, message by message.
+use Rattle.std.specs.Prelude.{All, ◌&&◌, if◌then◌else◌}
 use Rattle.std.proofs.Common.{◌≡◌, ◌<◌, ◌≤◌, ◌+◌, ℕ, suc, Bool, true, false, List, [], ◌∷◌, ◌++◌, append_assoc, append-nil, drop, get_or, length, cond, add-one, refl, sym, ap, ap₂, ◌∙◌, arith}
 use Rattle.std.proofs.lemmas.List.{drop_all, get_or-map, length-map}
 use Rattle.std.proofs.lemmas.List.Sums.{sum_by-append}
 use Rattle.std.proofs.Math.Seq.{drop-cons}
 use Rattle.mail_terms.specs.Listing.{Item}
 use Rattle.rc_file.specs.declared.settings.Settings.{Settings}
-use Rattle.fetch_rules.specs.Record.{Row}
+use Rattle.fetch_rules.specs.Record.{Row, is_delivered}
 use Rattle.fetch_rules.specs.declared.steps.Step.{Step}
 use Rattle.fetch_session.specs.declared.prospect.Known.{Known}
 use Rattle.fetch_session.specs.declared.prospect.Prospect.{Prospect}
@@ -14,7 +15,7 @@ use Rattle.fetch_session.proofs.FreshLemmas.{no_item, step_at}
 use Rattle.fetch_session.specs.declared.prospect.Fate.{Fate}
 use Rattle.fetch_session.specs.declared.prospect.Fate.TheVariants.{Fetched, FetchedAndDeleted, Deleted, Held, DeliveredBefore, TooLarge, PastLimit, SameId}
 use Rattle.fetch_session.specs.declared.report.LeftOut.{LeftOut}
-use Rattle.fetch_session.specs.Prospect.{fate_of, known_of, prospect_of, prospects}
+use Rattle.fetch_session.specs.Prospect.{fate_of, fetched_by, known_of, prospect_of, prospects}
 use Rattle.fetch_session.specs.Report.{count_fates, is_for_id, is_for_limit, is_for_size, left_out_of, with_fate}
 use Rattle.fetch_session.specs.Target.{none_held}
 
@@ -137,3 +138,25 @@ module _ (settings : Settings) (rows : List Row) (now : ℕ) where
   pub counted_all : (steps : List Step) (items : List Item) (i : ℕ) (left : LeftOut) (fetched : ℕ) → IsCounted steps items i left fetched → length steps ≤ i
       → left ≡ left_out_of (prospects settings rows now 0 steps items (none_held items))
   counted_all steps items i left fetched was past = was.counts ∙ ap left_out_of (told_all steps items (none_held items) i was.told fetched was.is_told past)
+
+-- what is known is counted nowhere
+uncounted : (told : List Prospect) (p : Prospect) (retrieve delete : Bool)
+    → p.fate ≡ (if retrieve && delete then FetchedAndDeleted else if retrieve then Fetched else if delete then Deleted else DeliveredBefore)
+    → left_out_of (p ∷ told) ≡ left_out_of told
+uncounted told p true true is = rw is refl
+uncounted told p true false is = rw is refl
+uncounted told p false true is = rw is refl
+uncounted told p false false is = rw is refl
+
+known_fate : (settings : Settings) (step : Step) (known : Known) (fetched : ℕ) → settings.read_all ≡ false → known.held ≡ false → known.delivered ≡ true
+    → fate_of settings step known fetched
+    ≡ (if step.retrieve && step.delete then FetchedAndDeleted else if step.retrieve then Fetched else if step.delete then Deleted else DeliveredBefore)
+known_fate settings step known fetched new unheld is = rw (new, unheld, is) refl
+
+pub none_left : (settings : Settings) (rows : List Row) (now fetched : ℕ) (steps : List Step) (items : List Item) → settings.read_all ≡ false
+    → All (λ (item : Item). is_delivered rows item.uid ≡ true) items → left_out_of (prospects settings rows now fetched steps items (none_held items)) ≡ left_out_of []
+none_left settings rows now fetched [] items new all = refl
+none_left settings rows now fetched (s ∷ ss) [] new all = refl
+none_left settings rows now fetched (s ∷ ss) (i ∷ is) new all =
+    uncounted (prospects settings rows now (fetched + fetched_by s) ss is (none_held is)) (prospect_of settings now fetched s (known_of rows now false i)) s.retrieve s.delete (known_fate settings s (known_of rows now false i) fetched new refl (all 0 i (omega arith)))
+    ∙ none_left settings rows now (fetched + fetched_by s) ss is new (λ k d inside. all (suc k) d (omega (arith, inside)))

@@ -220,12 +220,17 @@ fn recorded_fate<H: BuildHasher>(
     ensures { HoldsAt (λ item. result ≡ fate_of terms.entry.settings.now step
         (known_of seen.now.rows terms.entry.now false item) fetched) listing.now i }
 {
-    let known = known_of(seen, listing, false, terms.now, i);
+    let known = Known {
+        size: listing.size(i),
+        held: false,
+        delivered: seen.is_delivered(listing.uid(i)),
+        since: terms.now,
+    };
     fate_of(terms.settings, step, known, fetched)
 }
 
 /// How many messages that aren't known these steps leave out, by their reasons.
-fn left_out<H: BuildHasher>(
+fn count_left_out<H: BuildHasher>(
     terms: Terms<'_>,
     seen: &Seen<H>,
     listing: &Listing,
@@ -243,6 +248,24 @@ fn left_out<H: BuildHasher>(
         fetched += u64::from(step.retrieve);
     }
     left
+}
+
+/// How many messages that aren't known these steps leave out, by their reasons. If all are known, they
+/// aren't looked up one by one.
+fn left_out<H: BuildHasher>(
+    terms: Terms<'_>,
+    seen: &Seen<H>,
+    listing: &Listing,
+    steps: &[Step],
+) -> LeftOut
+    requires { length steps.now ≡ length listing.now }
+    ensures { result ≡ left_out_of (prospects terms.entry.settings.now seen.now.rows terms.entry.now 0 steps.now listing.now
+        (none_held listing.now)) }
+{
+    if terms.settings.read_all || !seen.knows(listing) {
+        return count_left_out(terms, seen, listing, steps);
+    }
+    none_skipped().left_out
 }
 
 /// What these steps pass over, by the record once the listing is merged into it.

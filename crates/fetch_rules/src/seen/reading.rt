@@ -14,6 +14,7 @@ use crate::seen::SeenFault;
 use crate::seen::line::{HEADER, Intent, Line, OLDER_HEADER, ReadRow, read_line};
 use crate::seen::outgrown::is_outgrown;
 use crate::seen::row_map::{RowMap, State};
+use mail_terms::MESSAGE_LIMIT;
 use std::hash::BuildHasher;
 
 /// The part of the file that the next line is in.
@@ -133,6 +134,16 @@ fn delivers(older: bool, old: State, new: State) -> bool
     ensures { result ≡ (new.delivered && (not (older && old.delivered) && (old.first_seen == new.first_seen))) }
 {
     new.delivered && !(older && old.delivered) && old.first_seen == new.first_seen
+}
+
+/// About how many rows a file has, by the length of its first one: at most as many as a listing may have
+/// messages.
+fn likely_count(bytes: &[u8]) -> usize {
+    let lines = &bytes[HEADER.len().min(bytes.len())..];
+    match lines.iter().position(|byte| *byte == b'\n') {
+        Some(length) => (lines.len() / (length + 1)).min(MESSAGE_LIMIT as usize),
+        None => 0,
+    }
 }
 
 /// Whether a file is of version 1, and its lines, if it begins with a header's line.
@@ -267,6 +278,7 @@ impl<H: BuildHasher> RowMap<H> {
         ensures is_record { IsRecord self.new }
     {
         self.clear();
+        self.reserve(likely_count(bytes))?;
         let shape = self.read_lines(bytes)?;
         let Shape {
             older,

@@ -50,6 +50,13 @@ impl<H: BuildHasher> RowMap<H> {
         }
     }
 
+    /// Makes room for this many rows more, so that the table needn't grow step by step.
+    pub(crate) fn reserve(&mut self, more: usize) -> Result<(), AllocError>
+        ensures rows { self.new ≡ self.old }
+    {
+        self.states.reserve(more)
+    }
+
     pub(crate) fn len(&self) -> usize
         ensures count { result ≡ length self.now }
         ensures is_record { IsRecord self.now }
