@@ -26,13 +26,12 @@ use Rattle.fetch_session.specs.declared.fault.Fault.TheVariants.{SeenRefused, No
 use Rattle.fetch_session.specs.declared.readiness.Found.{Found}
 use Rattle.fetch_session.specs.Fault.{cut_of, fault_of}
 use Rattle.fetch_session.specs.Mbox.{AppendsText, AsksMbox, HoldsText, IsIntended, IsSettledAtMost, IsStoreFault, MarksEntry, RefusesEntry, SettlesIntent, intent_of}
-use Rattle.fetch_session.specs.Record.{Saves, Steady, held_in, intent_at, with_open}
+use Rattle.fetch_session.specs.Record.{held as with_held, Saves, Steady, held_in, intent_at, with_open}
 use Rattle.fetch_session.specs.Scene.{scene, Stops, TakesTask}
 use Rattle.fetch_session.specs.Store.{Appended}
 use Rattle.fetch_session.specs.Task.{stores}
 use Rattle.fetch_session.specs.declared.report.ReportLine.{ReportLine}
 use Rattle.fetch_session.specs.declared.report.ReportLine.TheVariants.{Delivered}
-use Rattle.fetch_session.proofs.RecordLemmas.{held as with_held}
 use Rattle.fetch_session.specs.Target.{AsEntries, Stores, closed_file, in_mbox, is_stored, none_held}
 
 -- ---- contents
