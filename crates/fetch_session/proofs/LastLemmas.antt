@@ -1,31 +1,79 @@
 -- What a list of tasks leaves that outlives a loss of power, by what its single tasks leave.
-use Rattle.std.proofs.Common.{◌≡◌, ℕ, List, [], ◌∷◌, ◌++◌, Option, None, Some, Result, Ok, Err, refl, sym, ap, subst, ◌∙◌, inl, inr, append_assoc, length}
+use Rattle.std.proofs.Common.{◌≡◌, ◌≢◌, ◌⊎◌, ℕ, List, [], ◌∷◌, ◌++◌, Option, None, Some, Result, Ok, Err, refl, sym, ap, subst, ◌∙◌, inl, inr, append_assoc, length}
 use Rattle.std.proofs.lemmas.List.{append-nil, append_cancel_left}
 use Rattle.std.proofs.lemmas.Grind.{flat_map-append}
 use Rattle.std.proofs.lemmas.Option.{none-some}
 use Rattle.std.specs.List.{flat_map, AllByRecursion}
 use Rattle.std.specs.Prelude.{option_map}
 use Rattle.pop3_wire.specs.Place.{Place}
-use Rattle.fetch_rules.specs.Record.{Row, none_open}
+use Rattle.fetch_rules.specs.Record.{Row, Held, Intent, none_open, marked_all}
+use Rattle.fetch_rules.specs.RecordGrowth.{Grows}
+use Rattle.mail_store.specs.FlatFile.{Stored}
 use Rattle.mail_store.specs.declared.maildir.disk.MaildirDisk.{Ghosts as DiskGhosts}
 use Rattle.mail_store.specs.declared.file.flat_file.FlatFile.{Ghosts as FileGhosts}
 use Rattle.mail_store.specs.FileName.{sized, sized_file}
 use Rattle.mail_store.specs.Maildir.{Maildir, File, file, with_file, mail}
 use Rattle.mail_store.specs.Mboxrd.{entry_of}
-use Rattle.mail_store.specs.Power.{KeepsBytes, KeepsMail}
+use Rattle.mail_store.specs.Power.{KeepsBytes, KeepsMail, KeepsWhole, LastsWhole, LeavesNoMore, LeavesPart, Outlives}
 use Rattle.pop3_client.specs.Conversation.{TurnsJoin}
 use Rattle.fetch_session.specs.declared.account.Store.{Store}
 use Rattle.fetch_session.specs.declared.account.Store.TheVariants.{Maildir as InMaildir, Mboxrd as InMbox}
 use Rattle.fetch_session.specs.declared.fault.Cut.{Cut}
 use Rattle.fetch_session.specs.declared.work.Work.{Work}
-use Rattle.fetch_session.specs.Record.{Steady}
+use Rattle.fetch_session.specs.Record.{Steady, bytes_in, held}
 use Rattle.fetch_session.specs.Scene.{Scene, scene, Went, AllWent}
 use Rattle.fetch_session.specs.Store.{Brings, Ends, begun_with}
-use Rattle.fetch_session.specs.Lasting.{DoesForGood, DonesLast, IsSafe, IsSafeStore, IsSafeWork, KeepsMailIn, KeepsWork, NewOutlive, RowsLast, TextsLast, front_in, outlives_in}
+use Rattle.fetch_session.specs.Lasting.{AreLeft, DoesForGood, DonesLast, IsSafe, IsSafeStore, IsSafeWork, IsLeft, KeepsMailIn, KeepsWork, Leaves, NewOutlive, RowsLast, TextsLast, may_leave_in, outlives_in}
 use Rattle.fetch_session.specs.Target.{Kind, Target, AsFiles, AsEntries, Stores, kind_of, stores_of, target as target_at, target_of}
-use Rattle.fetch_session.specs.Task.{Task, Done, files_of, texts_of}
+use Rattle.fetch_session.specs.Task.{Task, Done, files_of, ids_in, ids_of, texts_of}
+use Rattle.fetch_session.proofs.RecordLemmas.{is_there}
 use Rattle.fetch_session.proofs.StoreLemmas.{settled}
 use Rattle.fetch_session.proofs.SceneLemmas.{all_append, all_weaker, all_on, fell_before, fell_on, marked_on}
+
+-- ---- what a loss of power may leave of a file
+
+-- what outlived it before still does
+pub no_more_keeps : {a b : Option (List ℕ) → Type 0} (content : Option (List ℕ)) → LeavesNoMore a b → KeepsWhole content a b
+no_more_keeps content no_more bytes is front left may = front left (no_more left may)
+
+-- all of its bytes outlive it, if just they may be left
+pub whole_outlives : {may_leave : Option (List ℕ) → Type 0} (bytes : List ℕ) → ((left : Option (List ℕ)) → may_leave left → left ≡ Some bytes) → Outlives may_leave bytes
+whole_outlives bytes whole left may = ([], whole left may ∙ ap (λ (l : List ℕ). Some l) (sym (append-nil bytes)))
+
+pub safe_store : {F : Type 0} (files : FileGhosts F) (f : F) → IsSafe files f → files.is_sure f × LastsWhole (files.stored f).content (Unit {0}) (files.may_leave f)
+safe_store files f safe = (safe.0, λ bytes is. (tt, (safe.1 bytes is).1))
+
+-- ---- what it may leave of the record's file
+
+module _ {F : Type 0} (file : FileGhosts F) (f : F) where
+  -- the file is safe, so just its bytes
+  pub safe_left : (was : Held) (added : List ℕ) → IsSafe file f → Steady (file.stored f).content was → Leaves file f (IsLeft was added)
+  safe_left was added safe stood bytes is left may = record {
+    bytes = bytes;
+    behind = [];
+    is = (safe.1 bytes is).1 left may ∙ ap (λ (l : List ℕ). Some l) (sym (append-nil bytes));
+    stands = subst (λ (c : Option (List ℕ)). Steady c was) is stood;
+    part = tt;
+  }
+
+  -- bytes were appended, or a part of them
+  pub part_left : (old : Stored) (was : Held) (added : List ℕ) → bytes_in old.content ≢ [] → Steady old.content was → LeavesPart old.content added (file.may_leave f)
+      → Leaves file f (IsLeft was added)
+  part_left old was added some stood part bytes is left may =
+      let behind = part (bytes_in old.content) (is_there old.content some) left may in
+      record { bytes = bytes_in old.content; behind = behind.0; is = behind.1; stands = stood; part = behind.2 }
+
+  pub rows_left : (rows others next : List Row) (before after : Option Intent) (added : List ℕ) → Grows rows before added next after → (next ≡ rows) ⊎ (next ≡ others)
+      → Leaves file f (IsLeft (held rows before) added) → Leaves file f (AreLeft rows others)
+  rows_left rows others next before after added grows next_is leaves bytes is left may =
+      record { before = before; added = added; next = next; after = after; grows = grows; next_is = next_is; file = leaves bytes is left may }
+
+  -- the file is safe and stands for the rows
+  pub same_left : (rows others : List Row) (intent : Option Intent) → IsSafe file f → Steady (file.stored f).content (held rows intent) → Leaves file f (AreLeft rows others)
+  same_left rows others intent safe stood =
+      rows_left rows others rows intent intent [] (inl (inl (refl, refl, refl))) (inl refl) (safe_left (held rows intent) [] safe stood)
+
+-- ---- what outlives it
 
 -- what two calls one after the other keep
 pub keeps_mail_on : {s s' s'' : List ℕ → Type 0} {o o' o'' : File → Type 0} → KeepsMail s o s' o' → KeepsMail s' o' s'' o'' → KeepsMail s o s'' o''
@@ -68,13 +116,17 @@ texts_on disk file AsEntries xs ys a b mid new brings first keeps then = λ was 
 
 -- ---- tasks
 
-dones_on : {D F : Type 0} (disk : DiskGhosts D) (file : FileGhosts F) (target : Target) (xs ys : List Done) (a b : Scene) (mid new : Store D F)
-    (f : F) → Went target xs a b → TextsLast disk file target xs a.store mid → KeepsMailIn disk mid new → DonesLast disk file target ys b new f
-    → DonesLast disk file target (xs ++ ys) a new f
-dones_on disk file target xs ys a b mid new f went first keeps then = record {
-  texts = texts_on disk file target xs ys a.store b.store mid new went.stored first keeps then.texts;
-  rows = simp (flat_map-append, marked_on) (rw went.rows at then.rows);
-}
+dones_on : {D F : Type 0} (disk : DiskGhosts D) (file : FileGhosts F) (target : Target) (xs ys : List Done) (next : List (List ℕ)) (a b : Scene) (mid new : Store D F)
+    (f : F) → Went target xs a b → TextsLast disk file target xs a.store mid → KeepsMailIn disk mid new → DonesLast disk file target ys next b new f
+    → DonesLast disk file target (xs ++ ys) next a new f
+dones_on disk file target xs ys next a b mid new f went first keeps then =
+    let same : marked_all b.rows (ids_of ys) ≡ marked_all a.rows (ids_of (xs ++ ys)) = ap (λ (rows : List Row). marked_all rows (ids_of ys)) went.rows
+    ∙ sym (marked_on a.rows (ids_of xs) (ids_of ys)) ∙ ap (marked_all a.rows) (sym (flat_map-append (λ (d : Done). ids_in d.task) xs ys)) in
+    record {
+      texts = texts_on disk file target xs ys a.store b.store mid new went.stored first keeps then.texts;
+      rows = subst (λ (rows : List Row). RowsLast file f rows) same then.rows;
+      left = subst (λ (rows : List Row). Leaves file f (AreLeft rows (marked_all rows next))) same then.left;
+    }
 
 -- the same if another premise gives this one, and for another store of this kind
 pub in_kind : {D F : Type 0} {disk : DiskGhosts D} {file : FileGhosts F} {here safe : Type 0} {tasks : List Task} {old new : Scene}
@@ -92,11 +144,11 @@ module _ {D F : Type 0} {disk : DiskGhosts D} {file : FileGhosts F} {safe : Type
   unfolding all_on fell_on
   good_more joining {xs} {ys} {a} {b} {c} (Ok done) mid {new} {f} went first keeps then = record {
     does = all_on joining target xs ys a b c went then.does;
-    lasts = λ s. dones_on disk file target went.dones then.does.dones a b mid new f went.went (first s) keeps (then.lasts s);
+    lasts = λ s. dones_on disk file target went.dones then.does.dones [] a b mid new f went.went (first s) keeps (then.lasts s);
   }
   good_more joining {xs} {ys} {a} {b} {c} (Err cut) mid {new} {f} went first keeps then = record {
     does = fell_on joining target xs ys a b c cut went then.does;
-    lasts = λ s. dones_on disk file target went.dones then.does.dones a b mid new f went.went (first s) keeps (then.lasts s);
+    lasts = λ s. dones_on disk file target went.dones then.does.dones (ids_in then.does.next) a b mid new f went.went (first s) keeps (then.lasts s);
   }
 
   -- some of these tasks were done, and none of those after them
@@ -105,7 +157,7 @@ module _ {D F : Type 0} {disk : DiskGhosts D} {file : FileGhosts F} {safe : Type
   unfolding fell_before
   good_before {xs} ys {a} {new} {cut} does = record {
     does = fell_before target xs ys a new cut does.does;
-    lasts = λ s. record { texts = (does.lasts s).texts; rows = (does.lasts s).rows };
+    lasts = λ s. record { texts = (does.lasts s).texts; rows = (does.lasts s).rows; left = (does.lasts s).left };
   }
 
 -- ---- what is safe
@@ -117,26 +169,26 @@ rows_last file f rows safe steady = by (file.stored f).content refl steady
   where
     by : (content : Option (List ℕ)) → (file.stored f).content ≡ content → Steady content (none_open rows) → RowsLast file f rows
     by None is stands = ([], inl refl, stands)
-    by (Some bytes) is stands = (bytes, inr (safe.1 bytes is), stands)
+    by (Some bytes) is stands = (bytes, inr (whole_outlives bytes (safe.1 bytes is).1), stands)
 
 -- and they still do after calls that took nothing back
-pub rows_kept : {F : Type 0} (file : FileGhosts F) (f f' : F) (rows : List Row) → KeepsBytes (file.outlives f) (file.outlives f') → RowsLast file f rows
+pub rows_kept : {F : Type 0} (file : FileGhosts F) (f f' : F) (rows : List Row) → KeepsBytes (file.may_leave f) (file.may_leave f') → RowsLast file f rows
     → RowsLast file f' rows
 rows_kept file f f' rows keeps (bytes, inl none, stands) = (bytes, inl none, stands)
 rows_kept file f f' rows keeps (bytes, inr front, stands) = (bytes, inr (keeps bytes front), stands)
 
 -- nothing came yet
 no_texts : {D F : Type 0} (disk : DiskGhosts D) (file : FileGhosts F) (old new : Store D F)
-    → ((was : List ℕ) → (stores_of disk file old).mbox.content ≡ Some was → front_in file new was)
+    → ((was : List ℕ) → (stores_of disk file old).mbox.content ≡ Some was → Outlives (may_leave_in file new) was)
     → (target : Target) → TextsLast disk file target [] (stores_of disk file old) new
 no_texts disk file old new whole (AsFiles digits) = tt
-no_texts disk file old new whole AsEntries = λ was is. subst (λ (bytes : List ℕ). front_in file new bytes) (sym (append-nil was)) (whole was is)
+no_texts disk file old new whole AsEntries = λ was is. subst (λ (bytes : List ℕ). Outlives (may_leave_in file new) bytes) (sym (append-nil was)) (whole was is)
 
 -- a safe mboxrd file
 pub whole_in : {D F : Type 0} (disk : DiskGhosts D) (file : FileGhosts F) (store : Store D F) → IsSafeStore file store
-    → (bytes : List ℕ) → (stores_of disk file store).mbox.content ≡ Some bytes → front_in file store bytes
+    → (bytes : List ℕ) → (stores_of disk file store).mbox.content ≡ Some bytes → Outlives (may_leave_in file store) bytes
 whole_in disk file (InMaildir device) safe bytes is = absurd (none-some bytes is)
-whole_in disk file (InMbox device) safe bytes is = safe.1 bytes is
+whole_in disk file (InMbox device) safe bytes is = whole_outlives bytes (safe.1 bytes is).1
 
 -- what came into the store is safe
 pub texts_ok : {D F : Type 0} (disk : DiskGhosts D) (file : FileGhosts F) (target : Target) (dones : List Done) (old new : Store D F)
@@ -159,11 +211,13 @@ pub keeps_same : {D F H Z : Type 0} (disk : DiskGhosts D) (file : FileGhosts F) 
 keeps_same disk file work = ((λ name is. is, λ f is. is), λ bytes has is. is, λ bytes is. is)
 
 -- what was safe and written down before still is
-pub none_lasts : {D F H Z : Type 0} (disk : DiskGhosts D) (file : FileGhosts F) (target : Target) (place : Place) (old new : Work D F H Z)
+pub none_lasts : {D F H Z : Type 0} (disk : DiskGhosts D) (file : FileGhosts F) (target : Target) (place : Place) (old new : Work D F H Z) (next : List (List ℕ))
     → IsSafeWork file old → KeepsWork disk file old new → Steady (file.stored old.ledger.file).content (none_open old.ledger.seen.rows)
-    → DonesLast disk file target [] (scene place (stores_of disk file old.store) (file.stored old.ledger.file) old.ledger.seen.rows old.ledger.lines.items)
+    → Leaves file new.ledger.file (AreLeft old.ledger.seen.rows (marked_all old.ledger.seen.rows next))
+    → DonesLast disk file target [] next (scene place (stores_of disk file old.store) (file.stored old.ledger.file) old.ledger.seen.rows old.ledger.lines.items)
     new.store new.ledger.file
-none_lasts disk file target place old new safe keeps steady = record {
+none_lasts disk file target place old new next safe keeps steady left = record {
   texts = no_texts disk file old.store new.store (λ was is. keeps.1 was is (whole_in disk file old.store safe.1 was is)) target;
   rows = rows_kept file old.ledger.file new.ledger.file old.ledger.seen.rows keeps.2 (rows_last file old.ledger.file old.ledger.seen.rows safe.0 steady);
+  left = left;
 }

@@ -8,7 +8,7 @@ use Rattle.mail_store.specs.declared.file.flat_file.FlatFile.{Ghosts as FileGhos
 use Rattle.mail_store.specs.declared.maildir.disk.MaildirDisk.{Ghosts as DiskGhosts}
 use Rattle.mail_store.specs.FileName.{stem_of}
 use Rattle.mail_store.specs.Maildir.{Maildir}
-use Rattle.fetch_rules.specs.Record.{has_row, none_open}
+use Rattle.fetch_rules.specs.Record.{has_row, none_open, marked, marked_all}
 use Rattle.fetch_rules.specs.declared.steps.Step.{Step}
 use Rattle.mail_terms.specs.FailureCount.{Tallies}
 use Rattle.pop3_client.specs.Client.{HasSameLink, link_of, place_of}
@@ -20,20 +20,21 @@ use Rattle.pop3_client.specs.declared.client.Client.{Client}
 use Rattle.pop3_wire.specs.declared.wire.Wire.{Ghosts as WireGhosts}
 use Rattle.pop3_wire.specs.Place.{Place}
 use Rattle.fetch_session.specs.declared.fault.Cut.{Cut}
+use Rattle.fetch_session.specs.declared.work.Ledger.{Ledger}
 use Rattle.fetch_session.specs.declared.work.Work.{Work}
 use Rattle.fetch_session.specs.Fault.{cut_of, fault_of}
 use Rattle.fetch_session.specs.Intake.{Took, TookTillCut, TookWithTail, step_limit, tail_limit}
-use Rattle.fetch_session.specs.Lasting.{DoesForGood, IsSafeWork, KeepsMailIn, KeepsWork, NewOutlive, RowsLast}
+use Rattle.fetch_session.specs.Lasting.{AreLeft, DoesForGood, IsSafeWork, KeepsMailIn, KeepsWork, Leaves, NewOutlive, RowsLast}
 use Rattle.fetch_session.specs.Parts.{DoesTasks, IsReadyFor, KeepsLedger, KeepsLink, KeepsSession, KeepsStore}
 use Rattle.fetch_session.specs.Record.{Steady}
 use Rattle.fetch_session.specs.Scene.{scene, TakesTask}
 use Rattle.fetch_session.specs.Store.{Grows}
 use Rattle.fetch_session.specs.Target.{Target, is_sound, kind_of, stores_of, target_of}
 use Rattle.fetch_session.specs.Task.{Task, stores, ids_in, ids_ahead, turns_in, turns_ahead, AreFresh, fetching, deleting, tasks_planned}
-use Rattle.fetch_session.specs.Work.{IsReady}
+use Rattle.fetch_session.specs.Work.{IsReady, IsWritten}
 use Rattle.fetch_session.proofs.FreshLemmas.{OneMore, ahead, fresh_grows}
 use Rattle.fetch_session.proofs.IntakeLemmas.{takes_on, takes_plain, took_less, took_nothing, with_any_tail, with_tail_on}
-use Rattle.fetch_session.proofs.LastLemmas.{good_before, good_more, in_kind, keeps_mail_on, keeps_same, none_came, none_lasts, rows_last, texts_ok}
+use Rattle.fetch_session.proofs.LastLemmas.{good_before, good_more, in_kind, keeps_mail_on, keeps_same, none_came, none_lasts, rows_last, same_left, texts_ok}
 use Rattle.fetch_session.proofs.RefusalLemmas.{cut_by, till_cut}
 use Rattle.fetch_session.proofs.SceneLemmas.{all_append, all_none, all_weaker, fell_first, on_any}
 
@@ -44,6 +45,16 @@ on_map (Err fault) to p = tt
 on_both : {T E P Q R : Type 0} (result : Result T E) → (P → Q → R) → OnOk result P → OnOk result Q → OnOk result R
 on_both (Ok done) to p q = to p q
 on_both (Err fault) to p q = tt
+
+-- a task was cut before its id was marked
+pub same_ledger : {F H Z : Type 0} {file : FileGhosts F} (uid : List ℕ) (ledger : Ledger F H Z) (cut : Cut) → IsWritten file ledger → KeepsLedger file uid ledger (Err cut) ledger
+same_ledger {file = file} uid ledger cut written = record {
+  lines = (omega arith, omega arith);
+  sound = λ f. f;
+  written = tt;
+  rows = tt;
+  left = λ f safe. same_left file ledger.file ledger.seen.rows (marked ledger.seen.rows uid) None safe (written.steady f);
+}
 
 -- ---- bounds of tasks
 
@@ -233,7 +244,8 @@ module _ {W D F H Z : Type 0} {link : WireGhosts W} {disk : DiskGhosts D} {file 
     same _,
     record {
       does = all_none (target_of w.store account) _;
-      lasts = λ safe. none_lasts disk file (target_of w.store account) (place_of link c) w w safe (keeps_same disk file w) (ready.written.steady f);
+      lasts = λ safe. none_lasts disk file (target_of w.store account) (place_of link c) w w [] safe (keeps_same disk file w) (ready.written.steady f)
+          (same_left file w.ledger.file w.ledger.seen.rows w.ledger.seen.rows None safe.0 (ready.written.steady f));
     },
   )
 
@@ -259,7 +271,7 @@ module _ {W D F H Z : Type 0} {link : WireGhosts W} {disk : DiskGhosts D} {file 
 
   -- a text that is stored
   pub kept_taking : OneMore → (number : ℕ) (uid : List ℕ) {c c' : Client W} {w w' : Work D F H Z} (r : Result (Unit {0}) Cut)
-      → KeepsLink link (TookTillCut (line_limit + text_limit)) c r c' → KeepsLedger file w.ledger r w'.ledger → kind_of w'.store ≡ kind_of w.store
+      → KeepsLink link (TookTillCut (line_limit + text_limit)) c r c' → KeepsLedger file uid w.ledger r w'.ledger → kind_of w'.store ≡ kind_of w.store
       → (is_sound disk file w'.store → is_sound disk file w.store × Grows (stem_of account uid) (stores_of disk file w.store).maildir (stores_of disk file w'.store).maildir)
       → (is_sound disk file w'.store → file.sound w'.ledger.file → KeepsMailIn disk w.store w'.store)
       → (is_sound disk file w'.store → file.sound w'.ledger.file → IsSafeWork file w → OnOk r (IsSafeWork file w'))
@@ -289,19 +301,21 @@ module _ {D F H Z : Type 0} {disk : DiskGhosts D} {file : FileGhosts F} where
       → KeepsWork disk file old new → Steady (file.stored old.ledger.file).content (none_open old.ledger.seen.rows)
       → OnOk r (Steady (file.stored new.ledger.file).content (none_open new.ledger.seen.rows))
       → (IsSafeWork file old → OnOk r (IsSafeWork file new × NewOutlive disk file old.store new.store))
+      → (IsSafeWork file old → Leaves file new.ledger.file (AreLeft old.ledger.seen.rows (marked_all old.ledger.seen.rows (ids_in task))))
       → DoesForGood disk file (IsSafeWork file old) target (task ∷ []) (scene a (stores_of disk file old.store) (file.stored old.ledger.file) old.ledger.seen.rows old.ledger.lines.items) r
       (scene b (stores_of disk file new.store) (file.stored new.ledger.file) new.ledger.seen.rows new.ledger.lines.items) new.store new.ledger.file
   unfolding fell_first
-  good_task target task a b old new (Ok done) took keeps steady written lasts = record {
+  good_task target task a b old new (Ok done) took keeps steady written lasts left = record {
     does = record { dones = record { task = task; replies = took.0 } ∷ []; all = refl; went = took.1 };
     lasts = λ safe. record {
       texts = texts_ok disk file target (record { task = task; replies = took.0 } ∷ []) old.store new.store took.1.stored (lasts safe).1 (lasts safe).0.1;
       rows = subst (λ rows. RowsLast file new.ledger.file rows) took.1.rows (rows_last file new.ledger.file new.ledger.seen.rows (lasts safe).0.0 written);
+      left = subst (λ rows. Leaves file new.ledger.file (AreLeft rows rows)) took.1.rows (same_left file new.ledger.file new.ledger.seen.rows new.ledger.seen.rows None (lasts safe).0.0 written);
     };
   }
-  good_task target task a b old new (Err cut) took keeps steady written lasts = record {
+  good_task target task a b old new (Err cut) took keeps steady written lasts left = record {
     does = fell_first target task [] _ _ cut took;
-    lasts = λ safe. none_lasts disk file target a old new safe keeps steady;
+    lasts = λ safe. none_lasts disk file target a old new (ids_in task) safe keeps steady (left safe);
   }
 
   -- the same for a task that stores nothing
@@ -314,3 +328,4 @@ module _ {D F H Z : Type 0} {disk : DiskGhosts D} {file : FileGhosts F} where
   good_talking target task a b work new r took ready f =
       good_task target task a b work (record work { ledger = record work.ledger { lines = new.ledger.lines } }) r took (keeps_same disk file work) (ready.written.steady f) (on_any r (ready.written.steady f))
       (λ safe. on_any r (safe, none_came disk file work.store))
+      (λ safe. same_left file work.ledger.file work.ledger.seen.rows _ None safe.0 (ready.written.steady f))

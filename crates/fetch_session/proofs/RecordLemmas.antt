@@ -12,7 +12,7 @@ use Rattle.mail_store.specs.FlatFile.{Stored, holding, counted, Appends}
 use Rattle.mail_store.specs.declared.fault.StoreFault.{StoreFault}
 use Rattle.fetch_session.specs.declared.fault.Fault.{Fault}
 use Rattle.fetch_session.specs.declared.fault.Fault.TheVariants.{SeenRefused, NoMemory}
-use Rattle.fetch_session.specs.Record.{bytes_in, Keeps, Steady, ReadAs, Writes, Saves, Merges, held_in}
+use Rattle.fetch_session.specs.Record.{bytes_in, held, Keeps, Steady, ReadAs, Writes, Saves, Merges, held_in}
 
 bytes_begin : (version : Version) (rest : List ℕ) → [] ≢ header version ++ rest
 bytes_begin One rest is = true≢false (sym (ap has_bytes is))
@@ -53,9 +53,6 @@ read_steady content loaded is fresh =
     let closed : loaded.intent ≡ None = no_intent loaded.intent (or_parts (has_intent loaded.intent) is.outgrown torn.1).0 in
     (rw (not_older is.version old.0, closed, torn.0) at is.means, closed)
 
-abbrev pub held : List Row → Option Intent → Held
-held rows intent = record { rows = rows; intent = intent }
-
 pub held_is : (loaded : Loaded) → loaded.intent ≡ None → none_open loaded.rows ≡ held_in loaded
 held_is loaded closed = ap (held loaded.rows) (sym closed)
 
@@ -84,7 +81,7 @@ saves_merges old new was now (Err _) stood never = absurd never
 pub not_empty : (bytes : List ℕ) (b : Bool) → b ≡ false → b ≡ (length bytes == 0) → bytes ≢ []
 not_empty bytes b isnt is none = true≢false (sym (ap (λ (l : List ℕ). length l == 0) none) ∙ sym is ∙ isnt)
 
-is_there : (content : Option (List ℕ)) → bytes_in content ≢ [] → content ≡ Some (bytes_in content)
+pub is_there : (content : Option (List ℕ)) → bytes_in content ≢ [] → content ≡ Some (bytes_in content)
 is_there None some = absurd (some refl)
 is_there (Some bytes) some = refl
 

@@ -1,17 +1,19 @@
 -- What of a session outlives a loss of power, by what its devices say.
-use Rattle.std.specs.Prelude.{◌≡◌, ◌⊎◌, ℕ, List, [], ◌++◌, length, Some, Result, Ok, Err, All, Contains}
+use Rattle.std.specs.Prelude.{◌≡◌, ◌⊎◌, ℕ, List, [], ◌++◌, length, Option, Some, Result, Ok, Err, All, Contains}
 use Rattle.std.specs.List.{flat_map, AllByRecursion}
 use Rattle.mail_store.specs.declared.maildir.disk.MaildirDisk.{Ghosts as DiskGhosts}
 use Rattle.mail_store.specs.declared.file.flat_file.FlatFile.{Ghosts as FileGhosts}
 use Rattle.mail_store.specs.FlatFile.{Stored}
 use Rattle.mail_store.specs.Maildir.{File, names_of}
 use Rattle.mail_store.specs.Mboxrd.{entry_of}
-use Rattle.mail_store.specs.Power.{AllStay, KeepsBytes, KeepsMail, KeepsWhole, LastsWhole}
+use Rattle.mail_store.specs.Settling.{MayBeLeft}
+use Rattle.mail_store.specs.Power.{AllStay, KeepsBytes, KeepsMail, KeepsWhole, LastsWhole, Outlives}
 use Rattle.mail_terms.specs.Listing.{Item}
 use Rattle.pop3_wire.specs.Link.{Link}
 use Rattle.pop3_wire.specs.Place.{Place, at}
 use Rattle.rc_file.specs.declared.settings.Settings.{Settings}
-use Rattle.fetch_rules.specs.Record.{Row, none_open, marked_all}
+use Rattle.fetch_rules.specs.Record.{Row, Held, Intent, none_open, marked_all}
+use Rattle.fetch_rules.specs.RecordGrowth.{Grows}
 use Rattle.fetch_rules.specs.Plan.{IsQuiet, planned}
 use Rattle.fetch_session.specs.declared.account.Store.{Store}
 use Rattle.fetch_session.specs.declared.account.Store.TheVariants.{Maildir as InMaildir, Mboxrd as InMbox}
@@ -21,12 +23,12 @@ use Rattle.fetch_session.specs.declared.report.ReportLine.{ReportLine}
 use Rattle.fetch_session.specs.declared.report.Skips.{Skips}
 use Rattle.fetch_session.specs.declared.work.Work.{Work}
 use Rattle.fetch_session.specs.Plan.{Carried, Unprepared, tasks_ahead}
-use Rattle.fetch_session.specs.Record.{Steady}
+use Rattle.fetch_session.specs.Record.{Steady, held}
 use Rattle.fetch_session.specs.Report.{Reports, none_skipped}
 use Rattle.fetch_session.specs.Scene.{Scene, scene, Does}
 use Rattle.fetch_session.specs.Session.{Enters_with, Keeping, LeavesLink, NoRoom, NotEntered, Noted, outcome_of}
 use Rattle.fetch_session.specs.Target.{Target, AsFiles, AsEntries, Stores, stores_of}
-use Rattle.fetch_session.specs.Task.{Task, Done, ids_of, files_of, texts_of}
+use Rattle.fetch_session.specs.Task.{Task, Done, ids_in, ids_of, files_of, texts_of}
 
 -- ---- what the devices say
 
@@ -39,24 +41,24 @@ abbrev pub outlives_in : {D F : Type 0} → DiskGhosts D → Store D F → File 
 outlives_in disk (InMaildir device) f = disk.outlives device f
 outlives_in disk (InMbox device) f = ⊥
 
--- whatever a loss of power leaves of the mboxrd file begins with these bytes
-abbrev pub front_in : {D F : Type 0} → FileGhosts F → Store D F → List ℕ → Type 0
-front_in file (InMaildir device) bytes = ⊥
-front_in file (InMbox device) bytes = file.outlives device bytes
+-- a loss of power may leave this of the mboxrd file
+abbrev pub may_leave_in : {D F : Type 0} → FileGhosts F → Store D F → Option (List ℕ) → Type 0
+may_leave_in file (InMaildir device) left = Unit {0}
+may_leave_in file (InMbox device) left = file.may_leave device left
 
 -- no flush of the mboxrd file was refused
 abbrev pub is_sure : {D F : Type 0} → FileGhosts F → Store D F → Type 0
 is_sure file (InMaildir device) = Unit {0}
 is_sure file (InMbox device) = file.is_sure device
 
--- all bytes of a file outlive a loss of power, and no flush of it was refused
+-- a file is on the disk, a loss of power leaves exactly its bytes, and no flush of it was refused
 abbrev pub IsSafe : {F : Type 0} → FileGhosts F → F → Type 0
-IsSafe file f = file.is_sure f × LastsWhole (file.stored f).content (file.outlives f)
+IsSafe file f = file.is_sure f × LastsWhole (file.stored f).content (file.is_on_disk f) (file.may_leave f)
 
--- the same for an mboxrd file
+-- the same for an mboxrd file, which is flushed again before an entry is appended: so it needn't be known to be on the disk
 abbrev pub IsSafeStore : {D F : Type 0} → FileGhosts F → Store D F → Type 0
 IsSafeStore file (InMaildir device) = Unit {0}
-IsSafeStore file (InMbox device) = IsSafe file device
+IsSafeStore file (InMbox device) = file.is_sure device × LastsWhole (file.stored device).content (Unit {0}) (file.may_leave device)
 
 -- each file of a Maildir stays
 abbrev pub AllStayIn : {D F : Type 0} → DiskGhosts D → Store D F → Type 0
@@ -72,11 +74,11 @@ abbrev pub KeepsMailIn : {D F : Type 0} → DiskGhosts D → Store D F → Store
 KeepsMailIn disk old new = KeepsMail (stays_in disk old) (outlives_in disk old) (stays_in disk new) (outlives_in disk new)
 
 abbrev pub KeepsMboxIn : {D F : Type 0} → DiskGhosts D → FileGhosts F → Store D F → Store D F → Type 0
-KeepsMboxIn disk file old new = KeepsWhole (stores_of disk file old).mbox.content (front_in file old) (front_in file new)
+KeepsMboxIn disk file old new = KeepsWhole (stores_of disk file old).mbox.content (may_leave_in file old) (may_leave_in file new)
 
 abbrev pub KeepsWork : {D F H Z : Type 0} → DiskGhosts D → FileGhosts F → Work D F H Z → Work D F H Z → Type 0
 KeepsWork disk file old new = KeepsMailIn disk old.store new.store × KeepsMboxIn disk file old.store new.store
-    × KeepsBytes (file.outlives old.ledger.file) (file.outlives new.ledger.file)
+    × KeepsBytes (file.may_leave old.ledger.file) (file.may_leave new.ledger.file)
 
 -- all files that came into a Maildir outlive a loss of power
 abbrev pub NewOutlive : {D F : Type 0} → DiskGhosts D → FileGhosts F → Store D F → Store D F → Type 0
@@ -90,23 +92,46 @@ NewOutlive disk file old new = (files : List File)
 abbrev pub TextsLast : {D F : Type 0} → DiskGhosts D → FileGhosts F → Target → List Done → Stores → Store D F → Type 0
 TextsLast disk file (AsFiles account) dones old store = AllByRecursion (outlives_in disk store) (files_of account dones)
 TextsLast disk file AsEntries dones old store =
-    (was : List ℕ) → old.mbox.content ≡ Some was → front_in file store (was ++ flat_map entry_of (texts_of dones))
+    (was : List ℕ) → old.mbox.content ≡ Some was → Outlives (may_leave_in file store) (was ++ flat_map entry_of (texts_of dones))
 
 -- whatever a loss of power leaves of the record's file begins with bytes that stand for these rows
 abbrev pub RowsLast : {F : Type 0} → FileGhosts F → F → List Row → Type 0
-RowsLast file f rows = (bytes : List ℕ) × ((bytes ≡ []) ⊎ file.outlives f bytes) × Steady (Some bytes) (none_open rows)
+RowsLast file f rows = (bytes : List ℕ) × ((bytes ≡ []) ⊎ Outlives (file.may_leave f) bytes) × Steady (Some bytes) (none_open rows)
 
--- what these tasks stored and marked outlives a loss of power
-pub record DonesLast {D F : Type 0} (disk : DiskGhosts D) (file : FileGhosts F) (target : Target) (dones : List Done) (old : Scene)
-    (store : Store D F) (f : F) : Type 0 where
+-- this holds of whatever a loss of power leaves of a file that is there
+abbrev pub Leaves : {F : Type 0} → FileGhosts F → F → (Option (List ℕ) → Type 0) → Type 0
+Leaves file f Is = (bytes : List ℕ) → (file.stored f).content ≡ Some bytes → (left : Option (List ℕ)) → file.may_leave f left → Is left
+
+-- bytes that stand for this record, and behind them what a loss of power may leave of what was appended
+pub record IsLeft (was : Held) (added : List ℕ) (left : Option (List ℕ)) : Type 0 where
+  pub bytes : List ℕ
+  pub behind : List ℕ
+  pub is : left ≡ Some (bytes ++ behind)
+  pub stands : Steady (Some bytes) was
+  pub part : MayBeLeft (length bytes) added behind
+
+-- these rows are left, and what there may be of one group or intent behind them makes no others of them than those
+pub record AreLeft (rows others : List Row) (left : Option (List ℕ)) : Type 0 where
+  pub before : Option Intent
+  pub added : List ℕ
+  pub next : List Row
+  pub after : Option Intent
+  pub grows : Grows rows before added next after
+  pub next_is : (next ≡ rows) ⊎ (next ≡ others)
+  pub file : IsLeft (held rows before) added left
+
+-- what these tasks stored and marked outlives a loss of power; and no more than the marks of the tasks after them may be left besides
+pub record DonesLast {D F : Type 0} (disk : DiskGhosts D) (file : FileGhosts F) (target : Target) (dones : List Done) (next : List (List ℕ))
+    (old : Scene) (store : Store D F) (f : F) : Type 0 where
   pub texts : TextsLast disk file target dones old.store store
   pub rows : RowsLast file f (marked_all old.rows (ids_of dones))
+  pub left : Leaves file f (AreLeft (marked_all old.rows (ids_of dones)) (marked_all (marked_all old.rows (ids_of dones)) next))
 
--- the same for the tasks of a list that were done
+-- the same for the tasks of a list that were done, and for the one that was cut
 abbrev pub Lasts : {D F : Type 0} → DiskGhosts D → FileGhosts F → (target : Target) (tasks : List Task) (old : Scene)
     (result : Result (Unit {0}) Cut) (new : Scene) → Does target tasks old result new → Store D F → F → Type 0
-Lasts disk file target tasks old (Ok done) new does store f = DonesLast disk file target does.dones old store f
-Lasts disk file target tasks old (Err cut) new does store f = DonesLast disk file target does.dones old store f
+Lasts disk file target tasks old (Ok done) new does store f = DonesLast disk file target does.dones [] old store f
+Lasts disk file target tasks old (Err cut) new does store f = DonesLast disk file target does.dones (ids_in does.next) old store f
 
 -- a list of tasks was done, or as far as went well; and if this premise holds, what was done outlives a loss of power
 pub record DoesForGood {D F : Type 0} (disk : DiskGhosts D) (file : FileGhosts F) (safe : Type 0) (target : Target) (tasks : List Task)

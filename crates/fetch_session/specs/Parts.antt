@@ -6,7 +6,7 @@ use Rattle.mail_store.specs.declared.file.flat_file.FlatFile.{Ghosts as FileGhos
 use Rattle.mail_store.specs.declared.maildir.disk.MaildirDisk.{Ghosts as DiskGhosts}
 use Rattle.mail_store.specs.FileName.{IsAccountText}
 use Rattle.fetch_rules.specs.Intents.{IsNoneOrOf}
-use Rattle.fetch_rules.specs.Record.{has_row}
+use Rattle.fetch_rules.specs.Record.{Row, has_row, marked}
 use Rattle.pop3_client.specs.Client.{HasSameLink, link_of, place_of}
 use Rattle.pop3_client.specs.Conversation.{most_of}
 use Rattle.pop3_client.specs.declared.client.Client.{Client}
@@ -19,7 +19,7 @@ use Rattle.fetch_session.specs.declared.step.Task.TheVariants.{Store, Reread, Sk
 use Rattle.fetch_session.specs.declared.work.Ledger.{Ledger}
 use Rattle.fetch_session.specs.declared.work.Work.{Work}
 use Rattle.fetch_session.specs.Intake.{TookTillCut}
-use Rattle.fetch_session.specs.Lasting.{DoesForGood, IsSafeWork, KeepsMailIn}
+use Rattle.fetch_session.specs.Lasting.{AreLeft, DoesForGood, IsSafe, IsSafeWork, KeepsMailIn, Leaves}
 use Rattle.fetch_session.specs.Record.{Steady, held_in}
 use Rattle.fetch_session.specs.Refusal.{RefusesTillCut}
 use Rattle.fetch_session.specs.Report.{Adds, HasRoom}
@@ -54,21 +54,25 @@ pub record KeepsLink {W : Type 0} (link : WireGhosts W) (Took : Place → Result
   pub counted : RefusesTillCut (link_of link old) result (link_of link new)
   pub took : link.sound new.wire.now → link.sound old.wire.now × Took (place_of link old) result (place_of link new)
 
--- at most one line was noted; and if all went well, all is written down, and ids that had a row keep one
-pub record KeepsLedger {F H Z : Type 0} (file : FileGhosts F) (old : Ledger F H Z) (result : Result (Unit {0}) Cut) (new : Ledger F H Z)
+-- at most one line was noted, and no more than the mark of this id may be left besides the rows; and if all went well, all is written
+-- down, and ids that had a row keep one
+pub record KeepsLedger {F H Z : Type 0} (file : FileGhosts F) (uid : List ℕ) (old : Ledger F H Z) (result : Result (Unit {0}) Cut) (new : Ledger F H Z)
     : Type 0 where
   pub lines : Adds old.lines 1 new.lines
   pub sound : file.sound new.file → file.sound old.file
   pub written : OnOk result (IsWritten file new)
   pub rows : OnOk result (KeepsIds old.seen.rows new.seen.rows)
+  pub left : file.sound new.file → IsSafe file old.file → Leaves file new.file (AreLeft old.seen.rows (marked old.seen.rows uid))
 
--- nothing was noted, and the rows are the same; and if all went well, at most the intent of this id is open, and all is written down
+-- nothing was noted, and the rows are the same, also those that may be left; and if all went well, at most the intent of this id is open, and all is written down
 pub record KeepsRecord {F H Z : Type 0} (file : FileGhosts F) (uid : List ℕ) (old : Ledger F H Z) (result : Result (Unit {0}) Fault) (new : Ledger F H Z)
     : Type 0 where
   pub lines : new.lines ≡ old.lines
   pub rows : new.seen.rows ≡ old.seen.rows
   pub opened : OnOk result (IsNoneOrOf uid new.seen.intent)
   pub steady : file.sound new.file → file.sound old.file × OnOk result (Steady (file.stored new.file).content (held_in new.seen))
+  pub lasts : file.sound new.file → IsSafe file old.file → OnOk result (IsSafe file new.file)
+      × ((others : List Row) → Leaves file new.file (AreLeft old.seen.rows others))
 
 -- at most this many lines were noted, the store is of the same kind, and no file is begun in it
 pub record KeepsStore {D F H Z : Type 0} (disk : DiskGhosts D) (file : FileGhosts F) (most : ℕ) (old new : Work D F H Z) : Type 0 where

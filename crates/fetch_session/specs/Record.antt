@@ -35,6 +35,9 @@ ReadAs content loaded = BytesReadAs (bytes_in content) loaded
 abbrev pub held_in : Loaded → Held
 held_in loaded = record { rows = loaded.rows; intent = loaded.intent }
 
+abbrev pub held : List Row → Option Intent → Held
+held rows intent = record { rows = rows; intent = intent }
+
 -- the intent of appending `len` octets for an id to an mboxrd file of size `start`
 abbrev pub intent_at : List ℕ → ℕ → ℕ → Intent
 intent_at uid start len = record { uid = uid; start = start; len = len }

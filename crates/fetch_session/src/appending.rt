@@ -96,8 +96,8 @@ fn append_text<F: FlatFile, H: BuildHasher>(
         × AppendsText (F.stored mbox.old) (F.stored ledger.old.file) ledger.old.seen uid.now text.items result
         (F.stored mbox.new) (F.stored ledger.new.file) ledger.new.seen }
     ensures keeps { F.sound mbox.new → F.sound ledger.new.file
-        → KeepsWhole (F.stored mbox.old).content (F.outlives mbox.old) (F.outlives mbox.new)
-        × KeepsBytes (F.outlives ledger.old.file) (F.outlives ledger.new.file) }
+        → KeepsWhole (F.stored mbox.old).content (F.may_leave mbox.old) (F.may_leave mbox.new)
+        × KeepsBytes (F.may_leave ledger.old.file) (F.may_leave ledger.new.file) }
     ensures lasts { F.sound mbox.new → F.sound ledger.new.file → F.is_sure mbox.old → IsSafe F.FlatFile ledger.old.file
         → OnOk result (IsSafe F.FlatFile mbox.new × IsSafe F.FlatFile ledger.new.file) }
 {
@@ -128,7 +128,7 @@ pub(crate) fn take_into_mbox<W: Wire, F: FlatFile, H: BuildHasher>(
     requires legal { IsLegalId uid.now }
     requires row { has_row ledger.old.seen.rows uid.now ≡ true }
     ensures link { KeepsLink W.Wire (TookTillCut (most (retr number))) client.old result client.new }
-    ensures ledger { KeepsLedger F.FlatFile ledger.old result ledger.new }
+    ensures ledger { KeepsLedger F.FlatFile uid.now ledger.old result ledger.new }
     ensures before { F.sound mbox.new → F.sound mbox.old }
     ensures takes { WhereAllSound W.sound W.leads_to F.sound F.sound client.old.wire.now client.new.wire.now mbox.old mbox.new
         ledger.old.file ledger.new.file (TakesTask AsEntries (stores number uid.now)
@@ -137,8 +137,8 @@ pub(crate) fn take_into_mbox<W: Wire, F: FlatFile, H: BuildHasher>(
         (scene (place_of W.Wire client.new) (in_mbox (F.stored mbox.new)) (F.stored ledger.new.file) ledger.new.seen.rows
         ledger.new.lines.items)) }
     ensures keeps { F.sound mbox.new → F.sound ledger.new.file
-        → KeepsWhole (F.stored mbox.old).content (F.outlives mbox.old) (F.outlives mbox.new)
-        × KeepsBytes (F.outlives ledger.old.file) (F.outlives ledger.new.file) }
+        → KeepsWhole (F.stored mbox.old).content (F.may_leave mbox.old) (F.may_leave mbox.new)
+        × KeepsBytes (F.may_leave ledger.old.file) (F.may_leave ledger.new.file) }
     ensures lasts { F.sound mbox.new → F.sound ledger.new.file → F.is_sure mbox.old → IsSafe F.FlatFile ledger.old.file
         → OnOk result (IsSafe F.FlatFile mbox.new × IsSafe F.FlatFile ledger.new.file) }
 {

@@ -1,14 +1,14 @@
 //! The record and its file.
-ghost use Rattle.std.specs.Prelude.{◌≡◌, ◌≢◌, [], false, true, None, Some, OnOk};
+ghost use Rattle.std.specs.Prelude.{◌≡◌, ◌≢◌, List, [], false, true, None, Some, OnOk};
 ghost use Rattle.mail_terms.specs.UniqueId.{IsLegalId};
 ghost use Rattle.fetch_rules.specs.Intents.{IsNoneOrOf};
-ghost use Rattle.fetch_rules.specs.Record.{Held, has_row, none_open, marked};
+ghost use Rattle.fetch_rules.specs.Record.{Held, Row, has_row, none_open, marked};
 ghost use Rattle.fetch_rules.specs.RecordFile.{Two, file_of};
 ghost use Rattle.fetch_rules.specs.RecordMeaning.{Means, Rows};
 ghost use Rattle.fetch_rules.specs.RecordGrowth.{Grows};
 ghost use Rattle.fetch_session.specs.Record.{Writes, Saves, Steady, bytes_in, held_in, intent_at, with_open};
 ghost use Rattle.mail_store.specs.Power.{KeepsBytes};
-ghost use Rattle.fetch_session.specs.Lasting.{IsSafe};
+ghost use Rattle.fetch_session.specs.Lasting.{AreLeft, IsLeft, IsSafe, Leaves};
 
 use crate::fault::Fault;
 use fetch_rules::{Seen, appended_counts, bytes_stand, cut_is_ignored};
@@ -39,8 +39,10 @@ pub(crate) fn grow<F: FlatFile>(file: &mut F, group: &[u8]) -> Result<(), Fault>
     ensures saves { F.sound file.new → F.sound file.old
         × ((was now : Held) → Grows was.rows was.intent group.now now.rows now.intent
         → Saves (F.stored file.old) was now result (F.stored file.new)) }
-    ensures keeps { F.sound file.new → KeepsBytes (F.outlives file.old) (F.outlives file.new) }
+    ensures keeps { F.sound file.new → KeepsBytes (F.may_leave file.old) (F.may_leave file.new) }
     ensures lasts { F.sound file.new → IsSafe F.FlatFile file.old → OnOk result (IsSafe F.FlatFile file.new) }
+    ensures leaves { F.sound file.new → IsSafe F.FlatFile file.old
+        → ((was : Held) → Steady (F.stored file.old).content was → Leaves F.FlatFile file.new (IsLeft was group.now)) }
 {
     appended_counts();
     cut_is_ignored();
@@ -73,7 +75,8 @@ pub(crate) fn intend<F: FlatFile, H: BuildHasher>(
     ensures saves { F.sound file.new → F.sound file.old
         × Saves (F.stored file.old) (none_open seen.old.rows) (with_open seen.old.rows (intent_at uid.now start len)) result
         (F.stored file.new) }
-    ensures keeps { F.sound file.new → KeepsBytes (F.outlives file.old) (F.outlives file.new) }
+    ensures keeps { F.sound file.new → KeepsBytes (F.may_leave file.old) (F.may_leave file.new)
+        × (IsSafe F.FlatFile file.old → ((others : List Row) → Leaves F.FlatFile file.new (AreLeft seen.old.rows others))) }
     ensures lasts { F.sound file.new → IsSafe F.FlatFile file.old → OnOk result (IsSafe F.FlatFile file.new) }
 {
     let Ok(line) = seen.intend(uid, start, len) else {
@@ -96,7 +99,8 @@ pub(crate) fn remember<F: FlatFile, H: BuildHasher>(
     ensures closed { OnOk result (seen.new.intent ≡ None) }
     ensures saves { F.sound file.new → F.sound file.old
         × Saves (F.stored file.old) (held_in seen.old) (none_open (marked seen.old.rows uid.now)) result (F.stored file.new) }
-    ensures keeps { F.sound file.new → KeepsBytes (F.outlives file.old) (F.outlives file.new) }
+    ensures keeps { F.sound file.new → KeepsBytes (F.may_leave file.old) (F.may_leave file.new)
+        × (IsSafe F.FlatFile file.old → Leaves F.FlatFile file.new (AreLeft seen.old.rows (marked seen.old.rows uid.now))) }
     ensures lasts { F.sound file.new → IsSafe F.FlatFile file.old → OnOk result (IsSafe F.FlatFile file.new) }
 {
     let Ok(group) = seen.mark_rows(uid) else {

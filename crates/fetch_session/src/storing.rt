@@ -227,7 +227,7 @@ pub(crate) fn take_into_maildir<W: Wire, D: MaildirDisk, F: FlatFile, H: BuildHa
     requires ready { IsWritten F.FlatFile ledger.old }
     requires free { D.sound disk.old → is_held account.now (D.maildir disk.old) uid.now ≡ false }
     ensures link { KeepsLink W.Wire (TookTillCut (most (retr number))) client.old result client.new }
-    ensures ledger { KeepsLedger F.FlatFile ledger.old result ledger.new }
+    ensures ledger { KeepsLedger F.FlatFile uid.now ledger.old result ledger.new }
     ensures grows { D.sound disk.new → D.sound disk.old
         × Grows (stem_of account.now uid.now) (D.maildir disk.old) (D.maildir disk.new) }
     ensures takes { WhereAllSound W.sound W.leads_to D.sound F.sound client.old.wire.now client.new.wire.now disk.old disk.new
@@ -238,7 +238,7 @@ pub(crate) fn take_into_maildir<W: Wire, D: MaildirDisk, F: FlatFile, H: BuildHa
         ledger.new.lines.items)) }
     ensures keeps { D.sound disk.new → F.sound ledger.new.file
         → KeepsMail (D.stays disk.old) (D.outlives disk.old) (D.stays disk.new) (D.outlives disk.new)
-        × KeepsBytes (F.outlives ledger.old.file) (F.outlives ledger.new.file) }
+        × KeepsBytes (F.may_leave ledger.old.file) (F.may_leave ledger.new.file) }
     ensures lasts { D.sound disk.new → F.sound ledger.new.file → IsSafe F.FlatFile ledger.old.file
         → OnOk result (IsSafe F.FlatFile ledger.new.file × ((files : List File)
         → (D.maildir disk.new).files ≡ (D.maildir disk.old).files ++ files → AllByRecursion (D.outlives disk.new) files)) }

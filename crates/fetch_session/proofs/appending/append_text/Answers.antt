@@ -1,5 +1,7 @@
-use Rattle.std.proofs.Common.{◌≡◌, List, ℕ, length, refl, ap, ◌∙◌}
+use Rattle.std.proofs.Common.{◌≡◌, List, ℕ, None, length, refl, ap, ◌∙◌}
+use Rattle.mail_store.specs.FlatFile.{Stored}
 use Rattle.mail_store.specs.Mboxrd.{entry_of}
+use Rattle.fetch_session.proofs.LastLemmas.{no_more_keeps, same_left}
 use Rattle.fetch_session.proofs.MboxLemmas.{appended_all, intended, not_appended, not_intended, not_measured}
 use Rattle.fetch_session.proofs.appending.append_text.Given.{Over}
 use Rattle.fetch_session.proofs.appending.append_text.Goals as goal
@@ -43,13 +45,19 @@ returns-in-Ok-append_entry-clause-appends g c = λ m f.
     )
 
 pub returns-in-Err-clause-ledger : goal.returns-in-Err-clause-ledger
-returns-in-Err-clause-ledger g c = record { lines = refl; rows = refl; opened = tt; steady = λ f. (f, tt) }
+returns-in-Err-clause-ledger g c = record {
+  lines = refl;
+  rows = refl;
+  opened = tt;
+  steady = λ f. (f, tt);
+  lasts = λ f safe. (tt, λ others. same_left g.F.FlatFile c.args.ledger.now.file c.args.ledger.now.seen.rows others None safe (c.requires.steady f));
+}
 
 pub returns-in-Err-intend-clause-ledger : goal.returns-in-Err-intend-clause-ledger
-returns-in-Err-intend-clause-ledger g c = record { lines = refl; rows = c.intend.ensures.rows; opened = tt; steady = λ f. ((c.intend.ensures.steady f).0, tt) }
+returns-in-Err-intend-clause-ledger g c = record { lines = refl; rows = c.intend.ensures.rows; opened = tt; steady = λ f. ((c.intend.ensures.steady f).0, tt); lasts = λ f safe. (tt, (c.intend.ensures.keeps f).1 safe) }
 
 pub returns-in-Err-append_entry-clause-ledger : goal.returns-in-Err-append_entry-clause-ledger
-returns-in-Err-append_entry-clause-ledger g c = record { lines = refl; rows = c.intend.ensures.rows; opened = tt; steady = λ f. ((c.in_default.ensures.steady f).0, tt) }
+returns-in-Err-append_entry-clause-ledger g c = record { lines = refl; rows = c.intend.ensures.rows; opened = tt; steady = λ f. ((c.in_default.ensures.steady f).0, tt); lasts = λ f safe. (tt, (c.intend.ensures.keeps f).1 safe) }
 
 pub returns-in-Ok-append_entry-clause-ledger : goal.returns-in-Ok-append_entry-clause-ledger
 returns-in-Ok-append_entry-clause-ledger g c = record {
@@ -59,4 +67,28 @@ returns-in-Ok-append_entry-clause-ledger g c = record {
   steady = λ f.
       let steady = c.in_default.ensures.steady f in
       (steady.0, rw (c.intend.ensures.rows, c.in_default.ensures.opened) steady.1);
+  lasts = λ f safe. (c.in_default.ensures.lasts f safe, (c.intend.ensures.keeps f).1 safe);
 }
+
+-- ---- what outlives a loss of power
+
+pub returns-in-Err-intend-clause-keeps : goal.returns-in-Err-intend-clause-keeps
+returns-in-Err-intend-clause-keeps g c = λ m f. (no_more_keeps (g.F.FlatFile.stored c.args.mbox.now).content (c.edges.ensures.keeps m), (c.intend.ensures.keeps f).0)
+
+pub returns-in-Ok-append_entry-clause-keeps : goal.returns-in-Ok-append_entry-clause-keeps
+returns-in-Ok-append_entry-clause-keeps g c = λ m f.
+    let appends = c.in-Ok-append_entry.ensures.appends m in
+    let measures = c.in-Ok.ensures.measures appends.0 in (
+      λ bytes is front. c.append_entry.ensures.keeps m bytes (ap (λ (s : Stored). s.content) measures.1.1 ∙ is)
+          (no_more_keeps (g.F.FlatFile.stored c.args.mbox.now).content (c.edges.ensures.keeps appends.0) bytes is front),
+      (c.intend.ensures.keeps f).0,
+    )
+
+pub returns-in-Err-append_entry-clause-keeps : goal.returns-in-Err-append_entry-clause-keeps
+returns-in-Err-append_entry-clause-keeps g c = λ m f.
+    let appends = c.in-Err-append_entry.ensures.appends m in
+    let measures = c.in-Ok.ensures.measures appends.0 in (
+      λ bytes is front. c.append_entry.ensures.keeps m bytes (ap (λ (s : Stored). s.content) measures.1.1 ∙ is)
+          (no_more_keeps (g.F.FlatFile.stored c.args.mbox.now).content (c.edges.ensures.keeps appends.0) bytes is front),
+      (c.intend.ensures.keeps f).0,
+    )

@@ -1,7 +1,7 @@
 use Rattle.std.proofs.Common.{◌≡◌, List, [], ◌∷◌, ◌++◌, Vec, Ok, length, arith, sym, ap, subst, ◌∙◌, refl}
 use Rattle.std.proofs.lemmas.Bool.{true≢false}
 use Rattle.mail_terms.specs.Text.{IsWhole}
-use Rattle.fetch_rules.specs.Record.{Row, has_row}
+use Rattle.fetch_rules.specs.Record.{Row, has_row, marked}
 use Rattle.pop3_wire.specs.Link.{WhereSound}
 use Rattle.pop3_client.specs.Client.{link_of, place_of}
 use Rattle.pop3_client.specs.Texts.{Fetched}
@@ -14,7 +14,8 @@ use Rattle.fetch_session.specs.declared.report.ReportLine.TheVariants.{Delivered
 use Rattle.fetch_session.proofs.TakeLemmas.{text_broken}
 use Rattle.fetch_session.proofs.MboxLemmas.{body_whole, entry_not_saved, entry_stored, not_held, text_refused}
 use Rattle.fetch_session.proofs.IntakeLemmas.{took_broke, takes_text, takes_held}
-use Rattle.fetch_session.proofs.PartLemmas.{link_cut, link_then_cut}
+use Rattle.fetch_session.proofs.PartLemmas.{link_cut, link_then_cut, same_ledger}
+use Rattle.fetch_session.specs.Lasting.{AreLeft, Leaves}
 use Rattle.fetch_session.specs.Parts.{KeepsLink}
 use Rattle.fetch_session.specs.Report.{Adds}
 use Rattle.fetch_session.proofs.RefusalLemmas.{before_cut}
@@ -116,6 +117,40 @@ returns-in-Ok-remember-clause-ledger g c = record {
   written = record { closed = c.in-Ok-remember.ensures.closed; steady = λ f. (c.in-Ok-remember.ensures.steady f).1 };
   rows = λ other has. ap (λ (r : List Row). has_row r other) (c.in-Ok-remember.ensures.rows)
       ∙ c.marked_keeps_rows.ensures c.append_text.new.ledger.seen.rows c.args.uid.now other ∙ ap (λ (r : List Row). has_row r other) c.append_text.ensures.ledger.rows ∙ has;
+  left = λ f safe.
+      let before = (c.in-Ok-remember.ensures.saves f).0 in
+      subst (λ (r : List Row). Leaves g.F.FlatFile c.remember.new.file (AreLeft r (marked r c.args.uid.now))) c.append_text.ensures.ledger.rows
+      ((c.remember.ensures.keeps f).1 (c.in_default.ensures.ledger.lasts before safe).0);
+}
+
+pub returns-clause-ledger : goal.returns-clause-ledger
+returns-clause-ledger g c = record {
+  lines = noted g (goal.at.returns-clause-ledger g c).After-note;
+  sound = λ f. (c.append_text.ensures.ledger.steady (c.in-Err-remember.ensures.saves f).0).0;
+  written = tt;
+  rows = tt;
+  left = λ f safe.
+      let before = (c.in-Err-remember.ensures.saves f).0 in
+      subst (λ (r : List Row). Leaves g.F.FlatFile c.remember.new.file (AreLeft r (marked r c.args.uid.now))) c.append_text.ensures.ledger.rows
+      ((c.remember.ensures.keeps f).1 (c.in_default.ensures.ledger.lasts before safe).0);
+}
+
+pub returns-in-Err-clause-ledger : goal.returns-in-Err-clause-ledger
+returns-in-Err-clause-ledger g c = same_ledger c.args.uid.now c.args.ledger.now _ c.requires.ready
+
+pub returns-in-Err-read_text-clause-ledger : goal.returns-in-Err-read_text-clause-ledger
+returns-in-Err-read_text-clause-ledger g c = same_ledger c.args.uid.now c.args.ledger.now _ c.requires.ready
+
+pub returns-then-not-is_whole-clause-ledger : goal.returns-then-not-is_whole-clause-ledger
+returns-then-not-is_whole-clause-ledger g c = same_ledger c.args.uid.now c.args.ledger.now _ c.requires.ready
+
+pub returns-in-Err-append_text-clause-ledger : goal.returns-in-Err-append_text-clause-ledger
+returns-in-Err-append_text-clause-ledger g c = record {
+  lines = subst (λ lines. Adds lines 1 c.append_text.new.ledger.lines) c.append_text.ensures.ledger.lines (omega arith, omega arith);
+  sound = λ f. (c.append_text.ensures.ledger.steady f).0;
+  written = tt;
+  rows = tt;
+  left = λ f safe. (c.append_text.ensures.ledger.lasts f safe).1 (marked c.args.ledger.now.seen.rows c.args.uid.now);
 }
 
 -- ---- the link
@@ -153,3 +188,13 @@ returns-in-Err-remember-clause-link g c = link_then_cut c.plain-in-Err-remember.
 pub returns-in-Err-clause-link : goal.returns-in-Err-clause-link
 returns-in-Err-clause-link g c = link_cut c.in-Err.fault c.open.ensures.link c.broken.ensures c.in-Err.ensures.counted
     (did_so g.W.Wire c.in-Err.ensures.opens (took_broke c.conversations_are_paced.ensures (retr c.args.number) _ _ c.in-Err.fault))
+
+pub returns-in-Ok-remember-clause-keeps : goal.returns-in-Ok-remember-clause-keeps
+returns-in-Ok-remember-clause-keeps g c = λ m f.
+    let keeps = c.append_text.ensures.keeps m (c.in-Ok-remember.ensures.saves f).0 in
+    (keeps.0, λ bytes front. (c.remember.ensures.keeps f).0 bytes (keeps.1 bytes front))
+
+pub returns-clause-keeps : goal.returns-clause-keeps
+returns-clause-keeps g c = λ m f.
+    let keeps = c.append_text.ensures.keeps m (c.in-Err-remember.ensures.saves f).0 in
+    (keeps.0, λ bytes front. (c.remember.ensures.keeps f).0 bytes (keeps.1 bytes front))

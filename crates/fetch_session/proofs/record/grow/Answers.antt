@@ -1,3 +1,4 @@
+use Rattle.fetch_session.proofs.LastLemmas.{part_left, safe_left}
 use Rattle.fetch_session.proofs.RecordLemmas.{not_empty, grown, cut_short}
 use Rattle.fetch_session.proofs.record.grow.Goals as goal
 
@@ -16,3 +17,18 @@ returns-in-Err-clause-saves g c = λ kept.
       λ was now grows. cut_short c.appended_counts.ensures c.cut_is_ignored.ensures (g.F.FlatFile.stored c.args.file.now) (g.F.FlatFile.stored c.append.new.self) c.args.group.now was now c.in-Err.field-0
           (c.requires.begun appends.0 (not_empty c.args.group.now c.is_empty.result c.if-is_empty.false c.is_empty.ensures)) grows appends.1,
     )
+
+pub returns-then-is_empty-clause-leaves : goal.returns-then-is_empty-clause-leaves
+returns-then-is_empty-clause-leaves g c = λ kept safe was stood. safe_left g.F.FlatFile c.args.file.now was c.args.group.now safe stood
+
+pub returns-in-Ok-clause-leaves : goal.returns-in-Ok-clause-leaves
+returns-in-Ok-clause-leaves g c = λ kept safe was stood.
+    part_left g.F.FlatFile c.append.new.self (g.F.FlatFile.stored c.args.file.now) was c.args.group.now
+    (c.requires.begun (c.in-Ok.ensures.appends kept).0 (not_empty c.args.group.now c.is_empty.result c.if-is_empty.false c.is_empty.ensures)) stood
+    ((c.append.ensures.keeps kept).1 safe.1)
+
+pub returns-in-Err-clause-leaves : goal.returns-in-Err-clause-leaves
+returns-in-Err-clause-leaves g c = λ kept safe was stood.
+    part_left g.F.FlatFile c.append.new.self (g.F.FlatFile.stored c.args.file.now) was c.args.group.now
+    (c.requires.begun (c.in-Err.ensures.appends kept).0 (not_empty c.args.group.now c.is_empty.result c.if-is_empty.false c.is_empty.ensures)) stood
+    ((c.append.ensures.keeps kept).1 safe.1)

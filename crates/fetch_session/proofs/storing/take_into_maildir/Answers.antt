@@ -13,7 +13,7 @@ use Rattle.fetch_session.proofs.LastLemmas.{came_outlives}
 use Rattle.fetch_session.proofs.StoreLemmas.{stores_grows}
 use Rattle.fetch_session.proofs.TakeLemmas.{text_broken, text_wanting, text_stops, text_stored, text_not_saved}
 use Rattle.fetch_session.proofs.IntakeLemmas.{took_broke, takes_text, takes_stopped}
-use Rattle.fetch_session.proofs.PartLemmas.{link_cut, link_idle, link_then_cut}
+use Rattle.fetch_session.proofs.PartLemmas.{link_cut, link_idle, link_then_cut, same_ledger}
 use Rattle.fetch_session.specs.Intake.{TookTillCut}
 use Rattle.fetch_session.specs.Parts.{KeepsLink}
 use Rattle.fetch_session.specs.Report.{Adds}
@@ -93,7 +93,26 @@ returns-in-Ok-remember-clause-ledger g c = record {
   written = record { closed = c.in-Ok-remember.ensures.closed; steady = λ f. (c.in-Ok-remember.ensures.steady f).1 };
   rows = λ other has. ap (λ (r : List Row). has_row r other) c.in-Ok-remember.ensures.rows
       ∙ c.marked_keeps_rows.ensures c.args.ledger.now.seen.rows c.args.uid.now other ∙ has;
+  left = λ f safe. (c.remember.ensures.keeps f).1 safe;
 }
+
+pub returns-in-Err-remember-clause-ledger : goal.returns-in-Err-remember-clause-ledger
+returns-in-Err-remember-clause-ledger g c = record {
+  lines = noted g (goal.at.returns-in-Err-remember-clause-ledger g c).After-note;
+  sound = λ f. (c.in-Err-remember.ensures.saves f).0;
+  written = tt;
+  rows = tt;
+  left = λ f safe. (c.remember.ensures.keeps f).1 safe;
+}
+
+pub returns-in-Err-clause-ledger : goal.returns-in-Err-clause-ledger
+returns-in-Err-clause-ledger g c = same_ledger c.args.uid.now c.args.ledger.now _ c.requires.ready
+
+pub returns-in-Err-open-clause-ledger : goal.returns-in-Err-open-clause-ledger
+returns-in-Err-open-clause-ledger g c = same_ledger c.args.uid.now c.args.ledger.now _ c.requires.ready
+
+pub returns-in-Err-store_text-clause-ledger : goal.returns-in-Err-store_text-clause-ledger
+returns-in-Err-store_text-clause-ledger g c = same_ledger c.args.uid.now c.args.ledger.now _ c.requires.ready
 
 -- ---- what was taken from the link
 
