@@ -1,3 +1,4 @@
+pub mod ExactListing
 pub mod FileFolder
 pub mod HostFile
 pub mod MailCalls

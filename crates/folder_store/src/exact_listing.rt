@@ -1,5 +1,9 @@
 //! The names of a folder, listed exactly although others rename files in it meanwhile.
 
+ghost use Rattle.std.specs.Prelude.{◌≡◌};
+ghost use Rattle.std.specs.Duration.{as_nanos};
+ghost use Rattle.folder_store.specs.ExactListing.{IsListing, left_of};
+
 use std::fs::Metadata;
 use std::io::{self, ErrorKind};
 use std::os::unix::fs::MetadataExt;
@@ -89,8 +93,7 @@ impl Sighting {
         ChangeTime::of(&self.folder)
     }
 
-    /// How long to wait until each later change gives the folder another time than the one seen: until
-    /// that time is older than a step, or was seen a step ago, whatever the clock of dates says.
+    /// How long to wait before each later change gives the folder another time than the one seen.
     fn wait<R: Clock>(&self, rt: &R) -> io::Result<Duration> {
         // A clock of dates before 1970 is an error: then nothing is known of the age.
         let age = match rt.since_1970() {
@@ -98,7 +101,40 @@ impl Sighting {
             Err(_) => Duration::ZERO,
         };
         let watched = rt.monotonic()?.saturating_sub(self.at);
-        Ok(self.change().step().saturating_sub(age.max(watched)))
+        Ok(left_of(self.change().step(), age, watched))
+    }
+}
+
+/// What is left of a step where the time of change is this old, by the clock of dates, and was seen this
+/// long ago, whatever that clock says.
+fn left_of(step: Duration, age: Duration, watched: Duration) -> Duration
+    ensures { as_nanos result ≡ left_of step age watched }
+{
+    step.saturating_sub(age).min(step.saturating_sub(watched))
+}
+
+/// What a listing of a folder is.
+#[derive(Clone, Copy)]
+enum Listing {
+    /// The names at one moment.
+    Exact,
+    /// Perhaps not: the folder changed meanwhile.
+    Changed,
+    /// The same, and the folder has changed for too long.
+    TooBusy,
+}
+
+/// What a listing is, by the folder's time of change before and after it, and how long ago the first listing
+/// began.
+fn listing_of(before: ChangeTime, after: ChangeTime, passed: Duration) -> Listing
+    ensures { IsListing before after passed result }
+{
+    if before == after {
+        Listing::Exact
+    } else if passed < Duration::from_secs(MOST_SECONDS) {
+        Listing::Changed
+    } else {
+        Listing::TooBusy
     }
 }
 
@@ -157,14 +193,14 @@ pub fn list_names<R: Files + Clock + AllocGlobal + Clone + Drop>(
         }
         let names = pass_through(rt, path, &seen)?;
         let again = Sighting::now(rt, path)?;
-        if again.change() == seen.change() {
-            let folder = again.folder;
-            return Ok(FolderNames { names, folder });
+        match listing_of(seen.change(), again.change(), again.at.saturating_sub(start)) {
+            Listing::Exact => {
+                let folder = again.folder;
+                return Ok(FolderNames { names, folder });
+            }
+            Listing::Changed => seen = again,
+            Listing::TooBusy => break,
         }
-        if again.at.saturating_sub(start) >= Duration::from_secs(MOST_SECONDS) {
-            break;
-        }
-        seen = again;
     }
     Err(io::Error::from(ErrorKind::TimedOut))
 }

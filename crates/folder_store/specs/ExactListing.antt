@@ -1,0 +1,22 @@
+-- What follows the listing of a folder in which others rename files.
+use Rattle.std.specs.Prelude.{◌≡◌, ◌≢◌, ℕ, ◌-◌, ◌<◌, ◌≤◌, max}
+use Rattle.std.specs.Duration.{as_nanos}
+use Rattle.std.specs.declared.time.Duration.{Duration}
+use Rattle.folder_store.specs.declared.exact_listing.ChangeTime.{ChangeTime}
+use Rattle.folder_store.specs.declared.exact_listing.Listing.{Listing}
+use Rattle.folder_store.specs.declared.exact_listing.Listing.TheVariants.{Exact, Changed, TooBusy}
+
+-- for how many nanoseconds a folder that changes all the time is listed again
+abbrev pub most_nanos : ℕ
+most_nanos = 2_000_000_000
+
+-- a listing has the folder's names at one moment if the folder's time of change is the same before and after it; else
+-- the folder is listed again, until this time has passed
+abbrev pub IsListing : ChangeTime → ChangeTime → Duration → Listing → Type 0
+IsListing before after passed Exact = before ≡ after
+IsListing before after passed Changed = (before ≢ after) × (as_nanos passed < most_nanos)
+IsListing before after passed TooBusy = (before ≢ after) × (most_nanos ≤ as_nanos passed)
+
+-- what is left of a step, in nanoseconds, where the time of change is this old, and was seen this long ago
+abbrev pub left_of : Duration → Duration → Duration → ℕ
+left_of step age watched = as_nanos step - max (as_nanos age) (as_nanos watched)
