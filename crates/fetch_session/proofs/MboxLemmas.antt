@@ -1,16 +1,14 @@
 -- What is done to an mboxrd file, and what it leaves.
-use Rattle.std.proofs.Common.{◌≡◌, ◌⊎◌, inl, inr, ◌+◌, ℕ, Bool, List, [], ◌∷◌, ◌++◌, length, Option, None, Some, Ok, Err, refl, sym, ap, subst, ◌∙◌, arith, append_assoc}
-use Rattle.std.proofs.lemmas.Option.{none-some, same_Some}
+use Rattle.std.proofs.Common.{◌≡◌, ◌⊎◌, inl, inr, ℕ, Bool, List, [], ◌∷◌, ◌++◌, length, Option, None, Some, Ok, Err, refl, sym, ap, subst, ◌∙◌, arith, append_assoc}
+use Rattle.std.proofs.lemmas.Option.{none-some}
 use Rattle.std.proofs.lemmas.List.{append-nil}
 use Rattle.pop3_wire.specs.Body.{kept, text_of, unstuffed}
 use Rattle.mail_terms.specs.Listing.{Item}
 use Rattle.mail_terms.specs.Text.{IsWhole}
-use Rattle.std.specs.Prelude.{option_map}
-use Rattle.std.specs.List.{flat_map}
 use Rattle.fetch_rules.specs.Record.{Row, Held, Intent, Loaded, none_open, marked}
-use Rattle.mail_store.specs.FlatFile.{Stored, holding, counted, edges_of, Denies, Measures}
-use Rattle.mail_store.specs.Mboxrd.{MayGoOn, entry_of}
-use Rattle.mail_store.specs.MboxCalls.{GoesOn, RefusesLook, Checks, AppendsEntry}
+use Rattle.mail_store.specs.FlatFile.{Stored, holding, counted, Measures}
+use Rattle.mail_store.specs.Mboxrd.{entry_of}
+use Rattle.mail_store.specs.MboxCalls.{RefusesLook, Checks, AppendsEntry}
 use Rattle.mail_store.specs.declared.fault.StoreFault.{StoreFault}
 use Rattle.mail_store.specs.declared.fault.StoreFault.TheVariants as refused
 use Rattle.mail_store.specs.declared.file.flat_file.Edges.{Edges}
@@ -26,7 +24,7 @@ use Rattle.fetch_session.specs.declared.fault.Fault.TheVariants.{SeenRefused, No
 use Rattle.fetch_session.specs.declared.readiness.Found.{Found}
 use Rattle.fetch_session.specs.Fault.{cut_of, fault_of}
 use Rattle.fetch_session.specs.Mbox.{AppendsText, AsksMbox, HoldsText, IsIntended, IsSettledAtMost, IsStoreFault, MarksEntry, RefusesEntry, SettlesIntent, intent_of}
-use Rattle.fetch_session.specs.Record.{held as with_held, Saves, Steady, held_in, intent_at, with_open}
+use Rattle.fetch_session.specs.Record.{Saves, held_in, intent_at, with_open}
 use Rattle.fetch_session.specs.Scene.{scene, Stops, TakesTask}
 use Rattle.fetch_session.specs.Store.{Appended}
 use Rattle.fetch_session.specs.Task.{stores}
