@@ -1,14 +1,14 @@
 -- What saving the record leaves.
-use Rattle.std.proofs.Common.{◌≡◌, ◌≢◌, ◌⊎◌, inl, inr, ℕ, Bool, false, List, [], ◌∷◌, ◌++◌, Option, None, Some, Result, Ok, Err, ◌≤◌, refl, sym, ap, subst, arith, ◌∙◌}
+use Rattle.std.proofs.Common.{◌≡◌, ◌≢◌, ◌⊎◌, inl, inr, ℕ, Bool, false, List, [], ◌∷◌, ◌++◌, Option, None, Some, Result, Ok, Err, ◌≤◌, refl, sym, ap, arith, ◌∙◌}
 use Rattle.std.specs.Prelude.{OnOk, ◌==◌, ◌||◌, true, if◌then◌else◌, length}
 use Rattle.std.proofs.lemmas.Bool.{true≢false, or_parts}
 use Rattle.std.proofs.lemmas.List.{append-nil}
 use Rattle.fetch_rules.specs.Record.{Row, Intent, Held, Loaded, none_open, IntentHasRow, IsIntent, has_row, marked}
 use Rattle.fetch_rules.specs.RecordFile.{Version, One, Two, header, file_of, intent_line}
-use Rattle.fetch_rules.specs.RecordMeaning.{Meaning, Rows, Fault as Faulty, Means, has_bytes, taken}
+use Rattle.fetch_rules.specs.RecordMeaning.{Rows, Means, has_bytes, taken}
 use Rattle.fetch_rules.specs.RecordGrowth.{Updates, Grows, AppendedCounts, CutIsIgnored, taken_all}
 use Rattle.fetch_rules.specs.Intents.{has_intent, is_older, closed_rows, IsNoneOrOf}
-use Rattle.mail_store.specs.FlatFile.{Stored, holding, counted, Appends}
+use Rattle.mail_store.specs.FlatFile.{Stored, Appends}
 use Rattle.mail_store.specs.declared.fault.StoreFault.{StoreFault}
 use Rattle.fetch_session.specs.declared.fault.Fault.{Fault}
 use Rattle.fetch_session.specs.declared.fault.Fault.TheVariants.{SeenRefused, NoMemory}

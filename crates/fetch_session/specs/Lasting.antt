@@ -120,7 +120,8 @@ pub record AreLeft (rows others : List Row) (left : Option (List ℕ)) : Type 0 
   pub next_is : (next ≡ rows) ⊎ (next ≡ others)
   pub file : IsLeft (held rows before) added left
 
--- what these tasks stored and marked outlives a loss of power; and no more than the marks of the tasks after them may be left besides
+-- what these tasks stored and marked outlives a loss of power; and at most a part of one intent, or of the marks of these other ids,
+-- may be left behind it
 pub record DonesLast {D F : Type 0} (disk : DiskGhosts D) (file : FileGhosts F) (target : Target) (dones : List Done) (next : List (List ℕ))
     (old : Scene) (store : Store D F) (f : F) : Type 0 where
   pub texts : TextsLast disk file target dones old.store store

@@ -64,7 +64,8 @@ pub record KeepsLedger {F H Z : Type 0} (file : FileGhosts F) (uid : List ℕ) (
   pub rows : OnOk result (KeepsIds old.seen.rows new.seen.rows)
   pub left : file.sound new.file → IsSafe file old.file → Leaves file new.file (AreLeft old.seen.rows (marked old.seen.rows uid))
 
--- nothing was noted, and the rows are the same, also those that may be left; and if all went well, at most the intent of this id is open, and all is written down
+-- nothing was noted, and the rows are the same, also those that may be left; and if all went well, at most the intent of this id is
+-- open, and all is written down
 pub record KeepsRecord {F H Z : Type 0} (file : FileGhosts F) (uid : List ℕ) (old : Ledger F H Z) (result : Result (Unit {0}) Fault) (new : Ledger F H Z)
     : Type 0 where
   pub lines : new.lines ≡ old.lines

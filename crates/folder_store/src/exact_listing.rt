@@ -193,7 +193,11 @@ pub fn list_names<R: Files + Clock + AllocGlobal + Clone + Drop>(
         }
         let names = pass_through(rt, path, &seen)?;
         let again = Sighting::now(rt, path)?;
-        match listing_of(seen.change(), again.change(), again.at.saturating_sub(start)) {
+        match listing_of(
+            seen.change(),
+            again.change(),
+            again.at.saturating_sub(start),
+        ) {
             Listing::Exact => {
                 let folder = again.folder;
                 return Ok(FolderNames { names, folder });

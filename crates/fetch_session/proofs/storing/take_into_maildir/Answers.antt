@@ -13,7 +13,7 @@ use Rattle.fetch_session.proofs.LastLemmas.{came_outlives}
 use Rattle.fetch_session.proofs.StoreLemmas.{stores_grows}
 use Rattle.fetch_session.proofs.TakeLemmas.{text_broken, text_wanting, text_stops, text_stored, text_not_saved}
 use Rattle.fetch_session.proofs.IntakeLemmas.{took_broke, takes_text, takes_stopped}
-use Rattle.fetch_session.proofs.PartLemmas.{link_cut, link_idle, link_then_cut, same_ledger}
+use Rattle.fetch_session.proofs.PartLemmas.{link_cut, link_then_cut, same_ledger}
 use Rattle.fetch_session.specs.Intake.{TookTillCut}
 use Rattle.fetch_session.specs.Parts.{KeepsLink}
 use Rattle.fetch_session.specs.Report.{Adds}
