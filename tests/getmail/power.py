@@ -38,7 +38,7 @@ WANTED = [(b"one".ljust(70, b"-"), b"one\n"), (b"two".ljust(70, b"-"), b"a line\
           (b"three".ljust(70, b"-"), b"three\nFrom x\n\n.\n")]
 # In an mboxrd file the second entry has a page of its own, between the ends of two others.
 WANTED_AS_ENTRIES = [WANTED[0], (WANTED[1][0], b"a line\n" * 1400), WANTED[2]]
-# Too large to be fetched, so that their ids alone make the record long: a group goes over the end of its first page.
+# Too large to be fetched, so that their ids alone make the record long: a group goes over the end of a block.
 TOO_LARGE = b"x\n" * 10_001
 LIMIT = "max_message_size = 20000\n"
 
@@ -67,7 +67,7 @@ class Scene:
         return [] if self.is_first else [*WANTED[:1], *((uid, TOO_LARGE) for uid in large_ones(2, b"early"))]
 
     def messages(self):
-        """What is on the server. The record's groups cross the end of a page: the group of a text, or that of new ids."""
+        """What is on the server. The record's groups cross the end of a block: the group of a text, or that of new ids."""
         count = 44 if self.is_first else 60
         return self.wanted() + [(uid, TOO_LARGE) for uid in large_ones(2, b"early") + large_ones(count - 2, b"late")]
 
@@ -78,7 +78,7 @@ SCENES = [Scene(f"{name}{', deleting' if words else ''}{', after a kill' if is_k
           for words in ((), ("-d",))]
 SCENES += [replace(scene, name=f"{scene.name}, into an mboxrd file", is_mboxrd=True) for scene in SCENES if scene.words]
 SCENES += [replace(scene, name=f"{scene.name}, in blocks of {block}", block=block)
-           for block in (512, 1024) for scene in SCENES if scene.is_mboxrd and scene.is_first]
+           for block in (1024, 4096) for scene in SCENES if scene.is_mboxrd and scene.is_first]
 
 
 @dataclass(frozen=True)

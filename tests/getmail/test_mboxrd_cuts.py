@@ -19,7 +19,7 @@ from harness import growths, preload, programs
 from harness.mboxrd import entries
 
 THREE = [(b"a", b"one\n"), (b"b", b"two\nFrom x\n"), (b"c", b"three\n")]
-# The second entry crosses borders of the file's pages, so that it is looked at and flushed in parts.
+# The second entry crosses borders of the file's blocks.
 LONG = [(b"a", b"one\n"), (b"b", b"From me\n" + b"a line of the text\n" * 600), (b"c", b"three\n")]
 LOGIN = ["USER u", "PASS p", "STAT", "UIDL", "LIST"]
 GOOD = programs.Run(0, b"", b"")

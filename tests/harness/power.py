@@ -4,7 +4,7 @@ The model knows nothing of mail: it has a tree of files below one folder and wha
 the disk. Of the rest each thing may be there or not by itself:
 
 - a name of a folder leads to what it led to when the folder was last flushed, or to anything that it led to since;
-- each block of a write (4,096 octets of the file, at a multiple of that, or fewer) is there, is there up to its half, is
+- each block of a write (512 octets of the file, at a multiple of that, or fewer) is there, is there up to its half, is
   zeros, or is missing; blocks that are missing before one that is there are zeros, as the system reads a hole;
 - a new length of a file holds or doesn't.
 
@@ -97,7 +97,7 @@ def rows_of(note):
 
 
 class Watched:
-    """The tree below a folder before a program runs, and the numbers of its files. Some paths have smaller blocks."""
+    """The tree below a folder before a program runs, and the numbers of its files. Some paths have larger blocks."""
 
     def __init__(self, root, blocks=None):
         self.root = Path(root).resolve()

@@ -31,7 +31,7 @@ class ShrunkFiles(unittest.TestCase):
 
     def test_an_append_makes_no_file(self):
         """A file that is gone by then stays gone: a new one would hold only what is appended."""
-        for how, count in (("append", 1), ("pages", 100)):
+        for how, count in (("append", 1), ("blocks", 100)):
             with self.subTest(how):
                 work = folder_for(self)
                 file = work / "mbox"
