@@ -5,6 +5,8 @@
 #[cfg(test)]
 mod fetch_session_tests;
 #[cfg(test)]
+mod getmail_program_tests;
+#[cfg(test)]
 mod local_fetch_tests;
 #[cfg(test)]
 mod no_memory_tests;
