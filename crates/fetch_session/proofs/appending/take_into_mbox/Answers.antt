@@ -123,9 +123,9 @@ returns-in-Ok-remember-clause-ledger g c = record {
       ((c.remember.ensures.keeps f).1 (c.in_default.ensures.ledger.lasts before safe).0);
 }
 
-pub returns-clause-ledger : goal.returns-clause-ledger
-returns-clause-ledger g c = record {
-  lines = noted g (goal.at.returns-clause-ledger g c).After-note;
+pub returns-in-Err-remember-clause-ledger : goal.returns-in-Err-remember-clause-ledger
+returns-in-Err-remember-clause-ledger g c = record {
+  lines = noted g (goal.at.returns-in-Err-remember-clause-ledger g c).After-note;
   sound = λ f. (c.append_text.ensures.ledger.steady (c.in-Err-remember.ensures.saves f).0).0;
   written = tt;
   rows = tt;
@@ -194,7 +194,7 @@ returns-in-Ok-remember-clause-keeps g c = λ m f.
     let keeps = c.append_text.ensures.keeps m (c.in-Ok-remember.ensures.saves f).0 in
     (keeps.0, λ bytes front. (c.remember.ensures.keeps f).0 bytes (keeps.1 bytes front))
 
-pub returns-clause-keeps : goal.returns-clause-keeps
-returns-clause-keeps g c = λ m f.
+pub returns-in-Err-remember-clause-keeps : goal.returns-in-Err-remember-clause-keeps
+returns-in-Err-remember-clause-keeps g c = λ m f.
     let keeps = c.append_text.ensures.keeps m (c.in-Err-remember.ensures.saves f).0 in
     (keeps.0, λ bytes front. (c.remember.ensures.keeps f).0 bytes (keeps.1 bytes front))
