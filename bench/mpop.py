@@ -2,7 +2,7 @@
 """Benchmark of `getmail` beside mpop, if that is installed, in one run and in turns, mpop with pipelining off.
 
 Polls of 20,000 and 100,000 known messages, none of them new: known by the record alone, or also held in the Maildir
-(mpop looks into no Maildir). To be reached: at most mpop's processor time and 1.3 of its memory, and a growth from
+(mpop looks into no Maildir). To be reached: at most mpop's processor time and memory, and a growth from
 20,000 to 100,000 that is linear within a tenth.
 
 Then what both remember of 20,000 messages with ids of 16 octets, once `getmail` has fetched them and looked once more. To be
@@ -43,7 +43,7 @@ FETCHES = (2_000, 20_000, 100_000)
 OCTETS = 400
 REMEMBERED = 20_000
 MOST_REMEMBERED = 36
-MOST_MEMORY = 1.3
+MOST_MEMORY = 1.0
 MOST_GROWTH = 1.1
 SLOWED = 200
 MOST_SLOWED = 2.0
