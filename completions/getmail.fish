@@ -1,6 +1,11 @@
 # Completion of getmail for fish.
 
-# The rc files in DIR, for a word that doesn't begin with / or ~.
+# Whether the word is a path, and not a name in DIR.
+function __getmail_has_path
+    string match -qr '^(-r|--rcfile=)?[/~]' -- (commandline -ct)
+end
+
+# The rc files in DIR.
 function __getmail_rcfiles
     set -l dir ~/.getmail
     set -l words (commandline -opc)
@@ -22,7 +27,8 @@ complete -c getmail -s l -l dont-delete -d 'Take delete as false; delete_after s
 complete -c getmail -s n -l new -d 'Fetch only what was not delivered before'
 complete -c getmail -l pretend -d 'Say what would be done, and do nothing'
 complete -c getmail -s q -l quiet -d 'Write no report'
-complete -c getmail -s r -l rcfile -r -F -a '(__getmail_rcfiles)' -d 'Settings'
+complete -c getmail -n __getmail_has_path -s r -l rcfile -r -F -d 'Settings'
+complete -c getmail -n 'not __getmail_has_path' -s r -l rcfile -x -a '(__getmail_rcfiles)' -d 'Settings'
 complete -c getmail -l trace -d 'Show the conversation and refused calls'
 complete -c getmail -s v -l verbose -d 'Report more'
 complete -c getmail -s V -l version -d 'Show the version'

@@ -68,13 +68,17 @@ class Completions(unittest.TestCase):
                                      ("command", "popd", "program"), ("", "/usr/local/bin/popd", "program")):
             asked = f"{stubs}; words=({word}); precommands=({before}); complete_it() {{ . completions/_popd }}; complete_it"
             self.assertEqual(self.offered(["zsh", "-fc", asked]), [wanted], (before, word))
+        # The completion of env that comes with zsh calls that of the program, and leaves `precommands` as it is.
+        by_env = f"{stubs}; words=(popd); _env() {{ . completions/_popd }}; _env"
+        self.assertEqual(self.offered(["zsh", "-fc", by_env]), ["program"])
 
     def test_fish_looks_for_an_rc_file_in_the_folder(self):
         if not shutil.which("fish"):
             self.skipTest("fish is not installed")
-        for words, wanted in (("-r w", "work"), (f"-g {self.home}/other -r hou", "house")):
+        for words, wanted in (("-r w", "work"), (f"-g {self.home}/other -r hou", "house"),
+                              (f"-r {self.home}/other/hou", f"{self.home}/other/house"), ("-r READ", None)):
             asked = f"source completions/getmail.fish; complete -C 'getmail {words}'"
-            self.assertIn(wanted, self.offered(["fish", "--no-config", "-c", asked]))
+            self.assertEqual(self.offered(["fish", "--no-config", "-c", asked]), [wanted] if wanted else [], words)
 
     def test_each_shell_understands_its_files(self):
         for shell, names in (("bash", ("getmail.bash", "popd.bash")), ("zsh", ("_getmail", "_popd")),
