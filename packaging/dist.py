@@ -36,11 +36,11 @@ Suggests: stunnel4, python3
 Conflicts: getmail4, getmail6
 Section: mail
 Priority: optional
-Description: POP3 fetcher and server that are proved correct
+Description: POP3 fetcher and server with machine-checked proofs
  getmail fetches mail from a POP3 server into a Maildir or an mboxrd file. A
  run may be cut at any moment: no message is lost and none is stored twice.
- popd is a small POP3 server over one user's Maildir. Both are proved to meet
- their contracts.
+ popd is a small POP3 server over one user's Maildir. A prover has checked the
+ contracts of both; their CHANGELOG.md says what these promise.
 """
 CHANGES = """\
 getmail ({version}) unstable; urgency=medium
