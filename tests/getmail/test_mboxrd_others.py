@@ -16,7 +16,7 @@ import unittest
 from getmail.mbox_account import OTHER, MboxAccount
 from getmail.server import MeddlingServer, OtherSizes, Server
 from harness import preload, programs
-from harness.mboxrd import entries, entry, quoted, unquoted
+from harness.mboxrd import SEPARATOR, entries, entry, quoted, unquoted
 
 THREE = [(b"a", b"one\n"), (b"b", b"two, a text of some octets\n" * 9), (b"c", b"three\n")]
 TEXTS = [text for _, text in THREE]
@@ -34,6 +34,30 @@ def foreign(length, first=b"From fred@example.org Sat Jan  3 01:05:34 1998\n"):
     if length < len(first) + 3:
         first = b"From fred now\n"
     return first + b"x" * (length - len(first) - 3) + b"\n\n\n"
+
+
+def told(account):
+    """What a session says that cut off what it doesn't know to be its own."""
+    return programs.Run(0, b"", b"getmail: what was cut off from the mbox file is kept in %s\n" % os.fsencode(account.kept))
+
+
+def mutt(home, keys, file="mbox"):
+    """Runs mutt on a terminal over a file of a home; these keys are pressed, and then it quits. Its status."""
+    (home / "muttrc").write_text(f"set folder={home} pipe_split=yes pipe_decode=no wait_key=no confirmappend=no\n"
+                                 "set quit=yes move=no delete=yes mark_old=no\n")
+    ours, theirs = pty.openpty()
+    with open(ours, "rb", buffering=0) as terminal:
+        process = subprocess.Popen(["mutt", "-n", "-F", home / "muttrc", "-f", home / file, "-e", f'push "{keys}<quit>"'],
+                                   stdin=theirs, stdout=theirs, stderr=theirs, start_new_session=True,
+                                   env=programs.environment(HOME=str(home), TERM="xterm", TZ="UTC"))
+        os.close(theirs)
+        # Its screen is read, or it would wait for that; once it is gone, reading is refused.
+        with contextlib.suppress(OSError):
+            while select.select([terminal], [], [], programs.SECONDS)[0] and terminal.read(65536):
+                pass
+        if process.poll() is None:
+            process.kill()
+        return process.wait(programs.SECONDS)
 
 
 class Intents(unittest.TestCase):
@@ -95,10 +119,6 @@ class Intents(unittest.TestCase):
         thread.join(programs.SECONDS)
         return run
 
-    def told(self, account):
-        """What a session says that cut off what it doesn't know to be its own."""
-        return programs.Run(0, b"", b"getmail: what was cut off from the mbox file is kept in %s\n" % os.fsencode(account.kept))
-
     def test_mail_with_the_same_first_line(self):
         """As mutt and Python's mailbox save it from another file of getmail: what is cut off is kept beside the record, each
         mail once, for the owner alone."""
@@ -106,7 +126,7 @@ class Intents(unittest.TestCase):
             one, two = (entry(octet * (length - len(entry(b"\n"))) + b"\n") for octet in (b"y", b"z"))
             with self.subTest(length=length), Server(THREE) as server, MboxAccount(server.port) as account:
                 for mail, all_kept in ((one, one), (one, one), (two, one + two), (two, one + two), (one, one + two + one)):
-                    self.assertEqual(self.settle(server, account, mail), self.told(account))
+                    self.assertEqual(self.settle(server, account, mail), told(account))
                     self.assertEqual(account.content(), entries(TEXTS))
                     self.assertEqual(account.kept.read_bytes(), all_kept)
                     self.assertEqual(account.kept.stat().st_mode & 0o777, 0o600)
@@ -135,7 +155,7 @@ class Intents(unittest.TestCase):
                 with self.subTest(rest=len(rest), had=len(had)), \
                         Server([THREE[0], (b"b", text), THREE[2]]) as server, MboxAccount(server.port) as account:
                     account.kept.write_bytes(had)
-                    self.assertEqual(self.settle(server, account, rest, text), GOOD if left is None else self.told(account))
+                    self.assertEqual(self.settle(server, account, rest, text), GOOD if left is None else told(account))
                     self.assertEqual(account.content(), entries([TEXTS[0], text, TEXTS[2]]))
                     self.assertEqual(account.kept.read_bytes() if account.kept.exists() else None, left)
 
@@ -307,6 +327,72 @@ class Meanwhile(unittest.TestCase):
             self.assertEqual(account.content(), b"")
 
 
+class Saved(unittest.TestCase):
+    """After a session that was broken off at an entry, others save mail of getmail's into the file, with getmail's own first
+    line: shorter than the entry, as long, and longer. None of it is lost, and the message comes once."""
+
+    TEXT = b"From: ann@example.org\nTo: u@example.org\nSubject: saved\nMessage-ID: <s@example.org>\n\n" + b"y\n" * 300
+
+    def by_python(self, home, file):
+        box, other = mailbox.mbox(home / file), mailbox.mbox(home / "other", create=False)
+        box.lock()
+        box.add(other[0])
+        box.flush()
+        box.unlock()
+        box.close()
+        other.close()
+
+    def by_mutt(self, home, file):
+        self.assertEqual(mutt(home, f"<copy-message>={file}<enter>", "other"), 0)
+
+    def by_another_account(self, home, file):
+        with Server([(b"y", self.TEXT)]) as server, MboxAccount(server.port) as account:
+            account.rcfile.write_text(account.rcfile.read_text().replace("~/mbox", str(home / file)))
+            thread = server.begin_session()
+            self.assertEqual(account.run("-q"), GOOD)
+            thread.join(programs.SECONDS)
+
+    def check_saved(self, break_off, kept):
+        """Whether what is saved is cut off and kept depends on how many octets more the entry has."""
+        for save in (self.by_python, self.by_another_account, *[self.by_mutt] * (shutil.which("mutt") is not None)):
+            for more in (-60, 0, 60):
+                with self.subTest(save=save.__name__, more=more), Server([]) as server, MboxAccount(server.port) as account:
+                    (account.home / "other").write_bytes(entry(self.TEXT))
+                    (account.home / "probe").touch()
+                    save(account.home, "probe")
+                    saved = (account.home / "probe").read_bytes()
+                    self.assertTrue(saved.startswith(SEPARATOR))
+                    text = b"x" * (len(saved) + more - len(entry(b"\n"))) + b"\n"
+                    server.messages = [(b"b", text)]
+                    break_off(server, account, len(entry(text)))
+                    save(account.home, "mbox")
+                    self.assertEqual(account.content(), saved)
+                    thread = server.begin_session()
+                    self.assertEqual(account.run("-q", "-d"), told(account) if kept(more) else GOOD)
+                    thread.join(programs.SECONDS)
+                    self.assertEqual(account.content(), (b"" if kept(more) else saved) + entry(text))
+                    self.assertEqual(account.kept.read_bytes() if account.kept.exists() else None, saved if kept(more) else None)
+                    self.assertEqual(server.messages, [])
+
+    def test_after_a_refused_append(self):
+        """The file was cut back and the intent closed, so all of it stays."""
+        def refuse(server, account, length):
+            thread = server.begin_session()
+            self.assertEqual(account.run("-q", "-d", LD_PRELOAD=str(library), OTHER_FULL=str(account.mbox)), REFUSED)
+            thread.join(programs.SECONDS)
+            self.assertEqual((account.content(), account.known()), (b"", ([], None)))
+
+        with preload.library("other_hands") as library:
+            self.check_saved(refuse, lambda more: False)
+
+    def test_after_a_kill(self):
+        """The intent is open: what isn't longer than the entry is cut off and kept."""
+        def kill(server, account, length):
+            account.record.write_bytes(b"getmail-seen 2\nb 5 0\n! b 0 %d\n" % length)
+
+        self.check_saved(kill, lambda more: more >= 0)
+
+
 class Readers(unittest.TestCase):
     """Programs that read the file find the texts, and new entries come after what they append."""
 
@@ -375,23 +461,7 @@ class Readers(unittest.TestCase):
         self.check_goes_on(entries([text for _, text in LETTERS]), b"From formail\n")
 
     def mutt(self, keys, file="mbox"):
-        """Runs mutt on a terminal over a file of the home; these keys are pressed, and then it quits."""
-        home = self.account.home
-        (home / "muttrc").write_text(f"set folder={home} pipe_split=yes pipe_decode=no wait_key=no confirmappend=no\n"
-                                     "set quit=yes move=no delete=yes mark_old=no\n")
-        ours, theirs = pty.openpty()
-        with open(ours, "rb", buffering=0) as terminal:
-            process = subprocess.Popen(["mutt", "-n", "-F", home / "muttrc", "-f", home / file, "-e", f'push "{keys}<quit>"'],
-                                       stdin=theirs, stdout=theirs, stderr=theirs, start_new_session=True,
-                                       env=programs.environment(HOME=str(home), TERM="xterm"))
-            os.close(theirs)
-            # Its screen is read, or it would wait for that; once it is gone, reading is refused.
-            with contextlib.suppress(OSError):
-                while select.select([terminal], [], [], programs.SECONDS)[0] and terminal.read(65536):
-                    pass
-            if process.poll() is None:
-                process.kill()
-            self.assertEqual(process.wait(programs.SECONDS), 0)
+        self.assertEqual(mutt(self.account.home, keys, file), 0)
 
     @unittest.skipIf(shutil.which("mutt") is None, "mutt is not installed")
     def test_mutt(self):

@@ -34,7 +34,7 @@ use Rattle.fetch_session.specs.declared.report.Skips.{Skips}
 use Rattle.fetch_session.specs.Report.{retrieved_in}
 use Rattle.fetch_session.specs.Laws.{SteadyFilesKeep, UnsavedFilesKeep}
 use Rattle.fetch_session.specs.Record.{Keeps, Steady, with_open}
-use Rattle.fetch_session.specs.Mbox.{MarksEntry, RefusesEntry, intent_of}
+use Rattle.fetch_session.specs.Mbox.{IsIntended, IsTakenBack, MarksEntry, RefusesEntry, intent_of}
 use Rattle.fetch_session.specs.Scene.{Scene, EntryNotSaved, Went, Fell, Stops, Does, scene}
 use Rattle.fetch_runs.specs.MboxSteps.{mbox_holds}
 use Rattle.fetch_runs.proofs.StateCases.{is_ended, UnsavedIn, unsaved_why, Starts, Tally, tally_right, tally_numbers, tally_number, mid_rows, mid_keeps, part_all, tally_all, part_done, tally_bare, tally_before, full_found, one_found, tally_spare, tally_old, tally_new, full_rows, tally_none}
@@ -158,12 +158,23 @@ module _ (steadies : SteadyFilesKeep) (unsaved : UnsavedFilesKeep) (mbox file : 
   with_nothing : (was : List ℕ) → mbox.content ≡ Some was → mbox'.content ≡ mbox.content → Keeps file'.content (with_open rows (intent_of was uid text)) → LeavesEntry mbox rows uid text mbox' file'
   with_nothing was is same keeps = inr (was, [], entry_of text, is, refl, same ∙ is ∙ ap Some (sym (append-nil was)), keeps)
 
+  -- the intent was closed again, unless that was refused
+  closed_again : IsTakenBack mbox file rows uid text file' → mbox'.content ≡ mbox.content → LeavesEntry mbox rows uid text mbox' file'
+  closed_again (was, there, opened, saves, inl closes) same = inl (same, steadies file'.content (none_open rows) (closes.1 (saves.1 steady)))
+  closed_again (was, there, opened, saves, inr closes) same =
+      elim (unsaved opened (with_open rows (intent_of was uid text)) (none_open rows) SeenRefused file' closes (saves.1 steady)) [
+        | inl old ↦ with_nothing was there same old
+        | inr new ↦ inl (same, new)
+      ]
+
+  left_open : IsIntended mbox file rows uid text file' → mbox'.content ≡ mbox.content → LeavesEntry mbox rows uid text mbox' file'
+  left_open (was, there, saves) same = with_nothing was there same (steadies file'.content (with_open rows (intent_of was uid text)) (saves.1 steady))
+
   leaves_entry : (fault : Fault) → RefusesEntry mbox file rows uid text fault mbox' file' → LeavesEntry mbox rows uid text mbox' file'
   leaves_entry (StoreRefused why.Missing) (none, same, is) = as_it_was (ap (λ (s : Stored). s.content) same) is
-  leaves_entry (StoreRefused why.Refused) (inl (same, is)) = as_it_was (ap (λ (s : Stored). s.content) same) is
-  leaves_entry (StoreRefused why.Refused) (inr ((was, there, saves), inl same)) =
-      with_nothing was there (ap (λ (s : Stored). s.content) same) (steadies file'.content (with_open rows (intent_of was uid text)) (saves.1 steady))
-  leaves_entry (StoreRefused why.Refused) (inr ((was, there, saves), inr (other, front, behind, goes_on, entry, now))) =
+  leaves_entry (StoreRefused why.Refused) (inl (same, inl is)) = as_it_was (ap (λ (s : Stored). s.content) same) is
+  leaves_entry (StoreRefused why.Refused) (inl (same, inr back)) = closed_again back (ap (λ (s : Stored). s.content) same)
+  leaves_entry (StoreRefused why.Refused) (inr ((was, there, saves), (other, front, behind, goes_on, entry, now))) =
       inr (
         was,
         front,
@@ -173,16 +184,16 @@ module _ (steadies : SteadyFilesKeep) (unsaved : UnsavedFilesKeep) (mbox file : 
         ap (λ (s : Stored). s.content) now ∙ ap (λ (l : List ℕ). Some (l ++ front)) (same_Some other was (sym goes_on.0 ∙ there)),
         steadies file'.content (with_open rows (intent_of was uid text)) (saves.1 steady),
       )
-  leaves_entry (StoreRefused why.NotMbox) (other, same, (was, there, saves)) =
-      with_nothing was there (ap (λ (s : Stored). s.content) same) (steadies file'.content (with_open rows (intent_of was uid text)) (saves.1 steady))
+  leaves_entry (StoreRefused why.NotMbox) (other, same, back) = closed_again back (ap (λ (s : Stored). s.content) same)
   leaves_entry SeenRefused (same, (was, there, saves)) =
       elim (unsaved file (none_open rows) (with_open rows (intent_of was uid text)) SeenRefused file' saves steady) [
         | inl old ↦ inl (ap (λ (s : Stored). s.content) same, old)
         | inr new ↦ with_nothing was there (ap (λ (s : Stored). s.content) same) new
       ]
-  leaves_entry NoMemory (same, inl is) = as_it_was (ap (λ (s : Stored). s.content) same) is
-  leaves_entry NoMemory (same, inr (was, there, saves)) =
-      with_nothing was there (ap (λ (s : Stored). s.content) same) (steadies file'.content (with_open rows (intent_of was uid text)) (saves.1 steady))
+  leaves_entry NoMemory (inl (same, inl is)) = as_it_was (ap (λ (s : Stored). s.content) same) is
+  leaves_entry NoMemory (inl (same, inr back)) = closed_again back (ap (λ (s : Stored). s.content) same)
+  leaves_entry NoMemory (inr (inl same, is)) = left_open is (ap (λ (s : Stored). s.content) same)
+  leaves_entry NoMemory (inr (inr same, is)) = left_open is (ap (λ (s : Stored). s.content) same)
   leaves_entry other never = absurd never
 
 -- a file that was only looked at is as it was

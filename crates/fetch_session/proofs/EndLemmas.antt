@@ -1,9 +1,10 @@
 -- The end of a session whose planned steps were done.
-use Rattle.std.proofs.Common.{◌≡◌, ℕ, List, [], ◌∷◌, None, Result, Ok, Err, OnOk, refl, sym, ap, subst, ◌∙◌, inl, inr, arith}
+use Rattle.std.proofs.Common.{◌≡◌, ℕ, List, [], ◌∷◌, Option, None, Result, Ok, Err, OnOk, refl, sym, ap, subst, ◌∙◌, inl, inr, arith}
 use Rattle.std.proofs.lemmas.List.{append-nil, append_cancel_left}
 use Rattle.std.specs.List.{AllByRecursion}
 use Rattle.fetch_rules.specs.Record.{Row}
 use Rattle.mail_store.specs.FlatFile.{Stored}
+use Rattle.mail_store.specs.declared.file.flat_file.Edges.{Edges}
 use Rattle.mail_store.specs.Maildir.{File, Maildir}
 use Rattle.mail_store.specs.declared.file.flat_file.FlatFile.{Ghosts as FileGhosts}
 use Rattle.mail_store.specs.declared.maildir.disk.MaildirDisk.{Ghosts as DiskGhosts}
@@ -18,7 +19,7 @@ use Rattle.fetch_session.specs.declared.account.Store.{Store}
 use Rattle.fetch_session.specs.declared.fault.Cut.{Cut}
 use Rattle.fetch_session.specs.declared.report.ReportLine.{ReportLine}
 use Rattle.fetch_session.specs.declared.work.Work.{Work}
-use Rattle.fetch_session.specs.Ending.{LooksAgain}
+use Rattle.fetch_session.specs.Ending.{IsTold, LooksAgain}
 use Rattle.fetch_session.specs.Fault.{cut_of}
 use Rattle.fetch_session.specs.Intake.{TookTillCut}
 use Rattle.fetch_session.specs.Lasting.{DoesForGood, IsSafeStore, IsSafeWork, KeepsMailIn, KeepsMboxIn, NewOutlive, outlives_in}
@@ -33,15 +34,19 @@ use Rattle.fetch_session.proofs.SceneLemmas.{brings_same, on_any}
 
 -- ---- what the look left
 
-pub look_same : (kind : Kind) (lines : List ReportLine) (old new : Stores) → LooksAgain kind lines old (Ok tt) new → new ≡ old
-look_same Files lines old new is = is
-look_same Entries lines old new is = is.1
+pub look_same : (kind : Kind) (lines : List ReportLine) (old new : Stores) (told : Option Edges) → LooksAgain kind lines old (Ok told) new → new ≡ old
+look_same Files lines old new told is = is
+look_same Entries lines old new told is = is.1
 
-pub look_maildir : (kind : Kind) (lines : List ReportLine) (old : Stores) (r : Result (Unit {0}) Fault) (new : Stores) → LooksAgain kind lines old r new
+pub look_told : (kind : Kind) (lines : List ReportLine) (old new : Stores) (told : Option Edges) → LooksAgain kind lines old (Ok told) new → IsTold kind lines old told
+look_told Files lines old new told is = tt
+look_told Entries lines old new told is = is.0
+
+pub look_maildir : (kind : Kind) (lines : List ReportLine) (old : Stores) (r : Result (Option Edges) Fault) (new : Stores) → LooksAgain kind lines old r new
     → new.maildir ≡ old.maildir
-look_maildir Files lines old (Ok done) new is = ap (λ (s : Stores). s.maildir) is
+look_maildir Files lines old (Ok told) new is = ap (λ (s : Stores). s.maildir) is
 look_maildir Files lines old (Err fault) new never = absurd never
-look_maildir Entries lines old (Ok done) new is = ap (λ (s : Stores). s.maildir) is.1
+look_maildir Entries lines old (Ok told) new is = ap (λ (s : Stores). s.maildir) is.1
 look_maildir Entries lines old (Err fault) new is = is.2
 
 -- the store refused, and QUIT wasn't said
@@ -118,6 +123,6 @@ module _ {D F H Z : Type 0} {disk : DiskGhosts D} {file : FileGhosts F} (work : 
       → DoesForGood disk file (IsSafeWork file work) (target_of work.store account) (says quit ∷ []) (scene a (stores_of disk file work.store) (file.stored work.ledger.file) work.ledger.seen.rows work.ledger.lines.items) r
       (scene b (stores_of disk file store) (file.stored work.ledger.file) work.ledger.seen.rows work.ledger.lines.items) store work.ledger.file
   does_quitting account a b r f took keeps same safe =
-      good_task (target_of work.store account) (says quit) a b work left r took (keeps.0, keeps.1, λ bytes is. is) (ready.written.steady f) (on_any r (ready.written.steady f))
+      good_task (target_of work.store account) (says quit) a b work left r took (keeps.0, keeps.1, λ last. last) (ready.written.steady f) (on_any r (ready.written.steady f))
       (λ sure. on_map r (λ s. ((sure.0, s), none_new disk file work.store store same)) (safe sure.1))
       (λ sure. same_left file work.ledger.file work.ledger.seen.rows work.ledger.seen.rows None sure.0 (ready.written.steady f))

@@ -2,7 +2,7 @@
 use Rattle.std.proofs.Common.{◌≡◌, ◌≢◌, ◌⊎◌, ℕ, List, [], ◌∷◌, ◌++◌, Option, None, Some, Result, Ok, Err, refl, sym, ap, subst, ◌∙◌, inl, inr, append_assoc, length}
 use Rattle.std.proofs.lemmas.List.{append-nil, append_cancel_left}
 use Rattle.std.proofs.lemmas.Grind.{flat_map-append}
-use Rattle.std.proofs.lemmas.Option.{none-some}
+use Rattle.std.proofs.lemmas.Option.{none-some, same_Some}
 use Rattle.std.specs.List.{flat_map, AllByRecursion}
 use Rattle.std.specs.Prelude.{option_map}
 use Rattle.pop3_wire.specs.Place.{Place}
@@ -14,7 +14,7 @@ use Rattle.mail_store.specs.declared.file.flat_file.FlatFile.{Ghosts as FileGhos
 use Rattle.mail_store.specs.FileName.{sized, sized_file}
 use Rattle.mail_store.specs.Maildir.{Maildir, File, file, with_file, mail}
 use Rattle.mail_store.specs.Mboxrd.{entry_of}
-use Rattle.mail_store.specs.Power.{KeepsBytes, KeepsMail, KeepsWhole, LastsWhole, LeavesNoMore, LeavesPart, Outlives}
+use Rattle.mail_store.specs.Power.{IsLonger, KeepsMail, KeepsWhole, LastsWhole, LeavesEither, LeavesLonger, LeavesNoMore, LeavesPart, Outlives}
 use Rattle.pop3_client.specs.Conversation.{TurnsJoin}
 use Rattle.fetch_session.specs.declared.account.Store.{Store}
 use Rattle.fetch_session.specs.declared.account.Store.TheVariants.{Maildir as InMaildir, Mboxrd as InMbox}
@@ -23,7 +23,7 @@ use Rattle.fetch_session.specs.declared.work.Work.{Work}
 use Rattle.fetch_session.specs.Record.{Steady, bytes_in, held}
 use Rattle.fetch_session.specs.Scene.{Scene, scene, Went, AllWent}
 use Rattle.fetch_session.specs.Store.{Brings, Ends, begun_with}
-use Rattle.fetch_session.specs.Lasting.{AreLeft, DoesForGood, DonesLast, IsSafe, IsSafeStore, IsSafeWork, IsLeft, KeepsMailIn, KeepsWork, Leaves, NewOutlive, RowsLast, TextsLast, may_leave_in, outlives_in}
+use Rattle.fetch_session.specs.Lasting.{AreLeft, DoesForGood, DonesLast, IsSafe, IsSafeStore, IsSafeWork, IsLeft, KeepsMailIn, KeepsRows, KeepsWork, Leaves, NewOutlive, RowsLast, ShowsRows, TextsLast, may_leave_in, outlives_in}
 use Rattle.fetch_session.specs.Target.{Kind, Target, AsFiles, AsEntries, Stores, kind_of, stores_of, target as target_at, target_of}
 use Rattle.fetch_session.specs.Task.{Task, Done, files_of, ids_in, ids_of, texts_of}
 use Rattle.fetch_session.proofs.RecordLemmas.{is_there}
@@ -168,14 +168,49 @@ pub rows_last : {F : Type 0} (file : FileGhosts F) (f : F) (rows : List Row) →
 rows_last file f rows safe steady = by (file.stored f).content refl steady
   where
     by : (content : Option (List ℕ)) → (file.stored f).content ≡ content → Steady content (none_open rows) → RowsLast file f rows
-    by None is stands = ([], inl refl, stands)
-    by (Some bytes) is stands = (bytes, inr (whole_outlives bytes (safe.1 bytes is).1), stands)
+    by None is stands left may = ([], [], inl refl, stands)
+    by (Some bytes) is stands left may = (bytes, [], inr ((safe.1 bytes is).1 left may ∙ ap (λ (l : List ℕ). Some l) (sym (append-nil bytes))), stands)
 
--- and they still do after calls that took nothing back
-pub rows_kept : {F : Type 0} (file : FileGhosts F) (f f' : F) (rows : List Row) → KeepsBytes (file.may_leave f) (file.may_leave f') → RowsLast file f rows
-    → RowsLast file f' rows
-rows_kept file f f' rows keeps (bytes, inl none, stands) = (bytes, inl none, stands)
-rows_kept file f f' rows keeps (bytes, inr front, stands) = (bytes, inr (keeps bytes front), stands)
+-- what begins with bytes that stand for these rows still does if it is longer
+shown_longer : (rows : List Row) (was left : Option (List ℕ)) → ShowsRows rows was → IsLonger was left → ShowsRows rows left
+shown_longer rows was left shows (inl same) = subst (λ (o : Option (List ℕ)). ShowsRows rows o) (sym same) shows
+shown_longer rows was left (bytes, behind, inl none, stands) (inr longer) = (bytes, behind, inl none, stands)
+shown_longer rows was left (bytes, behind, inr is, stands) (inr (some, more, was_is, longer)) = (
+  bytes,
+  behind ++ more,
+  inr (longer ∙ ap (λ (l : List ℕ). Some (l ++ more)) (same_Some some (bytes ++ behind) (sym was_is ∙ is)) ∙ ap (λ (l : List ℕ). Some l) (append_assoc bytes behind more)),
+  stands,
+)
+
+pub longer_rows : {F : Type 0} (file : FileGhosts F) (f f' : F) → LeavesLonger (file.may_leave f) (file.may_leave f') → (rows : List Row) → KeepsRows file rows f f'
+longer_rows file f f' longer rows last left may =
+    let was = longer left may in shown_longer rows was.0 left (last was.0 was.1) was.2
+
+-- the file was replaced, or may have been, by bytes that stand for the rows
+module _ {F : Type 0} (file : FileGhosts F) (f f' : F) (rows : List Row) (bytes : List ℕ) (stands : Steady (Some bytes) (none_open rows))
+    (either : LeavesEither (file.may_leave f) bytes (file.may_leave f')) where
+  all_of : (left : Option (List ℕ)) → left ≡ Some bytes → left ≡ Some (bytes ++ [])
+  all_of left is = is ∙ ap (λ (l : List ℕ). Some l) (sym (append-nil bytes))
+
+  pub either_rows : KeepsRows file rows f f'
+  either_rows last left may = elim (either left may) [
+    | inl before ↦ last left before
+    | inr is ↦ (bytes, [], inr (all_of left is), stands)
+  ]
+
+  pub either_left : (content : List ℕ) → (file.stored f).content ≡ Some content → (others : List Row) → Leaves file f (AreLeft rows others) → Leaves file f' (AreLeft rows others)
+  either_left content is others leaves now is_now left may = elim (either left may) [
+    | inl before ↦ leaves content is left before
+    | inr all ↦ record {
+      before = None;
+      added = [];
+      next = rows;
+      after = None;
+      grows = inl (inl (refl, refl, refl));
+      next_is = inl refl;
+      file = record { bytes = bytes; behind = []; is = all_of left all; stands = stands; part = tt };
+    }
+  ]
 
 -- nothing came yet
 no_texts : {D F : Type 0} (disk : DiskGhosts D) (file : FileGhosts F) (old new : Store D F)
@@ -208,7 +243,7 @@ none_came disk file store = λ files is.
     subst (λ (fs : List File). AllByRecursion (outlives_in disk store) fs) (append_cancel_left was [] files (append-nil was ∙ is)) tt
 
 pub keeps_same : {D F H Z : Type 0} (disk : DiskGhosts D) (file : FileGhosts F) (work : Work D F H Z) → KeepsWork disk file work work
-keeps_same disk file work = ((λ name is. is, λ f is. is), λ bytes has is. is, λ bytes is. is)
+keeps_same disk file work = ((λ name is. is, λ f is. is), λ bytes has is. is, λ last. last)
 
 -- what was safe and written down before still is
 pub none_lasts : {D F H Z : Type 0} (disk : DiskGhosts D) (file : FileGhosts F) (target : Target) (place : Place) (old new : Work D F H Z) (next : List (List ℕ))
@@ -218,6 +253,6 @@ pub none_lasts : {D F H Z : Type 0} (disk : DiskGhosts D) (file : FileGhosts F) 
     new.store new.ledger.file
 none_lasts disk file target place old new next safe keeps steady left = record {
   texts = no_texts disk file old.store new.store (λ was is. keeps.1 was is (whole_in disk file old.store safe.1 was is)) target;
-  rows = rows_kept file old.ledger.file new.ledger.file old.ledger.seen.rows keeps.2 (rows_last file old.ledger.file old.ledger.seen.rows safe.0 steady);
+  rows = keeps.2 (rows_last file old.ledger.file old.ledger.seen.rows safe.0 steady);
   left = left;
 }

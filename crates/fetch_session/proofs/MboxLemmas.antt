@@ -11,6 +11,7 @@ use Rattle.mail_store.specs.Mboxrd.{entry_of}
 use Rattle.mail_store.specs.MboxCalls.{RefusesLook, Checks, AppendsEntry}
 use Rattle.mail_store.specs.declared.fault.StoreFault.{StoreFault}
 use Rattle.mail_store.specs.declared.fault.StoreFault.TheVariants as refused
+use Rattle.mail_store.specs.declared.fault.EntryFault.TheVariants.{Nothing, Front}
 use Rattle.mail_store.specs.declared.file.flat_file.Edges.{Edges}
 use Rattle.pop3_wire.specs.Bodies.{Rest}
 use Rattle.pop3_wire.specs.Place.{Place}
@@ -20,11 +21,12 @@ use Rattle.pop3_client.specs.Turns.{retr}
 use Rattle.fetch_session.specs.declared.fault.Cut.{Cut}
 use Rattle.pop3_client.specs.declared.fault.ClientFault.{ClientFault}
 use Rattle.fetch_session.specs.declared.fault.Fault.{Fault}
-use Rattle.fetch_session.specs.declared.fault.Fault.TheVariants.{SeenRefused, NoMemory}
+use Rattle.fetch_session.specs.declared.fault.Fault.TheVariants.{StoreRefused, SeenRefused, NoMemory}
+use Rattle.fetch_session.specs.declared.fault.Why.TheVariants.{Refused}
 use Rattle.fetch_session.specs.declared.readiness.Found.{Found}
 use Rattle.fetch_session.specs.Fault.{cut_of, fault_of}
-use Rattle.fetch_session.specs.Mbox.{AppendsText, AsksMbox, HoldsText, IsIntended, IsSettledAtMost, IsStoreFault, MarksEntry, RefusesEntry, SettlesIntent, intent_of}
-use Rattle.fetch_session.specs.Record.{Saves, held_in, intent_at, with_open}
+use Rattle.fetch_session.specs.Mbox.{AppendsText, AsksMbox, HoldsText, IsIntended, IsSettledAtMost, IsStoreFault, IsTakenBack, MarksEntry, RefusesEntry, SettlesIntent, intent_of}
+use Rattle.fetch_session.specs.Record.{Saves, TakesBack, held_in, intent_at, with_open}
 use Rattle.fetch_session.specs.Scene.{scene, Stops, TakesTask}
 use Rattle.fetch_session.specs.Store.{Appended}
 use Rattle.fetch_session.specs.Task.{stores}
@@ -114,14 +116,14 @@ held_wanting number start new cut rest text plain fetching = rw plain (refl, inr
 -- the file was refused before the intent was saved
 pub not_measured : (mbox mbox' file : Stored) (rows : List Row) (uid text : List ℕ) (why : StoreFault) (fault : Fault) → Measures mbox (Err why) mbox' → IsStoreFault why fault → RefusesEntry mbox file rows uid text fault mbox' file
 not_measured mbox mbox' file rows uid text refused.Missing fault is fault_is = rw fault_is (is.0, is.1, refl)
-not_measured mbox mbox' file rows uid text refused.Refused fault is fault_is = rw fault_is (inl (is, refl))
+not_measured mbox mbox' file rows uid text refused.Refused fault is fault_is = rw fault_is (inl (is, inl refl))
 not_measured mbox mbox' file rows uid text _ fault never fault_is = absurd never
 
 -- the intent's line was refused, or memory ran out for it
 pub not_intended : (mbox mid file file' : Stored) (rows : List Row) (uid text : List ℕ) (edges : Edges) (len : ℕ) (fault : Fault) → Measures mbox (Ok edges) mid → len ≡ length (entry_of text)
     → Saves file (none_open rows) (with_open rows (intent_at uid edges.size len)) (Err fault) file' → RefusesEntry mbox file rows uid text fault mid file'
 not_intended mbox mid file file' rows uid text edges len SeenRefused ((was, some, edges_are), same) len_is saves = (same, (was, some, rw (edges_are, len_is) at saves))
-not_intended mbox mid file file' rows uid text edges len NoMemory ((was, some, edges_are), same) len_is saves = (same, inl saves)
+not_intended mbox mid file file' rows uid text edges len NoMemory ((was, some, edges_are), same) len_is saves = inl (same, inl saves)
 not_intended mbox mid file file' rows uid text edges len _ measures len_is never = absurd never
 
 pub intended : (mbox mid file file' : Stored) (rows : List Row) (uid text : List ℕ) (edges : Edges) (len : ℕ) → Measures mbox (Ok edges) mid → len ≡ length (entry_of text)
@@ -129,18 +131,43 @@ pub intended : (mbox mid file file' : Stored) (rows : List Row) (uid text : List
 intended mbox mid file file' rows uid text edges len ((was, some, edges_are), same) len_is saves =
     (was, some, rw (edges_are, len_is) at saves)
 
--- the entry was refused
-pub not_appended : (mbox mid mbox' file file' : Stored) (rows : List Row) (uid text : List ℕ) (edges : Edges) (why : StoreFault) (fault : Fault) → Measures mbox (Ok edges) mid → IsIntended mbox file rows uid text file'
-    → AppendsEntry {T = Unit {0}} mid text (Err why) mbox' → IsStoreFault why fault → RefusesEntry mbox file rows uid text fault mbox' file'
-not_appended mbox mid mbox' file file' rows uid text edges why fault measures is appends fault_is =
-    by why (subst (λ (m : Stored). AppendsEntry {T = Unit {0}} m text (Err why) mbox') measures.1 appends) fault_is
+-- the intent was closed again
+pub is_taken_back : (mbox mid file opened file' : Stored) (rows : List Row) (uid text : List ℕ) (edges : Edges) (len : ℕ) → Measures mbox (Ok edges) mid → len ≡ length (entry_of text)
+    → Saves file (none_open rows) (with_open rows (intent_at uid edges.size len)) (Ok tt) opened → TakesBack opened (with_open rows (intent_at uid edges.size len)) (Ok tt) file'
+    → IsTakenBack mbox file rows uid text file'
+is_taken_back mbox mid file opened file' rows uid text edges len ((was, some, edges_are), same) len_is saves takes =
+    (was, some, opened, rw (edges_are, len_is) at saves, rw (edges_are, len_is) at takes)
+
+-- the entry was refused, and a front of it may be there
+pub front_refused : (mbox mid mbox' file file' : Stored) (rows : List Row) (uid text : List ℕ) (edges : Edges) (fault : Fault) → Measures mbox (Ok edges) mid → IsIntended mbox file rows uid text file'
+    → AppendsEntry {T = Unit {0}} mid text (Err Front) mbox' → fault ≡ StoreRefused Refused → RefusesEntry mbox file rows uid text fault mbox' file'
+front_refused mbox mid mbox' file file' rows uid text edges fault measures is appends fault_is =
+    rw fault_is (inr (is, subst (λ (m : Stored). AppendsEntry {T = Unit {0}} m text (Err Front) mbox') measures.1 appends))
+
+-- it was refused, none of it is there, and its intent was closed
+pub entry_refused : (mbox mid mbox' file file' : Stored) (rows : List Row) (uid text : List ℕ) (edges : Edges) (why : StoreFault) (fault : Fault) → Measures mbox (Ok edges) mid
+    → IsTakenBack mbox file rows uid text file' → AppendsEntry {T = Unit {0}} mid text (Err (Nothing why)) mbox' → IsStoreFault why fault → RefusesEntry mbox file rows uid text fault mbox' file'
+entry_refused mbox mid mbox' file file' rows uid text edges why fault measures back appends fault_is =
+    by why (subst (λ (m : Stored). AppendsEntry {T = Unit {0}} m text (Err (Nothing why)) mbox') measures.1 appends) fault_is
   where
-    by : (w : StoreFault) → AppendsEntry {T = Unit {0}} mbox text (Err w) mbox' → IsStoreFault w fault → RefusesEntry mbox file rows uid text fault mbox' file'
-    by refused.Missing (none, same) f = none_some mbox.content is.0 none is.1
-    by refused.Refused (inl same) f = rw f (inr (is, inl same))
-    by refused.Refused (inr front) f = rw f (inr (is, inr front))
-    by refused.NotMbox (other, same) f = rw f (other, same, is)
-    by refused.NoMemory same f = rw f (same, inr is)
+    by : (w : StoreFault) → AppendsEntry {T = Unit {0}} mbox text (Err (Nothing w)) mbox' → IsStoreFault w fault → RefusesEntry mbox file rows uid text fault mbox' file'
+    by refused.Missing (none, same) f = none_some mbox.content back.0 none back.1
+    by refused.Refused same f = rw f (inl (same, inr back))
+    by refused.NotMbox (other, same) f = rw f (other, same, back)
+    by refused.NoMemory same f = rw f (inl (same, inr back))
+
+-- and memory ran out for closing it
+pub entry_left_open : (mbox mid mbox' file opened file' : Stored) (was : Held) (rows : List Row) (uid text : List ℕ) (edges : Edges) (why : StoreFault) (fault : Fault) → Measures mbox (Ok edges) mid
+    → IsIntended mbox file rows uid text opened → AppendsEntry {T = Unit {0}} mid text (Err (Nothing why)) mbox' → TakesBack opened was (Err fault) file' → RefusesEntry mbox file rows uid text fault mbox' file'
+entry_left_open mbox mid mbox' file opened file' was rows uid text edges why NoMemory measures is appends kept =
+    inr (by why (subst (λ (m : Stored). AppendsEntry {T = Unit {0}} m text (Err (Nothing why)) mbox') measures.1 appends), subst (λ (f : Stored). IsIntended mbox file rows uid text f) (sym kept) is)
+  where
+    by : (w : StoreFault) → AppendsEntry {T = Unit {0}} mbox text (Err (Nothing w)) mbox' → (mbox' ≡ mbox) ⊎ (mbox' ≡ counted mbox)
+    by refused.Missing (none, same) = inl same
+    by refused.Refused same = inr same
+    by refused.NotMbox (other, same) = inl same
+    by refused.NoMemory same = inl same
+entry_left_open mbox mid mbox' file opened file' was rows uid text edges why _ measures is appends never = absurd never
 
 -- it was appended
 pub appended_all : (mbox mid mbox' file file' : Stored) (seen seen' : Loaded) (uid text : List ℕ) (edges : Edges) (len : ℕ) → Measures mbox (Ok edges) mid → len ≡ length (entry_of text)

@@ -8,11 +8,11 @@ use Rattle.fetch_rules.specs.RecordFile.{Version, One, Two, header, file_of, int
 use Rattle.fetch_rules.specs.RecordMeaning.{Rows, Means, has_bytes, taken}
 use Rattle.fetch_rules.specs.RecordGrowth.{Updates, Grows, AppendedCounts, CutIsIgnored, taken_all}
 use Rattle.fetch_rules.specs.Intents.{has_intent, is_older, closed_rows, IsNoneOrOf}
-use Rattle.mail_store.specs.FlatFile.{Stored, Appends}
+use Rattle.mail_store.specs.FlatFile.{Stored, Appends, Replaces}
 use Rattle.mail_store.specs.declared.fault.StoreFault.{StoreFault}
 use Rattle.fetch_session.specs.declared.fault.Fault.{Fault}
 use Rattle.fetch_session.specs.declared.fault.Fault.TheVariants.{SeenRefused, NoMemory}
-use Rattle.fetch_session.specs.Record.{bytes_in, held, Keeps, Steady, ReadAs, Writes, Saves, Merges, held_in}
+use Rattle.fetch_session.specs.Record.{bytes_in, held, Keeps, Steady, ReadAs, Writes, Saves, Merges, TakesBack, held_in}
 
 bytes_begin : (version : Version) (rest : List ℕ) → [] ≢ header version ++ rest
 bytes_begin One rest is = true≢false (sym (ap has_bytes is))
@@ -69,6 +69,13 @@ writes_merges old new was now (Err SeenRefused) kept stands (inl is) = rw is (re
 writes_merges old new was now (Err SeenRefused) kept stands (inr is) = rw is (refl, inr (Two, false, stands))
 writes_merges old new was now (Err NoMemory) kept stands is = is
 writes_merges old new was now (Err _) kept stands never = absurd never
+
+-- an open intent was closed in this way
+pub taken_back : (old new : Stored) (was : Held) (r : Result (Unit {0}) StoreFault) → Means (file_of was.rows None) (Rows Two was.rows None false)
+    → Replaces old (file_of was.rows None) r new → TakesBack old was (Ok tt) new
+taken_back old new was (Ok done) stands is = inl (rw is (refl, λ stood. stands))
+taken_back old new was (Err fault) stands (inl is) = inr (rw is (refl, λ stood. inl (steady_keeps old.content was stood)))
+taken_back old new was (Err fault) stands (inr is) = inr (rw is (refl, λ stood. inr (Two, false, stands)))
 
 pub saves_merges : (old new : Stored) (was now : Held) (r : Result (Unit {0}) Fault) → Steady old.content was → Saves old was now r new → Merges old was now r new
 saves_merges old new was now (Ok done) stood is = (is.0, is.1 stood)
@@ -132,9 +139,9 @@ mark_begun content was now before after uid group steady marks (inr (rows, is, b
     by_rows (row ∷ more) count nothing no_row = still_some (row ∷ []) more (λ e. cc) (rw no_row at nothing)
 
 -- if an id has a row, the file has bytes
-pub row_begun : (content : Option (List ℕ)) (rows : List Row) (uid : List ℕ) → Steady content (none_open rows) → has_row rows uid ≡ true → bytes_in content ≢ []
-row_begun content rows uid steady has none =
-    let no_row : rows ≡ [] = (empty_means Two rows None false (rw none at steady)).0 in
+pub row_begun : (content : Option (List ℕ)) (rows : List Row) (intent : Option Intent) (uid : List ℕ) → Steady content (held rows intent) → has_row rows uid ≡ true → bytes_in content ≢ []
+row_begun content rows intent uid steady has none =
+    let no_row : rows ≡ [] = (empty_means Two rows intent false (rw none at steady)).0 in
     true≢false (sym has ∙ ap (λ (r : List Row). has_row r uid) no_row)
 
 -- an intent's line opens it

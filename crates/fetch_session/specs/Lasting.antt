@@ -7,7 +7,7 @@ use Rattle.mail_store.specs.FlatFile.{Stored}
 use Rattle.mail_store.specs.Maildir.{File, names_of}
 use Rattle.mail_store.specs.Mboxrd.{entry_of}
 use Rattle.mail_store.specs.Settling.{MayBeLeft}
-use Rattle.mail_store.specs.Power.{AllStay, KeepsBytes, KeepsMail, KeepsWhole, LastsWhole, Outlives}
+use Rattle.mail_store.specs.Power.{AllStay, KeepsMail, KeepsWhole, LastsWhole, Outlives}
 use Rattle.mail_terms.specs.Listing.{Item}
 use Rattle.pop3_wire.specs.Link.{Link}
 use Rattle.pop3_wire.specs.Place.{Place, at}
@@ -76,10 +76,6 @@ KeepsMailIn disk old new = KeepsMail (stays_in disk old) (outlives_in disk old) 
 abbrev pub KeepsMboxIn : {D F : Type 0} → DiskGhosts D → FileGhosts F → Store D F → Store D F → Type 0
 KeepsMboxIn disk file old new = KeepsWhole (stores_of disk file old).mbox.content (may_leave_in file old) (may_leave_in file new)
 
-abbrev pub KeepsWork : {D F H Z : Type 0} → DiskGhosts D → FileGhosts F → Work D F H Z → Work D F H Z → Type 0
-KeepsWork disk file old new = KeepsMailIn disk old.store new.store × KeepsMboxIn disk file old.store new.store
-    × KeepsBytes (file.may_leave old.ledger.file) (file.may_leave new.ledger.file)
-
 -- all files that came into a Maildir outlive a loss of power
 abbrev pub NewOutlive : {D F : Type 0} → DiskGhosts D → FileGhosts F → Store D F → Store D F → Type 0
 NewOutlive disk file old new = (files : List File)
@@ -94,9 +90,22 @@ TextsLast disk file (AsFiles account) dones old store = AllByRecursion (outlives
 TextsLast disk file AsEntries dones old store =
     (was : List ℕ) → old.mbox.content ≡ Some was → Outlives (may_leave_in file store) (was ++ flat_map entry_of (texts_of dones))
 
--- whatever a loss of power leaves of the record's file begins with bytes that stand for these rows
+-- what is left of the record's file begins with bytes that stand for these rows; if there are none, there may be no file
+abbrev pub ShowsRows : List Row → Option (List ℕ) → Type 0
+ShowsRows rows left = (bytes behind : List ℕ) × ((bytes ≡ []) ⊎ (left ≡ Some (bytes ++ behind))) × Steady (Some bytes) (none_open rows)
+
+-- whatever a loss of power leaves of it does
 abbrev pub RowsLast : {F : Type 0} → FileGhosts F → F → List Row → Type 0
-RowsLast file f rows = (bytes : List ℕ) × ((bytes ≡ []) ⊎ Outlives (file.may_leave f) bytes) × Steady (Some bytes) (none_open rows)
+RowsLast file f rows = (left : Option (List ℕ)) → file.may_leave f left → ShowsRows rows left
+
+-- these rows still outlive it, if they did before
+abbrev pub KeepsRows : {F : Type 0} → FileGhosts F → List Row → F → F → Type 0
+KeepsRows file rows old new = RowsLast file old rows → RowsLast file new rows
+
+-- all of a session's work
+abbrev pub KeepsWork : {D F H Z : Type 0} → DiskGhosts D → FileGhosts F → Work D F H Z → Work D F H Z → Type 0
+KeepsWork disk file old new = KeepsMailIn disk old.store new.store × KeepsMboxIn disk file old.store new.store
+    × KeepsRows file old.ledger.seen.rows old.ledger.file new.ledger.file
 
 -- this holds of whatever a loss of power leaves of a file that is there
 abbrev pub Leaves : {F : Type 0} → FileGhosts F → F → (Option (List ℕ) → Type 0) → Type 0

@@ -17,7 +17,7 @@ use Rattle.fetch_session.specs.Fault.{Breaks}
 use Rattle.fetch_session.specs.declared.fault.Fault.TheVariants.{StoreRefused, SeenRefused, NoMemory}
 use Rattle.fetch_session.specs.declared.fault.Why.TheVariants.{Missing, Refused, NotMbox}
 use Rattle.fetch_session.specs.declared.readiness.Found.{Found}
-use Rattle.fetch_session.specs.Record.{Saves, intent_at, with_open}
+use Rattle.fetch_session.specs.Record.{Saves, TakesBack, intent_at, with_open}
 use Rattle.fetch_session.specs.Target.{is_stored, closed_file, none_held}
 
 -- the fault of a session for a fault of its store
@@ -75,20 +75,28 @@ abbrev pub IsIntended : Stored → Stored → List Row → List ℕ → List ℕ
 IsIntended mbox file rows uid text file' = (was : List ℕ) × (mbox.content ≡ Some was)
     × Saves file (none_open rows) (with_open rows (intent_of was uid text)) (Ok tt) file'
 
+-- the same, and the intent was closed again; only if the record's file refused that may it be open
+abbrev pub IsTakenBack : Stored → Stored → List Row → List ℕ → List ℕ → Stored → Type 0
+IsTakenBack mbox file rows uid text file' = (was : List ℕ) × (mbox.content ≡ Some was) × (mid : Stored)
+    × Saves file (none_open rows) (with_open rows (intent_of was uid text)) (Ok tt) mid
+    × TakesBack mid (with_open rows (intent_of was uid text)) (Ok tt) file'
+
 -- the mboxrd file and the record's after a text wasn't appended: the file isn't there; a call was refused, before the intent was saved,
--- or after it, and then a front of the entry may be there; no entry may follow; the record's file was refused; or memory ran out,
--- before or after
+-- or after it, and the intent was closed again, unless a front of the entry may be there; no entry may follow; the record's file was
+-- refused; or memory ran out, for the intent, for the entry, or for closing the intent
 abbrev pub RefusesEntry : Stored → Stored → List Row → List ℕ → List ℕ → Fault → Stored → Stored → Type 0
 RefusesEntry mbox file rows uid text (StoreRefused Missing) mbox' file' = (mbox.content ≡ None) × (mbox' ≡ mbox) × (file' ≡ file)
-RefusesEntry mbox file rows uid text (StoreRefused Refused) mbox' file' = ((mbox' ≡ counted mbox) × (file' ≡ file))
-    ⊎ (IsIntended mbox file rows uid text file' × ((mbox' ≡ counted mbox)
-    ⊎ ((was front rest : List ℕ) × GoesOn mbox was × (entry_of text ≡ front ++ rest)
-    × (mbox' ≡ counted (counted (holding mbox (was ++ front)))))))
+RefusesEntry mbox file rows uid text (StoreRefused Refused) mbox' file' =
+    ((mbox' ≡ counted mbox) × ((file' ≡ file) ⊎ IsTakenBack mbox file rows uid text file'))
+    ⊎ (IsIntended mbox file rows uid text file' × ((was front rest : List ℕ) × GoesOn mbox was × (entry_of text ≡ front ++ rest)
+    × (mbox' ≡ counted (counted (holding mbox (was ++ front))))))
 RefusesEntry mbox file rows uid text (StoreRefused NotMbox) mbox' file' = IsOther mbox × (mbox' ≡ mbox)
-    × IsIntended mbox file rows uid text file'
+    × IsTakenBack mbox file rows uid text file'
 RefusesEntry mbox file rows uid text SeenRefused mbox' file' = (mbox' ≡ mbox) × ((was : List ℕ) × (mbox.content ≡ Some was)
     × Saves file (none_open rows) (with_open rows (intent_of was uid text)) (Err SeenRefused) file')
-RefusesEntry mbox file rows uid text NoMemory mbox' file' = (mbox' ≡ mbox) × ((file' ≡ file) ⊎ IsIntended mbox file rows uid text file')
+RefusesEntry mbox file rows uid text NoMemory mbox' file' =
+    ((mbox' ≡ mbox) × ((file' ≡ file) ⊎ IsTakenBack mbox file rows uid text file'))
+    ⊎ (((mbox' ≡ mbox) ⊎ (mbox' ≡ counted mbox)) × IsIntended mbox file rows uid text file')
 RefusesEntry mbox file rows uid text _ mbox' file' = ⊥
 
 -- the entry of a text was appended to the mboxrd file, and the record has its intent; or it was refused

@@ -1,6 +1,6 @@
 -- What is done to the record and its file.
 use Rattle.std.specs.Prelude.{◌≡◌, ◌≢◌, ◌⊎◌, ◌+◌, ℕ, Bool, false, List, [], Option, None, Some, Result, Ok, Err, Vec}
-use Rattle.fetch_rules.specs.Record.{Row, Intent, Held, Loaded}
+use Rattle.fetch_rules.specs.Record.{Row, Intent, Held, Loaded, none_open}
 use Rattle.fetch_rules.specs.RecordFile.{Two, file_of}
 use Rattle.fetch_rules.specs.RecordMeaning.{Means, Rows, Fault as Faulty, FileStandsFor}
 use Rattle.fetch_rules.specs.Intents.{ReadAs as BytesReadAs}
@@ -60,6 +60,13 @@ Saves old was now (Err SeenRefused) new = (new.failures ≡ old.failures + 1)
     × (Steady old.content was → Keeps new.content was ⊎ Keeps new.content now)
 Saves old was now (Err NoMemory) new = new ≡ old
 Saves old was now (Err _) new = ⊥
+
+-- an open intent was closed, as none of its entry is there, by writing the record whole; or that was refused, and it may be open;
+-- or memory ran out, and nothing was done
+abbrev pub TakesBack : Stored → Held → Result (Unit {0}) Fault → Stored → Type 0
+TakesBack old was (Ok done) new = Saves old was (none_open was.rows) (Ok tt) new ⊎ Saves old was (none_open was.rows) (Err SeenRefused) new
+TakesBack old was (Err NoMemory) new = new ≡ old
+TakesBack old was (Err _) new = ⊥
 
 -- a record read from the file was merged and saved; or, refused, the file stands for the old or the
 -- new one; or memory ran out, and nothing was done

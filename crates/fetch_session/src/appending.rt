@@ -1,5 +1,5 @@
 //! How a text is appended to an mboxrd file: it is read whole, its intent is written to the record,
-//! and then the entry is appended at once.
+//! and then the entry is appended at once. If nothing of it came, its intent is closed again.
 ghost use Rattle.std.specs.Prelude.{◌≡◌, ◌≢◌, ℕ, List, [], None, true, OnOk};
 ghost use Rattle.fetch_rules.specs.Record.{has_row, none_open};
 ghost use Rattle.mail_terms.specs.Text.{IsWhole};
@@ -13,8 +13,8 @@ ghost use Rattle.pop3_wire.specs.Place.{Place};
 ghost use Rattle.pop3_wire.specs.declared.unstuffer.Spot.TheVariants.{Done};
 ghost use Rattle.fetch_session.specs.Intake.{TookTillCut};
 ghost use Rattle.fetch_session.specs.Mbox.{AppendsText, HoldsText, IsStoreFault};
-ghost use Rattle.mail_store.specs.Power.{KeepsBytes, KeepsWhole};
-ghost use Rattle.fetch_session.specs.Lasting.{IsSafe};
+ghost use Rattle.mail_store.specs.Power.{KeepsWhole};
+ghost use Rattle.fetch_session.specs.Lasting.{IsSafe, KeepsRows};
 ghost use Rattle.fetch_session.specs.Parts.{KeepsLedger, KeepsLink, KeepsRecord};
 ghost use Rattle.fetch_session.specs.Record.{Steady};
 ghost use Rattle.fetch_session.specs.Refusal.{RefusesTillCut};
@@ -25,11 +25,11 @@ ghost use Rattle.fetch_session.specs.Task.{stores};
 ghost use Rattle.fetch_session.specs.Work.{IsWritten};
 
 use crate::fault::{Cut, Fault, Why, broken, plain};
-use crate::record::{intend, remember};
+use crate::record::{intend, remember, take_back};
 use crate::report::{ReportLine, note};
 use crate::work::Ledger;
 use fetch_rules::marked_keeps_rows;
-use mail_store::{FlatFile, StoreFault, append_entry, entry_len, is_whole};
+use mail_store::{EntryFault, FlatFile, StoreFault, append_entry, entry_len, is_whole};
 use pop3_client::{Client, conversations_are_paced};
 use pop3_wire::{BodyReader, PIECE_ROOM, Wire};
 use std::alloc::Global;
@@ -78,7 +78,8 @@ fn read_text<W: Wire>(
     }
 }
 
-/// Appends the entry of a text to the file, after its intent was written to the record.
+/// Appends the entry of a text to the file, after its intent was written to the record. If nothing of
+/// the entry came, the intent is closed again.
 fn append_text<F: FlatFile, H: BuildHasher>(
     mbox: &mut F,
     ledger: &mut Ledger<F, H>,
@@ -97,7 +98,7 @@ fn append_text<F: FlatFile, H: BuildHasher>(
         (F.stored mbox.new) (F.stored ledger.new.file) ledger.new.seen }
     ensures keeps { F.sound mbox.new → F.sound ledger.new.file
         → KeepsWhole (F.stored mbox.old).content (F.may_leave mbox.old) (F.may_leave mbox.new)
-        × KeepsBytes (F.may_leave ledger.old.file) (F.may_leave ledger.new.file) }
+        × KeepsRows F.FlatFile ledger.old.seen.rows ledger.old.file ledger.new.file }
     ensures lasts { F.sound mbox.new → F.sound ledger.new.file → F.is_sure mbox.old → IsSafe F.FlatFile ledger.old.file
         → OnOk result (IsSafe F.FlatFile mbox.new × IsSafe F.FlatFile ledger.new.file) }
 {
@@ -111,7 +112,13 @@ fn append_text<F: FlatFile, H: BuildHasher>(
     }
     match append_entry(mbox, text) {
         Ok(()) => Ok(()),
-        Err(fault) => Err(refused(fault)),
+        Err(EntryFault::Front) => Err(refused(StoreFault::Refused)),
+        Err(EntryFault::Nothing(fault)) => {
+            if let Err(fault) = take_back(&mut ledger.file, &mut ledger.seen) {
+                return Err(fault);
+            }
+            Err(refused(fault))
+        }
     }
 }
 
@@ -138,7 +145,7 @@ pub(crate) fn take_into_mbox<W: Wire, F: FlatFile, H: BuildHasher>(
         ledger.new.lines.items)) }
     ensures keeps { F.sound mbox.new → F.sound ledger.new.file
         → KeepsWhole (F.stored mbox.old).content (F.may_leave mbox.old) (F.may_leave mbox.new)
-        × KeepsBytes (F.may_leave ledger.old.file) (F.may_leave ledger.new.file) }
+        × KeepsRows F.FlatFile ledger.old.seen.rows ledger.old.file ledger.new.file }
     ensures lasts { F.sound mbox.new → F.sound ledger.new.file → F.is_sure mbox.old → IsSafe F.FlatFile ledger.old.file
         → OnOk result (IsSafe F.FlatFile mbox.new × IsSafe F.FlatFile ledger.new.file) }
 {

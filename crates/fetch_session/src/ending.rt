@@ -1,7 +1,7 @@
 //! The end of a session whose planned steps were done.
-ghost use Rattle.std.specs.Prelude.{◌≡◌, ◌∷◌, ℕ, List, [], OnOk};
+ghost use Rattle.std.specs.Prelude.{◌≡◌, ◌∷◌, ℕ, List, [], IfOk, OnOk};
 ghost use Rattle.pop3_client.specs.Turns.{quit};
-ghost use Rattle.fetch_session.specs.Ending.{LooksAgain};
+ghost use Rattle.fetch_session.specs.Ending.{IsTold, LooksAgain, went};
 ghost use Rattle.fetch_session.specs.Intake.{TookWithTail, tail_limit};
 ghost use Rattle.fetch_session.specs.Lasting.{IsSafeStore, KeepsMailIn, KeepsMboxIn};
 ghost use Rattle.fetch_session.specs.Parts.{DoesTasks, KeepsLink, KeepsSession, KeepsStore};
@@ -14,17 +14,17 @@ use crate::appending::refused;
 use crate::fault::{Cut, Fault, broken, plain};
 use crate::report::{ReportLine, has_deletions};
 use crate::work::Work;
-use mail_store::{FlatFile, MaildirDisk, peek_mbox};
+use mail_store::{Edges, FlatFile, MaildirDisk, peek_ends};
 use pop3_client::{Client, conversations_are_paced};
 use pop3_wire::Wire;
 use std::hash::BuildHasher;
 
 /// If a message was deleted, looks at an mboxrd file once more, which its device refuses if others have
-/// changed it meanwhile. A Maildir isn't asked.
+/// changed it meanwhile. Returns what the device told. A Maildir isn't asked.
 fn look_again<D: MaildirDisk, F: FlatFile>(
     store: &mut Store<D, F>,
     lines: &[ReportLine],
-) -> Result<(), Fault>
+) -> Result<Option<Edges>, Fault>
     ensures kind { kind_of store.new ≡ kind_of store.old }
     ensures looks { is_sound D.MaildirDisk F.FlatFile store.new → is_sound D.MaildirDisk F.FlatFile store.old
         × LooksAgain (kind_of store.old) lines.now (stores_of D.MaildirDisk F.FlatFile store.old) result
@@ -35,37 +35,41 @@ fn look_again<D: MaildirDisk, F: FlatFile>(
         → OnOk result (IsSafeStore F.FlatFile store.new) }
 {
     let Store::Mboxrd(mbox) = store else {
-        return Ok(());
+        return Ok(None);
     };
     if !has_deletions(lines) {
-        return Ok(());
+        return Ok(None);
     }
-    match peek_mbox(mbox) {
-        Ok(()) => Ok(()),
+    match peek_ends(mbox) {
+        Ok(edges) => Ok(Some(edges)),
         Err(fault) => Err(refused(fault)),
     }
 }
 
 /// Quits. If a message was deleted, an mboxrd file is looked at before: if others have changed it since
-/// the session began, QUIT isn't said, so that nothing is deleted.
+/// the session began, QUIT isn't said, so that nothing is deleted. What its device told then is
+/// returned: only by asking it can that be known here.
 pub fn end<W: Wire, D: MaildirDisk, F: FlatFile, H: BuildHasher>(
     client: &mut Client<'_, W>,
     work: &mut Work<D, F, H>,
-) -> Result<(), Cut>
+) -> Result<Option<Edges>, Cut>
     requires { IsReady D.MaildirDisk F.FlatFile work.old }
-    ensures link { KeepsLink W.Wire (TookWithTail tail_limit) client.old result client.new }
+    ensures told { IfOk result (λ told. is_sound D.MaildirDisk F.FlatFile work.new.store
+        → IsTold (kind_of work.old.store) work.old.ledger.lines.items (stores_of D.MaildirDisk F.FlatFile work.old.store) told) }
+    ensures link { KeepsLink W.Wire (TookWithTail tail_limit) client.old (went result) client.new }
     ensures store { KeepsStore D.MaildirDisk F.FlatFile 0 work.old work.new }
     ensures keeps { (account : List ℕ) → KeepsSession W.Wire D.MaildirDisk F.FlatFile account (says quit ∷ [])
-        client.old work.old result client.new work.new }
+        client.old work.old (went result) client.new work.new }
     ensures does { (account : List ℕ) → DoesTasks W.Wire D.MaildirDisk F.FlatFile account (says quit ∷ [])
-        client.old work.old result client.new work.new }
+        client.old work.old (went result) client.new work.new }
 {
     conversations_are_paced();
-    if let Err(fault) = look_again(&mut work.store, &work.ledger.lines) {
-        return Err(plain(fault));
-    }
+    let told = match look_again(&mut work.store, &work.ledger.lines) {
+        Ok(told) => told,
+        Err(fault) => return Err(plain(fault)),
+    };
     match client.quit() {
-        Ok(()) => Ok(()),
+        Ok(()) => Ok(told),
         Err(fault) => Err(broken(fault)),
     }
 }

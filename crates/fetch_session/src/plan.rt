@@ -68,7 +68,7 @@ pub fn carry_out<W: Wire, D: MaildirDisk, F: FlatFile, H: BuildHasher>(
         return Err(cut);
     }
     match end(client, work) {
-        Ok(()) => Ok(()),
+        Ok(_) => Ok(()),
         Err(cut) => Err(cut),
     }
 }

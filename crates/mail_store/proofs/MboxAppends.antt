@@ -5,6 +5,7 @@ use Rattle.std.proofs.lemmas.List.{append-nil, take_at}
 use Rattle.std.proofs.lemmas.Slice.Eq.{bytes_eq-Decides}
 use Rattle.mail_store.specs.declared.fault.StoreFault.{StoreFault}
 use Rattle.mail_store.specs.declared.fault.StoreFault.TheVariants.{Refused}
+use Rattle.mail_store.specs.declared.fault.EntryFault.TheVariants.{Nothing, Front}
 use Rattle.mail_store.specs.declared.file.flat_file.Edges.{Edges}
 use Rattle.mail_store.specs.FlatFile.{Stored, holding, counted, edges_of, Appends, Cuts, HasBytes}
 use Rattle.mail_store.specs.Mboxrd.{from_words, begins_entry, entry_of, MayGoOn}
@@ -104,31 +105,32 @@ appended old mid new text entry edges looks is appends =
           ∙ ap (λ (s : Stored). holding s (was ++ entry)) looks.1 ∙ ap (λ (l : List ℕ). holding old (was ++ l)) is,
     )
 
--- the file after a refused `append` and the cut that follows
-abbrev RefusedEntry : Stored → List ℕ → Stored → Type 0
-RefusedEntry old text new = (new ≡ counted old)
-    ⊎ ((was front rest : List ℕ) × ((old.content ≡ Some was) × MayGoOn was) × (entry_of text ≡ front ++ rest) × (new ≡ counted (counted (holding old (was ++ front)))))
-
-cut_back : {T : Type 0} (old mid torn new : Stored) (text entry : List ℕ) (edges : Edges) (fault : StoreFault) (answer : Result T StoreFault) → Looks old (Ok edges) mid → entry ≡ entry_of text
-    → Appends {T = Unit {0}} mid entry (Err fault) torn → Cuts torn edges.size answer new → RefusedEntry old text new
-cut_back old mid torn new text entry edges fault (Ok done) looks is appends cuts =
+-- the `append` of the entry was refused, and the file was cut back
+pub cut_back : (old mid torn new : Stored) (text entry : List ℕ) (edges : Edges) (fault : StoreFault) → fault ≡ Refused → Looks old (Ok edges) mid
+    → Appends {T = Unit {0}} mid entry (Err fault) torn → Cuts {T = Unit {0}} torn edges.size (Ok tt) new → AppendsEntry {T = Unit {0}} old text (Err (Nothing fault)) new
+cut_back old mid torn new text entry edges fault why looks appends cuts =
     let was = looks.0.0 in
     let left = appends was (ap (λ (s : Stored). s.content) looks.1 ∙ looks.0.1.0) in
     let torn-is : torn ≡ counted (holding old (was ++ left.0)) = left.3 ∙ ap (λ (s : Stored). counted (holding s (was ++ left.0))) looks.1 in
     let size : length was ≡ edges.size = sym (ap (λ (g : Edges). g.size) looks.0.2) in
     let cut : take edges.size (was ++ left.0) ≡ was = take_at was left.0 edges.size size in
-    inl (cuts (was ++ left.0) (ap (λ (s : Stored). s.content) torn-is)
+    subst (λ (f : StoreFault). AppendsEntry {T = Unit {0}} old text (Err (Nothing f)) new) (sym why)
+    (cuts (was ++ left.0) (ap (λ (s : Stored). s.content) torn-is)
     ∙ ap (λ (l : List ℕ). holding torn l) cut ∙ ap (λ (s : Stored). holding s was) torn-is
     ∙ ap (λ (o : Option (List ℕ)). counted (record old { content = o })) (sym looks.0.1.0))
-cut_back old mid torn new text entry edges fault (Err again) looks is appends cuts =
+
+-- and the cut was refused too
+pub front_left : (old mid torn new : Stored) (text entry : List ℕ) (edges : Edges) (fault again : StoreFault) → Looks old (Ok edges) mid → entry ≡ entry_of text
+    → Appends {T = Unit {0}} mid entry (Err fault) torn → Cuts {T = Unit {0}} torn edges.size (Err again) new → AppendsEntry {T = Unit {0}} old text (Err Front) new
+front_left old mid torn new text entry edges fault again looks is appends cuts =
     let was = looks.0.0 in
     let left = appends was (ap (λ (s : Stored). s.content) looks.1 ∙ looks.0.1.0) in
     let torn-is : torn ≡ counted (holding old (was ++ left.0)) = left.3 ∙ ap (λ (s : Stored). counted (holding s (was ++ left.0))) looks.1 in
     let size : length was ≡ edges.size = sym (ap (λ (g : Edges). g.size) looks.0.2) in
     let cut : take edges.size (was ++ left.0) ≡ was = take_at was left.0 edges.size size in
     elim (cuts (was ++ left.0) (ap (λ (s : Stored). s.content) torn-is)) [
-      | inl kept ↦ inr (was, left.0, left.1, looks.0.1, sym is ∙ left.2, kept ∙ ap counted torn-is)
-      | inr done ↦ inr (
+      | inl kept ↦ (was, left.0, left.1, looks.0.1, sym is ∙ left.2, kept ∙ ap counted torn-is)
+      | inr done ↦ (
         was,
         [],
         entry_of text,
@@ -137,10 +139,3 @@ cut_back old mid torn new text entry edges fault (Err again) looks is appends cu
         done ∙ ap (λ (l : List ℕ). counted (holding torn l)) (cut ∙ sym (append-nil was)) ∙ ap (λ (s : Stored). counted (holding s (was ++ []))) torn-is,
       )
     ]
-
--- the `append` of the entry was refused
-pub refused : {T : Type 0} (old mid torn new : Stored) (text entry : List ℕ) (edges : Edges) (fault : StoreFault) (answer : Result T StoreFault) → fault ≡ Refused
-    → Looks old (Ok edges) mid → entry ≡ entry_of text → Appends {T = Unit {0}} mid entry (Err fault) torn → Cuts torn edges.size answer new
-    → AppendsEntry {T = Unit {0}} old text (Err fault) new
-refused old mid torn new text entry edges fault answer why looks is appends cuts =
-    subst (λ (f : StoreFault). AppendsEntry {T = Unit {0}} old text (Err f) new) (sym why) (cut_back old mid torn new text entry edges fault answer looks is appends cuts)

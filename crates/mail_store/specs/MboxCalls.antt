@@ -1,6 +1,9 @@
 -- What the calls on an mboxrd file do, for either outcome.
-use Rattle.std.specs.Prelude.{◌≡◌, ◌⊎◌, ℕ, List, ◌++◌, map, Some, None, Result, Ok, Err, Vec}
-use Rattle.mail_terms.specs.FailureCount.{counted_up}
+use Rattle.std.specs.Prelude.{◌≡◌, ℕ, List, ◌++◌, map, Some, None, Result, Ok, Err, Vec}
+use Rattle.mail_terms.specs.FailureCount.{Tallies, counted_up}
+use Rattle.mail_store.specs.declared.fault.EntryFault.{EntryFault}
+use Rattle.mail_store.specs.declared.fault.EntryFault.TheVariants.{Nothing, Front}
+use Rattle.mail_store.specs.Fault.{is_refusal}
 use Rattle.mail_store.specs.declared.fault.StoreFault.{StoreFault}
 use Rattle.mail_store.specs.declared.fault.StoreFault.TheVariants.{Missing, Refused, NotMbox, NoMemory}
 use Rattle.mail_store.specs.declared.file.flat_file.Edges.{Edges}
@@ -22,7 +25,7 @@ RefusesLook old Refused new = new ≡ counted old
 RefusesLook old NotMbox new = IsOther old × (new ≡ old)
 RefusesLook old NoMemory new = ⊥
 
--- the size and the ends of a file that an entry may follow
+-- `peek_ends`: the size and the ends of a file that an entry may follow
 abbrev pub Looks : Stored → Result Edges StoreFault → Stored → Type 0
 Looks old (Ok edges) new = ((was : List ℕ) × GoesOn old was × (edges ≡ edges_of was)) × (new ≡ old)
 Looks old (Err fault) new = RefusesLook old fault new
@@ -32,25 +35,22 @@ abbrev pub Checks : {T : Type 0} → Stored → Result T StoreFault → Stored �
 Checks old (Ok done) new = ((was : List ℕ) × GoesOn old was) × (new ≡ old)
 Checks old (Err fault) new = RefusesLook old fault new
 
--- `append_entry`: the entry follows the file's bytes; there is no file; no entry may follow it;
--- memory ran out; or one call was refused and the file is as it was; or the cut that follows was
--- refused too, and a front of the entry may be there
-abbrev pub AppendsEntry : {T : Type 0} → Stored → List ℕ → Result T StoreFault → Stored → Type 0
+-- `append_entry`: the entry follows the file's bytes; or the file is as it was: there is none, a call was refused, no entry may
+-- follow it, or memory ran out; or the append and the cut back were refused, and a front of the entry may be there
+abbrev pub AppendsEntry : {T : Type 0} → Stored → List ℕ → Result T EntryFault → Stored → Type 0
 AppendsEntry old text (Ok done) new = (was : List ℕ) × GoesOn old was × (new ≡ holding old (was ++ entry_of text))
-AppendsEntry old text (Err Missing) new = (old.content ≡ None) × (new ≡ old)
-AppendsEntry old text (Err Refused) new = (new ≡ counted old)
-    ⊎ ((was front rest : List ℕ) × GoesOn old was × (entry_of text ≡ front ++ rest)
-    × (new ≡ counted (counted (holding old (was ++ front)))))
-AppendsEntry old text (Err NotMbox) new = IsOther old × (new ≡ old)
-AppendsEntry old text (Err NoMemory) new = new ≡ old
+AppendsEntry old text (Err (Nothing Missing)) new = (old.content ≡ None) × (new ≡ old)
+AppendsEntry old text (Err (Nothing Refused)) new = new ≡ counted old
+AppendsEntry old text (Err (Nothing NotMbox)) new = IsOther old × (new ≡ old)
+AppendsEntry old text (Err (Nothing NoMemory)) new = new ≡ old
+AppendsEntry old text (Err Front) new = (was front rest : List ℕ) × GoesOn old was × (entry_of text ≡ front ++ rest)
+    × (new ≡ counted (counted (holding old (was ++ front))))
 
 -- the count rises if a call was refused, and once more if the cut that follows was refused too
-abbrev pub TalliesEntry : {T : Type 0} → Result T StoreFault → ℕ → ℕ → Type 0
+abbrev pub TalliesEntry : {T : Type 0} → Result T EntryFault → ℕ → ℕ → Type 0
 TalliesEntry (Ok done) old new = new ≡ old
-TalliesEntry (Err Missing) old new = new ≡ old
-TalliesEntry (Err Refused) old new = (new ≡ counted_up old) ⊎ (new ≡ counted_up (counted_up old))
-TalliesEntry (Err NotMbox) old new = new ≡ old
-TalliesEntry (Err NoMemory) old new = new ≡ old
+TalliesEntry (Err (Nothing fault)) old new = Tallies (is_refusal fault) old new
+TalliesEntry (Err Front) old new = new ≡ counted_up (counted_up old)
 
 -- the bytes of each text
 abbrev pub texts_of : {A B : Type 0} → Vec (Vec ℕ A) B → List (List ℕ)

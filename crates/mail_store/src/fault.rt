@@ -41,3 +41,37 @@ impl<T: Drop> From<AllocFailed<T>> for StoreFault {
         StoreFault::NoMemory
     }
 }
+
+/// Why the entry of a text wasn't appended to an mboxrd file, and whether some of it is there.
+#[derive(Clone, Copy, Debug, PartialEq, Eq, Error)]
+pub enum EntryFault {
+    /// The file is as it was, for this reason.
+    #[error("{0}")]
+    Nothing(StoreFault),
+    /// The device refused the append, and then the cut back: a front of the entry may be there.
+    #[error("destination refused")]
+    Front,
+}
+
+impl From<StoreFault> for EntryFault {
+    ghost use Rattle.std.specs.Prelude.{◌≡◌};
+    ghost use Rattle.mail_store.specs.declared.fault.EntryFault.TheVariants.{Nothing};
+
+    ghost from_gives = { λ fault e. e ≡ Nothing fault };
+
+    fn from(fault: StoreFault) -> EntryFault {
+        EntryFault::Nothing(fault)
+    }
+}
+
+impl From<AllocError> for EntryFault {
+    ghost use Rattle.std.specs.Prelude.{◌≡◌};
+    ghost use Rattle.mail_store.specs.declared.fault.EntryFault.TheVariants.{Nothing};
+    ghost use Rattle.mail_store.specs.declared.fault.StoreFault.TheVariants.{NoMemory};
+
+    ghost from_gives = { λ _ e. e ≡ Nothing NoMemory };
+
+    fn from(_fault: AllocError) -> EntryFault {
+        EntryFault::Nothing(StoreFault::NoMemory)
+    }
+}

@@ -10,7 +10,7 @@ mod mboxrd;
 mod refusal;
 
 pub use account::{AccountId, account_id, account_texts_are_digits};
-pub use fault::StoreFault;
+pub use fault::{EntryFault, StoreFault};
 pub use file::flat_file::{Edges, FlatFile, calls_keep_bytes};
 pub use file::memory::MemoryFile;
 pub use file::reading::{edges_of, read_piece};
@@ -25,7 +25,7 @@ pub use maildir::names::{
 };
 pub use mboxrd::entry::{
     append_entry, check_mbox, entries_add_texts, entries_may_follow_texts, entry_len,
-    files_have_one_reading, peek_mbox,
+    files_have_one_reading, peek_ends, peek_mbox,
 };
 pub use mboxrd::quoting::{is_whole, quote, unquote, unquoting_undoes_quoting};
 pub use mboxrd::reading::read_mbox;

@@ -9,7 +9,7 @@ ghost use Rattle.mail_store.specs.Mboxrd.{MayGoOn, entry_of, separator, EntryAdd
 ghost use Rattle.mail_store.specs.Power.{KeepsWhole, LastsWhole, LeavesNoMore};
 ghost use Rattle.mail_store.specs.MboxCalls.{Looks, Checks, AppendsEntry, TalliesEntry};
 
-use crate::fault::StoreFault;
+use crate::fault::{EntryFault, StoreFault};
 use crate::file::flat_file::{Edges, FlatFile};
 use crate::mboxrd::quoting::{quote_within, quoted_len};
 use std::alloc::AllocError;
@@ -57,10 +57,11 @@ pub fn check_mbox<F: FlatFile>(file: &mut F) -> Result<(), StoreFault>
     Ok(())
 }
 
-/// Checks the same, but flushes nothing: a loss of power may take back what was seen.
-pub fn peek_mbox<F: FlatFile>(file: &mut F) -> Result<(), StoreFault>
-    ensures checks { F.sound file.new → F.sound file.old
-        × Checks (F.stored file.old) result (F.stored file.new) }
+/// The size and the ends of a file that an entry may follow, as `check_mbox` looks at it. Nothing is
+/// flushed: a loss of power may take back what was seen.
+pub fn peek_ends<F: FlatFile>(file: &mut F) -> Result<Edges, StoreFault>
+    ensures looks { F.sound file.new → F.sound file.old
+        × Looks (F.stored file.old) result (F.stored file.new) }
     ensures fault { IfErr result (λ e. e ≢ StoreFault.NoMemory) }
     ensures keeps { F.sound file.new → LeavesNoMore (F.may_leave file.old) (F.may_leave file.new) }
     ensures sure { F.sound file.new → F.is_sure file.old → F.is_sure file.new }
@@ -70,6 +71,19 @@ pub fn peek_mbox<F: FlatFile>(file: &mut F) -> Result<(), StoreFault>
     if !may_go_on(&edges) {
         return Err(StoreFault::NotMbox);
     }
+    Ok(edges)
+}
+
+/// Checks what `check_mbox` checks, but flushes nothing.
+pub fn peek_mbox<F: FlatFile>(file: &mut F) -> Result<(), StoreFault>
+    ensures checks { F.sound file.new → F.sound file.old
+        × Checks (F.stored file.old) result (F.stored file.new) }
+    ensures fault { IfErr result (λ e. e ≢ StoreFault.NoMemory) }
+    ensures keeps { F.sound file.new → LeavesNoMore (F.may_leave file.old) (F.may_leave file.new) }
+    ensures sure { F.sound file.new → F.is_sure file.old → F.is_sure file.new }
+    ensures count { Tallies (refuses is_refusal result) (F.stored file.old).failures (F.stored file.new).failures }
+{
+    peek_ends(file)?;
     Ok(())
 }
 
@@ -123,11 +137,10 @@ pub fn entry_len(text: &[u8]) -> u64
 
 /// Appends the entry of a text to a file, by one `append`. The text must be whole (see `is_whole`), and
 /// the entry takes its memory.
-/// Missing if there is no file, NotMbox if it isn't empty and doesn't both begin with `From ` and
-/// end with LF LF, NoMemory if memory runs out: the file is then as it was. Refused if the device
-/// refused; after a refused `append` the file is cut back to the size that it had, and only if that
-/// is refused too may a front of the entry be left there.
-pub fn append_entry<F: FlatFile>(file: &mut F, text: Vec<u8>) -> Result<(), StoreFault>
+/// Nothing if the file is as it was: Missing if there is none, NotMbox if it isn't empty and doesn't both
+/// begin with `From ` and end with LF LF, NoMemory if memory runs out, Refused if the device refused. After
+/// a refused `append` the file is cut back to the size that it had; Front if that is refused too.
+pub fn append_entry<F: FlatFile>(file: &mut F, text: Vec<u8>) -> Result<(), EntryFault>
     requires { IsWhole text.items }
     ensures appends { F.sound file.new → F.sound file.old
         × AppendsEntry (F.stored file.old) text.items result (F.stored file.new) }
@@ -139,11 +152,13 @@ pub fn append_entry<F: FlatFile>(file: &mut F, text: Vec<u8>) -> Result<(), Stor
     let edges = look_at(file)?;
     let mut entry = text;
     make_entry(&mut entry)?;
-    if let Err(fault) = file.append(&entry) {
-        let _ = file.cut_to(edges.size);
-        return Err(fault);
+    match file.append(&entry) {
+        Ok(()) => Ok(()),
+        Err(fault) => match file.cut_to(edges.size) {
+            Ok(()) => Err(EntryFault::Nothing(fault)),
+            Err(_) => Err(EntryFault::Front),
+        },
     }
-    Ok(())
 }
 
 /// A file that stands for texts, followed by the entry of one more, stands for the texts and then

@@ -192,9 +192,9 @@ returns-in-Err-clause-link g c = link_cut c.in-Err.fault c.open.ensures.link c.b
 pub returns-in-Ok-remember-clause-keeps : goal.returns-in-Ok-remember-clause-keeps
 returns-in-Ok-remember-clause-keeps g c = λ m f.
     let keeps = c.append_text.ensures.keeps m (c.in-Ok-remember.ensures.saves f).0 in
-    (keeps.0, λ bytes front. (c.remember.ensures.keeps f).0 bytes (keeps.1 bytes front))
+    (keeps.0, λ last. (c.remember.ensures.keeps f).0 c.args.ledger.now.seen.rows (keeps.1 last))
 
 pub returns-in-Err-remember-clause-keeps : goal.returns-in-Err-remember-clause-keeps
 returns-in-Err-remember-clause-keeps g c = λ m f.
     let keeps = c.append_text.ensures.keeps m (c.in-Err-remember.ensures.saves f).0 in
-    (keeps.0, λ bytes front. (c.remember.ensures.keeps f).0 bytes (keeps.1 bytes front))
+    (keeps.0, λ last. (c.remember.ensures.keeps f).0 c.args.ledger.now.seen.rows (keeps.1 last))

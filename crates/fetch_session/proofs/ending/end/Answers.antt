@@ -1,12 +1,14 @@
-use Rattle.std.proofs.Common.{◌≡◌, Ok, Err, refl, sym, subst, arith}
+use Rattle.std.proofs.Common.{◌≡◌, List, Ok, Err, refl, sym, subst, arith}
 use Rattle.pop3_client.specs.Client.{link_of, place_of}
 use Rattle.pop3_client.specs.Turns.{line_limit, quit}
 use Rattle.fetch_session.proofs.LinkLemmas.{did_so}
+use Rattle.fetch_session.specs.Ending.{IsTold}
+use Rattle.fetch_session.specs.declared.report.ReportLine.{ReportLine}
 use Rattle.fetch_session.specs.Intake.{tail_limit}
 use Rattle.fetch_session.specs.Scene.{scene, Stops}
 use Rattle.fetch_session.specs.Task.{says}
 use Rattle.fetch_session.specs.Target.{Stores, kind_of, is_sound, stores_of, target_of}
-use Rattle.fetch_session.proofs.EndLemmas.{does_quitting, kept_quitting, look_maildir, look_same, not_left, quit_said, quitting_store}
+use Rattle.fetch_session.proofs.EndLemmas.{does_quitting, kept_quitting, look_maildir, look_same, look_told, not_left, quit_said, quitting_store}
 use Rattle.fetch_session.proofs.IntakeLemmas.{quit_broke, took_broke, took_completing, took_less, took_nothing, with_tail_on}
 use Rattle.fetch_session.proofs.PartLemmas.{link_cut, link_idle, link_with_tail}
 use Rattle.fetch_session.proofs.RefusalLemmas.{cut_by}
@@ -53,26 +55,26 @@ returns-in-Err-clause-does g c = λ account w d f.
 
 -- ---- QUIT was answered well
 
-pub returns-in-Ok-clause-link : goal.returns-in-Ok-clause-link
-returns-in-Ok-clause-link g c = record {
+pub returns-in-Ok-quit-clause-link : goal.returns-in-Ok-quit-clause-link
+returns-in-Ok-quit-clause-link g c = record {
   same = c.quit.ensures.link;
-  counted = c.in-Ok.ensures.counted;
-  took = λ w. let completes = c.in-Ok.ensures.completes w in (completes.0, took_less (took_completing c.conversations_are_paced.ensures quit _ _ (Ok tt) completes.2) (omega arith));
+  counted = c.in-Ok-quit.ensures.counted;
+  took = λ w. let completes = c.in-Ok-quit.ensures.completes w in (completes.0, took_less (took_completing c.conversations_are_paced.ensures quit _ _ (Ok tt) completes.2) (omega arith));
 }
 
-pub returns-in-Ok-clause-store : goal.returns-in-Ok-clause-store
-returns-in-Ok-clause-store g c = quitting_store c.args.work.now c.look_again.new.store c.requires c.look_again.ensures.kind (same g (goal.at.returns-in-Ok-clause-store g c).After-look_again)
+pub returns-in-Ok-quit-clause-store : goal.returns-in-Ok-quit-clause-store
+returns-in-Ok-quit-clause-store g c = quitting_store c.args.work.now c.look_again.new.store c.requires c.look_again.ensures.kind (same g (goal.at.returns-in-Ok-quit-clause-store g c).After-look_again)
 
-pub returns-in-Ok-clause-keeps : goal.returns-in-Ok-clause-keeps
-returns-in-Ok-clause-keeps g c = λ account.
+pub returns-in-Ok-quit-clause-keeps : goal.returns-in-Ok-quit-clause-keeps
+returns-in-Ok-quit-clause-keeps g c = λ account.
     kept_quitting c.args.work.now c.look_again.new.store c.requires
-    (record { same = c.quit.ensures.link; counted = c.in-Ok.ensures.counted; took = did_so g.W.Wire c.in-Ok.ensures.completes (took_completing c.conversations_are_paced.ensures quit _ _ (Ok tt)) })
-    c.look_again.ensures.kind (same g (goal.at.returns-in-Ok-clause-keeps g c).After-look_again) (λ d. (c.look_again.ensures.keeps d).0) (λ d safe. c.in_default.ensures.safe d safe)
+    (record { same = c.quit.ensures.link; counted = c.in-Ok-quit.ensures.counted; took = did_so g.W.Wire c.in-Ok-quit.ensures.completes (took_completing c.conversations_are_paced.ensures quit _ _ (Ok tt)) })
+    c.look_again.ensures.kind (same g (goal.at.returns-in-Ok-quit-clause-keeps g c).After-look_again) (λ d. (c.look_again.ensures.keeps d).0) (λ d safe. c.in-Ok.ensures.safe d safe)
 
-pub returns-in-Ok-clause-does : goal.returns-in-Ok-clause-does
-returns-in-Ok-clause-does g c = λ account w d f.
-    let completes = c.in-Ok.ensures.completes w in
-    let looked = c.in_default.ensures.looks d in
+pub returns-in-Ok-quit-clause-does : goal.returns-in-Ok-quit-clause-does
+returns-in-Ok-quit-clause-does g c = λ account w d f.
+    let completes = c.in-Ok-quit.ensures.completes w in
+    let looked = c.in-Ok.ensures.looks d in
     let work = c.args.work.now in
     let old = stores_of g.D.MaildirDisk g.F.FlatFile work.store in
     let new = stores_of g.D.MaildirDisk g.F.FlatFile c.look_again.new.store in
@@ -83,8 +85,8 @@ returns-in-Ok-clause-does g c = λ account w d f.
       f,
       completes.1,
       does_quitting work c.look_again.new.store c.requires account here there (Ok tt) f
-          (quit_said (target_of work.store account) completes.2.0 here there old new (g.F.FlatFile.stored work.ledger.file) work.ledger.seen.rows work.ledger.lines.items (look_same (kind_of work.store) _ old new looked.1) completes.2.1)
-          (c.look_again.ensures.keeps d) ((same g (goal.at.returns-in-Ok-clause-does g c).After-look_again) d).1 (λ safe. c.in_default.ensures.safe d safe),
+          (quit_said (target_of work.store account) completes.2.0 here there old new (g.F.FlatFile.stored work.ledger.file) work.ledger.seen.rows work.ledger.lines.items (look_same (kind_of work.store) _ old new c.in-Ok.told looked.1) completes.2.1)
+          (c.look_again.ensures.keeps d) ((same g (goal.at.returns-in-Ok-quit-clause-does g c).After-look_again) d).1 (λ safe. c.in-Ok.ensures.safe d safe),
     )
 
 -- ---- it wasn't
@@ -114,7 +116,7 @@ returns-in-Err-quit-clause-keeps g c = λ account.
 pub returns-in-Err-quit-clause-does : goal.returns-in-Err-quit-clause-does
 returns-in-Err-quit-clause-does g c = λ account w d f.
     let completes = c.in-Err-quit.ensures.completes w in
-    let looked = c.in_default.ensures.looks d in
+    let looked = c.in-Ok.ensures.looks d in
     let work = c.args.work.now in
     let file = g.F.FlatFile.stored work.ledger.file in
     let old = stores_of g.D.MaildirDisk g.F.FlatFile work.store in
@@ -128,7 +130,15 @@ returns-in-Err-quit-clause-does g c = λ account w d f.
       completes.1,
       does_quitting work c.look_again.new.store c.requires account here there (Err cut) f
           (subst (λ (s : Stores). Stops (target_of work.store account) (says quit) (scene here old file work.ledger.seen.rows work.ledger.lines.items) cut (scene there s file work.ledger.seen.rows work.ledger.lines.items))
-          (sym (look_same (kind_of work.store) _ old new looked.1))
+          (sym (look_same (kind_of work.store) _ old new c.in-Ok.told looked.1))
           (text_broken (target_of work.store account) (says quit) quit here there old file work.ledger.seen.rows work.ledger.lines.items c.in-Err-quit.fault cut refl c.broken.ensures completes.2))
           (c.look_again.ensures.keeps d) ((same g (goal.at.returns-in-Err-quit-clause-does g c).After-look_again) d).1 (λ safe. tt),
     )
+
+-- ---- what was told
+
+pub returns-in-Ok-quit-clause-told : goal.returns-in-Ok-quit-clause-told
+returns-in-Ok-quit-clause-told g c = λ d.
+    let work = c.args.work.now in
+    subst (λ (l : List ReportLine). IsTold (kind_of work.store) l (stores_of g.D.MaildirDisk g.F.FlatFile work.store) c.in-Ok.told) c.deref.ensures.value
+    (look_told (kind_of work.store) _ (stores_of g.D.MaildirDisk g.F.FlatFile work.store) (stores_of g.D.MaildirDisk g.F.FlatFile c.look_again.new.store) c.in-Ok.told (c.in-Ok.ensures.looks d).1)

@@ -1,4 +1,4 @@
-use Rattle.fetch_session.proofs.LastLemmas.{part_left, safe_left}
+use Rattle.fetch_session.proofs.LastLemmas.{longer_rows, part_left, safe_left}
 use Rattle.fetch_session.proofs.RecordLemmas.{not_empty, grown, cut_short}
 use Rattle.fetch_session.proofs.record.grow.Goals as goal
 
@@ -32,3 +32,9 @@ returns-in-Err-clause-leaves g c = λ kept safe was stood.
     part_left g.F.FlatFile c.append.new.self (g.F.FlatFile.stored c.args.file.now) was c.args.group.now
     (c.requires.begun (c.in-Err.ensures.appends kept).0 (not_empty c.args.group.now c.is_empty.result c.if-is_empty.false c.is_empty.ensures)) stood
     ((c.append.ensures.keeps kept).1 safe.1)
+
+pub returns-in-Ok-clause-keeps : goal.returns-in-Ok-clause-keeps
+returns-in-Ok-clause-keeps g c = λ kept. longer_rows g.F.FlatFile c.args.file.now c.append.new.self (c.append.ensures.keeps kept).0
+
+pub returns-in-Err-clause-keeps : goal.returns-in-Err-clause-keeps
+returns-in-Err-clause-keeps g c = λ kept. longer_rows g.F.FlatFile c.args.file.now c.append.new.self (c.append.ensures.keeps kept).0

@@ -8,7 +8,7 @@ use Rattle.fetch_session.proofs.record.intend.Goals as goal
 
 pub grow-requires : goal.grow-requires
 grow-requires g c = record {
-  begun = λ kept some. row_begun (g.F.FlatFile.stored c.args.file.now).content c.args.seen.now.rows c.args.uid.now (c.requires.steady kept) c.requires.row;
+  begun = λ kept some. row_begun (g.F.FlatFile.stored c.args.file.now).content c.args.seen.now.rows None c.args.uid.now (c.requires.steady kept) c.requires.row;
 }
 
 pub returns-clause-saves : goal.returns-clause-saves
@@ -26,7 +26,7 @@ returns-clause-steady g c = λ kept.
     (saves.0, saves_steady (g.F.FlatFile.stored c.args.file.now) (g.F.FlatFile.stored c.grow.new.file) (none_open c.args.seen.now.rows) _ c.grow.result (c.requires.steady saves.0) saves.1)
 
 pub returns-in_default-clause-keeps : goal.returns-in_default-clause-keeps
-returns-in_default-clause-keeps g c = λ kept. (λ bytes is. is, λ safe others. same_left g.F.FlatFile c.args.file.now c.args.seen.now.rows others None safe (c.requires.steady kept))
+returns-in_default-clause-keeps g c = λ kept. (λ rows last. last, λ safe others. same_left g.F.FlatFile c.args.file.now c.args.seen.now.rows others None safe (c.requires.steady kept))
 
 pub returns-clause-keeps : goal.returns-clause-keeps
 returns-clause-keeps g c = λ kept.

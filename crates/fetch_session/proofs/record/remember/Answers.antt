@@ -39,7 +39,7 @@ returns-clause-steady g c = λ kept.
 
 pub returns-in_default-clause-keeps : goal.returns-in_default-clause-keeps
 returns-in_default-clause-keeps g c = λ kept. (
-  λ bytes is. is,
+  λ rows last. last,
   λ safe. same_left g.F.FlatFile c.args.file.now c.args.seen.now.rows (marked c.args.seen.now.rows c.args.uid.now) c.args.seen.now.intent safe (c.requires.steady kept),
 )
 

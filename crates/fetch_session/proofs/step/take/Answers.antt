@@ -38,7 +38,7 @@ returns-in-Maildir-clause-does g c =
       takes.3,
       good_task (AsFiles c.args.account.now) (stores c.args.number c.args.uid.now) (place_of g.W.Wire c.args.client.now) (place_of g.W.Wire took.new.client)
           (record { store = Maildir c.in-Maildir.disk; ledger = c.args.work.now.ledger }) (record { store = Maildir took.new.disk; ledger = took.new.ledger }) took.result takes.4
-          (keeps.0, λ bytes has is. is, keeps.1) (c.requires.ready.written.steady takes.2) (on_map took.result (λ written. written.steady f) took.ensures.ledger.written)
+          (keeps.0, λ bytes has is. is, keeps.1 c.args.work.now.ledger.seen.rows) (c.requires.ready.written.steady takes.2) (on_map took.result (λ written. written.steady f) took.ensures.ledger.written)
           (λ safe. on_map took.result (λ lasts. ((lasts.0, tt), lasts.1)) (took.ensures.lasts d f safe.0)) (λ safe. took.ensures.ledger.left f safe.0),
     ))
 

@@ -1,0 +1,45 @@
+use Rattle.std.proofs.Common.{◌≡◌, List, ℕ, Option, None, Some, false, ap, sym, subst, ◌∙◌}
+use Rattle.fetch_rules.specs.Record.{Row, Intent, IsRecord, none_open}
+use Rattle.fetch_rules.specs.RecordFile.{Two, file_of}
+use Rattle.fetch_rules.specs.RecordMeaning.{Means, Rows}
+use Rattle.mail_store.specs.FlatFile.{Replaces}
+use Rattle.fetch_session.specs.Record.{Steady, bytes_in, held_in}
+use Rattle.fetch_session.proofs.LastLemmas.{either_left, either_rows}
+use Rattle.fetch_session.proofs.RecordLemmas.{is_there, not_whole, taken_back}
+use Rattle.fetch_session.proofs.record.take_back.Given.{Over}
+use Rattle.fetch_session.proofs.record.take_back.Goals.{After-replace}
+use Rattle.fetch_session.proofs.record.take_back.Goals as goal
+
+-- the rows are the same, and no intent is open
+same : (g : Over) (c : After-replace g) → c.close.new.self.rows ≡ c.args.seen.now.rows
+same g c = c.close.ensures.rows ∙ not_whole c.args.seen.now.rows c.args.seen.now.intent
+
+bytes_are : (g : Over) (c : After-replace g) → c.deref.result.now ≡ file_of c.args.seen.now.rows None
+bytes_are g c = c.deref.ensures.value ∙ c.in-Ok.ensures.file ∙ ap (λ (r : List Row). file_of r c.close.new.self.intent) (same g c)
+    ∙ ap (λ (i : Option Intent). file_of c.args.seen.now.rows i) c.close.ensures.intent
+
+stands : (g : Over) (c : After-replace g) → Means (file_of c.args.seen.now.rows None) (Rows Two c.args.seen.now.rows None false)
+stands g c = c.bytes_stand.ensures c.args.seen.now.rows None (subst (λ (r : List Row). IsRecord r) (same g c) c.bytes.ensures.is_record) tt
+
+pub returns-clause-closes : goal.returns-clause-closes
+returns-clause-closes g c = λ kept.
+    let replaces = c.replace.ensures.replaces kept in
+    let here = (goal.at.returns-clause-closes g c).After-replace in (
+      replaces.0,
+      taken_back (g.F.FlatFile.stored c.args.file.now) (g.F.FlatFile.stored c.replace.new.self) (held_in c.args.seen.now) c.replace.result (stands g here)
+          (subst (λ (b : List ℕ). Replaces (g.F.FlatFile.stored c.args.file.now) b c.replace.result (g.F.FlatFile.stored c.replace.new.self)) (bytes_are g here) replaces.1),
+    )
+
+-- what the file is replaced by stands for the rows
+stands_for : (g : Over) (c : After-replace g) → Steady (Some c.deref.result.now) (none_open c.args.seen.now.rows)
+stands_for g c = subst (λ (b : List ℕ). Means b (Rows Two c.args.seen.now.rows None false)) (sym (bytes_are g c)) (stands g c)
+
+pub returns-clause-keeps : goal.returns-clause-keeps
+returns-clause-keeps g c = λ kept.
+    either_rows g.F.FlatFile c.args.file.now c.replace.new.self c.args.seen.now.rows c.deref.result.now (stands_for g (goal.at.returns-clause-keeps g c).After-replace) (c.replace.ensures.leaves kept)
+
+pub returns-clause-leaves : goal.returns-clause-leaves
+returns-clause-leaves g c = λ kept others.
+    let content = (g.F.FlatFile.stored c.args.file.now).content in
+    either_left g.F.FlatFile c.args.file.now c.replace.new.self c.args.seen.now.rows c.deref.result.now (stands_for g (goal.at.returns-clause-leaves g c).After-replace) (c.replace.ensures.leaves kept)
+    (bytes_in content) (is_there content (c.requires.begun (c.replace.ensures.replaces kept).0)) others
