@@ -43,7 +43,7 @@ pub sound_frame : ((server : List ℕ) (port : ℕ) (username : List ℕ) → Is
 sound_frame digits world sound = record { account = digits world.server world.port world.username; world = sound }
 
 -- the digits are the account's
-same_digits : (world : World) (settings : Settings) → AreSettings world settings → digits_of settings ≡ account_of world
+pub same_digits : (world : World) (settings : Settings) → AreSettings world settings → digits_of settings ≡ account_of world
 same_digits world settings are = rw (are.server, are.port, are.username)
 
 -- a prefix is held, whatever the record says

@@ -6,6 +6,8 @@ mod HeadlineLemmas
 mod MboxHeadlineLemmas
 mod MboxState
 mod PowerLosses
+mod PowerRecord
+mod PowerSessions
 mod RunLemmas
 mod StateCases
 mod StateDone

@@ -3,11 +3,20 @@ use Rattle.std.proofs.Common.{◌≡◌, ◌≢◌, ◌⊎◌, inl, inr, ◌<◌
 use Rattle.std.specs.Prelude.{bytes_eq, Contains}
 use Rattle.mail_terms.specs.UniqueId.{has_id, is_legal_id}
 use Rattle.mail_store.specs.FileName.{stem, stem_of}
-use Rattle.mail_store.specs.Maildir.{File, names_of}
+use Rattle.mail_store.specs.Maildir.{File, name_in, names_of}
+use Rattle.mail_store.specs.declared.maildir.disk.MaildirDisk.{Ghosts as DiskGhosts}
 use Rattle.run_law.specs.Accounts.{copies}
-use Rattle.fetch_runs.specs.Headline.{World, State, Headline, IsLastStored, account_of, contents_of}
+use Rattle.fetch_runs.specs.Headline.{Headline, IsLastStored, account_of, contents_of}
 use Rattle.fetch_runs.specs.Power.{IsSure, PartsAreLosses}
 use Rattle.fetch_runs.proofs.Takings.{less_than_one, part_copies, some_held}
+
+-- the name of a file of these is among theirs
+pub named_in : (fs : List File) (f : File) → Contains fs f → Contains (names_of fs) f.name
+named_in [] f (k, below, is) = absurd (omega (arith, below))
+named_in (x ∷ fs) f (zero, below, is) = (zero, omega arith, ap name_in is)
+named_in (x ∷ fs) f (suc k, below, is) =
+    let more = named_in fs f (k, omega (arith, below), is) in
+    (suc more.0, omega (arith, more.1), more.2)
 
 not_none : {A : Type 0} (x : A) (xs : List A) → x ∷ xs ≢ []
 not_none x xs none = cc
@@ -29,15 +38,19 @@ named_some front (f ∷ fs) name same (suc k, below, is) = by (bytes_eq front (s
         let more : copies (f ∷ fs) front ≡ copies fs front = rw e refl in
         some (sym more ∙ none)
 
-pub parts_are_losses : Headline → PartsAreLosses
-parts_are_losses law world state staying left file sound is sure may record_is = record {
+pub parts_are_losses : Headline → {D : Type 0} (disk : DiskGhosts D) → PartsAreLosses disk
+parts_are_losses law disk device world state left file sound is sure may record_is = record {
   record_is = record_is;
   mail = λ id legal. by id legal ((law world state [] sound is tt).0.once id legal) (part_copies (stem_of (account_of world) id) state.kept.maildir.files left may.part);
 }
   where
-    may_go : (id : List ℕ) → copies left (stem_of (account_of world) id) ≡ [] → IsSure world staying id ⊎ (has_id state.taken id ≡ true) ⊎ IsLastStored world state id
+    some_left : (id : List ℕ) → (one : IsSure disk device world state.kept.maildir.files id) → disk.stays device one.one.name ⊎ disk.outlives device one.one → copies left (stem_of (account_of world) id) ≢ []
+    some_left id one (inl stays) = named_some (stem_of (account_of world) id) left one.one.name one.named (may.named one.one.name (named_in state.kept.maildir.files one.one one.there) stays)
+    some_left id one (inr outlives) = named_some (stem_of (account_of world) id) left one.one.name one.named (named_in left one.one (may.whole one.one one.there outlives))
+
+    may_go : (id : List ℕ) → copies left (stem_of (account_of world) id) ≡ [] → IsSure disk device world state.kept.maildir.files id ⊎ (has_id state.taken id ≡ true) ⊎ IsLastStored world state id
         → (has_id state.taken id ≡ true) ⊎ IsLastStored world state id
-    may_go id none (inl (name, stays, same)) = absurd (named_some (stem_of (account_of world) id) left name same (may.named name stays) none)
+    may_go id none (inl one) = absurd (some_left id one one.sure none)
     may_go id none (inr may') = may'
 
     by : (id : List ℕ) → is_legal_id id ≡ true → length (contents_of world state.kept id) ≤ 1

@@ -13,16 +13,18 @@ ghost use Rattle.fetch_runs.specs.MboxHeadline.{MboxStopsAreRuns, WritingsAreEve
 ghost use Rattle.fetch_runs.specs.MboxHonestSession.{MboxHonestSessions};
 ghost use Rattle.fetch_runs.specs.MboxSteps.{MboxSessionIsAStep};
 ghost use Rattle.fetch_runs.specs.MboxTexts.{MboxSessionsAddTexts};
-ghost use Rattle.fetch_runs.specs.Power.{PartsAreLosses};
+ghost use Rattle.fetch_runs.specs.Power.{PartsAreLosses, SessionsAndPower};
 ghost use Rattle.fetch_runs.specs.Steps.{SessionIsAStep};
 
 use fetch_rules::{
-    files_stand_for_one_record, held_is_delivered, listed_has_row, marked_is_delivered,
-    marked_keeps_rows, plans_fetch_wanted,
+    appended_counts, bytes_have_one_meaning, files_stand_for_one_record, held_is_delivered,
+    listed_has_row, marked_is_delivered, marked_keeps_rows, plans_fetch_wanted,
+    torn_is_ignored_or_seen,
 };
-use fetch_session::{steady_files_keep, unsaved_files_keep};
+use fetch_session::{lasting_sessions_are_sessions, steady_files_keep, unsaved_files_keep};
 use mail_store::{
-    account_texts_are_digits, entries_add_texts, flags_tell_what_is_held, stems_differ,
+    FlatFile, MaildirDisk, account_texts_are_digits, entries_add_texts, flags_tell_what_is_held,
+    names_are_bases, names_have_stems, stems_differ,
 };
 use pop3_client::{conversations_are_paced, turns_join};
 use pop3_wire::fronts_are_asked;
@@ -30,8 +32,8 @@ use run_law::{
     holds_exactly, holds_what_is_left, honest_is_granted, honest_sessions_append_messages,
     honest_sessions_bring_messages, kept_states, links_are_visits, mbox_holds_exactly,
     mbox_links_are_visits, mbox_sessions_are_safe, mbox_starts_kept, mbox_states_are_kept,
-    mbox_told_stores, sessions_are_safe, some_are_recorded, starts_kept, told_stores,
-    worlds_shrink,
+    mbox_told_stores, one_more_is_last, sessions_are_safe, some_are_recorded, starts_kept,
+    told_stores, worlds_shrink,
 };
 
 /// What a link gains in a session is one conversation that follows the plan. What was sent is the
@@ -144,13 +146,36 @@ pub fn recorded_stay_away()
     worlds_shrink();
 }
 
-/// A loss of power that leaves some of the files that calls see, in order, is part of a run, if the
-/// name of each message stays, but perhaps that of the last that was stored or of what was taken
-/// away before, and the record shows no more than it may.
-pub fn parts_are_losses()
-    ensures { PartsAreLosses }
+/// A loss of power that leaves some of the files that calls see, in order, is part of a run, if a file
+/// of each message stays, but perhaps of the last that was stored or of what was taken away before, and
+/// the record shows no more than it may.
+pub fn parts_are_losses<D: MaildirDisk>()
+    ensures { PartsAreLosses D.MaildirDisk }
 {
     headline();
+}
+
+/// After a session that had something to fetch or to delete, whatever cut it, a loss of power is part of
+/// a run: whatever it may leave of the Maildir and of the record's file, if that can be read.
+pub fn sessions_and_power<D: MaildirDisk, F: FlatFile>()
+    ensures { SessionsAndPower D.MaildirDisk F.FlatFile }
+{
+    headline();
+    files_stand_for_one_record();
+    bytes_have_one_meaning();
+    appended_counts();
+    torn_is_ignored_or_seen();
+    marked_is_delivered();
+    marked_keeps_rows();
+    listed_has_row();
+    one_more_is_last();
+    stems_differ();
+    names_have_stems();
+    names_are_bases();
+    account_texts_are_digits();
+    steady_files_keep();
+    unsaved_files_keep();
+    lasting_sessions_are_sessions::<D, F>();
 }
 
 /// A record's file that is missing or empty is one that forgot, whatever it held.

@@ -28,7 +28,7 @@ use Rattle.fetch_session.specs.Scene.{scene, Stops, TakesTask}
 use Rattle.fetch_session.specs.Target.{Kind, Files, Entries, Target, Stores, is_sound, kind_of, stores_of, target, target_of}
 use Rattle.fetch_session.specs.Task.{AreFresh, ids_ahead, says}
 use Rattle.fetch_session.specs.Work.{IsReady}
-use Rattle.fetch_session.proofs.LastLemmas.{same_left}
+use Rattle.fetch_session.proofs.LastLemmas.{if_err, nothing_cut, same_left}
 use Rattle.fetch_session.proofs.PartLemmas.{good_task, on_map}
 use Rattle.fetch_session.proofs.SceneLemmas.{brings_same, on_any}
 
@@ -126,3 +126,5 @@ module _ {D F H Z : Type 0} {disk : DiskGhosts D} {file : FileGhosts F} (work : 
       good_task (target_of work.store account) (says quit) a b work left r took (keeps.0, keeps.1, λ last. last) (ready.written.steady f) (on_any r (ready.written.steady f))
       (λ sure. on_map r (λ s. ((sure.0, s), none_new disk file work.store store same)) (safe sure.1))
       (λ sure. same_left file work.ledger.file work.ledger.seen.rows work.ledger.seen.rows None sure.0 (ready.written.steady f))
+      (λ sure. if_err r (λ cut. nothing_cut disk file (target_of work.store account) cut _ _ store work.ledger.file
+      (same_left file work.ledger.file work.ledger.seen.rows work.ledger.seen.rows None sure.0 (ready.written.steady f)) (ap (λ (m : Maildir). m.files) same)))

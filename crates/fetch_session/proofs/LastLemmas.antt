@@ -1,5 +1,5 @@
 -- What a list of tasks leaves that outlives a loss of power, by what its single tasks leave.
-use Rattle.std.proofs.Common.{◌≡◌, ◌≢◌, ◌⊎◌, ℕ, List, [], ◌∷◌, ◌++◌, Option, None, Some, Result, Ok, Err, refl, sym, ap, subst, ◌∙◌, inl, inr, append_assoc, length}
+use Rattle.std.proofs.Common.{◌≡◌, ◌≢◌, ◌⊎◌, ℕ, List, [], ◌∷◌, ◌++◌, Option, None, Some, Result, Ok, Err, IfErr, refl, sym, ap, subst, ◌∙◌, inl, inr, append_assoc, length}
 use Rattle.std.proofs.lemmas.List.{append-nil, append_cancel_left}
 use Rattle.std.proofs.lemmas.Grind.{flat_map-append}
 use Rattle.std.proofs.lemmas.Option.{none-some, same_Some}
@@ -23,7 +23,7 @@ use Rattle.fetch_session.specs.declared.work.Work.{Work}
 use Rattle.fetch_session.specs.Record.{Steady, bytes_in, held}
 use Rattle.fetch_session.specs.Scene.{Scene, scene, Went, AllWent}
 use Rattle.fetch_session.specs.Store.{Brings, Ends, begun_with}
-use Rattle.fetch_session.specs.Lasting.{AreLeft, DoesForGood, DonesLast, IsSafe, IsSafeStore, IsSafeWork, IsLeft, KeepsMailIn, KeepsRows, KeepsWork, Leaves, NewOutlive, RowsLast, ShowsRows, TextsLast, may_leave_in, outlives_in}
+use Rattle.fetch_session.specs.Lasting.{AreLeft, CutLasts, DoesForGood, DonesLast, IsSafe, IsSafeStore, IsSafeWork, IsLeft, KeepsMailIn, KeepsRows, KeepsWork, Leaves, NewOutlive, RowsLast, ShowsRows, TextsLast, may_leave_in, outlives_in}
 use Rattle.fetch_session.specs.Target.{Kind, Target, AsFiles, AsEntries, Stores, kind_of, stores_of, target as target_at, target_of}
 use Rattle.fetch_session.specs.Task.{Task, Done, files_of, ids_in, ids_of, texts_of}
 use Rattle.fetch_session.proofs.RecordLemmas.{is_there}
@@ -54,6 +54,7 @@ module _ {F : Type 0} (file : FileGhosts F) (f : F) where
     is = (safe.1 bytes is).1 left may ∙ ap (λ (l : List ℕ). Some l) (sym (append-nil bytes));
     stands = subst (λ (c : Option (List ℕ)). Steady c was) is stood;
     part = tt;
+    begun = inl refl;
   }
 
   -- bytes were appended, or a part of them
@@ -61,7 +62,7 @@ module _ {F : Type 0} (file : FileGhosts F) (f : F) where
       → Leaves file f (IsLeft was added)
   part_left old was added some stood part bytes is left may =
       let behind = part (bytes_in old.content) (is_there old.content some) left may in
-      record { bytes = bytes_in old.content; behind = behind.0; is = behind.1; stands = stood; part = behind.2 }
+      record { bytes = bytes_in old.content; behind = behind.0; is = behind.1; stands = stood; part = behind.2; begun = inr some }
 
   pub rows_left : (rows others next : List Row) (before after : Option Intent) (added : List ℕ) → Grows rows before added next after → (next ≡ rows) ⊎ (next ≡ others)
       → Leaves file f (IsLeft (held rows before) added) → Leaves file f (AreLeft rows others)
@@ -148,7 +149,7 @@ module _ {D F : Type 0} {disk : DiskGhosts D} {file : FileGhosts F} {safe : Type
   }
   good_more joining {xs} {ys} {a} {b} {c} (Err cut) mid {new} {f} went first keeps then = record {
     does = fell_on joining target xs ys a b c cut went then.does;
-    lasts = λ s. dones_on disk file target went.dones then.does.dones (ids_in then.does.next) a b mid new f went.went (first s) keeps (then.lasts s);
+    lasts = λ s. (dones_on disk file target went.dones then.does.dones (ids_in then.does.next) a b mid new f went.went (first s) keeps (then.lasts s).0, (then.lasts s).1);
   }
 
   -- some of these tasks were done, and none of those after them
@@ -157,7 +158,7 @@ module _ {D F : Type 0} {disk : DiskGhosts D} {file : FileGhosts F} {safe : Type
   unfolding fell_before
   good_before {xs} ys {a} {new} {cut} does = record {
     does = fell_before target xs ys a new cut does.does;
-    lasts = λ s. record { texts = (does.lasts s).texts; rows = (does.lasts s).rows; left = (does.lasts s).left };
+    lasts = λ s. (record { texts = (does.lasts s).0.texts; rows = (does.lasts s).0.rows; left = (does.lasts s).0.left }, (does.lasts s).1);
   }
 
 -- ---- what is safe
@@ -208,7 +209,7 @@ module _ {F : Type 0} (file : FileGhosts F) (f f' : F) (rows : List Row) (bytes 
       after = None;
       grows = inl (inl (refl, refl, refl));
       next_is = inl refl;
-      file = record { bytes = bytes; behind = []; is = all_of left all; stands = stands; part = tt };
+      file = record { bytes = bytes; behind = []; is = all_of left all; stands = stands; part = tt; begun = inl refl };
     }
   ]
 
@@ -235,6 +236,16 @@ texts_ok disk file AsEntries dones old new brings outlive safe = λ was is.
     (content_is (stores_of disk file old).mbox.content (stores_of disk file new).mbox.content was (texts_of dones) is brings.content)
 
 -- ---- if nothing is done
+
+pub if_err : {T E : Type 0} {P : E → Type 0} (r : Result T E) → ((e : E) → P e) → IfErr r P
+if_err (Ok done) all = tt
+if_err (Err e) all = all e
+
+-- nothing was marked, and no file came
+pub nothing_cut : {D F : Type 0} (disk : DiskGhosts D) (file : FileGhosts F) (target : Target) (cut : Cut) (old new : Scene) (store : Store D F) (f : F)
+    → Leaves file f (AreLeft old.rows old.rows) → new.store.maildir.files ≡ old.store.maildir.files → CutLasts disk file target cut old new store f
+nothing_cut disk file (AsFiles account) cut old new store f left same = inl (left, λ none. same)
+nothing_cut disk file AsEntries cut old new store f left same = tt
 
 -- no file came
 pub none_came : {D F : Type 0} (disk : DiskGhosts D) (file : FileGhosts F) (store : Store D F) → NewOutlive disk file store store

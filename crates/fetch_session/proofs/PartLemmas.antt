@@ -1,5 +1,5 @@
 -- What parts of a session keep and do, one after the other.
-use Rattle.std.proofs.Common.{◌≡◌, ◌≤◌, ◌+◌, ◌*◌, ℕ, Bool, true, false, List, [], ◌∷◌, ◌++◌, length, None, Result, Ok, Err, OnOk, refl, sym, ap, subst, ◌∙◌, inl, arith, append_assoc, length-append}
+use Rattle.std.proofs.Common.{◌≡◌, ◌≤◌, ◌+◌, ◌*◌, ℕ, Bool, true, false, List, [], ◌∷◌, ◌++◌, length, None, Result, Ok, Err, IfErr, OnOk, refl, sym, ap, subst, ◌∙◌, inl, arith, append_assoc, length-append}
 use Rattle.std.proofs.lemmas.Grind.{flat_map-append}
 use Rattle.std.specs.List.{AllByRecursion}
 use Rattle.mail_terms.specs.Listing.{Item}
@@ -24,7 +24,7 @@ use Rattle.fetch_session.specs.declared.work.Ledger.{Ledger}
 use Rattle.fetch_session.specs.declared.work.Work.{Work}
 use Rattle.fetch_session.specs.Fault.{cut_of, fault_of}
 use Rattle.fetch_session.specs.Intake.{Took, TookTillCut, TookWithTail, step_limit, tail_limit}
-use Rattle.fetch_session.specs.Lasting.{AreLeft, DoesForGood, IsSafeWork, KeepsMailIn, KeepsWork, Leaves, NewOutlive, RowsLast}
+use Rattle.fetch_session.specs.Lasting.{AreLeft, CutLasts, DoesForGood, IsSafeWork, KeepsMailIn, KeepsWork, Leaves, NewOutlive, RowsLast}
 use Rattle.fetch_session.specs.Parts.{DoesTasks, IsReadyFor, KeepsLedger, KeepsLink, KeepsSession, KeepsStore}
 use Rattle.fetch_session.specs.Record.{Steady}
 use Rattle.fetch_session.specs.Scene.{scene, TakesTask}
@@ -34,7 +34,7 @@ use Rattle.fetch_session.specs.Task.{Task, stores, ids_in, ids_ahead, turns_in, 
 use Rattle.fetch_session.specs.Work.{IsReady, IsWritten}
 use Rattle.fetch_session.proofs.FreshLemmas.{OneMore, ahead, fresh_grows}
 use Rattle.fetch_session.proofs.IntakeLemmas.{takes_on, takes_plain, took_less, took_nothing, with_any_tail, with_tail_on}
-use Rattle.fetch_session.proofs.LastLemmas.{good_before, good_more, in_kind, keeps_mail_on, keeps_same, none_came, none_lasts, rows_last, same_left, texts_ok}
+use Rattle.fetch_session.proofs.LastLemmas.{good_before, good_more, if_err, in_kind, keeps_mail_on, keeps_same, none_came, none_lasts, nothing_cut, rows_last, same_left, texts_ok}
 use Rattle.fetch_session.proofs.RefusalLemmas.{cut_by, till_cut}
 use Rattle.fetch_session.proofs.SceneLemmas.{all_append, all_none, all_weaker, fell_first, on_any}
 
@@ -302,10 +302,12 @@ module _ {D F H Z : Type 0} {disk : DiskGhosts D} {file : FileGhosts F} where
       → OnOk r (Steady (file.stored new.ledger.file).content (none_open new.ledger.seen.rows))
       → (IsSafeWork file old → OnOk r (IsSafeWork file new × NewOutlive disk file old.store new.store))
       → (IsSafeWork file old → Leaves file new.ledger.file (AreLeft old.ledger.seen.rows (marked_all old.ledger.seen.rows (ids_in task))))
+      → (IsSafeWork file old → IfErr r (λ cut. CutLasts disk file target cut (scene a (stores_of disk file old.store) (file.stored old.ledger.file) old.ledger.seen.rows old.ledger.lines.items)
+      (scene b (stores_of disk file new.store) (file.stored new.ledger.file) new.ledger.seen.rows new.ledger.lines.items) new.store new.ledger.file))
       → DoesForGood disk file (IsSafeWork file old) target (task ∷ []) (scene a (stores_of disk file old.store) (file.stored old.ledger.file) old.ledger.seen.rows old.ledger.lines.items) r
       (scene b (stores_of disk file new.store) (file.stored new.ledger.file) new.ledger.seen.rows new.ledger.lines.items) new.store new.ledger.file
   unfolding fell_first
-  good_task target task a b old new (Ok done) took keeps steady written lasts left = record {
+  good_task target task a b old new (Ok done) took keeps steady written lasts left next = record {
     does = record { dones = record { task = task; replies = took.0 } ∷ []; all = refl; went = took.1 };
     lasts = λ safe. record {
       texts = texts_ok disk file target (record { task = task; replies = took.0 } ∷ []) old.store new.store took.1.stored (lasts safe).1 (lasts safe).0.1;
@@ -313,9 +315,9 @@ module _ {D F H Z : Type 0} {disk : DiskGhosts D} {file : FileGhosts F} where
       left = subst (λ rows. Leaves file new.ledger.file (AreLeft rows rows)) took.1.rows (same_left file new.ledger.file new.ledger.seen.rows new.ledger.seen.rows None (lasts safe).0.0 written);
     };
   }
-  good_task target task a b old new (Err cut) took keeps steady written lasts left = record {
+  good_task target task a b old new (Err cut) took keeps steady written lasts left next = record {
     does = fell_first target task [] _ _ cut took;
-    lasts = λ safe. none_lasts disk file target a old new (ids_in task) safe keeps steady (left safe);
+    lasts = λ safe. (none_lasts disk file target a old new (ids_in task) safe keeps steady (left safe), next safe);
   }
 
   -- the same for a task that stores nothing
@@ -329,3 +331,4 @@ module _ {D F H Z : Type 0} {disk : DiskGhosts D} {file : FileGhosts F} where
       good_task target task a b work (record work { ledger = record work.ledger { lines = new.ledger.lines } }) r took (keeps_same disk file work) (ready.written.steady f) (on_any r (ready.written.steady f))
       (λ safe. on_any r (safe, none_came disk file work.store))
       (λ safe. same_left file work.ledger.file work.ledger.seen.rows _ None safe.0 (ready.written.steady f))
+      (λ safe. if_err r (λ cut. nothing_cut disk file target cut _ _ work.store work.ledger.file (same_left file work.ledger.file work.ledger.seen.rows work.ledger.seen.rows None safe.0 (ready.written.steady f)) refl))

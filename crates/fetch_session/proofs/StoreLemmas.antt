@@ -1,5 +1,5 @@
 -- What storing a text leaves.
-use Rattle.std.proofs.Common.{◌≡◌, inl, inr, ◌≤◌, ◌+◌, ℕ, List, [], ◌∷◌, ◌++◌, length, take, Option, None, Some, Result, Ok, Err, refl, sym, ap, ◌∙◌, arith, length-append}
+use Rattle.std.proofs.Common.{◌≡◌, inl, inr, ◌≤◌, ◌+◌, ℕ, List, [], ◌∷◌, ◌++◌, length, take, Option, None, Some, Result, Ok, Err, refl, sym, ap, subst, ◌∙◌, arith, length-append}
 use Rattle.std.proofs.lemmas.List.{length-take-le}
 use Rattle.mail_store.specs.Maildir.{Maildir, File, file, mail, with_file, dropped, counted}
 use Rattle.mail_store.specs.FileName.{sized, sized_file}
@@ -76,6 +76,10 @@ stops_grows old new name text fault (Some rest) calm (inr (why, inr there)) = rw
 pub stores_grows : (old new : Maildir) (name text : List ℕ) (r : Result ℕ Cut) → old.begun ≡ None → StoresText name old text r new → Grows name old new
 stores_grows old new name text (Ok octets) calm is = rw is.0 (record { calm = refl; came = inr (text, refl) })
 stores_grows old new name text (Err cut) calm is = stops_grows old new name text cut.fault cut.rest calm is
+
+-- no file came for a text that isn't under way any more
+pub stopped_same : (old new : Maildir) (name text : List ℕ) (cut : Cut) → StoresText name old text (Err cut) new → cut.rest ≡ None → new.files ≡ old.files
+stopped_same old new name text cut stops none = ap (λ (m : Maildir). m.files) (subst (λ (rest : Option Rest). StopsStoring name old text cut.fault rest new) none stops)
 
 -- a text that grew by the first `put` of some bytes is `put` longer
 pub longer : (n put : ℕ) (text out : List ℕ) → n ≡ length text → put ≤ length out → n + put ≡ length (text ++ take put out)

@@ -1,10 +1,10 @@
 -- What of a session outlives a loss of power, by what its devices say.
-use Rattle.std.specs.Prelude.{◌≡◌, ◌⊎◌, ℕ, List, [], ◌++◌, length, Option, Some, Result, Ok, Err, All, Contains}
+use Rattle.std.specs.Prelude.{◌≡◌, ◌≢◌, ◌⊎◌, ℕ, List, [], ◌∷◌, ◌++◌, length, Option, None, Some, Result, Ok, Err, All, Contains}
 use Rattle.std.specs.List.{flat_map, AllByRecursion}
 use Rattle.mail_store.specs.declared.maildir.disk.MaildirDisk.{Ghosts as DiskGhosts}
 use Rattle.mail_store.specs.declared.file.flat_file.FlatFile.{Ghosts as FileGhosts}
 use Rattle.mail_store.specs.FlatFile.{Stored}
-use Rattle.mail_store.specs.Maildir.{File, names_of}
+use Rattle.mail_store.specs.Maildir.{File, Maildir, names_of}
 use Rattle.mail_store.specs.Mboxrd.{entry_of}
 use Rattle.mail_store.specs.Settling.{MayBeLeft}
 use Rattle.mail_store.specs.Power.{AllStay, KeepsMail, KeepsWhole, LastsWhole, Outlives}
@@ -82,6 +82,10 @@ NewOutlive disk file old new = (files : List File)
     → (stores_of disk file new).maildir.files ≡ (stores_of disk file old).maildir.files ++ files
     → AllByRecursion (outlives_in disk new) files
 
+-- one file came, and it outlives a loss of power
+abbrev pub OneOutlives : Maildir → Maildir → (File → Type 0) → Type 0
+OneOutlives old new outlives = (f : File) × (new.files ≡ old.files ++ f ∷ []) × outlives f
+
 -- ---- what tasks leave that outlives it
 
 -- the texts that these tasks stored: each file, whole; or all entries, after the bytes that the mboxrd file had
@@ -118,6 +122,7 @@ pub record IsLeft (was : Held) (added : List ℕ) (left : Option (List ℕ)) : T
   pub is : left ≡ Some (bytes ++ behind)
   pub stands : Steady (Some bytes) was
   pub part : MayBeLeft (length bytes) added behind
+  pub begun : (behind ≡ []) ⊎ (bytes ≢ [])
 
 -- these rows are left, and what there may be of one group or intent behind them makes no others of them than those
 pub record AreLeft (rows others : List Row) (left : Option (List ℕ)) : Type 0 where
@@ -137,11 +142,19 @@ pub record DonesLast {D F : Type 0} (disk : DiskGhosts D) (file : FileGhosts F) 
   pub rows : RowsLast file f (marked_all old.rows (ids_of dones))
   pub left : Leaves file f (AreLeft (marked_all old.rows (ids_of dones)) (marked_all (marked_all old.rows (ids_of dones)) next))
 
+-- the task that was cut marked nothing, and no file came but one whose text is under way; or its file came and outlives a loss of power
+abbrev pub CutLasts : {D F : Type 0} → DiskGhosts D → FileGhosts F → Target → Cut → Scene → Scene → Store D F → F → Type 0
+CutLasts disk file (AsFiles account) cut old new store f =
+    (Leaves file f (AreLeft old.rows old.rows) × (cut.rest ≡ None → new.store.maildir.files ≡ old.store.maildir.files))
+    ⊎ OneOutlives old.store.maildir new.store.maildir (outlives_in disk store)
+CutLasts disk file AsEntries cut old new store f = Unit {0}
+
 -- the same for the tasks of a list that were done, and for the one that was cut
 abbrev pub Lasts : {D F : Type 0} → DiskGhosts D → FileGhosts F → (target : Target) (tasks : List Task) (old : Scene)
     (result : Result (Unit {0}) Cut) (new : Scene) → Does target tasks old result new → Store D F → F → Type 0
 Lasts disk file target tasks old (Ok done) new does store f = DonesLast disk file target does.dones [] old store f
 Lasts disk file target tasks old (Err cut) new does store f = DonesLast disk file target does.dones (ids_in does.next) old store f
+    × CutLasts disk file target cut does.mid new store f
 
 -- a list of tasks was done, or as far as went well; and if this premise holds, what was done outlives a loss of power
 pub record DoesForGood {D F : Type 0} (disk : DiskGhosts D) (file : FileGhosts F) (safe : Type 0) (target : Target) (tasks : List Task)

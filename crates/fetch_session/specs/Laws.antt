@@ -13,7 +13,15 @@ use Rattle.fetch_session.specs.declared.fault.Why.TheVariants.{Refused}
 use Rattle.fetch_session.specs.Task.{Task, Done, stores, tasks_of, turns_of, replies_of, ids_of, files_of, file_from, lines_of}
 use Rattle.fetch_session.specs.Record.{Keeps, Steady, Saves}
 use Rattle.fetch_session.specs.Scene.{Scene, Fell}
-use Rattle.fetch_session.specs.Target.{AsFiles}
+use Rattle.fetch_session.specs.Target.{AsFiles, Target}
+use Rattle.fetch_session.specs.Lasting.{SessionForGood, is_sure}
+use Rattle.fetch_session.specs.Session.{Keeping, SessionIn}
+use Rattle.fetch_session.specs.declared.account.Store.{Store}
+use Rattle.fetch_session.specs.declared.report.Report.{Report}
+use Rattle.mail_store.specs.declared.file.flat_file.FlatFile.{Ghosts as FileGhosts}
+use Rattle.mail_store.specs.declared.maildir.disk.MaildirDisk.{Ghosts as DiskGhosts}
+use Rattle.pop3_wire.specs.Link.{Link}
+use Rattle.rc_file.specs.declared.settings.Settings.{Settings}
 
 -- what was got begins with these replies, whole
 abbrev pub Stands : List WholeReply → Scene → Scene → Type 0
@@ -51,6 +59,13 @@ abbrev pub StoppingCutsShort : Type 0
 StoppingCutsShort = (account : List ℕ) (tasks : List Task) (old new : Scene) (cut : Cut)
     → Fell (AsFiles account) tasks old cut new → old.place.waiting ≡ [] → Steady old.file.content (none_open old.rows)
     → CutShort account tasks old cut.fault new
+
+-- a session of which it is said what outlives a loss of power is a session
+abbrev pub LastingIsASession : {D F : Type 0} → DiskGhosts D → FileGhosts F → Type 0
+LastingIsASession {D} {F} disk files = (was store : Store D F) (old new : F) (settings : Settings) (target : Target) (now : ℕ) (link : Link) (before : Keeping)
+    (report : Report) (link' : Link) (after : Keeping)
+    → SessionForGood disk files (is_sure files was × files.is_sure old) settings target now link before report link' after store new
+    → SessionIn settings target now link before report link' after
 
 -- a file of version 2 that stands for a record and has no torn end stands for that record
 abbrev pub SteadyFilesKeep : Type 0

@@ -24,7 +24,9 @@ mod work;
 
 pub use account::{Account, Store};
 pub use fault::{Cut, Fault, Why};
-pub use laws::{steady_files_keep, stopping_cuts_short, unsaved_files_keep};
+pub use laws::{
+    lasting_sessions_are_sessions, steady_files_keep, stopping_cuts_short, unsaved_files_keep,
+};
 pub use one_session::session;
 pub use preview::{Preview, pretend};
 pub use prospect::{Fate, Prospect};

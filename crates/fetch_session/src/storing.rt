@@ -1,5 +1,5 @@
 //! How a text is taken: stored, or passed over if it is held already.
-ghost use Rattle.std.specs.Prelude.{◌≡◌, ◌≢◌, ◌≤◌, ◌++◌, ℕ, List, [], None, Some, IsSome, OnOk, false, string_bytes};
+ghost use Rattle.std.specs.Prelude.{◌≡◌, ◌≢◌, ◌⊎◌, ◌≤◌, ◌++◌, ℕ, List, [], None, Some, IfErr, IsSome, OnOk, false, string_bytes};
 ghost use Rattle.std.specs.List.{AllByRecursion};
 ghost use Rattle.mail_terms.specs.UniqueId.{IsLegalId};
 ghost use Rattle.pop3_client.specs.Client.{HasSameLink, CountsRefusals, place_of, link_of};
@@ -14,7 +14,7 @@ ghost use Rattle.mail_store.specs.FileName.{HasRoomForSize, IsAccountText, is_he
 ghost use Rattle.mail_store.specs.Maildir.{File, IsThere, file, mail, with_file};
 ghost use Rattle.mail_store.specs.Power.{KeepsMail};
 ghost use Rattle.fetch_session.specs.Intake.{TookTillCut};
-ghost use Rattle.fetch_session.specs.Lasting.{IsSafe, KeepsRows};
+ghost use Rattle.fetch_session.specs.Lasting.{AreLeft, IsSafe, KeepsRows, Leaves, OneOutlives};
 ghost use Rattle.fetch_session.specs.Parts.{KeepsLedger, KeepsLink};
 ghost use Rattle.fetch_session.specs.Refusal.{RefusesTillCut};
 ghost use Rattle.fetch_session.specs.Report.{Adds, HasRoom};
@@ -241,7 +241,10 @@ pub(crate) fn take_into_maildir<W: Wire, D: MaildirDisk, F: FlatFile, H: BuildHa
         × ((rows : List Row) → KeepsRows F.FlatFile rows ledger.old.file ledger.new.file) }
     ensures lasts { D.sound disk.new → F.sound ledger.new.file → IsSafe F.FlatFile ledger.old.file
         → OnOk result (IsSafe F.FlatFile ledger.new.file × ((files : List File)
-        → (D.maildir disk.new).files ≡ (D.maildir disk.old).files ++ files → AllByRecursion (D.outlives disk.new) files)) }
+        → (D.maildir disk.new).files ≡ (D.maildir disk.old).files ++ files → AllByRecursion (D.outlives disk.new) files))
+        × IfErr result (λ cut. (Leaves F.FlatFile ledger.new.file (AreLeft ledger.old.seen.rows ledger.old.seen.rows)
+        × (cut.rest ≡ None → (D.maildir disk.new).files ≡ (D.maildir disk.old).files))
+        ⊎ OneOutlives (D.maildir disk.old) (D.maildir disk.new) (D.outlives disk.new)) }
 {
     conversations_are_paced();
     marked_keeps_rows();

@@ -2,7 +2,7 @@
 #![tactic(auto)]
 
 ghost use Rattle.run_law.specs.Mails.{WorldsShrink};
-ghost use Rattle.run_law.specs.Power.{AllMayBeLeft, FirstMayBeLeft, UncountedMayBeLost};
+ghost use Rattle.run_law.specs.Power.{AllMayBeLeft, OneMoreIsLast};
 ghost use Rattle.run_law.specs.Runs.{CanEnd, KeptHoldsWhatIsLeft, KeptStaysKept};
 ghost use Rattle.run_law.specs.Runs.{NothingTakenHoldsExactly, StartsKept, WantsNext};
 ghost use Rattle.run_law.specs.Readings.{HonestIsGranted, ListingIsMaildrop, MarksAreAsked, TextsAreMessages};
@@ -56,27 +56,11 @@ pub fn all_may_be_left()
     ensures { AllMayBeLeft }
 {}
 
-/// After a session from a kept state that was cut behind a text that it stored and didn't record, a
-/// loss of power may leave the files before that text.
-pub fn first_may_be_left()
-    ensures { FirstMayBeLeft }
-{
-    stems_differ();
-    names_have_stems();
-    marks_keep_the_base();
-    distinct_messages_are_filtered();
-    held_is_delivered();
-    flags_tell_what_is_held();
-    marked_is_delivered();
-}
-
-/// So it is with a session given by its numbers that stored one text more than it counts.
-#[tactic(auto, using(crate::proofs::PowerCuts::uncounted_may_be_lost))]
-pub fn uncounted_may_be_lost()
-    ensures { UncountedMayBeLost }
-{
-    first_may_be_left();
-}
+/// If one more message is held than in a kept state, it was taken away before, or it is the last that
+/// was stored: a loss of power may take its file.
+pub fn one_more_is_last()
+    ensures { OneMoreIsLast }
+{}
 
 /// A kept state holds exactly the first of the selected messages, each once, except for those
 /// that were taken away.

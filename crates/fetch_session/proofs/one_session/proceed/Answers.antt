@@ -1,4 +1,4 @@
-use Rattle.std.proofs.Common.{rules, ◌+◌, ◌*◌, length, Ok, Err, arith, refl, ◌∙◌, inl}
+use Rattle.std.proofs.Common.{rules, ◌+◌, ◌*◌, length, Ok, Err, arith, ◌∙◌, inl}
 use Rattle.pop3_client.specs.Client.{link_of, place_of}
 use Rattle.fetch_session.specs.Intake.{opening_limit, step_limit, tail_limit}
 use Rattle.fetch_session.specs.Session.{keeping, noted}

@@ -1,16 +1,16 @@
-use Rattle.std.proofs.Common.{List, ℕ, Ok, Err, arith, refl, sym, ap, subst, ◌∙◌, string_bytes}
+use Rattle.std.proofs.Common.{List, ℕ, None, Ok, Err, inl, inr, arith, refl, sym, ap, subst, ◌∙◌, string_bytes}
 use Rattle.fetch_rules.specs.Record.{Row, Held, has_row, none_open, marked}
 use Rattle.fetch_session.specs.Record.{Saves, Steady}
 use Rattle.fetch_session.proofs.RecordLemmas.{held_is}
 use Rattle.pop3_client.specs.Turns.{most, retr}
 use Rattle.pop3_client.specs.Client.{link_of, place_of}
-use Rattle.mail_store.specs.Maildir.{IsThere}
+use Rattle.mail_store.specs.Maildir.{IsThere, Maildir}
 use Rattle.mail_store.specs.FileName.{sized, sized_file, stem_of}
 use Rattle.fetch_session.specs.Store.{Grows}
 use Rattle.fetch_session.specs.Target.{AsFiles, in_maildir}
 use Rattle.fetch_session.specs.Task.{stores}
-use Rattle.fetch_session.proofs.LastLemmas.{came_outlives}
-use Rattle.fetch_session.proofs.StoreLemmas.{stores_grows}
+use Rattle.fetch_session.proofs.LastLemmas.{came_outlives, same_left}
+use Rattle.fetch_session.proofs.StoreLemmas.{stopped_same, stores_grows}
 use Rattle.fetch_session.proofs.TakeLemmas.{text_broken, text_wanting, text_stops, text_stored, text_not_saved}
 use Rattle.fetch_session.proofs.IntakeLemmas.{took_broke, takes_text, takes_stopped}
 use Rattle.fetch_session.proofs.PartLemmas.{link_cut, link_then_cut, same_ledger}
@@ -158,9 +158,39 @@ pub returns-in-Ok-remember-clause-lasts : goal.returns-in-Ok-remember-clause-las
 returns-in-Ok-remember-clause-lasts g c = λ d f safe.
     let stores = c.in-Ok-store_text.ensures.stores in
     let is = (stores.1 d).1.0 in (
-      c.in-Ok-remember.ensures.lasts f safe,
-      came_outlives (g.D.MaildirDisk.maildir c.args.disk.now) (g.D.MaildirDisk.maildir c.store_text.new.disk) (sized_file (string_bytes c.in-Ok.stem) stores.0)
-          (g.D.MaildirDisk.outlives c.store_text.new.disk) is (c.in-Ok-store_text.ensures.lasts d stores.0 is),
+      (
+        c.in-Ok-remember.ensures.lasts f safe,
+        came_outlives (g.D.MaildirDisk.maildir c.args.disk.now) (g.D.MaildirDisk.maildir c.store_text.new.disk) (sized_file (string_bytes c.in-Ok.stem) stores.0)
+            (g.D.MaildirDisk.outlives c.store_text.new.disk) is (c.in-Ok-store_text.ensures.lasts d stores.0 is),
+      ),
+      tt,
+    )
+
+pub returns-in-Err-remember-clause-lasts : goal.returns-in-Err-remember-clause-lasts
+returns-in-Err-remember-clause-lasts g c = λ d f safe.
+    let stores = c.in-Ok-store_text.ensures.stores in
+    let is = (stores.1 d).1.0 in
+    (tt, inr (sized_file (string_bytes c.in-Ok.stem) stores.0, ap (λ (m : Maildir). m.files) is, c.in-Ok-store_text.ensures.lasts d stores.0 is))
+
+pub returns-in-Err-clause-lasts : goal.returns-in-Err-clause-lasts
+returns-in-Err-clause-lasts g c = λ d f safe.
+    let ledger = c.args.ledger.now in
+    (tt, inl (same_left g.F.FlatFile ledger.file ledger.seen.rows ledger.seen.rows None safe (c.requires.ready.steady f), λ none. refl))
+
+pub returns-in-Err-open-clause-lasts : goal.returns-in-Err-open-clause-lasts
+returns-in-Err-open-clause-lasts g c = λ d f safe.
+    let ledger = c.args.ledger.now in
+    (tt, inl (same_left g.F.FlatFile ledger.file ledger.seen.rows ledger.seen.rows None safe (c.requires.ready.steady f), λ none. refl))
+
+pub returns-in-Err-store_text-clause-lasts : goal.returns-in-Err-store_text-clause-lasts
+returns-in-Err-store_text-clause-lasts g c = λ d f safe.
+    let ledger = c.args.ledger.now in
+    let stores = c.in-Err-store_text.ensures.stores in (
+      tt,
+      inl (
+        same_left g.F.FlatFile ledger.file ledger.seen.rows ledger.seen.rows None safe (c.requires.ready.steady f),
+        stopped_same (g.D.MaildirDisk.maildir c.args.disk.now) (g.D.MaildirDisk.maildir c.store_text.new.disk) (string_bytes c.in-Ok.stem) stores.0 c.in-Err-store_text.cut (stores.1 d).1,
+      ),
     )
 
 pub returns-in-Err-open-clause-link : goal.returns-in-Err-open-clause-link

@@ -1,0 +1,22 @@
+use Rattle.fetch_runs.proofs.PowerSessions as lemmas
+use Rattle.fetch_runs.proofs.laws.sessions_and_power.Goals as goal
+
+pub returns : goal.returns
+returns g c = lemmas.sessions_and_power (record {
+  headline = c.headline.ensures;
+  record_is = record {
+    one = c.files_stand_for_one_record.ensures;
+    meaning = c.bytes_have_one_meaning.ensures;
+    counts = c.appended_counts.ensures;
+    torn = c.torn_is_ignored_or_seen.ensures;
+    marks = c.marked_is_delivered.ensures;
+  };
+  last = c.one_more_is_last.ensures;
+  differ = c.stems_differ.ensures;
+  named = lemmas.named_file c.names_have_stems.ensures c.names_are_bases.ensures;
+  digits = c.account_texts_are_digits.ensures;
+  steady = c.steady_files_keep.ensures;
+  unsaved = c.unsaved_files_keep.ensures;
+  rows = c.marked_keeps_rows.ensures;
+  listed = c.listed_has_row.ensures;
+}) g.D.MaildirDisk g.F.FlatFile c.lasting_sessions_are_sessions.ensures
