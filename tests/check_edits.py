@@ -3,7 +3,7 @@
 
 - Each wrong body, `crates/NAME/must-fail/*.edit`, can be applied: its file is there, and each text that it replaces
   occurs there exactly once, after the replacements before it. Its name has only small letters, digits and hyphens.
-- There are at most a hundred of them, since each takes the gate half a minute.
+- There are at most sixty of them, since each takes the gate half a minute.
 - No `#[test]` is outside the crates `library_tests` and `tests`: a crate with tests of its own is proved twice.
 """
 
@@ -13,7 +13,7 @@ from pathlib import Path
 
 CRATES = Path(__file__).resolve().parent.parent / "crates"
 TEST_CRATES = {"library_tests", "tests"}
-MOST_EDITS = 100
+MOST_EDITS = 60
 
 
 def faults_of_edit(edit):
