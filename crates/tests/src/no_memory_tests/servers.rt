@@ -1,11 +1,11 @@
 //! Whole texts of a maildrop.
 
 use crate::no_memory_tests::watched::{begin, end, tell, tell_bytes, tell_no_memory};
+use crate::support::{maildrop_of, make_maildir};
 use folder_drop::MaildirDrop;
 use pop3_server::{DropFault, Maildrop, MemoryDrop};
 use std::fs;
 use std::test::Fail;
-use test_support::{maildrop_of, make_maildir};
 
 /// Prints a maildrop's fault.
 fn tell_drop_fault(rt: &HostRuntime, fault: DropFault) {

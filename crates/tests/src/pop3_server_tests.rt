@@ -1,9 +1,9 @@
 //! How often a server asks its maildrop for a text, and for parts of one.
 
+use crate::support::put;
 use pop3_server::{DropFault, Entry, Maildrop, MemoryDrop, Server};
 use std::process::Abort;
 use std::test::Fail;
-use test_support::put;
 
 /// A maildrop that counts the calls for a text, and for a part of one.
 #[derive(Drop)]

@@ -1,10 +1,10 @@
 //! A Maildir in a folder, asked for what no program asks of it.
 
+use crate::support::make_maildir;
 use folder_store::{FolderMaildir, ProcessMark};
 use mail_store::{MaildirDisk, StoreFault, deliver};
 use std::fs;
 use std::test::Fail;
-use test_support::make_maildir;
 
 /// The mark of this process.
 fn mark_of(rt: &HostRuntime) -> Result<ProcessMark, Fail> {
