@@ -15,8 +15,6 @@ mod mail_store_tests;
 #[cfg(test)]
 mod no_memory_tests;
 #[cfg(test)]
-mod pop3_server_tests;
-#[cfg(test)]
 mod pop3_wire_tests;
 #[cfg(test)]
 mod support;

@@ -50,7 +50,8 @@ fn read_folder(rt: &HostRuntime, maildrop: &mut MaildirDrop<'_, HostRuntime>) {
 
 #[test]
 fn folder_text_row(rt: HostRuntime) -> Result<(), Fail> {
-    make_maildir(&rt, "mail", &[("new/a", "one\n")])?;
+    make_maildir(&rt, "mail")?;
+    fs::write(&rt, "mail/new/a", b"one\n")?;
     let mut maildrop = MaildirDrop::at(&rt, String::from_str(rt.alloc(), "mail")?);
     maildrop.entries()?;
     read_folder(&rt, &mut maildrop);

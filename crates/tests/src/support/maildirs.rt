@@ -4,21 +4,19 @@ use std::fs;
 use std::rt::Files;
 use std::test::Fail;
 
-/// A Maildir in a folder of the test's own, with these files.
-pub fn make_maildir<R: Files + AllocGlobal>(
-    rt: &R,
-    path: &str,
-    files: &[(&str, &str)],
-) -> Result<(), Fail> {
+/// Makes a folder in a folder.
+fn make_within(rt: &(impl Files + AllocGlobal), path: &str, name: &str) -> Result<(), Fail> {
+    let at = format!(in rt.alloc(); "{path}/{name}")?;
+    fs::create_dir(rt, at.as_str())?;
+    Ok(())
+}
+
+/// An empty Maildir in a folder of the test's own.
+pub fn make_maildir(rt: &(impl Files + AllocGlobal), path: &str) -> Result<(), Fail> {
     let _ = fs::remove_dir_all(rt, path);
     fs::create_dir(rt, path)?;
-    for folder in ["tmp", "new", "cur"] {
-        let at = format!(in rt.alloc(); "{path}/{folder}")?;
-        fs::create_dir(rt, at.as_str())?;
-    }
-    for (name, content) in files {
-        let at = format!(in rt.alloc(); "{path}/{name}")?;
-        fs::write(rt, at.as_str(), content.as_bytes())?;
+    for name in ["tmp", "new", "cur"] {
+        make_within(rt, path, name)?;
     }
     Ok(())
 }
