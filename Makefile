@@ -50,7 +50,6 @@ libraries:
 
 test:
 	@./build.py getmail popd probe
-	cd crates/library_tests && rt test > /dev/null
 	cd crates/tests && rt test > /dev/null
 	python3 tests/test_documents.py
 	python3 tests/run.py

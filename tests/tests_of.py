@@ -18,11 +18,10 @@ from harness import programs  # noqa: E402
 
 def tests_of(crate, below):
     """A line for each command that tests the crate, with what it runs."""
-    for tests in ("library_tests", "tests"):
-        files = sorted(path for path in (TOP / "crates" / tests / "src").rglob("*.rt")
-                       if re.search(rf"^use {crate}::", path.read_text(), re.MULTILINE))
-        if files:
-            yield f"in crates/{tests}, `rt test`:", [str(path.relative_to(TOP / "crates" / tests / "src")) for path in files]
+    tests = TOP / "crates" / "tests" / "src"
+    files = sorted(path for path in tests.rglob("*.rt") if re.search(rf"^use {crate}::", path.read_text(), re.MULTILINE))
+    if files:
+        yield "in crates/tests, `rt test`:", [str(path.relative_to(tests)) for path in files]
     names = [name for name in programs.NAMES if crate == name or crate in below.get(name, ())]
     if names:
         yield f"`python3 tests/run.py {' '.join(f'--only {name}' for name in names)}`:", [f"tests/{name}" for name in names]

@@ -519,6 +519,18 @@ class Reads(unittest.TestCase):
                 self.assertEqual(client.ask(command), b"-ERR message unavailable\r\n")
             self.assertEqual(client.ask(b"NOOP"), b"+OK\r\n")
 
+    def test_no_more_of_a_text_is_read_than_its_top(self):
+        """The first part of this one can be read, and has the head and the first lines."""
+        path = self.maildir.add("new", "b", b"Subject: b\n\n" + (b"b" * 79 + b"\n") * 2_000)
+        line = b"b" * 79 + b"\r\n"
+        with self.meddled(broken=path) as service, service.client() as client:
+            client.log_in()
+            self.when.touch()
+            for count in (0, 1, 200):
+                self.assertEqual(client.ask_lines(b"TOP 2 %d" % count), b"+OK\r\nSubject: b\r\n\r\n" + line * count + b".\r\n")
+            for command in (b"TOP 2 300", b"RETR 2"):
+                self.assertEqual(client.ask(command), b"-ERR message unavailable\r\n")
+
     def test_a_size_that_cannot_be_counted_to_its_end(self):
         self.when.touch()
         with self.meddled(broken=self.path) as service, service.client() as client:

@@ -1,6 +1,6 @@
 //! A conversation of `pop3_client` with standard input as the server.
 
-use anyhow::Result;
+use crate::trouble::Result;
 use pop3_client::{Client, ClientFault};
 use pop3_wire::{StreamWire, Wire};
 use std::alloc::Global;

@@ -1,6 +1,6 @@
 //! What record files stand for, for the tests from outside.
 
-use anyhow::Result;
+use crate::trouble::Result;
 use fetch_rules::Seen;
 use std::fs;
 use std::hash::RandomState;

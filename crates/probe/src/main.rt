@@ -8,9 +8,11 @@ mod mbox;
 mod record;
 mod stopwatch;
 mod stores;
+mod trouble;
 
-use anyhow::Result;
+use crate::trouble::{Result, Trouble};
 use std::env;
+use std::process::ExitCode;
 
 fn tell_usage(rt: &HostRuntime) -> Result<()> {
     println!(rt; "usage: probe client, or judge FILE, or session|read COUNT,")?;
@@ -43,17 +45,34 @@ fn use_record(rt: &HostRuntime, call: &str, subject: &str) -> Result<()> {
     }
 }
 
-fn main(rt: HostRuntime) -> Result<()> {
-    let words: Vec<String> = env::args(&rt)?.collect(rt.alloc())?;
-    match words.len() {
-        2 if words[1].as_str() == "client" => conversation::fetch(&rt),
-        3 => use_record(&rt, words[1].as_str(), words[2].as_str()),
-        4 => use_store(
-            &rt,
-            words[1].as_str(),
-            words[2].as_str(),
-            words[3].as_str().parse()?,
+/// Makes the calls that the words name.
+fn obey(rt: &HostRuntime, words: &[String]) -> Result<()> {
+    match words {
+        [_, call] if call.as_str() == "client" => conversation::fetch(rt),
+        [_, call, subject] => use_record(rt, call.as_str(), subject.as_str()),
+        [_, call, path, count] => use_store(
+            rt,
+            call.as_str(),
+            path.as_str(),
+            count.as_str().parse()?,
         ),
-        _ => tell_usage(&rt),
+        _ => tell_usage(rt),
     }
+}
+
+/// Does what the command line asks for.
+fn start(rt: &HostRuntime) -> Result<()> {
+    let words: Vec<String> = env::args(rt)?.collect(rt.alloc())?;
+    obey(rt, &words)
+}
+
+fn main(rt: HostRuntime) -> ExitCode {
+    let Err(trouble) = start(&rt) else {
+        return ExitCode::SUCCESS;
+    };
+    let _ = match trouble {
+        Trouble::Store(fault) => rt.eprintln(format_args!("{fault}")),
+        Trouble::Other => rt.eprintln("failed"),
+    };
+    ExitCode::FAILURE
 }

@@ -4,7 +4,7 @@ ghost use Rattle.mail_terms.specs.Text.{IsWhole};
 
 use crate::stopwatch::Stopwatch;
 use crate::stores::mark_of;
-use anyhow::{Result, ensure};
+use crate::trouble::{Result, Trouble};
 use folder_store::HostFile;
 use mail_store::{FlatFile, append_entry, is_whole, quote, read_mbox};
 use std::alloc::Global;
@@ -15,7 +15,9 @@ fn text_of(rt: &HostRuntime, path: &str) -> Result<Vec<u8>>
     ensures { IfOk result (λ text. IsWhole text.items) }
 {
     let text = fs::read(rt, path)?;
-    ensure!(is_whole(&text), "a text whose last line isn't ended");
+    if !is_whole(&text) {
+        return Err(Trouble::Other);
+    }
     Ok(text)
 }
 

@@ -1,6 +1,6 @@
 //! The calls of `fetch_rules` that a session makes over its record and its listing.
 
-use anyhow::{Result, ensure};
+use crate::trouble::{Result, Trouble};
 use fetch_rules::{Dest, Listing, ScanRow, Seen, Settings, UidRow, have_legal_ids, plan};
 use std::alloc::Global;
 use std::hash::RandomState;
@@ -75,7 +75,9 @@ fn tell(rt: &HostRuntime, call: &str, start: Duration) -> Result<()> {
 fn time_join(rt: &HostRuntime, count: u32) -> Result<Listing> {
     let uids = uid_rows(rt.alloc(), count / 2, count)?;
     let sizes = scan_rows(rt.alloc(), count)?;
-    ensure!(have_legal_ids(&uids), "ids of another form");
+    if !have_legal_ids(&uids) {
+        return Err(Trouble::Other);
+    }
     let start = rt.process_cpu_time()?;
     let listing = Listing::join(rt.alloc(), count, &uids, &sizes)?;
     tell(rt, "join", start)?;
@@ -93,7 +95,9 @@ fn time_reading(rt: &HostRuntime, file: &[u8]) -> Result<Seen<RandomState>> {
 
 /// Merges a listing whose messages are all held.
 fn time_merge(rt: &HostRuntime, listing: &Listing, seen: &mut Seen<RandomState>) -> Result<()> {
-    ensure!(seen.intent().is_none(), "no intent is open");
+    if seen.intent().is_some() {
+        return Err(Trouble::Other);
+    }
     let held = vec![in rt.alloc(); true; listing.len() as usize]?;
     let start = rt.process_cpu_time()?;
     seen.merge(listing, &held, 1_700_000_000)?;
@@ -106,10 +110,9 @@ fn time_plan(rt: &HostRuntime, listing: &Listing, seen: &Seen<RandomState>) -> R
     let start = rt.process_cpu_time()?;
     let steps = plan(rt.alloc(), &settings, seen, listing, 1_800_000_000)?;
     tell(rt, "plan", start)?;
-    ensure!(
-        steps.len() == listing.len() as usize,
-        "a step for each message"
-    );
+    if steps.len() != listing.len() as usize {
+        return Err(Trouble::Other);
+    }
     Ok(())
 }
 
@@ -118,7 +121,9 @@ fn time_bytes(rt: &HostRuntime, least: usize, seen: &Seen<RandomState>) -> Resul
     let start = rt.process_cpu_time()?;
     let bytes = seen.bytes()?;
     tell(rt, "bytes", start)?;
-    ensure!(bytes.len() >= least, "no row is lost");
+    if bytes.len() < least {
+        return Err(Trouble::Other);
+    }
     Ok(())
 }
 
@@ -137,6 +142,8 @@ pub fn time_session(rt: &HostRuntime, count: u32) -> Result<()> {
 pub fn time_read(rt: &HostRuntime, count: u32) -> Result<()> {
     let file = file_of(rt.alloc(), count)?;
     let seen = time_reading(rt, &file)?;
-    ensure!(!seen.needs_rewrite(), "whole");
+    if seen.needs_rewrite() {
+        return Err(Trouble::Other);
+    }
     Ok(())
 }

@@ -1,6 +1,6 @@
 //! The time that a measurement takes.
 
-use anyhow::Result;
+use crate::trouble::Result;
 use std::time::{CpuClock, Duration, Instant};
 
 /// The clock and the processor time when a measurement began.

@@ -2,7 +2,7 @@
 ghost use Rattle.std.specs.Prelude.{◌≡◌, IfOk, length};
 
 use crate::stopwatch::Stopwatch;
-use anyhow::{Result, ensure};
+use crate::trouble::{Result, Trouble};
 use folder_store::{FolderMaildir, HostFile, HostFolder, HostFolders, ProcessMark};
 use mail_store::{FlatFile, MaildirDisk, account_id, deliver, file_stem, held};
 use mail_terms::{Listing, ScanRow, UidRow, have_legal_ids, is_legal_id};
@@ -29,7 +29,9 @@ fn listing_of(alloc: Global, count: u32) -> Result<Listing>
         uids.push(UidRow { number, uid })?;
         sizes.push(ScanRow { number, size: 2048 })?;
     }
-    ensure!(have_legal_ids(&uids), "ids of another form");
+    if !have_legal_ids(&uids) {
+        return Err(Trouble::Other);
+    }
     Ok(Listing::join(alloc, count, &uids, &sizes)?)
 }
 
@@ -57,7 +59,9 @@ fn held_in<D: MaildirDisk>(alloc: Global, disk: &mut D, listing: &Listing) -> Re
 fn deliver_one(alloc: Global, disk: &mut HostMaildir<'_>, number: u32) -> Result<()> {
     let text = [b'x'; 2048];
     let id = id_of(alloc, number)?;
-    ensure!(is_legal_id(id.as_bytes()), "an id of another form");
+    if !is_legal_id(id.as_bytes()) {
+        return Err(Trouble::Other);
+    }
     let stem = file_stem(alloc, &account_id("bench", 110, "bench"), id.as_bytes())?;
     Ok(deliver(alloc, disk, stem.as_str(), text.as_slice())?)
 }

@@ -2,11 +2,8 @@
 
 mod cut;
 mod deletion;
-mod endless;
 mod list;
-mod record;
 mod refusal;
-mod reply;
 mod selection;
 mod text;
 pub mod visit;

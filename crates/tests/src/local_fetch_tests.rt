@@ -2,4 +2,3 @@
 
 mod cuts;
 pub mod ends;
-pub mod mbox;

@@ -70,28 +70,3 @@ fn takes_back_marks_after_a_refused_begin(rt: HostRuntime) -> Result<(), Fail> {
     }
     Ok(())
 }
-
-#[test]
-fn mends_a_record_whose_append_was_refused(rt: HostRuntime) -> Result<(), Fail> {
-    let alloc = rt.alloc();
-    // the record is read, flushed and replaced, and then half of the first group is appended
-    let mut refusing = Visit::new(alloc, "", 0, &[LISTED, ONE, "+OK|+OK|"])?;
-    refusing.record = Fuse {
-        passes: 3,
-        takes_effect: true,
-    };
-    let next = Visit::new(alloc, "", 0, &[LISTED, TWO, THREE, "+OK|"])?;
-    let (kept, told) = run(alloc, nothing_kept(alloc), &refusing, 4096)?;
-    assert_eq!(rt;
-        told.as_str(),
-        "P|RETR 1|RSET|QUIT| Cut(SeenRefused) 1/3 4 s0 d0 - a=one/ - - \
-         getmail-seen 2/a 0 0/b 0 0/c 0 0/+ 1/a"
-    );
-    let (_kept, told) = run(alloc, kept, &next, 4096)?;
-    assert_eq!(rt;
-        told.as_str(),
-        "P|RETR 2|RETR 3|QUIT| Ended 2/3 10 s1 d0 - a=one/ b=two/ c=three/ - - \
-         getmail-seen 2/a 0 1/b 0 0/c 0 0/+ 1/b 0 1/+ 1/c 0 1/"
-    );
-    Ok(())
-}

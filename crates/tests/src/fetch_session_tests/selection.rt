@@ -5,15 +5,6 @@ use crate::fetch_session_tests::visit::{LISTED, ONE, THREE, TWO, Visit, expect};
 use std::test::Fail;
 
 #[test]
-fn fetches_nothing_of_an_empty_maildrop(rt: HostRuntime) -> Result<(), Fail> {
-    let row = (
-        Visit::new(rt.alloc(), "", 0, &["+OK|+OK|+OK|+OK 0 0|+OK|.|+OK|.|+OK|"])?,
-        "P|QUIT| Ended 0/0 0 s0 d0 - - - none",
-    );
-    expect(&rt, &[row])
-}
-
-#[test]
 fn passes_over_what_is_too_large(rt: HostRuntime) -> Result<(), Fail> {
     let listed = "+OK|+OK|+OK|+OK 3 300|+OK|1 a|2 b|3 c|.|+OK|1 100|2 101|3 99|.|";
     let limits = "max_message_size = 100\nmax_messages_per_session = 2";

@@ -1,8 +1,6 @@
-//! Texts that are stored, and the lines of faults.
+//! Texts that are stored.
 
 use crate::fetch_session_tests::visit::{A_LISTED, Visit, expect};
-use fetch_session::{Fault, Outcome, fault_number, fault_text};
-use pop3_client::Asked;
 use std::test::Fail;
 
 #[test]
@@ -27,25 +25,6 @@ fn stores_texts_line_by_line(rt: HostRuntime) -> Result<(), Fail> {
                 wanted.as_str(),
             )],
         )?;
-    }
-    Ok(())
-}
-
-#[test]
-fn tells_faults(rt: HostRuntime) -> Result<(), Fail> {
-    let rows = [
-        (Fault::Refused(Asked::Retr(2)), 6, "server refused RETR 2"),
-        (Fault::Refused(Asked::Dele(3)), 6, "server refused DELE 3"),
-        (
-            Fault::Refused(Asked::Greeting),
-            6,
-            "server refused greeting",
-        ),
-        (Fault::BadSeen(7), 14, "seen file not understood at line 7"),
-    ];
-    for (fault, number, wanted) in rows {
-        assert_eq!(rt; fault_text(rt.alloc(), &fault)?.as_str(), wanted);
-        assert_eq!(rt; fault_number(&Outcome::Cut(fault)), number);
     }
     Ok(())
 }

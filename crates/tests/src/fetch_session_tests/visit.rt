@@ -2,6 +2,7 @@
 ghost use Rattle.std.specs.Prelude.{◌≡◌, ◌<◌, None, IfOk};
 ghost use Rattle.rc_file.specs.Settings.{IsValid};
 
+use crate::support::fred;
 use fetch_rules::{Settings, read_rc};
 use fetch_session::{Account, Report, Store, session};
 use mail_store::{FlatFile, Folder, Fused, MaildirDisk, MemoryFile, MemoryMaildir, stem, uid_of};
@@ -11,7 +12,6 @@ use std::alloc::{AllocError, Global};
 use std::hash::{BuildHasherDefault, FoldHasher};
 use std::process::Abort;
 use std::test::Fail;
-use test_support::fred;
 
 /// The replies up to those of LIST, with messages a, b and c listed, each of one line: `one`,
 /// `two` and `three`.

@@ -1,13 +1,11 @@
 //! Sessions that are cut, each at another place, and a whole session after each.
 
-use crate::fetch_session_tests::visit::{
-    Fuse, LISTED, ONE, SOUND, THREE, TWO, Visit, account, held, kept_by, nothing_kept, run,
-};
+use crate::fetch_session_tests::visit::{Fuse, SOUND, account, held, kept_by, nothing_kept};
 use crate::local_fetch_tests::ends::{Ends, MESSAGES, fetch, link};
+use crate::support::maildrop_of;
 use fetch_session::{Outcome, session};
 use std::process::Abort;
 use std::test::Fail;
-use test_support::maildrop_of;
 
 /// What refuses calls in a session.
 #[derive(Clone, Copy)]
@@ -112,35 +110,4 @@ fn stores_each_message_once_whichever_call_is_refused(rt: HostRuntime) -> Result
         );
     }
     Ok(())
-}
-
-/// Runs a session over these replies without their last octet, without their last two, and so on
-/// until none is left, with a whole session after each.
-fn cut_at_each_octet(
-    rt: &(impl Abort + AllocGlobal),
-    options: &str,
-    replies: &[&str],
-) -> Result<(), Fail> {
-    let alloc = rt.alloc();
-    let mut visit = Visit::new(alloc, options, 0, replies)?;
-    for missing in 0..1000 {
-        let (kept, told) = run(alloc, nothing_kept(alloc), &visit, 4096)?;
-        let is_cut = told.as_str().contains(" Cut(ConnectionEnded) ");
-        assert_eq!(rt; is_cut, missing > 0, "without {missing} octets");
-        let maildrop = maildrop_of(rt, &MESSAGES)?;
-        complete(rt, options, Ends { kept, maildrop }, missing)?;
-        if visit.replies.pop().is_none() {
-            return Ok(());
-        }
-    }
-    Err(Fail::new("the replies are too long"))
-}
-
-#[test]
-fn stores_each_message_once_wherever_the_replies_end(rt: HostRuntime) -> Result<(), Fail> {
-    let replies = [LISTED, ONE, TWO, THREE, "+OK|"];
-    cut_at_each_octet(&rt, PLAIN, &replies)?;
-    cut_at_each_octet(&rt, READING_ALL, &replies)?;
-    let replies = [LISTED, ONE, "+OK|", TWO, "+OK|", THREE, "+OK|+OK|"];
-    cut_at_each_octet(&rt, DELETING, &replies)
 }

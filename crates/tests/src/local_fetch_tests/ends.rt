@@ -3,6 +3,7 @@
 use crate::fetch_session_tests::visit::{
     Kept, SOUND, account, counts, held, kept_by, nothing_kept,
 };
+use crate::support::{maildrop_of, put};
 use fetch_runs::{Visit, run_sessions};
 use fetch_session::Report;
 use local_fetch::fetch_local;
@@ -12,7 +13,6 @@ use pop3_wire::FusedWire;
 use std::alloc::{AllocError, Global};
 use std::process::Abort;
 use std::test::Fail;
-use test_support::{maildrop_of, put};
 
 /// The messages of the maildrop.
 pub const MESSAGES: [(&str, &str); 3] = [("a", "one\n"), ("b", "two\n"), ("c", "three\n")];

@@ -1,9 +1,9 @@
 //! The record.
 
 use crate::no_memory_tests::watched::{begin, end, tell, tell_answer, tell_no_memory};
+use crate::support::{Record, listing_of, read_record};
 use fetch_rules::{Listing, SeenFault};
 use std::test::Fail;
-use test_support::{Record, listing_of, read_record};
 
 /// A record of two rows, and one with an open intent too.
 const ROWS: &[u8] = b"getmail-seen 2\na 5 0\nb 6 1\n";

@@ -1,11 +1,11 @@
 //! Whole texts of a maildrop.
 
 use crate::no_memory_tests::watched::{begin, end, tell, tell_bytes, tell_no_memory};
+use crate::support::{maildrop_of, make_maildir};
 use folder_drop::MaildirDrop;
 use pop3_server::{DropFault, Maildrop, MemoryDrop};
 use std::fs;
 use std::test::Fail;
-use test_support::{maildrop_of, make_maildir};
 
 /// Prints a maildrop's fault.
 fn tell_drop_fault(rt: &HostRuntime, fault: DropFault) {
@@ -50,7 +50,8 @@ fn read_folder(rt: &HostRuntime, maildrop: &mut MaildirDrop<'_, HostRuntime>) {
 
 #[test]
 fn folder_text_row(rt: HostRuntime) -> Result<(), Fail> {
-    make_maildir(&rt, "mail", &[("new/a", "one\n")])?;
+    make_maildir(&rt, "mail")?;
+    fs::write(&rt, "mail/new/a", b"one\n")?;
     let mut maildrop = MaildirDrop::at(&rt, String::from_str(rt.alloc(), "mail")?);
     maildrop.entries()?;
     read_folder(&rt, &mut maildrop);

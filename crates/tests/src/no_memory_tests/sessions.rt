@@ -5,8 +5,9 @@ use crate::fetch_session_tests::visit::{
     nothing_kept,
 };
 use crate::local_fetch_tests::ends::{Ends, MESSAGES, fetch};
-use crate::local_fetch_tests::mbox::{Files, files_of, mbox_account};
+use crate::no_memory_tests::mbox::{Files, files_of, mbox_account};
 use crate::no_memory_tests::watched::{begin, end, tell, tell_bytes, tell_no_memory};
+use crate::support::maildrop_of;
 use fetch_runs::{Visit as OneVisit, run_sessions};
 use fetch_session::{Report, pretend, session};
 use local_fetch::fetch_local;
@@ -15,7 +16,6 @@ use pop3_server::{MemoryDrop, Server};
 use pop3_wire::{FusedWire, ScriptWire};
 use std::alloc::Global;
 use std::test::Fail;
-use test_support::maildrop_of;
 
 /// The link of a session over written replies.
 type Link = FusedWire<ScriptWire>;
@@ -75,40 +75,6 @@ fn visit_twice(rt: &HostRuntime, kept: Kept, options: &str, replies: &[&str]) ->
 }
 
 #[test]
-fn fresh_row(rt: HostRuntime) -> Result<(), Fail> {
-    let kept = nothing_kept(rt.alloc());
-    visit_twice(&rt, kept, "", &[LISTED, ONE, TWO, THREE, "+OK|"])
-}
-
-/// What is kept after a session over the first message alone.
-fn first_kept(rt: &HostRuntime) -> Result<Kept, Fail> {
-    let kept = nothing_kept(rt.alloc());
-    let maildrop = maildrop_of(rt, &[("a", "one\n")])?;
-    let (ends, _report) = fetch(rt.alloc(), "", Ends { kept, maildrop })?;
-    Ok(ends.kept)
-}
-
-#[test]
-fn held_row(rt: HostRuntime) -> Result<(), Fail> {
-    let kept = first_kept(&rt)?;
-    visit_twice(&rt, kept, "", &[LISTED, TWO, THREE, "+OK|"])
-}
-
-#[test]
-fn read_all_row(rt: HostRuntime) -> Result<(), Fail> {
-    let kept = first_kept(&rt)?;
-    let replies = [LISTED, ONE, TWO, THREE, "+OK|"];
-    visit_twice(&rt, kept, "read_all = true", &replies)
-}
-
-#[test]
-fn delete_row(rt: HostRuntime) -> Result<(), Fail> {
-    let kept = nothing_kept(rt.alloc());
-    let replies = [LISTED, ONE, "+OK|", TWO, "+OK|", THREE, "+OK|", "+OK|"];
-    visit_twice(&rt, kept, "delete = true", &replies)
-}
-
-#[test]
 fn delete_then_cut_row(rt: HostRuntime) -> Result<(), Fail> {
     let kept = nothing_kept(rt.alloc());
     let replies = [LISTED, ONE, "+OK|", TWO, "+OK|"];
@@ -130,12 +96,6 @@ fn record_append_refused_row(rt: HostRuntime) -> Result<(), Fail> {
     complete(&rt, kept, "")
 }
 
-#[test]
-fn refused_pass_row(rt: HostRuntime) -> Result<(), Fail> {
-    let kept = nothing_kept(rt.alloc());
-    visit_twice(&rt, kept, "", &["+OK|+OK|-ERR no|+OK|"])
-}
-
 /// Prints what an account with an mboxrd file keeps.
 fn tell_files(rt: &HostRuntime, files: &Files) {
     tell_bytes(rt, files.mbox.content().unwrap_or(b"no file".as_slice()));
@@ -153,7 +113,7 @@ fn append_twice(
     let alloc = rt.alloc();
     let visit = Visit::new(alloc, "", 0, replies)?;
     let mut wire = visit.link(alloc, 4096)?;
-    let mut account = mbox_account(alloc, files, (SOUND, SOUND))?;
+    let mut account = mbox_account(alloc, files)?;
     let report = run_one(rt, &mut account, &mut wire);
     let files = files_of(alloc, account);
     tell_report(rt, &report);
@@ -177,20 +137,8 @@ fn files_with(alloc: Global, mbox: &[u8], record: &[u8]) -> Result<Files, Fail> 
     })
 }
 
-#[test]
-fn mbox_row(rt: HostRuntime) -> Result<(), Fail> {
-    let files = files_with(rt.alloc(), b"", b"")?;
-    append_twice(&rt, files, &[LISTED, ONE, TWO, THREE, "+OK|"], &MESSAGES)
-}
-
 /// A record whose first message was about to be appended, in an entry of 49 bytes.
 const OPEN: &[u8] = b"getmail-seen 2\na 0 0\nb 0 0\nc 0 0\n! a 0 49\n";
-
-#[test]
-fn mbox_cut_row(rt: HostRuntime) -> Result<(), Fail> {
-    let files = files_with(rt.alloc(), b"From MAILER-DAEMON Thu", OPEN)?;
-    append_twice(&rt, files, &[LISTED, ONE, TWO, THREE, "+OK|"], &MESSAGES)
-}
 
 const WHOLE: &[u8] = b"From MAILER-DAEMON Thu Jan  1 00:00:00 1970\none\n\n";
 
@@ -234,7 +182,7 @@ fn pretend_mbox(rt: &HostRuntime, files: Files, replies: &[&str]) -> Result<File
     let alloc = rt.alloc();
     let visit = Visit::new(alloc, "", 0, replies)?;
     let mut wire = visit.link(alloc, 4096)?;
-    let mut account = mbox_account(alloc, files, (SOUND, SOUND))?;
+    let mut account = mbox_account(alloc, files)?;
     pretend_one(rt, &mut account, &mut wire);
     let files = files_of(alloc, account);
     tell_files(rt, &files);
@@ -320,17 +268,9 @@ fn fetch_local_row(rt: HostRuntime) -> Result<(), Fail> {
 fn append_all(rt: &HostRuntime, files: Files, messages: &[(&str, &str)]) -> Result<Files, Fail> {
     let alloc = rt.alloc();
     let maildrop = maildrop_of(rt, messages)?;
-    let mut account = mbox_account(alloc, files, (SOUND, SOUND))?;
+    let mut account = mbox_account(alloc, files)?;
     fetch_one(rt, &mut account, maildrop);
     let files = files_of(alloc, account);
     tell_files(rt, &files);
     Ok(files)
-}
-
-#[test]
-fn fetch_local_mbox_row(rt: HostRuntime) -> Result<(), Fail> {
-    let files = files_with(rt.alloc(), b"", b"")?;
-    let files = append_all(&rt, files, &MESSAGES)?;
-    append_all(&rt, files, &MESSAGES)?;
-    Ok(())
 }
