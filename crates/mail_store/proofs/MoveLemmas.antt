@@ -1,6 +1,5 @@
 -- Files that a Maildir in memory keeps in two folders, and that its calls in a reader's place move.
-use Rattle.std.proofs.Common.{◌≡◌, ℕ, zero, suc, ◌+◌, ◌-◌, ◌<◌, ◌≤◌, List, [], ◌∷◌, ◌++◌, length, take, drop, get_or, map, refl, sym, ap, ◌∙◌, subst, arith, Option, Some, None, Bool, true, false, inl, inr, String, Vec, string_bytes, remove, insert, set}
-use Rattle.std.specs.Prelude.{◌⊎◌, All, HoldsAt, Contains, ◌≢◌, ◌↔◌, IsTrue, is_some, IfSome, IfNone, IsPermutation}
+use Rattle.std.proofs.Common.{◌≡◌, ℕ, zero, suc, ◌+◌, ◌-◌, ◌<◌, ◌≤◌, List, [], ◌∷◌, ◌++◌, length, take, drop, get_or, map, refl, sym, ap, ◌∙◌, subst, arith, Option, Some, None, Bool, true, false, inl, inr, String, Vec, string_bytes, remove, insert, set, ◌⊎◌, All, HoldsAt, Contains, ◌≢◌, ◌↔◌, IsTrue, is_some, IfSome, IfNone, IsPermutation}
 use Rattle.std.proofs.lemmas.Bool.{both_ways}
 use Rattle.std.proofs.Math.Bool.{beq}
 use Rattle.std.proofs.lemmas.List.{map-append, length-map, length-append, take_more, get_or-map, get_or_default, length-take-le, take-append-drop}
