@@ -293,9 +293,6 @@ module _ (old new : Directory) (name : List ℕ) where
 pub flushes_both : (old mid new : Directory) (name : List ℕ) → Flushes old name mid → Flushes mid name new → Flushes old name new
 flushes_both old mid new name a b = b ∙ a
 
--- what a call that reads answers, once what it read is flushed
-module _ (old mid new : Directory) (name : List ℕ) (n m : ℕ) where
-
 -- a text in two parts
 pub in_parts : (xs front back : List ℕ) (n : ℕ) → front ≡ take n xs → back ≡ drop n xs → xs ≡ front ++ back
 in_parts xs front back n f b = rw (f, b) (sym (take-append-drop n xs))
