@@ -1,6 +1,5 @@
 -- What `bytes` writes stands for the record.
-use Rattle.std.proofs.Common.{◌≡◌, ℕ, ◌+◌, List, [], ◌∷◌, ◌++◌, Bool, false, cond, length, refl, sym, ◌∙◌, ap, subst, append_assoc, inr, arith, length-append, map}
-use Rattle.std.specs.Prelude.{flat_map, Some, None}
+use Rattle.std.proofs.Common.{◌≡◌, ℕ, ◌+◌, List, [], ◌∷◌, ◌++◌, Bool, false, cond, length, refl, sym, ◌∙◌, ap, subst, append_assoc, inr, arith, length-append, map, flat_map, Some, None}
 use Rattle.std.proofs.lemmas.List.Concat.{flat_map-append}
 use Rattle.std.proofs.lemmas.Bool.{false_from_ne_true}
 use Rattle.std.proofs.lemmas.List.{append-nil, get_or_append_left, get_or_default}

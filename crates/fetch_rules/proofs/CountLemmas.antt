@@ -1,12 +1,11 @@
 -- A merge changes no more rows than the listing has messages.
-use Rattle.std.proofs.Common.{◌≡◌, ℕ, ◌<◌, ◌≤◌, List, [], ◌∷◌, ◌++◌, Bool, true, false, ◌&&◌, ◌||◌, not, cond, length, map, refl, sym, ◌∙◌, ap, inl, inr, arith}
-use Rattle.std.specs.Prelude.{bytes_eq, filter}
+use Rattle.std.proofs.Common.{◌≡◌, ℕ, ◌<◌, ◌≤◌, List, [], ◌∷◌, ◌++◌, Bool, true, false, ◌&&◌, ◌||◌, not, cond, length, map, refl, sym, ◌∙◌, ap, inl, inr, arith, bytes_eq, filter}
 use Rattle.std.specs.List.{AllByRecursion}
 use Rattle.std.proofs.lemmas.Bool.{cases_Bool, true≢false, or_left, or_right, or_parts, or_from, or_cases, not_from_false, not_from_true, and_parts}
 use Rattle.std.proofs.lemmas.List.{length-map}
 use Rattle.std.proofs.lemmas.List.Sums.{length-filter, count_by-le-length}
 use Rattle.std.proofs.lemmas.Map.Views.{any-filter_same}
-use Rattle.mail_terms.specs.Listing.{Item, is_flagged}
+use Rattle.mail_terms.specs.Listing.{Item, ids_of, is_flagged}
 use Rattle.mail_terms.specs.UniqueId.{has_id}
 use Rattle.fetch_rules.specs.Record.{Row, IsRecord, is_of, has_row, with_held, new_ids, distinct_ids, merged}
 use Rattle.fetch_rules.specs.RecordFile.{changed}
@@ -79,10 +78,7 @@ changed_apart (row ∷ old) (next ∷ new) are = by (next.delivered && not row.d
     by false lack rest = rest
 
 -- a flagged id is listed
-abbrev pub listed : List Item → List (List ℕ)
-listed listing = map (λ (item : Item). item.uid) listing
-
-pub flagged_listed : (listing : List Item) (held : List Bool) (uid : List ℕ) → is_flagged listing held uid ≡ true → has_id (listed listing) uid ≡ true
+pub flagged_listed : (listing : List Item) (held : List Bool) (uid : List ℕ) → is_flagged listing held uid ≡ true → has_id (ids_of listing) uid ≡ true
 flagged_listed [] held uid flagged = cc
 flagged_listed (item ∷ listing) [] uid flagged = cc
 flagged_listed (item ∷ listing) (flag ∷ held) uid flagged = elim (or_cases (flag && bytes_eq item.uid uid) (is_flagged listing held uid) flagged) [
@@ -91,8 +87,8 @@ flagged_listed (item ∷ listing) (flag ∷ held) uid flagged = elim (or_cases (
 ]
 
 -- and so is that of each row that a merge changes
-changed_listed : (listing : List Item) (held : List Bool) (old more : List Row) (uid : List ℕ) → (has_id (map uid_of more) uid ≡ true → has_id (listed listing) uid ≡ true)
-    → has_id (map uid_of (changed old (with_held listing held old ++ more))) uid ≡ true → has_id (listed listing) uid ≡ true
+changed_listed : (listing : List Item) (held : List Bool) (old more : List Row) (uid : List ℕ) → (has_id (map uid_of more) uid ≡ true → has_id (ids_of listing) uid ≡ true)
+    → has_id (map uid_of (changed old (with_held listing held old ++ more))) uid ≡ true → has_id (ids_of listing) uid ≡ true
 changed_listed listing held [] more uid new there = new there
 changed_listed listing held (row ∷ old) more uid new there =
     by row.delivered (is_flagged listing held row.uid) refl (changed_listed listing held old more uid new) there
@@ -100,12 +96,12 @@ changed_listed listing held (row ∷ old) more uid new there =
     rest : List Row
     rest = changed old (with_held listing held old ++ more)
 
-    by : (d f : Bool) → is_flagged listing held row.uid ≡ f → (has_id (map uid_of rest) uid ≡ true → has_id (listed listing) uid ≡ true)
-        → has_id (map uid_of (cond ((d || f) && not d) (record { uid = row.uid; first_seen = row.first_seen; delivered = d || f } ∷ rest) rest)) uid ≡ true → has_id (listed listing) uid ≡ true
+    by : (d f : Bool) → is_flagged listing held row.uid ≡ f → (has_id (map uid_of rest) uid ≡ true → has_id (ids_of listing) uid ≡ true)
+        → has_id (map uid_of (cond ((d || f) && not d) (record { uid = row.uid; first_seen = row.first_seen; delivered = d || f } ∷ rest) rest)) uid ≡ true → has_id (ids_of listing) uid ≡ true
     by true f flag further at = further at
     by false false flag further at = further at
     by false true flag further at = elim (or_cases (bytes_eq uid row.uid) (has_id (map uid_of rest) uid) at) [
-      | inl here ↦ ap (has_id (listed listing)) (same_from_test uid row.uid here) ∙ flagged_listed listing held row.uid flag
+      | inl here ↦ ap (has_id (ids_of listing)) (same_from_test uid row.uid here) ∙ flagged_listed listing held row.uid flag
       | inr behind ↦ further behind
     ]
 
@@ -122,9 +118,9 @@ pub merge_is_short : (rows : List Row) (listing : List Item) (held : List Bool) 
 merge_is_short rows listing held now is =
     omega (
       arith,
-      no_more (map uid_of (changed rows (merged rows listing held now))) (listed listing) (changed_apart rows (merged rows listing held now) (ids_apart (merged rows listing held now) is))
+      no_more (map uid_of (changed rows (merged rows listing held now))) (ids_of listing) (changed_apart rows (merged rows listing held now) (ids_apart (merged rows listing held now) is))
           (λ uid there. changed_listed listing held rows _ uid
-          (λ at. sym (has_id-distinct_ids uid (listed listing)) ∙ true_from_kept (λ id. not (has_row rows id)) (distinct_ids (listed listing)) uid (sym (new_listed rows listing held now uid (new_ids rows listing)) ∙ at))
+          (λ at. sym (has_id-distinct_ids uid (ids_of listing)) ∙ true_from_kept (λ id. not (has_row rows id)) (distinct_ids (ids_of listing)) uid (sym (new_listed rows listing held now uid (new_ids rows listing)) ∙ at))
           there),
       length-map (changed rows (merged rows listing held now)) uid_of,
       length-map listing (λ (item : Item). item.uid),

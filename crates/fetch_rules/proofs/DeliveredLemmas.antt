@@ -1,8 +1,6 @@
 -- Rows that are all recorded as delivered.
-use Rattle.std.proofs.Common.{◌≡◌, ◌∙◌, ℕ, suc, ◌<◌, ◌≤◌, ◌+◌, Bool, true, false, List, [], ◌∷◌, length, take, get_or, refl, sym, ap, inl, inr, arith}
-use Rattle.std.specs.Prelude.{All, HoldsAt, ◌||◌, not, if◌then◌else◌}
+use Rattle.std.proofs.Common.{◌≡◌, ◌∙◌, ℕ, suc, ◌<◌, ◌≤◌, ◌+◌, Bool, true, false, List, [], ◌∷◌, length, take, get_or, refl, sym, ap, inl, inr, arith, All, HoldsAt, ◌||◌, not, if◌then◌else◌, take_all}
 use Rattle.std.proofs.lemmas.Bool.{cases_lt, not-false}
-use Rattle.std.proofs.lemmas.List.{take_all}
 use Rattle.std.proofs.Math.Bool.{and-not_self}
 use Rattle.mail_terms.specs.Listing.{Item, is_flagged}
 use Rattle.fetch_rules.specs.Record.{Row, with_delivered, with_held}

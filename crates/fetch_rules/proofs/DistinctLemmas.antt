@@ -1,6 +1,5 @@
 -- If no id occurs twice in a listing, each message is the first with its id, and the last.
-use Rattle.std.proofs.Common.{◌≡◌, ◌≢◌, ℕ, suc, ◌<◌, ◌+◌, ◌-◌, List, [], ◌∷◌, Bool, true, false, ◌&&◌, length, get_or, take, drop, map, replicate, refl, sym, ◌∙◌, ap, subst, arith}
-use Rattle.std.specs.Prelude.{bytes_eq, filter, All}
+use Rattle.std.proofs.Common.{◌≡◌, ◌≢◌, ℕ, suc, ◌<◌, ◌+◌, ◌-◌, List, [], ◌∷◌, Bool, true, false, ◌&&◌, length, get_or, take, drop, map, replicate, refl, sym, ◌∙◌, ap, subst, arith, bytes_eq, filter, All}
 use Rattle.std.proofs.lemmas.Bool.{not_from_false}
 use Rattle.std.proofs.lemmas.List.{get_or-drop, get_or-map, get_or-take, get_or_default, length-drop, length-map, length-take}
 use Rattle.std.proofs.lemmas.List.Elements.{All-weaker}
@@ -8,14 +7,11 @@ use Rattle.std.proofs.lemmas.List.Folds.{list_any_none}
 use Rattle.std.proofs.lemmas.List.FromFn.{length-enumerate_from, get_or-enumerate_from}
 use Rattle.fetch_rules.proofs.FilterLemmas.{filter_same}
 use Rattle.fetch_rules.proofs.IdLemmas.{test_from_other}
+use Rattle.fetch_rules.proofs.PlanLemmas.{Message}
 use Rattle.mail_terms.specs.Listing.{Item, HasDistinctIds, numbered, has_item, is_first, is_last}
 use Rattle.fetch_rules.specs.Record.{Row}
 use Rattle.fetch_rules.specs.Wanted.{is_asked_for, is_candidate, candidates}
 use Rattle.rc_file.specs.declared.settings.Settings.{Settings}
-
--- a message with its number
-abbrev Message : Type 0
-Message = ℕ × Item
 
 -- items with other ids
 has_item-none : (uid : List ℕ) (items : List Item) → All (λ item. item.uid ≢ uid) items → has_item items uid ≡ false

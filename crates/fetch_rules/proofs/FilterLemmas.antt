@@ -1,6 +1,5 @@
 -- Filters of lists.
-use Rattle.std.proofs.Common.{◌≡◌, suc, List, [], ◌∷◌, Bool, true, false, cond, refl, ◌∙◌, ap, arith}
-use Rattle.std.specs.Prelude.{filter, All}
+use Rattle.std.proofs.Common.{◌≡◌, suc, List, [], ◌∷◌, Bool, true, false, cond, refl, ◌∙◌, ap, arith, filter, All}
 use Rattle.std.proofs.lemmas.Bool.{cond-true, cond-false}
 
 pub filter_keeps : {X : Type 0} (p : X → Bool) (x : X) (xs : List X) → p x ≡ true → filter p (x ∷ xs) ≡ x ∷ filter p xs

@@ -1,6 +1,5 @@
 -- What a record's growth appends to its file.
-use Rattle.std.proofs.Common.{◌≡◌, ◌≢◌, ◌⊎◌, ℕ, zero, suc, ◌+◌, ◌<◌, ◌≤◌, List, [], ◌∷◌, ◌++◌, take, get_or, None, Bool, true, false, ◌&&◌, ◌||◌, not, cond, length, map, refl, sym, ◌∙◌, ap, subst, append_assoc, length-append, inl, inr, arith}
-use Rattle.std.specs.Prelude.{◌==◌, bytes_eq, flat_map}
+use Rattle.std.proofs.Common.{◌≡◌, ◌≢◌, ◌⊎◌, ℕ, zero, suc, ◌+◌, ◌<◌, ◌≤◌, List, [], ◌∷◌, ◌++◌, take, get_or, None, Bool, true, false, ◌&&◌, ◌||◌, not, cond, length, map, refl, sym, ◌∙◌, ap, subst, append_assoc, length-append, inl, inr, arith, ◌==◌, bytes_eq, flat_map}
 use Rattle.std.specs.List.{AllByRecursion, list_any}
 use Rattle.std.proofs.lemmas.Bool.{or_left, or_right, eq-eqb}
 use Rattle.std.proofs.lemmas.List.{append-nil, map-append, take_more, take_all, length-take}

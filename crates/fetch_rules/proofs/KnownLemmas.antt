@@ -1,10 +1,7 @@
 -- A listing whose ids are all recorded as delivered changes nothing, whatever is held.
-use Rattle.std.proofs.Common.{◌≡◌, ℕ, suc, arith, List, [], ◌∷◌, ◌++◌, Bool, true, false, ◌&&◌, ◌||◌, not, map, refl, sym, ◌∙◌, ap, inl, inr}
-use Rattle.std.specs.Prelude.{bytes_eq}
-use Rattle.std.specs.Prelude.{All}
+use Rattle.std.proofs.Common.{◌≡◌, ℕ, suc, arith, List, [], ◌∷◌, ◌++◌, Bool, true, false, ◌&&◌, ◌||◌, not, map, refl, sym, ◌∙◌, ap, inl, inr, bytes_eq, All, append-nil}
 use Rattle.std.proofs.Math.Bool.{or-false, and-false}
 use Rattle.std.proofs.lemmas.Bool.{true≢false, or_left, or_parts, and_parts, or_cases}
-use Rattle.std.proofs.lemmas.List.{append-nil}
 use Rattle.mail_terms.specs.Listing.{Item, has_item, is_first, is_last, is_flagged}
 use Rattle.mail_terms.specs.UniqueId.{has_id}
 use Rattle.fetch_rules.specs.Record.{Row, IsRecord, has_row, is_delivered, with_delivered, new_ids, merged}

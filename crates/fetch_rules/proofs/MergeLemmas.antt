@@ -1,6 +1,5 @@
 -- What a merge makes of the rows.
-use Rattle.std.proofs.Common.{◌≡◌, ◌≢◌, ◌⊎◌, ℕ, ◌<◌, ◌≤◌, ◌+◌, List, [], ◌∷◌, ◌++◌, Bool, true, false, cond, ◌&&◌, ◌||◌, not, length, get_or, take, map, refl, sym, ◌∙◌, ap, subst, inl, inr, arith}
-use Rattle.std.specs.Prelude.{bytes_eq, zip, count_by}
+use Rattle.std.proofs.Common.{◌≡◌, ◌≢◌, ◌⊎◌, ℕ, ◌<◌, ◌≤◌, ◌+◌, List, [], ◌∷◌, ◌++◌, Bool, true, false, cond, ◌&&◌, ◌||◌, not, length, get_or, take, map, refl, sym, ◌∙◌, ap, subst, inl, inr, arith, bytes_eq, zip, count_by, true≢false}
 use Rattle.std.specs.List.{list_any}
 use Rattle.std.specs.Bool.{OnTrue, OnFalse}
 use Rattle.std.proofs.lemmas.List.{take_more, take_all, map-append}
@@ -8,7 +7,6 @@ use Rattle.std.proofs.lemmas.List.Folds.{list_any-append}
 use Rattle.std.proofs.lemmas.List.Sums.{sum_by-cons}
 use Rattle.std.proofs.lemmas.Slice.Zip.{length-zip, get_or-zip}
 use Rattle.std.proofs.Math.Bool.{or_assoc, or-false, and-false}
-use Rattle.std.proofs.lemmas.Bool.{true≢false}
 use Rattle.std.proofs.lemmas.Cmp.{nat_list_eq_equiv}
 use Rattle.fetch_rules.proofs.RecordLemmas.{with_delivered-false}
 use Rattle.fetch_rules.proofs.IdLemmas.{same_from_test}
@@ -186,9 +184,6 @@ HasHeldAnew rows listing held i ids = (uid : List ℕ) → has_id ids uid ≡ (l
 next_flagged : (listing : List Item) (held : List Bool) (i : ℕ) (uid : List ℕ) → length held ≡ length listing → i < length listing
     → list_any (stands_for uid) (take (i + 1) (zip listing held)) ≡ list_any (stands_for uid) (take i (zip listing held)) || stands_for uid (get_or listing i nobody, get_or held i false)
 next_flagged listing held i uid same inside = ap (list_any (stands_for uid)) (flagged_more listing held i nobody false same inside) ∙ any_more uid (take i (zip listing held)) (get_or listing i nobody, get_or held i false)
-
-pub HasHeldAnew-none : (rows : List Row) (listing : List Item) (held : List Bool) (ids : List (List ℕ)) → ((uid : List ℕ) → has_id ids uid ≡ false) → HasHeldAnew rows listing held 0 ids
-HasHeldAnew-none rows listing held ids none = none
 
 -- an item that is held and wasn't delivered before
 pub HasHeldAnew-held : (rows : List Row) (listing : List Item) (held : List Bool) (i : ℕ) (ids new : List (List ℕ)) (uid : List ℕ) → HasHeldAnew rows listing held i ids

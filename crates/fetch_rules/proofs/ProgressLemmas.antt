@@ -1,11 +1,8 @@
 -- A loop over the lines of a record's file.
-use Rattle.std.proofs.Common.{◌≡◌, ℕ, zero, suc, ◌+◌, ◌-◌, ◌<◌, ◌≤◌, List, [], ◌∷◌, ◌++◌, take, Bool, true, false, ◌||◌, cond, length, refl, sym, ◌∙◌, ap, subst, append_assoc, inr, arith, length-append}
-use Rattle.std.specs.Prelude.{min, flat_map, Option, Some, None}
+use Rattle.std.proofs.Common.{◌≡◌, ℕ, zero, suc, ◌+◌, ◌-◌, ◌≤◌, List, [], ◌∷◌, ◌++◌, take, Bool, true, false, ◌||◌, cond, length, refl, sym, ◌∙◌, ap, subst, append_assoc, inr, arith, length-append, min, flat_map, Option, Some, None, true≢false, append-nil}
 use Rattle.std.proofs.Math.Seq.{take-append_seam}
-use Rattle.std.proofs.lemmas.Bool.{true≢false}
-use Rattle.std.proofs.lemmas.List.{append-nil}
 use Rattle.fetch_rules.specs.Record.{Row, Intent, IsRow, IsIntent, IsRecord, has_row}
-use Rattle.fetch_rules.specs.RecordFile.{Version, header, Line, RowLine, GroupLine, IntentLine, text_of, IsLine}
+use Rattle.fetch_rules.specs.RecordFile.{Version, header, RowLine, GroupLine, IntentLine, text_of, IsLine}
 use Rattle.fetch_rules.specs.RecordMeaning.{Progress, InBase, BetweenGroups, InGroup, left_open, may_take, taken, Judged, Stands, Fails, after_line, line_after, counted, is_open, Rows, Fault, Means, Ends}
 use Rattle.fetch_rules.specs.Lines.{version_of, open_seen, progress_of, IsPlaced, open_behind, is_within, TakesRow, RefusesRow, TakesIntent, RefusesIntent, EndsAt}
 use Rattle.fetch_rules.specs.declared.seen.SeenFault.{SeenFault}
@@ -15,7 +12,7 @@ use Rattle.fetch_rules.specs.declared.seen.reading.Part.{Part}
 use Rattle.fetch_rules.specs.declared.seen.reading.Part.TheVariants.{Base, Between, Within}
 use Rattle.fetch_rules.specs.declared.seen.reading.End.{End}
 use Rattle.fetch_rules.specs.declared.seen.reading.End.TheVariants.{Counted, Open}
-use Rattle.fetch_rules.proofs.LineLemmas.{body_of, no_line}
+use Rattle.fetch_rules.proofs.LineLemmas.{no_line}
 use Rattle.fetch_rules.proofs.CutLemmas.{one_meaning}
 use Rattle.fetch_rules.proofs.ReadLemmas.{IsBehind, behind_header, behind_more, behind_fails}
 use Rattle.fetch_rules.proofs.JudgedLemmas.{rows_no_fault, same_rows, no_stand}
@@ -196,12 +193,6 @@ pub Reads-group_fails : (bytes : List ℕ) (older : Bool) (part : Part) (intent 
 Reads-group_fails bytes older part intent rows rest number front count behind were is line within =
     behind_fails (version_of older) bytes were.n (progress_of part intent were.before rows) rest (GroupLine count) behind (BadRow number) were.behind is line
     (refused (version_of older) part were.n intent were.before rows count within ∙ ap (λ (k : ℕ). Fails (BadRow k)) (sym were.number_is))
-
--- a line has bytes
-pub shorter : (rest : List ℕ) (line : Line) (behind : List ℕ) → IsLine line → rest ≡ text_of line ++ behind → length behind < length rest
-shorter rest line behind is line_is =
-    let b = body_of line is in
-    omega (arith, ap length (line_is ∙ b.text_is behind), length-append b.body (10 ∷ behind))
 
 -- if a group lacks rows, what comes before it is read again
 pub record StoodOpen (bytes : List ℕ) (older : Bool) (front : ℕ) (intent : Option Intent) : Type 0 where

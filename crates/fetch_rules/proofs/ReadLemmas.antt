@@ -1,9 +1,7 @@
 -- The lines of a record's file, one by one as `read` takes them, and what a mark appends.
-use Rattle.std.proofs.Common.{◌≡◌, ℕ, ◌+◌, ◌<◌, ◌^◌, List, [], ◌∷◌, ◌++◌, Some, Bool, true, false, ◌&&◌, cond, length, refl, sym, ◌∙◌, ap, subst, append_assoc, inr, arith, length-append}
-use Rattle.std.specs.Prelude.{flat_map, ◌==◌, find, option_map}
+use Rattle.std.proofs.Common.{◌≡◌, ℕ, ◌+◌, ◌<◌, ◌^◌, List, [], ◌∷◌, ◌++◌, Some, Bool, true, false, ◌&&◌, cond, length, refl, sym, ◌∙◌, ap, subst, append_assoc, inr, arith, length-append, flat_map, ◌==◌, find, option_map, append-nil}
 use Rattle.std.specs.List.{AllByRecursion, list_any}
 use Rattle.std.proofs.lemmas.Bool.{eq-eqb, or_left, or_right, and_from}
-use Rattle.std.proofs.lemmas.List.{append-nil}
 use Rattle.std.proofs.lemmas.List.Concat.{flat_map-append}
 use Rattle.std.proofs.lemmas.List.Elements.{All-push, recursion_from_All, All-cons, All-nil}
 use Rattle.std.proofs.lemmas.Option.{same_Some, none-some}

@@ -1,7 +1,6 @@
 -- Rows, their delivery and their ids.
-use Rattle.std.proofs.Common.{◌≡◌, ◌≢◌, ℕ, suc, ◌<◌, List, [], ◌∷◌, ◌++◌, take, Bool, true, false, length, get_or, map, refl, sym, ◌∙◌, ap, subst, arith}
+use Rattle.std.proofs.Common.{◌≡◌, ◌≢◌, ℕ, suc, ◌<◌, List, [], ◌∷◌, ◌++◌, take, Bool, true, false, length, get_or, map, refl, sym, ◌∙◌, ap, subst, arith, true≢false}
 use Rattle.std.proofs.Math.Bool.{or-false, or-true}
-use Rattle.std.proofs.lemmas.Bool.{true≢false}
 use Rattle.std.proofs.lemmas.List.{get_or-map, length-map, length-take, map-append, take-map}
 use lib.Seq.{get_or-take}
 use Rattle.std.proofs.lemmas.List.Folds.{list_any_at}

@@ -1,9 +1,7 @@
 -- The record's rows as the entries of a map.
-use Rattle.std.proofs.Common.{◌≡◌, ◌≢◌, ◌⊎◌, inl, inr, ◌<◌, ℕ, zero, suc, List, length, filter, map, ◌^◌, [], ◌∷◌, ◌++◌, take, Option, Some, None, Bool, true, false, ◌&&◌, ◌||◌, not, cond, get_or, refl, sym, ◌∙◌, ap, subst, arith}
-use Rattle.std.specs.Prelude.{find, option_map, bytes_eq, is_some, position, HoldsAt, IfSome, IfNone, String, string_bytes}
+use Rattle.std.proofs.Common.{◌≡◌, ◌≢◌, ◌⊎◌, inl, inr, ◌<◌, ℕ, zero, suc, List, length, filter, map, ◌^◌, [], ◌∷◌, ◌++◌, take, Option, Some, None, Bool, true, false, ◌&&◌, ◌||◌, not, cond, get_or, refl, sym, ◌∙◌, ap, subst, arith, find, option_map, bytes_eq, is_some, position, HoldsAt, IfSome, IfNone, String, string_bytes, Global}
 use Rattle.std.specs.List.{AllByRecursion, list_any}
 use Rattle.std.specs.Bool.{OnTrue}
-use Rattle.std.specs.Global.{Global}
 use Rattle.std.specs.Map.{keys_of, lookup, set_value}
 use Rattle.std.proofs.Math.Bool.{or-false}
 use Rattle.std.proofs.lemmas.Bool.{true≢false, or_parts}
@@ -266,12 +264,6 @@ no_state uid rows is bad = sym (nowhere uid rows (illegal uid rows (recursion_fr
 
 pub no_mark : (uid : List ℕ) (rows : List Row) → IsRecord rows → (IsLegalId uid → ⊥) → rows ≡ marked rows uid
 no_mark uid rows is bad = sym (unmarked uid rows (illegal uid rows (recursion_from_All IsRow rows is.each) bad))
-
-pub absent : (uid : List ℕ) (es : List (String Global × State)) (rows : List Row) (key : List ℕ) → rows_of es ≡ rows → key ≡ uid → list_any (is_of uid) rows ≡ false → lookup (λ other. bytes_eq key (string_bytes other)) es ≡ None
-absent uid es rows key rows_are key_is none =
-    lookup_state key es ∙ ap (λ (rs : List Row). state_in rs key) rows_are ∙ ap (λ (u : List ℕ). state_in rows u) key_is ∙ state_in-none uid rows none
-
--- ---- the place of a row
 
 uid_at : (es : List (String Global × State)) (i : ℕ) (d : Row) (key : String Global) → i < length (keys_of es) → (get_or (rows_of es) i d).uid ≡ string_bytes (get_or (keys_of es) i key)
 uid_at [] i d key inside = absurd (omega (arith, inside))

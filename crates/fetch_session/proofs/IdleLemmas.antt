@@ -27,7 +27,7 @@ use Rattle.fetch_session.specs.Record.{ReadAs, Steady, held_in}
 use Rattle.fetch_session.specs.Target.{Kind, Files, Entries, Target, AsFiles, AsEntries, Stores, flags_in, in_maildir, in_mbox, kind_of, rows_in, stores_of, target_of}
 use Rattle.fetch_session.specs.Task.{Task, fetching, deleting, tasks_in, tasks_planned}
 use Rattle.fetch_session.proofs.MboxLemmas.{asks_refused, held_same}
-use Rattle.fetch_session.proofs.ReadyLemmas.{not_found, unread}
+use Rattle.fetch_session.proofs.ReadyLemmas.{not_found}
 use Rattle.fetch_session.proofs.RecordLemmas.{read_keeps, read_steady}
 
 -- steps that fetch nothing ask for the same, whatever is held
@@ -103,11 +103,6 @@ module _ {D F : Type 0} (disk : DiskGhosts D) (files : FileGhosts F) (account : 
   rests_refused items now (InMbox device) new file read loaded fault closed finds stood same =
       not_found AsEntries items now (in_mbox (files.stored device)) new file read loaded fault stood same
       (subst (λ (intent : Option Intent). AsksMbox intent (files.stored device) items (Err fault) new.mbox) (sym closed) finds.0)
-
-  -- memory ran out before the store was asked
-  pub unasked : (items : List Item) (now : ℕ) (store : Store D F) (file read : Stored) (loaded : Loaded) → read ≡ file
-      → Unready (target_of store account) items now (stores_of disk files store) file NoMemory (stores_of disk files store) read
-  unasked items now store file read loaded same = unread (target_of store account) items now (stores_of disk files store) file read loaded NoMemory same
 
 -- each listed id has a row
 pub known_have_rows : ((rows : List Row) (uid : List ℕ) → is_delivered rows uid ≡ true → has_row rows uid ≡ true) → (rows : List Row) (items : List Item)

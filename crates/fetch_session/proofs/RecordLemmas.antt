@@ -7,7 +7,7 @@ use Rattle.fetch_rules.specs.Record.{Row, Intent, Held, Loaded, none_open, Inten
 use Rattle.fetch_rules.specs.RecordFile.{Version, One, Two, header, file_of, intent_line}
 use Rattle.fetch_rules.specs.RecordMeaning.{Rows, Means, has_bytes, taken}
 use Rattle.fetch_rules.specs.RecordGrowth.{Updates, Grows, AppendedCounts, CutIsIgnored, taken_all}
-use Rattle.fetch_rules.specs.Intents.{has_intent, is_older, closed_rows, IsNoneOrOf}
+use Rattle.fetch_rules.specs.Intents.{has_intent, is_older, closed_rows}
 use Rattle.mail_store.specs.FlatFile.{Stored, Appends, Replaces}
 use Rattle.mail_store.specs.declared.fault.StoreFault.{StoreFault}
 use Rattle.fetch_session.specs.declared.fault.Fault.{Fault}
@@ -23,9 +23,6 @@ empty_means : (version : Version) (rows : List Row) (intent : Option Intent) (to
 empty_means version rows intent torn (inl is) = (cc is.1, cc is.1)
 empty_means version rows intent torn (inr (inl other)) = absurd (other.0 refl)
 empty_means version rows intent torn (inr (inr lines)) = absurd (bytes_begin lines.version _ lines.cut.whole)
-
-pub keeps_at : (old new : Stored) (content : Option (List ℕ)) (held : Held) → new.content ≡ content → Keeps content held → Keeps new.content held
-keeps_at old new content held is kept = rw is kept
 
 means_keeps : (content : Option (List ℕ)) (version : Version) (held : Held) (torn : Bool) → Means (bytes_in content) (Rows version held.rows held.intent torn) → Keeps content held
 means_keeps None version held torn means = empty_means version held.rows held.intent torn means
@@ -151,10 +148,6 @@ opens rows intent line is has line_is =
 
 pub has_row_where_none : (rows : List Row) (intent : Option Intent) → intent ≡ None → IntentHasRow rows intent
 has_row_where_none rows intent closed = rw closed tt
-
--- no intent is open, so it is of any id
-pub none_or_of : (uid : List ℕ) (intent : Option Intent) → intent ≡ None → IsNoneOrOf uid intent
-none_or_of uid intent closed = rw closed tt
 
 pub saves_steady : (old new : Stored) (was now : Held) (r : Result (Unit {0}) Fault) → Steady old.content was → Saves old was now r new → OnOk r (Steady new.content now)
 saves_steady old new was now (Ok done) stood saves = saves.1 stood

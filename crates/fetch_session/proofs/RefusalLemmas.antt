@@ -1,5 +1,5 @@
 -- How many calls of its link are refused in a session.
-use Rattle.std.proofs.Common.{◌≡◌, inl, inr, Bool, true, false, None, Result, Ok, Err, refl, sym, ap, subst, ◌∙◌}
+use Rattle.std.proofs.Common.{◌≡◌, inl, inr, None, Result, Ok, Err, refl, ap, ◌∙◌}
 use Rattle.mail_terms.specs.FailureCount.{Tallies, counted_up}
 use Rattle.pop3_wire.specs.Link.{Link}
 use Rattle.pop3_client.specs.Conversation.{is_refusal}
@@ -12,10 +12,6 @@ use Rattle.fetch_session.specs.declared.tail.Tail.TheVariants.{Nothing}
 use Rattle.fetch_session.specs.Fault.{cut_of, fault_of}
 use Rattle.fetch_session.specs.Tail.{tail}
 use Rattle.fetch_session.specs.Refusal.{RefusesNone, RefusesAtMostOne, RefusesBefore, RefusesTillCut, RefusesByOutcome}
-
-pub at_most_one : (refused : Bool) (old new : Link) → Tallies refused old.failures new.failures → RefusesAtMostOne old new
-at_most_one true old new up = inr up
-at_most_one false old new same = inl same
 
 -- after what went well
 pub then_at_most_one : (a b c : Link) → RefusesNone a b → RefusesAtMostOne b c → RefusesAtMostOne a c

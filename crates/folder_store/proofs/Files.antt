@@ -1,16 +1,13 @@
 -- A file in a folder: what the calls of the folder leave of it.
-use Rattle.std.proofs.Common.{◌≡◌, ℕ, ◌+◌, ◌<◌, zero, suc, length, get_or, refl, arith, List, [], ◌∷◌, ◌++◌, take, drop, cond, sym, ap, subst, ◌∙◌, Bool, true, false, Option, Some, None, Result, Ok, Err, inl, inr, Vec, append_assoc}
+use Rattle.std.proofs.Common.{◌≡◌, ℕ, ◌+◌, ◌<◌, zero, suc, length, get_or, refl, arith, List, [], ◌∷◌, ◌++◌, take, drop, cond, sym, ap, subst, ◌∙◌, Bool, true, false, Option, Some, None, Result, Ok, Err, inl, inr, append_assoc}
 use Rattle.std.specs.Prelude.{Contains, option_map, bytes_eq, if◌then◌else◌, IsErr}
 use Rattle.std.proofs.lemmas.Slice.Eq.{bytes_eq-Decides}
 use Rattle.std.proofs.lemmas.List.{append-nil, take-append-drop}
 use Rattle.std.proofs.lemmas.Bool.{true≢false, cases_Bool, cond-true, cond-false}
 use Rattle.mail_terms.specs.FailureCount.{is_refused}
-use Rattle.mail_store.specs.Fault.{is_refusal}
 use Rattle.mail_store.specs.declared.fault.StoreFault.{StoreFault}
-use Rattle.mail_store.specs.declared.fault.StoreFault.TheVariants.{Missing, Refused, NotMbox, NoMemory}
-use Rattle.mail_store.specs.declared.file.flat_file.Edges.{Edges}
-use Rattle.mail_store.specs.FlatFile.{Appends, Cuts, Replaces, Loads, Measures, ReadsAt, Denies}
-use Rattle.folder_store.specs.FileFolder.{Directory, Entry, Blob, Older, entry, names_in, find, placed, making, changed, appended, cut, doubted, flushed, secured, empty_blob, content_in, content_at, ChangesMade, Makes, Writes, LacksFile, Reads, MeasuresFile, ReadsPiece, AppendsTo, CutsTo, FlushesFile, FlushesNames}
+use Rattle.mail_store.specs.FlatFile.{Appends, Cuts, Replaces}
+use Rattle.folder_store.specs.FileFolder.{Directory, Entry, Blob, Older, entry, names_in, find, placed, making, changed, appended, cut, doubted, flushed, secured, empty_blob, content_in, content_at, Makes, Writes, AppendsTo, CutsTo, FlushesFile, FlushesNames}
 use Rattle.folder_store.specs.HostFile.{stored_in, Holds, Keeps, Becomes, MayBeFlushed, IsAppended, IsSoFar, IsPartAppended, AppendsPiece, AppendsFlushed, CutsFlushed, PutsFlushed, ReplacesFlushed, Flushes}
 
 pub some_is : {A : Type 0} (x y : A) → Some x ≡ Some y → x ≡ y
@@ -65,10 +62,6 @@ holds_changed old new name b e = record {
 keeps_same : (old new : Directory) (name : List ℕ) → new ≡ old → Keeps old name new
 keeps_same old new name e = record { leads_to = ap (λ (d : Directory). find name d.entries) e; named = ap (λ (d : Directory). d.older) e }
 
-keeps_making : (old new : Directory) (name : List ℕ) → ChangesMade old new → Keeps old name new
-keeps_making old new name (m, e) = record { leads_to = ap (λ (d : Directory). find name d.entries) e; named = ap (λ (d : Directory). d.older) e }
-
--- the file that was there, changed, and then flushed, or not
 module _ (old mid new : Directory) (name : List ℕ) (b c : Blob) (at : find name old.entries ≡ Some b) (changing : mid ≡ changed old name c) (R : Blob → Blob → Type 0) where
   of_mid : (x : Blob) (f : Blob → Blob) → find name mid.entries ≡ Some x → new ≡ changed mid name (f x) → Holds new name (Some (f c)) old.older
   of_mid x f found flush =
@@ -178,10 +171,6 @@ later_done old mid new name done piece (b, c, at, is, h) (x, y, found, flush, k)
   record { leads_to = k.leads_to; named = k.named ∙ h.named },
 )
 
-pub in_one_piece : (old new : Directory) (name bytes : List ℕ) (r : Result (Unit {0}) StoreFault) → AppendsPiece old name bytes r new → AppendsFlushed old name bytes r new
-in_one_piece old new name bytes (Ok done) t = t
-in_one_piece old new name bytes (Err fault) t = first_refused old new name bytes bytes [] fault (sym (append-nil bytes)) t
-
 -- `cut_flushed`
 pub cut_refused : (old new : Directory) (name : List ℕ) (len : ℕ) (fault : StoreFault) (r : Result (Unit {0}) StoreFault) → IsErr r
     → CutsTo {T = Unit {0}} old name len (Err fault) new → CutsFlushed old name len r new
@@ -195,14 +184,6 @@ cut_done old mid new name len (Ok done) (b, at, e) flush =
     flush_done old mid new name b (cut b len) at e (λ x y. y ≡ flushed (cut x len)) refl flush
 cut_done old mid new name len (Err fault) (b, at, e) flush =
     inr (flush_refused old mid new name b (cut b len) at e (λ x y. MayBeFlushed (cut x len) y) (λ y may. may) fault flush)
-
--- `replace_flushed`
-pub make_refused : (old new : Directory) (name bytes : List ℕ) (fault : StoreFault) → Makes {T = Unit {0}} old (Err fault) new
-    → ReplacesFlushed {T = Unit {0}} old name bytes (Err fault) new
-make_refused old new name bytes Missing (gone, e) = inl (keeps_same old new name e)
-make_refused old new name bytes Refused change = inl (keeps_making old new name change)
-make_refused old new name bytes NotMbox t = absurd t
-make_refused old new name bytes NoMemory t = absurd t
 
 -- the file made has these bytes
 made_is : (old one two : Directory) (bytes : List ℕ) → Makes {T = Unit {0}} old (Ok tt) one → Writes {T = Unit {0}} one bytes (Ok tt) two
@@ -311,31 +292,6 @@ module _ (old new : Directory) (name : List ℕ) where
 
 pub flushes_both : (old mid new : Directory) (name : List ℕ) → Flushes old name mid → Flushes mid name new → Flushes old name new
 flushes_both old mid new name a b = b ∙ a
-
--- what a call that reads answers, once what it read is flushed
-module _ (old mid new : Directory) (name : List ℕ) (n m : ℕ) where
-  pub loads_done : {B : Type 0} (bytes : Vec ℕ B) → Reads old name (Ok bytes) mid → Flushes mid name new → m ≡ n
-      → Loads (stored_in old name n) (Ok bytes) (stored_in new name m)
-  loads_done bytes (is, e) same up = (is, state_is old new name n m n (content_at old name) up (same ∙ ap (λ (d : Directory). content_at d name) e))
-
-  pub measures_done : (edges : Edges) → MeasuresFile old name (Ok edges) mid → Flushes mid name new → m ≡ n
-      → Measures (stored_in old name n) (Ok edges) (stored_in new name m)
-  measures_done edges (is, e) same up = (is, state_is old new name n m n (content_at old name) up (same ∙ ap (λ (d : Directory). content_at d name) e))
-
-  pub reads_done : (start count : ℕ) (buf : List ℕ) → ReadsPiece old name start (Ok count) buf mid → Flushes mid name new → m ≡ n
-      → ReadsAt (stored_in old name n) start (Ok count) buf (stored_in new name m)
-  reads_done start count buf (is, e) same up = (is, state_is old new name n m n (content_at old name) up (same ∙ ap (λ (d : Directory). content_at d name) e))
-
-  pub read_refused : mid ≡ old → Flushes mid name new → m ≡ n + 1 → Denies (stored_in old name n) Refused (stored_in new name m)
-  read_refused e same up = state_is old new name n m (n + 1) (content_at old name) up (same ∙ ap (λ (d : Directory). content_at d name) e)
-
--- what a call that reads answers if there is no file, or if it was refused
-pub lacks_file : (old new : Directory) (name : List ℕ) (n m : ℕ) (fault : StoreFault) → LacksFile old name fault new
-    → m ≡ (if is_refusal fault then n + 1 else n) → Denies (stored_in old name n) fault (stored_in new name m)
-lacks_file old new name n m Missing (none, e) up = (none, state_is old new name n m n (content_at old name) up (ap (λ (d : Directory). content_at d name) e))
-lacks_file old new name n m Refused e up = state_is old new name n m (n + 1) (content_at old name) up (ap (λ (d : Directory). content_at d name) e)
-lacks_file old new name n m NotMbox t up = t
-lacks_file old new name n m NoMemory t up = t
 
 -- a text in two parts
 pub in_parts : (xs front back : List ℕ) (n : ℕ) → front ≡ take n xs → back ≡ drop n xs → xs ≡ front ++ back

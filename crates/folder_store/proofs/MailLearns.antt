@@ -1,7 +1,7 @@
 -- What is known of the folders once files that readers took away are known no longer.
-use Rattle.std.proofs.Common.{◌≡◌, ◌<◌, ◌≤◌, inl, inr, ℕ, suc, Bool, true, false, not, List, [], ◌∷◌, ◌++◌, refl, sym, ap, subst, ◌∙◌, arith}
+use Rattle.std.proofs.Common.{◌≡◌, inl, inr, ℕ, Bool, true, false, List, [], ◌∷◌, ◌++◌, refl, sym, ap, subst, ◌∙◌, arith}
 use Rattle.std.specs.Prelude.{◌⊎◌, bytes_eq}
-use Rattle.std.specs.List.{AllByRecursion, filter}
+use Rattle.std.specs.List.{filter}
 use Rattle.std.proofs.lemmas.Bool.{cases_Bool}
 use Rattle.std.proofs.lemmas.List.{append-nil}
 use Rattle.std.proofs.lemmas.Slice.Eq.{bytes_eq-Decides}
@@ -9,13 +9,13 @@ use Rattle.mail_terms.specs.MaildirName.{base}
 use Rattle.mail_store.specs.declared.maildir.disk.Folder.{Folder}
 use Rattle.mail_store.specs.declared.maildir.disk.Folder.TheVariants.{New, Cur}
 use Rattle.mail_store.specs.Maildir.{File, IsPart}
-use Rattle.mail_store.specs.Power.{KeepsLeft, TookOne, count_named}
-use Rattle.mail_store.proofs.TakingLemmas.{part_same, part_trans, part_counts, one_counts}
+use Rattle.mail_store.specs.Power.{TookOne}
 use Rattle.folder_store.specs.MailFolders.{MailFile, Directories, files_at, is_left, mail_at}
-use Rattle.folder_store.specs.MailPower.{AllNamed, AreLeftAs, LeavesSome, SomeIs, StaysIn, OutlivesIn}
+use Rattle.folder_store.specs.MailPower.{AllNamed, AreLeftAs, SomeIs, StaysIn, OutlivesIn}
 use Rattle.folder_store.specs.MailCalls.{Leads, Learns, listed}
 use Rattle.folder_store.proofs.MailLoss.{kept, kept_left}
 use Rattle.folder_store.proofs.MailMoves.{leads_same}
+use Rattle.folder_store.proofs.Parts.{part_same, part_trans, part_counts, one_counts}
 
 -- ---- the files that are left
 

@@ -1,5 +1,5 @@
 -- What writing and settling a file does to the Maildir of the folders.
-use Rattle.std.proofs.Common.{◌≡◌, ◌+◌, inl, inr, ℕ, true, false, List, [], ◌∷◌, ◌++◌, Option, Some, None, Result, Ok, Err, refl, sym, ap, subst, ◌∙◌, option_map}
+use Rattle.std.proofs.Common.{◌≡◌, ◌+◌, inl, inr, ℕ, true, false, List, [], ◌∷◌, ◌++◌, Option, Some, None, Result, Ok, Err, sym, ap, subst, ◌∙◌}
 use Rattle.std.specs.Prelude.{◌⊎◌}
 use Rattle.std.proofs.lemmas.List.{append-nil}
 use Rattle.mail_store.specs.declared.fault.StoreFault.{StoreFault}
@@ -8,7 +8,7 @@ use Rattle.mail_store.specs.declared.maildir.disk.Folder.TheVariants.{New}
 use Rattle.mail_store.specs.Maildir.{File, Folders, file, mail, counted, dropped, with_file, Begins}
 use Rattle.mail_store.specs.Power.{KeepsMail}
 use Rattle.folder_store.specs.MailFolders.{Draft, Directories, files_at, maildir_in, content_made}
-use Rattle.folder_store.specs.MailPower.{LeavesMail, StaysIn, OutlivesIn}
+use Rattle.folder_store.specs.MailPower.{StaysIn, OutlivesIn}
 use Rattle.folder_store.specs.MailCalls.{Leads, Brings, Then, ChangesMade, FlushesDraft, FlushesNamesIn, GivesUp, MakesDraft, PutsDraft, PutsIntoNew, WritesDraft, IsUnknown, PutsForGood}
 use Rattle.folder_store.proofs.MailLooks.{flushes_leads}
 use Rattle.folder_store.proofs.MailMoves.{moved_leads, leads_maildir, leads_same}
@@ -28,12 +28,6 @@ made_begun a title n f h = some_is (file title (content_made a.made)) f h
 
 none_begun : (f : File) → None ≡ Some f → ⊥
 none_begun f h = cc
-
-nothing : {A B : Type 0} (f : A → B) (o : Option A) → option_map f o ≡ None → o ≡ None
-nothing f None h = refl
-nothing f (Some x) h = absurd cc
-
--- ---- begin
 
 pub begun_anew : (a b : Directories) (begun : Option (List ℕ)) (title name : List ℕ) (n : ℕ) → title ≡ name → Then (MakesDraft {T = Unit {0}} (Ok tt)) a b
     → (a.there.tmp ≡ true) × (maildir_in b (Some title) n ≡ record (maildir_in a begun n) { begun = Some (file name []) })

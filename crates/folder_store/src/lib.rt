@@ -5,7 +5,6 @@ mod device;
 mod exact_listing;
 mod file;
 mod file_state;
-mod fused;
 mod host;
 mod host_folders;
 mod laws;
@@ -23,7 +22,6 @@ mod tally;
 pub use device::FileFolder;
 pub use exact_listing::{ChangeTime, FolderNames, list_names};
 pub use file::HostFile;
-pub use fused::FusedFolder;
 pub use host::HostFolder;
 pub use host_folders::HostFolders;
 pub use laws::{

@@ -1,6 +1,5 @@
 -- A file that is begun, written and settled is delivered.
-use Rattle.std.proofs.Common.{◌≡◌, ℕ, List, [], Some, Result, Ok, Err, inl, inr, ◌∙◌, ap, subst}
-use Rattle.std.specs.Prelude.{IfErr}
+use Rattle.std.proofs.Common.{◌≡◌, ℕ, List, [], Some, Result, Ok, Err, inl, inr, ◌∙◌, ap, subst, IfErr}
 use Rattle.mail_store.specs.declared.fault.StoreFault.{StoreFault}
 use Rattle.mail_store.specs.declared.fault.StoreFault.TheVariants.{Missing, Refused, NotMbox, NoMemory}
 use Rattle.mail_store.specs.Maildir.{Maildir, File, file, mail, IsThere, Adds, Settles, Delivers, counted, dropped, with_file}

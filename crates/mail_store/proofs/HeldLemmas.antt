@@ -1,6 +1,5 @@
 -- What a set of stems says about the files whose names it came from.
-use Rattle.std.proofs.Common.{◌≡◌, ℕ, ◌+◌, ◌<◌, Bool, true, false, cond, List, [], ◌∷◌, ◌++◌, length, take, get_or, map, refl, sym, ap, ◌∙◌, arith, subst, Ok, Vec, String, string_bytes}
-use Rattle.std.specs.Prelude.{◌||◌, ◌&&◌, bytes_eq, Contains, IsPermutation, HoldsAt}
+use Rattle.std.proofs.Common.{◌≡◌, ℕ, ◌+◌, ◌<◌, Bool, true, false, cond, List, [], ◌∷◌, ◌++◌, length, take, get_or, map, refl, sym, ap, ◌∙◌, arith, subst, Ok, Vec, String, string_bytes, ◌||◌, ◌&&◌, bytes_eq, Contains, IsPermutation, HoldsAt}
 use Rattle.std.specs.List.{list_any}
 use Rattle.std.proofs.lemmas.Cmp.{nat_list_eq_equiv}
 use Rattle.std.proofs.lemmas.Bool.Decides.{same_from_decides}

@@ -12,4 +12,4 @@ mod MoveLemmas
 mod NameLemmas
 mod OneEntry
 mod SettlingLemmas
-pub mod TakingLemmas
+mod TakingLemmas

@@ -10,7 +10,6 @@ use Rattle.mail_store.specs.declared.file.flat_file.Edges.{Edges}
 use Rattle.mail_store.specs.FlatFile.{Stored, holding, counted, edges_of, Appends, Cuts, HasBytes}
 use Rattle.mail_store.specs.Mboxrd.{from_words, begins_entry, entry_of, MayGoOn}
 use Rattle.mail_store.specs.MboxCalls.{Looks, AppendsEntry}
-use Rattle.mail_store.proofs.MboxQuoting.{begins_with}
 
 -- ---- the ends of a file
 
@@ -74,15 +73,6 @@ ends_decide edges was test is some head e =
         | inr p ↦ e ∙ same.1 (tail ∙ ap (λ (l : List ℕ). (edges_of l).tail) p.1.1 ∙ tail_of p.1.0)
       ],
     )
-
--- no entry may follow a file that isn't empty and doesn't begin with `From `
-pub head_decides : (edges : Edges) (was : List ℕ) → edges ≡ edges_of was → (edges.size ≡ 0 → ⊥) → (edges.head ≡ from_words → ⊥) → MayGoOn was → ⊥
-head_decides edges was is some other goes = elim goes [
-  | inl none ↦ some (ap (λ (g : Edges). g.size) is ∙ ap length none)
-  | inr p ↦ other (ap (λ (g : Edges). g.head) is ∙ ap (λ (l : List ℕ). (edges_of l).head) (begins_with was p.0))
-]
-
--- ---- appending
 
 -- after a refused `append` the file has at least as many bytes as before
 pub may_cut : (old mid new : Stored) (bytes : List ℕ) (edges : Edges) (fault : StoreFault) → Looks old (Ok edges) mid

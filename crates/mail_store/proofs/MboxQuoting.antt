@@ -1,8 +1,8 @@
 -- Quoting of lines and of texts.
 use Rattle.std.proofs.Common.{◌≡◌, ◌⊎◌, inl, inr, ℕ, suc, ◌+◌, ◌-◌, ◌*◌, ◌<◌, ◌≤◌, true, false, List, [], ◌∷◌, ◌++◌, length, take, drop, map, refl, sym, ap, subst, ◌∙◌, arith, append_assoc}
-use Rattle.std.specs.Prelude.{◌==◌, ◌&&◌, cond, replicate, slice_range}
+use Rattle.std.specs.Prelude.{◌==◌, cond, replicate, slice_range}
 use Rattle.std.specs.List.{flat_map, prefix_len, AllByRecursion}
-use Rattle.std.proofs.lemmas.List.Sums.{count_by-le-length, sum_by-append}
+use Rattle.std.proofs.lemmas.List.Sums.{sum_by-append}
 use Rattle.std.proofs.lemmas.Bool.{cases_Bool, true≢false}
 use Rattle.std.proofs.lemmas.Bool.Decides.{eqb_tells, Decides-eqb}
 use Rattle.std.proofs.lemmas.List.{append-nil, drop_all, drop_at, drop-append-le, drop-drop, drop-replicate, drop-take, length-append, length-drop, length-replicate, length-take-le, take_all, take_at, take-append-drop, take-take}
@@ -116,9 +116,6 @@ front_taken run front rest e =
     let size : length front ≡ length run - length rest = omega (arith, total) in
     ap (take (length run - length rest)) e ∙ take_at front rest (length run - length rest) size
 
-pub copies_none : (shows : List ℕ → List ℕ) (old text : List ℕ) → Copies shows old old text text text
-copies_none shows old text = record { front = []; split = refl; shown = refl }
-
 -- a line that is shown as it is
 pub copies_plain : (shows : List ℕ → List ℕ) (old out run rest text line after : List ℕ) → Copies shows old out run rest text
     → lines_of rest ≡ line ∷ lines_of after → rest ≡ line ++ after → shows line ≡ line → Copies shows old out run after text
@@ -145,14 +142,6 @@ copies_changed shows old out run rest text line after extra kept new later was l
       ∙ ap (λ (l : List ℕ). ((out ++ l) ++ extra) ++ (kept ++ more)) (front_taken run was.front rest was.split)
       ∙ moved ∙ ap (λ (l : List ℕ). out ++ (was.front ++ l)) (sym tail) ∙ was.shown;
 }
-
--- no line is left
-pub copies_all : (shows : List ℕ → List ℕ) (old out run rest text : List ℕ) → Copies shows old out run rest text → rest ≡ []
-    → out ++ run ≡ old ++ flat_map shows (lines_of text)
-copies_all shows old out run rest text was none =
-    ap (λ (l : List ℕ). out ++ l) (was.split ∙ ap (λ (l : List ℕ). was.front ++ l) (none ∙ ap (λ (l : List ℕ). flat_map shows (lines_of l)) (sym none))) ∙ was.shown
-
--- ---- quoting a text within its own bytes, from its end
 
 longer_lines : (lines : List (List ℕ)) → length (joined lines) ≤ length (flat_map quoted lines)
 longer_lines [] = omega arith
@@ -365,16 +354,3 @@ sizes_line text rest line after size more was cut is few =
     ap (λ (ls : List (List ℕ)). wire_size (flat_map unquoted ls)) cut.0 ∙ wire_size-append (unquoted line) (flat_map unquoted (lines_of after)) in
     let whole : length rest ≡ length line + length after = ap length cut.1 ∙ length-append line after in
     record { total = omega (arith, was.total, shown, is); few = omega (arith, was.few, whole, few) }
-
-unquoted_len : (line : List ℕ) → length (unquoted line) ≤ length line
-unquoted_len [] = omega arith
-unquoted_len (byte ∷ rest) = elim (cases_Bool (is_greater byte && is_marked rest)) [
-  | inl is ↦ rw is (omega arith)
-  | inr is ↦ rw is (omega arith)
-]
-
-pub line_bound : (line : List ℕ) → wire_size (unquoted line) ≤ 2 * length line
-line_bound line =
-    let less = unquoted_len line in
-    let ends = count_by-le-length (λ (byte : ℕ). byte == 10) (unquoted line) in
-    omega (arith, less, ends)

@@ -2,7 +2,7 @@
 use Rattle.std.proofs.Common.{◌≡◌, ◌⊎◌, inl, inr, ℕ, ◌<◌, ◌+◌, ◌-◌, true, false, List, [], ◌∷◌, ◌++◌, length, take, drop, map, refl, sym, ap, subst, ◌∙◌, arith, append_assoc, length-append, Vec}
 use Rattle.std.specs.List.{flat_map, AllByRecursion}
 use Rattle.std.proofs.lemmas.Grind.{common_steps}
-use Rattle.std.proofs.lemmas.List.{append-nil, append_cancel_left, append_cancel_right, map-append, take-append-drop}
+use Rattle.std.proofs.lemmas.List.{append_cancel_left, append_cancel_right, map-append, take-append-drop}
 use Rattle.mail_terms.specs.Text.{IsWhole, HasNoLf}
 use Rattle.mail_store.specs.Mboxrd.{lines_of, IsLine, begins_entry, unquoted_text, Group, IsHead, IsInner, IsGroup, group_bytes, group_text, MboxFile, HasNoTexts}
 use Rattle.mail_store.specs.MboxScan.{IsApart, OpensEntry, CutsGroup, HoldsText}
@@ -42,9 +42,6 @@ passed bytes rest group was opens split = record { head = was.head; inner = was.
 -- the rest begins with this line
 pub opens_at : (rest line : List ℕ) (lines : List (List ℕ)) → lines_of rest ≡ line ∷ lines → begins_entry line ≡ true → OpensEntry (lines_of rest)
 opens_at rest line lines e begins = subst OpensEntry (sym e) begins
-
-pub opens_none : (rest : List ℕ) → rest ≡ [] → OpensEntry (lines_of rest)
-opens_none rest e = subst (λ (l : List ℕ). OpensEntry (lines_of l)) (sym e) tt
 
 -- the group ends where the rest begins
 pub cut_at : (bytes rest group back : List ℕ) → Passes bytes rest → OpensEntry (lines_of rest) → group ≡ take (length bytes - length rest) bytes
@@ -90,14 +87,6 @@ pub record ReadsOn (bytes rest : List ℕ) (texts : List (List ℕ)) : Type 0 wh
   pub split : bytes ≡ front ++ rest
   pub read : MboxFile front texts
   pub later : (others : List (List ℕ)) → MboxFile bytes others → (more : List (List ℕ)) × MboxFile rest more
-
-pub reads_none : (bytes : List ℕ) → ReadsOn bytes bytes []
-reads_none bytes = record {
-  front = [];
-  split = refl;
-  read = record { groups = []; are = tt; whole = refl; read = refl };
-  later = λ others file. (others, file);
-}
 
 -- if the bytes stand for texts, the group that is cut off is their first
 pub record Agrees (group after : List ℕ) : Type 0 where
@@ -180,11 +169,6 @@ reads_more bytes rest group after text texts was cut some held =
           let next = agrees rest group after more.0 cut some more.1 in
           (next.texts, next.more);
     }
-
--- all was read
-pub reads_all : (bytes rest : List ℕ) (texts : List (List ℕ)) → ReadsOn bytes rest texts → rest ≡ [] → MboxFile bytes texts
-reads_all bytes rest texts was none =
-    subst (λ (l : List ℕ). MboxFile l texts) (sym (was.split ∙ ap (λ (l : List ℕ). was.front ++ l) none ∙ append-nil was.front)) was.read
 
 -- one more text was pushed
 pub texts_push : {A : Type 0} (texts new : List (Vec ℕ A)) (one : Vec ℕ A) (bytes : List ℕ) → new ≡ texts ++ one ∷ [] → one.items ≡ bytes

@@ -1,6 +1,5 @@
 -- Files that a Maildir in memory keeps in two folders, and that its calls in a reader's place move.
-use Rattle.std.proofs.Common.{◌≡◌, ℕ, zero, suc, ◌+◌, ◌-◌, ◌<◌, ◌≤◌, List, [], ◌∷◌, ◌++◌, length, take, drop, get_or, map, refl, sym, ap, ◌∙◌, subst, arith, Option, Some, None, Bool, true, false, inl, inr, String, Vec, string_bytes, remove, insert, set}
-use Rattle.std.specs.Prelude.{◌⊎◌, All, HoldsAt, Contains, ◌≢◌, ◌↔◌, IsTrue, is_some, IfSome, IfNone, IsPermutation}
+use Rattle.std.proofs.Common.{◌≡◌, ℕ, zero, suc, ◌+◌, ◌-◌, ◌<◌, ◌≤◌, List, [], ◌∷◌, ◌++◌, length, take, drop, get_or, map, refl, sym, ap, ◌∙◌, subst, arith, Option, Some, None, Bool, true, false, inl, inr, String, Vec, string_bytes, remove, insert, set, ◌⊎◌, All, HoldsAt, Contains, ◌≢◌, ◌↔◌, IsTrue, is_some, IfSome, IfNone, IsPermutation}
 use Rattle.std.proofs.lemmas.Bool.{both_ways}
 use Rattle.std.proofs.Math.Bool.{beq}
 use Rattle.std.proofs.lemmas.List.{map-append, length-map, length-append, take_more, get_or-map, get_or_default, length-take-le, take-append-drop}
@@ -11,7 +10,7 @@ use Rattle.mail_terms.specs.MaildirName.{base}
 use Rattle.mail_store.specs.Maildir.{Maildir, File, file, mail, with_file, file_of, name_in, names_of, bases_told, is_there, all_there, AreTheirs}
 use Rattle.mail_store.specs.declared.maildir.disk.Folder.{Folder}
 use Rattle.mail_store.specs.declared.maildir.disk.Folder.TheVariants.{New, Cur}
-use Rattle.mail_store.specs.MemoryMaildir.{Kept, Takes, Renames, count, kept_in, merged, shown}
+use Rattle.mail_store.specs.MemoryMaildir.{Kept, Takes, count, kept_in, merged, shown}
 
 -- ---- names that are looked up
 
@@ -78,23 +77,14 @@ count-append true (false ∷ front) back = count-append true front back
 count-append false (true ∷ front) back = count-append false front back
 count-append false (false ∷ front) back = let rest = count-append false front back in omega (arith, rest)
 
--- one flag of the two became the other
-pub counts_set : (flags : List Bool) (i : ℕ) → i < length flags
-    → (HoldsAt (λ b. b ≡ true) flags i → (count true (set flags i false) + 1 ≡ count true flags) × (count false (set flags i false) ≡ count false flags + 1))
-    × (HoldsAt (λ b. b ≡ false) flags i → (count false (set flags i true) + 1 ≡ count false flags) × (count true (set flags i true) ≡ count true flags + 1))
-counts_set [] i below = absurd (omega arith)
-counts_set (true ∷ flags) zero below = (λ h. (omega arith, omega arith), λ h. absurd (both_ways true (h true) refl))
-counts_set (false ∷ flags) zero below = (λ h. absurd (both_ways true (sym (h true)) refl), λ h. (omega arith, omega arith))
-counts_set (true ∷ flags) (suc i) below =
-    let rest = counts_set flags i (omega arith) in (
-      λ h. (let r = rest.0 h in (omega (arith, r.0), omega (arith, r.1))),
-      λ h. (let r = rest.1 h in (omega (arith, r.0), omega (arith, r.1))),
-    )
-counts_set (false ∷ flags) (suc i) below =
-    let rest = counts_set flags i (omega arith) in (
-      λ h. (let r = rest.0 h in (omega (arith, r.0), omega (arith, r.1))),
-      λ h. (let r = rest.1 h in (omega (arith, r.0), omega (arith, r.1))),
-    )
+-- a true flag became false
+pub counts_set : (flags : List Bool) (i : ℕ) → i < length flags → HoldsAt (λ b. b ≡ true) flags i
+    → (count true (set flags i false) + 1 ≡ count true flags) × (count false (set flags i false) ≡ count false flags + 1)
+counts_set [] i below h = absurd (omega arith)
+counts_set (true ∷ flags) zero below h = (omega arith, omega arith)
+counts_set (false ∷ flags) zero below h = absurd (both_ways true (sym (h true)) refl)
+counts_set (true ∷ flags) (suc i) below h = let rest = counts_set flags i (omega arith) h in (omega (arith, rest.0), omega (arith, rest.1))
+counts_set (false ∷ flags) (suc i) below h = let rest = counts_set flags i (omega arith) h in (omega (arith, rest.0), omega (arith, rest.1))
 
 -- ---- the two folders together
 
@@ -141,32 +131,6 @@ moved_to_cur (false ∷ flags) new cur zero g d fit below at same = absurd (both
 moved_to_cur (false ∷ flags) new [] (suc place) g d fit below at same = absurd (omega (arith, fit.1))
 moved_to_cur (false ∷ flags) new (f ∷ cur) (suc place) g d fit below at same =
     ap (λ (fs : List File). shown f ∷ fs) (moved_to_cur flags new cur place g d (fit.0, omega (arith, fit.1)) (omega arith) at same)
-
--- a file went from the second folder to the first, and shows as before
-pub moved_to_new : (flags : List Bool) (new cur : List File) (place : ℕ) (g d : File) → Fit flags new cur → place < length flags
-    → HoldsAt (λ b. b ≡ false) flags place → shown g ≡ shown (get_or cur (count false (take place flags)) d)
-    → map shown (merged (set flags place true) (insert new (count true (take place flags)) g) (remove cur (count false (take place flags))))
-    ≡ map shown (merged flags new cur)
-moved_to_new [] new cur place g d fit below at same = absurd (omega arith)
-moved_to_new (false ∷ flags) new [] place g d fit below at same = absurd (omega (arith, fit.1))
-moved_to_new (false ∷ flags) new (f ∷ cur) zero g d fit below at same = ap (λ (s : File). s ∷ map shown (merged flags new cur)) same
-moved_to_new (false ∷ flags) new (f ∷ cur) (suc place) g d fit below at same =
-    ap (λ (fs : List File). shown f ∷ fs) (moved_to_new flags new cur place g d (fit.0, omega (arith, fit.1)) (omega arith) at same)
-moved_to_new (true ∷ flags) new cur zero g d fit below at same = absurd (both_ways true (at true) refl)
-moved_to_new (true ∷ flags) [] cur (suc place) g d fit below at same = absurd (omega (arith, fit.0))
-moved_to_new (true ∷ flags) (f ∷ new) cur (suc place) g d fit below at same =
-    ap (λ (fs : List File). shown f ∷ fs) (moved_to_new flags new cur place g d (omega (arith, fit.0), fit.1) (omega arith) at same)
-
--- a file of the second folder has another name, and shows as before
-pub marked_again : (flags : List Bool) (new cur : List File) (i : ℕ) (g d : File) → i < length cur → shown g ≡ shown (get_or cur i d)
-    → map shown (merged flags new (set cur i g)) ≡ map shown (merged flags new cur)
-marked_again [] new cur i g d below same = refl
-marked_again (true ∷ flags) [] cur i g d below same = refl
-marked_again (true ∷ flags) (f ∷ new) cur i g d below same = ap (λ (fs : List File). shown f ∷ fs) (marked_again flags new cur i g d below same)
-marked_again (false ∷ flags) new [] i g d below same = absurd (omega arith)
-marked_again (false ∷ flags) new (f ∷ cur) zero g d below same = ap (λ (s : File). s ∷ map shown (merged flags new cur)) same
-marked_again (false ∷ flags) new (f ∷ cur) (suc i) g d below same =
-    ap (λ (fs : List File). shown f ∷ fs) (marked_again flags new cur i g d (omega arith) same)
 
 -- a file is shown under the base of its name, in one of the two folders
 pub shown_all : {Z Y : Type 0} (flags : List Bool) (new cur : List (String Z × Vec ℕ Y)) → Fit flags new cur
@@ -220,11 +184,6 @@ map_insert f [] (suc i) y = refl
 map_insert f (x ∷ xs) zero y = refl
 map_insert f (x ∷ xs) (suc i) y = ap (λ ys. f x ∷ ys) (map_insert f xs i y)
 
-map_set : {A B : Type 0} (f : A → B) (xs : List A) (i : ℕ) (y : A) → map f (set xs i y) ≡ set (map f xs) i (f y)
-map_set f [] i y = refl
-map_set f (x ∷ xs) zero y = refl
-map_set f (x ∷ xs) (suc i) y = ap (λ ys. f x ∷ ys) (map_set f xs i y)
-
 -- how many flags of each kind come before a place
 pub before_place : (flags : List Bool) (place : ℕ) → place < length flags → count true (take place flags) + count false (take place flags) ≡ place
 before_place flags place inside = counts_total (take place flags) ∙ length-take-le place flags (omega (arith, inside))
@@ -266,7 +225,7 @@ module _ {Z Y : Type 0} where
       let new_is : map file_of new' ≡ remove (map file_of new) i = ap (map file_of) removed ∙ map_remove file_of new i in
       let cur_is : map file_of cur' ≡ insert (map file_of cur) (place - i) g =
       ap (map file_of) inserted ∙ map_insert file_of cur (place - i) made ∙ ap (λ (f : File). insert (map file_of cur) (place - i) f) g_is in
-      let flags_are = (counts_set flags place below).0 is_new in
+      let flags_are = counts_set flags place below is_new in
       let left = ap length removed in
       let shorter = length-remove new i inside in
       let came = ap length inserted in
@@ -289,72 +248,6 @@ module _ {Z Y : Type 0} where
           free = free;
         },
         (omega (arith, trues, flags_are.0, left, shorter, fit.0), omega (arith, falses, flags_are.1, came, longer, fit.1)),
-      )
-
-  -- a file went from `cur` to `new`
-  pub taken_to_new : (flags : List Bool) (new cur : List (String Z × Vec ℕ Y)) {flags' : List Bool} {new' cur' : List (String Z × Vec ℕ Y)} (place i : ℕ) (found made : String Z × Vec ℕ Y)
-      (name moved : List ℕ) → Fit flags new cur → i < length cur → HoldsAt (λ p. string_bytes p.0 ≡ name) cur i → found ≡ get_or cur i found
-      → place < length flags → HoldsAt (λ b. b ≡ false) flags place → count false (take place flags) ≡ i
-      → flags' ≡ set flags place true → cur' ≡ remove cur i → new' ≡ insert new (place - i) made
-      → string_bytes made.0 ≡ moved → made.1.items ≡ found.1.items → base moved ≡ base name
-      → (Contains (names_of (map file_of new)) moved → ⊥)
-      → (map shown (merged flags' (map file_of new') (map file_of cur')) ≡ map shown (merged flags (map file_of new) (map file_of cur)))
-      × Takes (map file_of cur) (map file_of new) name moved (map file_of cur') (map file_of new') × Fit flags' new' cur'
-  taken_to_new flags new cur {flags'} {new'} {cur'} place i found made name moved fit inside titled_at at below is_new counted flagged removed inserted titled same alike free =
-      let total = before_place flags place below in
-      let others : place - i ≡ count true (take place flags) = omega (arith, total, counted) in
-      let room = within true flags place in
-      let g : File = file moved found.1.items in
-      let g_is : file_of made ≡ g = ap (λ (n : List ℕ). file n made.1.items) titled ∙ ap (λ (bytes : List ℕ). file moved bytes) same in
-      let went = moved_to_new flags (map file_of new) (map file_of cur) place g (file name found.1.items)
-      (fit.0 ∙ sym (length-map new file_of), fit.1 ∙ sym (length-map cur file_of)) below is_new
-      (ap (λ (n : List ℕ). file n found.1.items) alike ∙ ap shown (sym (file_at cur i found name inside at titled_at (file name found.1.items)))
-      ∙ ap (λ (k : ℕ). shown (get_or (map file_of cur) k (file name found.1.items))) (sym counted)) in
-      let cur_is : map file_of cur' ≡ remove (map file_of cur) i = ap (map file_of) removed ∙ map_remove file_of cur i in
-      let new_is : map file_of new' ≡ insert (map file_of new) (place - i) g =
-      ap (map file_of) inserted ∙ map_insert file_of new (place - i) made ∙ ap (λ (f : File). insert (map file_of new) (place - i) f) g_is in
-      let flags_are = (counts_set flags place below).1 is_new in
-      let left = ap length removed in
-      let shorter = length-remove cur i inside in
-      let came = ap length inserted in
-      let longer = length-insert new (place - i) made (omega (arith, others, room, fit.0)) in
-      let trues = ap (count true) flagged in
-      let falses = ap (count false) flagged in (
-        ap (λ (fs : List File). map shown (merged flags' (map file_of new') fs)) (cur_is ∙ ap (remove (map file_of cur)) (sym counted))
-            ∙ ap (λ (fs : List File). map shown (merged flags' fs (remove (map file_of cur) (count false (take place flags)))))
-            (new_is ∙ ap (λ (k : ℕ). insert (map file_of new) k g) others)
-            ∙ ap (λ (bs : List Bool). map shown (merged bs (insert (map file_of new) (count true (take place flags)) g) (remove (map file_of cur) (count false (take place flags))))) flagged
-            ∙ went,
-        record {
-          at = i;
-          place = place - i;
-          content = found.1.items;
-          inside = omega (arith, inside, length-map cur file_of);
-          was = λ d. file_at cur i found name inside at titled_at d;
-          left = cur_is;
-          came = new_is;
-          free = free;
-        },
-        (omega (arith, trues, flags_are.1, came, longer, fit.0), omega (arith, falses, flags_are.0, left, shorter, fit.1)),
-      )
-
-  -- a file of `cur` has another name
-  pub named_again : (flags : List Bool) (new cur : List (String Z × Vec ℕ Y)) {cur' : List (String Z × Vec ℕ Y)} (i : ℕ) (found made : String Z × Vec ℕ Y)
-      (name marked : List ℕ) → i < length cur → HoldsAt (λ p. string_bytes p.0 ≡ name) cur i → found ≡ get_or cur i found
-      → cur' ≡ set cur i made → string_bytes made.0 ≡ marked → made.1.items ≡ found.1.items → base marked ≡ base name
-      → (Contains (names_of (map file_of cur)) marked → ⊥)
-      → (map shown (merged flags (map file_of new) (map file_of cur')) ≡ map shown (merged flags (map file_of new) (map file_of cur)))
-      × Renames (map file_of cur) name marked (map file_of cur')
-  named_again flags new cur {cur'} i found made name marked inside titled_at at changed titled same alike free =
-      let g : File = file marked found.1.items in
-      let g_is : file_of made ≡ g = ap (λ (n : List ℕ). file n made.1.items) titled ∙ ap (λ (bytes : List ℕ). file marked bytes) same in
-      let cur_is : map file_of cur' ≡ set (map file_of cur) i g =
-      ap (map file_of) changed ∙ map_set file_of cur i made ∙ ap (λ (f : File). set (map file_of cur) i f) g_is in
-      let was = file_at cur i found name inside at titled_at in (
-        ap (λ (fs : List File). map shown (merged flags (map file_of new) fs)) cur_is
-            ∙ marked_again flags (map file_of new) (map file_of cur) i g (file name found.1.items) (omega (arith, inside, length-map cur file_of))
-            (ap (λ (n : List ℕ). file n found.1.items) alike ∙ ap shown (sym (was (file name found.1.items)))),
-        record { at = i; content = found.1.items; inside = omega (arith, inside, length-map cur file_of); was = λ d. was d; is = cur_is; free = free },
       )
 
   -- a file came to `new`

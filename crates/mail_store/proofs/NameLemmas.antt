@@ -1,11 +1,8 @@
 -- Names of files: which of them hold a colon or a comma, and that different ids have different stems.
-use Rattle.std.proofs.Common.{◌≡◌, ℕ, zero, suc, ◌/◌, ◌%◌, ◌^◌, ◌==◌, ◌<◌, ◌≤◌, ◌+◌, Bool, true, false, cond, List, [], ◌∷◌, ◌++◌, length, take, get_or, slice_index, refl, sym, ap, ◌∙◌, arith, Ok, Err, Result, inl, inr}
-use Rattle.std.specs.Prelude.{All, MatchResult, IsOk, IfOk, IfNone, MatchOption, Option, Some, None, Vec, ◌≢◌, not, nat_lt, codes}
-use Rattle.std.specs.Borrow.{Bor}
+use Rattle.std.proofs.Common.{◌≡◌, ℕ, zero, suc, ◌/◌, ◌%◌, ◌^◌, ◌==◌, ◌<◌, ◌≤◌, ◌+◌, Bool, true, false, cond, List, [], ◌∷◌, ◌++◌, length, take, get_or, slice_index, refl, sym, ap, ◌∙◌, arith, Ok, Err, Result, inl, inr, All, MatchResult, IsOk, IfOk, IfNone, MatchOption, Option, Some, None, Vec, ◌≢◌, not, nat_lt, codes, Bor, IsAscii}
 use Rattle.std.specs.List.{AllPass, before_first, position_or_len}
 use Rattle.std.specs.Fmt.{decimal, digits, digits_onto, digit_glyph}
 use Rattle.std.proofs.lemmas.Fmt.{length-decimal-le}
-use Rattle.std.specs.Str.{IsAscii}
 use Rattle.std.specs.Str.Pattern.{FindsTextPrefix, StripsPrefix}
 use Rattle.std.proofs.lemmas.Bool.{cases_lt}
 use Rattle.std.proofs.lemmas.List.{append_cancel_left, take_all, get_or_past, length-append, append_assoc}

@@ -1,5 +1,5 @@
 -- What is known of a Maildir in memory, and what its calls in a reader's place do.
-use Rattle.std.specs.Prelude.{◌≡◌, ℕ, suc, ◌<◌, List, [], ◌∷◌, length, Bool, true, false, insert, remove, set, Result, Ok, Err, ◌⊎◌, Contains, HoldsAt}
+use Rattle.std.specs.Prelude.{◌≡◌, ℕ, suc, ◌<◌, List, [], ◌∷◌, length, Bool, true, false, insert, remove, Result, Ok, Err, ◌⊎◌, Contains, HoldsAt}
 use Rattle.mail_store.specs.declared.maildir.disk.Folder.{Folder}
 use Rattle.mail_store.specs.declared.maildir.disk.Folder.TheVariants.{New, Cur}
 use Rattle.mail_store.specs.Maildir.{Maildir, File, file, mail, names_of}
@@ -46,26 +46,10 @@ pub record Takes (from to : List File) (name moved : List ℕ) (from' to' : List
   pub came : to' ≡ insert to place (file moved content)
   pub free : Contains (names_of to) moved → ⊥
 
--- `move_to_cur` and `move_to_new`: the file was moved; no file of its folder has the name, or one of the other has
--- the name that would result; or memory ran out
+-- `move_to_cur`: the file was moved; no file of its folder has the name, or one of the other has the name that
+-- would result; or memory ran out
 abbrev pub Moves : {E : Type 0} → List File → List File → List ℕ → List ℕ → Result Bool E → List File → List File → Type 0
 Moves from to name moved (Ok true) from' to' = Takes from to name moved from' to'
 Moves from to name moved (Ok false) from' to' =
     (from' ≡ from) × (to' ≡ to) × ((Contains (names_of from) name → ⊥) ⊎ Contains (names_of to) moved)
 Moves from to name moved (Err fault) from' to' = (from' ≡ from) × (to' ≡ to)
-
--- a file of this name has another one, which no file had
-pub record Renames (files : List File) (name marked : List ℕ) (files' : List File) : Type 0 where
-  pub at : ℕ
-  pub content : List ℕ
-  pub inside : at < length files
-  pub was : HoldsAt (λ f. f ≡ file name content) files at
-  pub is : files' ≡ set files at (file marked content)
-  pub free : Contains (names_of files) marked → ⊥
-
--- `mark_again`: the file has other marks; no file has the name, or one has the name that would result; or memory ran out
-abbrev pub Marks : {E : Type 0} → List File → List ℕ → List ℕ → Result Bool E → List File → Type 0
-Marks files name marked (Ok true) files' = Renames files name marked files'
-Marks files name marked (Ok false) files' =
-    (files' ≡ files) × ((Contains (names_of files) name → ⊥) ⊎ Contains (names_of files) marked)
-Marks files name marked (Err fault) files' = files' ≡ files

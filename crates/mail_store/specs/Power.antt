@@ -1,6 +1,5 @@
 -- What outlives a loss of power, as each device defines it.
-use Rattle.std.specs.Prelude.{◌≡◌, ◌⊎◌, ◌<◌, ℕ, List, ◌++◌, bytes_eq, length, take, Option, Some, option_map, Result, Ok, Err, Vec, String, Contains}
-use Rattle.std.specs.List.{filter}
+use Rattle.std.specs.Prelude.{◌≡◌, ◌⊎◌, ◌<◌, ℕ, List, ◌++◌, bytes_eq, length, take, Option, Some, option_map, Result, Ok, Err, Vec, String, Contains, filter}
 use Rattle.mail_store.specs.declared.fault.StoreFault.{StoreFault}
 use Rattle.mail_store.specs.declared.fault.StoreFault.TheVariants.{Missing, Refused, NotMbox, NoMemory}
 use Rattle.mail_store.specs.Maildir.{Maildir, File, mail, names_of, bases_told}

@@ -24,14 +24,6 @@ impl Bytes {
         Bytes { bytes }
     }
 
-    /// The `Vec` that it was made from.
-    pub fn into_vec(self) -> Vec<u8>
-        ensures { result.items ≡ self }
-    {
-        let Bytes { bytes } = self;
-        bytes
-    }
-
     /// The bytes.
     pub fn as_slice(&self) -> &[u8]
         ensures { result.now ≡ self.now }

@@ -1,7 +1,6 @@
 -- A conversation: turns and the replies to them, whole and in order, or the turn at which it stopped (RFC
 -- 1939, section 3).
-use Rattle.std.specs.Prelude.{◌≡◌, ◌⊎◌, ◌+◌, ◌<◌, ◌≤◌, ℕ, Bool, true, false, List, [], ◌∷◌, ◌++◌, length, take, None}
-use Rattle.std.specs.Prelude.{Some, Result, Ok, Err, IsOk}
+use Rattle.std.specs.Prelude.{◌≡◌, ◌⊎◌, ◌+◌, ◌<◌, ◌≤◌, ℕ, Bool, true, false, List, [], ◌∷◌, ◌++◌, length, take, None, Some, Result, Ok, Err, IsOk}
 use Rattle.std.specs.List.{flat_map, AllZip}
 use Rattle.pop3_wire.specs.Line.{IsLine, ended}
 use Rattle.pop3_wire.specs.Reply.{IsFirstLine}
@@ -12,11 +11,9 @@ use Rattle.pop3_wire.specs.Fields.{number_and_size}
 use Rattle.pop3_wire.specs.Link.{Link}
 use Rattle.pop3_wire.specs.Place.{Place, GoesOn, Gains, HasLine}
 use Rattle.pop3_client.specs.declared.fault.ClientFault.{ClientFault}
-use Rattle.pop3_client.specs.declared.fault.ClientFault.TheVariants.{ConnectionEnded, ReadFailed, WriteFailed, ReplyTooLong}
-use Rattle.pop3_client.specs.declared.fault.ClientFault.TheVariants.{BadReply, Refused, TooMany, NoMemory}
-use Rattle.pop3_client.specs.Turns.{Turn, turn_bytes, asking, greeting, user, pass, stat, rset, quit, line_limit}
+use Rattle.pop3_client.specs.declared.fault.ClientFault.TheVariants.{ConnectionEnded, ReadFailed, WriteFailed, ReplyTooLong, BadReply, Refused, TooMany, NoMemory}
+use Rattle.pop3_client.specs.Turns.{Turn, turn_bytes, asking, greeting, user, pass, stat, rset, quit, line_limit, IsShort, most, Fits, IsGood}
 use Rattle.mail_terms.specs.Listing.{message_limit}
-use Rattle.pop3_client.specs.Turns.{IsShort, most, Fits, IsGood}
 use Rattle.pop3_client.specs.Causes.{IsPartOfLine, IsOverlong, Cause}
 
 -- these turns were sent, and each was answered by its reply, whole and good, in order; that no turn is sent

@@ -11,8 +11,7 @@ use Rattle.mail_terms.specs.Listing.{Item, Agree, Joins, message_limit}
 use Rattle.mail_terms.specs.declared.listing.UidRow.{UidRow}
 use Rattle.mail_terms.specs.declared.listing.ScanRow.{ScanRow}
 use Rattle.pop3_client.specs.declared.fault.ClientFault.{ClientFault}
-use Rattle.pop3_client.specs.declared.fault.ClientFault.TheVariants.{ConnectionEnded, ReadFailed, ReplyTooLong, BadListing}
-use Rattle.pop3_client.specs.declared.fault.ClientFault.TheVariants.{ListingsDisagree, TooMany, NoMemory}
+use Rattle.pop3_client.specs.declared.fault.ClientFault.TheVariants.{ConnectionEnded, ReadFailed, ReplyTooLong, BadListing, ListingsDisagree, TooMany, NoMemory}
 use Rattle.pop3_client.specs.Turns.{Turn, uidl, list, line_limit, IsShort, IsRow, LinesFit}
 use Rattle.pop3_client.specs.Causes.{IsPartOfListing, HasRows, IsOverlong}
 use Rattle.pop3_client.specs.Conversation.{NoLineCause, Talked, Stopped, Broke}

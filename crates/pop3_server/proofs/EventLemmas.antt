@@ -1,6 +1,5 @@
 -- What happened, by the states before and after.
-use Rattle.std.proofs.Common.{◌≡◌, ◌∙◌, ◌-◌, ℕ, List, refl, ap, ap₂, sym, Option, Some, None}
-use Rattle.std.specs.Prelude.{IfSome}
+use Rattle.std.proofs.Common.{◌≡◌, ◌∙◌, ◌-◌, ℕ, List, refl, ap, ap₂, sym, Option, Some, None, IfSome}
 use Rattle.pop3_server.specs.declared.journal.Event.{Event}
 use Rattle.pop3_server.specs.declared.rows.MessageRow.{MessageRow}
 use Rattle.pop3_server.specs.declared.state.State.{State}

@@ -1,8 +1,6 @@
 -- Each answer of the server to a command of a session is an honest reply, and so are all of them in order.
-use Rattle.std.proofs.Common.{◌≡◌, inl, inr, ◌<◌, ◌≤◌, ◌-◌, ◌*◌, ◌^◌, ℕ, Bool, true, false, cond, List, [], ◌∷◌, ◌++◌, map, length, refl, sym, ap, subst, ◌∙◌, arith, Option, Some, None, Result, Ok}
-use Rattle.std.specs.Prelude.{codes, not, slice_get, slice_set, bytes_eq, ◌&&◌}
+use Rattle.std.proofs.Common.{◌≡◌, inl, inr, ◌<◌, ◌≤◌, ◌-◌, ◌*◌, ◌^◌, ℕ, Bool, true, false, cond, List, [], ◌∷◌, ◌++◌, map, length, refl, sym, ap, subst, ◌∙◌, arith, Option, Some, None, Result, Ok, codes, not, slice_get, slice_set, bytes_eq, ◌&&◌, decimal}
 use Rattle.std.specs.List.{flat_map, AllByRecursion, count_by}
-use Rattle.std.specs.Fmt.{decimal}
 use Rattle.std.proofs.lemmas.List.{append-nil, length-map, length-set}
 use Rattle.std.proofs.lemmas.List.Sums.{count_by-le-length}
 use Rattle.pop3_wire.specs.declared.command.Command.{Command}

@@ -10,7 +10,7 @@ use Rattle.pop3_wire.specs.Link.{Link, with_failures}
 use Rattle.mail_terms.specs.FailureCount.{greatest_count, counted_up}
 use Rattle.pop3_wire.specs.Place.{HasLine}
 use Rattle.pop3_server.specs.Maildrop.{Mail}
-use Rattle.pop3_server.specs.ServerMachine.{Machine, greeting}
+use Rattle.pop3_server.specs.ServerMachine.{Machine, greeting, is_open}
 use Rattle.pop3_server.specs.AnswersLines.{AnswersLine, SameServer}
 use Rattle.pop3_server.specs.LoopLink.{Loop, Serves, IsAnswered}
 use Rattle.pop3_server.proofs.ServeLemmas.{run_one}
@@ -42,10 +42,11 @@ line_cut sent used octets has = (
     drop_more : (a b : ℕ) (l : List ℕ) → drop b (drop a l) ≡ drop (a + b) l
     drop_more a b l = grind (arith, common_steps)
 
--- memory ran out for the server's answer
-pub serves_unanswered : {D : Type 0} (sound : D → Type 0) (mail : D → Mail) (m n : Machine D) (sent : List ℕ) (used : ℕ) (answers : List ℕ) (given : ℕ) (over down : Bool) (failures : ℕ)
-    → down ≡ false → SameServer sound mail m n → Serves sound mail (kept m sent used answers given over down failures) (kept n sent used answers given over true failures)
-serves_unanswered sound mail m n sent used answers given over down failures up same = record {
+-- no line was answered: the server is the same, if the link is still up, and some of what is left may have been given
+pub serves_none : {D : Type 0} (sound : D → Type 0) (mail : D → Mail) (m n : Machine D) (sent : List ℕ) (used : ℕ) (answers : List ℕ) (given more : ℕ) (over later down then_down : Bool) (failures : ℕ)
+    → SameServer sound mail m n → (then_down ≡ false → n ≡ m) → (down ≡ true → then_down ≡ true)
+    → Serves sound mail (kept m sent used answers given over down failures) (kept n sent used answers more later then_down failures)
+serves_none sound mail m n sent used answers given more over later down then_down failures same stays goes = record {
   lines = [];
   more = [];
   lost = [];
@@ -55,54 +56,33 @@ serves_unanswered sound mail m n sent used answers given over down failures up s
   run = (refl, refl);
   same = same;
   answers = sym (append-nil answers);
-  told = λ h. h;
+  told = λ h. take-append-drop more (greeting ++ answers);
   sent = sym (append-nil sent);
   heard = append-nil (drop used sent);
-  whole = λ e. absurd (let f : true ≡ false = e in cc);
-  over = λ e. not_both down up e;
+  whole = λ e. (refl, stays e, λ is. subst (λ (k : Machine _). is_open k.state ≡ true → IsLine (drop used sent)) (sym (stays e)) is);
+  over = λ e. (refl, refl, refl, goes e);
 }
 
--- an answer was made, but couldn't be kept
-pub serves_lost : {D : Type 0} (sound : D → Type 0) (mail : D → Mail) (m n : Machine D) (sent : List ℕ) (used octets : ℕ) (answers kept_answers answer : List ℕ) (given : ℕ) (over down : Bool) (failures : ℕ)
-    → (same : SameServer sound mail n n) → down ≡ false → kept_answers ≡ answers → HasLine (length (drop used sent)) (drop used sent) octets → AnswersLine sound mail m (take octets (drop used sent)) answer n
-    → Serves sound mail (kept m sent used answers given over down failures) (kept n sent (used + (octets + 2)) kept_answers given over true failures)
-serves_lost sound mail m n sent used octets answers kept_answers answer given over down failures same up is has turn =
+-- a line was answered; if the answer couldn't be kept, the link is down
+pub serves_one : {D : Type 0} (sound : D → Type 0) (mail : D → Mail) (m n : Machine D) (sent : List ℕ) (used octets : ℕ) (answers kept_answers more lost : List ℕ) (given : ℕ) (over down then_down : Bool) (failures : ℕ)
+    → (same : SameServer sound mail n n) → down ≡ false → kept_answers ≡ answers ++ more → HasLine (length (drop used sent)) (drop used sent) octets → AnswersLine sound mail m (take octets (drop used sent)) (more ++ lost) n
+    → (then_down ≡ false → lost ≡ [])
+    → Serves sound mail (kept m sent used answers given over down failures) (kept n sent (used + (octets + 2)) kept_answers given over then_down failures)
+serves_one sound mail m n sent used octets answers kept_answers more lost given over down then_down failures same up is has turn none =
     let line = line_cut sent used octets has in record {
       lines = take octets (drop used sent) ∷ [];
-      more = [];
-      lost = answer;
+      more = more;
+      lost = lost;
       gained = [];
       last = n;
       each = (line.0, tt);
-      run = run_one sound mail m n (take octets (drop used sent)) answer turn;
-      same = same;
-      answers = is ∙ sym (append-nil answers);
-      told = λ h. take-append-drop given (greeting ++ kept_answers);
-      sent = sym (append-nil sent);
-      heard = append-nil (drop used sent) ∙ line.1 ∙ ap (λ (l : List ℕ). l ++ drop (used + (octets + 2)) sent) (sym (append-nil (ended (take octets (drop used sent)))));
-      whole = λ e. absurd (let f : true ≡ false = e in cc);
-      over = λ e. not_both down up e;
-    }
-
--- a line was answered
-pub serves_one : {D : Type 0} (sound : D → Type 0) (mail : D → Mail) (m n : Machine D) (sent : List ℕ) (used octets : ℕ) (answers kept_answers answer : List ℕ) (given : ℕ) (over down : Bool) (failures : ℕ)
-    → (same : SameServer sound mail n n) → down ≡ false → kept_answers ≡ answers ++ answer → HasLine (length (drop used sent)) (drop used sent) octets → AnswersLine sound mail m (take octets (drop used sent)) answer n
-    → Serves sound mail (kept m sent used answers given over down failures) (kept n sent (used + (octets + 2)) kept_answers given over down failures)
-serves_one sound mail m n sent used octets answers kept_answers answer given over down failures same up is has turn =
-    let line = line_cut sent used octets has in record {
-      lines = take octets (drop used sent) ∷ [];
-      more = answer;
-      lost = [];
-      gained = [];
-      last = n;
-      each = (line.0, tt);
-      run = run_one sound mail m n (take octets (drop used sent)) (answer ++ []) (subst (λ (l : List ℕ). AnswersLine sound mail m (take octets (drop used sent)) l n) (sym (append-nil answer)) turn);
+      run = run_one sound mail m n (take octets (drop used sent)) (more ++ lost) turn;
       same = same;
       answers = is;
       told = λ h. take-append-drop given (greeting ++ kept_answers);
       sent = sym (append-nil sent);
       heard = append-nil (drop used sent) ∙ line.1 ∙ ap (λ (l : List ℕ). l ++ drop (used + (octets + 2)) sent) (sym (append-nil (ended (take octets (drop used sent)))));
-      whole = λ e. (refl, refl, λ answered. absurd (answered turn.was_open (take octets (drop used sent)) (drop (octets + 2) (drop used sent)) has.whole));
+      whole = λ e. (none e, refl, λ answered. absurd (answered turn.was_open (take octets (drop used sent)) (drop (octets + 2) (drop used sent)) has.whole));
       over = λ e. not_both down up e;
     }
 
@@ -148,26 +128,6 @@ serves_down sound mail old mid failures p = record {
   heard = p.heard;
   whole = λ e. absurd (let f : true ≡ false = e in cc);
   over = λ e. let over = p.over e in (over.0, over.1, over.2, refl);
-}
-
--- some of what is left was given
-pub serves_given : {D : Type 0} (sound : D → Type 0) (mail : D → Mail) (m : Machine D) (sent : List ℕ) (used : ℕ) (answers : List ℕ) (given more : ℕ) (over later down : Bool) (failures : ℕ)
-    → SameServer sound mail m m → Serves sound mail (kept m sent used answers given over down failures) (kept m sent used answers more later down failures)
-serves_given sound mail m sent used answers given more over later down failures same = record {
-  lines = [];
-  more = [];
-  lost = [];
-  gained = [];
-  last = m;
-  each = tt;
-  run = (refl, refl);
-  same = same;
-  answers = sym (append-nil answers);
-  told = λ h. take-append-drop more (greeting ++ answers);
-  sent = sym (append-nil sent);
-  heard = append-nil (drop used sent);
-  whole = λ e. (refl, refl, λ is. is);
-  over = λ e. (refl, refl, refl, e);
 }
 
 -- ---- what the code finds

@@ -1,7 +1,5 @@
 -- What PASS finds if the maildrop lists its messages.
-use Rattle.std.proofs.Common.{◌≡◌, ℕ, zero, suc, List, [], ◌∷◌, ◌++◌, map, length, Some, Vec, Ok, slice_get, refl, ◌∙◌, ap, subst, inr}
-use Rattle.std.specs.Prelude.{codes}
-use Rattle.std.specs.Fmt.{decimal}
+use Rattle.std.proofs.Common.{◌≡◌, ℕ, zero, suc, List, [], ◌∷◌, ◌++◌, map, length, Some, Vec, Ok, slice_get, refl, ◌∙◌, ap, subst, inr, codes, decimal}
 use Rattle.pop3_wire.specs.World.{Message}
 use Rattle.pop3_server.specs.declared.rows.MessageRow.{MessageRow}
 use Rattle.pop3_server.specs.declared.state.State.TheVariants.{Transaction}

@@ -1,6 +1,5 @@
 -- Sending an answer in parts.
-use Rattle.std.proofs.Common.{◌≡◌, ◌≤◌, ◌<◌, ◌+◌, ◌-◌, ℕ, List, ◌++◌, Option, Some, None, ap, ◌∙◌, append_assoc}
-use Rattle.std.specs.Prelude.{IfSome}
+use Rattle.std.proofs.Common.{◌≡◌, ◌≤◌, ◌<◌, ◌+◌, ◌-◌, ℕ, List, ◌++◌, Option, Some, None, ap, ◌∙◌, append_assoc, IfSome}
 use Rattle.pop3_wire.specs.Link.{Link}
 use Rattle.pop3_server.specs.declared.text_part.TextBody.{TextBody}
 use Rattle.pop3_server.specs.TextAnswer.{Follows}

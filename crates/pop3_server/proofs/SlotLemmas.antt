@@ -1,6 +1,5 @@
 -- The messages at the places of a maildrop.
-use Rattle.std.proofs.Common.{◌≡◌, ℕ, zero, suc, ◌+◌, ◌<◌, ◌≤◌, List, [], ◌∷◌, ◌++◌, map, take, length, get_or, Option, Some, None, slice_set, refl, sym, ◌∙◌, ap, subst, arith, inl, inr, is_some}
-use Rattle.std.specs.List.{Contains, filter}
+use Rattle.std.proofs.Common.{◌≡◌, ℕ, zero, suc, ◌+◌, ◌<◌, ◌≤◌, List, [], ◌∷◌, ◌++◌, map, take, length, get_or, Option, Some, None, slice_set, refl, sym, ◌∙◌, ap, subst, arith, inl, inr, is_some, Contains, filter}
 use Rattle.std.proofs.lemmas.List.{take_more, append-nil, map-append, length-append}
 use Rattle.std.proofs.lemmas.List.Elements.{Contains-push_cases, Contains-append_left, Contains-append_right, Contains-append_cases}
 use Rattle.mail_terms.specs.Distinct.{AreDistinct}

@@ -1,6 +1,5 @@
 -- Answers with a text, which are made and sent as the text is read.
-use Rattle.std.proofs.Common.{◌≡◌, ◌≤◌, ◌+◌, ℕ, Bool, true, false, List, [], ◌++◌, length, take, drop, Option, Some, Ok, refl, sym, ap, ap₂, subst, ◌∙◌, append_assoc, inr, slice_get, length-append, length-take-le, take-append-drop}
-use Rattle.std.proofs.Math.Seq.{take-add}
+use Rattle.std.proofs.Common.{◌≡◌, ◌≤◌, ◌+◌, ℕ, Bool, true, false, List, [], ◌++◌, length, take, drop, Option, Some, Ok, refl, sym, ap, ap₂, subst, ◌∙◌, append_assoc, inr, slice_get, length-append, length-take-le, take-append-drop, take-add}
 use Rattle.std.proofs.lemmas.List.{append-nil, append_cancel_left, drop_all}
 use Rattle.mail_terms.specs.FailureCount.{Tallies}
 use Rattle.pop3_wire.specs.World.{Message}

@@ -1,6 +1,5 @@
 -- The size of a text: each line's end counts as two octets.
-use Rattle.std.specs.Prelude.{◌≡◌, ◌==◌, ℕ, Bool, false, ◌-◌, ◌^◌, min, List, length, if◌then◌else◌}
-use Rattle.std.specs.List.{flat_map, sum_by}
+use Rattle.std.specs.Prelude.{◌≡◌, ◌==◌, ℕ, Bool, false, ◌-◌, ◌^◌, min, List, length, if◌then◌else◌, flat_map, sum_by}
 use Rattle.pop3_wire.specs.Line.{ended}
 use Rattle.mail_terms.specs.Text.{lines_of_text}
 use Rattle.pop3_server.specs.TextPiece.{is_open_after}

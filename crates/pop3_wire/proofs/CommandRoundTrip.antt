@@ -1,8 +1,6 @@
 -- The line that asks for a command is read as that command.
-use Rattle.std.proofs.Common.{ℕ, ◌+◌, ◌-◌, ◌*◌, ◌^◌, ◌<◌, ◌≤◌, ◌≡◌, true, false, List, [], ◌∷◌, ◌++◌, length, drop, get_or, refl, sym, ap, ◌∙◌, arith, rules, Result, Ok, Some, length-append, append_assoc}
-use Rattle.std.specs.Prelude.{not, nat_lt, nat_le, ◌&&◌, codes}
+use Rattle.std.proofs.Common.{ℕ, ◌+◌, ◌-◌, ◌*◌, ◌^◌, ◌<◌, ◌≤◌, ◌≡◌, true, false, List, [], ◌∷◌, ◌++◌, length, drop, get_or, refl, sym, ap, ◌∙◌, arith, rules, Result, Ok, Some, length-append, append_assoc, not, nat_lt, nat_le, ◌&&◌, codes, decimal}
 use Rattle.std.specs.List.{before_first, slice_split, suffix_len, list_all, All}
-use Rattle.std.specs.Fmt.{decimal}
 use Rattle.std.specs.Char.{is_ascii_digit}
 use Rattle.std.specs.Str.Parse.{digits_value}
 use Rattle.std.proofs.lemmas.Bool.{not-true, and_parts, and_from, le-leb, lt-ltb, le-ltb, cond-true, cond-false, leb-true}

@@ -1,11 +1,9 @@
 -- The rows that are read are exactly those of the form.
-use Rattle.std.proofs.Common.{ℕ, suc, ◌≤◌, ◌<◌, ◌≡◌, ◌≢◌, true, false, List, [], ◌∷◌, ◌++◌, length, take, drop, refl, sym, ap, subst, ◌∙◌, arith, inl, inr, Result, Ok, Err, take-append-drop}
-use Rattle.std.specs.Prelude.{nat_lt, nat_le, ◌&&◌, ◌==◌, Bool, IsTrue, take_while}
+use Rattle.std.proofs.Common.{ℕ, suc, ◌≤◌, ◌<◌, ◌≡◌, ◌≢◌, true, false, List, [], ◌∷◌, ◌++◌, length, take, drop, refl, sym, ap, subst, ◌∙◌, arith, inl, inr, Result, Ok, Err, take-append-drop, nat_lt, nat_le, ◌&&◌, ◌==◌, Bool, IsTrue, take_while, append-nil, take_at, drop_at}
 use Rattle.std.specs.List.{prefix_len, list_all}
 use Rattle.std.specs.Char.{is_ascii_digit}
 use Rattle.std.specs.Str.Parse.{digits_value}
 use Rattle.std.proofs.lemmas.Bool.{and_parts, and_from, cond-true, cond-false, cases_Bool, leb-true, le-leb, ltb-true}
-use Rattle.std.proofs.lemmas.List.{append-nil, take_at, drop_at}
 use Rattle.std.proofs.lemmas.Bool.Decides.{nat_tests}
 use Rattle.std.proofs.lemmas.List.Sums.{AllPass-from_list_all, list_all-from_AllPass}
 use Rattle.pop3_wire.specs.Fields.{◌>>=◌, is_space, is_in_field, past, number, next_field, message_number, number_and_size, legal_id, nothing_more, number_and_id}

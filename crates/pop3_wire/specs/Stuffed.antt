@@ -1,6 +1,5 @@
 -- The body of a text, as a writer sends it (RFC 1939, section 3).
-use Rattle.std.specs.Prelude.{◌≡◌, ◌==◌, ℕ, List, [], ◌∷◌, ◌++◌, if◌then◌else◌}
-use Rattle.std.specs.List.{flat_map}
+use Rattle.std.specs.Prelude.{◌≡◌, ◌==◌, ℕ, List, [], ◌∷◌, ◌++◌, if◌then◌else◌, flat_map}
 use Rattle.mail_terms.specs.Text.{lines_of_text, whole_text}
 use Rattle.pop3_wire.specs.Line.{ended}
 use Rattle.pop3_wire.specs.Body.{dot, Body}

@@ -1,6 +1,5 @@
 -- The meaning of a file, from what its reader finds.
-use Rattle.std.proofs.Common.{◌≡◌, ℕ, ◌<◌, ◌≤◌, List, [], ◌∷◌, length, map, Option, Some, None, Ok, ap, sym, refl, ◌∙◌}
-use Rattle.std.proofs.lemmas.Bool.{lt-ltb, le-ltb}
+use Rattle.std.proofs.Common.{◌≡◌, ℕ, ◌<◌, ◌≤◌, List, [], ◌∷◌, length, map, Option, Some, None, Ok, ap, sym, refl, ◌∙◌, lt-ltb, le-ltb}
 use Rattle.rc_file.specs.SectionReading.{key_fault}
 use Rattle.rc_file.specs.Answer.{fault_in}
 use Rattle.rc_file.specs.KeyTable.{all_keys}

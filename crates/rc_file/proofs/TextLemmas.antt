@@ -1,6 +1,5 @@
 -- No warning depends on a value.
-use Rattle.std.proofs.Common.{◌≡◌, List, [], ◌∷◌, map, Bool, true, false, cond, ap, refl, ◌∙◌}
-use Rattle.std.specs.List.{filter}
+use Rattle.std.proofs.Common.{◌≡◌, List, [], ◌∷◌, map, Bool, true, false, cond, ap, refl, ◌∙◌, filter}
 use Rattle.rc_file.specs.RcMeaning.{Warned, firsts, has_no_effect, warned, warnings_in}
 use Rattle.rc_file.specs.FileRows.{RcRow, section_row, key_row, bad_row}
 use Rattle.rc_file.specs.RcText.{without_value}

@@ -1,7 +1,6 @@
 -- Look-ups in the rows of an rc file.
-use Rattle.std.proofs.Common.{◌≡◌, ℕ, List, [], ◌∷◌, map, Bool, true, false, ◌||◌, Option, Some, None, Result, Ok, Err, ap, refl, sym, ◌∙◌, Bor}
+use Rattle.std.proofs.Common.{◌≡◌, ℕ, List, [], ◌∷◌, map, Bool, true, false, ◌||◌, Option, Some, None, Result, Ok, Err, ap, refl, sym, ◌∙◌, Bor, unwrap_or}
 use Rattle.std.specs.List.{list_any}
-use Rattle.std.specs.Option.{unwrap_or}
 use Rattle.rc_file.specs.KeyTable.{Form, rule, value_fault}
 use Rattle.rc_file.specs.RcMeaning.{is_section, section_name, missing_section, first_fault, fault_at, value_of, text_of, is_folder, judged}
 use Rattle.rc_file.specs.KeyReading.{ReadsAs, ReadsText}

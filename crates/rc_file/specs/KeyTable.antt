@@ -1,17 +1,14 @@
 -- The keys that have an effect, as a table, and the forms of their values.
-use Rattle.std.specs.Prelude.{ℕ, Bool, ◌&&◌, ◌||◌, List, [], ◌∷◌, ◌++◌, map, nat_le, if◌then◌else◌, Option, Some, None, codes}
+use Rattle.std.specs.Prelude.{ℕ, Bool, ◌&&◌, ◌||◌, List, [], ◌∷◌, ◌++◌, map, nat_le, if◌then◌else◌, Option, Some, None, codes, bytes_eq}
 use Rattle.std.specs.Char.{to_ascii_lowercase}
 use Rattle.std.specs.List.{list_any}
-use Rattle.std.specs.Str.{bytes_eq}
 use Rattle.std.specs.Str.Parse.{digits_value}
 use Rattle.mail_terms.specs.Credential.{is_credential}
 use Rattle.mail_terms.specs.Numeral.{is_numeral}
 use Rattle.rc_file.specs.Settings.{is_server, is_maildir_path, is_mboxrd_path}
 use Rattle.rc_file.specs.declared.settings.TheConstants.{DELETE_AFTER_LIMIT}
 use Rattle.rc_file.specs.declared.key.Key.{Key}
-use Rattle.rc_file.specs.declared.key.Key.TheVariants.{RetrieverKind, UseApop, Server, Port, Username}
-use Rattle.rc_file.specs.declared.key.Key.TheVariants.{Password, DestinationKind, Path, ReadAll}
-use Rattle.rc_file.specs.declared.key.Key.TheVariants.{Delete, DeleteAfter, MaxSize, MaxCount, Verbose}
+use Rattle.rc_file.specs.declared.key.Key.TheVariants.{RetrieverKind, UseApop, Server, Port, Username, Password, DestinationKind, Path, ReadAll, Delete, DeleteAfter, MaxSize, MaxCount, Verbose}
 use Rattle.rc_file.specs.declared.fault.RcFault.{RcFault}
 use Rattle.rc_file.specs.declared.fault.RcFault.TheVariants.{UnknownType, BadValue, Unsupported, BadPath}
 

@@ -1,6 +1,5 @@
 -- What the readers of the sections return.
-use Rattle.std.specs.Prelude.{◌≡◌, ◌≤◌, ◌⊎◌, List, map, min, Option, None, Result, Ok, Err, false, IsTrue}
-use Rattle.std.specs.String.{string_bytes}
+use Rattle.std.specs.Prelude.{◌≡◌, ◌≤◌, ◌⊎◌, List, map, min, Option, None, Result, Ok, Err, false, IsTrue, string_bytes}
 use Rattle.mail_terms.specs.Credential.{is_credential}
 use Rattle.rc_file.specs.KeyTable.{retriever_keys, destination_keys, option_keys, all_keys}
 use Rattle.rc_file.specs.RcMeaning.{fault_at, first_fault, text_of, number_of, is_true, destination_in, settings_in}
@@ -12,8 +11,7 @@ use Rattle.rc_file.specs.declared.account.Retriever.{Retriever}
 use Rattle.rc_file.specs.declared.fault.RcFault.{RcFault}
 use Rattle.rc_file.specs.declared.fault.RcFault.TheVariants.{BadPath, NoMemory}
 use Rattle.rc_file.specs.declared.key.Key.{Key}
-use Rattle.rc_file.specs.declared.key.Key.TheVariants.{Server, Port, Username, Password, ReadAll}
-use Rattle.rc_file.specs.declared.key.Key.TheVariants.{Delete, DeleteAfter, MaxSize, MaxCount, Verbose}
+use Rattle.rc_file.specs.declared.key.Key.TheVariants.{Server, Port, Username, Password, ReadAll, Delete, DeleteAfter, MaxSize, MaxCount, Verbose}
 use Rattle.rc_file.specs.declared.settings.Dest.{Dest}
 use Rattle.rc_file.specs.declared.settings.TheConstants.{DELETE_AFTER_LIMIT}
 use Rattle.rc_file.specs.declared.settings.Settings.{Settings}

@@ -1,7 +1,6 @@
 -- What settings hold, and which values they may hold.
-use Rattle.std.specs.Prelude.{ℕ, ◌≤◌, Bool, not, ◌&&◌, List, length, ◌==◌, nat_lt, nat_eq, if◌then◌else◌, true, IsTrue, codes}
+use Rattle.std.specs.Prelude.{ℕ, ◌≤◌, Bool, not, ◌&&◌, List, length, ◌==◌, nat_lt, nat_eq, if◌then◌else◌, true, IsTrue, codes, string_bytes}
 use Rattle.std.specs.List.{list_all, starts_with, ends_with}
-use Rattle.std.specs.String.{string_bytes}
 use Rattle.mail_terms.specs.Credential.{is_credential}
 use Rattle.rc_file.specs.declared.settings.TheConstants.{DELETE_AFTER_LIMIT}
 use Rattle.rc_file.specs.declared.settings.Settings.{Settings}

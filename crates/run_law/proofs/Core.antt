@@ -17,7 +17,7 @@ use Rattle.run_law.specs.Runs.{past_limit}
 use Rattle.run_law.proofs.Lists.{front_is, filter-filter, filter_all, all_map, all_both, all_filter, all_passing, all_take, all_front}
 use Rattle.run_law.proofs.Ids.{Distinct, distinct_is, distinct_take, distinct_filter, ids_filtered, ids_both, all_at, all_ids_at, bytes_self, HasTextsOf, through, whole_take, whole_filter}
 use Rattle.run_law.proofs.Wants.{num_item, all_at_most, with_text, asked, offered, wants, offered_by_number, wants_by_number, wanted_are, candidates_are, wants_snd, offered_snd, wants_placed, zipped, ids_are, begins, both_parts, past-map, snd}
-use Rattle.run_law.proofs.Bridge.{IsLeft, BeginsWith, nexts, bridge, left_is}
+use Rattle.run_law.proofs.Bridge.{IsLeft, BeginsWith, bridge, left_is}
 
 -- a message that passes a test keeps its id in the filtered list
 pub passing_in : (p : Message → Bool) (ms : List Message) → AllByRecursion (λ (m : Message). p m ≡ true → has_id (ids_of (filter p ms)) m.uid ≡ true) ms
@@ -197,12 +197,6 @@ module _ (s : Scene) (is : IsScene s) where
 
     pub all_added : (n : ℕ) → added s n ≡ take n ws
     all_added n = filter_all undone (take n ws) (all_take (λ (m : Message). undone m ≡ true) n ws (all_at_most (λ (m : Message). undone m ≡ true) s.settings.max_count os undone_offered))
-
-    pub offered_next : os ≡ drop (length s.done) (filter fit come)
-    offered_next = sym (left_filters ∙ filter_all undone os undone_offered)
-        ∙ nexts fit is_left s.done come (filter fit (drop s.come s.all)) s.rest (distinct_take s.come s.all distinct_all) selected_parts each_left
-
-  -- ---- what is done afterwards
 
   pub done_more : (n : ℕ) (id : List ℕ) → is_done s id ≡ true → is_done_after s n id ≡ true
   done_more n id e = ids_both s.done (added s n) id ∙ or_left _ _ e

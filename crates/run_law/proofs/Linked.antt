@@ -13,11 +13,10 @@ use Rattle.mail_terms.specs.UniqueId.{has_id}
 use Rattle.run_law.specs.Mails.{item_of, listing_of}
 use Rattle.run_law.specs.Steps.{Effect, Leaves, Stores, IsHonest, AreTexts, wanted_at}
 use Rattle.run_law.specs.Readings.{AreGranted, IsNumbered, HonestIsGranted, ListingIsMaildrop, MarksAreAsked, TextsAreMessages}
-use Rattle.run_law.specs.Runs.{Visit}
 use Rattle.run_law.specs.Mboxes.{mbox_wanted, MboxLeaves, MboxStores}
 use Rattle.run_law.specs.MboxSessions.{MboxLinksAreVisits}
 use Rattle.run_law.proofs.Lists.{all_map}
-use Rattle.run_law.specs.Sessions.{IsBegun, Reads, IsMarked, Served, Link, LinksAreVisits}
+use Rattle.run_law.specs.Sessions.{IsBegun, Reads, IsMarked, Served, LinksAreVisits}
 
 -- ---- marks
 
@@ -127,9 +126,6 @@ module _ (laws : Readings) (sent got : List ℕ) (effect : Effect) (drop : List 
       → Honestly B C wanted drop effect vanished
   one_visit wanted leaves none (inl left) = (inl (leaves left), vanished_begun (inl (none left)))
   one_visit wanted leaves none (inr (stores, reads)) = let honest = session_honest wanted reads in (inr (stores, honest), vanished_begun (inr honest.listing))
-
-abbrev pub visit_of : Link → Effect → Visit
-visit_of link effect = record { settings = link.settings; come = link.come; effect = effect; vanished = link.vanished; after = link.after }
 
 pub visits : Readings → LinksAreVisits
 visits laws frame before link l = record { same = l.same; step = visit.0; vanished = visit.1 }

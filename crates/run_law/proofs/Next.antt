@@ -1,23 +1,19 @@
 -- What a session plans in a kept state: what it records is done, and what it wants is the next of the selected messages.
-use Rattle.std.proofs.Common.{◌≡◌, inl, inr, ℕ, List, true, false, ◌&&◌, ◌||◌, length, take, drop, map, refl, sym, ◌∙◌, ap}
-use Rattle.std.specs.List.{AllByRecursion}
-use Rattle.std.proofs.lemmas.Bool.{or_cases, or_left, or_right, and_parts, and_from}
+use Rattle.std.proofs.Common.{◌≡◌, inl, inr, ℕ, List, true, ◌&&◌, ◌||◌, sym, ◌∙◌, ap}
+use Rattle.std.proofs.lemmas.Bool.{or_cases, and_parts}
 use Rattle.mail_terms.specs.UniqueId.{is_legal_id, has_id}
 use Rattle.pop3_wire.specs.World.{maildrop_of}
 use Rattle.mail_terms.specs.Listing.{Item, has_item}
 use Rattle.fetch_rules.specs.Record.{is_delivered, merged}
-use Rattle.fetch_rules.specs.Wanted.{DistinctAreFiltered, at_most, wanted}
 use Rattle.rc_file.specs.declared.settings.Settings.{Settings}
 use Rattle.mail_store.specs.FileName.{is_held}
 use Rattle.mail_store.specs.Held.{flags_of}
-use Rattle.run_law.specs.Mails.{ids_of, item_of, listing_of, selected}
-use Rattle.run_law.specs.Runs.{Frame, IsFrame, Situation, Kept, WantsNext}
-use Rattle.run_law.proofs.Lists.{map-map}
-use Rattle.run_law.proofs.Ids.{all_ids_at}
+use Rattle.run_law.specs.Mails.{ids_of, listing_of, selected}
+use Rattle.run_law.specs.Runs.{Frame, IsFrame, Situation, Kept}
 use Rattle.run_law.proofs.Below.{Records}
 use Rattle.run_law.proofs.Records.{delivered_merged}
-use Rattle.run_law.proofs.Holds.{held_is_done, done_is_held}
-use Rattle.run_law.proofs.Wants.{num_item, has_listed, snd, wants_by_number, wants_snd}
+use Rattle.run_law.proofs.Holds.{held_is_done}
+use Rattle.run_law.proofs.Wants.{has_listed}
 use Rattle.run_law.proofs.Core as core
 use Rattle.run_law.proofs.Core.{Scene, IsScene}
 
@@ -48,22 +44,3 @@ module _ (laws : Records) (frame : Frame) (is : IsFrame frame) (before : Situati
 
   pub is_scene : IsScene scene
   is_scene = record { world = is.world; prefix = ap (λ k. selected k frame.all) same ∙ kept.prefix; gone = kept.gone; known = λ id l e d. known_done id (λ there. l) d }
-
-  module _ (filtered : DistinctAreFiltered) (only_new : settings.read_all ≡ false) (taken_recorded : AllByRecursion (λ id. is_delivered before.account.rows id ≡ true) before.taken) where
-    exact : (id : List ℕ) → is_legal_id id ≡ true → has_id (ids_of (core.here scene)) id ≡ true → core.is_done scene id ≡ true → is_delivered scene.rows id ≡ true
-    exact id l e d = known_parts id ∙ elim (done_is_held frame before kept.done id (kept.holds id l) d) [
-      | inl held ↦ or_right _ _ (and_from _ _ (listed_is id ∙ e) held)
-      | inr taken ↦ or_left _ _ (all_ids_at (λ x. is_delivered before.account.rows x ≡ true) before.taken id taken_recorded taken)
-    ]
-
-    pub next_wanted : map (λ (p : ℕ × Item). p.1) (wanted settings scene.rows (listing_of (core.here scene)))
-        ≡ listing_of (at_most settings.max_count (drop (length kept.done) (selected frame.max_size (take come frame.all))))
-    next_wanted = ap (map (λ (p : ℕ × Item). p.1)) (core.wanted_is scene is_scene filtered)
-        ∙ map-map (λ (p : ℕ × Item). p.1) num_item (wants_by_number settings scene.rows (core.here scene))
-        ∙ sym (map-map item_of snd (wants_by_number settings scene.rows (core.here scene)))
-        ∙ ap listing_of (wants_snd settings scene.rows (core.here scene)
-        ∙ ap (at_most settings.max_count) (core.offered_next scene is_scene exact only_new ∙ ap (λ k. drop (length kept.done) (selected k (take come frame.all))) same))
-
-pub wants_next : DistinctAreFiltered → Records → WantsNext
-wants_next filtered laws frame before settings come now kept is same only_new recorded =
-    next_wanted laws frame is before kept settings come now (listing_of (maildrop_of frame.all come before.gone)) refl same filtered only_new recorded

@@ -1,15 +1,13 @@
 -- Sessions over one world, what happens between them, and the states that they keep.
-use Rattle.std.specs.Prelude.{◌≡◌, ◌⊎◌, ◌≤◌, ℕ, true, false, not, List, [], ◌∷◌, ◌++◌, map, take, drop, length, if◌then◌else◌, ◌==◌, bytes_eq}
+use Rattle.std.specs.Prelude.{◌≡◌, ◌⊎◌, ◌≤◌, ℕ, true, false, not, List, [], ◌∷◌, ◌++◌, take, drop, length, if◌then◌else◌, ◌==◌, bytes_eq}
 use Rattle.std.specs.List.{AllByRecursion, filter}
-use Rattle.fetch_rules.specs.Record.{is_delivered, merged}
-use Rattle.mail_terms.specs.Listing.{Item}
-use Rattle.fetch_rules.specs.Wanted.{at_most, candidates, wanted}
+use Rattle.fetch_rules.specs.Record.{is_delivered}
+use Rattle.fetch_rules.specs.Wanted.{candidates}
 use Rattle.rc_file.specs.declared.settings.Settings.{Settings}
 use Rattle.mail_store.specs.FileName.{stem_of, is_held, IsAccountText}
-use Rattle.mail_store.specs.Held.{flags_of}
 use Rattle.mail_terms.specs.UniqueId.{is_legal_id, has_id}
 use Rattle.pop3_wire.specs.World.{Message, IsWorld, maildrop_of}
-use Rattle.run_law.specs.Mails.{ids_of, listing_of, is_selected, selected, texts_of, messages_after, without}
+use Rattle.run_law.specs.Mails.{ids_of, is_selected, selected, texts_of, messages_after, without}
 use Rattle.run_law.specs.Accounts.{Account, files, copies, KeepsOthers}
 use Rattle.run_law.specs.Steps.{Effect, Leaves, Stores, IsHonest, merged_rows, wanted_at, ids_wanted}
 
@@ -258,15 +256,3 @@ StartsKept = (frame : Frame) (account : Account) → account.rows ≡ []
 abbrev pub CanEnd : Type 0
 CanEnd = (frame : Frame) (before : Situation) (settings : Settings) (come now : ℕ) → IsFrame frame → settings.max_size ≡ frame.max_size
     → (visit : Visit) × Visits frame before visit × (visit.effect.ended ≡ true) × (visit.come ≡ come)
-
--- a law: in a kept state, if what was taken away was recorded as delivered and delivered messages aren't read
--- again, the wanted messages are the next of the selected messages that have come
-abbrev pub WantsNext : Type 0
-WantsNext = (frame : Frame) (before : Situation) (settings : Settings) (come now : ℕ) (kept : Kept frame before) → IsFrame frame
-    → settings.max_size ≡ frame.max_size → settings.read_all ≡ false
-    → AllByRecursion (λ id. is_delivered before.account.rows id ≡ true) before.taken
-    → let listing = listing_of (maildrop_of frame.all come before.gone) in
-    map (λ (p : ℕ × Item). p.1)
-    (wanted settings
-    (merged before.account.rows listing (flags_of frame.account before.account.maildir listing) now) listing)
-    ≡ listing_of (at_most settings.max_count (drop (length kept.done) (selected frame.max_size (take come frame.all))))

@@ -4,7 +4,7 @@
 ghost use Rattle.run_law.specs.Mails.{WorldsShrink};
 ghost use Rattle.run_law.specs.Power.{AllMayBeLeft, OneMoreIsLast};
 ghost use Rattle.run_law.specs.Runs.{CanEnd, KeptHoldsWhatIsLeft, KeptStaysKept};
-ghost use Rattle.run_law.specs.Runs.{NothingTakenHoldsExactly, StartsKept, WantsNext};
+ghost use Rattle.run_law.specs.Runs.{NothingTakenHoldsExactly, StartsKept};
 ghost use Rattle.run_law.specs.Readings.{HonestIsGranted, ListingIsMaildrop, MarksAreAsked, TextsAreMessages};
 ghost use Rattle.run_law.specs.HonestSession.{HonestSession};
 ghost use Rattle.run_law.specs.MboxHonestSession.{MboxHonestSession};
@@ -140,17 +140,6 @@ pub fn can_end()
     ensures { CanEnd }
 {
     distinct_messages_are_filtered();
-}
-
-/// In a kept state, if what was taken away was recorded and delivered messages aren't read again,
-/// the wanted messages are the next of the selected messages that have come.
-pub fn wants_next()
-    ensures { WantsNext }
-{
-    distinct_messages_are_filtered();
-    held_is_delivered();
-    flags_tell_what_is_held();
-    marked_is_delivered();
 }
 
 /// A session given by its numbers is one that the law over runs takes.

@@ -49,9 +49,8 @@ impl Model for MemoryMaildir {
 
 impl MemoryMaildir {
     ghost use Rattle.std.specs.Prelude.{◌≡◌, ◌<◌, ◌↔◌, ◌++◌, [], None, map, slice_index, IsTrue, IsSome, IsPermutation};
-    ghost use Rattle.mail_terms.specs.MaildirName.{base};
     ghost use Rattle.mail_store.specs.Maildir.{Maildir, File, IsThere, all_there, file_of};
-    ghost use Rattle.mail_store.specs.MemoryMaildir.{Kept, kept_in, shown, Moves, Marks};
+    ghost use Rattle.mail_store.specs.MemoryMaildir.{Kept, kept_in, shown, Moves};
 
     /// A Maildir without files.
     pub fn new(alloc: Global) -> MemoryMaildir
@@ -119,48 +118,6 @@ impl MemoryMaildir {
         let (_, content) = self.in_new.remove(at);
         self.in_cur.insert(place - at, (moved, content)).unwrap();
         self.are_new[place] = false;
-        Ok(true)
-    }
-
-    /// Moves a file from `cur` back to `new`, without its marks. False, with nothing changed, if no
-    /// file of `cur` has the name, or a file of `new` has the name that would result.
-    pub fn move_to_new(&mut self, name: &str) -> Result<bool, AllocError>
-        ensures same { self.new.maildir ≡ self.old.maildir }
-        ensures moves { Moves self.old.in_cur self.old.in_new name.now (base name.now) result self.new.in_cur self.new.in_new }
-    {
-        let moved = String::from_str(self.alloc, base(name))?;
-        if has_name(&self.in_new, moved.as_str()) {
-            return Ok(false);
-        }
-        let Some(at) = place_of(&self.in_cur, name) else {
-            return Ok(false);
-        };
-        self.in_new.reserve(1)?;
-        let place = place_in_order(&self.are_new, false, at);
-        let (_, content) = self.in_cur.remove(at);
-        self.in_new.insert(place - at, (moved, content)).unwrap();
-        self.are_new[place] = true;
-        Ok(true)
-    }
-
-    /// Gives a file of `cur` this suffix, which must begin with a colon, in place of its marks.
-    /// False, with nothing changed, if no file of `cur` has the name, or one has the name that would
-    /// result.
-    pub fn mark_again(&mut self, name: &str, suffix: &str) -> Result<bool, AllocError>
-        requires { slice_index suffix.now 0 ≡ 58 }
-        ensures same { self.new.maildir ≡ self.old.maildir }
-        ensures new { self.new.in_new ≡ self.old.in_new }
-        ensures marks { Marks self.old.in_cur name.now (base name.now ++ suffix.now) result self.new.in_cur }
-    {
-        let mut marked = String::from_str(self.alloc, base(name))?;
-        marked.push_str(suffix)?;
-        if has_name(&self.in_cur, marked.as_str()) {
-            return Ok(false);
-        }
-        let Some(at) = place_of(&self.in_cur, name) else {
-            return Ok(false);
-        };
-        self.in_cur[at].0 = marked;
         Ok(true)
     }
 }

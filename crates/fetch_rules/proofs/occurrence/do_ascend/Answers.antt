@@ -1,6 +1,5 @@
-use Rattle.std.proofs.Common.{arith}
+use Rattle.std.proofs.Common.{arith, nat_cmp}
 use Rattle.std.specs.Cmp.Lexicographic.{slice_cmp}
-use Rattle.std.specs.Ordering.{nat_cmp}
 use Rattle.std.proofs.lemmas.Cmp.{nat_list_cmp_total}
 use Rattle.fetch_rules.proofs.AscentLemmas.{Ascends-one, Ascends-more, Ascends-all, from_true}
 use Rattle.fetch_rules.proofs.OccurrenceLemmas.{nobody}

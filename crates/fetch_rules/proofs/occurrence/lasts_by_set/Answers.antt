@@ -1,5 +1,4 @@
-use Rattle.std.proofs.Common.{◌≡◌, ◌+◌, ◌-◌, ℕ, arith, subst}
-use Rattle.std.proofs.lemmas.List.{length-set}
+use Rattle.std.proofs.Common.{◌≡◌, ◌+◌, ◌-◌, ℕ, arith, subst, length-set}
 use Rattle.fetch_rules.proofs.OccurrenceLemmas.{HasLasts, HasLasts-none, HasLasts-more, nobody}
 use Rattle.fetch_rules.proofs.occurrence.lasts_by_set.Goals as goal
 

@@ -1,7 +1,5 @@
-use Rattle.std.proofs.Common.{◌≡◌, ◌∙◌, Bool, List, length, map, sym}
-use Rattle.std.specs.Prelude.{IfOk, Result, Ok, Err}
+use Rattle.std.proofs.Common.{◌≡◌, ◌∙◌, Bool, List, length, map, sym, IfOk, Result, Ok, Err, true≢false}
 use Rattle.std.specs.Global.{Vec}
-use Rattle.std.proofs.lemmas.Bool.{true≢false}
 use Rattle.mail_terms.specs.Listing.{Item, numbered, is_last}
 use Rattle.fetch_rules.proofs.OccurrenceLemmas.{flags_count}
 use Rattle.fetch_rules.proofs.steps.lasts_where_asked.Goals as goal

@@ -1,6 +1,5 @@
-use Rattle.std.proofs.Common.{◌≡◌, ℕ, ◌+◌, Bool, true, false, ◌&&◌, ◌||◌, ◌∙◌, ap, sym, inl, inr, arith, refl, cond, get_or}
+use Rattle.std.proofs.Common.{◌≡◌, ℕ, ◌+◌, Bool, true, false, ◌&&◌, ◌||◌, ◌∙◌, ap, sym, inl, inr, arith, refl, cond, get_or, ◌==◌, nat_lt}
 use mir.Val.{bool_byte}
-use Rattle.std.specs.Prelude.{◌==◌, nat_lt}
 use Rattle.std.proofs.lemmas.Bool.{eq-eqb, cases_Bool}
 use Rattle.std.proofs.Math.Bool.{and_comm, and-false}
 use Rattle.mail_terms.specs.Listing.{Item, is_first, is_last}

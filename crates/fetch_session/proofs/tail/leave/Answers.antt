@@ -1,13 +1,9 @@
 use Rattle.std.proofs.Common.{subst, Result, ◌∙◌}
 use Rattle.pop3_client.specs.Client.{place_of}
-use Rattle.pop3_client.specs.Conversation.{Talks}
 use Rattle.pop3_wire.specs.Link.{CountsRefusal}
 use Rattle.pop3_client.specs.Conversation.{is_refusal}
 use Rattle.pop3_client.specs.declared.fault.ClientFault.{ClientFault}
-use Rattle.fetch_session.specs.Tail.{turns_in}
-use Rattle.fetch_session.specs.declared.tail.Tail.{Tail}
 use Rattle.fetch_session.proofs.TailLemmas.{left_dropped, left_broken}
-use Rattle.fetch_session.proofs.RefusalLemmas.{at_most_one, then_at_most_one}
 use Rattle.fetch_session.proofs.tail.leave.Goals as goal
 
 pub returns-in-Err-clause-leaves : goal.returns-in-Err-clause-leaves

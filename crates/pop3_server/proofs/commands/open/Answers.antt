@@ -1,7 +1,5 @@
-use Rattle.std.proofs.Common.{◌++◌, ◌∙◌, ap, length, subst, sym}
+use Rattle.std.proofs.Common.{◌++◌, ◌∙◌, ap, length, subst, sym, codes, decimal}
 use Rattle.std.proofs.lemmas.Result.{err_from_is_err_and}
-use Rattle.std.specs.Prelude.{codes}
-use Rattle.std.specs.Fmt.{decimal}
 use Rattle.pop3_server.specs.ServerMachine.{said, Open, Tied, next_of}
 use Rattle.pop3_server.specs.declared.commands.Outcome.{Outcome}
 use Rattle.pop3_server.specs.TextAnswer.{AnswersOrBegins}

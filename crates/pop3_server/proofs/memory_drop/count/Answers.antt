@@ -1,5 +1,4 @@
-use Rattle.std.proofs.Common.{length, ap, arith}
-use Rattle.std.proofs.lemmas.List.{length-append}
+use Rattle.std.proofs.Common.{length, ap, arith, length-append}
 use Rattle.pop3_server.proofs.SlotLemmas.{there_none, there_some}
 use Rattle.pop3_server.proofs.memory_drop.count.Goals as goal
 use Rattle.pop3_server.proofs.memory_drop.count.Goals.{in-None, in-Some}

@@ -1,7 +1,6 @@
-use Rattle.std.proofs.Common.{◌≡◌, take, sym, ◌∙◌, arith, subst, refl}
+use Rattle.std.proofs.Common.{◌≡◌, take, sym, ◌∙◌, arith, subst, refl, Contains}
 use Rattle.std.proofs.lemmas.Bool.{false≢true}
 use Rattle.std.proofs.lemmas.Grind.{common_steps}
-use Rattle.std.specs.List.{Contains}
 use Rattle.pop3_server.specs.Maildrop.{ids}
 use Rattle.pop3_server.proofs.SlotLemmas.{Contains-slot, absent_none, absent_some}
 use Rattle.pop3_server.proofs.memory_drop.has_id.Goals as goal

@@ -1,5 +1,4 @@
-use Rattle.std.proofs.Common.{take}
-use Rattle.std.specs.List.{Contains}
+use Rattle.std.proofs.Common.{take, Contains}
 use Rattle.pop3_server.specs.Maildrop.{ids}
 use Rattle.pop3_server.proofs.memory_drop.has_id.Given as goal
 

@@ -1,5 +1,4 @@
-use Rattle.std.proofs.Common.{◌≡◌, ◌≤◌, ◌<◌, ◌++◌, ℕ, List, not}
-use Rattle.std.specs.Prelude.{IfSome, vec_capacity}
+use Rattle.std.proofs.Common.{◌≡◌, ◌≤◌, ◌<◌, ◌++◌, ℕ, List, not, IfSome, vec_capacity}
 use Rattle.pop3_server.specs.AnswersLines.{MakesAnswer}
 use Rattle.pop3_server.specs.ServerMachine.{is_open}
 use Rattle.pop3_server.proofs.SendLemmas.{to_come}

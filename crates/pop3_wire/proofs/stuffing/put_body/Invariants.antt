@@ -1,5 +1,4 @@
-use Rattle.std.proofs.Common.{◌≡◌, ◌++◌, length}
-use Rattle.std.specs.List.{flat_map}
+use Rattle.std.proofs.Common.{◌≡◌, ◌++◌, length, flat_map}
 use Rattle.std.specs.Io.{StartsWith}
 use Rattle.mail_terms.specs.Text.{lines_of_text}
 use Rattle.pop3_wire.specs.Stuffed.{sent_line}

@@ -1,7 +1,5 @@
-use Rattle.std.proofs.Common.{List, Some, ap, refl, sym, ℕ, ◌∙◌}
+use Rattle.std.proofs.Common.{List, Some, ap, refl, sym, ℕ, ◌∙◌, codes, bytes_eq}
 use Rattle.std.proofs.lemmas.Result.{err_from_is_err_and}
-use Rattle.std.specs.Prelude.{codes}
-use Rattle.std.specs.Str.{bytes_eq}
 use Rattle.rc_file.specs.KeyTable.{rule}
 use Rattle.rc_file.specs.RowReading.{rows_in}
 use Rattle.rc_file.specs.declared.key.Key.TheVariants.{DestinationKind}

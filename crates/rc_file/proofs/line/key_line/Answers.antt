@@ -1,5 +1,4 @@
-use Rattle.std.proofs.Common.{ℕ, ◌+◌, sym, subst}
-use Rattle.std.specs.Str.{IsCharBoundary}
+use Rattle.std.proofs.Common.{ℕ, ◌+◌, sym, subst, IsCharBoundary}
 use Rattle.rc_file.proofs.LineLemmas.{sign_found, sign_boundary, past_sign_boundary}
 use Rattle.rc_file.proofs.line.key_line.Goals as goal
 

@@ -1,5 +1,4 @@
-use Rattle.std.proofs.Common.{◌<◌, ℕ, subst, sym}
-use Rattle.std.specs.Str.{IsCharBoundary}
+use Rattle.std.proofs.Common.{◌<◌, ℕ, subst, sym, IsCharBoundary}
 use Rattle.rc_file.proofs.LineLemmas.{front_boundary}
 use Rattle.rc_file.proofs.line.trimmed.Goals as goal
 

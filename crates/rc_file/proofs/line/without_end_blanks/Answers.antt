@@ -1,5 +1,4 @@
-use Rattle.std.proofs.Common.{ℕ, ◌-◌, length, subst, sym}
-use Rattle.std.specs.Str.{IsCharBoundary}
+use Rattle.std.proofs.Common.{ℕ, ◌-◌, length, subst, sym, IsCharBoundary}
 use Rattle.rc_file.proofs.LineLemmas.{end_boundary}
 use Rattle.rc_file.proofs.line.without_end_blanks.Goals as goal
 

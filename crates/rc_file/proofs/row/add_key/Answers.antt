@@ -1,5 +1,4 @@
-use Rattle.std.proofs.Common.{List, ℕ, [], ◌∷◌, ◌++◌, ◌+◌, ◌∙◌, ap, sym, inr}
-use Rattle.std.specs.String.{string_bytes}
+use Rattle.std.proofs.Common.{List, ℕ, [], ◌∷◌, ◌++◌, ◌+◌, ◌∙◌, ap, sym, inr, string_bytes}
 use Rattle.rc_file.specs.FileRows.{RcRow, key_row}
 use Rattle.rc_file.specs.RowReading.{rows_in, file_rows}
 use Rattle.rc_file.proofs.RowLemmas.{file_rows-key, first_bad-key, rows_in-push, key_misplaced, key_placed}

@@ -1,5 +1,4 @@
-use Rattle.std.proofs.Common.{drop, map}
-use Rattle.std.specs.List.{filter}
+use Rattle.std.proofs.Common.{drop, map, filter}
 use Rattle.rc_file.specs.RcMeaning.{has_no_effect, warned, warnings_in}
 use Rattle.rc_file.specs.RowReading.{rows_in}
 use Rattle.rc_file.specs.WarningSearch.{IsFinding, warning_of}

@@ -1,5 +1,4 @@
-use Rattle.std.proofs.Common.{◌≡◌, ◌∙◌, ◌||◌, List, ℕ, ap, not}
-use Rattle.std.specs.Prelude.{bytes_eq}
+use Rattle.std.proofs.Common.{◌≡◌, ◌∙◌, ◌||◌, List, ℕ, ap, not, bytes_eq}
 use Rattle.mail_terms.specs.UniqueId.{has_id}
 use Rattle.fetch_rules.proofs.IdSetLemmas.{has_id-keys, has_id-more}
 use Rattle.fetch_rules.proofs.id_set.IdSet.insert.Goals as goal

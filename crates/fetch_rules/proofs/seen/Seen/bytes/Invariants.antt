@@ -1,5 +1,4 @@
-use Rattle.std.proofs.Common.{◌≡◌, ◌++◌, take}
-use Rattle.std.specs.Prelude.{flat_map}
+use Rattle.std.proofs.Common.{◌≡◌, ◌++◌, take, flat_map}
 use Rattle.fetch_rules.specs.RecordFile.{Two, header, line_of}
 use Rattle.fetch_rules.proofs.seen.Seen.bytes.Given as goal
 

@@ -1,5 +1,4 @@
-use Rattle.std.proofs.Common.{◌∙◌, ◌++◌, ◌∷◌, [], inr, sym, ap, subst, refl, List, ℕ, None}
-use Rattle.std.proofs.lemmas.List.{append-nil}
+use Rattle.std.proofs.Common.{◌∙◌, ◌++◌, ◌∷◌, [], inr, sym, ap, subst, refl, List, ℕ, None, append-nil}
 use Rattle.std.proofs.lemmas.List.Elements.{recursion_from_All}
 use Rattle.fetch_rules.specs.Record.{Row, Loaded, IsRow, marked}
 use Rattle.fetch_rules.specs.RecordFile.{line_of, marking, written}

@@ -1,5 +1,4 @@
-use Rattle.std.proofs.Common.{◌∙◌, sym, subst}
-use Rattle.std.proofs.lemmas.Bool.{true≢false}
+use Rattle.std.proofs.Common.{◌∙◌, sym, subst, true≢false}
 use Rattle.fetch_rules.proofs.NumeralLemmas.{BeginsAsNumeral, BeginsAsNumeral-decimal, number_found, no_number}
 use Rattle.fetch_rules.proofs.seen.field.read_number.Goals as goal
 

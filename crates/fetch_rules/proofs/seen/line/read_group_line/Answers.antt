@@ -1,6 +1,5 @@
-use Rattle.std.proofs.Common.{◌∙◌, List, ℕ, [], ◌∷◌, take, nat_eq, sym, ap, arith}
+use Rattle.std.proofs.Common.{◌∙◌, List, ℕ, [], ◌∷◌, take, nat_eq, sym, ap, arith, true≢false}
 use Rattle.std.specs.Cmp.Lexicographic.{pointwise}
-use Rattle.std.proofs.lemmas.Bool.{true≢false}
 use Rattle.fetch_rules.proofs.LineLemmas.{stripped, not_group-no_end, count_of_line, same_count, group_whole_line}
 use Rattle.fetch_rules.proofs.seen.line.read_group_line.Goals as goal
 use Rattle.fetch_rules.proofs.seen.line.read_group_line.Goals.{then-count-eq0-via-then-count-eq0, then-count-eq0-via-else-count-eq0+then-count-from}

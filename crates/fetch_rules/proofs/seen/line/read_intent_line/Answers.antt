@@ -1,5 +1,4 @@
-use Rattle.std.proofs.Common.{◌∙◌, sym, subst, arith, [], ◌∷◌}
-use Rattle.std.proofs.lemmas.Bool.{true≢false}
+use Rattle.std.proofs.Common.{◌∙◌, sym, subst, arith, [], ◌∷◌, true≢false}
 use Rattle.mail_terms.specs.UniqueId.{IsLegalId}
 use Rattle.fetch_rules.proofs.LineLemmas.{stripped, behind_intent_sign, field_uid, field_number, no_field}
 use Rattle.fetch_rules.proofs.seen.line.read_intent_line.Goals as goal

@@ -1,5 +1,4 @@
-use Rattle.std.proofs.Common.{◌∙◌, sym, subst}
-use Rattle.std.proofs.lemmas.Bool.{true≢false}
+use Rattle.std.proofs.Common.{◌∙◌, sym, subst, true≢false}
 use Rattle.mail_terms.specs.UniqueId.{IsLegalId}
 use Rattle.fetch_rules.proofs.LineLemmas.{not_line-no_uid, not_line-no_number, uid_of_line, number_of_line}
 use Rattle.fetch_rules.proofs.seen.line.read_row.Goals as goal

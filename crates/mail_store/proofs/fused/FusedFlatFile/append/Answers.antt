@@ -1,5 +1,4 @@
-use Rattle.std.proofs.Common.{◌≡◌, ◌+◌, ◌/◌, length, take, drop, sym, ap, subst, arith}
-use Rattle.std.proofs.lemmas.List.{take-append-drop}
+use Rattle.std.proofs.Common.{◌≡◌, ◌+◌, ◌/◌, length, take, drop, sym, ap, subst, arith, take-append-drop}
 use Rattle.mail_store.specs.declared.fused.Fused.{Fused}
 use Rattle.mail_store.proofs.FusedCalls.{front_appended}
 use Rattle.mail_store.proofs.Leavings.{part_extends}

@@ -1,5 +1,4 @@
-use Rattle.std.proofs.Common.{◌≡◌, [], length, rules, subst, sym, ◌∙◌}
-use Rattle.std.proofs.lemmas.Bool.{eqb-true}
+use Rattle.std.proofs.Common.{◌≡◌, [], length, rules, subst, sym, ◌∙◌, eqb-true}
 use Rattle.std.proofs.lemmas.List.{nil_from_length}
 use Rattle.mail_store.specs.Maildir.{Delivers, file, mail}
 use Rattle.mail_store.specs.FileName.{sized}

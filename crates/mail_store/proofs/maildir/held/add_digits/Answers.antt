@@ -1,5 +1,4 @@
-use Rattle.std.proofs.Common.{◌∷◌, ◌++◌, ◌+◌, ◌∙◌, take, string_bytes, sym, ap, arith}
-use Rattle.std.specs.Prelude.{bytes_eq, ◌||◌}
+use Rattle.std.proofs.Common.{◌∷◌, ◌++◌, ◌+◌, ◌∙◌, take, string_bytes, sym, ap, arith, bytes_eq, ◌||◌}
 use Rattle.std.proofs.lemmas.List.Folds.{list_any_more}
 use Rattle.mail_store.specs.FileName.{stem}
 use Rattle.mail_store.specs.Held.{any_name, has_text}

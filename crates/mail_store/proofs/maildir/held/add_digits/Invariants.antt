@@ -1,5 +1,4 @@
-use Rattle.std.proofs.Common.{◌≡◌, ℕ, List, take}
-use Rattle.std.specs.Prelude.{◌||◌}
+use Rattle.std.proofs.Common.{◌≡◌, ℕ, List, take, ◌||◌}
 use Rattle.mail_store.specs.Held.{any_name, has_text}
 use Rattle.mail_store.proofs.maildir.held.add_digits.Given as goal
 

@@ -1,7 +1,5 @@
-use Rattle.std.proofs.Common.{◌≡◌, ◌∙◌, false, List, ℕ, ap, Bor}
-use Rattle.std.specs.Prelude.{◌||◌}
+use Rattle.std.proofs.Common.{◌≡◌, ◌∙◌, false, List, ℕ, ap, Bor, ◌||◌, is_eq, nat_cmp}
 use Rattle.std.specs.List.{list_any}
-use Rattle.std.specs.Ordering.{is_eq, nat_cmp}
 use Rattle.std.specs.Cmp.Lexicographic.{slice_cmp}
 use Rattle.mail_store.specs.Held.{any_name, has_text}
 use Rattle.mail_store.proofs.maildir.held.digits_of.Goals as goal

@@ -1,5 +1,4 @@
-use Rattle.std.proofs.Common.{rules, ◌≡◌, refl, arith, String, Vec, Global, string_bytes, ℕ, sym, ap, ◌∙◌}
-use Rattle.std.specs.Prelude.{HoldsAt}
+use Rattle.std.proofs.Common.{rules, ◌≡◌, refl, arith, String, Vec, Global, string_bytes, ℕ, sym, ap, ◌∙◌, HoldsAt}
 use Rattle.std.proofs.lemmas.List.{get_or_default}
 use Rattle.std.proofs.lemmas.Slice.Eq.{bytes_eq-Decides}
 use Rattle.mail_terms.specs.MaildirName.{base}

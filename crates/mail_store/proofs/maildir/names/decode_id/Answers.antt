@@ -1,7 +1,6 @@
-use Rattle.std.proofs.Common.{◌∙◌, sym, ap, inl, inr}
+use Rattle.std.proofs.Common.{◌∙◌, sym, ap, inl, inr, true≢false}
 use Rattle.hex.specs.Hex.{encode_lower}
 use Rattle.mail_terms.specs.UniqueId.{is_legal_id}
-use Rattle.std.proofs.lemmas.Bool.{true≢false}
 use Rattle.std.proofs.lemmas.Slice.Eq.{bytes_eq-Decides}
 use Rattle.mail_store.proofs.NameLemmas.{one_reading, no_reading}
 use Rattle.mail_store.proofs.maildir.names.decode_id.Goals as goal

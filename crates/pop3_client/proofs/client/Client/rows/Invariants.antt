@@ -1,5 +1,4 @@
-use Rattle.std.proofs.Common.{◌≡◌, ◌-◌, length}
-use Rattle.std.specs.Prelude.{All}
+use Rattle.std.proofs.Common.{◌≡◌, ◌-◌, length, All}
 use Rattle.pop3_client.specs.Client.{HasSameLink, WhereLinkSound}
 use Rattle.mail_terms.specs.Listing.{message_limit}
 use Rattle.pop3_client.proofs.ListingLemmas.{TookRows}

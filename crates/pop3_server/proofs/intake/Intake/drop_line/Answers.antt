@@ -1,5 +1,4 @@
-use Rattle.std.proofs.Common.{◌≡◌, ◌≤◌, ◌<◌, ◌+◌, ◌*◌, ◌++◌, [], length, take, arith, refl, ap, ◌∙◌, Ok, length-append}
-use Rattle.std.proofs.lemmas.List.{length-drop}
+use Rattle.std.proofs.Common.{◌≡◌, ◌≤◌, ◌<◌, ◌+◌, ◌*◌, ◌++◌, [], length, take, arith, refl, ap, ◌∙◌, Ok, length-append, length-drop}
 use Rattle.pop3_server.proofs.ServeIntakeLemmas.{drops_first, drops_more, drops_on, dropped_line, dropped_end, took_on, took_none, still_dropping, drop_less, still_none, still_short}
 use Rattle.pop3_server.proofs.intake.Intake.drop_line.Goals as goal
 

@@ -1,9 +1,9 @@
-use Rattle.std.proofs.Common.{◌≡◌, ◌≤◌, ◌<◌, ◌+◌, ◌++◌, ◌==◌, ◌||◌, Bool, length, take, drop, sym, ap, subst, ◌∙◌, arith}
+use Rattle.std.proofs.Common.{◌≡◌, ◌≤◌, ◌<◌, ◌+◌, ◌++◌, ◌==◌, ◌||◌, Bool, length, take, drop, refl, sym, ap, subst, ◌∙◌, arith}
 use Rattle.mail_terms.specs.FailureCount.{greatest_count}
 use Rattle.pop3_server.specs.ServerMachine.{greeting}
 use Rattle.pop3_server.specs.LoopLink.{Loop, Serves}
 use Rattle.pop3_server.specs.LoopLaws.{same_refl, serves_same}
-use Rattle.pop3_server.proofs.LoopLemmas.{kept, serves_given, piece_within, given_on, counted_below, refused_at, refused_link, given_link}
+use Rattle.pop3_server.proofs.LoopLemmas.{kept, serves_none, piece_within, given_on, counted_below, refused_at, refused_link, given_link}
 use Rattle.pop3_server.proofs.loop_wire.LoopWireWire.recv.Goals.{then-self-2, else-self-2}
 use Rattle.pop3_server.proofs.loop_wire.LoopWireWire.recv.Goals as goal
 
@@ -37,7 +37,7 @@ returns-clause-got g c = λ below.
     ] in (
       subst (λ (w : Loop _). w.link.failures < greatest_count) c.self.view_is below,
       subst (λ (w : Loop _). Serves g.D.Maildrop.sound g.D.Maildrop.mail w (kept r.server r.sent.items r.used r.answers.items (r.given + c.min-n.result) c.if-self-2.self r.down r.failures)) c.self.view_is
-          (serves_given g.D.Maildrop.sound g.D.Maildrop.mail r.server r.sent.items r.used r.answers.items r.given (r.given + c.min-n.result) r.ended c.if-self-2.self r.down r.failures (same_refl _ _ _)),
+          (serves_none g.D.Maildrop.sound g.D.Maildrop.mail r.server r.server r.sent.items r.used r.answers.items r.given (r.given + c.min-n.result) r.ended c.if-self-2.self r.down r.down r.failures (same_refl _ _ _) (λ _. refl) (λ e. e)),
       given_link r.sent.items (take r.given (greeting ++ r.answers.items)) (take c.min-n.result (c.copy_from_slice.new.self ++ drop c.min-n.result c.args.buf.now)) (take (r.given + c.min-n.result) (greeting ++ r.answers.items))
           r.ended c.if-self-2.self c.min-n.result r.failures on.0 over
           ∙ ap (λ (w : Loop _). record w.link {

@@ -1,5 +1,4 @@
-use Rattle.std.proofs.Common.{◌≡◌, ◌<◌, ◌+◌, ◌++◌, ℕ, Bool, if◌then◌else◌, List, [], take, refl, sym, ap, subst, ◌∙◌}
-use Rattle.std.proofs.lemmas.List.{append-nil}
+use Rattle.std.proofs.Common.{◌≡◌, ◌<◌, ◌+◌, ◌++◌, ℕ, Bool, if◌then◌else◌, List, [], take, refl, sym, ap, subst, ◌∙◌, append-nil}
 use Rattle.pop3_wire.specs.Link.{Link}
 use Rattle.mail_terms.specs.FailureCount.{greatest_count}
 use Rattle.pop3_server.specs.ServerMachine.{greeting}

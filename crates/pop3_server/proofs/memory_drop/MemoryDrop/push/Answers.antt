@@ -1,5 +1,4 @@
-use Rattle.std.proofs.Common.{◌≡◌, ◌<◌, ℕ, List, length, sym, ap, arith, subst}
-use Rattle.std.specs.List.{Contains}
+use Rattle.std.proofs.Common.{◌≡◌, ◌<◌, ℕ, List, length, sym, ap, arith, subst, Contains}
 use Rattle.mail_terms.specs.Distinct.{AreDistinct}
 use Rattle.pop3_server.specs.Maildrop.{Mail, there, ids}
 use Rattle.pop3_server.proofs.SlotLemmas.{ids-push, count-push}

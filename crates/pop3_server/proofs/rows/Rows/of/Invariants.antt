@@ -1,5 +1,4 @@
-use Rattle.std.proofs.Common.{◌≡◌, map}
-use Rattle.std.specs.List.{All}
+use Rattle.std.proofs.Common.{◌≡◌, map, All}
 use Rattle.pop3_server.specs.ServerMachine.{row_of_entry, IsSmall}
 use Rattle.pop3_server.proofs.rows.Rows.of.Given as goal
 

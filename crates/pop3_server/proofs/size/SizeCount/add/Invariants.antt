@@ -1,5 +1,4 @@
-use Rattle.std.proofs.Common.{◌≡◌, ◌+◌, length}
-use Rattle.std.specs.List.{sum_by}
+use Rattle.std.proofs.Common.{◌≡◌, ◌+◌, length, sum_by}
 use Rattle.pop3_server.specs.Size.{weight, capped}
 use Rattle.pop3_server.specs.TextPiece.{is_open_after}
 use Rattle.pop3_server.proofs.size.SizeCount.add.Given as goal

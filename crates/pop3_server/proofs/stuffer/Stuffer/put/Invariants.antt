@@ -1,5 +1,4 @@
-use Rattle.std.proofs.Common.{◌≡◌, ◌≤◌, ◌+◌, ◌*◌, ◌++◌, length}
-use Rattle.std.specs.Prelude.{vec_capacity, vec_len}
+use Rattle.std.proofs.Common.{◌≡◌, ◌≤◌, ◌+◌, ◌*◌, ◌++◌, length, vec_capacity, vec_len}
 use Rattle.pop3_server.specs.TextPiece.{is_open_after, sent_piece}
 use Rattle.pop3_server.proofs.stuffer.Stuffer.put.Given as goal
 

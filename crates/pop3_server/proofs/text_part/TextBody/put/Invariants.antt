@@ -1,5 +1,4 @@
-use Rattle.std.proofs.Common.{◌≡◌, ◌≤◌, ◌-◌, Some, false}
-use Rattle.std.specs.Prelude.{vec_capacity, vec_len}
+use Rattle.std.proofs.Common.{◌≡◌, ◌≤◌, ◌-◌, Some, false, vec_capacity, vec_len}
 use Rattle.pop3_server.specs.TextAnswer.{GoesOn, OnlyReads}
 use Rattle.pop3_server.proofs.text_part.TextBody.put.Given as goal
 

@@ -1,5 +1,4 @@
-use Rattle.std.proofs.Common.{◌≡◌, ◌≤◌, ◌-◌, ◌∙◌, ℕ, List, length, take, drop, min, max, ap, sym, subst, arith}
-use Rattle.std.proofs.lemmas.List.{length-take}
+use Rattle.std.proofs.Common.{◌≡◌, ◌≤◌, ◌-◌, ◌∙◌, ℕ, List, length, take, drop, min, max, ap, sym, subst, arith, length-take}
 use Rattle.pop3_wire.specs.Line.{IsLine}
 use Rattle.pop3_wire.specs.Place.{HasNoLine}
 use Rattle.pop3_wire.proofs.LineReaderLemmas.{line_end_found, line_end_none, no_line_max, no_line_limit}

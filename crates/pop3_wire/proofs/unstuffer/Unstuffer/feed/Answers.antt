@@ -1,5 +1,4 @@
-use Rattle.std.proofs.Common.{◌-◌, take, drop, length, arith, rules, length-drop}
-use Rattle.std.proofs.lemmas.List.{length-take}
+use Rattle.std.proofs.Common.{◌-◌, take, drop, length, arith, rules, length-drop, length-take}
 use Rattle.pop3_wire.proofs.UnstuffingLemmas.{turn_on}
 use Rattle.pop3_wire.proofs.unstuffer.Unstuffer.feed.Goals as goal
 

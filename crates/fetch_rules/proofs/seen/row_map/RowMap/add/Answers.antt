@@ -1,5 +1,4 @@
-use Rattle.std.proofs.Common.{◌≡◌, ◌∙◌, ◌++◌, ◌∷◌, [], Option, subst}
-use Rattle.std.specs.Prelude.{IfNone}
+use Rattle.std.proofs.Common.{◌≡◌, ◌∙◌, ◌++◌, ◌∷◌, [], Option, subst, IfNone}
 use Rattle.fetch_rules.specs.Rows.{row_from}
 use Rattle.fetch_rules.specs.declared.seen.row_map.State.{State}
 use Rattle.fetch_rules.proofs.RowLemmas.{state_in-none}

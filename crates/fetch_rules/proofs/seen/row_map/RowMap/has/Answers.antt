@@ -1,5 +1,4 @@
-use Rattle.std.proofs.Common.{◌∙◌, ap}
-use Rattle.std.specs.Prelude.{is_some}
+use Rattle.std.proofs.Common.{◌∙◌, ap, is_some}
 use Rattle.fetch_rules.proofs.RowLemmas.{is_some-state_in}
 use Rattle.fetch_rules.proofs.seen.row_map.RowMap.has.Goals as goal
 

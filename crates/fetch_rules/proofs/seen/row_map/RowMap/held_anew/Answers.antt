@@ -1,10 +1,10 @@
 use Rattle.std.proofs.Common.{◌∙◌, sym, arith}
-use Rattle.fetch_rules.proofs.MergeLemmas.{HasHeldAnew-none, HasHeldAnew-held, HasHeldAnew-known, HasHeldAnew-free, HasHeldAnew-all}
+use Rattle.fetch_rules.proofs.MergeLemmas.{HasHeldAnew-held, HasHeldAnew-known, HasHeldAnew-free, HasHeldAnew-all}
 use Rattle.fetch_rules.proofs.seen.row_map.RowMap.held_anew.Goals as goal
 use Rattle.fetch_rules.proofs.seen.row_map.RowMap.held_anew.Goals.{then-held-i+then-not-is_delivered+in_ok-insert, else-held-i, else-held-i-via-then-held-i+else-not-is_delivered, else-held-i-via-else-held-i}
 
 pub loop-i-init : goal.loop-i-init
-loop-i-init g c = HasHeldAnew-none c.args.self.now c.args.listing.now c.args.held.now c.new-ids.result c.new-ids.ensures
+loop-i-init g c = c.new-ids.ensures
 
 pub loop-i-preserved : goal.loop-i-preserved
 loop-i-preserved g c = elim c.if-held-i.branch [

@@ -1,6 +1,5 @@
-use Rattle.std.proofs.Common.{◌∙◌, not, sym, subst}
+use Rattle.std.proofs.Common.{◌∙◌, not, sym, subst, ◌≢◌}
 use Rattle.std.specs.Bool.{OnTrue}
-use Rattle.std.specs.Prelude.{◌≢◌}
 use Rattle.fetch_rules.proofs.RowLemmas.{unmarked_none, mark_changes, marked-delivered}
 use Rattle.fetch_rules.proofs.seen.row_map.RowMap.mark.Goals as goal
 

@@ -1,5 +1,4 @@
-use Rattle.std.proofs.Common.{take}
-use Rattle.std.specs.Prelude.{zip}
+use Rattle.std.proofs.Common.{take, zip}
 use Rattle.fetch_rules.proofs.MergeLemmas.{HasMarked}
 use Rattle.fetch_rules.proofs.seen.row_map.RowMap.mark_held.Given as goal
 

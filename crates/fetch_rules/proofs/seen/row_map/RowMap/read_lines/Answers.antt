@@ -1,5 +1,4 @@
-use Rattle.std.proofs.Common.{◌∙◌, ◌++◌, ◌+◌, sym, ap, subst}
-use Rattle.std.specs.Prelude.{min}
+use Rattle.std.proofs.Common.{◌∙◌, ◌++◌, ◌+◌, sym, ap, subst, min}
 use Rattle.std.proofs.lemmas.Result.{err_from_is_err_and}
 use Rattle.fetch_rules.specs.RecordFile.{IsLine, text_of}
 use Rattle.fetch_rules.specs.RecordMeaning.{Means, Fault}

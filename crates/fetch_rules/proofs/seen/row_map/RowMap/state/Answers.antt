@@ -1,5 +1,4 @@
-use Rattle.std.proofs.Common.{◌∙◌, ℕ, ap, subst}
-use Rattle.std.specs.Prelude.{List}
+use Rattle.std.proofs.Common.{◌∙◌, ℕ, ap, subst, List}
 use Rattle.fetch_rules.specs.Rows.{state_in}
 use Rattle.fetch_rules.specs.Record.{Row, IsRecord}
 use Rattle.fetch_rules.proofs.RowLemmas.{lookup_state, no_state}

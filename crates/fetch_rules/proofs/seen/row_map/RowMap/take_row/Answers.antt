@@ -1,5 +1,4 @@
-use Rattle.std.proofs.Common.{◌≡◌, ◌∙◌, refl, true, false, sym, subst}
-use Rattle.std.proofs.lemmas.Bool.{true≢false}
+use Rattle.std.proofs.Common.{◌≡◌, ◌∙◌, refl, true, false, sym, subst, true≢false}
 use Rattle.fetch_rules.specs.Record.{Row, IsRecord}
 use Rattle.fetch_rules.specs.RecordMeaning.{delivers}
 use Rattle.fetch_rules.specs.Rows.{row_from}

@@ -1,5 +1,4 @@
-use Rattle.std.proofs.Common.{map, ◌++◌, subst}
-use Rattle.std.specs.Prelude.{IsPermutation}
+use Rattle.std.proofs.Common.{map, ◌++◌, subst, IsPermutation}
 use Rattle.mail_store.specs.MemoryMaildir.{Kept, shown}
 use Rattle.mail_store.proofs.MoveLemmas.{shown_all}
 use Rattle.mail_store.proofs.maildir.memory.MemoryMaildir.files.Goals as goal

@@ -1,5 +1,4 @@
-use Rattle.std.proofs.Common.{◌≡◌, ◌∙◌, ◌-◌, ◌<◌, ℕ, List, ◌++◌, Bool, true, false, length, map, refl, sym, ap, subst, inl, arith, cond, set, take, insert, String, Vec, Global, string_bytes}
-use Rattle.std.specs.Prelude.{Contains, HoldsAt, option_map, is_ok}
+use Rattle.std.proofs.Common.{◌≡◌, ◌∙◌, ◌-◌, ◌<◌, ℕ, List, ◌++◌, Bool, true, false, length, map, refl, sym, ap, subst, inl, arith, cond, set, take, insert, String, Vec, Global, string_bytes, Contains, HoldsAt, option_map, is_ok}
 use Rattle.std.proofs.lemmas.Bool.{both_ways}
 use Rattle.mail_store.specs.Maildir.{File, all_there, file_of, names_of}
 use Rattle.mail_store.specs.MemoryMaildir.{Kept, Takes, count, merged, shown}

@@ -1,5 +1,4 @@
-use Rattle.std.proofs.Common.{rules, ◌≡◌, ◌∙◌, ◌++◌, List, refl, true, map, subst, ap, String, Vec, Global, ℕ}
-use Rattle.std.specs.Prelude.{IsPermutation, string_bytes}
+use Rattle.std.proofs.Common.{rules, ◌≡◌, ◌∙◌, ◌++◌, List, refl, true, map, subst, ap, String, Vec, Global, ℕ, IsPermutation, string_bytes}
 use Rattle.mail_store.specs.Maildir.{file_of, names_of, bases_told}
 use Rattle.mail_store.specs.MemoryMaildir.{Kept}
 use Rattle.mail_store.proofs.TakingLemmas.{part_same}

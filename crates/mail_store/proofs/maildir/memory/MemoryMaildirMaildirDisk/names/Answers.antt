@@ -1,9 +1,8 @@
-use Rattle.std.proofs.Common.{rules, ◌≡◌, ◌∙◌, refl, true, subst}
+use Rattle.std.proofs.Common.{rules, ◌≡◌, ◌∙◌, refl, true, subst, ap}
 use Rattle.mail_store.specs.Maildir.{is_there, names_of}
 use Rattle.mail_store.specs.MemoryMaildir.{Kept}
 use Rattle.mail_store.proofs.TakingLemmas.{part_same}
 use Rattle.mail_store.proofs.MoveLemmas.{is_all_there, theirs_of}
-use Rattle.std.proofs.Common.{ap}
 use Rattle.mail_store.proofs.maildir.memory.MemoryMaildirMaildirDisk.names.Goals as goal
 
 pub returns-in-Ok-clause-lists : goal.returns-in-Ok-clause-lists
