@@ -179,6 +179,15 @@ module _ (laws : Laws) (world : World) (state : State) (occasion : Occasion) (so
       (s.rows', s.keeps, all.0),
     )
 
+  -- what its QUIT removed is recorded
+  pub vanished_recorded : (id : List ℕ) → has_id occasion.vanished id ≡ true → IsRecorded occasion.after id
+  vanished_recorded id gone =
+      let begun = held_in (λ (x : List ℕ). has_id step.effect.begun x ≡ true) occasion.vanished id (visits step).vanished gone in
+      elim (visits step).step [
+        | inl left ↦ absurd (true≢false (sym begun ∙ ap (λ (ids : List (List ℕ)). has_id ids id) left.begun))
+        | inr stored ↦ (step.rows', step.keeps, held_in (λ (x : List ℕ). is_delivered step.rows' x ≡ true) step.effect.begun id stored.0.begun begun)
+      ]
+
   pub fetched_promised : Promised world state (Fetched occasion) × IsKept world (after_event state (Fetched occasion))
   fetched_promised = session_promised step (happened step)
 

@@ -1,13 +1,19 @@
 -- A loss of power that leaves some of the files is an event of a run.
-use Rattle.std.proofs.Common.{◌≡◌, ◌≢◌, ◌⊎◌, inl, inr, ◌<◌, ◌≤◌, ℕ, zero, suc, List, [], ◌∷◌, Bool, true, false, length, ap, refl, sym, ◌∙◌, arith}
+use Rattle.std.proofs.Common.{◌≡◌, ◌≢◌, ◌⊎◌, inl, inr, ◌<◌, ◌≤◌, ℕ, zero, suc, List, [], ◌∷◌, Bool, true, false, ◌||◌, Option, length, ap, refl, sym, subst, ◌∙◌, arith}
 use Rattle.std.specs.Prelude.{bytes_eq, Contains}
 use Rattle.mail_terms.specs.UniqueId.{has_id, is_legal_id}
-use Rattle.mail_store.specs.FileName.{stem, stem_of}
+use Rattle.mail_store.specs.FileName.{names_id, stem, stem_of}
+use Rattle.mail_store.specs.declared.file.flat_file.FlatFile.{Ghosts as FileGhosts}
+use Rattle.fetch_rules.specs.Record.{Row, is_delivered}
+use Rattle.fetch_rules.specs.RecordGrowth.{OneRecord}
+use Rattle.fetch_session.specs.Record.{KeepsRows}
+use Rattle.std.specs.List.{list_any}
+use Rattle.std.proofs.lemmas.Bool.{both_ways, or_cases}
 use Rattle.mail_store.specs.Maildir.{File, name_in, names_of}
 use Rattle.mail_store.specs.declared.maildir.disk.MaildirDisk.{Ghosts as DiskGhosts}
 use Rattle.run_law.specs.Accounts.{copies}
 use Rattle.fetch_runs.specs.Headline.{Headline, IsLastStored, account_of, contents_of}
-use Rattle.fetch_runs.specs.Power.{IsSure, PartsAreLosses}
+use Rattle.fetch_runs.specs.Power.{AllMayBeOnDisk, IsSure, LossesAreEvents}
 use Rattle.fetch_runs.proofs.Takings.{less_than_one, part_copies, some_held}
 
 -- the name of a file of these is among theirs
@@ -38,19 +44,46 @@ named_some front (f ∷ fs) name same (suc k, below, is) = by (bytes_eq front (s
         let more : copies (f ∷ fs) front ≡ copies fs front = rw e refl in
         some (sym more ∙ none)
 
-pub parts_are_losses : Headline → {D : Type 0} (disk : DiskGhosts D) → PartsAreLosses disk
-parts_are_losses law disk device world state left file sound is sure may record_is = record {
-  record_is = record_is;
+-- a file of a held id
+pub held_file : (account id : List ℕ) (fs : List File) → list_any (λ (f : File). names_id account id f.name) fs ≡ true → (f : File) × Contains fs f × (names_id account id f.name ≡ true)
+held_file account id [] held = absurd (both_ways false refl held)
+held_file account id (f ∷ fs) held = elim (or_cases (names_id account id f.name) (list_any (λ (g : File). names_id account id g.name) fs) held) [
+  | inl here ↦ (f, (zero, omega arith, refl), here)
+  | inr there ↦
+      let more = held_file account id fs there in
+      (more.0, (suc more.1.0, omega (arith, more.1.1), more.1.2), more.2)
+]
+
+-- a file of this name holds the id
+held_named : (account id : List ℕ) (fs : List File) (name : List ℕ) → Contains (names_of fs) name → names_id account id name ≡ true → list_any (λ (g : File). names_id account id g.name) fs ≡ true
+held_named account id [] name (k, below, is) named = absurd (omega (arith, below))
+held_named account id (x ∷ fs) name (zero, below, is) named = ap (λ b. b || list_any (λ (g : File). names_id account id g.name) fs) (ap (names_id account id) is ∙ named)
+held_named account id (x ∷ fs) name (suc k, below, is) named = or_second (names_id account id x.name) (list_any (λ (g : File). names_id account id g.name) fs) (held_named account id fs name (k, omega (arith, below), is) named)
+  where
+    or_second : (a b : Bool) → b ≡ true → (a || b) ≡ true
+    or_second a b is = grind (arith, is)
+
+pub losses_are_events : Headline → {D F : Type 0} (disk : DiskGhosts D) (files : FileGhosts F) → LossesAreEvents disk files
+losses_are_events law disk files device f world state left file now sound is can may may_file keeps = record {
+  record_is = λ rows keeps_rows. (
+    now,
+    keeps,
+    λ id d. elim (can.shows file.content now rows may_file keeps keeps_rows id d) [
+      | inl was ↦ inl was
+      | inr (legal, inl one) ↦ inr (legal, inl (held_named (account_of world) id left one.one.name (named_left id one one.sure) one.named))
+      | inr (legal, inr taken) ↦ inr (legal, inr taken)
+    ],
+  );
   mail = λ id legal. by id legal ((law world state [] sound is tt).0.once id legal) (part_copies (stem_of (account_of world) id) state.kept.maildir.files left may.part);
 }
   where
-    some_left : (id : List ℕ) → (one : IsSure disk device world state.kept.maildir.files id) → disk.stays device one.one.name ⊎ disk.outlives device one.one → copies left (stem_of (account_of world) id) ≢ []
-    some_left id one (inl stays) = named_some (stem_of (account_of world) id) left one.one.name one.named (may.named one.one.name (named_in state.kept.maildir.files one.one one.there) stays)
-    some_left id one (inr outlives) = named_some (stem_of (account_of world) id) left one.one.name one.named (named_in left one.one (may.whole one.one one.there outlives))
+    named_left : (id : List ℕ) → (one : IsSure disk device world state.kept.maildir.files id) → disk.stays device one.one.name ⊎ disk.outlives device one.one → Contains (names_of left) one.one.name
+    named_left id one (inl stays) = may.named one.one.name (named_in state.kept.maildir.files one.one one.there) stays
+    named_left id one (inr outlives) = named_in left one.one (may.whole one.one one.there outlives)
 
     may_go : (id : List ℕ) → copies left (stem_of (account_of world) id) ≡ [] → IsSure disk device world state.kept.maildir.files id ⊎ (has_id state.taken id ≡ true) ⊎ IsLastStored world state id
         → (has_id state.taken id ≡ true) ⊎ IsLastStored world state id
-    may_go id none (inl one) = absurd (some_left id one one.sure none)
+    may_go id none (inl one) = absurd (named_some (stem_of (account_of world) id) left one.one.name one.named (named_left id one one.sure) none)
     may_go id none (inr may') = may'
 
     by : (id : List ℕ) → is_legal_id id ≡ true → length (contents_of world state.kept id) ≤ 1
@@ -60,4 +93,14 @@ parts_are_losses law disk device world state left file sound is sure may record_
     by id legal once (inl same) = inl same
     by id legal once (inr less) =
         let parts = less_than_one (copies left (stem_of (account_of world) id)) (contents_of world state.kept id) less once in
-        inr (parts.0, may_go id parts.0 (sure id legal (some_held (account_of world) id state.kept.maildir.files parts.1)))
+        inr (parts.0, may_go id parts.0 (can.stay id legal (some_held (account_of world) id state.kept.maildir.files parts.1)))
+
+pub all_on_disk : OneRecord → {D F : Type 0} (disk : DiskGhosts D) (files : FileGhosts F) → AllMayBeOnDisk disk files
+all_on_disk one disk files device f world state stays same = record {
+  stay = λ id legal held.
+      let file = held_file (account_of world) id state.kept.maildir.files held in
+      inl (record { one = file.0; there = file.1; named = file.2; sure = inl (stays file.0.name (named_in state.kept.maildir.files file.0 file.1)) });
+  shows = λ left now rows may keeps_now keeps id d.
+      let there = subst (λ (c : Option (List ℕ)). KeepsRows c now) (same left may) keeps_now in
+      inl (ap (λ (r : List Row). is_delivered r id) (one state.kept.file.content rows now keeps.0 there.0 keeps.1 there.1).0 ∙ d);
+}

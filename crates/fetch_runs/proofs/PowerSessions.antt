@@ -1,42 +1,50 @@
 -- What a loss of power may leave after a session is an event of a run.
 use Rattle.std.proofs.Common.{◌≡◌, ◌⊎◌, inl, inr, ◌≤◌, ℕ, zero, suc, List, [], ◌∷◌, ◌++◌, map, Bool, true, false, ◌&&◌, ◌||◌, length, length-append, Option, Some, None, Result, Ok, Err, refl, sym, ap, subst, ◌∙◌, arith}
-use Rattle.std.specs.Prelude.{bytes_eq, Contains}
+use Rattle.std.specs.Prelude.{All, bytes_eq, Contains}
 use Rattle.std.specs.List.{AllByRecursion, list_any}
 use Rattle.std.proofs.lemmas.Bool.{both_ways, false_from_ne_true, or_cases}
 use Rattle.std.proofs.lemmas.List.{append-nil, append_cancel_left, map-append}
-use Rattle.std.proofs.lemmas.List.Elements.{All-nil, filter-append}
+use Rattle.std.proofs.lemmas.List.Elements.{filter-append, recursion_from_All}
+use Rattle.std.proofs.lemmas.List.Concat.{flat_map-append}
+use Rattle.std.proofs.lemmas.List.Folds.{list_any-append}
 use Rattle.std.proofs.lemmas.Slice.Eq.{bytes_eq-Decides}
-use Rattle.fetch_rules.specs.Record.{Row, has_row, is_delivered, marked, marked_all, merged, none_open}
+use Rattle.fetch_rules.specs.Record.{Row, has_row, is_delivered, marked, marked_all, none_open}
+use Rattle.fetch_rules.specs.Plan.{IsQuiet, planned}
+use Rattle.fetch_rules.specs.declared.steps.Step.{Step}
 use Rattle.fetch_session.specs.Account.{digits_of}
-use Rattle.fetch_session.specs.Lasting.{AreLeft, CarriesForGood, Lasts, Leaves, ProceedsForGood}
+use Rattle.fetch_session.specs.Lasting.{AreLeft, AreSure, CarriesForGood, IsUntouched, Lasts, Leaves, ProceedsForGood}
 use Rattle.fetch_session.specs.Laws.{LastingIsASession, SteadyFilesKeep, UnsavedFilesKeep}
 use Rattle.fetch_session.specs.Plan.{Carried, tasks_ahead}
 use Rattle.fetch_session.specs.Record.{KeepsRows}
 use Rattle.fetch_session.specs.Scene.{FileNotSaved, NoFile, Scene, Stops, scene}
-use Rattle.fetch_session.specs.Session.{Kept, LeavesLink, Session, keeps_files, kept, outcome_of}
+use Rattle.fetch_session.specs.Session.{Keeping, Kept, LeavesLink, Session, keeps_files, kept, outcome_of}
 use Rattle.fetch_session.specs.Report.{Reports}
 use Rattle.fetch_session.specs.Store.{RefusesText}
-use Rattle.fetch_session.specs.Target.{AsFiles, Stores, in_maildir}
-use Rattle.fetch_session.specs.Task.{Task, file_from, files_of, ids_in, ids_of, stores}
+use Rattle.fetch_session.specs.Target.{AsFiles, Stores, flags_in, in_maildir}
+use Rattle.fetch_session.specs.Task.{Done, Task, deleting, fetching, file_from, files_in, files_of, ids_ahead, ids_in, ids_of, says, stores, tasks_of, tasks_planned}
 use Rattle.fetch_session.specs.declared.account.Store.TheVariants.{Maildir as InMaildir}
 use Rattle.fetch_session.specs.declared.fault.Cut.{Cut}
 use Rattle.fetch_session.specs.declared.report.ReportLine.{ReportLine}
 use Rattle.fetch_session.specs.declared.report.Skips.{Skips}
 use Rattle.mail_store.specs.declared.file.flat_file.FlatFile.{Ghosts as FileGhosts}
 use Rattle.mail_store.specs.declared.maildir.disk.MaildirDisk.{Ghosts as DiskGhosts}
-use Rattle.mail_store.specs.FileName.{IsAccountText, NamesAreBases, NamesHaveStems, StemsDiffer, account_text, names_id, sized_file, stem, stem_of}
+use Rattle.mail_store.specs.FileName.{IsAccountText, NamesAreBases, NamesHaveStems, StemsDiffer, account_text, is_held, names_id, sized_file, stem, stem_of}
 use Rattle.mail_store.specs.FlatFile.{Stored}
-use Rattle.mail_store.specs.Maildir.{File, Maildir, counted, dropped, names_of, with_files}
-use Rattle.mail_terms.specs.Listing.{Item, has_item}
+use Rattle.mail_store.specs.Maildir.{File, Maildir, counted, dropped, names_of}
+use Rattle.mail_terms.specs.Listing.{Item}
 use Rattle.mail_terms.specs.UniqueId.{has_id, is_legal_id}
 use Rattle.pop3_wire.specs.Place.{Place, at}
 use Rattle.rc_file.specs.declared.settings.Settings.{Settings}
+use Rattle.pop3_client.specs.Turns.{quit}
+use Rattle.pop3_wire.specs.World.{Message}
 use Rattle.run_law.specs.Accounts.{copies}
+use Rattle.run_law.specs.Mails.{messages_after, selected}
 use Rattle.run_law.specs.Power.{OneMoreIsLast}
-use Rattle.fetch_runs.specs.Headline.{World, State, Occasion, Fetched, PowerLost, IsSession, IsSound, IsKept, IsFetched, IsLastStored, IsRun, ShowsWhatIsLeft, Headline, account_of, after_event, frame_of, situation}
-use Rattle.fetch_runs.specs.Power.{AllButLastStay, CameToWork, HadWork, HasWork, IsAtWork, IsSure, MayLeave, SessionsAndPower}
-use Rattle.fetch_runs.proofs.HeadlineLemmas.{same_digits, sound_frame}
-use Rattle.fetch_runs.proofs.PowerLosses.{named_in, parts_are_losses}
+use Rattle.fetch_runs.specs.Headline.{World, State, Occasion, Fetched, IsNeither, IsRecorded, IsSession, IsSound, IsKept, IsLastStored, Headline, account_of, after_event, frame_of, situation}
+use Rattle.fetch_runs.specs.Power.{AllButLastStay, CanLosePower, IsSessionOf, IsSure, PreparedAny, SessionsAndPower, ShowsSure, WasReady}
+use Rattle.fetch_runs.proofs.HeadlineLemmas.{Laws, same_digits, sound_frame, vanished_recorded}
+use Rattle.fetch_runs.proofs.TalkCommands.{all_weaker}
+use Rattle.fetch_runs.proofs.PowerLosses.{held_file, named_in}
 use Rattle.fetch_runs.proofs.PowerRecord.{IsLegalOr, IsOneOf, RecordLaws, left_stands}
 
 -- the laws that are used
@@ -49,8 +57,7 @@ pub record PowerLaws : Type 0 where
   pub digits : (server : List ℕ) (port : ℕ) (username : List ℕ) → IsAccountText (account_text server port username)
   pub steady : SteadyFilesKeep
   pub unsaved : UnsavedFilesKeep
-  pub rows : (rows : List Row) (uid other : List ℕ) → has_row (marked rows uid) other ≡ has_row rows other
-  pub listed : (rows : List Row) (listing : List Item) (held : List Bool) (now : ℕ) (uid : List ℕ) → has_row (merged rows listing held now) uid ≡ has_row rows uid || has_item listing uid
+  pub all : Laws
 
 pub named_file : NamesHaveStems → NamesAreBases → (account uid text : List ℕ) → IsAccountText account → names_id account uid (sized_file (stem_of account uid) text).name ≡ true
 named_file stems bases account uid text is =
@@ -76,24 +83,6 @@ last_there : {A : Type 0} (xs : List A) (x : A) → Contains (xs ++ x ∷ []) x
 last_there [] x = (zero, omega arith, refl)
 last_there (y ∷ xs) x = let more = last_there xs x in (suc more.0, omega (arith, more.1), more.2)
 
--- a file of a held id
-held_file : (account id : List ℕ) (fs : List File) → list_any (λ (f : File). names_id account id f.name) fs ≡ true → (f : File) × Contains fs f × (names_id account id f.name ≡ true)
-held_file account id [] held = absurd (both_ways false refl held)
-held_file account id (f ∷ fs) held = elim (or_cases (names_id account id f.name) (list_any (λ (g : File). names_id account id g.name) fs) held) [
-  | inl here ↦ (f, (zero, omega arith, refl), here)
-  | inr there ↦
-      let more = held_file account id fs there in
-      (more.0, (suc more.1.0, omega (arith, more.1.1), more.1.2), more.2)
-]
-
-held_if : (account id : List ℕ) (fs : List File) (f : File) → Contains fs f → names_id account id f.name ≡ true → list_any (λ (g : File). names_id account id g.name) fs ≡ true
-held_if account id [] f (k, below, is) named = absurd (omega (arith, below))
-held_if account id (x ∷ fs) f (zero, below, is) named = ap (λ b. b || list_any (λ (g : File). names_id account id g.name) fs) (ap (λ (g : File). names_id account id g.name) is ∙ named)
-held_if account id (x ∷ fs) f (suc k, below, is) named = or_second (names_id account id x.name) (list_any (λ (g : File). names_id account id g.name) fs) (held_if account id fs f (k, omega (arith, below), is) named)
-  where
-    or_second : (a b : Bool) → b ≡ true → (a || b) ≡ true
-    or_second a b is = grind (arith, is)
-
 copies_both : (fs gs : List File) (front : List ℕ) → copies (fs ++ gs) front ≡ copies fs front ++ copies gs front
 copies_both fs gs front = ap (λ (l : List File). map (λ (f : File). f.content) l) (filter-append (λ (f : File). bytes_eq front (stem f.name)) fs gs) ∙ map-append (λ (f : File). f.content) _ _
 
@@ -108,21 +97,36 @@ no_more xs ys x same more =
     let c = length-append xs (x ∷ []) in
     absurd (omega (arith, a, b, c))
 
-rows_stay : PowerLaws → (rows : List Row) (ids : List (List ℕ)) (uid : List ℕ) → has_row rows uid ≡ true → has_row (marked_all rows ids) uid ≡ true
-rows_stay laws rows [] uid has = has
-rows_stay laws rows (id ∷ ids) uid has = rows_stay laws (marked rows id) ids uid (laws.rows rows id uid ∙ has)
+-- tasks that mark nothing store nothing
+none_both : {A : Type 0} (xs ys : List A) → xs ++ ys ≡ [] → (xs ≡ []) × (ys ≡ [])
+none_both [] ys none = (refl, none)
+none_both (x ∷ xs) ys none = absurd cc
 
--- work is work on a listed message
-one_listed : (settings : Settings) (items : List Item) (now : ℕ) (rows : List Row) → HasWork settings items now rows → (uid : List ℕ) × (has_item items uid ≡ true)
-one_listed settings [] now rows work = absurd (work (All-nil _))
-one_listed settings (item ∷ items) now rows work = (item.uid, ap (λ b. b || has_item items item.uid) ((bytes_eq-Decides item.uid item.uid).1 refl))
+no_files : (account : List ℕ) (dones : List Done) → ids_ahead (tasks_of dones) ≡ [] → files_of account dones ≡ []
+no_files account [] none = refl
+no_files account (d ∷ dones) none =
+    let parts = none_both (ids_in d.task) (ids_ahead (tasks_of dones)) none in
+    ap (λ (l : List File). l ++ files_of account dones) (by d.task parts.0) ∙ no_files account dones parts.1
+  where
+    by : (task : Task) → ids_in task ≡ [] → files_in account task d.replies ≡ []
+    by (stores number uid) never = absurd cc
+    by other none = refl
 
-content_there : (content : Option (List ℕ)) (rows : List Row) (uid : List ℕ) → has_row rows uid ≡ true → KeepsRows content rows → (bytes : List ℕ) × (content ≡ Some bytes)
-content_there None rows uid has (intent, none) = absurd (both_ways false refl (sym (ap (λ (r : List Row). has_row r uid) none.0) ∙ has))
-content_there (Some bytes) rows uid has keeps = (bytes, refl)
+quiet_ids : (steps : List Step) (items : List Item) (held : List Bool) → AllByRecursion IsQuiet steps → ids_ahead (tasks_planned steps items held) ≡ []
+quiet_ids [] items held quiet = refl
+quiet_ids (s ∷ ss) [] held quiet = refl
+quiet_ids (s ∷ ss) (i ∷ is) [] quiet = refl
+quiet_ids (s ∷ ss) (i ∷ is) (h ∷ hs) quiet =
+    flat_map-append ids_in (fetching s.retrieve h s.number i.uid i.size ++ deleting s.delete s.number) (tasks_planned ss is hs)
+    ∙ ap (λ (l : List (List ℕ)). l ++ ids_ahead (tasks_planned ss is hs)) (by s.retrieve s.delete quiet.0.0 quiet.0.1) ∙ quiet_ids ss is hs quiet.1
+  where
+    by : (retrieve delete : Bool) → retrieve ≡ false → delete ≡ false → ids_ahead (fetching retrieve h s.number i.uid i.size ++ deleting delete s.number) ≡ []
+    by true delete fetches deletes = absurd (cc fetches)
+    by false true fetches deletes = absurd (cc deletes)
+    by false false fetches deletes = refl
 
 module _ (laws : PowerLaws) {D F : Type 0} (disk : DiskGhosts D) (files : FileGhosts F) (world : World) (sound : IsSound world) (before : Kept) (gone taken : List (List ℕ))
-    (file : Stored) (device : D) (f : F) (file_is : file ≡ files.stored f) where
+    (file : Stored) (device : D) (f : F) (file_is : file ≡ files.stored f) (none_left : file.content ≡ None → (left : Option (List ℕ)) → files.may_leave f left → left ≡ None) where
   abbrev pub state_with : Maildir → State
   state_with maildir = record { kept = kept maildir file; gone = gone; taken = taken }
 
@@ -196,31 +200,39 @@ module _ (laws : PowerLaws) {D F : Type 0} (disk : DiskGhosts D) (files : FileGh
 
   -- ---- what the record shows
 
-  abbrev Lost : Maildir → List File → Stored → State
-  Lost maildir left rec = record { kept = kept (with_files left maildir) rec; gone = gone; taken = taken }
+  -- the ids that these rows deliver are delivered in those, or a file of them is sure
+  abbrev Shown : Maildir → List Row → List Row → List ℕ → Type 0
+  Shown maildir rows others id = is_delivered others id ≡ true → IsLegalOr rows id
+      → (is_delivered rows id ≡ true) ⊎ ((is_legal_id id ≡ true) × (IsSure disk device world maildir.files id ⊎ (has_id taken id ≡ true)))
 
-  -- the ids that these rows deliver are delivered in those, or held in what is left
-  abbrev Shown : List Row → List Row → State → List ℕ → Type 0
-  Shown rows others lost id = is_delivered others id ≡ true → IsLegalOr rows id → (is_delivered rows id ≡ true) ⊎ IsFetched world lost id
-
-  shown_by : (maildir : Maildir) (left : List File) (rec : Stored) (now rows was others : List Row) (uid : List ℕ) → Leaves files f (AreLeft was others) → has_row rows uid ≡ true
-      → KeepsRows file.content rows → files.may_leave f rec.content → KeepsRows rec.content now → ((id : List ℕ) → is_delivered was id ≡ true → is_delivered rows id ≡ true)
-      → ((id : List ℕ) → Shown was others (Lost maildir left rec) id) → ShowsWhatIsLeft world (state_with maildir) (kept (with_files left maildir) rec) rows
-  shown_by maildir left rec now rows was others uid leaves has keeps may keeps_now within more =
-      let there = content_there file.content rows uid has keeps in
-      (now, keeps_now, λ id d. by id d (left_stands laws.record_is was others now rec.content (leaves there.0 (ap (λ (s : Stored). s.content) (sym file_is) ∙ there.1) rec.content may) keeps_now))
+  shown_by : (maildir : Maildir) (was others : List Row) → Leaves files f (AreLeft was others)
+      → ((rows : List Row) → KeepsRows file.content rows → (id : List ℕ) → is_delivered was id ≡ true → is_delivered rows id ≡ true)
+      → ((id : List ℕ) → Shown maildir was others id) → ShowsSure disk files device f world (state_with maildir)
+  shown_by maildir was others leaves within more left now rows may keeps_now keeps id d = by file.content refl
     where
-      by : (id : List ℕ) → is_delivered now id ≡ true → IsOneOf was others now → (is_delivered rows id ≡ true) ⊎ IsFetched world (Lost maildir left rec) id
-      by id d (inl same) = inl (within id (subst (λ (r : List Row). is_delivered r id ≡ true) same d))
-      by id d (inr (same, legal)) = elim (more id (subst (λ (r : List Row). is_delivered r id ≡ true) same d) (legal id d)) [
-        | inl e ↦ inl (within id e)
-        | inr fetched ↦ inr fetched
+      Result : Type 0
+      Result = (is_delivered rows id ≡ true) ⊎ ((is_legal_id id ≡ true) × (IsSure disk device world maildir.files id ⊎ (has_id taken id ≡ true)))
+
+      nothing : left ≡ None → Result
+      nothing none =
+          let no_rows = (subst (λ (c : Option (List ℕ)). KeepsRows c now) none keeps_now).1.0 in
+          absurd (both_ways false refl (sym (ap (λ (r : List Row). is_delivered r id) no_rows) ∙ d))
+
+      stands : IsOneOf was others now → Result
+      stands (inl same) = inl (within rows keeps id (subst (λ (r : List Row). is_delivered r id ≡ true) same d))
+      stands (inr (same, legal)) = elim (more id (subst (λ (r : List Row). is_delivered r id ≡ true) same d) (legal id d)) [
+        | inl e ↦ inl (within rows keeps id e)
+        | inr sure ↦ inr sure
       ]
 
+      by : (content : Option (List ℕ)) → file.content ≡ content → Result
+      by None is = nothing (none_left is left may)
+      by (Some bytes) is = stands (left_stands laws.record_is was others now left (leaves bytes (ap (λ (s : Stored). s.content) (sym file_is) ∙ is) left may) keeps_now)
+
   -- one more is delivered, and its file stays
-  one_more : (maildir : Maildir) (left : List File) (rec : Stored) (was : List Row) (uid : List ℕ) (g : File) → Contains left g → names_id account uid g.name ≡ true
-      → (id : List ℕ) → Shown was (marked was uid) (Lost maildir left rec) id
-  one_more maildir left rec was uid g there named id d legal = elim (or_cases (is_delivered was id) (has_row was id && bytes_eq uid id) (sym (laws.record_is.marks was uid id) ∙ d)) [
+  one_more : (maildir : Maildir) (was : List Row) (uid : List ℕ) (g : File) → Contains maildir.files g → disk.outlives device g → names_id account uid g.name ≡ true
+      → (id : List ℕ) → Shown maildir was (marked was uid) id
+  one_more maildir was uid g there outlives named id d legal = elim (or_cases (is_delivered was id) (has_row was id && bytes_eq uid id) (sym (laws.record_is.marks was uid id) ∙ d)) [
     | inl e ↦ inl e
     | inr both ↦ by legal (subst (λ x. names_id account x g.name ≡ true) ((bytes_eq-Decides uid id).0 (second (has_row was id) (bytes_eq uid id) both)) named)
   ]
@@ -228,17 +240,16 @@ module _ (laws : PowerLaws) {D F : Type 0} (disk : DiskGhosts D) (files : FileGh
       second : (a b : Bool) → (a && b) ≡ true → b ≡ true
       second a b both = grind (arith, both)
 
-      by : IsLegalOr was id → names_id account id g.name ≡ true → (is_delivered was id ≡ true) ⊎ IsFetched world (Lost maildir left rec) id
+      by : IsLegalOr was id → names_id account id g.name ≡ true
+          → (is_delivered was id ≡ true) ⊎ ((is_legal_id id ≡ true) × (IsSure disk device world maildir.files id ⊎ (has_id taken id ≡ true)))
       by (inl e) its = inl e
-      by (inr l) its = inr (l, inl (held_if account id left g there its))
+      by (inr l) its = inr (l, inl (record { one = g; there = there; named = its; sure = inr outlives }))
 
   -- ---- of a session
 
-  -- what a loss of power may leave after a session that left this Maildir
+  -- after a session that left this Maildir
   abbrev pub Answer : Maildir → Type 0
-  Answer maildir = AllButLastStay disk device world (state_with maildir)
-      × ((left : List File) (rec : Stored) (now : List Row) → MayLeave disk device maildir.files left → files.may_leave f rec.content → KeepsRows rec.content now
-      → (rows : List Row) → KeepsRows file.content rows → ShowsWhatIsLeft world (state_with maildir) (kept (with_files left maildir) rec) rows)
+  Answer maildir = CanLosePower disk files device f world (state_with maildir)
 
   module _ (settings : Settings) (digits : List ℕ) (items : List Item) (now : ℕ) (place place' : Place) (lines : List ReportLine) (skipped : Skips) (rows' : List Row) (maildir : Maildir)
       (same_account : digits ≡ account) where
@@ -258,36 +269,59 @@ module _ (laws : PowerLaws) {D F : Type 0} (disk : DiskGhosts D) (files : FileGh
     same_rows : (content : Option (List ℕ)) (a b : List Row) → KeepsRows content a → KeepsRows content b → a ≡ b
     same_rows content a b x y = (laws.record_is.one content a b x.0 y.0 x.1 y.1).0
 
-    module _ {result : Result (Unit {0}) Cut} (c : CarriedTo result maildir) (work : HasWork settings items now c.mid.rows) where
-      listed_one : (uid : List ℕ) × (has_item items uid ≡ true)
-      listed_one = one_listed settings items now c.mid.rows work
-
-      row_there : has_row c.mid.rows listed_one.0 ≡ true
-      row_there = ap (λ (r : List Row). has_row r listed_one.0) c.prepared.rows ∙ laws.listed _ items _ now listed_one.0 ∙ or_second (has_row _ listed_one.0) (has_item items listed_one.0) listed_one.1
-        where
-          or_second : (a b : Bool) → b ≡ true → (a || b) ≡ true
-          or_second a b is = grind (arith, is)
-
-      start_files : c.mid.store.maildir.files ≡ before.maildir.files
-      start_files = ap (λ (s : Stores). s.maildir.files) c.prepared.settles
+    start_files : {result : Result (Unit {0}) Cut} (c : CarriedTo result maildir) → c.mid.store.maildir.files ≡ before.maildir.files
+    start_files c = ap (λ (s : Stores). s.maildir.files) c.prepared.settles
 
     -- it did all its tasks
-    answer_ok : (c : CarriedTo (Ok tt) maildir) → HasWork settings items now c.mid.rows → Stay
-        → Lasts disk files (AsFiles digits) _ c.mid (Ok tt) (end_with maildir) c.does (InMaildir device) f → Answer maildir
-    answer_ok c work stay lasts = (
-      all_but_last maildir (files_of digits c.does.dones) [] (came ∙ sym (append-nil (before.maildir.files ++ files_of digits c.does.dones))) stay lasts.texts tt,
-      λ left rec now may may_rec keeps_now rows keeps.
-          let rows_are = same_rows file.content rows rows' keeps (None, laws.steady file.content (none_open rows') (c.does.went.saved c.prepared.saved)) ∙ c.does.went.rows in
-          shown_by maildir left rec now rows (marked_all c.mid.rows (ids_of c.does.dones)) (marked_all c.mid.rows (ids_of c.does.dones)) (listed_one c work).0 lasts.left
-          (ap (λ (r : List Row). has_row r (listed_one c work).0) rows_are ∙ rows_stay laws c.mid.rows (ids_of c.does.dones) (listed_one c work).0 (row_there c work))
-          keeps may_rec keeps_now (λ id d. subst (λ (r : List Row). is_delivered r id ≡ true) (sym rows_are) d) (λ id d legal. inl d),
-    )
+    answer_ok : (c : CarriedTo (Ok tt) maildir) → Stay
+        → Lasts disk files (AsFiles digits) (tasks_ahead settings (AsFiles digits) items now (in_maildir before.maildir) c.mid.rows) c.mid (Ok tt) (end_with maildir) c.does (InMaildir device) f → Answer maildir
+    answer_ok c stay lasts = record {
+      stay = all_but_last maildir (files_of digits c.does.dones) [] (came ∙ sym (append-nil (before.maildir.files ++ files_of digits c.does.dones))) stay lasts.texts tt;
+      shows = shown_by maildir was was lasts.left
+          (λ rows keeps id d. subst (λ (r : List Row). is_delivered r id ≡ true)
+          (sym (same_rows file.content rows rows' keeps (None, laws.steady file.content (none_open rows') (c.does.went.saved c.prepared.saved)) ∙ c.does.went.rows)) d)
+          (λ id d legal. inl d);
+    }
       where
+        was : List Row
+        was = marked_all c.mid.rows (ids_of c.does.dones)
+
         came : maildir.files ≡ before.maildir.files ++ files_of digits c.does.dones
-        came = c.does.went.stored.came ∙ ap (λ (l : List File). l ++ files_of digits c.does.dones) (start_files c work)
+        came = c.does.went.stored.came ∙ ap (λ (l : List File). l ++ files_of digits c.does.dones) (start_files c)
+
+    -- it had nothing to fetch or to delete
+    quiet_tasks : {result : Result (Unit {0}) Cut} (c : CarriedTo result maildir) → All IsQuiet (planned settings c.mid.rows items now)
+        → ids_ahead (tasks_ahead settings (AsFiles digits) items now (in_maildir before.maildir) c.mid.rows) ≡ []
+    quiet_tasks c quiet =
+        let steps = planned settings c.mid.rows items now in
+        let held = flags_in (AsFiles digits) (in_maildir before.maildir) items in
+        flat_map-append ids_in (tasks_planned steps items held) (says quit ∷ []) ∙ append-nil (ids_ahead (tasks_planned steps items held))
+        ∙ quiet_ids steps items held (recursion_from_All IsQuiet steps quiet)
+
+    quiet_ok : (c : CarriedTo (Ok tt) maildir) → All IsQuiet (planned settings c.mid.rows items now) → maildir.files ≡ before.maildir.files
+    quiet_ok c quiet = c.does.went.stored.came ∙ ap (λ (l : List File). c.mid.store.maildir.files ++ l) (no_files digits c.does.dones (ap ids_ahead (sym c.does.all) ∙ quiet_tasks c quiet))
+        ∙ append-nil c.mid.store.maildir.files ∙ start_files c
+
+    quiet_cut : {cut : Cut} (c : CarriedTo (Err cut) maildir) → All IsQuiet (planned settings c.mid.rows items now) → maildir.files ≡ before.maildir.files
+    quiet_cut {cut} c quiet = by c.does.stops ∙ c.does.went.stored.came ∙ ap (λ (l : List File). c.mid.store.maildir.files ++ l) (no_files digits c.does.dones parts.0)
+        ∙ append-nil c.mid.store.maildir.files ∙ start_files c
+      where
+        parts : (ids_ahead (tasks_of c.does.dones) ≡ []) × (ids_ahead (c.does.next ∷ c.does.later) ≡ [])
+        parts = none_both (ids_ahead (tasks_of c.does.dones)) (ids_ahead (c.does.next ∷ c.does.later))
+            (sym (flat_map-append ids_in (tasks_of c.does.dones) (c.does.next ∷ c.does.later)) ∙ ap ids_ahead (sym c.does.split) ∙ quiet_tasks c quiet)
+
+        stores_none : (number : ℕ) (uid : List ℕ) → c.does.next ≡ stores number uid → ⊥
+        stores_none number uid is =
+            let none : uid ∷ [] ≡ [] = subst (λ (t : Task). ids_in t ≡ []) is (none_both (ids_in c.does.next) (ids_ahead c.does.later) parts.1).0 in
+            absurd cc
+
+        by : Stops (AsFiles digits) c.does.next c.does.mid cut (end_with maildir) → maildir.files ≡ c.does.mid.store.maildir.files
+        by (inl broken) = ap (λ (s : Stores). s.maildir.files) broken.store
+        by (inr (inl n)) = absurd (stores_none n.number n.uid n.is)
+        by (inr (inr u)) = absurd (stores_none u.number u.uid u.is)
 
     -- it was cut
-    module _ {cut : Cut} (c : CarriedTo (Err cut) maildir) (work : HasWork settings items now c.mid.rows) (stay : Stay)
+    module _ {cut : Cut} (c : CarriedTo (Err cut) maildir) (stay : Stay)
         (lasts : Lasts disk files (AsFiles digits) (tasks_ahead settings (AsFiles digits) items now (in_maildir before.maildir) c.mid.rows) c.mid (Err cut) (end_with maildir) c.does (InMaildir device) f)
         (alike : Alike (Err cut)) where
       abbrev mid : Scene
@@ -296,18 +330,11 @@ module _ (laws : PowerLaws) {D F : Type 0} (disk : DiskGhosts D) (files : FileGh
       abbrev was : List Row
       was = marked_all c.mid.rows (ids_of c.does.dones)
 
-      abbrev uid_there : List ℕ
-      uid_there = (listed_one c work).0
-
       abbrev Records : Type 0
-      Records = (left : List File) (rec : Stored) (now : List Row) → MayLeave disk device maildir.files left → files.may_leave f rec.content → KeepsRows rec.content now
-          → (rows : List Row) → KeepsRows file.content rows → ShowsWhatIsLeft world (state_with maildir) (kept (with_files left maildir) rec) rows
+      Records = ShowsSure disk files device f world (state_with maildir)
 
       base : mid.store.maildir.files ≡ before.maildir.files ++ files_of digits c.does.dones
-      base = c.does.went.stored.came ∙ ap (λ (l : List File). l ++ files_of digits c.does.dones) (start_files c work)
-
-      was_there : has_row was uid_there ≡ true
-      was_there = rows_stay laws c.mid.rows (ids_of c.does.dones) uid_there (row_there c work)
+      base = c.does.went.stored.came ∙ ap (λ (l : List File). l ++ files_of digits c.does.dones) (start_files c)
 
       -- the record's file is as it was after the tasks that were done
       same_file : file ≡ mid.file → (rows : List Row) → KeepsRows file.content rows → rows ≡ was
@@ -316,22 +343,20 @@ module _ (laws : PowerLaws) {D F : Type 0} (disk : DiskGhosts D) (files : FileGh
 
       -- what was delivered then is delivered in these rows
       abbrev Has : List Row → Type 0
-      Has rows = (has_row rows uid_there ≡ true) × ((id : List ℕ) → is_delivered was id ≡ true → is_delivered rows id ≡ true)
+      Has rows = (id : List ℕ) → is_delivered was id ≡ true → is_delivered rows id ≡ true
 
       has_was : (rows : List Row) → rows ≡ was → Has rows
-      has_was rows are = (ap (λ (r : List Row). has_row r uid_there) are ∙ was_there, λ id d. subst (λ (r : List Row). is_delivered r id ≡ true) (sym are) d)
+      has_was rows are = λ id d. subst (λ (r : List Row). is_delivered r id ≡ true) (sym are) d
 
       unmarked : Leaves files f (AreLeft mid.rows mid.rows) → file ≡ mid.file → Records
-      unmarked leaves same left rec now may may_rec keeps_now rows keeps =
-          let has = has_was rows (same_file same rows keeps) in
-          shown_by maildir left rec now rows was was uid_there (subst (λ (r : List Row). Leaves files f (AreLeft r r)) c.does.went.rows leaves) has.0 keeps may_rec keeps_now has.1 (λ id d legal. inl d)
+      unmarked leaves same = shown_by maildir was was (subst (λ (r : List Row). Leaves files f (AreLeft r r)) c.does.went.rows leaves)
+          (λ rows keeps. has_was rows (same_file same rows keeps)) (λ id d legal. inl d)
 
       marked_one : (number : ℕ) (uid : List ℕ) → c.does.next ≡ stores number uid → (g : File) → maildir.files ≡ mid.store.maildir.files ++ g ∷ [] → names_id account uid g.name ≡ true
           → disk.outlives device g → ((rows : List Row) → KeepsRows file.content rows → Has rows) → Records
-      marked_one number uid is g came named outlives within left rec now may may_rec keeps_now rows keeps =
-          shown_by maildir left rec now rows was (marked was uid) uid_there (subst (λ (t : Task). Leaves files f (AreLeft was (marked_all was (ids_in t)))) is lasts.0.left)
-          (within rows keeps).0 keeps may_rec keeps_now (within rows keeps).1
-          (one_more maildir left rec was uid g (may.whole g (subst (λ (l : List File). Contains l g) (sym came) (last_there mid.store.maildir.files g)) outlives) named)
+      marked_one number uid is g came named outlives within =
+          shown_by maildir was (marked was uid) (subst (λ (t : Task). Leaves files f (AreLeft was (marked_all was (ids_in t)))) is lasts.0.left) within
+          (one_more maildir was uid g (subst (λ (l : List File). Contains l g) (sym came) (last_there mid.store.maildir.files g)) outlives named)
 
       bare : maildir.files ≡ mid.store.maildir.files → AllButLastStay disk device world (state_with maildir)
       bare same = all_but_last maildir (files_of digits c.does.dones) [] (same ∙ base ∙ sym (append-nil (before.maildir.files ++ files_of digits c.does.dones))) stay lasts.0.texts tt
@@ -353,13 +378,13 @@ module _ (laws : PowerLaws) {D F : Type 0} (disk : DiskGhosts D) (files : FileGh
 
       -- nothing came
       nothing : maildir.files ≡ mid.store.maildir.files → file ≡ mid.file → Answer maildir
-      nothing same same_record = (
-        bare same,
-        elim lasts.1 [
+      nothing same same_record = record {
+        stay = bare same;
+        shows = elim lasts.1 [
           | inl un ↦ unmarked un.0 same_record
           | inr (g, came, outlives) ↦ absurd (no_more mid.store.maildir.files maildir.files g same came)
-        ],
-      )
+        ];
+      }
 
       refused : (n : NoFile digits c.does.next mid (end_with maildir) cut) → Answer maildir
       refused n = by n.refuses
@@ -367,14 +392,14 @@ module _ (laws : PowerLaws) {D F : Type 0} (disk : DiskGhosts D) (files : FileGh
           by : RefusesText mid.store.maildir (stem_of digits n.uid) n.rest n.text cut.fault maildir → Answer maildir
           by (inl missing) = nothing (ap (λ (m : Maildir). m.files) missing.2) n.file
           by (inr (is, inl same)) = nothing (ap (λ (m : Maildir). m.files) same) n.file
-          by (inr (is, inr (done, there))) = (
-            extra (sized_file (stem_of digits n.uid) n.text) came (inr (λ id legal named.
-                may_go without maildir (sized_file (stem_of digits n.uid) n.text) (alike without shorter) (alike maildir c) came id legal named)),
-            elim lasts.1 [
+          by (inr (is, inr (done, there))) = record {
+            stay = extra (sized_file (stem_of digits n.uid) n.text) came (inr (λ id legal named.
+                may_go without maildir (sized_file (stem_of digits n.uid) n.text) (alike without shorter) (alike maildir c) came id legal named));
+            shows = elim lasts.1 [
               | inl un ↦ unmarked un.0 n.file
               | inr (g, came', outlives) ↦ marked_one n.number n.uid n.is g came' (named_one n.uid n.text g came came') outlives (λ rows keeps. has_was rows (same_file n.file rows keeps))
-            ],
-          )
+            ];
+          }
             where
               came : maildir.files ≡ mid.store.maildir.files ++ sized_file (stem_of digits n.uid) n.text ∷ []
               came = ap (λ (m : Maildir). m.files) there
@@ -414,17 +439,15 @@ module _ (laws : PowerLaws) {D F : Type 0} (disk : DiskGhosts D) (files : FileGh
       unsaved : (u : FileNotSaved digits c.does.next mid (end_with maildir) cut) → Answer maildir
       unsaved u = elim lasts.1 [
         | inl un ↦ absurd (no_more mid.store.maildir.files maildir.files (file_from digits u.uid u.reply) (un.1 u.none) u.stored.came)
-        | inr (g, came, outlives) ↦ (extra g came (inl outlives), marked_one u.number u.uid u.is g came (named_one u.uid _ g u.stored.came came) outlives within)
+        | inr (g, came, outlives) ↦ record { stay = extra g came (inl outlives); shows = marked_one u.number u.uid u.is g came (named_one u.uid _ g u.stored.came came) outlives within }
       ]
         where
           within : (rows : List Row) → KeepsRows file.content rows → Has rows
           within rows keeps = elim (laws.unsaved mid.file (none_open mid.rows) (none_open (marked mid.rows u.uid)) cut.fault file u.saves (c.does.went.saved c.prepared.saved)) [
             | inl old ↦ has_was rows (same_rows file.content rows mid.rows keeps (None, old) ∙ c.does.went.rows)
             | inr new ↦
-                let are : rows ≡ marked was u.uid = same_rows file.content rows (marked mid.rows u.uid) keeps (None, new) ∙ ap (λ (r : List Row). marked r u.uid) c.does.went.rows in (
-                  ap (λ (r : List Row). has_row r uid_there) are ∙ laws.rows was u.uid uid_there ∙ was_there,
-                  λ id d. subst (λ (r : List Row). is_delivered r id ≡ true) (sym are) (laws.record_is.marks was u.uid id ∙ ap (λ b. b || (has_row was id && bytes_eq u.uid id)) d),
-                )
+                let are : rows ≡ marked was u.uid = same_rows file.content rows (marked mid.rows u.uid) keeps (None, new) ∙ ap (λ (r : List Row). marked r u.uid) c.does.went.rows in
+                λ id d. subst (λ (r : List Row). is_delivered r id ≡ true) (sym are) (laws.record_is.marks was u.uid id ∙ ap (λ b. b || (has_row was id && bytes_eq u.uid id)) d)
           ]
 
       answer_cut : Answer maildir
@@ -437,8 +460,8 @@ module _ (laws : PowerLaws) {D F : Type 0} (disk : DiskGhosts D) (files : FileGh
 
 -- ---- the session as a whole
 
-module _ (laws : PowerLaws) {D F : Type 0} (disk : DiskGhosts D) (files : FileGhosts F) (lasting : LastingIsASession disk files) (world : World) (state : State) (occasion : Occasion) (was : F) (device : D) (f : F)
-    (sound : IsSound world) (is_kept : IsKept world state) (is : IsAtWork disk files world state occasion was device f) where
+module _ (laws : PowerLaws) {D F : Type 0} (disk : DiskGhosts D) (files : FileGhosts F) (lasting : LastingIsASession disk files) (world : World) (state : State) (occasion : Occasion) (was : D) (from : F) (device : D) (f : F)
+    (sound : IsSound world) (is_kept : IsKept world state) (is : IsSessionOf disk files world state occasion was from device f) (can : CanLosePower disk files was from world state) where
   abbrev gone_after : List (List ℕ)
   gone_after = state.gone ++ occasion.vanished
 
@@ -454,65 +477,103 @@ module _ (laws : PowerLaws) {D F : Type 0} (disk : DiskGhosts D) (files : FileGh
   is_session : (m : Maildir) → SessionTo m → IsSession world state (with_maildir m)
   is_session m s = record { settings = is.settings; session = s; served = is.served }
 
-  kept_after : (m : Maildir) → SessionTo m → IsKept world (state_with laws disk files world sound state.kept gone_after state.taken occasion.after.file device f is.file_is m)
+  kept_after : (m : Maildir) → SessionTo m → IsKept world (state_with laws disk files world sound state.kept gone_after state.taken occasion.after.file device f is.file_is is.none m)
   kept_after m s = (laws.headline world state (Fetched (with_maildir m) ∷ []) sound is_kept (is_session m s, tt)).1
 
-  this_session : SessionTo occasion.after.maildir
-  this_session = lasting (InMaildir device) (InMaildir device) was f occasion.settings (AsFiles digits_here) occasion.now occasion.link (keeps_files state.kept) occasion.report occasion.link' (keeps_files occasion.after) is.session
+  pub this_session : IsSession world state occasion
+  this_session = is_session occasion.after.maildir (lasting (InMaildir was) (InMaildir device) from f occasion.settings (AsFiles digits_here) occasion.now occasion.link (keeps_files state.kept) occasion.report occasion.link' (keeps_files occasion.after) is.session)
 
-  abbrev Answered : Type 0
-  Answered = Answer laws disk files world sound state.kept gone_after state.taken occasion.after.file device f is.file_is occasion.after.maildir
+  abbrev pub Answered : Type 0
+  Answered = CanLosePower disk files device f world (after_event state (Fetched occasion))
 
-  answered : Answered
-  answered = by is.session.result is.session.proceeds is.work is.session.leaves is.session.reports
+  -- nothing was written
+  module _ (same : occasion.after.maildir.files ≡ state.kept.maildir.files) (un : IsUntouched disk files (InMaildir was) (InMaildir device) from f) where
+    same_content : occasion.after.file.content ≡ state.kept.file.content
+    same_content = ap (λ (s : Stored). s.content) (is.file_is ∙ un.same ∙ sym is.from_is)
+
+    same_held : (id : List ℕ) → is_held (account_of world) occasion.after.maildir id ≡ is_held (account_of world) state.kept.maildir id
+    same_held id = ap (λ (l : List File). list_any (λ (g : File). names_id (account_of world) id g.name) l) same
+
+    sure_on : (id : List ℕ) → IsSure disk was world state.kept.maildir.files id → IsSure disk device world occasion.after.maildir.files id
+    sure_on id one = record {
+      one = one.one;
+      there = subst (λ (l : List File). Contains l one.one) (sym same) one.there;
+      named = one.named;
+      sure = elim one.sure [
+        | inl stays ↦ inl (un.mail.0 one.one.name stays)
+        | inr outlives ↦ inr (un.mail.1 one.one outlives)
+      ];
+    }
+
+    recorded_back : (id : List ℕ) → IsRecorded occasion.after id → IsRecorded state.kept id
+    recorded_back id r = (r.0, subst (λ (c : Option (List ℕ)). KeepsRows c r.0) same_content r.1, r.2)
+
+    go_on : (id : List ℕ) → (has_id state.taken id ≡ true) ⊎ IsLastStored world state id → (has_id state.taken id ≡ true) ⊎ IsLastStored world (after_event state (Fetched occasion)) id
+    go_on id (inl taken) = inl taken
+    go_on id (inr lastly) = inr (record {
+      unrecorded = λ r. lastly.unrecorded (recorded_back id r);
+      on_server = false_from_ne_true (has_id gone_after id) (λ e. elim (or_cases (has_id state.gone id) (has_id occasion.vanished id) (sym (list_any-append (bytes_eq id) state.gone occasion.vanished) ∙ e)) [
+        | inl gone ↦ both_ways (has_id state.gone id) lastly.on_server gone
+        | inr gone ↦ lastly.unrecorded (recorded_back id (vanished_recorded laws.all world state occasion sound is_kept.0 is_kept.1 is_kept.2 this_session id gone))
+      ]);
+      last = all_weaker (λ (m : Message). IsNeither world state m.uid) (λ (m : Message). IsNeither world (after_event state (Fetched occasion)) m.uid)
+          (messages_after id (selected world.max_size world.all)) (λ m not. (same_held m.uid ∙ not.0, not.1)) lastly.last;
+    })
+
+    still : Answered
+    still = record {
+      stay = λ id legal held. elim (can.stay id legal (sym (same_held id) ∙ held)) [
+        | inl one ↦ inl (sure_on id one)
+        | inr go ↦ inr (go_on id go)
+      ];
+      shows = λ left now rows may keeps_now keeps id d. elim (can.shows left now rows (un.no_more left may) keeps_now (subst (λ (c : Option (List ℕ)). KeepsRows c rows) same_content keeps) id d) [
+        | inl e ↦ inl e
+        | inr (legal, inl one) ↦ inr (legal, inl (sure_on id one))
+        | inr (legal, inr taken) ↦ inr (legal, inr taken)
+      ];
+    }
+
+  pub answered : Answered
+  answered = by is.session.result is.session.proceeds is.ready is.session.leaves is.session.reports
     where
-      safe : Unit {0} × files.is_sure was
+      safe : AreSure files (InMaildir was) from
       safe = (tt, is.sure)
 
-      -- nothing is quiet about it
-      busy : {P Quiet : Type 0} → (Quiet → ⊥) → Quiet ⊎ P → P
-      busy work (inl quiet) = absurd (work quiet)
-      busy work (inr p) = p
-
       by : (result : Result (Unit {0}) Cut)
-          → (proceeds : ProceedsForGood disk files (Unit {0} × files.is_sure was) occasion.settings (AsFiles digits_here) occasion.now (at occasion.link []) (keeps_files state.kept) result is.session.mid (keeps_files occasion.after) is.session.notes (InMaildir device) f)
-          → CameToWork disk files (Unit {0} × files.is_sure was) occasion.settings (AsFiles digits_here) occasion.now (at occasion.link []) (keeps_files state.kept) result is.session.mid (keeps_files occasion.after) is.session.notes (InMaildir device) f proceeds
+          → (proceeds : ProceedsForGood disk files (InMaildir was) from occasion.settings (AsFiles digits_here) occasion.now (at occasion.link []) (keeps_files state.kept) result is.session.mid (keeps_files occasion.after) is.session.notes (InMaildir device) f)
+          → PreparedAny disk files (InMaildir was) from occasion.settings (AsFiles digits_here) occasion.now (at occasion.link []) (keeps_files state.kept) result is.session.mid (keeps_files occasion.after) is.session.notes (InMaildir device) f proceeds
           → LeavesLink result is.session.mid occasion.link' → Reports (outcome_of result) is.session.notes.total is.session.notes.skipped is.session.notes.lines occasion.report → Answered
-      by (Ok done) dealt work leaves reports =
+      by (Ok done) dealt ready leaves reports =
           let c = dealt.carries.1 in
-          answer_ok laws disk files world sound state.kept gone_after state.taken occasion.after.file device f is.file_is _ _ _ _ _ _ _ _ _ occasion.after.maildir (same_digits world occasion.settings is.settings)
-          c.carried work (busy work (c.stay safe)) (busy work (c.lasts safe))
-      by (Err cut) (inl stopped) work leaves reports = absurd work
-      by (Err cut) (inr (inl wanting)) work leaves reports = absurd work
-      by (Err cut) (inr (inr dealt)) work leaves reports = of dealt.carries work
+          elim (c.lasts safe) [
+            | inl (quiet, un) ↦ still (quiet_ok laws disk files world sound state.kept gone_after state.taken occasion.after.file device f is.file_is is.none _ _ _ _ _ _ _ _ _ occasion.after.maildir (same_digits world occasion.settings is.settings) c.carried quiet) un
+            | inr (lasts, stay) ↦ answer_ok laws disk files world sound state.kept gone_after state.taken occasion.after.file device f is.file_is is.none _ _ _ _ _ _ _ _ _ occasion.after.maildir (same_digits world occasion.settings is.settings) c.carried stay lasts
+          ]
+      by (Err cut) (inl (stopped, un)) ready leaves reports = still (ap (λ (k : Keeping). k.store.maildir.files) stopped.same) un
+      by (Err cut) (inr (inl (wanting, un))) ready leaves reports = still (ap (λ (k : Keeping). k.store.maildir.files) wanting.same) un
+      by (Err cut) (inr (inr dealt)) ready leaves reports = of dealt.carries ready
         where
-          of : (carries : CarriesForGood disk files (Unit {0} × files.is_sure was) occasion.settings (AsFiles digits_here) dealt.items occasion.now dealt.mid (in_maildir state.kept.maildir) state.kept.file [] (Err cut) is.session.mid
+          of : (carries : CarriesForGood disk files (InMaildir was) from occasion.settings (AsFiles digits_here) dealt.items occasion.now dealt.mid (in_maildir state.kept.maildir) state.kept.file [] (Err cut) is.session.mid
               (in_maildir occasion.after.maildir) occasion.after.file is.session.notes.lines is.session.notes.skipped (InMaildir device) f)
-              → HadWork disk files (Unit {0} × files.is_sure was) occasion.settings (AsFiles digits_here) dealt.items occasion.now dealt.mid (in_maildir state.kept.maildir) state.kept.file [] cut is.session.mid
+              → WasReady disk files (InMaildir was) from occasion.settings (AsFiles digits_here) dealt.items occasion.now dealt.mid (in_maildir state.kept.maildir) state.kept.file [] cut is.session.mid
               (in_maildir occasion.after.maildir) occasion.after.file is.session.notes.lines is.session.notes.skipped (InMaildir device) f carries → Answered
           of (rows, inl not) never = absurd never
-          of (rows, inr c) work = answer_cut laws disk files world sound state.kept gone_after state.taken occasion.after.file device f is.file_is _ _ _ _ _ _ _ _ _ occasion.after.maildir (same_digits world occasion.settings is.settings)
-              c.carried work (busy work (c.stay safe)) (busy work (c.lasts safe))
-              (λ m carried. kept_after m (record {
-                result = Err cut;
-                mid = is.session.mid;
-                notes = is.session.notes;
-                proceeds = inr (inr (record { items = dealt.items; mid = dealt.mid; enters = dealt.enters; total = dealt.total; carries = (rows, inr carried) }));
-                leaves = leaves;
-                reports = reports;
-              }))
-
-  pub is_a_run : (left : List File) (file : Stored) (now : List Row) → MayLeave disk device occasion.after.maildir.files left → files.may_leave f file.content → KeepsRows file.content now
-      → IsRun world state (Fetched occasion ∷ PowerLost (kept (with_files left occasion.after.maildir) file) ∷ [])
-  is_a_run left file now may may_file keeps = (
-    is_session occasion.after.maildir this_session,
-    (
-      parts_are_losses laws.headline disk device world (after_event state (Fetched occasion)) left file sound (kept_after occasion.after.maildir this_session) answered.0 may
-          (answered.1 left file now may may_file keeps),
-      tt,
-    ),
-  )
+          of (rows, inr c) ready = elim (c.lasts safe) [
+            | inl (quiet, un) ↦ still (quiet_cut laws disk files world sound state.kept gone_after state.taken occasion.after.file device f is.file_is is.none _ _ _ _ _ _ _ _ _ occasion.after.maildir (same_digits world occasion.settings is.settings) c.carried quiet) un
+            | inr (lasts, stay) ↦ answer_cut laws disk files world sound state.kept gone_after state.taken occasion.after.file device f is.file_is is.none _ _ _ _ _ _ _ _ _ occasion.after.maildir (same_digits world occasion.settings is.settings)
+                c.carried stay lasts
+                (λ m carried. kept_after m (record {
+                  result = Err cut;
+                  mid = is.session.mid;
+                  notes = is.session.notes;
+                  proceeds = inr (inr (record { items = dealt.items; mid = dealt.mid; enters = dealt.enters; total = dealt.total; carries = (rows, inr carried) }));
+                  leaves = leaves;
+                  reports = reports;
+                }))
+          ]
 
 pub sessions_and_power : PowerLaws → {D F : Type 0} (disk : DiskGhosts D) (files : FileGhosts F) → LastingIsASession disk files → SessionsAndPower disk files
-sessions_and_power laws disk files lasting world state occasion was device f left file now sound is_kept is may may_file keeps =
-    is_a_run laws disk files lasting world state occasion was device f sound is_kept is left file now may may_file keeps
+sessions_and_power laws disk files lasting world state occasion was from device f sound is_kept is can = (
+  this_session laws disk files lasting world state occasion was from device f sound is_kept is can,
+  answered laws disk files lasting world state occasion was from device f sound is_kept is can,
+)

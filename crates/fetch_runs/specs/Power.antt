@@ -1,8 +1,7 @@
 -- What a loss of power may leave after a session is an event of a run.
-use Rattle.std.specs.Prelude.{◌≡◌, ◌⊎◌, ℕ, true, List, [], ◌∷◌, ◌++◌, All, Result, Ok, Err, Contains}
+use Rattle.std.specs.Prelude.{◌≡◌, ◌⊎◌, ℕ, true, List, [], ◌++◌, Option, None, Result, Ok, Err, Contains}
 use Rattle.std.proofs.Common.{inl, inr}
-use Rattle.fetch_rules.specs.Plan.{IsQuiet, planned}
-use Rattle.fetch_rules.specs.Record.{Row}
+use Rattle.fetch_rules.specs.Record.{Row, is_delivered}
 use Rattle.fetch_session.specs.Account.{digits_of}
 use Rattle.fetch_session.specs.Lasting.{CarriesForGood, ProceedsForGood, SessionForGood}
 use Rattle.fetch_session.specs.Record.{KeepsRows}
@@ -20,11 +19,11 @@ use Rattle.mail_store.specs.FlatFile.{Stored}
 use Rattle.mail_store.specs.Maildir.{File, IsPart, names_of, with_files}
 use Rattle.mail_terms.specs.Listing.{Item}
 use Rattle.mail_terms.specs.UniqueId.{has_id, is_legal_id}
-use Rattle.pop3_wire.specs.Place.{Place}
+use Rattle.pop3_wire.specs.Place.{Place, at}
 use Rattle.rc_file.specs.declared.settings.Settings.{Settings}
 use Rattle.run_law.specs.Sessions.{Served}
-use Rattle.fetch_runs.specs.Headline.{World, State, Occasion, Fetched, PowerLost, AreSettings, IsSound, IsKept, IsLastStored}
-use Rattle.fetch_runs.specs.Headline.{IsPowerLost, IsRun, ShowsWhatIsLeft, account_of, maildrop_at}
+use Rattle.fetch_runs.specs.Headline.{World, State, Occasion, Fetched, AreSettings, IsSession, IsSound, IsKept, IsLastStored}
+use Rattle.fetch_runs.specs.Headline.{IsPowerLost, account_of, after_event, maildrop_at}
 
 -- what a loss of power may leave of the files that calls see: some of them, in order, each whole; among these one of each name
 -- that stays, and each file that outlives it
@@ -45,58 +44,72 @@ abbrev pub AllButLastStay : {D : Type 0} → DiskGhosts D → D → World → St
 AllButLastStay disk device world state = (id : List ℕ) → is_legal_id id ≡ true → is_held (account_of world) state.kept.maildir id ≡ true
     → IsSure disk device world state.kept.maildir.files id ⊎ (has_id state.taken id ≡ true) ⊎ IsLastStored world state id
 
--- a law: then a loss of power that leaves these files, and a record that shows no more than it may, is an event of a run
-abbrev pub PartsAreLosses : {D : Type 0} → DiskGhosts D → Type 0
-PartsAreLosses {D} disk = (device : D) (world : World) (state : State) (left : List File) (file : Stored) → IsSound world → IsKept world state
-    → AllButLastStay disk device world state → MayLeave disk device state.kept.maildir.files left
-    → ((rows : List Row) → KeepsRows state.kept.file.content rows
-    → ShowsWhatIsLeft world state (kept (with_files left state.kept.maildir) file) rows)
+-- what may be left of the record shows as delivered only what the record shows, what was taken away before, and what such a file holds
+abbrev pub ShowsSure : {D F : Type 0} → DiskGhosts D → FileGhosts F → D → F → World → State → Type 0
+ShowsSure disk files device f world state = (left : Option (List ℕ)) (now rows : List Row) → files.may_leave f left → KeepsRows left now
+    → KeepsRows state.kept.file.content rows → (id : List ℕ) → is_delivered now id ≡ true → (is_delivered rows id ≡ true)
+    ⊎ ((is_legal_id id ≡ true) × (IsSure disk device world state.kept.maildir.files id ⊎ (has_id state.taken id ≡ true)))
+
+-- the devices hold this state so that each loss of power is an event
+pub record CanLosePower {D F : Type 0} (disk : DiskGhosts D) (files : FileGhosts F) (device : D) (f : F) (world : World)
+    (state : State) : Type 0 where
+  pub stay : AllButLastStay disk device world state
+  pub shows : ShowsSure disk files device f world state
+
+-- a law: whatever a loss of power may leave of the Maildir and of the record's file, if that can be read, is an event then
+abbrev pub LossesAreEvents : {D F : Type 0} → DiskGhosts D → FileGhosts F → Type 0
+LossesAreEvents {D} {F} disk files = (device : D) (f : F) (world : World) (state : State) (left : List File) (file : Stored) (now : List Row)
+    → IsSound world → IsKept world state → CanLosePower disk files device f world state
+    → MayLeave disk device state.kept.maildir.files left → files.may_leave f file.content → KeepsRows file.content now
     → IsPowerLost world state (kept (with_files left state.kept.maildir) file)
 
--- ---- a session that came to its plan, and had something to fetch or to delete
+-- a law: so it is if the name of each file is on the disk, and nothing else may be left of the record's file than what calls see
+abbrev pub AllMayBeOnDisk : {D F : Type 0} → DiskGhosts D → FileGhosts F → Type 0
+AllMayBeOnDisk {D} {F} disk files = (device : D) (f : F) (world : World) (state : State)
+    → ((name : List ℕ) → Contains (names_of state.kept.maildir.files) name → disk.stays device name)
+    → ((left : Option (List ℕ)) → files.may_leave f left → left ≡ state.kept.file.content) → CanLosePower disk files device f world state
 
-abbrev pub HasWork : Settings → List Item → ℕ → List Row → Type 0
-HasWork settings items now rows = All IsQuiet (planned settings rows items now) → ⊥
+-- ---- a session that wasn't cut while it prepared the record
 
--- the same of one that was cut
-abbrev pub HadWork : {D F : Type 0} (disk : DiskGhosts D) (files : FileGhosts F) (safe : Type 0) (settings : Settings) (target : Target)
-    (items : List Item) (now : ℕ) (place : Place) (old : Stores) (file : Stored) (lines : List ReportLine) (cut : Cut) (place' : Place)
-    (new : Stores) (file' : Stored) (lines' : List ReportLine) (skipped : Skips) (store : Store D F) (f : F)
-    → CarriesForGood disk files safe settings target items now place old file lines (Err cut) place' new file' lines' skipped store f → Type 0
-HadWork disk files safe settings target items now place old file lines cut place' new file' lines' skipped store f (rows, inl not) = ⊥
-HadWork disk files safe settings target items now place old file lines cut place' new file' lines' skipped store f
-    (rows, inr is) = HasWork settings items now is.carried.mid.rows
+abbrev pub WasReady : {D F : Type 0} (disk : DiskGhosts D) (files : FileGhosts F) (was : Store D F) (from : F) (settings : Settings)
+    (target : Target) (items : List Item) (now : ℕ) (place : Place) (old : Stores) (file : Stored) (lines : List ReportLine) (cut : Cut)
+    (place' : Place) (new : Stores) (file' : Stored) (lines' : List ReportLine) (skipped : Skips) (store : Store D F) (f : F)
+    → CarriesForGood disk files was from settings target items now place old file lines (Err cut) place' new file' lines' skipped store f
+    → Type 0
+WasReady disk files was from settings target items now place old file lines cut place' new file' lines' skipped store f (rows, inl not) = ⊥
+WasReady disk files was from settings target items now place old file lines cut place' new file' lines' skipped store f (rows, inr is) = Unit {0}
 
-abbrev pub CameToWork : {D F : Type 0} (disk : DiskGhosts D) (files : FileGhosts F) (safe : Type 0) (settings : Settings) (target : Target)
-    (now : ℕ) (old : Place) (before : Keeping) (result : Result (Unit {0}) Cut) (new : Place) (after : Keeping) (notes : Noted)
-    (store : Store D F) (f : F) → ProceedsForGood disk files safe settings target now old before result new after notes store f → Type 0
-CameToWork disk files safe settings target now old before (Ok done) new after notes store f dealt =
-    HasWork settings dealt.items now dealt.carries.1.carried.mid.rows
-CameToWork disk files safe settings target now old before (Err cut) new after notes store f (inl stopped) = ⊥
-CameToWork disk files safe settings target now old before (Err cut) new after notes store f (inr (inl wanting)) = ⊥
-CameToWork disk files safe settings target now old before (Err cut) new after notes store f (inr (inr dealt)) =
-    HadWork disk files safe settings target dealt.items now dealt.mid before.store before.file [] cut new after.store after.file notes.lines
-    notes.skipped store f dealt.carries
+abbrev pub PreparedAny : {D F : Type 0} (disk : DiskGhosts D) (files : FileGhosts F) (was : Store D F) (from : F) (settings : Settings)
+    (target : Target) (now : ℕ) (old : Place) (before : Keeping) (result : Result (Unit {0}) Cut) (new : Place) (after : Keeping)
+    (notes : Noted) (store : Store D F) (f : F)
+    → ProceedsForGood disk files was from settings target now old before result new after notes store f → Type 0
+PreparedAny disk files was from settings target now old before (Ok done) new after notes store f dealt = Unit {0}
+PreparedAny disk files was from settings target now old before (Err cut) new after notes store f (inl stopped) = Unit {0}
+PreparedAny disk files was from settings target now old before (Err cut) new after notes store f (inr (inl wanting)) = Unit {0}
+PreparedAny disk files was from settings target now old before (Err cut) new after notes store f (inr (inr dealt)) =
+    WasReady disk files was from settings target dealt.items now dealt.mid before.store before.file [] cut new after.store after.file
+    notes.lines notes.skipped store f dealt.carries
 
--- a session of a run, as `session` says it of its devices: of the record's file no flush was refused before it, and it came to a plan
--- with something to fetch or to delete
-pub record IsAtWork {D F : Type 0} (disk : DiskGhosts D) (files : FileGhosts F) (world : World) (state : State) (occasion : Occasion)
-    (was : F) (device : D) (f : F) : Type 0 where
+-- a session of a run, as `session` says it of its devices: no flush of the record's file was refused before it, if there is no such file
+-- a loss of power leaves none, and it wasn't cut while it prepared the record
+pub record IsSessionOf {D F : Type 0} (disk : DiskGhosts D) (files : FileGhosts F) (world : World) (state : State) (occasion : Occasion)
+    (was : D) (from : F) (device : D) (f : F) : Type 0 where
   pub settings : AreSettings world occasion.settings
-  pub sure : files.is_sure was
-  pub session : SessionForGood disk files (Unit {0} × files.is_sure was) occasion.settings (AsFiles (digits_of occasion.settings))
-      occasion.now occasion.link (keeps_files state.kept) occasion.report occasion.link' (keeps_files occasion.after) (InMaildir device) f
-  pub work : CameToWork disk files (Unit {0} × files.is_sure was) occasion.settings (AsFiles (digits_of occasion.settings)) occasion.now
-      (Rattle.pop3_wire.specs.Place.at occasion.link []) (keeps_files state.kept) session.result session.mid (keeps_files occasion.after)
+  pub sure : files.is_sure from
+  pub session : SessionForGood disk files (InMaildir was) from occasion.settings (AsFiles (digits_of occasion.settings)) occasion.now
+      occasion.link (keeps_files state.kept) occasion.report occasion.link' (keeps_files occasion.after) (InMaildir device) f
+  pub ready : PreparedAny disk files (InMaildir was) from occasion.settings (AsFiles (digits_of occasion.settings)) occasion.now
+      (at occasion.link []) (keeps_files state.kept) session.result session.mid (keeps_files occasion.after)
       session.notes (InMaildir device) f session.proceeds
+  pub from_is : state.kept.file ≡ files.stored from
   pub file_is : occasion.after.file ≡ files.stored f
+  pub none : occasion.after.file.content ≡ None → (left : Option (List ℕ)) → files.may_leave f left → left ≡ None
   pub served : (sent got : List ℕ) → occasion.link'.sent ≡ occasion.link.sent ++ sent → occasion.link'.got ≡ occasion.link.got ++ got
       → Served (maildrop_at world state occasion) sent got occasion.vanished
 
--- a law: after such a session whatever a loss of power may leave of the Maildir and of the record's file, if that can be read, is an
--- event: so the headline holds over both
+-- a law: if each loss of power was an event before such a session, it is one after it, so it is one after any list of them
 abbrev pub SessionsAndPower : {D F : Type 0} → DiskGhosts D → FileGhosts F → Type 0
-SessionsAndPower {D} {F} disk files = (world : World) (state : State) (occasion : Occasion) (was : F) (device : D) (f : F) (left : List File)
-    (file : Stored) (now : List Row) → IsSound world → IsKept world state → IsAtWork disk files world state occasion was device f
-    → MayLeave disk device occasion.after.maildir.files left → files.may_leave f file.content → KeepsRows file.content now
-    → IsRun world state (Fetched occasion ∷ PowerLost (kept (with_files left occasion.after.maildir) file) ∷ [])
+SessionsAndPower {D} {F} disk files = (world : World) (state : State) (occasion : Occasion) (was : D) (from : F) (device : D) (f : F)
+    → IsSound world → IsKept world state → IsSessionOf disk files world state occasion was from device f
+    → CanLosePower disk files was from world state
+    → IsSession world state occasion × CanLosePower disk files device f world (after_event state (Fetched occasion))

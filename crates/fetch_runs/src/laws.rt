@@ -13,7 +13,7 @@ ghost use Rattle.fetch_runs.specs.MboxHeadline.{MboxStopsAreRuns, WritingsAreEve
 ghost use Rattle.fetch_runs.specs.MboxHonestSession.{MboxHonestSessions};
 ghost use Rattle.fetch_runs.specs.MboxSteps.{MboxSessionIsAStep};
 ghost use Rattle.fetch_runs.specs.MboxTexts.{MboxSessionsAddTexts};
-ghost use Rattle.fetch_runs.specs.Power.{PartsAreLosses, SessionsAndPower};
+ghost use Rattle.fetch_runs.specs.Power.{AllMayBeOnDisk, LossesAreEvents, SessionsAndPower};
 ghost use Rattle.fetch_runs.specs.Steps.{SessionIsAStep};
 
 use fetch_rules::{
@@ -146,33 +146,43 @@ pub fn recorded_stay_away()
     worlds_shrink();
 }
 
-/// A loss of power that leaves some of the files that calls see, in order, is part of a run, if a file
-/// of each message stays, but perhaps of the last that was stored or of what was taken away before, and
-/// the record shows no more than it may.
-pub fn parts_are_losses<D: MaildirDisk>()
-    ensures { PartsAreLosses D.MaildirDisk }
+/// A loss of power is part of a run, whatever it may leave of the Maildir and of a record's file that can
+/// be read, if a file of each message stays, but perhaps of the last that was stored or of what was
+/// taken away before, and no more may be left of the record than it shows and they hold.
+pub fn losses_are_events<D: MaildirDisk, F: FlatFile>()
+    ensures { LossesAreEvents D.MaildirDisk F.FlatFile }
 {
     headline();
 }
 
-/// After a session that had something to fetch or to delete, whatever cut it, a loss of power is part of
-/// a run: whatever it may leave of the Maildir and of the record's file, if that can be read.
+/// So it is if all is on the disk.
+pub fn all_on_disk<D: MaildirDisk, F: FlatFile>()
+    ensures { AllMayBeOnDisk D.MaildirDisk F.FlatFile }
+{
+    files_stand_for_one_record();
+}
+
+/// So it is after a session, whatever cut it, if it was before, except for one that was cut while it
+/// prepared its record.
 pub fn sessions_and_power<D: MaildirDisk, F: FlatFile>()
     ensures { SessionsAndPower D.MaildirDisk F.FlatFile }
 {
     headline();
+    worlds_shrink();
+    session_is_a_step();
+    links_are_visits();
+    kept_states();
+    holds_what_is_left();
+    account_texts_are_digits();
     files_stand_for_one_record();
     bytes_have_one_meaning();
     appended_counts();
     torn_is_ignored_or_seen();
     marked_is_delivered();
-    marked_keeps_rows();
-    listed_has_row();
     one_more_is_last();
     stems_differ();
     names_have_stems();
     names_are_bases();
-    account_texts_are_digits();
     steady_files_keep();
     unsaved_files_keep();
     lasting_sessions_are_sessions::<D, F>();

@@ -1,5 +1,5 @@
 -- What follows once a record is ready, and what of it outlives a loss of power.
-use Rattle.std.proofs.Common.{◌≡◌, ℕ, Bool, List, [], ◌∷◌, ◌++◌, length, None, refl, sym, ap, subst, ◌∙◌, inl, inr, arith, Result}
+use Rattle.std.proofs.Common.{◌≡◌, ℕ, Bool, true, false, List, [], ◌∷◌, ◌++◌, length, None, refl, sym, ap, subst, ◌∙◌, inl, inr, arith, Result}
 use Rattle.std.proofs.lemmas.List.{length-map}
 use Rattle.std.proofs.lemmas.List.FromFn.{length-enumerate_from}
 use Rattle.pop3_wire.specs.Place.{Place}
@@ -15,7 +15,7 @@ use Rattle.fetch_session.specs.declared.readiness.Ready.{Ready}
 use Rattle.fetch_session.specs.declared.fault.Cut.{Cut}
 use Rattle.fetch_session.specs.declared.report.ReportLine.{ReportLine}
 use Rattle.fetch_session.specs.Fault.{cut_of}
-use Rattle.fetch_session.specs.Task.{says, tasks_planned}
+use Rattle.fetch_session.specs.Task.{fetching, ids_ahead, says, tasks_planned}
 use Rattle.fetch_session.specs.Readiness.{IsReady, Unready, Settles}
 use Rattle.fetch_session.specs.Target.{Target, Stores, AsFiles, AsEntries, in_mbox, stores_of}
 use Rattle.fetch_session.specs.declared.report.Skips.{Skips}
@@ -28,7 +28,11 @@ use Rattle.mail_store.specs.declared.maildir.disk.MaildirDisk.{Ghosts as DiskGho
 use Rattle.mail_store.specs.declared.file.flat_file.FlatFile.{Ghosts as FileGhosts}
 use Rattle.fetch_session.specs.declared.account.Store.{Store}
 use Rattle.fetch_session.specs.declared.account.Store.TheVariants.{Maildir as InMaildir, Mboxrd as InMbox}
-use Rattle.fetch_session.specs.Lasting.{AllStayIn, CarriedForGood, DoesForGood, KeepsMailIn, Lasts, StayFrom}
+use Rattle.fetch_session.specs.Lasting.{AllStayIn, AreSure, CarriedForGood, DoesForGood, IsUntouched, KeepsMailIn, Lasts, StayFrom}
+use Rattle.std.specs.List.{AllByRecursion}
+use Rattle.std.proofs.lemmas.List.Elements.{recursion_from_All}
+use Rattle.fetch_session.proofs.FreshLemmas.{ahead}
+use Rattle.fetch_session.proofs.LastLemmas.{keeps_mail_on}
 
 pub planned_length : (settings : Settings) (rows : List Row) (items : List Item) (now : ℕ) → length (planned settings rows items now) ≡ length items
 planned_length settings rows items now = length-map (numbered items) (step_of settings rows items now) ∙ length-enumerate_from 1 items
@@ -49,23 +53,27 @@ stay_from disk files (AsFiles account) was items old (InMbox device) end settles
     nothing c = absurd (omega (arith, c.1))
 stay_from disk files AsEntries was items old mid end settles all keeps = tt
 
-pub firm_both : {P A B C : Type 0} → P ⊎ A → P ⊎ (B × C) → P ⊎ (A × B)
-firm_both (inl p) both = inl p
-firm_both (inr a) (inl p) = inl p
-firm_both (inr a) (inr both) = inr (a, both.0)
-
-pub still : {P B C : Type 0} → P ⊎ (B × C) → P ⊎ C
-still (inl p) = inl p
-still (inr both) = inr both.1
+-- steps that fetch nothing mark nothing
+quiet_ids : (steps : List Step) (items : List Item) (held : List Bool) → AllByRecursion IsQuiet steps → ids_ahead (tasks_planned steps items held) ≡ []
+quiet_ids [] items held quiet = refl
+quiet_ids (s ∷ ss) [] held quiet = refl
+quiet_ids (s ∷ ss) (i ∷ is) [] quiet = refl
+quiet_ids (s ∷ ss) (i ∷ is) (h ∷ hs) quiet =
+    ahead s i h (tasks_planned ss is hs) ∙ ap (λ (ids : List (List ℕ)). ids ++ ids_ahead (tasks_planned ss is hs)) (by s.retrieve quiet.0.0) ∙ quiet_ids ss is hs quiet.1
+  where
+    by : (retrieve : Bool) → retrieve ≡ false → ids_ahead (fetching retrieve h s.number i.uid i.size) ≡ []
+    by true is = absurd (cc is)
+    by false is = refl
 
 -- the planned tasks and QUIT were done once the record was ready, or as far as went well
-pub carried : {D F : Type 0} (disk : DiskGhosts D) (files : FileGhosts F) {sure safe : Type 0} {settings : Settings} {target : Target} {items : List Item} {now : ℕ} {place : Place} {store : Stores} {file : Stored} {lines : List ReportLine} {ready : Ready} {after : List Row}
-    (before : Store D F) {end : Store D F} {f : F} {file' : Stored} (steps : List Step) (held : List Bool) {skipped : Skips} {r : Result (Unit {0}) Cut} {new : Scene}
+pub carried : {D F : Type 0} (disk : DiskGhosts D) (files : FileGhosts F) {safe : Type 0} {settings : Settings} {target : Target} {items : List Item} {now : ℕ} {place : Place} {store : Stores} {file : Stored} {lines : List ReportLine} {ready : Ready} {after : List Row}
+    (was before : Store D F) {end : Store D F} (from mid_file : F) {f : F} {file' : Stored} (steps : List Step) (held : List Bool) {skipped : Skips} {r : Result (Unit {0}) Cut} {new : Scene}
     → IsReady settings target items now store file ready after (stores_of disk files before) file' → steps ≡ ready.steps.items → held ≡ ready.held.items → skipped ≡ skips_of settings after items now ready.steps.items
-    → (sure → All IsQuiet ready.steps.items ⊎ AllStayIn disk before) → (sure → All IsQuiet ready.steps.items ⊎ safe) → KeepsMailIn disk before end
+    → (AreSure files was from → (All IsQuiet ready.steps.items × IsUntouched disk files was before from mid_file) ⊎ (safe × AllStayIn disk before)) → KeepsMailIn disk before end
+    → (ids_ahead (tasks_planned steps items held) ≡ [] → f ≡ mid_file)
     → DoesForGood disk files safe target (tasks_planned steps items held ++ says quit ∷ []) (scene place (stores_of disk files before) file' after lines) r new end f
-    → CarriedForGood disk files sure settings target items now place store file lines r new skipped end f
-carried {D} {F} disk files {sure} {safe} {settings} {target} {items} {now} {place} {store} {file} {lines} {ready} {after} before {end} {f} {file'} steps held {skipped} {r} {new} is steps_are held_are skipped_is all firm keeps does =
+    → CarriedForGood disk files was from settings target items now place store file lines r new skipped end f
+carried {D} {F} disk files {safe} {settings} {target} {items} {now} {place} {store} {file} {lines} {ready} {after} was before {end} from mid_file {f} {file'} steps held {skipped} {r} {new} is steps_are held_are skipped_is firm keeps same_file does =
     let mid : Scene = scene place (stores_of disk files before) file' after lines in
     let good = rw (steps_are, held_are, is.held, is.steps) at does in
     record {
@@ -75,14 +83,15 @@ carried {D} {F} disk files {sure} {safe} {settings} {target} {items} {now} {plac
         does = good.does;
         skips = skipped_is ∙ ap (skips_of settings after items now) is.steps;
       };
-      lasts = λ s. quiet_or_lasts (Lasts disk files target (tasks_ahead settings target items now store after) mid r new good.does end f) good.lasts (firm s);
-      stay = λ s. quiet_or_stays (all s);
+      lasts = λ sure. by (Lasts disk files target (tasks_ahead settings target items now store after) mid r new good.does end f) good.lasts (firm sure);
     }
   where
-    quiet_or_stays : All IsQuiet ready.steps.items ⊎ AllStayIn disk before → All IsQuiet (planned settings after items now) ⊎ StayFrom disk target store end
-    quiet_or_stays (inl quiet) = inl (subst (λ (ss : List Step). All IsQuiet ss) is.steps quiet)
-    quiet_or_stays (inr stays) = inr (stay_from disk files target is.was items store before end is.settles stays keeps)
-
-    quiet_or_lasts : (P : Type 0) → (safe → P) → All IsQuiet ready.steps.items ⊎ safe → All IsQuiet (planned settings after items now) ⊎ P
-    quiet_or_lasts P good (inl quiet) = inl (subst (λ (ss : List Step). All IsQuiet ss) is.steps quiet)
-    quiet_or_lasts P good (inr s) = inr (good s)
+    by : (P : Type 0) → (safe → P) → (All IsQuiet ready.steps.items × IsUntouched disk files was before from mid_file) ⊎ (safe × AllStayIn disk before)
+        → (All IsQuiet (planned settings after items now) × IsUntouched disk files was end from f) ⊎ (P × StayFrom disk target store end)
+    by P good (inl (quiet, still)) =
+        let same = same_file (quiet_ids steps items held (subst (λ (ss : List Step). AllByRecursion IsQuiet ss) (sym steps_are) (recursion_from_All IsQuiet ready.steps.items quiet))) in
+        inl (
+          subst (λ (ss : List Step). All IsQuiet ss) is.steps quiet,
+          subst (λ (g : F). IsUntouched disk files was end from g) (sym same) (record { mail = keeps_mail_on still.mail keeps; no_more = still.no_more; same = still.same }),
+        )
+    by P good (inr (s, all)) = inr (good s, stay_from disk files target is.was items store before end is.settles all keeps)

@@ -105,6 +105,7 @@ module _ {D F H Z : Type 0} {disk : DiskGhosts D} {file : FileGhosts F} (work : 
       calm = λ d. ((same d).0, ap (λ (m : Maildir). m.begun) (same d).1 ∙ ready.calm (same d).0);
     };
     lasts = λ d f. (f, mail d, λ sure. on_map r (λ s. (sure.0, s)) (safe d sure.1));
+    idle = λ none. refl;
     next = on_any r (λ later before. record {
       digits = before.digits;
       room = omega (arith, before.room);

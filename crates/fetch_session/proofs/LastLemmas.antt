@@ -23,7 +23,7 @@ use Rattle.fetch_session.specs.declared.work.Work.{Work}
 use Rattle.fetch_session.specs.Record.{Steady, bytes_in, held}
 use Rattle.fetch_session.specs.Scene.{Scene, scene, Went, AllWent}
 use Rattle.fetch_session.specs.Store.{Brings, Ends, begun_with}
-use Rattle.fetch_session.specs.Lasting.{AreLeft, CutLasts, DoesForGood, DonesLast, IsSafe, IsSafeStore, IsSafeWork, IsLeft, KeepsMailIn, KeepsRows, KeepsWork, Leaves, NewOutlive, RowsLast, ShowsRows, TextsLast, may_leave_in, outlives_in}
+use Rattle.fetch_session.specs.Lasting.{AreLeft, CutLasts, DoesForGood, DonesLast, IsSafe, IsSafeStore, IsSafeWork, IsUntouched, IsLeft, KeepsMailIn, KeepsRows, KeepsWork, Leaves, NewOutlive, RowsLast, ShowsRows, TextsLast, may_leave_in, outlives_in}
 use Rattle.fetch_session.specs.Target.{Kind, Target, AsFiles, AsEntries, Stores, kind_of, stores_of, target as target_at, target_of}
 use Rattle.fetch_session.specs.Task.{Task, Done, files_of, ids_in, ids_of, texts_of}
 use Rattle.fetch_session.proofs.RecordLemmas.{is_there}
@@ -255,6 +255,10 @@ none_came disk file store = λ files is.
 
 pub keeps_same : {D F H Z : Type 0} (disk : DiskGhosts D) (file : FileGhosts F) (work : Work D F H Z) → KeepsWork disk file work work
 keeps_same disk file work = ((λ name is. is, λ f is. is), λ bytes has is. is, λ last. last)
+
+-- no call was made
+pub untouched : {D F : Type 0} (disk : DiskGhosts D) (file : FileGhosts F) (store : Store D F) (f : F) → IsUntouched disk file store store f f
+untouched disk file store f = record { mail = (λ name is. is, λ g is. is); no_more = λ left may. may; same = refl }
 
 -- what was safe and written down before still is
 pub none_lasts : {D F H Z : Type 0} (disk : DiskGhosts D) (file : FileGhosts F) (target : Target) (place : Place) (old new : Work D F H Z) (next : List (List ℕ))

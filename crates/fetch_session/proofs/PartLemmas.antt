@@ -204,12 +204,17 @@ module _ {D F H Z : Type 0} {disk : DiskGhosts D} {file : FileGhosts F} where
 
 -- ---- parts one after the other
 
+none_both : (xs ys : List (List ℕ)) → xs ++ ys ≡ [] → (xs ≡ []) × (ys ≡ [])
+none_both [] ys none = (refl, none)
+none_both (x ∷ xs) ys none = absurd cc
+
 module _ {W D F H Z : Type 0} {link : WireGhosts W} {disk : DiskGhosts D} {file : FileGhosts F} {account : List ℕ} where
   pub kept_nothing : {c : Client W} {w : Work D F H Z} → IsReady disk file w → KeepsSession link disk file account [] c w (Ok tt) c w
   kept_nothing ready = record {
     talk = link_still;
     store = record { lines = (omega arith, omega arith); kind = refl; calm = λ d. (d, ready.calm d) };
     lasts = λ d f. (f, (λ name is. is, λ g is. is), λ safe. safe);
+    idle = λ none. refl;
     next = λ later ready. ready;
   }
 
@@ -222,6 +227,7 @@ module _ {W D F H Z : Type 0} {link : WireGhosts W} {disk : DiskGhosts D} {file 
         let later = then.lasts d f in
         let before = first.lasts (then.store.calm d).0 later.0 in
         (before.0, keeps_mail_on before.1 later.1, λ safe. later.2 (before.2 safe));
+    idle = λ none. let both = none_both (ids_ahead xs) (ids_ahead ys) (sym (flat_map-append ids_in xs ys) ∙ none) in then.idle both.1 ∙ first.idle both.0;
     next = on_map r (λ next later ready. next later (first.next (ys ++ later) (subst (λ (tasks : List Task). IsReadyFor disk file account tasks w) (append_assoc xs ys later) ready))) then.next;
   }
 
@@ -231,6 +237,7 @@ module _ {W D F H Z : Type 0} {link : WireGhosts W} {disk : DiskGhosts D} {file 
     talk = link_on (most_of (turns_ahead (xs ++ ys))) (omega (arith, most_ahead xs ys)) link_still kept.talk;
     store = store_less (omega (arith, length-append xs ys)) kept.store;
     lasts = kept.lasts;
+    idle = λ none. kept.idle (none_both (ids_ahead xs) (ids_ahead ys) (sym (flat_map-append ids_in xs ys) ∙ none)).0;
     next = tt;
   }
 
@@ -280,6 +287,7 @@ module _ {W D F H Z : Type 0} {link : WireGhosts W} {disk : DiskGhosts D} {file 
     talk = talk;
     store = record { lines = ledger.lines; kind = kind; calm = λ d. ((grows d).0, (grows d).1.calm) };
     lasts = λ d f. (ledger.sound f, mail d f, safe d f);
+    idle = λ none. absurd cc;
     next = on_both r (λ written rows later before. record {
       digits = before.digits;
       room = omega (arith, before.room, ledger.lines.0, ledger.lines.1);

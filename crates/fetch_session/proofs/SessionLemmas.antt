@@ -23,12 +23,12 @@ pub part_same : (files : List File) → IsPart files files
 part_same [] = refl
 part_same (f ∷ files) = inr (files, refl, part_same files)
 
-pub dealt : {D F : Type 0} (disk : DiskGhosts D) (files : FileGhosts F) (sure : Type 0) (settings : Settings) (target : Target) (now : ℕ) (old : Place) (before : Keeping)
+pub dealt : {D F : Type 0} (disk : DiskGhosts D) (files : FileGhosts F) (was : Store D F) (from : F) (settings : Settings) (target : Target) (now : ℕ) (old : Place) (before : Keeping)
     (result : Result (Unit {0}) Cut) (new : Place) (after : Keeping) (notes : Noted) (items : List Item) (mid : Place) (start : List ReportLine) (store : Store D F) (f : F)
     → start ≡ [] → Enters_with settings old (Ok items) mid → notes.total ≡ length items
-    → CarriesForGood disk files sure settings target items now mid before.store before.file start result new after.store after.file notes.lines notes.skipped store f
-    → ProceedsForGood disk files sure settings target now old before result new after notes store f
-dealt disk files sure settings target now old before result new after notes items mid start store f none enters total carries =
+    → CarriesForGood disk files was from settings target items now mid before.store before.file start result new after.store after.file notes.lines notes.skipped store f
+    → ProceedsForGood disk files was from settings target now old before result new after notes store f
+dealt disk files was from settings target now old before result new after notes items mid start store f none enters total carries =
     by result (record {
       items = items;
       mid = mid;
@@ -37,16 +37,16 @@ dealt disk files sure settings target now old before result new after notes item
       carries = rw none at carries;
     })
   where
-    by : (r : Result (Unit {0}) Cut) → DealtForGood disk files sure settings target now old before r new after notes store f → ProceedsForGood disk files sure settings target now old before r new after notes store f
+    by : (r : Result (Unit {0}) Cut) → DealtForGood disk files was from settings target now old before r new after notes store f → ProceedsForGood disk files was from settings target now old before r new after notes store f
     by (Ok done) is = is
     by (Err cut) is = inr (inr is)
 
 -- a session that was brought to its end, or cut and then left
-pub left_session : {D F : Type 0} {disk : DiskGhosts D} {files : FileGhosts F} {sure : Type 0} {settings : Settings} {target : Target} {now : ℕ} {link link' : Link} {before after : Keeping} {report : Report} {store : Store D F} {f : F}
+pub left_session : {D F : Type 0} {disk : DiskGhosts D} {files : FileGhosts F} {was : Store D F} {from : F} {settings : Settings} {target : Target} {now : ℕ} {link link' : Link} {before after : Keeping} {report : Report} {store : Store D F} {f : F}
     (id : Target) (reader : List ℕ) (result : Result (Unit {0}) Cut) (mid : Place) (notes : Noted)
-    → id ≡ target → reader ≡ [] → ProceedsForGood disk files sure settings id now (at link reader) before result mid after notes store f → LeavesLink result mid link'
-    → Reports (outcome_of result) notes.total notes.skipped notes.lines report → SessionForGood disk files sure settings target now link before report link' after store f
-left_session {D} {F} {disk} {files} {sure} {settings} {target} {now} {link} {link'} {before} {after} {report} {store} {f} id reader result mid notes same none proceeds leaves reports = record {
+    → id ≡ target → reader ≡ [] → ProceedsForGood disk files was from settings id now (at link reader) before result mid after notes store f → LeavesLink result mid link'
+    → Reports (outcome_of result) notes.total notes.skipped notes.lines report → SessionForGood disk files was from settings target now link before report link' after store f
+left_session {D} {F} {disk} {files} {was} {from} {settings} {target} {now} {link} {link'} {before} {after} {report} {store} {f} id reader result mid notes same none proceeds leaves reports = record {
   result = result;
   mid = mid;
   notes = notes;
@@ -56,25 +56,25 @@ left_session {D} {F} {disk} {files} {sure} {settings} {target} {now} {link} {lin
 }
 
 -- what such a session is, without what outlives a loss of power
-pub session_in : {D F : Type 0} {disk : DiskGhosts D} {files : FileGhosts F} {sure : Type 0} {settings : Settings} {target : Target} {now : ℕ} {link : Link} {before : Keeping} {report : Report} {link' : Link} {after : Keeping} {store : Store D F} {f : F}
-    → SessionForGood disk files sure settings target now link before report link' after store f → SessionIn settings target now link before report link' after
-session_in {D} {F} {disk} {files} {sure} {settings} {target} {now} {link} {before} {report} {link'} {after} {store} {f} s =
+pub session_in : {D F : Type 0} {disk : DiskGhosts D} {files : FileGhosts F} {was : Store D F} {from : F} {settings : Settings} {target : Target} {now : ℕ} {link : Link} {before : Keeping} {report : Report} {link' : Link} {after : Keeping} {store : Store D F} {f : F}
+    → SessionForGood disk files was from settings target now link before report link' after store f → SessionIn settings target now link before report link' after
+session_in {D} {F} {disk} {files} {was} {from} {settings} {target} {now} {link} {before} {report} {link'} {after} {store} {f} s =
     record { result = s.result; mid = s.mid; notes = s.notes; proceeds = proceeds s.result s.proceeds; leaves = s.leaves; reports = s.reports }
   where
-    carries : (items : List Item) (mid : Place) (result : Result (Unit {0}) Cut) → CarriesForGood disk files sure settings target items now mid before.store before.file [] result s.mid after.store after.file s.notes.lines s.notes.skipped store f
+    carries : (items : List Item) (mid : Place) (result : Result (Unit {0}) Cut) → CarriesForGood disk files was from settings target items now mid before.store before.file [] result s.mid after.store after.file s.notes.lines s.notes.skipped store f
         → Carries settings target items now mid before.store before.file [] result s.mid after.store after.file s.notes.lines s.notes.skipped
     carries items mid (Ok done) (rows, is) = (rows, is.carried)
     carries items mid (Err cut) (rows, inl not) = (rows, inl not)
     carries items mid (Err cut) (rows, inr is) = (rows, inr is.carried)
 
-    dealt_in : (result : Result (Unit {0}) Cut) → DealtForGood disk files sure settings target now (at link []) before result s.mid after s.notes store f → Dealt settings target now (at link []) before result s.mid after s.notes
+    dealt_in : (result : Result (Unit {0}) Cut) → DealtForGood disk files was from settings target now (at link []) before result s.mid after s.notes store f → Dealt settings target now (at link []) before result s.mid after s.notes
     dealt_in result is = record { items = is.items; mid = is.mid; enters = is.enters; total = is.total; carries = carries is.items is.mid result is.carries }
 
-    proceeds : (result : Result (Unit {0}) Cut) → ProceedsForGood disk files sure settings target now (at link []) before result s.mid after s.notes store f
+    proceeds : (result : Result (Unit {0}) Cut) → ProceedsForGood disk files was from settings target now (at link []) before result s.mid after s.notes store f
         → Proceeds settings target now (at link []) before result s.mid after s.notes
     proceeds (Ok done) is = dealt_in (Ok done) is
-    proceeds (Err cut) (inl none) = inl none
-    proceeds (Err cut) (inr (inl room)) = inr (inl room)
+    proceeds (Err cut) (inl none) = inl none.0
+    proceeds (Err cut) (inr (inl room)) = inr (inl room.0)
     proceeds (Err cut) (inr (inr is)) = inr (inr (dealt_in (Err cut) is))
 
 -- ---- a session of an account with a Maildir, and of one with an mboxrd file

@@ -7,7 +7,7 @@ use Rattle.mail_store.specs.FlatFile.{Stored}
 use Rattle.mail_store.specs.Maildir.{File, Maildir, names_of}
 use Rattle.mail_store.specs.Mboxrd.{entry_of}
 use Rattle.mail_store.specs.Settling.{MayBeLeft}
-use Rattle.mail_store.specs.Power.{AllStay, KeepsMail, KeepsWhole, LastsWhole, Outlives}
+use Rattle.mail_store.specs.Power.{AllStay, KeepsMail, KeepsWhole, LastsWhole, LeavesNoMore, Outlives}
 use Rattle.mail_terms.specs.Listing.{Item}
 use Rattle.pop3_wire.specs.Link.{Link}
 use Rattle.pop3_wire.specs.Place.{Place, at}
@@ -170,31 +170,42 @@ StayFrom disk (AsFiles account) old store =
     (name : List ℕ) → Contains (names_of old.maildir.files) name → stays_in disk store name
 StayFrom disk AsEntries old store = Unit {0}
 
--- what was planned was done, or as much as went well; and if this premise holds, nothing was to be fetched or deleted, or what was done
--- outlives a loss of power and each file that was in the Maildir before stays
-pub record CarriedForGood {D F : Type 0} (disk : DiskGhosts D) (files : FileGhosts F) (safe : Type 0) (settings : Settings)
+-- no flush of the record's file or of an mboxrd file was refused
+abbrev pub AreSure : {D F : Type 0} → FileGhosts F → Store D F → F → Type 0
+AreSure files was from = is_sure files was × files.is_sure from
+
+-- nothing was written: what a loss of power would have left of a Maildir before it still leaves, and of the record's file it leaves no more
+pub record IsUntouched {D F : Type 0} (disk : DiskGhosts D) (files : FileGhosts F) (was store : Store D F) (from f : F) : Type 0 where
+  pub mail : KeepsMailIn disk was store
+  pub no_more : LeavesNoMore (files.may_leave from) (files.may_leave f)
+  pub same : files.stored f ≡ files.stored from
+
+-- what was planned was done, or as much as went well; and if no flush was refused before, nothing was to be fetched or deleted and nothing
+-- was written, or what was done outlives a loss of power and each file that was in the Maildir before stays
+pub record CarriedForGood {D F : Type 0} (disk : DiskGhosts D) (files : FileGhosts F) (was : Store D F) (from : F) (settings : Settings)
     (target : Target) (items : List Item)
     (now : ℕ) (place : Place) (old : Stores) (file : Stored) (lines : List ReportLine) (result : Result (Unit {0}) Cut) (new : Scene)
     (skipped : Skips) (store : Store D F) (f : F) : Type 0 where
   pub carried : Carried settings target items now place old file lines result new skipped
-  pub lasts : safe → All IsQuiet (planned settings carried.mid.rows items now) ⊎ Lasts disk files target
-      (tasks_ahead settings target items now old carried.mid.rows) carried.mid result new carried.does store f
-  pub stay : safe → All IsQuiet (planned settings carried.mid.rows items now) ⊎ StayFrom disk target old store
+  pub lasts : AreSure files was from
+      → (All IsQuiet (planned settings carried.mid.rows items now) × IsUntouched disk files was store from f)
+      ⊎ (Lasts disk files target (tasks_ahead settings target items now old carried.mid.rows) carried.mid result new carried.does store f
+      × StayFrom disk target old store)
 
-abbrev pub CarriesForGood : {D F : Type 0} → DiskGhosts D → FileGhosts F → Type 0 → Settings → Target → List Item → ℕ → Place → Stores
+abbrev pub CarriesForGood : {D F : Type 0} → DiskGhosts D → FileGhosts F → Store D F → F → Settings → Target → List Item → ℕ → Place → Stores
     → Stored → List ReportLine → Result (Unit {0}) Cut → Place → Stores → Stored → List ReportLine → Skips → Store D F → F → Type 0
-CarriesForGood disk files safe settings target items now place old file lines (Ok done) place' new file' lines' skipped store f =
+CarriesForGood disk files was from settings target items now place old file lines (Ok done) place' new file' lines' skipped store f =
     (rows : List Row)
-    × CarriedForGood disk files safe settings target items now place old file lines (Ok done)
+    × CarriedForGood disk files was from settings target items now place old file lines (Ok done)
     (scene place' new file' rows lines') skipped store f
-CarriesForGood disk files safe settings target items now place old file lines (Err cut) place' new file' lines' skipped store f =
+CarriesForGood disk files was from settings target items now place old file lines (Err cut) place' new file' lines' skipped store f =
     (rows : List Row)
     × (((skipped ≡ none_skipped) × Unprepared target items now place old file lines cut (scene place' new file' rows lines'))
-    ⊎ CarriedForGood disk files safe settings target items now place old file lines (Err cut)
+    ⊎ CarriedForGood disk files was from settings target items now place old file lines (Err cut)
     (scene place' new file' rows lines') skipped store f)
 
 -- as `Dealt`, with what outlives a loss of power
-pub record DealtForGood {D F : Type 0} (disk : DiskGhosts D) (files : FileGhosts F) (safe : Type 0) (settings : Settings)
+pub record DealtForGood {D F : Type 0} (disk : DiskGhosts D) (files : FileGhosts F) (was : Store D F) (from : F) (settings : Settings)
     (target : Target) (now : ℕ) (old : Place)
     (before : Keeping) (result : Result (Unit {0}) Cut) (new : Place) (after : Keeping) (notes : Noted) (store : Store D F)
     (f : F) : Type 0 where
@@ -202,28 +213,28 @@ pub record DealtForGood {D F : Type 0} (disk : DiskGhosts D) (files : FileGhosts
   pub mid : Place
   pub enters : Enters_with settings old (Ok items) mid
   pub total : notes.total ≡ length items
-  pub carries : CarriesForGood disk files safe settings target items now mid before.store before.file [] result new after.store
+  pub carries : CarriesForGood disk files was from settings target items now mid before.store before.file [] result new after.store
       after.file notes.lines notes.skipped store f
 
 -- as `Proceeds`, with what outlives a loss of power
-abbrev pub ProceedsForGood : {D F : Type 0} → DiskGhosts D → FileGhosts F → Type 0 → Settings → Target → ℕ → Place → Keeping
+abbrev pub ProceedsForGood : {D F : Type 0} → DiskGhosts D → FileGhosts F → Store D F → F → Settings → Target → ℕ → Place → Keeping
     → Result (Unit {0}) Cut → Place → Keeping → Noted → Store D F → F → Type 0
-ProceedsForGood disk files safe settings target now old before (Ok done) new after notes store f =
-    DealtForGood disk files safe settings target now old before (Ok done) new after notes store f
-ProceedsForGood disk files safe settings target now old before
-    (Err cut) new after notes store f = NotEntered settings old before cut new after notes
-    ⊎ (NoRoom settings old before cut new after notes
-    ⊎ DealtForGood disk files safe settings target now old before (Err cut) new after notes store f)
+ProceedsForGood disk files was from settings target now old before (Ok done) new after notes store f =
+    DealtForGood disk files was from settings target now old before (Ok done) new after notes store f
+ProceedsForGood disk files was from settings target now old before
+    (Err cut) new after notes store f = (NotEntered settings old before cut new after notes × IsUntouched disk files was store from f)
+    ⊎ ((NoRoom settings old before cut new after notes × IsUntouched disk files was store from f)
+    ⊎ DealtForGood disk files was from settings target now old before (Err cut) new after notes store f)
 
--- a whole session, as `SessionIn` says; and if this premise holds, what was stored and marked for each task that was done
--- outlives a loss of power. Tasks are done in order, and a deletion comes after its message's other task, so a DELE is sent only
+-- a whole session, as `SessionIn` says; and if no flush was refused before, what was stored and marked for each task that was
+-- done outlives a loss of power. Tasks are done in order, and a deletion comes after its message's other task, so a DELE is sent only
 -- for a message whose text outlives a loss of power
-pub record SessionForGood {D F : Type 0} (disk : DiskGhosts D) (files : FileGhosts F) (safe : Type 0) (settings : Settings)
+pub record SessionForGood {D F : Type 0} (disk : DiskGhosts D) (files : FileGhosts F) (was : Store D F) (from : F) (settings : Settings)
     (target : Target) (now : ℕ)
     (link : Link) (before : Keeping) (report : Report) (link' : Link) (after : Keeping) (store : Store D F) (f : F) : Type 0 where
   pub result : Result (Unit {0}) Cut
   pub mid : Place
   pub notes : Noted
-  pub proceeds : ProceedsForGood disk files safe settings target now (at link []) before result mid after notes store f
+  pub proceeds : ProceedsForGood disk files was from settings target now (at link []) before result mid after notes store f
   pub leaves : LeavesLink result mid link'
   pub reports : Reports (outcome_of result) notes.total notes.skipped notes.lines report

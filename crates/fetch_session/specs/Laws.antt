@@ -14,7 +14,7 @@ use Rattle.fetch_session.specs.Task.{Task, Done, stores, tasks_of, turns_of, rep
 use Rattle.fetch_session.specs.Record.{Keeps, Steady, Saves}
 use Rattle.fetch_session.specs.Scene.{Scene, Fell}
 use Rattle.fetch_session.specs.Target.{AsFiles, Target}
-use Rattle.fetch_session.specs.Lasting.{SessionForGood, is_sure}
+use Rattle.fetch_session.specs.Lasting.{SessionForGood}
 use Rattle.fetch_session.specs.Session.{Keeping, SessionIn}
 use Rattle.fetch_session.specs.declared.account.Store.{Store}
 use Rattle.fetch_session.specs.declared.report.Report.{Report}
@@ -64,7 +64,7 @@ StoppingCutsShort = (account : List ℕ) (tasks : List Task) (old new : Scene) (
 abbrev pub LastingIsASession : {D F : Type 0} → DiskGhosts D → FileGhosts F → Type 0
 LastingIsASession {D} {F} disk files = (was store : Store D F) (old new : F) (settings : Settings) (target : Target) (now : ℕ) (link : Link) (before : Keeping)
     (report : Report) (link' : Link) (after : Keeping)
-    → SessionForGood disk files (is_sure files was × files.is_sure old) settings target now link before report link' after store new
+    → SessionForGood disk files was old settings target now link before report link' after store new
     → SessionIn settings target now link before report link' after
 
 -- a file of version 2 that stands for a record and has no torn end stands for that record

@@ -1,5 +1,5 @@
 -- What each part of a session is ready for, what it keeps, and what it does.
-use Rattle.std.specs.Prelude.{◌≡◌, ℕ, true, List, ◌++◌, length, None, Result, OnOk}
+use Rattle.std.specs.Prelude.{◌≡◌, ℕ, true, List, [], ◌++◌, length, None, Result, OnOk}
 use Rattle.std.specs.List.{AllByRecursion}
 use Rattle.mail_terms.specs.UniqueId.{IsLegalId}
 use Rattle.mail_store.specs.declared.file.flat_file.FlatFile.{Ghosts as FileGhosts}
@@ -82,7 +82,7 @@ pub record KeepsStore {D F H Z : Type 0} (disk : DiskGhosts D) (file : FileGhost
   pub calm : is_sound disk file new.store → is_sound disk file old.store × ((stores_of disk file new.store).maildir.begun ≡ None)
 
 -- a part of a session that has these tasks: it takes and notes no more than they may, and what a loss of power would have left it still
--- leaves; and if all went well, what was safe is safe, and what was ready for these tasks and others is ready for the others
+-- leaves; without a mark the record's file is as it was; and if all went well, what was safe is safe, and what was ready for these tasks and others is ready for the others
 pub record KeepsSession {W D F H Z : Type 0} (link : WireGhosts W) (disk : DiskGhosts D) (file : FileGhosts F) (account : List ℕ)
     (tasks : List Task) (client : Client W) (work : Work D F H Z) (result : Result (Unit {0}) Cut) (client' : Client W)
     (work' : Work D F H Z) : Type 0 where
@@ -90,6 +90,7 @@ pub record KeepsSession {W D F H Z : Type 0} (link : WireGhosts W) (disk : DiskG
   pub store : KeepsStore disk file (length tasks) work work'
   pub lasts : is_sound disk file work'.store → file.sound work'.ledger.file → file.sound work.ledger.file
       × KeepsMailIn disk work.store work'.store × (IsSafeWork file work → OnOk result (IsSafeWork file work'))
+  pub idle : ids_ahead tasks ≡ [] → work'.ledger.file ≡ work.ledger.file
   pub next : OnOk result ((later : List Task) → IsReadyFor disk file account (tasks ++ later) work → IsReadyFor disk file account later work')
 
 -- ---- what is done

@@ -10,7 +10,7 @@ ghost use Rattle.fetch_session.specs.Work.{WhereWorkSound};
 ghost use Rattle.fetch_session.specs.Account.{digits_of};
 ghost use Rattle.fetch_session.specs.Intake.{GotAtMost, session_limit, TookWithTail, opening_limit, step_limit, tail_limit};
 ghost use Rattle.fetch_session.specs.Refusal.{RefusesByOutcome};
-ghost use Rattle.fetch_session.specs.Lasting.{ProceedsForGood, SessionForGood, is_sure};
+ghost use Rattle.fetch_session.specs.Lasting.{ProceedsForGood, SessionForGood};
 ghost use Rattle.fetch_session.specs.Parts.{KeepsLink, KeepsStore};
 ghost use Rattle.fetch_session.specs.Report.{Reports, most_lines, none_skipped};
 ghost use Rattle.fetch_session.specs.Session.{MboxSession, Session, keeping, kept, mbox_kept, noted};
@@ -65,7 +65,7 @@ fn proceed<W: Wire, D: MaildirDisk, F: FlatFile, H: BuildHasher>(
     ensures store { KeepsStore D.MaildirDisk F.FlatFile most_lines work.old work.new }
     ensures proceeds { WhereWorkSound W.Wire D.MaildirDisk F.FlatFile client.old work.old client.new work.new
         (λ old new. AfterTakingIn old.store (λ left. ProceedsForGood D.MaildirDisk F.FlatFile
-        (is_sure F.FlatFile work.old.store × F.is_sure work.old.ledger.file)
+        work.old.store work.old.ledger.file
         terms.entry.settings.now (target_of work.old.store terms.entry.account.now) terms.entry.now old.place
         (keeping left old.file) result
         new.place (keeping new.store new.file) (noted counts.new.total counts.new.skipped new.lines) work.new.store work.new.ledger.file)) }
@@ -96,8 +96,7 @@ fn session_over<W: Wire, D: MaildirDisk, F: FlatFile, H: BuildHasher>(
     ensures session { WhereAllSound W.sound W.leads_to (is_sound D.MaildirDisk F.FlatFile) F.sound client.old.wire.now client.new.wire.now
         account.old.store account.new.store account.old.file account.new.file
         (AfterTakingIn (stores_of D.MaildirDisk F.FlatFile account.old.store) (λ left. SessionForGood D.MaildirDisk F.FlatFile
-        (is_sure F.FlatFile account.old.store × F.is_sure account.old.file)
-        account.old.settings (target_of account.old.store (digits_of account.old.settings)) now (link_of W.Wire client.old)
+        account.old.store account.old.file account.old.settings (target_of account.old.store (digits_of account.old.settings)) now (link_of W.Wire client.old)
         (keeping left (F.stored account.old.file)) result (link_of W.Wire client.new)
         (keeping (stores_of D.MaildirDisk F.FlatFile account.new.store) (F.stored account.new.file)) account.new.store account.new.file)) }
     ensures bounded { W.sound client.new.wire.now
@@ -167,8 +166,7 @@ pub fn session<W: Wire, D: MaildirDisk, F: FlatFile, H: BuildHasher>(
         → GotAtMost (session_limit result.total) (W.history wire.old) (W.history wire.new) }
     ensures power { W.sound wire.new → is_sound D.MaildirDisk F.FlatFile account.new.store → F.sound account.new.file
         → AfterTakingIn (stores_of D.MaildirDisk F.FlatFile account.old.store) (λ left. SessionForGood D.MaildirDisk F.FlatFile
-        (is_sure F.FlatFile account.old.store × F.is_sure account.old.file)
-        account.old.settings (target_of account.old.store (digits_of account.old.settings)) now (W.history wire.old)
+        account.old.store account.old.file account.old.settings (target_of account.old.store (digits_of account.old.settings)) now (W.history wire.old)
         (keeping left (F.stored account.old.file)) result (W.history wire.new)
         (keeping (stores_of D.MaildirDisk F.FlatFile account.new.store) (F.stored account.new.file)) account.new.store account.new.file) }
 {

@@ -7,7 +7,7 @@ ghost use Rattle.mail_store.specs.FileName.{IsAccountText};
 ghost use Rattle.fetch_session.specs.Target.{AfterTakingIn, IsCalm, target_of};
 ghost use Rattle.fetch_session.specs.Work.{WhereWorkSound};
 ghost use Rattle.fetch_session.specs.Intake.{TookWithTail, step_limit, tail_limit};
-ghost use Rattle.fetch_session.specs.Lasting.{CarriesForGood, is_sure};
+ghost use Rattle.fetch_session.specs.Lasting.{CarriesForGood};
 ghost use Rattle.fetch_session.specs.Parts.{KeepsLink, KeepsStore};
 ghost use Rattle.fetch_session.specs.Report.{HasRoom, none_skipped};
 
@@ -44,7 +44,7 @@ pub fn carry_out<W: Wire, D: MaildirDisk, F: FlatFile, H: BuildHasher>(
     ensures store { KeepsStore D.MaildirDisk F.FlatFile (2 * length listing.now) work.old work.new }
     ensures carries { WhereWorkSound W.Wire D.MaildirDisk F.FlatFile client.old work.old client.new work.new
         (λ old new. AfterTakingIn old.store (λ left. CarriesForGood D.MaildirDisk F.FlatFile
-        (is_sure F.FlatFile work.old.store × F.is_sure work.old.ledger.file)
+        work.old.store work.old.ledger.file
         terms.entry.settings.now (target_of work.old.store terms.entry.account.now) listing.now terms.entry.now
         old.place left old.file old.lines result
         new.place new.store new.file new.lines skipped.new work.new.store work.new.ledger.file)) }

@@ -8,8 +8,8 @@ ghost use Rattle.fetch_rules.specs.Plan.{IsQuiet, planned};
 ghost use Rattle.mail_store.specs.Fault.{IsDeviceFault};
 ghost use Rattle.fetch_session.specs.Mbox.{AsksMbox, SettlesIntent};
 ghost use Rattle.mail_store.specs.Maildir.{AfterTaking};
-ghost use Rattle.mail_store.specs.Power.{AllStay};
-ghost use Rattle.fetch_session.specs.Lasting.{AllStayIn, IsSafe, IsSafeStore, is_sure};
+ghost use Rattle.mail_store.specs.Power.{AllStay, KeepsMail, LeavesNoMore};
+ghost use Rattle.fetch_session.specs.Lasting.{AllStayIn, AreSure, IsSafe, IsSafeStore, IsUntouched, KeepsMailIn, is_sure};
 ghost use Rattle.fetch_session.specs.Target.{AfterTakingIn, flags_in, is_sound, kind_of, stores_of, target_of};
 ghost use Rattle.fetch_session.specs.Readiness.{AreAsHeld, ChecksBoth, ChecksStore, FindsHeld, FindsIn, IsIdle, Readies, Rests};
 ghost use Rattle.fetch_session.specs.Record.{Gets, Reads, ReadAs, Merges, IsLineFault, IsSecured, Steady, bytes_in, held_in};
@@ -65,6 +65,7 @@ fn line_of(fault: SeenFault) -> Fault
 fn load<F: FlatFile>(alloc: Global, file: &mut F) -> Result<Vec<u8>, Fault>
     ensures gets { F.sound file.new → F.sound file.old
         × Gets (F.stored file.old) result (F.stored file.new) }
+    ensures keeps { F.sound file.new → LeavesNoMore (F.may_leave file.old) (F.may_leave file.new) }
     ensures sure { F.sound file.new → F.is_sure file.old → F.is_sure file.new }
 {
     match file.peek() {
@@ -82,6 +83,7 @@ pub(crate) fn read<F: FlatFile, H: BuildHasher>(
 ) -> Result<bool, Fault>
     ensures reads { F.sound file.new → F.sound file.old
         × Reads (F.stored file.old) seen.new result (F.stored file.new) }
+    ensures keeps { F.sound file.new → LeavesNoMore (F.may_leave file.old) (F.may_leave file.new) }
     ensures sure { F.sound file.new → F.is_sure file.old → F.is_sure file.new }
 {
     let bytes = match load(alloc, file) {
@@ -277,6 +279,7 @@ fn idle_steps<H: BuildHasher>(
 fn check_folders<D: MaildirDisk>(disk: &mut D) -> Result<(), StoreFault>
     ensures checks { D.sound disk.new → D.sound disk.old
         × ChecksBoth (D.maildir disk.old) result (D.maildir disk.new) }
+    ensures keeps { D.sound disk.new → KeepsMail (D.stays disk.old) (D.outlives disk.old) (D.stays disk.new) (D.outlives disk.new) }
     ensures fault { IfErr result IsDeviceFault }
 {
     disk.check(Folder::New)?;
@@ -289,6 +292,7 @@ fn check_store<D: MaildirDisk, F: FlatFile>(store: &mut Store<D, F>) -> Result<(
     ensures kind { kind_of store.new ≡ kind_of store.old }
     ensures checks { is_sound D.MaildirDisk F.FlatFile store.new → is_sound D.MaildirDisk F.FlatFile store.old
         × ChecksStore (kind_of store.old) (stores_of D.MaildirDisk F.FlatFile store.old) result (stores_of D.MaildirDisk F.FlatFile store.new) }
+    ensures keeps { is_sound D.MaildirDisk F.FlatFile store.new → KeepsMailIn D.MaildirDisk store.old store.new }
 {
     match store {
         Store::Maildir(disk) => check_folders(disk),
@@ -309,6 +313,7 @@ fn rest<D: MaildirDisk, F: FlatFile>(
     ensures finds { is_sound D.MaildirDisk F.FlatFile store.new → is_sound D.MaildirDisk F.FlatFile store.old
         × Rests (kind_of store.old) (stores_of D.MaildirDisk F.FlatFile store.old) listing.now result
         (stores_of D.MaildirDisk F.FlatFile store.new) }
+    ensures keeps { is_sound D.MaildirDisk F.FlatFile store.new → KeepsMailIn D.MaildirDisk store.old store.new }
 {
     if let Err(fault) = check_store(store) {
         return Err(refused(fault));
@@ -396,11 +401,10 @@ pub fn prepare<D: MaildirDisk, F: FlatFile, H: BuildHasher>(
         × AfterTakingIn (stores_of D.MaildirDisk F.FlatFile store.old) (λ left. Readies terms.entry.settings.now
         (target_of store.old terms.entry.account.now) listing.now terms.entry.now left (F.stored file.old) result seen.new.rows
         (stores_of D.MaildirDisk F.FlatFile store.new) (F.stored file.new)) }
-    ensures lasts { is_sound D.MaildirDisk F.FlatFile store.new → is_sure F.FlatFile store.old
-        → IfOk result (λ ready. All IsQuiet ready.steps.items
-        ⊎ (IsSafeStore F.FlatFile store.new × AllStayIn D.MaildirDisk store.new)) }
-    ensures file_lasts { F.sound file.new → F.is_sure file.old
-        → IfOk result (λ ready. All IsQuiet ready.steps.items ⊎ IsSafe F.FlatFile file.new) }
+    ensures lasts { is_sound D.MaildirDisk F.FlatFile store.new → F.sound file.new → AreSure F.FlatFile store.old file.old
+        → IfOk result (λ ready. (All IsQuiet ready.steps.items
+        × IsUntouched D.MaildirDisk F.FlatFile store.old store.new file.old file.new)
+        ⊎ ((IsSafe F.FlatFile file.new × IsSafeStore F.FlatFile store.new) × AllStayIn D.MaildirDisk store.new)) }
 {
     delivered_has_row();
     known_listings_change_nothing();

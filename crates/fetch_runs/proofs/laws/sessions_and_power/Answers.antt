@@ -17,6 +17,13 @@ returns g c = lemmas.sessions_and_power (record {
   digits = c.account_texts_are_digits.ensures;
   steady = c.steady_files_keep.ensures;
   unsaved = c.unsaved_files_keep.ensures;
-  rows = c.marked_keeps_rows.ensures;
-  listed = c.listed_has_row.ensures;
+  all = record {
+    steps = c.session_is_a_step.ensures;
+    visits = c.links_are_visits.ensures;
+    stays = c.kept_states.ensures;
+    holds_what_is_left = c.holds_what_is_left.ensures;
+    digits = c.account_texts_are_digits.ensures;
+    one = c.files_stand_for_one_record.ensures;
+    shrink = c.worlds_shrink.ensures;
+  };
 }) g.D.MaildirDisk g.F.FlatFile c.lasting_sessions_are_sessions.ensures

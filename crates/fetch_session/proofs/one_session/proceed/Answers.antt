@@ -1,4 +1,4 @@
-use Rattle.std.proofs.Common.{rules, ◌+◌, ◌*◌, length, Ok, Err, arith, ◌∙◌, inl}
+use Rattle.std.proofs.Common.{rules, ◌+◌, ◌*◌, length, Ok, Err, arith, ◌∙◌, inl, inr}
 use Rattle.pop3_client.specs.Client.{link_of, place_of}
 use Rattle.fetch_session.specs.Intake.{opening_limit, step_limit, tail_limit}
 use Rattle.fetch_session.specs.Session.{keeping, noted}
@@ -6,7 +6,7 @@ use Rattle.fetch_session.specs.Target.{left_in, stores_of, target_of}
 use Rattle.fetch_session.proofs.SessionLemmas.{dealt, part_same}
 use Rattle.fetch_session.proofs.IntakeLemmas.{took_entering, with_plain_tail, with_tail_on}
 use Rattle.fetch_session.proofs.RefusalLemmas.{cut_by, till_cut}
-use Rattle.fetch_session.specs.Lasting.{is_sure}
+use Rattle.fetch_session.proofs.LastLemmas.{untouched}
 use Rattle.fetch_session.proofs.one_session.proceed.Goals as goal
 
 pub returns-clause-proceeds : goal.returns-clause-proceeds
@@ -22,7 +22,7 @@ returns-clause-proceeds g c = λ w d f.
       (
         does.4.0,
         does.4.1,
-        dealt g.D.MaildirDisk g.F.FlatFile (is_sure g.F.FlatFile old.store × g.F.FlatFile.is_sure old.ledger.file) c.args.terms.settings.now (target_of old.store c.args.terms.account.now) c.args.terms.now
+        dealt g.D.MaildirDisk g.F.FlatFile old.store old.ledger.file c.args.terms.settings.now (target_of old.store c.args.terms.account.now) c.args.terms.now
             (place_of g.W.Wire c.args.client.now) (keeping (left_in (stores_of g.D.MaildirDisk g.F.FlatFile old.store) does.4.0) (g.F.FlatFile.stored old.ledger.file)) c.carry_out.result
             (place_of g.W.Wire new.client) (keeping (stores_of g.D.MaildirDisk g.F.FlatFile new.work.store) (g.F.FlatFile.stored new.work.ledger.file)) (noted c.len-counts.result new.skipped new.work.ledger.lines.items)
             c.in-Ok.listing (place_of g.W.Wire c.enter.new.client) c.reserve.new.self.items new.work.store new.work.ledger.file (c.reserve.ensures.items ∙ c.requires.nothing.2) entered.2 c.len-counts.ensures.count does.4.2,
@@ -37,14 +37,14 @@ returns-in-Err-clause-proceeds g c = λ w d f.
       d,
       f,
       entered.1,
-      (files, part_same files, inl (record { why = c.in-Err.fault; is = c.broken.ensures; enters = entered.2; same = search rules; nothing = search rules })),
+      (files, part_same files, inl (record { why = c.in-Err.fault; is = c.broken.ensures; enters = entered.2; same = search rules; nothing = search rules }, untouched g.D.MaildirDisk g.F.FlatFile c.args.work.now.store c.args.work.now.ledger.file)),
     )
 
 pub returns-in-Err-reserve-clause-proceeds : goal.returns-in-Err-reserve-clause-proceeds
 returns-in-Err-reserve-clause-proceeds g c = λ w d f.
     let entered = c.in-Ok.ensures.enters w in
     let files = (stores_of g.D.MaildirDisk g.F.FlatFile c.args.work.now.store).maildir.files in
-    (entered.0, d, f, entered.1, (files, part_same files, search rules))
+    (entered.0, d, f, entered.1, (files, part_same files, inr (inl (search rules, untouched g.D.MaildirDisk g.F.FlatFile c.args.work.now.store c.args.work.now.ledger.file))))
 
 -- ---- what is kept
 

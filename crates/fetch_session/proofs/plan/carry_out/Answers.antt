@@ -1,4 +1,4 @@
-use Rattle.std.proofs.Common.{◌≡◌, ◌+◌, ◌*◌, ℕ, List, [], ◌∷◌, true, inl, inr, arith, length, Ok, Err, ap, ◌∙◌}
+use Rattle.std.proofs.Common.{◌≡◌, ◌+◌, ◌*◌, ℕ, List, [], ◌∷◌, true, inl, inr, arith, length, Ok, Err, refl, ap, ◌∙◌}
 use Rattle.std.proofs.lemmas.List.{append-nil}
 use Rattle.mail_terms.specs.UniqueId.{IsLegalId}
 use Rattle.fetch_rules.specs.Plan.{planned}
@@ -10,7 +10,7 @@ use Rattle.fetch_session.specs.Report.{skips_of}
 use Rattle.fetch_session.specs.Intake.{TookTillCut, step_limit, tail_limit}
 use Rattle.fetch_session.specs.Parts.{IsReadyFor, KeepsLink, KeepsStore}
 use Rattle.fetch_session.proofs.PlanLemmas.{flags_same, fresh_firsts}
-use Rattle.fetch_session.proofs.CarryLemmas.{carried, firm_both, still, unprepared}
+use Rattle.fetch_session.proofs.CarryLemmas.{carried, unprepared}
 use Rattle.fetch_session.proofs.PartLemmas.{does_on, kept_on, link_idle, link_less, link_on_tail, link_with_tail, most_planned, planned_all, store_less, store_on}
 use Rattle.fetch_session.proofs.LastLemmas.{good_before, in_kind}
 use Rattle.fetch_session.proofs.plan.carry_out.Given.{Over}
@@ -63,8 +63,8 @@ returns-in-Err-do_steps-clause-carries g c = λ w d f.
         ready.2.1,
         (
           c.do_steps.new.work.ledger.seen.rows,
-          inr (carried g.D.MaildirDisk g.F.FlatFile c.prepare.new.store c.deref-2.result.now c.deref-3.result.now ready.2.2 c.deref-2.ensures.value c.deref-3.ensures.value
-              (c.skips_of.ensures ∙ ap (skips_of c.args.terms.settings.now c.prepare.new.seen.rows c.args.listing.now c.args.terms.now) c.deref.ensures.value) (λ sure. still (c.in-Ok.ensures.lasts done.1 sure.0)) (λ sure. firm_both (c.in-Ok.ensures.file_lasts done.2 sure.1) (c.in-Ok.ensures.lasts done.1 sure.0)) (c.in-Err-do_steps.ensures.keeps.lasts d f).1
+          inr (carried g.D.MaildirDisk g.F.FlatFile c.args.work.now.store c.prepare.new.store c.args.work.now.ledger.file c.prepare.new.file c.deref-2.result.now c.deref-3.result.now ready.2.2 c.deref-2.ensures.value c.deref-3.ensures.value
+              (c.skips_of.ensures ∙ ap (skips_of c.args.terms.settings.now c.prepare.new.seen.rows c.args.listing.now c.args.terms.now) c.deref.ensures.value) (c.in-Ok.ensures.lasts done.1 done.2) (c.in-Err-do_steps.ensures.keeps.lasts d f).1 c.in-Err-do_steps.ensures.keeps.idle
               (good_before (says quit ∷ []) (in_kind c.prepare.new.store c.args.work.now.store c.args.terms.account.now c.prepare.ensures.kind done.4
               (λ safe. safe)))),
         ),
@@ -92,9 +92,9 @@ returns-in-Ok-end-clause-carries g c = λ w d f.
         ready.2.1,
         (
           c.end.new.work.ledger.seen.rows,
-          (carried g.D.MaildirDisk g.F.FlatFile c.prepare.new.store c.deref-2.result.now c.deref-3.result.now ready.2.2 c.deref-2.ensures.value c.deref-3.ensures.value
-              (c.skips_of.ensures ∙ ap (skips_of c.args.terms.settings.now c.prepare.new.seen.rows c.args.listing.now c.args.terms.now) c.deref.ensures.value) (λ sure. still (c.in-Ok.ensures.lasts done.1 sure.0)) (λ sure. firm_both (c.in-Ok.ensures.file_lasts done.2 sure.1) (c.in-Ok.ensures.lasts done.1 sure.0))
-              ((kept_on tasks (says quit ∷ []) (Ok tt) c.in_default.ensures.keeps keeps).lasts d f).1
+          (carried g.D.MaildirDisk g.F.FlatFile c.args.work.now.store c.prepare.new.store c.args.work.now.ledger.file c.prepare.new.file c.deref-2.result.now c.deref-3.result.now ready.2.2 c.deref-2.ensures.value c.deref-3.ensures.value
+              (c.skips_of.ensures ∙ ap (skips_of c.args.terms.settings.now c.prepare.new.seen.rows c.args.listing.now c.args.terms.now) c.deref.ensures.value) (c.in-Ok.ensures.lasts done.1 done.2)
+              ((kept_on tasks (says quit ∷ []) (Ok tt) c.in_default.ensures.keeps keeps).lasts d f).1 (λ none. keeps.idle refl ∙ c.in_default.ensures.keeps.idle none)
               (in_kind c.prepare.new.store c.args.work.now.store account c.prepare.ensures.kind done.4 (λ safe. safe))),
         ),
       ),
@@ -117,9 +117,9 @@ returns-clause-carries g c = λ w d f.
         ready.2.1,
         (
           c.end.new.work.ledger.seen.rows,
-          inr (carried g.D.MaildirDisk g.F.FlatFile c.prepare.new.store c.deref-2.result.now c.deref-3.result.now ready.2.2 c.deref-2.ensures.value c.deref-3.ensures.value
-              (c.skips_of.ensures ∙ ap (skips_of c.args.terms.settings.now c.prepare.new.seen.rows c.args.listing.now c.args.terms.now) c.deref.ensures.value) (λ sure. still (c.in-Ok.ensures.lasts done.1 sure.0)) (λ sure. firm_both (c.in-Ok.ensures.file_lasts done.2 sure.1) (c.in-Ok.ensures.lasts done.1 sure.0))
-              ((kept_on tasks (says quit ∷ []) (Err cut) c.in_default.ensures.keeps keeps).lasts d f).1
+          inr (carried g.D.MaildirDisk g.F.FlatFile c.args.work.now.store c.prepare.new.store c.args.work.now.ledger.file c.prepare.new.file c.deref-2.result.now c.deref-3.result.now ready.2.2 c.deref-2.ensures.value c.deref-3.ensures.value
+              (c.skips_of.ensures ∙ ap (skips_of c.args.terms.settings.now c.prepare.new.seen.rows c.args.listing.now c.args.terms.now) c.deref.ensures.value) (c.in-Ok.ensures.lasts done.1 done.2)
+              ((kept_on tasks (says quit ∷ []) (Err cut) c.in_default.ensures.keeps keeps).lasts d f).1 (λ none. keeps.idle refl ∙ c.in_default.ensures.keeps.idle none)
               (in_kind c.prepare.new.store c.args.work.now.store account c.prepare.ensures.kind done.4 (λ safe. safe))),
         ),
       ),

@@ -1,0 +1,5 @@
+use Rattle.fetch_runs.proofs.PowerLosses as lemmas
+use Rattle.fetch_runs.proofs.laws.losses_are_events.Goals as goal
+
+pub returns : goal.returns
+returns g c = lemmas.losses_are_events c.headline.ensures g.D.MaildirDisk g.F.FlatFile
