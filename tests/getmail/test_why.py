@@ -103,9 +103,9 @@ class OfMboxes(Sessions):
         """Before the first session there is no record, which is no reason for anything."""
         self.account.mbox.unlink()
         os.mkfifo(self.account.mbox)
-        run = self.session("--why")
-        self.assertEqual(run.err.splitlines()[0], b"getmail: destination refused")
-        self.assertNotIn(b"seen-", run.err)
+        self.check_told("destination refused", f"{self.account.mbox}: not a regular file")
+        self.account.record.unlink(missing_ok=True)
+        self.check_told("destination refused", f"{self.account.mbox}: not a regular file", "--pretend")
 
     def test_a_preview_waits_for_no_pipe(self):
         self.account.record.write_bytes(b"getmail-seen 2\na 5 0\n! a 0 40\n")

@@ -2,6 +2,7 @@
 
 import os
 import select
+import socket
 import unittest
 
 from harness import programs
@@ -113,6 +114,39 @@ class Verbose(unittest.TestCase):
             peer, answers = self.talk(service, b"QUIT")
             self.assertEqual(answers[1], b"-ERR maildrop unavailable\r\n")
             self.check_told(service, f"{peer}: maildrop unavailable", f'warning: cannot read {folder}')
+
+
+class Beginnings(unittest.TestCase):
+    """Why it can't begin, after the line that says so: with the option or on a terminal."""
+
+    def setUp(self):
+        self.maildir = Maildir()
+        self.addCleanup(self.maildir.holder.cleanup)
+        self.taken = socket.create_server((LOOPBACK, 0))
+        self.addCleanup(self.taken.close)
+        self.address = f"{LOOPBACK}:{self.taken.getsockname()[1]}"
+        self.words = ("--listen", self.address, "u", self.maildir.passfile, self.maildir.folder)
+
+    def check_told(self, fault, reason):
+        self.assertEqual(programs.run("popd", *self.words), programs.Run(1, b"", f"popd: {fault}\n".encode()))
+        told = f"popd: {fault}\npopd: {reason}\n".encode()
+        self.assertEqual(programs.run("popd", "--verbose", *self.words), programs.Run(1, b"", told))
+        ours, theirs = os.openpty()
+        with open(ours, "rb", buffering=0) as terminal, open(theirs, "wb", buffering=0) as err:
+            self.assertEqual(programs.run("popd", *self.words, err=err).status, 1)
+            self.assertEqual(terminal.read(65536).replace(b"\r\n", b"\n"), told)
+
+    def test_an_address_that_is_taken(self):
+        self.check_told(f"cannot listen on {self.address}", f"{self.address}: Address already in use")
+
+    def test_a_password_file_that_is_not_there(self):
+        passfile = self.maildir.passfile
+        passfile.unlink()
+        self.check_told(f"cannot read {passfile}", f"{passfile}: No such file or directory")
+
+    def test_a_password_file_that_is_a_folder(self):
+        self.words = ("u", self.maildir.folder, self.maildir.folder)
+        self.check_told(f"cannot read {self.maildir.folder}", f"{self.maildir.folder}: Is a directory")
 
 
 class OverStandardStreams(unittest.TestCase):

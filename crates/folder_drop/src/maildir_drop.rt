@@ -12,7 +12,7 @@ mod texts;
 
 use crate::listed_file::Listing;
 use crate::maildir_drop::listing::ListedMessages;
-use crate::maildir_folders::{MaildirFolders, Unread};
+use crate::maildir_folders::MaildirFolders;
 use crate::seen_files::SeenFiles;
 use mail_terms::FailureCount;
 use pop3_server::{DropFault, Entry, MAX_COUNT, Maildrop};
@@ -21,13 +21,14 @@ use std::marker::Model;
 use std::random::RandomSource;
 use std::rt::Files;
 use std::time::Clock;
+use trace::{System, Told};
 
 /// A Maildir in a real folder. Nothing is known of what it holds: contracts see its path, the names of
 /// the files that were listed, and the counts. NoMemory means that a growth of its own was refused,
 /// or that a call of the kernel answered ENOMEM.
 #[derive(Drop)]
 pub struct MaildirDrop<'a, R: Files + AllocGlobal + Clone + Drop> {
-    pub(crate) rt: &'a R,
+    pub(crate) system: &'a System<'a, R>,
     pub(crate) folders: MaildirFolders<'a, R>,
     pub(crate) listing: Listing,
     /// An earlier server's listing, until this one has its own.
@@ -37,7 +38,7 @@ pub struct MaildirDrop<'a, R: Files + AllocGlobal + Clone + Drop> {
     /// Where files were last seen, for those that aren't where they were listed.
     pub(crate) last_seen: SeenFiles,
     /// The file that was last read in part.
-    pub(crate) open: Option<OpenText<R::File>>,
+    pub(crate) open: Option<OpenText<Told<'a, R::File>>>,
     failures: FailureCount,
     removals: u64,
 }
@@ -66,14 +67,14 @@ impl<'a, R: Files + AllocGlobal + Clone + Drop> Model for MaildirDrop<'a, R> {
 
 impl<'a, R: Files + Clock + RandomSource + AllocGlobal + Clone + Drop> MaildirDrop<'a, R> {
     /// The maildrop of the Maildir at this path, which must have the folders `new` and `cur`.
-    pub fn at(rt: &'a R, path: String) -> MaildirDrop<'a, R>
+    pub fn at(system: &'a System<'a, R>, path: String) -> MaildirDrop<'a, R>
         ensures { result ≡ record { path = string_bytes path; names = []; failures = 0; removals = 0 } }
     {
         MaildirDrop {
-            rt,
-            folders: MaildirFolders::at(rt, path),
-            listing: Listing::none(rt.alloc()),
-            earlier: Listing::none(rt.alloc()),
+            system,
+            folders: MaildirFolders::at(system, path),
+            listing: Listing::none(system.alloc()),
+            earlier: Listing::none(system.alloc()),
             unread: None,
             last_seen: SeenFiles::none(),
             open: None,
@@ -88,7 +89,7 @@ impl<'a, R: Files + Clock + RandomSource + AllocGlobal + Clone + Drop> MaildirDr
         ensures { result ≡ record { path = self.entry.path; names = []; failures = 0; removals = 0 } }
     {
         let MaildirDrop {
-            rt,
+            system,
             folders,
             listing,
             earlier,
@@ -101,7 +102,7 @@ impl<'a, R: Files + Clock + RandomSource + AllocGlobal + Clone + Drop> MaildirDr
         };
         MaildirDrop {
             earlier,
-            ..MaildirDrop::at(rt, folders.into_path())
+            ..MaildirDrop::at(system, folders.into_path())
         }
     }
 
@@ -110,6 +111,14 @@ impl<'a, R: Files + Clock + RandomSource + AllocGlobal + Clone + Drop> MaildirDr
         match &self.unread {
             Some(path) => Some(path.as_str()),
             None => None,
+        }
+    }
+
+    /// The path of what was refused last, unless memory ran out.
+    fn unread_at(&self, error: &io::Error) -> Option<String> {
+        match self.system.refusals.take() {
+            Some(refusal) if error.kind() != ErrorKind::OutOfMemory => Some(refusal.path),
+            _ => None,
         }
     }
 
@@ -149,11 +158,11 @@ impl<'a, R: Files + Clock + RandomSource + AllocGlobal + Clone + Drop> Maildrop
             Ok(ListedMessages { entries, listing }) => {
                 self.listing = listing;
                 self.last_seen = last_seen;
-                self.earlier = Listing::none(self.rt.alloc());
+                self.earlier = Listing::none(self.system.alloc());
                 Ok(entries)
             }
-            Err(Unread { error, path }) => {
-                self.unread = path;
+            Err(error) => {
+                self.unread = self.unread_at(&error);
                 Err(self.refuse(error))
             }
         }
@@ -168,7 +177,7 @@ impl<'a, R: Files + Clock + RandomSource + AllocGlobal + Clone + Drop> Maildrop
         }
         match self.read_file(i) {
             Ok(text) => Ok(text),
-            Err(unread) => Err(self.refuse(unread.error)),
+            Err(error) => Err(self.refuse(error)),
         }
     }
 
@@ -184,9 +193,9 @@ impl<'a, R: Files + Clock + RandomSource + AllocGlobal + Clone + Drop> Maildrop
         }
         match self.read_part(i, start, piece) {
             Ok(n) => Ok(n),
-            Err(unread) => {
+            Err(error) => {
                 if start == 0 {
-                    return Err(self.refuse(unread.error));
+                    return Err(self.refuse(error));
                 }
                 self.failures.count_up();
                 Err(DropFault::Refused)

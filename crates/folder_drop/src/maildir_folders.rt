@@ -1,7 +1,6 @@
 //! The two folders of a Maildir whose files are messages, and where such a file is now: mail software
 //! moves files from `new` to `cur` and changes their flags while they are served.
-ghost use Rattle.std.specs.Prelude.{◌≡◌, ◌≢◌, Some, None};
-ghost use Rattle.std.specs.IoError.{error_kind};
+ghost use Rattle.std.specs.Prelude.{◌≡◌};
 ghost use Rattle.std.specs.String.{string_bytes};
 
 use crate::folders_look::FoldersLook;
@@ -10,12 +9,11 @@ use crate::maildir_names::{Folder, PlacedFile, Stamp};
 use crate::seen_files::SeenFiles;
 use folder_store::{ChangeTime, list_names};
 use mail_terms::base;
-use std::alloc::{AllocError, AllocFailed};
-use std::fs;
 use std::io::{self, ErrorKind};
 use std::marker::Model;
 use std::rt::Files;
 use std::time::{Clock, Duration};
+use trace::{System, Told};
 
 /// How many times a file is tried, if it has a new name each time.
 const MOST_TRIES: u32 = 10;
@@ -26,59 +24,13 @@ const MOST_LISTINGS: u32 = 100;
 
 const MOST_SECONDS: u64 = 4;
 
-/// Why a file or folder couldn't be read or removed: the system's error, and the path, if the error is
-/// about one.
-#[derive(Drop)]
-pub struct Unread {
-    pub error: io::Error,
-    pub path: Option<String>,
-}
-
-impl Unread {
-    /// The failure to read a file or folder. If memory ran out, the path doesn't matter.
-    pub fn at(error: io::Error, path: String) -> Unread
-        ensures error { result.error ≡ error }
-        ensures path { error_kind error ≢ ErrorKind.OutOfMemory → result.path ≡ Some path }
-        ensures none { error_kind error ≡ ErrorKind.OutOfMemory → result.path ≡ None }
-    {
-        let path = if error.kind() == ErrorKind::OutOfMemory {
-            None
-        } else {
-            Some(path)
-        };
-        Unread { error, path }
-    }
-}
-
-impl From<io::Error> for Unread {
-    ghost use Rattle.std.specs.Prelude.{◌≡◌, None};
-
-    ghost from_gives = { λ error unread. (unread.error ≡ error) × (unread.path ≡ None) };
-
-    fn from(error: io::Error) -> Unread {
-        Unread { error, path: None }
-    }
-}
-
-impl From<AllocError> for Unread {
-    fn from(error: AllocError) -> Unread {
-        Unread {
-            error: error.into(),
-            path: None,
-        }
-    }
-}
-
-impl<T: Drop> From<AllocFailed<T>> for Unread {
-    fn from(error: AllocFailed<T>) -> Unread {
-        AllocError::from(error).into()
-    }
-}
+/// Why a file or a folder isn't read.
+const BUSY: &str = "changes all the time";
 
 /// The folders `new` and `cur` of the Maildir at a path.
 #[derive(Drop)]
 pub struct MaildirFolders<'a, R: Files + AllocGlobal + Clone + Drop> {
-    rt: &'a R,
+    system: &'a System<'a, R>,
     path: String,
 }
 
@@ -93,10 +45,10 @@ impl<'a, R: Files + AllocGlobal + Clone + Drop> Model for MaildirFolders<'a, R> 
 
 impl<'a, R: Files + Clock + AllocGlobal + Clone + Drop> MaildirFolders<'a, R> {
     /// The folders of the Maildir at this path.
-    pub fn at(rt: &'a R, path: String) -> MaildirFolders<'a, R>
+    pub fn at(system: &'a System<'a, R>, path: String) -> MaildirFolders<'a, R>
         ensures { result ≡ string_bytes path }
     {
-        MaildirFolders { rt, path }
+        MaildirFolders { system, path }
     }
 
     /// The path of the Maildir.
@@ -111,29 +63,26 @@ impl<'a, R: Files + Clock + AllocGlobal + Clone + Drop> MaildirFolders<'a, R> {
     fn folder_path(&self, folder: Folder) -> io::Result<String> {
         let path = self.path.as_str();
         let name = folder.name();
-        Ok(format!(in self.rt.alloc(); "{path}/{name}")?)
+        Ok(format!(in self.system.alloc(); "{path}/{name}")?)
     }
 
     /// The path of a file in a folder.
     fn path_of(&self, folder: Folder, name: &str) -> io::Result<String> {
         let path = self.path.as_str();
         let folder = folder.name();
-        Ok(format!(in self.rt.alloc(); "{path}/{folder}/{name}")?)
+        Ok(format!(in self.system.alloc(); "{path}/{folder}/{name}")?)
     }
 
     /// When a folder was last changed.
-    fn change_of(&self, folder: Folder) -> Result<ChangeTime, Unread> {
+    fn change_of(&self, folder: Folder) -> io::Result<ChangeTime> {
         let path = self.folder_path(folder)?;
-        match fs::metadata(self.rt, path.as_str()) {
-            Ok(metadata) => Ok(ChangeTime::of(&metadata)),
-            Err(error) => Err(Unread::at(error, path)),
-        }
+        Ok(ChangeTime::of(&self.system.stat(path.as_str())?))
     }
 
     /// A look at both folders. The clock is read first, so that a change which the look misses has a
     /// time no older than the look.
-    pub fn look(&self) -> Result<FoldersLook, Unread> {
-        let at = match self.rt.since_1970() {
+    pub fn look(&self) -> io::Result<FoldersLook> {
+        let at = match self.system.rt.since_1970() {
             Ok(passed) => passed.as_secs(),
             Err(_) => 0,
         };
@@ -146,22 +95,19 @@ impl<'a, R: Files + Clock + AllocGlobal + Clone + Drop> MaildirFolders<'a, R> {
 
     /// Adds the files of a folder at one moment, and returns the folder's time of change then. Names that
     /// aren't UTF-8, or begin with a full stop, are skipped.
-    fn add_files(&self, folder: Folder, files: &mut Vec<PlacedFile>) -> Result<ChangeTime, Unread> {
+    fn add_files(&self, folder: Folder, files: &mut Vec<PlacedFile>) -> io::Result<ChangeTime> {
         let path = self.folder_path(folder)?;
-        let listed = match list_names(self.rt, path.as_str()) {
-            Ok(listed) => listed,
-            Err(error) => return Err(Unread::at(error, path)),
-        };
+        let listed = list_names(self.system, path.as_str())?;
         for name in listed.names {
-            files.push(PlacedFile::of(self.rt.alloc(), folder, name)?)?;
+            files.push(PlacedFile::of(self.system.alloc(), folder, name)?)?;
         }
         Ok(ChangeTime::of(&listed.folder))
     }
 
     /// The files of both folders, in order. None if `new` changed meanwhile: a file may then have moved
     /// from the folder that wasn't listed yet to the one that was.
-    fn list_once(&self) -> Result<Option<Vec<PlacedFile>>, Unread> {
-        let mut files = Vec::new(self.rt.alloc());
+    fn list_once(&self) -> io::Result<Option<Vec<PlacedFile>>> {
+        let mut files = Vec::new(self.system.alloc());
         let change = self.add_files(Folder::New, &mut files)?;
         self.add_files(Folder::Cur, &mut files)?;
         if self.change_of(Folder::New)? != change {
@@ -173,19 +119,19 @@ impl<'a, R: Files + Clock + AllocGlobal + Clone + Drop> MaildirFolders<'a, R> {
 
     /// The files of both folders at one moment, in order: each once, although others move files between
     /// the two meanwhile. The error is TimedOut if `new` changes all the time.
-    pub fn list(&self) -> Result<Vec<PlacedFile>, Unread> {
-        let start = self.rt.monotonic()?;
+    pub fn list(&self) -> io::Result<Vec<PlacedFile>> {
+        let start = self.system.rt.monotonic()?;
         for _ in 0..MOST_LISTINGS {
             if let Some(files) = self.list_once()? {
                 return Ok(files);
             }
-            let passed = self.rt.monotonic()?.saturating_sub(start);
+            let passed = self.system.rt.monotonic()?.saturating_sub(start);
             if passed >= Duration::from_secs(MOST_SECONDS) {
                 break;
             }
         }
         let path = self.folder_path(Folder::New)?;
-        Err(Unread::at(ErrorKind::TimedOut.into(), path))
+        Err(self.system.refusals.refuse(path.as_str(), BUSY))
     }
 
     /// The path of a file that isn't at `tried` any more: where the last listing saw a file with its
@@ -195,7 +141,7 @@ impl<'a, R: Files + Clock + AllocGlobal + Clone + Drop> MaildirFolders<'a, R> {
         seen: &mut SeenFiles,
         base: &[u8],
         tried: &str,
-    ) -> Result<Option<String>, Unread> {
+    ) -> io::Result<Option<String>> {
         if let Some(file) = seen.with_base(base, 0) {
             let path = self.path_of(file.folder, file.name.as_str())?;
             if path.as_str() != tried {
@@ -213,37 +159,34 @@ impl<'a, R: Files + Clock + AllocGlobal + Clone + Drop> MaildirFolders<'a, R> {
 
     /// Does something with the file of this name, or if that is gone, with the one that has its base now.
     /// None if no file has it.
-    fn reach<T: Drop, A: FnMut(&R, &str) -> io::Result<T>>(
+    fn reach<T: Drop, A: FnMut(&System<'a, R>, &str) -> io::Result<T>>(
         &self,
         seen: &mut SeenFiles,
         folder: Folder,
         name: &str,
         mut act: A,
-    ) -> Result<Option<T>, Unread>
+    ) -> io::Result<Option<T>>
         requires { A.IsAlwaysCallable act }
     {
         let mut path = self.path_of(folder, name)?;
         for _ in 0..MOST_TRIES {
-            match act(self.rt, path.as_str()) {
+            match act(self.system, path.as_str()) {
                 Ok(done) => return Ok(Some(done)),
-                Err(error) => {
-                    if error.kind() != ErrorKind::NotFound {
-                        return Err(Unread::at(error, path));
-                    }
-                }
+                Err(error) if error.kind() == ErrorKind::NotFound => {}
+                Err(error) => return Err(error),
             }
             match self.path_now(seen, base(name).as_bytes(), path.as_str())? {
                 Some(now) => path = now,
                 None => return Ok(None),
             }
         }
-        Err(Unread::at(ErrorKind::TimedOut.into(), path))
+        Err(self.system.refusals.refuse(path.as_str(), BUSY))
     }
 
     /// The stamp of a regular file. None if it isn't one, or is gone.
-    pub fn stamp(&self, seen: &mut SeenFiles, file: &PlacedFile) -> Result<Option<Stamp>, Unread> {
-        let told = self.reach(seen, file.folder, file.name.as_str(), |rt, path| {
-            fs::symlink_metadata(rt, path)
+    pub fn stamp(&self, seen: &mut SeenFiles, file: &PlacedFile) -> io::Result<Option<Stamp>> {
+        let told = self.reach(seen, file.folder, file.name.as_str(), |system, path| {
+            system.lstat(path)
         })?;
         match told {
             Some(metadata) if metadata.is_file() => Ok(Some(stamp_of(&metadata))),
@@ -257,25 +200,25 @@ impl<'a, R: Files + Clock + AllocGlobal + Clone + Drop> MaildirFolders<'a, R> {
         seen: &mut SeenFiles,
         folder: Folder,
         name: &str,
-    ) -> Result<Option<R::File>, Unread> {
-        self.reach(seen, folder, name, |rt, path| fs::open(rt, path))
+    ) -> io::Result<Option<Told<'a, R::File>>> {
+        self.reach(seen, folder, name, |system, path| system.open(path))
     }
 
     /// Removes a regular file, if it is still there.
-    fn remove_regular(&self, path: String) -> Result<(), Unread> {
-        let removed = match fs::symlink_metadata(self.rt, path.as_str()) {
-            Ok(found) if found.is_file() => fs::remove_file(self.rt, path.as_str()),
+    fn remove_regular(&self, path: &str) -> io::Result<()> {
+        let removed = match self.system.lstat(path) {
+            Ok(found) if found.is_file() => self.system.unlink(path),
             Ok(_) => Ok(()),
             Err(error) => Err(error),
         };
         match removed {
-            Err(error) if error.kind() != ErrorKind::NotFound => Err(Unread::at(error, path)),
-            _ => Ok(()),
+            Err(error) if error.kind() == ErrorKind::NotFound => Ok(()),
+            answer => answer,
         }
     }
 
     /// Removes the files with a base, if there are several, from where they were seen.
-    fn remove_all(&self, seen: &SeenFiles, base: &[u8]) -> Result<(), Unread> {
+    fn remove_all(&self, seen: &SeenFiles, base: &[u8]) -> io::Result<()> {
         if seen.with_base(base, 1).is_none() {
             return Ok(());
         }
@@ -283,15 +226,16 @@ impl<'a, R: Files + Clock + AllocGlobal + Clone + Drop> MaildirFolders<'a, R> {
             let Some(file) = seen.with_base(base, place) else {
                 break;
             };
-            self.remove_regular(self.path_of(file.folder, file.name.as_str())?)?;
+            let path = self.path_of(file.folder, file.name.as_str())?;
+            self.remove_regular(path.as_str())?;
         }
         Ok(())
     }
 
     /// Removes a file, and each other one that was seen with its base: a message may be linked in both
     /// folders. One that is gone already counts as removed.
-    pub fn remove(&self, seen: &mut SeenFiles, folder: Folder, name: &str) -> Result<(), Unread> {
-        self.reach(seen, folder, name, |rt, path| fs::remove_file(rt, path))?;
+    pub fn remove(&self, seen: &mut SeenFiles, folder: Folder, name: &str) -> io::Result<()> {
+        self.reach(seen, folder, name, |system, path| system.unlink(path))?;
         self.remove_all(seen, base(name).as_bytes())
     }
 
@@ -302,13 +246,10 @@ impl<'a, R: Files + Clock + AllocGlobal + Clone + Drop> MaildirFolders<'a, R> {
         folder: Folder,
         name: &str,
         piece: &mut [u8],
-    ) -> Result<Option<u64>, Unread> {
+    ) -> io::Result<Option<u64>> {
         let Some(mut file) = self.open(seen, folder, name)? else {
             return Ok(None);
         };
-        match count_size(&mut file, piece) {
-            Ok(size) => Ok(Some(size)),
-            Err(error) => Err(Unread::at(error, self.path_of(folder, name)?)),
-        }
+        Ok(Some(count_size(&mut file, piece)?))
     }
 }

@@ -10,6 +10,7 @@ use std::os::unix::fs::MetadataExt;
 use std::rt::Files;
 use std::time::{Clock, Duration};
 use std::{fs, thread};
+use trace::System;
 
 /// How many milliseconds a folder must be unchanged before it is listed, so that each later change
 /// gives it another time: longer than the steps of the clock by which Linux stamps changes (1 to 10).
@@ -83,9 +84,12 @@ struct Sighting {
 
 impl Sighting {
     /// A folder's metadata now.
-    fn now<R: Files + Clock>(rt: &R, path: &str) -> io::Result<Sighting> {
-        let folder = fs::metadata(rt, path)?;
-        let at = rt.monotonic()?;
+    fn now<R: Files + Clock + AllocGlobal>(
+        system: &System<'_, R>,
+        path: &str,
+    ) -> io::Result<Sighting> {
+        let folder = system.stat(path)?;
+        let at = system.rt.monotonic()?;
         Ok(Sighting { folder, at })
     }
 
@@ -142,16 +146,17 @@ fn listing_of(before: ChangeTime, after: ChangeTime, passed: Duration) -> Listin
 /// out a file that is there all the time; and on tmpfs it finds a renamed file again, so a pass
 /// ends early once the folder isn't as it was seen.
 fn pass_through<R: Files + Clock + AllocGlobal + Clone + Drop>(
-    rt: &R,
+    system: &System<'_, R>,
     path: &str,
     seen: &Sighting,
 ) -> io::Result<Vec<String>> {
-    let mut names = Vec::new(rt.alloc());
+    let mut names = Vec::new(system.alloc());
     let mut until_look = LOOK_EACH;
-    for entry in fs::read_dir(rt, path)? {
+    let entries = fs::read_dir(system.rt, path);
+    for entry in system.refusals.told("open", path, entries)? {
         until_look = until_look.saturating_sub(1);
         if until_look == 0 {
-            if Sighting::now(rt, path)?.change() != seen.change() {
+            if Sighting::now(system, path)?.change() != seen.change() {
                 break;
             }
             until_look = LOOK_EACH;
@@ -159,11 +164,11 @@ fn pass_through<R: Files + Clock + AllocGlobal + Clone + Drop>(
         let entry = match entry {
             Ok(entry) => entry,
             Err(fault) if fault.kind() == ErrorKind::InvalidFilename => continue,
-            Err(fault) => return Err(fault),
+            Err(fault) => return system.refusals.told("read", path, Err(fault)),
         };
         let name = entry.file_name();
         if !name.starts_with('.') {
-            names.push(String::from_str(rt.alloc(), name)?)?;
+            names.push(String::from_str(system.alloc(), name)?)?;
         }
     }
     Ok(names)
@@ -179,20 +184,20 @@ fn pass_through<R: Files + Clock + AllocGlobal + Clone + Drop>(
 /// That holds for local file systems; one of the network may stamp by another clock, or report an
 /// old time.
 ///
-/// The error is TimedOut if the folder found no rest within 2 seconds, else that of the system.
+/// The error is the system's, or a refusal if the folder found no rest within 2 seconds.
 pub fn list_names<R: Files + Clock + AllocGlobal + Clone + Drop>(
-    rt: &R,
+    system: &System<'_, R>,
     path: &str,
 ) -> io::Result<FolderNames> {
-    let start = rt.monotonic()?;
-    let mut seen = Sighting::now(rt, path)?;
+    let start = system.rt.monotonic()?;
+    let mut seen = Sighting::now(system, path)?;
     for _ in 0..MOST_LISTINGS {
-        let wait = seen.wait(rt)?;
+        let wait = seen.wait(system.rt)?;
         if wait > Duration::ZERO {
-            thread::sleep(rt, wait);
+            thread::sleep(system.rt, wait);
         }
-        let names = pass_through(rt, path, &seen)?;
-        let again = Sighting::now(rt, path)?;
+        let names = pass_through(system, path, &seen)?;
+        let again = Sighting::now(system, path)?;
         match listing_of(
             seen.change(),
             again.change(),
@@ -206,5 +211,5 @@ pub fn list_names<R: Files + Clock + AllocGlobal + Clone + Drop>(
             Listing::TooBusy => break,
         }
     }
-    Err(io::Error::from(ErrorKind::TimedOut))
+    Err(system.refusals.refuse(path, "changes all the time"))
 }

@@ -14,6 +14,7 @@ use mail_store::{Edges, FlatFile, StoreFault, admit, refuse};
 use mail_terms::FailureCount;
 use std::rt::Files;
 use std::time::Clock;
+use trace::System;
 
 /// A file in a folder of a file system.
 ///
@@ -108,11 +109,15 @@ impl<'a, R: Files + Clock + AllocGlobal + Clone + Drop> HostFile<'a, HostFolder<
     ///
     /// Once another program has changed the file since it was first measured, it is neither measured,
     /// appended to nor cut: these calls are refused.
-    pub fn at(rt: &'a R, path: &'a str, mark: ProcessMark) -> HostFile<'a, HostFolder<'a, R>>
+    pub fn at(
+        system: &'a System<'a, R>,
+        path: &'a str,
+        mark: ProcessMark,
+    ) -> HostFile<'a, HostFolder<'a, R>>
         ensures { ⟦<HostFile<'a, HostFolder<'a, R>> as FlatFile>⟧.stored result ≡ unknown_file }
     {
         HostFile::over(
-            HostFolder::around(rt, path, mark, false),
+            HostFolder::around(system, path, mark, false),
             name_in(path),
             Appending::AtOnce,
         )
@@ -121,11 +126,15 @@ impl<'a, R: Files + Clock + AllocGlobal + Clone + Drop> HostFile<'a, HostFolder<
     /// The file at a path, likewise. What is appended is flushed at each border of 512 octets of the
     /// file before more is written, so that a loss of power leaves a front of it, and perhaps zeros behind
     /// that: for short texts.
-    pub fn by_blocks(rt: &'a R, path: &'a str, mark: ProcessMark) -> HostFile<'a, HostFolder<'a, R>>
+    pub fn by_blocks(
+        system: &'a System<'a, R>,
+        path: &'a str,
+        mark: ProcessMark,
+    ) -> HostFile<'a, HostFolder<'a, R>>
         ensures { ⟦<HostFile<'a, HostFolder<'a, R>> as FlatFile>⟧.stored result ≡ unknown_file }
     {
         HostFile::over(
-            HostFolder::around(rt, path, mark, true),
+            HostFolder::around(system, path, mark, true),
             name_in(path),
             Appending::ByBlocks,
         )
@@ -134,16 +143,16 @@ impl<'a, R: Files + Clock + AllocGlobal + Clone + Drop> HostFile<'a, HostFolder<
     /// The file at a path, as `at` has it. What is cut off is first kept in the file at another path,
     /// after what that has, unless it is a part of bytes of this run whose `append` was refused.
     pub fn keeping(
-        rt: &'a R,
+        system: &'a System<'a, R>,
         path: &'a str,
         rests: &'a str,
         mark: ProcessMark,
     ) -> HostFile<'a, HostFolder<'a, R>>
         ensures { ⟦<HostFile<'a, HostFolder<'a, R>> as FlatFile>⟧.stored result ≡ unknown_file }
     {
-        let kept = HostFolder::around(rt, rests, mark, false);
+        let kept = HostFolder::around(system, rests, mark, false);
         HostFile {
-            folder: HostFolder::around(rt, path, mark, false),
+            folder: HostFolder::around(system, path, mark, false),
             name: name_in(path),
             appending: Appending::AtOnce,
             is_flushed: false,

@@ -12,11 +12,15 @@ use crate::system::{flush_folder, folder_of, make_file, sweep};
 use mail_store::{Edges, StoreFault};
 use std::alloc::Global;
 use std::fs::{Metadata, OpenFile, OpenOptions};
+use std::io;
 use std::io::{ErrorKind, Read, Seek, SeekFrom, Write};
 use std::os::unix::fs::MetadataExt;
 use std::rt::Files;
 use std::time::Clock;
-use std::{fs, io};
+use trace::{Refusals, System, Told};
+
+/// Why a watched file isn't used any more.
+const CHANGED: &str = "changed by another program";
 
 /// A file that was made, and its path.
 #[derive(Drop)]
@@ -40,7 +44,7 @@ struct Changed<F: Drop> {
 /// others rename files meanwhile.
 #[derive(Drop)]
 pub struct HostFolder<'a, R: Files + Clock + AllocGlobal + Clone + Drop> {
-    rt: &'a R,
+    system: &'a System<'a, R>,
     /// The path that those of the next two folders begin with.
     base: &'a str,
     /// The folder, empty if it is that of the path.
@@ -50,8 +54,8 @@ pub struct HostFolder<'a, R: Files + Clock + AllocGlobal + Clone + Drop> {
     /// What comes after the name of a file that is made, before the mark.
     suffix: &'a str,
     mark: ProcessMark,
-    made: Option<Made<R::File>>,
-    changed: Option<Changed<R::File>>,
+    made: Option<Made<Told<'a, R::File>>>,
+    changed: Option<Changed<Told<'a, R::File>>>,
     /// Whether the handle of the file that was changed last is kept for its next change.
     keeps_handle: bool,
     /// Whether the one file that is used here is watched: it is neither measured nor changed once another
@@ -60,14 +64,14 @@ pub struct HostFolder<'a, R: Files + Clock + AllocGlobal + Clone + Drop> {
     /// How the watched file was seen first, or left by the last change here.
     left: Option<FileState>,
     /// The folder itself, from its first flush on.
-    names: Option<R::File>,
+    names: Option<Told<'a, R::File>>,
 }
 
 impl<'a, R: Files + Clock + AllocGlobal + Clone + Drop> HostFolder<'a, R> {
     /// A folder of the Maildir at a path, absolute or taken from the working folder. Files are made in
     /// the Maildir's folder `tmp`.
     pub fn of_maildir(
-        rt: &'a R,
+        system: &'a System<'a, R>,
         path: &'a str,
         folder: &'a str,
         mark: ProcessMark,
@@ -75,7 +79,7 @@ impl<'a, R: Files + Clock + AllocGlobal + Clone + Drop> HostFolder<'a, R> {
         ensures { ⟦<HostFolder<'a, R> as FileFolder>⟧.directory result ≡ unknown_directory }
     {
         HostFolder {
-            rt,
+            system,
             base: path,
             folder,
             scratch: "tmp",
@@ -96,7 +100,7 @@ impl<'a, R: Files + Clock + AllocGlobal + Clone + Drop> HostFolder<'a, R> {
     /// the file is watched: its edges aren't told, and it is neither appended to nor cut, once another
     /// program has changed it since it was first looked at.
     pub fn around(
-        rt: &'a R,
+        system: &'a System<'a, R>,
         path: &'a str,
         mark: ProcessMark,
         keeps_handle: bool,
@@ -104,7 +108,7 @@ impl<'a, R: Files + Clock + AllocGlobal + Clone + Drop> HostFolder<'a, R> {
         ensures { ⟦<HostFolder<'a, R> as FileFolder>⟧.directory result ≡ unknown_directory }
     {
         HostFolder {
-            rt,
+            system,
             base: folder_of(path),
             folder: "",
             scratch: "",
@@ -123,31 +127,31 @@ impl<'a, R: Files + Clock + AllocGlobal + Clone + Drop> HostFolder<'a, R> {
     /// weren't changed for an hour. What can't be removed stays.
     pub fn sweep(&self, front: &str) {
         if let Ok(path) = self.folder_path(self.scratch) {
-            let _ = sweep(self.rt, path.as_str(), front);
+            let _ = sweep(self.system, path.as_str(), front);
         }
     }
 
     /// Removes a file, if it can be.
     pub fn remove(&self, name: &str) {
         if let Ok(path) = self.path_of(name) {
-            let _ = fs::remove_file(self.rt, path);
+            let _ = self.system.unlink(path.as_str());
         }
     }
 
     /// The allocator of what the folder returns.
     pub fn alloc(&self) -> Global {
-        self.rt.alloc()
+        self.system.alloc()
     }
 
     // The path of a folder.
     fn folder_path(&self, folder: &str) -> io::Result<String> {
         let base = self.base;
         Ok(if folder.is_empty() {
-            String::from_str(self.rt.alloc(), base)?
+            String::from_str(self.system.alloc(), base)?
         } else if base.ends_with('/') {
-            format!(in self.rt.alloc(); "{base}{folder}")?
+            format!(in self.system.alloc(); "{base}{folder}")?
         } else {
-            format!(in self.rt.alloc(); "{base}/{folder}")?
+            format!(in self.system.alloc(); "{base}/{folder}")?
         })
     }
 
@@ -169,18 +173,26 @@ impl<'a, R: Files + Clock + AllocGlobal + Clone + Drop> HostFolder<'a, R> {
     // writes to would be waited for. The system itself refuses a folder, with its reason.
     fn regular_path(&self, name: &str) -> io::Result<String> {
         let path = self.path_of(name)?;
-        let found = fs::metadata(self.rt, path.as_str())?;
+        let found = self.system.stat(path.as_str())?;
         if !found.is_file() && !found.is_dir() {
-            return Err(io::Error::from(ErrorKind::InvalidInput));
+            return Err(self.refuse(name, "not a regular file"));
         }
         Ok(path)
+    }
+
+    // An error for a file that isn't as it has to be, with the reason.
+    fn refuse(&self, name: &str, words: &str) -> io::Error {
+        match self.path_of(name) {
+            Ok(path) => self.system.refusals.refuse(path.as_str(), words),
+            Err(error) => error,
+        }
     }
 
     // The names of the folder's files. A name that begins with a full stop or isn't UTF-8 is skipped,
     // and so is a folder. The system is asked what each name stands for only if a folder may be
     // among them, since that takes longer than all else.
     pub(crate) fn read_names(&self) -> io::Result<FolderNames> {
-        let mut found = list_names(self.rt, self.folder_path(self.folder)?.as_str())?;
+        let mut found = list_names(self.system, self.folder_path(self.folder)?.as_str())?;
         if may_hold_folders(&found.folder) {
             found.names = self.files_among(found.names)?;
         }
@@ -189,12 +201,12 @@ impl<'a, R: Files + Clock + AllocGlobal + Clone + Drop> HostFolder<'a, R> {
 
     // The folder's metadata.
     pub(crate) fn look_at_folder(&self) -> io::Result<Metadata> {
-        fs::metadata(self.rt, self.folder_path(self.folder)?)
+        self.system.stat(self.folder_path(self.folder)?.as_str())
     }
 
     // Whether a name leads to a file.
     pub(crate) fn has(&self, name: &str) -> Result<bool, StoreFault> {
-        match told(self.look_up(name)) {
+        match told(self.system.refusals, self.look_up(name)) {
             Ok(_) => Ok(true),
             Err(StoreFault::Missing) => Ok(false),
             Err(fault) => Err(fault),
@@ -204,10 +216,10 @@ impl<'a, R: Files + Clock + AllocGlobal + Clone + Drop> HostFolder<'a, R> {
     // The names that stand for no folder. What has vanished counts as a file: a reader may have
     // renamed it.
     fn files_among(&self, found: Vec<String>) -> io::Result<Vec<String>> {
-        let mut names = Vec::with_capacity(self.rt.alloc(), found.len())?;
+        let mut names = Vec::with_capacity(self.system.alloc(), found.len())?;
         for name in found {
             let path = self.path_of(name.as_str())?;
-            if !is_folder(fs::symlink_metadata(self.rt, path))? {
+            if !is_folder(self.system.lstat(path.as_str()))? {
                 names.push(name)?;
             }
         }
@@ -215,16 +227,16 @@ impl<'a, R: Files + Clock + AllocGlobal + Clone + Drop> HostFolder<'a, R> {
     }
 
     fn look_up(&self, name: &str) -> io::Result<Metadata> {
-        fs::symlink_metadata(self.rt, self.path_of(name)?)
+        self.system.lstat(self.path_of(name)?.as_str())
     }
 
     fn make_marked(&mut self, name: &str) -> io::Result<()> {
-        let alloc = self.rt.alloc();
+        let alloc = self.system.alloc();
         let suffix = self.suffix;
         let title = format!(in alloc; "{name}{suffix}")?;
         let title = self.mark.marked(alloc, title.as_str())?;
         let path = self.file_path(self.scratch, title.as_str())?;
-        let file = make_file(self.rt, path.as_str())?;
+        let file = make_file(self.system, path.as_str())?;
         self.made = Some(Made { file, path });
         Ok(())
     }
@@ -236,29 +248,29 @@ impl<'a, R: Files + Clock + AllocGlobal + Clone + Drop> HostFolder<'a, R> {
         };
         self.changed = None;
         self.left = None;
-        fs::rename(self.rt, made.path.as_str(), to)?;
+        self.system.rename(made.path.as_str(), to.as_str())?;
         self.made = None;
         Ok(())
     }
 
     fn read_all(&self, name: &str) -> io::Result<Vec<u8>> {
-        let mut file = fs::open(self.rt, self.regular_path(name)?)?;
+        let mut file = self.system.open(self.regular_path(name)?.as_str())?;
         // Room for all of it at once: a Vec that grows as it is read has up to twice the file's size.
         let size = file.metadata()?.len() as usize;
-        let mut bytes = Vec::with_capacity(self.rt.alloc(), size.saturating_add(1))?;
+        let mut bytes = Vec::with_capacity(self.system.alloc(), size.saturating_add(1))?;
         file.read_to_end(&mut bytes)?;
         Ok(bytes)
     }
 
     // A watched file must be as it was left.
-    fn check_left(&mut self, found: &Metadata) -> io::Result<()> {
+    fn check_left(&mut self, name: &str, found: &Metadata) -> io::Result<()> {
         if !self.watches {
             return Ok(());
         }
         let state = FileState::of(found);
         let left = self.left.unwrap_or(state);
         if left != state {
-            return Err(io::Error::from(ErrorKind::InvalidData));
+            return Err(self.refuse(name, CHANGED));
         }
         self.left = Some(state);
         Ok(())
@@ -266,22 +278,22 @@ impl<'a, R: Files + Clock + AllocGlobal + Clone + Drop> HostFolder<'a, R> {
 
     // Takes note of a watched file after a change that added `more` octets to it, or none. If its size
     // isn't what that left, another program has changed it too.
-    fn note_change(&mut self, file: &R::File, more: u64) -> io::Result<()> {
+    fn note_change(&mut self, name: &str, file: &Told<'a, R::File>, more: u64) -> io::Result<()> {
         let Some(left) = self.left else {
             return Ok(());
         };
         let state = FileState::of(&file.metadata()?);
         if !state.grew_by(left, more) {
-            return Err(io::Error::from(ErrorKind::InvalidData));
+            return Err(self.refuse(name, CHANGED));
         }
         self.left = Some(state);
         Ok(())
     }
 
     fn read_edges(&mut self, name: &str) -> io::Result<Edges> {
-        let mut file = fs::open(self.rt, self.regular_path(name)?)?;
+        let mut file = self.system.open(self.regular_path(name)?.as_str())?;
         let found = file.metadata()?;
-        self.check_left(&found)?;
+        self.check_left(name, &found)?;
         let size = found.len();
         let mut head = [0u8; 5];
         let mut tail = [0u8; 2];
@@ -296,7 +308,7 @@ impl<'a, R: Files + Clock + AllocGlobal + Clone + Drop> HostFolder<'a, R> {
     fn read_piece(&self, name: &str, start: u64, buf: &mut [u8]) -> io::Result<usize>
         ensures { IfOk result (λ count. count ≤ length buf.new) }
     {
-        let mut file = fs::open(self.rt, self.regular_path(name)?)?;
+        let mut file = self.system.open(self.regular_path(name)?.as_str())?;
         let there = file.metadata()?.len().saturating_sub(start);
         let count = there.min(buf.len() as u64) as usize;
         if count > 0 {
@@ -307,16 +319,17 @@ impl<'a, R: Files + Clock + AllocGlobal + Clone + Drop> HostFolder<'a, R> {
     }
 
     // The handle kept from the file's last change, or a new one.
-    fn handle_of(&mut self, name: &str) -> io::Result<Changed<R::File>> {
+    fn handle_of(&mut self, name: &str) -> io::Result<Changed<Told<'a, R::File>>> {
         if let Some(changed) = self.changed.take() {
             if self.keeps_handle && changed.name.as_str() == name {
                 return Ok(changed);
             }
         }
-        let title = String::from_str(self.rt.alloc(), name)?;
-        let file = OpenOptions::new()
-            .append(true)
-            .open(self.rt, self.regular_path(name)?)?;
+        let title = String::from_str(self.system.alloc(), name)?;
+        let path = self.regular_path(name)?;
+        let file = self
+            .system
+            .open_with(OpenOptions::new().append(true), path.as_str())?;
         Ok(Changed { file, name: title })
     }
 
@@ -324,7 +337,7 @@ impl<'a, R: Files + Clock + AllocGlobal + Clone + Drop> HostFolder<'a, R> {
     // is written to one that has no name any more.
     fn measure(&mut self, name: &str) -> io::Result<u64> {
         if !self.keeps_handle {
-            return Ok(fs::metadata(self.rt, self.path_of(name)?)?.len());
+            return Ok(self.system.stat(self.path_of(name)?.as_str())?.len());
         }
         let changed = self.handle_of(name)?;
         let found = changed.file.metadata()?;
@@ -336,17 +349,22 @@ impl<'a, R: Files + Clock + AllocGlobal + Clone + Drop> HostFolder<'a, R> {
     }
 
     // Appends to a watched file. What others append meanwhile isn't taken for a part of it.
-    fn write_watched(&mut self, file: &mut R::File, bytes: &[u8]) -> io::Result<()> {
-        self.check_left(&file.metadata()?)?;
+    fn write_watched(
+        &mut self,
+        name: &str,
+        file: &mut Told<'a, R::File>,
+        bytes: &[u8],
+    ) -> io::Result<()> {
+        self.check_left(name, &file.metadata()?)?;
         let (count, answer) = write_counted(file, bytes);
-        self.note_change(file, count)?;
+        self.note_change(name, file, count)?;
         answer
     }
 
     fn write_behind(&mut self, name: &str, bytes: &[u8]) -> io::Result<()> {
         let mut changed = self.handle_of(name)?;
         let answer = if self.watches {
-            self.write_watched(&mut changed.file, bytes)
+            self.write_watched(name, &mut changed.file, bytes)
         } else {
             changed.file.write_all(bytes)
         };
@@ -357,9 +375,9 @@ impl<'a, R: Files + Clock + AllocGlobal + Clone + Drop> HostFolder<'a, R> {
     fn set_len(&mut self, name: &str, len: u64) -> io::Result<()> {
         let changed = self.handle_of(name)?;
         let found = changed.file.metadata()?;
-        self.check_left(&found)?;
+        self.check_left(name, &found)?;
         if found.len() < len {
-            return Err(io::Error::from(ErrorKind::InvalidInput));
+            return Err(self.refuse(name, CHANGED));
         }
         let answer = changed.file.set_len(len);
         if answer.is_ok() && self.watches {
@@ -376,21 +394,23 @@ impl<'a, R: Files + Clock + AllocGlobal + Clone + Drop> HostFolder<'a, R> {
             if changed.name.as_str() == name {
                 changed.file.sync_all()?;
                 // Some systems set the time of change only now.
-                self.note_change(&changed.file, 0)?;
+                self.note_change(name, &changed.file, 0)?;
                 if self.keeps_handle {
                     self.changed = Some(changed);
                 }
                 return Ok(());
             }
         }
-        fs::open(self.rt, self.regular_path(name)?)?.sync_all()
+        self.system
+            .open(self.regular_path(name)?.as_str())?
+            .sync_all()
     }
 
     // The folder is opened once, and again after a fault.
     pub(crate) fn sync_names(&mut self) -> io::Result<()> {
         let folder = match self.names.take() {
             Some(folder) => folder,
-            None => fs::open(self.rt, self.folder_path(self.folder)?)?,
+            None => self.system.open(self.folder_path(self.folder)?.as_str())?,
         };
         flush_folder(&folder)?;
         self.names = Some(folder);
@@ -414,15 +434,23 @@ fn is_folder(answer: io::Result<Metadata>) -> io::Result<bool> {
     }
 }
 
-/// What the system answered.
-pub(crate) fn told<T>(answer: io::Result<T>) -> Result<T, StoreFault>
+/// What the system answered, or a device in its place. If neither said why, what was refused before isn't
+/// the reason.
+pub(crate) fn told<T>(refusals: &Refusals, answer: io::Result<T>) -> Result<T, StoreFault>
     ensures same { IfOk result (λ value. answer ≡ Ok value) }
     ensures fault { IfErr result IsDeviceFault }
 {
-    match answer {
-        Ok(value) => Ok(value),
-        Err(fault) if fault.kind() == ErrorKind::NotFound => Err(StoreFault::Missing),
-        Err(_) => Err(StoreFault::Refused),
+    let fault = match answer {
+        Ok(value) => return Ok(value),
+        Err(fault) => fault,
+    };
+    if fault.raw_os_error().is_none() && fault.kind() != ErrorKind::Other {
+        refusals.forget();
+    }
+    if fault.kind() == ErrorKind::NotFound {
+        Err(StoreFault::Missing)
+    } else {
+        Err(StoreFault::Refused)
     }
 }
 
@@ -435,12 +463,12 @@ impl<'a, R: Files + Clock + AllocGlobal + Clone + Drop> FileFolder for HostFolde
     ghost sound = { λ _. ⊥ };
 
     fn make(&mut self, name: &str) -> Result<(), StoreFault> {
-        told(self.make_marked(name))
+        told(self.system.refusals, self.make_marked(name))
     }
 
     fn write(&mut self, bytes: &[u8]) -> Result<(), StoreFault> {
         match &mut self.made {
-            Some(made) => told(made.file.write_all(bytes)),
+            Some(made) => told(self.system.refusals, made.file.write_all(bytes)),
             None => Err(StoreFault::Refused),
         }
     }
@@ -449,7 +477,7 @@ impl<'a, R: Files + Clock + AllocGlobal + Clone + Drop> FileFolder for HostFolde
         let Some(made) = &self.made else {
             return Err(StoreFault::Refused);
         };
-        let answer = told(made.file.sync_all());
+        let answer = told(self.system.refusals, made.file.sync_all());
         if answer.is_err() {
             self.discard();
         }
@@ -457,44 +485,44 @@ impl<'a, R: Files + Clock + AllocGlobal + Clone + Drop> FileFolder for HostFolde
     }
 
     fn put(&mut self, name: &str) -> Result<(), StoreFault> {
-        told(self.rename_made(name))
+        told(self.system.refusals, self.rename_made(name))
     }
 
     fn discard(&mut self) {
         if let Some(made) = self.made.take() {
-            let _ = fs::remove_file(self.rt, made.path);
+            let _ = self.system.unlink(made.path.as_str());
         }
     }
 
     fn read(&mut self, name: &str) -> Result<Vec<u8>, StoreFault> {
-        told(self.read_all(name))
+        told(self.system.refusals, self.read_all(name))
     }
 
     fn edges(&mut self, name: &str) -> Result<Edges, StoreFault> {
-        told(self.read_edges(name))
+        told(self.system.refusals, self.read_edges(name))
     }
 
     fn read_at(&mut self, name: &str, start: u64, buf: &mut [u8]) -> Result<usize, StoreFault> {
-        told(self.read_piece(name, start, buf))
+        told(self.system.refusals, self.read_piece(name, start, buf))
     }
 
     fn size(&mut self, name: &str) -> Result<u64, StoreFault> {
-        told(self.measure(name))
+        told(self.system.refusals, self.measure(name))
     }
 
     fn append(&mut self, name: &str, bytes: &[u8]) -> Result<(), StoreFault> {
-        told(self.write_behind(name, bytes))
+        told(self.system.refusals, self.write_behind(name, bytes))
     }
 
     fn cut_to(&mut self, name: &str, len: u64) -> Result<(), StoreFault> {
-        told(self.set_len(name, len))
+        told(self.system.refusals, self.set_len(name, len))
     }
 
     fn flush(&mut self, name: &str) -> Result<(), StoreFault> {
-        told(self.sync(name))
+        told(self.system.refusals, self.sync(name))
     }
 
     fn flush_names(&mut self) -> Result<(), StoreFault> {
-        told(self.sync_names())
+        told(self.system.refusals, self.sync_names())
     }
 }

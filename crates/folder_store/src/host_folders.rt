@@ -11,6 +11,7 @@ use crate::process_mark::ProcessMark;
 use mail_store::{Folder, StoreFault};
 use std::rt::Files;
 use std::time::{Clock, Duration};
+use trace::System;
 
 /// For how many seconds the folders are listed again while readers change them all the time.
 const MOST_SECONDS: u64 = 4;
@@ -27,7 +28,7 @@ struct ListedFolder<'a, R: Files + Clock + AllocGlobal + Clone + Drop> {
 /// a reader can compare it with what the trait says.
 #[derive(Drop)]
 pub struct HostFolders<'a, R: Files + Clock + AllocGlobal + Clone + Drop> {
-    rt: &'a R,
+    system: &'a System<'a, R>,
     new_folder: ListedFolder<'a, R>,
     cur_folder: ListedFolder<'a, R>,
     /// When the folders were first listed for the present answer, by the clock that never goes back.
@@ -35,9 +36,14 @@ pub struct HostFolders<'a, R: Files + Clock + AllocGlobal + Clone + Drop> {
 }
 
 impl<'a, R: Files + Clock + AllocGlobal + Clone + Drop> ListedFolder<'a, R> {
-    fn of_maildir(rt: &'a R, path: &'a str, folder: &'a str, mark: ProcessMark) -> Self {
+    fn of_maildir(
+        system: &'a System<'a, R>,
+        path: &'a str,
+        folder: &'a str,
+        mark: ProcessMark,
+    ) -> Self {
         ListedFolder {
-            host: HostFolder::of_maildir(rt, path, folder, mark),
+            host: HostFolder::of_maildir(system, path, folder, mark),
             change: None,
         }
     }
@@ -45,13 +51,17 @@ impl<'a, R: Files + Clock + AllocGlobal + Clone + Drop> ListedFolder<'a, R> {
 
 impl<'a, R: Files + Clock + AllocGlobal + Clone + Drop> HostFolders<'a, R> {
     /// The folders of the Maildir at a path, absolute or taken from the working folder.
-    pub fn of_maildir(rt: &'a R, path: &'a str, mark: ProcessMark) -> HostFolders<'a, R>
+    pub fn of_maildir(
+        system: &'a System<'a, R>,
+        path: &'a str,
+        mark: ProcessMark,
+    ) -> HostFolders<'a, R>
         ensures { ⟦<HostFolders<'a, R> as MailFolders>⟧.directories result ≡ unknown_directories }
     {
         HostFolders {
-            rt,
-            new_folder: ListedFolder::of_maildir(rt, path, "new", mark),
-            cur_folder: ListedFolder::of_maildir(rt, path, "cur", mark),
+            system,
+            new_folder: ListedFolder::of_maildir(system, path, "new", mark),
+            cur_folder: ListedFolder::of_maildir(system, path, "cur", mark),
             start: Duration::ZERO,
         }
     }
@@ -79,16 +89,23 @@ impl<'a, R: Files + Clock + AllocGlobal + Clone + Drop> MailFolders for HostFold
     ghost sound = { λ _. ⊥ };
 
     fn check(&mut self, folder: Folder) -> Result<(), StoreFault> {
-        match told(self.folder_mut(folder).host.look_at_folder()) {
+        match told(
+            self.system.refusals,
+            self.folder_mut(folder).host.look_at_folder(),
+        ) {
             Ok(found) if found.is_dir() => Ok(()),
-            Ok(_) => Err(StoreFault::Refused),
+            Ok(_) => {
+                self.system.refusals.forget();
+                Err(StoreFault::Refused)
+            }
             Err(fault) => Err(fault),
         }
     }
 
     fn list(&mut self, folder: Folder) -> Result<Vec<String>, StoreFault> {
+        let refusals = self.system.refusals;
         let listed = self.folder_mut(folder);
-        let FolderNames { names, folder } = told(listed.host.read_names())?;
+        let FolderNames { names, folder } = told(refusals, listed.host.read_names())?;
         listed.change = Some(ChangeTime::of(&folder));
         Ok(names)
     }
@@ -96,13 +113,14 @@ impl<'a, R: Files + Clock + AllocGlobal + Clone + Drop> MailFolders for HostFold
     // The time of change that a listing gives had rested for a step of the clock, so that each later
     // change gives the folder another one.
     fn rests(&mut self, folder: Folder) -> Result<bool, StoreFault> {
+        let refusals = self.system.refusals;
         let listed = self.folder_mut(folder);
-        let found = told(listed.host.look_at_folder())?;
+        let found = told(refusals, listed.host.look_at_folder())?;
         Ok(listed.change == Some(ChangeTime::of(&found)))
     }
 
     fn may_list_again(&mut self, times: u32) -> bool {
-        let Ok(now) = self.rt.monotonic() else {
+        let Ok(now) = self.system.rt.monotonic() else {
             return times == 0;
         };
         if times == 0 {
@@ -136,6 +154,9 @@ impl<'a, R: Files + Clock + AllocGlobal + Clone + Drop> MailFolders for HostFold
     }
 
     fn flush_names(&mut self, folder: Folder) -> Result<(), StoreFault> {
-        told(self.folder_mut(folder).host.sync_names())
+        told(
+            self.system.refusals,
+            self.folder_mut(folder).host.sync_names(),
+        )
     }
 }

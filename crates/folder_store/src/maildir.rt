@@ -13,6 +13,7 @@ use mail_terms::FailureCount;
 use std::alloc::Global;
 use std::rt::Files;
 use std::time::Clock;
+use trace::System;
 
 /// A Maildir in the folders `new` and `cur` of a file system, whatever mail readers move there
 /// meanwhile; what is made for `new` is in `tmp`.
@@ -63,10 +64,14 @@ impl<'a, R: Files + Clock + AllocGlobal + Clone + Drop> FolderMaildir<HostFolder
 
     /// The Maildir at a path, absolute or taken from the working folder. It must hold the folders
     /// `tmp`, `new` and `cur`; none of them is made.
-    pub fn at(rt: &'a R, path: &'a str, mark: ProcessMark) -> FolderMaildir<HostFolders<'a, R>>
+    pub fn at(
+        system: &'a System<'a, R>,
+        path: &'a str,
+        mark: ProcessMark,
+    ) -> FolderMaildir<HostFolders<'a, R>>
         ensures { ⟦<FolderMaildir<HostFolders<'a, R>> as MaildirDisk>⟧.maildir result ≡ unknown_maildir }
     {
-        FolderMaildir::over(rt.alloc(), HostFolders::of_maildir(rt, path, mark))
+        FolderMaildir::over(system.alloc(), HostFolders::of_maildir(system, path, mark))
     }
 
     /// Removes from `tmp` the files of an account that killed runs left behind: those that weren't

@@ -344,11 +344,20 @@ impl MemoryFolder {
 }
 
 impl FileFolder for MemoryFolder {
+    ghost use Rattle.std.specs.Prelude.{◌≡◌, ◌≢◌, ◌≤◌, length, IfErr, IfOk, Ok, Err};
+    ghost use Rattle.mail_store.specs.Fault.{IsDeviceFault};
+    ghost use Rattle.folder_store.specs.FileFolder.{Makes, MeasuresFile, ReadsPiece, TellsSize, FlushesNames};
+
     ghost directory = { λ m. m };
 
     ghost sound = { λ _. Unit {0} };
 
-    fn make(&mut self, _name: &str) -> Result<(), StoreFault> {
+    // The calls that take no memory answer.
+    fn make(&mut self, _name: &str) -> Result<(), StoreFault>
+        ensures makes { Unit {0} → Unit {0} × Makes self.old result self.new }
+        ensures fault { IfErr result IsDeviceFault }
+        ensures answers { result ≡ Ok tt }
+    {
         self.made = Some(Kept::empty(self.alloc));
         Ok(())
     }
@@ -399,21 +408,33 @@ impl FileFolder for MemoryFolder {
         }
     }
 
-    fn edges(&mut self, name: &str) -> Result<Edges, StoreFault> {
+    fn edges(&mut self, name: &str) -> Result<Edges, StoreFault>
+        ensures measures { Unit {0} → Unit {0} × MeasuresFile self.old name.now result self.new }
+        ensures fault { IfErr result IsDeviceFault }
+        ensures answers { result ≢ Err StoreFault.Refused }
+    {
         match kept_at(&self.files, name) {
             Some(file) => Ok(edges_of(file.content.as_slice())),
             None => Err(StoreFault::Missing),
         }
     }
 
-    fn read_at(&mut self, name: &str, start: u64, buf: &mut [u8]) -> Result<usize, StoreFault> {
+    fn read_at(&mut self, name: &str, start: u64, buf: &mut [u8]) -> Result<usize, StoreFault>
+        ensures within { IfOk result (λ count. count ≤ length buf.new) }
+        ensures reads { Unit {0} → Unit {0} × ReadsPiece self.old name.now start result buf.new self.new }
+        ensures fault { IfErr result IsDeviceFault }
+        ensures answers { result ≢ Err StoreFault.Refused }
+    {
         match kept_at(&self.files, name) {
             Some(file) => Ok(read_piece(file.content.as_slice(), start, buf)),
             None => Err(StoreFault::Missing),
         }
     }
 
-    fn size(&mut self, name: &str) -> Result<u64, StoreFault> {
+    fn size(&mut self, name: &str) -> Result<u64, StoreFault>
+        ensures tells { Unit {0} → Unit {0} × TellsSize self.old name.now result self.new }
+        ensures answers { result ≢ Err StoreFault.Refused }
+    {
         match kept_at(&self.files, name) {
             Some(file) => Ok(file.content.len() as u64),
             None => Err(StoreFault::Missing),
@@ -450,7 +471,10 @@ impl FileFolder for MemoryFolder {
         }
     }
 
-    fn flush_names(&mut self) -> Result<(), StoreFault> {
+    fn flush_names(&mut self) -> Result<(), StoreFault>
+        ensures flushes { Unit {0} → Unit {0} × FlushesNames self.old result self.new }
+        ensures answers { result ≡ Ok tt }
+    {
         self.older.clear();
         Ok(())
     }

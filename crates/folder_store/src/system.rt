@@ -8,18 +8,21 @@ use std::os::unix::fs::OpenOptionsExt;
 use std::rt::Files;
 use std::time::{Clock, SystemTime};
 use std::{fs, io};
+use trace::{System, Told};
 
 /// How many seconds nothing is written to a file before it counts as left behind. A run at work waits
 /// for the server for three minutes at most.
 const LEFT_BEHIND_SECONDS: u64 = 3_600;
 
 /// Makes an empty file; fails if there is one. Its owner alone can read and write it (mode 0600).
-pub fn make_file<R: Files>(rt: &R, path: &str) -> io::Result<R::File> {
-    OpenOptions::new()
-        .write(true)
-        .create_new(true)
-        .mode(0o600)
-        .open(rt, path)
+pub fn make_file<'a, R: Files + AllocGlobal>(
+    system: &System<'a, R>,
+    path: &str,
+) -> io::Result<Told<'a, R::File>> {
+    system.open_with(
+        OpenOptions::new().write(true).create_new(true).mode(0o600),
+        path,
+    )
 }
 
 /// Flushes the names of a folder to the disk, so that they outlive a loss of power. A system that
@@ -67,24 +70,25 @@ fn is_left_behind(file: &Metadata, now: SystemTime) -> bool {
 /// that were left behind. One that can't be looked at or removed stays. No message that was delivered
 /// has such a name, so none is lost if the folder is a link to one of messages.
 pub fn sweep<R: Files + Clock + AllocGlobal + Clone + Drop>(
-    rt: &R,
+    system: &System<'_, R>,
     folder: &str,
     front: &str,
 ) -> io::Result<()> {
-    let now = SystemTime::now(rt)?;
-    for entry in fs::read_dir(rt, folder)? {
+    let now = SystemTime::now(system.rt)?;
+    let entries = fs::read_dir(system.rt, folder);
+    for entry in system.refusals.told("open", folder, entries)? {
         let entry = match entry {
             Ok(entry) => entry,
             Err(fault) if fault.kind() == ErrorKind::InvalidFilename => continue,
-            Err(fault) => return Err(fault),
+            Err(fault) => return system.refusals.told("read", folder, Err(fault)),
         };
         let name = entry.file_name();
         if !name.starts_with(front) || !is_marked(name) {
             continue;
         }
-        if let Ok(file) = entry.metadata() {
+        if let Ok(file) = system.lstat(entry.path().as_str()) {
             if is_left_behind(&file, now) {
-                let _ = fs::remove_file(rt, entry.path());
+                let _ = system.unlink(entry.path().as_str());
             }
         }
     }

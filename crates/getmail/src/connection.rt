@@ -1,13 +1,12 @@
 //! The TCP connection to the server.
-use crate::host::{Host, Trace};
 use fetch_rules::Settings;
-use getmail_program::{Failure, failure_of};
+use getmail_program::{Errors, Failure, Reasons, failure_of};
 use pop3_wire::StreamWire;
-use std::alloc::AllocError;
-use std::io;
+use std::alloc::{AllocError, Global};
+use std::io::{self, Stderr};
 use std::net::{SocketAddr, TcpStream, ToSocketAddrs};
 use std::time::Duration;
-use trace::{Traced, TracedWire};
+use trace::{Refusals, Told, TracedWire};
 
 /// How long one address of the server has to take the connection.
 const CONNECT_SECONDS: u64 = 60;
@@ -16,11 +15,11 @@ const CONNECT_SECONDS: u64 = 60;
 /// lasts for ever.
 const WAIT_SECONDS: u64 = 180;
 
-/// A connection, or one end of it, whose refused calls are traced.
-type End<'s, 'a> = Traced<&'s TcpStream, Trace<'a>>;
+/// A connection, or one end of it, whose refused calls are noted.
+type End<'a> = Told<'a, &'a TcpStream>;
 
 /// The link over a connection.
-pub type Link<'s, 'a> = TracedWire<StreamWire<End<'s, 'a>, End<'s, 'a>>, Trace<'a>>;
+pub type Link<'a> = TracedWire<'a, StreamWire<End<'a>, End<'a>>, Stderr>;
 
 /// Connects to one address, and limits how long reads and writes wait. Each command goes out at once.
 fn connect_to(rt: &HostRuntime, address: SocketAddr) -> io::Result<TcpStream> {
@@ -32,75 +31,70 @@ fn connect_to(rt: &HostRuntime, address: SocketAddr) -> io::Result<TcpStream> {
     Ok(stream)
 }
 
-/// Writes that an address took no connection, if there is a trace. Without memory it is left out.
-fn tell_refused(host: &Host<'_>, address: SocketAddr, error: io::Error) {
-    if host.err().is_none() {
-        return;
-    }
-    if let Ok(address) = format!(in host.alloc(); "{address}") {
-        let _ = host.told("connect", address.as_str(), Err::<(), io::Error>(error));
+/// Notes that an address took no connection. Without memory it isn't noted.
+fn note_refused(alloc: Global, refusals: &Refusals, address: SocketAddr, error: io::Error) {
+    if let Ok(address) = format!(in alloc; "{address}") {
+        let _ = refusals.told("connect", address.as_str(), Err::<(), io::Error>(error));
     }
 }
 
 /// Connects to the first of the server's addresses that takes the connection.
-pub fn connect<'a>(host: &Host<'_>, server: &'a str, port: u16) -> Result<TcpStream, Failure<'a>> {
-    let rt = host.inner();
-    let addresses = host.told("getaddrinfo", server, (server, port).to_socket_addrs(rt));
-    let addresses = match addresses {
+pub fn connect<'a>(
+    rt: &HostRuntime,
+    refusals: &Refusals,
+    server: &'a str,
+    port: u16,
+) -> Result<TcpStream, Failure<'a>> {
+    let addresses = (server, port).to_socket_addrs(rt);
+    let addresses = match refusals.told("getaddrinfo", server, addresses) {
         Ok(addresses) => addresses,
         Err(error) => return Err(failure_of(error, Failure::CannotConnect(server, port))),
     };
     for address in addresses {
         match connect_to(rt, address) {
             Ok(stream) => return Ok(stream),
-            Err(error) => tell_refused(host, address, error),
+            Err(error) => note_refused(rt.alloc(), refusals, address, error),
         }
     }
     Err(Failure::CannotConnect(server, port))
 }
 
-/// What a trace of a link needs: where it goes, the peer's name in it, and the password that it hides.
+/// What the link needs besides the connection: the peer's name in a trace, and the password that it hides.
 #[derive(Drop)]
-pub struct LinkTrace<'a> {
-    trace: Option<Trace<'a>>,
-    peer: String,
-    password: Option<Vec<u8>>,
+pub struct Peer {
+    name: String,
+    password: Vec<u8>,
 }
 
-/// What the trace of the link needs. It is made before there is a connection, so that want of memory
-/// doesn't end one.
-pub fn link_trace<'a>(host: &Host<'a>, settings: &Settings) -> Result<LinkTrace<'a>, AllocError> {
-    let alloc = host.alloc();
-    let Some(keeper) = host.err() else {
-        return Ok(LinkTrace {
-            trace: None,
-            peer: String::new(alloc),
-            password: None,
-        });
-    };
+/// What the link needs. It is made before there is a connection, so that want of memory doesn't end one.
+pub fn peer_of(alloc: Global, settings: &Settings) -> Result<Peer, AllocError> {
     let server = settings.server.as_str();
     let port = settings.port;
-    Ok(LinkTrace {
-        trace: Some(keeper.for_link()),
-        peer: format!(in alloc; "{server}:{port}")?,
-        password: Some(Vec::from_slice(alloc, settings.password.as_bytes())?),
+    Ok(Peer {
+        name: format!(in alloc; "{server}:{port}")?,
+        password: Vec::from_slice(alloc, settings.password.as_bytes())?,
     })
 }
 
-/// The link over a connection to the server, with this trace.
-pub fn link_over<'s, 'a>(
-    host: &Host<'a>,
-    stream: &'s TcpStream,
-    link: LinkTrace<'a>,
-) -> Link<'s, 'a> {
-    let alloc = host.alloc();
-    let LinkTrace {
-        trace,
-        peer,
-        password,
-    } = link;
-    let reader = Traced::new(alloc, stream, peer.as_str(), trace);
-    let writer = Traced::new(alloc, stream, peer.as_str(), trace);
-    let wire = StreamWire::new(reader, writer);
-    TracedWire::new(alloc, wire, trace, password)
+/// The link over a connection to the server. Its conversation is shown if there is a trace, and the first
+/// denial is kept if reasons are written.
+pub fn link_over<'a>(
+    alloc: Global,
+    stream: &'a TcpStream,
+    peer: Peer,
+    errors: &Errors<'a, Stderr>,
+) -> Link<'a> {
+    let reasons = errors.reasons;
+    let Peer { name, password } = peer;
+    let name = name.as_str();
+    let wire = StreamWire::new(
+        Told::new(alloc, stream, name, &reasons.link),
+        Told::new(alloc, stream, name, &reasons.link),
+    );
+    let denial = if errors.says_why {
+        Some(&reasons.answer)
+    } else {
+        None
+    };
+    TracedWire::new(alloc, wire, reasons.link.trace(), Some(password), denial)
 }

@@ -5,22 +5,19 @@ ghost use Rattle.std.specs.Prelude.{◌≤◌};
 ghost use Rattle.rc_file.specs.Settings.{IsValid};
 
 mod connection;
-mod host;
 
-use crate::connection::{LinkTrace, connect, link_over, link_trace};
-use crate::host::{Host, host_of};
+use crate::connection::{Peer, connect, link_over, peer_of};
 use command_line::StandIns;
 use fetch_rules::{RcFault, Settings};
 use folder_store::ProcessMark;
 use getmail_program::{
-    Errors, Failure, Output, Setup, Words, explain, fail, failure_of, fetch_at, home, read_words,
-    rehearse, set_up, tell,
+    Errors, Failure, Output, Reasons, Setup, Words, explain, fail, failure_of, fetch_at, home,
+    read_words, rehearse, set_up, tell,
 };
 use std::env;
 use std::hash::RandomState;
 use std::io::{self, ErrorKind, IsTerminal, Stderr};
 use std::process::ExitCode;
-use trace::Reasons;
 
 /// The random values of a run: keys for hashing, since a server chooses the unique-ids and mustn't be
 /// able to choose ids that collide, and the mark of the files that the run writes.
@@ -30,48 +27,47 @@ fn draw(rt: &HostRuntime) -> io::Result<(RandomState, ProcessMark)> {
     Ok((hasher, mark))
 }
 
-/// What a run needs before it connects: the random values, and what the trace of the link needs.
-type Prepared<'a> = ((RandomState, ProcessMark), LinkTrace<'a>);
+/// What a run needs before it connects: the random values, and what the link needs.
+type Prepared = ((RandomState, ProcessMark), Peer);
 
 /// Prepares a run, so that nothing is refused for want of memory between the connection and the session.
-fn prepare<'a, 'b>(host: &Host<'a>, settings: &Settings) -> Result<Prepared<'a>, Failure<'b>> {
-    match draw(host.inner()) {
-        Ok(drawn) => Ok((drawn, link_trace(host, settings)?)),
+fn prepare<'a>(rt: &HostRuntime, settings: &Settings) -> Result<Prepared, Failure<'a>> {
+    match draw(rt) {
+        Ok(drawn) => Ok((drawn, peer_of(rt.alloc(), settings)?)),
         Err(error) => Err(failure_of(error, Failure::CannotRead)),
     }
 }
 
 /// Connects, runs one session or only shows what it would do, and returns the exit status.
-fn fetch(host: &Host<'_>, setup: Setup, errors: Errors<'_, Stderr>) -> u8
+fn fetch(rt: &HostRuntime, setup: Setup, errors: Errors<'_, Stderr>) -> u8
     requires { IsValid setup.settings }
     ensures { result ≤ 2 }
 {
-    let rt = host.inner();
     let settings = &setup.settings;
-    let (drawn, link) = match prepare(host, settings) {
+    let (drawn, peer) = match prepare(rt, settings) {
         Ok(prepared) => prepared,
         Err(failure) => return fail(rt, failure, None, &errors),
     };
-    let stream = match connect(host, settings.server.as_str(), settings.port) {
+    let server = settings.server.as_str();
+    let stream = match connect(rt, &errors.reasons.before, server, settings.port) {
         Ok(stream) => stream,
         Err(failure) => return fail(rt, failure, Some(settings), &errors),
     };
-    let link = link_over(host, &stream, link);
+    let link = link_over(rt.alloc(), &stream, peer, &errors);
     let mut out = Output::new(rt.stdout());
-    fetch_at(host, setup, link, drawn, &mut out, errors)
+    fetch_at(rt, setup, link, drawn, &mut out, errors)
 }
 
 /// Sets a run up, and runs it. Returns the exit status.
-fn run(host: &Host<'_>, words: &Words, errors: Errors<'_, Stderr>) -> u8
+fn run(rt: &HostRuntime, words: &Words, errors: Errors<'_, Stderr>) -> u8
     ensures { result ≤ 2 }
 {
-    let rt = host.inner();
     let home = match home(rt) {
         Ok(home) => home,
         Err(failure) => return fail(rt, failure, None, &errors),
     };
-    match set_up(host, home.as_deref(), words, errors.reasons) {
-        Ok(setup) => fetch(host, setup, errors),
+    match set_up(rt, home.as_deref(), words, &errors) {
+        Ok(setup) => fetch(rt, setup, errors),
         Err(failure) => fail(rt, failure, None, &errors),
     }
 }
@@ -82,23 +78,23 @@ fn obey(rt: &HostRuntime, words: &Words) -> u8
 {
     let mut err = rt.stderr();
     let is_terminal = err.is_terminal();
-    let reasons = Reasons::new(rt.alloc());
-    let are_told = words.why || is_terminal;
-    let host = host_of(rt, words.trace, are_told, &reasons);
+    let trace = if words.trace { Some(err) } else { None };
+    let reasons = Reasons::new(rt.alloc(), trace);
     let errors = Errors {
         err: Output::new(err),
         shows_progress: is_terminal && !words.trace,
-        reasons: if are_told { Some(&reasons) } else { None },
+        says_why: words.why || is_terminal,
+        reasons: &reasons,
     };
     if words.rehearse {
         let streams = (rt.stdin(), rt.stdout());
-        let status = rehearse(rt.alloc(), words.flags, streams, &mut err, host.err());
+        let status = rehearse(rt.alloc(), words.flags, streams, &mut err, trace);
         if status == 2 {
             return fail(rt, Failure::Rc(RcFault::Contradiction), None, &errors);
         }
         return status;
     }
-    run(&host, words, errors)
+    run(rt, words, errors)
 }
 
 /// Reads the command line, does what it asks for, and returns the exit status.

@@ -71,10 +71,10 @@ left_out_line settings left =
     if length (left_out_text left) == 0 then [] else reason_line settings (codes "left out: " ++ left_out_text left)
 
 -- such a line is written if reasons are asked for; a preview tells of each message
-abbrev pub left_out_said : {R : Type 0} → Settings → Option R → Told → List ℕ
-left_out_said settings None told = []
-left_out_said settings (Some reasons) (Done report) = left_out_line settings report.left_out
-left_out_said settings (Some reasons) (Ahead preview) = []
+abbrev pub left_out_said : Settings → Bool → Told → List ℕ
+left_out_said settings false told = []
+left_out_said settings true (Done report) = left_out_line settings report.left_out
+left_out_said settings true (Ahead preview) = []
 
 -- a session was cut for want of memory, which the line of its fault says
 abbrev pub lacks_memory : Outcome → Bool
@@ -89,18 +89,18 @@ unwritten_line outcome (Some Refused) = codes "getmail: cannot write standard ou
 -- ---- what is written at a session's end
 
 -- this is the line of a reason of an outcome, or nothing; a reason is given only of a cut, and only if it is asked for
-pub record IsReason {R : Type 0} (settings : Settings) (reasons : Option R) (outcome : Outcome) (text : List ℕ) : Type 0 where
+pub record IsReason (settings : Settings) (says_why : Bool) (outcome : Outcome) (text : List ℕ) : Type 0 where
   pub line : (text ≡ []) ⊎ ((reason : List ℕ) × (text ≡ reason_line settings reason))
-  pub asked : reasons ≡ None → text ≡ []
+  pub asked : says_why ≡ false → text ≡ []
   pub cut : outcome ≡ Ended → text ≡ []
 
 -- the line of the fault that cut a session, if one did, and its reason, were written
 pub record TellsCut {E : Type 0} (contents : E → Option (List ℕ)) (settings : Settings) (outcome : Outcome) (old new : Errors E)
     : Type 0 where
   pub reason : List ℕ
-  pub is_reason : IsReason settings old.reasons outcome reason
+  pub is_reason : IsReason settings old.says_why outcome reason
   pub puts : Puts contents old.err (outcome_line outcome ++ reason) new.err
-  pub same : new.reasons ≡ old.reasons
+  pub same : new.says_why ≡ old.says_why
 
 -- the exit status: 0 if the session ended, all was written, and nothing is foreseen that would cut a run
 abbrev pub status_when : Outcome → Option Refusal → Outcome → ℕ
@@ -121,8 +121,8 @@ pub record TellsAll {O E : Type 0} (out_contents : O → Option (List ℕ)) (err
   pub run : pretends ≡ false → foreseen ≡ Ended
   pub status : fetched.status ≡ status_when (outcome_of told) out'.refusal foreseen
   pub reason : List ℕ
-  pub is_reason : IsReason settings old.reasons (outcome_of told) reason
+  pub is_reason : IsReason settings old.says_why (outcome_of told) reason
   pub further : List ℕ
-  pub is_further : IsReason settings old.reasons foreseen further
+  pub is_further : IsReason settings old.says_why foreseen further
   pub said : Puts err_contents old.err ((((outcome_line (outcome_of told) ++ reason) ++ unwritten_line (outcome_of told) out'.refusal)
-      ++ (outcome_line foreseen ++ further)) ++ left_out_said settings old.reasons told) new.err
+      ++ (outcome_line foreseen ++ further)) ++ left_out_said settings old.says_why told) new.err

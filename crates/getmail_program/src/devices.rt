@@ -19,6 +19,7 @@ use std::hash::BuildHasher;
 use std::io::Write;
 use std::rt::{Clock, Files};
 use std::time::{SystemTime, UNIX_EPOCH};
+use trace::System;
 
 /// Now, in seconds since 1970; 0 before that.
 fn seconds_now(rt: &impl Clock) -> u64 {
@@ -40,7 +41,7 @@ type HostRecord<'a, R> = HostFile<'a, HostFolder<'a, R>>;
 /// The store of a run. An entry of an mboxrd file is flushed once: what a loss of power left of one is
 /// found and cut off by the next run, and is kept beside the record.
 fn store_at<'a, R: Files + Clock + AllocGlobal + Clone + Drop>(
-    host: &'a R,
+    system: &'a System<'a, R>,
     dest: &Dest,
     paths: &'a Paths,
     mark: ProcessMark,
@@ -50,8 +51,11 @@ fn store_at<'a, R: Files + Clock + AllocGlobal + Clone + Drop>(
 {
     let path = paths.destination.as_str();
     match dest {
-        Dest::Maildir(_) => Store::Maildir(FolderMaildir::at(host, path, mark)),
-        Dest::Mboxrd(_) => Store::Mboxrd(HostFile::keeping(host, path, paths.rests.as_str(), mark)),
+        Dest::Maildir(_) => Store::Maildir(FolderMaildir::at(system, path, mark)),
+        Dest::Mboxrd(_) => {
+            let rests = paths.rests.as_str();
+            Store::Mboxrd(HostFile::keeping(system, path, rests, mark))
+        }
     }
 }
 
@@ -60,7 +64,7 @@ type HostAccount<'a, R, H> = Account<HostMaildir<'a, R>, HostRecord<'a, R>, H>;
 
 /// The account of a run, with its store and its record.
 fn account_at<'a, R: Files + Clock + AllocGlobal + Clone + Drop, H: BuildHasher>(
-    host: &'a R,
+    systems: &'a (System<'a, R>, System<'a, R>),
     settings: Settings,
     paths: &'a Paths,
     drawn: (H, ProcessMark),
@@ -70,9 +74,10 @@ fn account_at<'a, R: Files + Clock + AllocGlobal + Clone + Drop, H: BuildHasher>
     ensures kind { kind_of result.store ≡ kind_in settings.dest }
 {
     let (hasher, mark) = drawn;
-    let store = store_at(host, &settings.dest, paths, mark);
-    let record = HostFile::by_blocks(host, paths.record.as_str(), mark);
-    Account::new(host.alloc(), settings, store, record, hasher)
+    let (for_store, for_record) = systems;
+    let store = store_at(for_store, &settings.dest, paths, mark);
+    let record = HostFile::by_blocks(for_record, paths.record.as_str(), mark);
+    Account::new(for_store.alloc(), settings, store, record, hasher)
 }
 
 /// Writes where is kept what was cut off from an mboxrd file, if it isn't known to have been a part of
@@ -120,7 +125,7 @@ pub fn fetch_at<
     H: BuildHasher + Drop,
     O: Write,
 >(
-    host: &R,
+    rt: &R,
     setup: Setup,
     wire: W,
     drawn: (H, ProcessMark),
@@ -135,14 +140,19 @@ pub fn fetch_at<
         paths,
         pretends,
     } = setup;
-    let mut wire = ShownWire::new(host.alloc(), wire, errors.screen(&settings));
-    let mut account = account_at(host, settings, &paths, drawn);
+    let mut wire = ShownWire::new(rt.alloc(), wire, errors.screen(&settings));
+    let reasons = errors.reasons;
+    let systems = (
+        System::new(rt, &reasons.store),
+        System::new(rt, &reasons.record),
+    );
+    let mut account = account_at(&systems, settings, &paths, drawn);
     let manner = Manner {
-        now: seconds_now(host),
+        now: seconds_now(rt),
         destination: paths.destination.as_str(),
         pretends,
     };
-    let fetched = fetch_over(host, &mut account, &mut wire, manner, out, &mut errors);
+    let fetched = fetch_over(rt, &mut account, &mut wire, manner, out, &mut errors);
     let rests = paths.rests.as_str();
     close(account, fetched.is_idle, rests, &mut errors.err);
     fetched.status

@@ -2,9 +2,9 @@
 use crate::place::joined;
 use fetch_rules::Dest;
 use fetch_session::{Fault, Why};
-use std::fs;
 use std::io::{self, ErrorKind, Read};
 use std::rt::Files;
+use trace::System;
 
 /// What would keep a run from storing messages.
 #[derive(Clone, Copy)]
@@ -31,33 +31,34 @@ fn fault_of(error: &io::Error) -> Fault {
 }
 
 /// Why no message could be made in a Maildir.
-fn doubt_of_maildir<R: Files + AllocGlobal>(host: &R, path: &str) -> Option<Fault> {
-    let Ok(tmp) = joined(host.alloc(), path, TMP) else {
+fn doubt_of_maildir<R: Files + AllocGlobal>(system: &System<'_, R>, path: &str) -> Option<Fault> {
+    let Ok(tmp) = joined(system.alloc(), path, TMP) else {
         return Some(Fault::NoMemory);
     };
-    match fs::metadata(host, tmp.as_str()) {
+    match system.stat(tmp.as_str()) {
         Ok(metadata) if metadata.is_dir() => None,
-        Ok(_) => Some(Fault::StoreRefused(Why::Refused)),
+        Ok(_) => Some(fault_of(&system.refusals.refuse(tmp.as_str(), "not a folder"))),
         Err(error) => Some(fault_of(&error)),
     }
 }
 
 /// Whether a file begins as an mboxrd file does, or may be a torn front of one. What is no file isn't opened:
 /// a pipe would keep the program waiting.
-fn may_be_mbox<R: Files + AllocGlobal>(host: &R, path: &str) -> io::Result<bool> {
-    if !fs::metadata(host, path)?.is_file() {
-        return Err(io::Error::from(ErrorKind::InvalidInput));
+fn may_be_mbox<R: Files + AllocGlobal>(system: &System<'_, R>, path: &str) -> io::Result<bool> {
+    if !system.stat(path)?.is_file() {
+        return Err(system.refusals.refuse(path, "not a regular file"));
     }
-    let mut front = Vec::new(host.alloc());
-    fs::open(host, path)?
+    let mut front = Vec::new(system.alloc());
+    system
+        .open(path)?
         .take(FROM.len() as u64)
         .read_to_end(&mut front)?;
     Ok(FROM.starts_with(front.as_slice()))
 }
 
 /// Why no entry could be appended to an mboxrd file, whatever is open in the record.
-fn doubt_of_mbox<R: Files + AllocGlobal>(host: &R, path: &str) -> Option<Fault> {
-    match may_be_mbox(host, path) {
+fn doubt_of_mbox<R: Files + AllocGlobal>(system: &System<'_, R>, path: &str) -> Option<Fault> {
+    match may_be_mbox(system, path) {
         Ok(true) => None,
         Ok(false) => Some(Fault::StoreRefused(Why::NotMbox)),
         Err(error) => Some(fault_of(&error)),
@@ -65,10 +66,14 @@ fn doubt_of_mbox<R: Files + AllocGlobal>(host: &R, path: &str) -> Option<Fault> 
 }
 
 /// What would keep a run from storing messages at a destination of this path. Nothing is changed.
-pub fn doubt_of<R: Files + AllocGlobal>(host: &R, dest: &Dest, path: &str) -> Option<Doubt> {
+pub fn doubt_of<R: Files + AllocGlobal>(
+    system: &System<'_, R>,
+    dest: &Dest,
+    path: &str,
+) -> Option<Doubt> {
     let (fault, only_to_fetch) = match dest {
-        Dest::Maildir(_) => (doubt_of_maildir(host, path)?, true),
-        Dest::Mboxrd(_) => (doubt_of_mbox(host, path)?, false),
+        Dest::Maildir(_) => (doubt_of_maildir(system, path)?, true),
+        Dest::Mboxrd(_) => (doubt_of_mbox(system, path)?, false),
     };
     Some(Doubt {
         fault,

@@ -15,6 +15,7 @@ use fetch_session::{Outcome, fault_number};
 use std::alloc::Global;
 use std::io::Write;
 use std::rt::Files;
+use trace::System;
 
 /// The number of want of memory among faults.
 const NO_MEMORY: u8 = 13;
@@ -54,13 +55,12 @@ fn put_outcome<E: Write>(alloc: Global, outcome: &Outcome, err: &mut Output<E>)
 fn tell_cut<E: Write>(
     alloc: Global,
     settings: &Settings,
-    destination: &str,
     outcome: &Outcome,
     errors: &mut Errors<'_, E>,
 )
     ensures { TellsCut E.contents settings.now outcome.now errors.old errors.new }
 {
-    let reason = reason_line(alloc, settings, destination, outcome, errors.reasons);
+    let reason = reason_line(alloc, settings, outcome, errors);
     put_outcome(alloc, outcome, &mut errors.err);
     errors.err.put(reason.as_slice());
 }
@@ -92,18 +92,17 @@ pub fn unwritten_line(outcome: &Outcome, refusal: Option<Refusal>) -> &'static s
 
 /// How a run would end although its preview came to its end.
 fn foreseen<R: Files + AllocGlobal>(
-    host: &R,
+    system: &System<'_, R>,
     settings: &Settings,
-    destination: &str,
+    manner: Manner<'_>,
     told: &Told,
-    pretends: bool,
 ) -> Outcome
-    ensures { pretends ≡ false → result ≡ Outcome.Ended }
+    ensures { manner.entry.pretends ≡ false → result ≡ Outcome.Ended }
 {
-    if !pretends || told.outcome() != Outcome::Ended {
+    if !manner.pretends || told.outcome() != Outcome::Ended {
         return Outcome::Ended;
     }
-    match doubt_of(host, &settings.dest, destination) {
+    match doubt_of(system, &settings.dest, manner.destination) {
         Some(doubt) if told.would_fetch() || !doubt.only_to_fetch => Outcome::Cut(doubt.fault),
         _ => Outcome::Ended,
     }
@@ -124,7 +123,7 @@ fn status_when(outcome: Outcome, refusal: Option<Refusal>, foreseen: Outcome) ->
 /// and its reason, whether the text wasn't written, after a preview the fault that would cut a run, and how
 /// many messages were left out.
 pub fn tell_all<R: Files + AllocGlobal, O: Write, E: Write>(
-    host: &R,
+    rt: &R,
     settings: &Settings,
     manner: Manner<'_>,
     told: &Told,
@@ -134,15 +133,16 @@ pub fn tell_all<R: Files + AllocGlobal, O: Write, E: Write>(
     ensures within { result.status ≤ 1 }
     ensures told { TellsAll O.contents E.contents manner.entry.pretends settings.now told.now out.old errors.old result out.new errors.new }
 {
-    let alloc = host.alloc();
+    let alloc = rt.alloc();
     let outcome = told.outcome();
     told.write(alloc, settings, out);
-    tell_cut(alloc, settings, manner.destination, &outcome, errors);
+    tell_cut(alloc, settings, &outcome, errors);
     errors
         .err
         .put(unwritten_line(&outcome, out.refusal()).as_bytes());
-    let ahead = foreseen(host, settings, manner.destination, told, manner.pretends);
-    tell_cut(alloc, settings, manner.destination, &ahead, errors);
+    let system = System::new(rt, &errors.reasons.store);
+    let ahead = foreseen(&system, settings, manner, told);
+    tell_cut(alloc, settings, &ahead, errors);
     tell_left_out(alloc, settings, told, errors);
     Fetched {
         status: status_when(outcome, out.refusal(), ahead),

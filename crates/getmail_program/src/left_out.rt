@@ -66,10 +66,10 @@ fn left_out_said<E>(
     told: &Told,
     errors: &Errors<'_, E>,
 ) -> Result<Vec<u8>, AllocError>
-    ensures { IfOk result (λ line. line.items ≡ left_out_said settings.now errors.now.reasons told.now) }
+    ensures { IfOk result (λ line. line.items ≡ left_out_said settings.now errors.now.says_why told.now) }
 {
-    match (errors.reasons, told) {
-        (Some(_), Told::Done(report)) => left_out_line(alloc, settings, &report.left_out),
+    match (errors.says_why, told) {
+        (true, Told::Done(report)) => left_out_line(alloc, settings, &report.left_out),
         _ => Ok(Vec::new(alloc)),
     }
 }
@@ -82,7 +82,7 @@ pub fn tell_left_out<E: Write>(
     told: &Told,
     errors: &mut Errors<'_, E>,
 )
-    ensures { Puts E.contents errors.old.err (left_out_said settings.now errors.old.reasons told.now) errors.new.err }
+    ensures { Puts E.contents errors.old.err (left_out_said settings.now errors.old.says_why told.now) errors.new.err }
 {
     match left_out_said(alloc, settings, told, errors) {
         Ok(line) => errors.err.put(line.as_slice()),

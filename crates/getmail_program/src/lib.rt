@@ -30,5 +30,5 @@ pub use run::fetch_over;
 pub use setup::{Paths, Setup, set_up};
 pub use shown_wire::ShownWire;
 pub use told::Told;
-pub use why::{Errors, fail};
+pub use why::{Errors, Reasons, fail};
 pub use words::{Words, explain, read_words};

@@ -1,7 +1,8 @@
 //! Why an rc file gives no settings: the line, the value there, and the rule that it breaks.
+use crate::why::Reasons;
 use fetch_rules::{Flags, Key, RcFault, rc_text};
 use std::alloc::{AllocError, Global};
-use trace::{Reasons, line_text};
+use trace::line_text;
 
 /// The octets that begin a file with a byte order mark.
 const BYTE_ORDER_MARK: &[u8] = b"\xEF\xBB\xBF";
@@ -168,7 +169,7 @@ fn reason_of(
 
 /// Keeps the reason of a fault of an rc file of these octets, or of the flags. Without memory it isn't kept.
 pub fn keep_reason(alloc: Global, reasons: &Reasons, fault: &RcFault, bytes: &[u8], flags: Flags) {
-    if let Ok(Some(reason)) = reason_of(alloc, fault, bytes, flags) {
-        reasons.keep_file(reason.as_slice());
+    if let Ok(reason) = reason_of(alloc, fault, bytes, flags) {
+        reasons.rule.set(reason);
     }
 }

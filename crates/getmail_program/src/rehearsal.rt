@@ -115,7 +115,7 @@ fn rehearse_with<R: Read + Drop, W: Write + Drop, E: Write, T: Write + Drop>(
         BuildHasherDefault::<FoldHasher>::new(),
     );
     let wire = StreamWire::new(input, Transcript::new(output));
-    let mut wire = TracedWire::new(alloc, wire, trace, None);
+    let mut wire = TracedWire::new(alloc, wire, trace, None, None);
     let report = session(&mut account, &mut wire, 0);
     let (_input, transcript) = wire.into_inner().into_parts();
     let mut output = transcript.into_inner();

@@ -29,7 +29,7 @@ pub fn fetch_over<
     O: Write,
     E: Write,
 >(
-    host: &R,
+    rt: &R,
     account: &mut Account<D, F, H>,
     wire: &mut ShownWire<W, S>,
     manner: Manner<'_>,
@@ -46,5 +46,5 @@ pub fn fetch_over<
         errors.new }
 {
     let told = hold(account, wire, manner.now, manner.pretends);
-    tell_all(host, account.settings(), manner, &told, out, errors)
+    tell_all(rt, account.settings(), manner, &told, out, errors)
 }

@@ -8,15 +8,16 @@ ghost use Rattle.getmail_program.specs.Places.{AreAsked, AreFor, IsSetUp, path_i
 use crate::failure::{Failure, failure_of};
 use crate::place::{folder, joined, rc_file, whole_path};
 use crate::rc_reason::keep_reason;
+use crate::why::Errors;
 use crate::words::Words;
 use fetch_rules::{Dest, Flags, Settings, Warning, override_with, read_rc, warning_text};
 use mail_store::{AccountId, account_id};
 use std::alloc::{AllocError, Global};
-use std::io::{self, Read, Write};
+use std::io::{self, Read};
 use std::os::unix::fs::PermissionsExt;
 use std::rt::Files;
 use std::{fs, str};
-use trace::{Reasons, TracedHost, line_text};
+use trace::{System, line_text};
 
 /// One octet more than an rc file may have, so that a longer one is noticed.
 const RC_ROOM: u64 = 65_537;
@@ -47,9 +48,9 @@ pub struct Setup {
 }
 
 /// The octets of the rc file; if it is too long, enough of them to notice it.
-fn read_file<R: Files + AllocGlobal>(host: &R, path: &str) -> io::Result<Vec<u8>> {
-    let mut bytes = Vec::new(host.alloc());
-    fs::open(host, path)?.take(RC_ROOM).read_to_end(&mut bytes)?;
+fn read_file<R: Files + AllocGlobal>(system: &System<'_, R>, path: &str) -> io::Result<Vec<u8>> {
+    let mut bytes = Vec::new(system.alloc());
+    system.open(path)?.take(RC_ROOM).read_to_end(&mut bytes)?;
     Ok(bytes)
 }
 
@@ -66,19 +67,15 @@ fn tell_warnings<'a, R: Eprint + AllocGlobal>(
 }
 
 /// Whether others than its owner may read or write a file.
-fn is_others_too<R: Files>(host: &R, path: &str) -> bool {
-    match fs::metadata(host, path) {
+fn is_others_too<R: Files>(rt: &R, path: &str) -> bool {
+    match fs::metadata(rt, path) {
         Ok(metadata) => metadata.permissions().mode() & 0o066 != 0,
         Err(_) => false,
     }
 }
 
 /// Warns if others may read or write the rc file, which has a password.
-fn warn_of_others<R: Files + Eprint + AllocGlobal, E: Write + Copy>(
-    host: &TracedHost<R, E>,
-    path: &str,
-) {
-    let rt = host.inner();
+fn warn_of_others<R: Files + Eprint + AllocGlobal>(rt: &R, path: &str) {
     if !is_others_too(rt, path) {
         return;
     }
@@ -106,26 +103,26 @@ fn meaning_of<'a, R: Eprint + AllocGlobal>(
 
 /// Reads the rc file, writes its warnings, and returns its settings, changed by the flags. The reason of a
 /// fault is kept, and a file that others may read is warned of, if reasons are to be written.
-fn settings_of<'a, R: Files + Eprint + AllocGlobal, E: Write + Copy>(
-    host: &TracedHost<R, E>,
+fn settings_of<'a, R: Files + Eprint + AllocGlobal, E>(
+    rt: &R,
     path: &str,
     words: &Words,
-    reasons: Option<&Reasons>,
+    errors: &Errors<'_, E>,
 ) -> Result<Settings, Failure<'a>>
     ensures valid { IfOk result IsValid }
     ensures asked { IfOk result (AreAsked words.now.flags) }
 {
-    let rt = host.inner();
-    let bytes = match read_file(host, path) {
+    let bytes = match read_file(&System::new(rt, &errors.reasons.before), path) {
         Ok(bytes) => bytes,
         Err(error) => return Err(failure_of(error, Failure::CannotRead)),
     };
     let settings = meaning_of(rt, bytes.as_slice(), words.flags);
-    if let Some(reasons) = reasons {
+    if errors.says_why {
         match &settings {
-            Ok(_) => warn_of_others(host, path),
+            Ok(_) => warn_of_others(rt, path),
             Err(Failure::Rc(fault)) => {
-                keep_reason(rt.alloc(), reasons, fault, bytes.as_slice(), words.flags)
+                let (alloc, reasons) = (rt.alloc(), errors.reasons);
+                keep_reason(alloc, reasons, fault, bytes.as_slice(), words.flags)
             }
             Err(_) => {}
         }
@@ -199,18 +196,18 @@ fn places<'a>(
 /// The settings and the paths of a run, or the first of these failures: HOME is needed and not known,
 /// the rc file can't be read or is wrong, the flags are opposite. The reason is kept if reasons are to be
 /// written.
-pub fn set_up<'a, R: Files + Eprint + AllocGlobal, E: Write + Copy>(
-    host: &TracedHost<R, E>,
+pub fn set_up<'a, R: Files + Eprint + AllocGlobal, E>(
+    rt: &R,
     home: Option<&str>,
     words: &Words,
-    reasons: Option<&Reasons>,
+    errors: &Errors<'_, E>,
 ) -> Result<Setup, Failure<'a>>
     ensures { IfOk result (IsSetUp (option_map (λ text. text.now) home.entry) words.now) }
 {
-    let alloc = host.inner().alloc();
+    let alloc = rt.alloc();
     let folder = folder(alloc, home, words.dir.as_deref())?;
     let path = rc_file(alloc, home, folder.as_str(), words.rcfile.as_deref())?;
-    let settings = settings_of(host, path.as_str(), words, reasons)?;
+    let settings = settings_of(rt, path.as_str(), words, errors)?;
     let paths = places(alloc, home, words, &settings)?;
     Ok(Setup {
         settings,

@@ -8,9 +8,38 @@ use crate::output::Output;
 use fetch_rules::Settings;
 use fetch_session::{Fault, Outcome, Why};
 use std::alloc::{AllocError, Global};
-use std::io::Write;
+use std::cell::Cell;
+use std::io::{Stderr, Write};
 use std::str;
-use trace::Reasons;
+use trace::{Denial, Refusals};
+
+/// What is kept of refusals while a program runs, to tell the reason of a fault: a device's, the link's or
+/// that of what comes before the session.
+#[derive(Drop)]
+pub struct Reasons {
+    /// Refused calls on the rc file, and addresses that took no connection.
+    pub before: Refusals,
+    pub store: Refusals,
+    pub record: Refusals,
+    pub link: Refusals,
+    pub answer: Denial,
+    /// The rule that the rc file or the flags break.
+    pub rule: Cell<Option<Vec<u8>>>,
+}
+
+impl Reasons {
+    /// Nothing was refused yet.
+    pub fn new(alloc: Global, trace: Option<Stderr>) -> Reasons {
+        Reasons {
+            before: Refusals::new(alloc, trace),
+            store: Refusals::new(alloc, trace),
+            record: Refusals::new(alloc, trace),
+            link: Refusals::new(alloc, trace),
+            answer: Denial::none(),
+            rule: Cell::new(None),
+        }
+    }
+}
 
 /// Standard error of a run, and what is written there besides warnings and the lines of faults.
 #[derive(Clone, Copy, Drop)]
@@ -18,8 +47,9 @@ pub struct Errors<'a, E> {
     pub err: Output<E>,
     /// Whether the line of progress may be shown.
     pub shows_progress: bool,
-    /// What is kept of refusals, if reasons are to be written.
-    pub reasons: Option<&'a Reasons>,
+    /// Whether reasons are written.
+    pub says_why: bool,
+    pub reasons: &'a Reasons,
 }
 
 impl<'a, E: Write + Copy> Errors<'a, E> {
@@ -40,31 +70,19 @@ fn words_of(alloc: Global, answer: &[u8]) -> Option<Vec<u8>> {
     Some(words)
 }
 
-/// The last refused call below a path, if the last refused call was below it.
-fn reason_below(reasons: &Reasons, path: &str) -> Option<Vec<u8>> {
-    let reason = reasons.of_file()?;
-    if reason.starts_with(path.as_bytes()) {
-        Some(reason)
-    } else {
-        None
-    }
-}
-
 /// The reason of a fault, if it is known: the server's words, or what was asked of the system and what
 /// it said.
-fn reason_of(
-    alloc: Global,
-    reasons: &Reasons,
-    destination: &str,
-    fault: &Fault,
-) -> Option<Vec<u8>> {
-    match fault {
-        Fault::Refused(_) | Fault::BadReply => { words_of(alloc, reasons.of_peer()?.as_slice()) }
-        Fault::ReadFailed | Fault::WriteFailed => reasons.of_link(),
-        Fault::StoreRefused(Why::Missing | Why::Refused) => reason_below(reasons, destination),
-        Fault::SeenRefused => reasons.of_file(),
-        _ => None,
-    }
+fn reason_of(alloc: Global, reasons: &Reasons, fault: &Fault) -> Option<Vec<u8>> {
+    let refused = match fault {
+        Fault::Refused(_) | Fault::BadReply => {
+            return words_of(alloc, reasons.answer.take()?.as_slice());
+        }
+        Fault::ReadFailed | Fault::WriteFailed => &reasons.link,
+        Fault::StoreRefused(Why::Missing | Why::Refused) => &reasons.store,
+        Fault::SeenRefused => &reasons.record,
+        _ => return None,
+    };
+    refused.take()?.text(alloc).ok()
 }
 
 /// The line of a reason: `getmail: `, the account, and the reason.
@@ -85,25 +103,28 @@ pub fn line_of(alloc: Global, settings: &Settings, reason: &[u8]) -> Result<Vec<
 }
 
 /// The line of the reason of the fault that cut a session, if one did, it is known and it is to be written;
-/// else it is empty. Of refused calls on files only one on the destination is the reason of the store's
-/// fault.
-pub fn reason_line(
+/// else it is empty.
+pub fn reason_line<E>(
     alloc: Global,
     settings: &Settings,
-    destination: &str,
     outcome: &Outcome,
-    reasons: Option<&Reasons>,
+    errors: &Errors<'_, E>,
 ) -> Vec<u8>
-    ensures { IsReason settings.now reasons.entry outcome.now result.items }
+    ensures { IsReason settings.now errors.now.says_why outcome.now result.items }
 {
-    if let (Some(reasons), Outcome::Cut(fault)) = (reasons, outcome) {
-        if let Some(reason) = reason_of(alloc, reasons, destination, fault) {
+    if let (true, Outcome::Cut(fault)) = (errors.says_why, outcome) {
+        if let Some(reason) = reason_of(alloc, errors.reasons, fault) {
             if let Ok(line) = line_of(alloc, settings, reason.as_slice()) {
                 return line;
             }
         }
     }
     Vec::new(alloc)
+}
+
+/// What was asked of the system before the session and what it said.
+fn refused_before(alloc: Global, reasons: &Reasons) -> Option<Vec<u8>> {
+    reasons.before.take()?.text(alloc).ok()
 }
 
 /// Writes the reason why there is no session, if it is known: the rule that an rc file breaks, or what was
@@ -114,12 +135,13 @@ fn tell_cause<R: Eprint + AllocGlobal>(
     account: Option<&Settings>,
     reasons: &Reasons,
 ) {
-    if let Failure::NoHome | Failure::NoMemory = failure {
+    let reason = match failure {
+        Failure::NoHome | Failure::NoMemory => None,
+        Failure::Rc(_) => reasons.rule.take(),
+        _ => refused_before(rt.alloc(), reasons),
+    };
+    let Some(reason) = reason else {
         return;
-    }
-    let reason = match reasons.of_file() {
-        Some(reason) => reason,
-        None => return,
     };
     let Ok(reason) = str::from_utf8(reason.as_slice()) else {
         return;
@@ -149,8 +171,8 @@ pub fn fail<R: Eprint + AllocGlobal, E>(
     ensures within { result ≤ 2 }
 {
     let status = tell(rt, failure);
-    if let Some(reasons) = errors.reasons {
-        tell_cause(rt, failure, account, reasons);
+    if errors.says_why {
+        tell_cause(rt, failure, account, errors.reasons);
     }
     status
 }

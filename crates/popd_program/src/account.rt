@@ -12,9 +12,10 @@ use crate::words::Words;
 use folder_drop::MaildirDrop;
 use pop3_server::{Maildrop, Server};
 use std::alloc::{AllocError, Global};
-use std::fs;
+use std::io::{self, Read};
 use std::random::RandomSource;
 use std::rt::{Clock, Files};
+use trace::System;
 
 /// The account that is served.
 #[derive(Drop)]
@@ -40,14 +41,17 @@ impl Account {
     }
 
     /// The account's Maildir; nothing of it is listed yet.
-    pub fn open_maildir<'a, H>(&self, host: &'a H) -> Result<MaildirDrop<'a, H>, AllocError>
+    pub fn open_maildir<'a, R>(
+        &self,
+        system: &'a System<'a, R>,
+    ) -> Result<MaildirDrop<'a, R>, AllocError>
     where
-        H: Files + Clock + RandomSource + AllocGlobal + Clone + Drop,
+        R: Files + Clock + RandomSource + AllocGlobal + Clone + Drop,
         ensures { IfOk result (λ maildir.
             maildir ≡ record { path = string_bytes self.now.maildir; names = []; failures = 0; removals = 0 }) }
     {
-        let path = String::from_str(host.alloc(), self.maildir.as_str())?;
-        Ok(MaildirDrop::at(host, path))
+        let path = String::from_str(system.alloc(), self.maildir.as_str())?;
+        Ok(MaildirDrop::at(system, path))
     }
 
     /// A server over this maildrop at the start of a session, for this account's user and password.
@@ -72,17 +76,24 @@ fn account_of(alloc: Global, user: &str, file: &[u8], maildir: &str) -> Result<A
     })
 }
 
+/// The octets of a file.
+fn read_file<R: Files + AllocGlobal>(system: &System<'_, R>, path: &str) -> io::Result<Vec<u8>> {
+    let mut bytes = Vec::new(system.alloc());
+    system.open(path)?.read_to_end(&mut bytes)?;
+    Ok(bytes)
+}
+
 /// The account that the words USER PASSFILE MAILDIR name, with the password from PASSFILE. A wrong
 /// number of words is reported before that file is read.
-pub fn read_account<'a, H: Files + AllocGlobal>(
-    host: &H,
+pub fn read_account<'a, R: Files + AllocGlobal>(
+    system: &System<'_, R>,
     words: &'a Words,
 ) -> Result<Account, Failure<'a>>
     requires { words.now.rehearse ≡ false }
     ensures ok { IfOk result (λ account. (file : List ℕ) × IsAccount words.now file account) }
     ensures err { IfErr result (IsCause words.now) }
 {
-    let alloc = host.alloc();
+    let alloc = system.alloc();
     let (Some(user), Some(passfile), Some(maildir)) = (&words.user, &words.passfile, &words.maildir)
     else {
         return Err(Failure::WrongCount);
@@ -90,9 +101,10 @@ pub fn read_account<'a, H: Files + AllocGlobal>(
     if !words.more.is_empty() {
         return Err(Failure::WrongCount);
     }
-    let file = match fs::read(host, passfile.as_str()) {
+    let path = passfile.as_str();
+    let file = match read_file(system, path) {
         Ok(file) => file,
-        Err(error) => return Err(failure_of(error, Failure::CannotRead(passfile.as_str()))),
+        Err(error) => return Err(failure_of(error, Failure::CannotRead(path))),
     };
     Ok(account_of(alloc, user.as_str(), file.as_slice(), maildir.as_str())?)
 }

@@ -6,6 +6,8 @@ ghost use Rattle.popd_program.specs.Failures.{status_of};
 use pop3_server::ServerFault;
 use std::alloc::AllocError;
 use std::io::{self, ErrorKind};
+use std::str;
+use trace::Refusals;
 
 /// Why the program serves nothing, or ends early.
 #[derive(Clone, Copy)]
@@ -66,6 +68,27 @@ pub fn tell<R: Eprint>(rt: &R, failure: Failure<'_>) {
         }
         Failure::Fault(fault) => rt.eprintln(format_args!("popd: {fault}")),
     };
+}
+
+/// Writes why a file couldn't be read or an address couldn't be listened on: the path or the address, and
+/// what the system said.
+pub fn tell_reason<R: Eprint + AllocGlobal>(
+    rt: &R,
+    outcome: Result<(), Failure<'_>>,
+    refusals: &Refusals,
+) {
+    let (Err(Failure::CannotRead(_) | Failure::CannotListen(_)), Some(refusal)) = (
+        outcome,
+        refusals.take(),
+    ) else {
+        return;
+    };
+    let Ok(reason) = refusal.text(rt.alloc()) else {
+        return;
+    };
+    if let Ok(reason) = str::from_utf8(reason.as_slice()) {
+        let _ = rt.eprintln(format_args!("popd: {reason}"));
+    }
 }
 
 /// Writes the failure's line, if there was a failure, and returns the exit status: 0 if there was

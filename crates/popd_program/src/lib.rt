@@ -3,7 +3,6 @@
 
 mod account;
 mod failure;
-mod host;
 mod password;
 mod rehearsal;
 mod serving;

@@ -4,7 +4,6 @@ ghost use Rattle.pop3_server.specs.ServerMachine.{is_open};
 
 use crate::account::Account;
 use crate::failure::{Failure, failure_of, tell};
-use crate::host::Host;
 use crate::telling::{Peer, Telling, tell_listening};
 use crate::waits::{BoundedStream, LoginJournal};
 use crate::warning::{Warning, warn};
@@ -12,34 +11,21 @@ use crate::words::Words;
 use folder_drop::MaildirDrop;
 use pop3_server::{Journal, Maildrop, Server, ServerFault, serve_and_note};
 use pop3_wire::StreamWire;
-use std::alloc::AllocError;
 use std::io::{Read, Write};
 use std::net::{Net, SocketAddr, TcpListener, TcpStream};
 use std::random::RandomSource;
 use std::rt::{Clock, Files};
 use std::thread;
 use std::time::Duration;
-use trace::{Traced, TracedWire};
+use trace::{System, Told, TracedWire};
 
 /// How long the server waits after a connection that couldn't be accepted: without a free descriptor,
 /// the next one can't be accepted at once either.
 const PAUSE_SECONDS: u64 = 1;
 
-/// The peer's name, if there is a trace.
-fn traced_name<R: AllocGlobal, E: Write + Copy>(
-    host: &Host<R, E>,
-    peer: Peer,
-) -> Result<String, AllocError> {
-    match host.err() {
-        Some(_) => format!(in host.alloc(); "{peer}"),
-        None => Ok(String::new(host.alloc())),
-    }
-}
-
-/// Serves a link over two named streams, with the trace that the program's runtime has. Nothing is
-/// removed unless the session came to QUIT.
-fn serve_traced<R, E, D, J, I, O>(
-    host: &Host<R, E>,
+/// Serves a link over two named streams. Nothing is removed unless the session came to QUIT.
+fn serve_traced<R, D, J, I, O>(
+    system: &System<'_, R>,
     server: &mut Server<D>,
     journal: &mut J,
     input: (I, &str),
@@ -47,7 +33,6 @@ fn serve_traced<R, E, D, J, I, O>(
 ) -> Result<(), ServerFault>
 where
     R: AllocGlobal,
-    E: Write + Copy + Drop,
     D: Maildrop,
     J: Journal,
     I: Read + Drop,
@@ -55,25 +40,24 @@ where
     requires { is_open server.old.state ≡ true }
     ensures { is_open server.new.state ≡ true → (D.mail server.new.drop).removals ≡ (D.mail server.old.drop).removals }
 {
-    let err = host.err();
-    let reader = Traced::new(host.alloc(), input.0, input.1, err);
-    let writer = Traced::new(host.alloc(), output.0, output.1, err);
+    let (alloc, refusals) = (system.alloc(), system.refusals);
+    let reader = Told::new(alloc, input.0, input.1, refusals);
+    let writer = Told::new(alloc, output.0, output.1, refusals);
     let link = StreamWire::new(reader, writer);
-    let mut wire = TracedWire::new(host.alloc(), link, err, None);
+    let mut wire = TracedWire::new(alloc, link, refusals.trace(), None, None);
     serve_and_note(server, &mut wire, journal)
 }
 
 /// Serves standard input and output, and tells what happens there if `verbose` asks for it. Nothing
 /// is removed unless the session came to QUIT.
-pub fn serve_streams<R, E, I, O, D>(
-    host: &Host<R, E>,
+pub fn serve_streams<R, I, O, D>(
+    system: &System<'_, R>,
     server: &mut Server<D>,
     verbose: bool,
     streams: (I, O),
 ) -> Result<(), ServerFault>
 where
     R: AllocGlobal + Eprint + Drop,
-    E: Write + Copy + Drop,
     I: Read + Drop,
     O: Write + Drop,
     D: Maildrop + Drop,
@@ -82,12 +66,12 @@ where
 {
     let (input, output) = streams;
     let mut telling = Telling {
-        rt: host.inner(),
+        rt: system.rt,
         verbose,
         peer: Peer::StandardInput,
     };
     serve_traced(
-        host,
+        system,
         server,
         &mut telling,
         (input, "standard input"),
@@ -96,35 +80,31 @@ where
 }
 
 /// Warns of the file or folder that couldn't be read, if that made the maildrop unavailable.
-fn warn_of_unread<R, H>(rt: &R, maildir: &MaildirDrop<'_, H>)
+fn warn_of_unread<R>(rt: &R, maildir: &MaildirDrop<'_, R>)
 where
-    R: Eprint,
-    H: Files + Clock + RandomSource + AllocGlobal + Clone + Drop,
+    R: Files + Clock + RandomSource + AllocGlobal + Eprint + Clone + Drop,
 {
     if let Some(path) = maildir.unread() {
         warn(rt, Warning::Unread(path));
     }
 }
 
-/// Serves the account's Maildir over standard input and output. The Maildir is one of `disk`.
-pub fn serve_maildir<R, E, H, I, O>(
-    host: &Host<R, E>,
-    disk: &H,
+/// Serves the account's Maildir over standard input and output.
+pub fn serve_maildir<R, I, O>(
+    system: &System<'_, R>,
     account: Account,
     verbose: bool,
     streams: (I, O),
 ) -> Result<(), ServerFault>
 where
-    R: AllocGlobal + Eprint + Drop,
-    E: Write + Copy + Drop,
-    H: Files + Clock + RandomSource + AllocGlobal + Clone + Drop,
+    R: Files + Clock + RandomSource + AllocGlobal + Eprint + Clone + Drop,
     I: Read + Drop,
     O: Write + Drop,
 {
-    let maildir = account.open_maildir(disk)?;
-    let mut server = account.into_server(host.alloc(), maildir);
-    let served = serve_streams(host, &mut server, verbose, streams);
-    warn_of_unread(host.inner(), &server.into_drop());
+    let maildir = account.open_maildir(system)?;
+    let mut server = account.into_server(system.alloc(), maildir);
+    let served = serve_streams(system, &mut server, verbose, streams);
+    warn_of_unread(system.rt, &server.into_drop());
     served
 }
 
@@ -133,23 +113,23 @@ where
 struct Connection<'a, R> {
     account: Account,
     stream: BoundedStream<'a, R>,
-    /// The peer's name, if there is a trace.
+    /// The peer's name.
     name: String,
 }
 
 /// What a connection that was just accepted needs.
-fn begin<'a, R: Clock + AllocGlobal, E: Write + Copy>(
-    host: &'a Host<R, E>,
+fn begin<'a, R: Clock + AllocGlobal>(
+    system: &System<'a, R>,
     stream: &'a TcpStream,
     peer: Peer,
     account: &Account,
 ) -> Result<Connection<'a, R>, ServerFault> {
-    let account = account.copy(host.alloc())?;
-    let stream = match BoundedStream::new(host.inner(), stream) {
+    let account = account.copy(system.alloc())?;
+    let stream = match BoundedStream::new(system.rt, stream) {
         Ok(stream) => stream,
         Err(_) => return Err(ServerFault::ReadFailed),
     };
-    let name = traced_name(host, peer)?;
+    let name = format!(in system.alloc(); "{peer}")?;
     Ok(Connection {
         account,
         stream,
@@ -159,61 +139,57 @@ fn begin<'a, R: Clock + AllocGlobal, E: Write + Copy>(
 
 /// Serves one connection with limited waits, over the Maildir as it is now, and gives the Maildir
 /// back for the next one.
-fn serve_connection<'a, R, E, H>(
-    host: &Host<R, E>,
+fn serve_connection<'a, R>(
+    system: &System<'_, R>,
     telling: &mut Telling<'_, R>,
     stream: &TcpStream,
     account: &Account,
-    maildir: MaildirDrop<'a, H>,
-) -> (Result<(), ServerFault>, MaildirDrop<'a, H>)
+    maildir: MaildirDrop<'a, R>,
+) -> (Result<(), ServerFault>, MaildirDrop<'a, R>)
 where
-    R: Clock + AllocGlobal + Eprint + Drop,
-    E: Write + Copy + Drop,
-    H: Files + Clock + RandomSource + AllocGlobal + Clone + Drop,
+    R: Files + Clock + RandomSource + AllocGlobal + Eprint + Clone + Drop,
 {
     let Connection {
         account,
         stream: bounded,
         name,
-    } = match begin(host, stream, telling.peer, account) {
+    } = match begin(system, stream, telling.peer, account) {
         Ok(connection) => connection,
         Err(fault) => return (Err(fault), maildir),
     };
     // Without it the connection works too, only slower.
     let _ = stream.set_nodelay(true);
-    let mut server = account.into_server(host.alloc(), maildir);
+    let mut server = account.into_server(system.alloc(), maildir);
     let mut journal = LoginJournal {
         stream: &bounded,
         journal: telling,
     };
     let (input, output) = ((&bounded, name.as_str()), (&bounded, name.as_str()));
-    let served = serve_traced(host, &mut server, &mut journal, input, output);
+    let served = serve_traced(system, &mut server, &mut journal, input, output);
     let maildir = server.into_drop();
-    warn_of_unread(host.inner(), &maildir);
+    warn_of_unread(system.rt, &maildir);
     (served, maildir.renewed())
 }
 
 /// Serves one client's connection, and reports a fault. Gives the Maildir back for the next client.
-fn serve_client<'a, R, E, H>(
-    host: &Host<R, E>,
+fn serve_client<'a, R>(
+    system: &System<'_, R>,
     verbose: bool,
     taken: &(TcpStream, SocketAddr),
     account: &Account,
-    maildir: MaildirDrop<'a, H>,
-) -> MaildirDrop<'a, H>
+    maildir: MaildirDrop<'a, R>,
+) -> MaildirDrop<'a, R>
 where
-    R: Clock + AllocGlobal + Eprint + Drop,
-    E: Write + Copy + Drop,
-    H: Files + Clock + RandomSource + AllocGlobal + Clone + Drop,
+    R: Files + Clock + RandomSource + AllocGlobal + Eprint + Clone + Drop,
 {
-    let rt = host.inner();
+    let rt = system.rt;
     let (stream, client) = (&taken.0, taken.1);
     let mut telling = Telling {
         rt,
         verbose,
         peer: Peer::Address(client),
     };
-    let (served, left) = serve_connection(host, &mut telling, stream, account, maildir);
+    let (served, left) = serve_connection(system, &mut telling, stream, account, maildir);
     if let Err(fault) = served {
         tell(rt, Failure::Fault(fault));
         warn(rt, Warning::Cut(client, fault));
@@ -223,22 +199,20 @@ where
 
 /// Accepts the next client and serves it. If none can be accepted, that is reported after a pause.
 /// Gives the Maildir back for the client after it.
-fn serve_next<'a, R, E, H>(
-    host: &Host<R, E>,
+fn serve_next<'a, R>(
+    system: &System<'_, R>,
     (listener, address): (&TcpListener, &str),
     verbose: bool,
     account: &Account,
-    maildir: MaildirDrop<'a, H>,
-) -> MaildirDrop<'a, H>
+    maildir: MaildirDrop<'a, R>,
+) -> MaildirDrop<'a, R>
 where
-    R: Clock + AllocGlobal + Eprint + Drop,
-    E: Write + Copy + Drop,
-    H: Files + Clock + RandomSource + AllocGlobal + Clone + Drop,
+    R: Files + Clock + RandomSource + AllocGlobal + Eprint + Clone + Drop,
 {
-    match host.told("accept", address, listener.accept()) {
-        Ok(taken) => serve_client(host, verbose, &taken, account, maildir),
+    match system.refusals.told("accept", address, listener.accept()) {
+        Ok(taken) => serve_client(system, verbose, &taken, account, maildir),
         Err(_) => {
-            let rt = host.inner();
+            let rt = system.rt;
             thread::sleep(rt, Duration::from_secs(PAUSE_SECONDS));
             tell(rt, Failure::Fault(ServerFault::ReadFailed));
             maildir
@@ -247,14 +221,13 @@ where
 }
 
 /// What listens on an address.
-fn bind<'a, R, E>(host: &Host<R, E>, address: &'a str) -> Result<TcpListener, Failure<'a>>
+fn bind<'a, R>(system: &System<'_, R>, address: &'a str) -> Result<TcpListener, Failure<'a>>
 where
     R: Net<Listener = TcpListener, Stream = TcpStream> + AllocGlobal,
-    E: Write + Copy,
     ensures { IfErr result (λ f. (f ≡ Failure.CannotListen address.entry) ⊎ (f ≡ Failure.Fault ServerFault.NoMemory)) }
 {
-    let bound = TcpListener::bind(host.inner(), address);
-    match host.told("bind", address, bound) {
+    let bound = TcpListener::bind(system.rt, address);
+    match system.refusals.told("bind", address, bound) {
         Ok(listener) => Ok(listener),
         Err(error) => Err(failure_of(error, Failure::CannotListen(address))),
     }
@@ -262,8 +235,8 @@ where
 
 /// Serves connections to an address, one after the other, as many as the words say. A fault of one of
 /// them, or in accepting it, is reported, and the next one is served.
-pub fn listen<'a, R, E>(
-    host: &Host<R, E>,
+pub fn listen<'a, R>(
+    system: &System<'_, R>,
     address: &'a str,
     words: &Words,
     account: &Account,
@@ -271,16 +244,16 @@ pub fn listen<'a, R, E>(
 where
     R: Net<Listener = TcpListener, Stream = TcpStream> + Files + Clock,
     R: RandomSource + AllocGlobal + Eprint + Copy + Drop,
-    E: Write + Copy + Drop,
     ensures { IfErr result (λ f. (f ≡ Failure.CannotListen address.entry) ⊎ (f ≡ Failure.Fault ServerFault.NoMemory)) }
 {
-    let listener = bind(host, address)?;
+    let listener = bind(system, address)?;
     if words.verbose {
-        tell_listening(host.inner(), &listener);
+        tell_listening(system.rt, &listener);
     }
-    let mut maildir = account.open_maildir(host)?;
+    let mut maildir = account.open_maildir(system)?;
     for _ in 0..words.connections {
-        maildir = serve_next(host, (&listener, address), words.verbose, account, maildir);
+        let next = (&listener, address);
+        maildir = serve_next(system, next, words.verbose, account, maildir);
     }
     Ok(())
 }

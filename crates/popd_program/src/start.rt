@@ -5,8 +5,7 @@ ghost use Rattle.command_line.specs.Rules.{is_asked_for};
 ghost use Rattle.popd_program.specs.Failures.{IsCause, has_right_count};
 
 use crate::account::read_account;
-use crate::failure::{Failure, end, failure_of};
-use crate::host::{Host, host_of};
+use crate::failure::{Failure, end, failure_of, tell_reason};
 use crate::rehearsal::rehearsal_server;
 use crate::serving::{listen, serve_maildir, serve_streams};
 use crate::warning::warn_of;
@@ -16,10 +15,11 @@ use clap::{Command, Error};
 use command_line::show;
 use pop3_server::ServerFault;
 use std::env;
-use std::io::{Read, Write};
+use std::io::{IsTerminal, Read, Stderr, Write};
 use std::net::{Net, TcpListener, TcpStream};
 use std::random::RandomSource;
 use std::rt::{Clock, Env, Files};
+use trace::{Refusals, System};
 
 /// The words of the command line, the program's name first. If they can't be read, for example because
 /// one isn't UTF-8, the failure is that of a wrong number of words.
@@ -36,15 +36,14 @@ fn arguments<R: Env + AllocGlobal>(rt: &R) -> Result<Vec<String>, Failure<'stati
 /// words, a password file that can't be read, an address that can't be listened on, a fault of the
 /// link. With an address to listen on, a fault of one connection isn't a failure of the run. Without
 /// one, the streams are served: standard input and output.
-fn run<'a, R, E, I, O>(
-    host: &Host<R, E>,
+fn run<'a, R, I, O>(
+    system: &System<'_, R>,
     words: &'a Words,
     streams: (I, O),
 ) -> Result<(), Failure<'a>>
 where
     R: Net<Listener = TcpListener, Stream = TcpStream> + Files + Clock,
     R: RandomSource + AllocGlobal + Eprint + Copy + Drop,
-    E: Write + Copy + Drop,
     I: Read + Drop,
     O: Write + Drop,
     ensures { MatchResult result (λ _. has_right_count words.now ≡ true) (IsCause words.now) }
@@ -53,14 +52,14 @@ where
         if !words.is_bare() {
             return Err(Failure::WrongCount);
         }
-        let mut server = rehearsal_server(host.alloc())?;
-        return Ok(serve_streams(host, &mut server, words.verbose, streams)?);
+        let mut server = rehearsal_server(system.alloc())?;
+        return Ok(serve_streams(system, &mut server, words.verbose, streams)?);
     }
-    let account = read_account(host, words)?;
-    warn_of(host, &account, words.passfile.as_deref())?;
+    let account = read_account(system, words)?;
+    warn_of(system, &account, words.passfile.as_deref())?;
     match &words.listen {
-        Some(address) => listen(host, address.as_str(), words, &account),
-        None => Ok(serve_maildir(host, host, account, words.verbose, streams)?),
+        Some(address) => listen(system, address.as_str(), words, &account),
+        None => Ok(serve_maildir(system, account, words.verbose, streams)?),
     }
 }
 
@@ -93,21 +92,38 @@ fn show_usage<R: Eprint + AllocGlobal>(rt: &R) {
     }
 }
 
+/// Does what the command line asks for, and returns the exit status. The reason of a failure follows its
+/// line with `--verbose` and on a terminal.
+fn obey_words<R, I, O>(rt: &R, words: &Words, streams: (I, O), err: Stderr) -> u8
+where
+    R: Net<Listener = TcpListener, Stream = TcpStream> + Files + Clock,
+    R: RandomSource + AllocGlobal + Eprint + Copy + Drop,
+    I: Read + Drop,
+    O: Write + Drop,
+    ensures { result ≤ 2 }
+{
+    let refusals = Refusals::new(rt.alloc(), if words.trace { Some(err) } else { None });
+    let outcome = run(&System::new(rt, &refusals), words, streams);
+    let status = end(rt, outcome);
+    if words.verbose || err.is_terminal() {
+        tell_reason(rt, outcome, &refusals);
+    }
+    status
+}
+
 /// Does what the command line asks for, and returns the exit status. If it is empty, the usage is
 /// shown too.
-fn obey<R, E, I, O>(rt: &R, arguments: &[String], streams: (I, O), err: E) -> u8
+fn obey<R, I, O>(rt: &R, arguments: &[String], streams: (I, O), err: Stderr) -> u8
 where
     R: Net<Listener = TcpListener, Stream = TcpStream> + Files + Clock,
     R: RandomSource + AllocGlobal + Print + Eprint + Copy + Drop,
-    E: Write + Copy + Drop,
     I: Read + Drop,
     O: Write + Drop,
     ensures { result ≤ 2 }
 {
     match read_words(rt.alloc(), arguments) {
         Ok(words) => {
-            let host = host_of(rt, err, words.trace);
-            let status = end(rt, run(&host, &words, streams));
+            let status = obey_words(rt, &words, streams, err);
             if arguments.len() <= 1 {
                 show_usage(rt);
             }
@@ -119,11 +135,10 @@ where
 
 /// Does what the command line of a runtime asks for, and returns the exit status. The streams are
 /// standard input and output; a trace goes to `err`.
-pub fn obey_command_line<R, E, I, O>(rt: &R, streams: (I, O), err: E) -> u8
+pub fn obey_command_line<R, I, O>(rt: &R, streams: (I, O), err: Stderr) -> u8
 where
     R: Net<Listener = TcpListener, Stream = TcpStream> + Files + Env + Clock,
     R: RandomSource + AllocGlobal + Print + Eprint + Copy + Drop,
-    E: Write + Copy + Drop,
     I: Read + Drop,
     O: Write + Drop,
     ensures { result ≤ 2 }

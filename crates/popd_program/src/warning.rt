@@ -1,6 +1,5 @@
 //! Warnings: the program goes on after them.
 use crate::account::Account;
-use crate::host::Host;
 use mail_terms::is_credential;
 use pop3_server::ServerFault;
 use std::alloc::AllocError;
@@ -8,7 +7,7 @@ use std::fmt::{self, Display, Formatter, Write};
 use std::net::SocketAddr;
 use std::os::unix::fs::PermissionsExt;
 use std::rt::Files;
-use std::{fs, io};
+use trace::System;
 
 /// Something that may be wrong, though the program goes on.
 #[derive(Clone, Copy)]
@@ -74,16 +73,16 @@ pub fn warn<R: Eprint>(rt: &R, warning: Warning<'_>) {
 }
 
 /// Whether there is a folder at this path.
-fn is_folder<H: Files>(host: &H, path: &str) -> bool {
-    match fs::metadata(host, path) {
+fn is_folder<R: Files + AllocGlobal>(system: &System<'_, R>, path: &str) -> bool {
+    match system.stat(path) {
         Ok(metadata) => metadata.is_dir(),
         Err(_) => false,
     }
 }
 
 /// Whether others than its owner may read or write a file.
-fn is_others_too<H: Files>(host: &H, path: &str) -> bool {
-    match fs::metadata(host, path) {
+fn is_others_too<R: Files + AllocGlobal>(system: &System<'_, R>, path: &str) -> bool {
+    match system.stat(path) {
         Ok(metadata) => metadata.permissions().mode() & 0o066 != 0,
         Err(_) => false,
     }
@@ -100,39 +99,31 @@ fn warn_of_login<R: Eprint>(rt: &R, account: &Account) {
 }
 
 /// Warns if the Maildir has no folder of this name.
-fn warn_of_folder<R, E>(
-    host: &Host<R, E>,
+fn warn_of_folder<R: Files + AllocGlobal + Eprint>(
+    system: &System<'_, R>,
     maildir: &str,
     name: &'static str,
-) -> Result<(), AllocError>
-where
-    R: Files + AllocGlobal + Eprint,
-    E: io::Write + Copy,
-{
-    let path = format!(in host.alloc(); "{maildir}/{name}")?;
-    if !is_folder(host, path.as_str()) {
-        warn(host.inner(), Warning::NoFolder(maildir, name));
+) -> Result<(), AllocError> {
+    let path = format!(in system.alloc(); "{maildir}/{name}")?;
+    if !is_folder(system, path.as_str()) {
+        warn(system.rt, Warning::NoFolder(maildir, name));
     }
     Ok(())
 }
 
 /// Warns of all that may keep this account from being served properly.
-pub fn warn_of<R, E>(
-    host: &Host<R, E>,
+pub fn warn_of<R: Files + AllocGlobal + Eprint>(
+    system: &System<'_, R>,
     account: &Account,
     passfile: Option<&str>,
-) -> Result<(), AllocError>
-where
-    R: Files + AllocGlobal + Eprint,
-    E: io::Write + Copy,
-{
-    warn_of_login(host.inner(), account);
+) -> Result<(), AllocError> {
+    warn_of_login(system.rt, account);
     if let Some(passfile) = passfile {
-        if is_others_too(host, passfile) {
-            warn(host.inner(), Warning::OpenPassfile(passfile));
+        if is_others_too(system, passfile) {
+            warn(system.rt, Warning::OpenPassfile(passfile));
         }
     }
     let maildir = account.maildir.as_str();
-    warn_of_folder(host, maildir, "new")?;
-    warn_of_folder(host, maildir, "cur")
+    warn_of_folder(system, maildir, "new")?;
+    warn_of_folder(system, maildir, "cur")
 }

@@ -9,6 +9,7 @@ use folder_store::HostFile;
 use mail_store::{FlatFile, append_entry, is_whole, quote, read_mbox};
 use std::alloc::Global;
 use std::fs;
+use trace::{Refusals, System};
 
 /// The text in a file, which must be whole.
 fn text_of(rt: &HostRuntime, path: &str) -> Result<Vec<u8>>
@@ -36,7 +37,9 @@ fn append_texts<F: FlatFile>(alloc: Global, file: &mut F, text: &[u8], count: u3
 pub fn append(rt: &HostRuntime, path: &str, count: u32) -> Result<()> {
     let beside = format!(in rt.alloc(); "{path}.text")?;
     let text = text_of(rt, beside.as_str())?;
-    let mut file = HostFile::at(rt, path, mark_of(rt)?);
+    let refusals = Refusals::new(rt.alloc(), None);
+    let system = System::new(rt, &refusals);
+    let mut file = HostFile::at(&system, path, mark_of(rt)?);
     append_texts(rt.alloc(), &mut file, &text, count)?;
     println!(rt; "{count}")?;
     Ok(())
@@ -44,7 +47,8 @@ pub fn append(rt: &HostRuntime, path: &str, count: u32) -> Result<()> {
 
 /// The bytes of the file.
 fn bytes_of(rt: &HostRuntime, path: &str) -> Result<Vec<u8>> {
-    Ok(HostFile::at(rt, path, mark_of(rt)?).load()?)
+    let refusals = Refusals::new(rt.alloc(), None);
+    Ok(HostFile::at(&System::new(rt, &refusals), path, mark_of(rt)?).load()?)
 }
 
 /// Reads the texts of the file. Prints how many there are, and the time.

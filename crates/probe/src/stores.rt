@@ -7,6 +7,7 @@ use folder_store::{FolderMaildir, HostFile, HostFolder, HostFolders, ProcessMark
 use mail_store::{FlatFile, MaildirDisk, account_id, deliver, file_stem, held};
 use mail_terms::{Listing, ScanRow, UidRow, have_legal_ids, is_legal_id};
 use std::alloc::Global;
+use trace::{Refusals, System};
 
 /// The id of message `number`, as the driver names its files.
 fn id_of(alloc: Global, number: u32) -> Result<String> {
@@ -44,7 +45,9 @@ type RealFile<'a> = HostFile<'a, HostFolder<'a, HostRuntime>>;
 /// Asks once which of `count` messages the Maildir holds. Prints how many, and the time.
 pub fn time_held(rt: &HostRuntime, path: &str, count: u32) -> Result<()> {
     let listing = listing_of(rt.alloc(), count)?;
-    let mut disk = FolderMaildir::at(rt, path, mark_of(rt)?);
+    let refusals = Refusals::new(rt.alloc(), None);
+    let system = System::new(rt, &refusals);
+    let mut disk = FolderMaildir::at(&system, path, mark_of(rt)?);
     let watch = Stopwatch::new(rt)?;
     let flags = held_in(rt.alloc(), &mut disk, &listing)?;
     watch.tell(rt, flags.iter().filter(|flag| **flag).count())
@@ -68,7 +71,9 @@ fn deliver_one(alloc: Global, disk: &mut HostMaildir<'_>, number: u32) -> Result
 
 /// Delivers `count` texts of 2,048 bytes. Prints how many, and the time.
 pub fn time_deliver(rt: &HostRuntime, path: &str, count: u32) -> Result<()> {
-    let mut disk = FolderMaildir::at(rt, path, mark_of(rt)?);
+    let refusals = Refusals::new(rt.alloc(), None);
+    let system = System::new(rt, &refusals);
+    let mut disk = FolderMaildir::at(&system, path, mark_of(rt)?);
     let watch = Stopwatch::new(rt)?;
     for number in 1..=count {
         deliver_one(rt.alloc(), &mut disk, number)?;
@@ -86,7 +91,9 @@ fn rewrite_once(file: &mut RealFile<'_>) -> Result<()> {
 
 /// Rewrites a file `count` times.
 pub fn rewrite(rt: &HostRuntime, path: &str, count: u32) -> Result<()> {
-    let mut file = HostFile::at(rt, path, mark_of(rt)?);
+    let refusals = Refusals::new(rt.alloc(), None);
+    let system = System::new(rt, &refusals);
+    let mut file = HostFile::at(&system, path, mark_of(rt)?);
     for _ in 0..count {
         rewrite_once(&mut file)?;
     }
@@ -103,7 +110,9 @@ fn append_once<F: FlatFile>(alloc: Global, file: &mut F, count: u32) -> Result<(
 
 /// Appends one text of `count` bytes to a file, block by block as to a record.
 pub fn append_blocks(rt: &HostRuntime, path: &str, count: u32) -> Result<()> {
-    let mut file = HostFile::by_blocks(rt, path, mark_of(rt)?);
+    let refusals = Refusals::new(rt.alloc(), None);
+    let system = System::new(rt, &refusals);
+    let mut file = HostFile::by_blocks(&system, path, mark_of(rt)?);
     append_once(rt.alloc(), &mut file, count)?;
     println!(rt; "{count}")?;
     Ok(())
@@ -112,7 +121,8 @@ pub fn append_blocks(rt: &HostRuntime, path: &str, count: u32) -> Result<()> {
 /// Removes what killed runs left beside the record of a Maildir.
 fn sweep_record(rt: &HostRuntime, path: &str, mark: ProcessMark) -> Result<()> {
     let record = format!(in rt.alloc(); "{path}/seen")?;
-    HostFile::by_blocks(rt, record.as_str(), mark).sweep();
+    let refusals = Refusals::new(rt.alloc(), None);
+    HostFile::by_blocks(&System::new(rt, &refusals), record.as_str(), mark).sweep();
     Ok(())
 }
 
@@ -120,6 +130,9 @@ fn sweep_record(rt: &HostRuntime, path: &str, mark: ProcessMark) -> Result<()> {
 pub fn sweep(rt: &HostRuntime, path: &str) -> Result<()> {
     let mark = mark_of(rt)?;
     sweep_record(rt, path, mark)?;
-    FolderMaildir::at(rt, path, mark).sweep(&account_id("bench", 110, "bench"));
+    let refusals = Refusals::new(rt.alloc(), None);
+    FolderMaildir::at(&System::new(rt, &refusals), path, mark).sweep(&account_id(
+        "bench", 110, "bench",
+    ));
     Ok(())
 }

@@ -3,7 +3,7 @@
 use crate::fetch_session_tests::visit::{
     Fred, LISTED, ONE, SOUND, THREE, TWO, Visit, account, held, kept_by, nothing_kept,
 };
-use getmail_program::{Errors, Manner, Output, ShownWire, fetch_over};
+use getmail_program::{Errors, Manner, Output, Reasons, ShownWire, fetch_over};
 use pop3_wire::{FusedWire, ScriptWire};
 use std::alloc::{AllocError, Global};
 use std::process::Abort;
@@ -37,10 +37,12 @@ fn fetch(
         destination: "missing/",
         pretends,
     };
+    let reasons = Reasons::new(rt.alloc(), None);
     let mut errors = Errors {
         err: Output::new(&mut *err),
         shows_progress: false,
-        reasons: None,
+        says_why: false,
+        reasons: &reasons,
     };
     let mut out = Output::new(&mut *out);
     fetch_over(rt, account, link, manner, &mut out, &mut errors).status

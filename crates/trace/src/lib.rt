@@ -1,18 +1,21 @@
-//! A trace of a conversation and of refused calls of the system, line by line.
+//! A trace of a conversation and of refused calls of the system, line by line, and what is kept of both to
+//! tell the reason of a fault.
 #![tactic(auto)]
 
 mod command;
-mod host;
+mod denial;
 mod line;
-mod reasons;
 mod refusal;
-mod traced;
+mod refusals;
+mod system;
+mod told;
 mod wire;
 
 pub use command::{commands_hide_passwords, shown_answer, shown_command};
-pub use host::TracedHost;
+pub use denial::Denial;
 pub use line::line_text;
-pub use reasons::{Keeper, Reasons};
-pub use refusal::{reason, refusal_text, tell_refusal};
-pub use traced::Traced;
+pub use refusal::{refusal_text, tell_refusal};
+pub use refusals::{Refusal, Refusals};
+pub use system::System;
+pub use told::Told;
 pub use wire::TracedWire;

@@ -67,6 +67,13 @@ pub fn line_text(alloc: Global, mark: &str, octets: &[u8]) -> Result<Vec<u8>, Al
     Ok(line)
 }
 
+/// What a line shows of octets.
+pub fn shown(alloc: Global, octets: &[u8]) -> Result<Vec<u8>, AllocError> {
+    let mut line = line_text(alloc, "", octets)?;
+    line.pop();
+    Ok(line)
+}
+
 /// Writes a line at once. If memory for it is refused, it is left out.
 pub fn write_line<E: Write>(alloc: Global, err: &mut E, mark: &str, octets: &[u8]) -> io::Result<()>
     ensures { OnOk result (IsWritten E.contents err.old err.new mark.now octets.now) }

@@ -2,6 +2,7 @@
 ghost use Rattle.std.specs.Prelude.{◌≡◌};
 
 use crate::command::{shown_answer, shown_command};
+use crate::denial::Denial;
 use crate::line::{count_text, cut, write_line};
 use pop3_wire::{Note, Wire, WireDown};
 use std::alloc::Global;
@@ -10,11 +11,13 @@ use std::io::{self, Write};
 /// The octets of a body's last line, a full stop and CR LF.
 const END_MARK: u64 = 3;
 
-/// Where a conversation is shown: each command, the first line of each answer, and how much followed it.
+/// Where a conversation is shown: each command, the first line of each answer, and how much followed it; and
+/// where the first denial is kept.
 #[derive(Drop)]
-struct Trace<E> {
+struct Trace<'a, E> {
     alloc: Global,
-    err: E,
+    err: Option<E>,
+    denial: Option<&'a Denial>,
     /// The password, if answers are searched for it.
     password: Option<Vec<u8>>,
     /// How much has come of the body under way.
@@ -22,14 +25,12 @@ struct Trace<E> {
     octets: u64,
 }
 
-impl<E: Write> Trace<E> {
-    fn show_command(&mut self, command: &[u8]) -> io::Result<()> {
-        write_line(
-            self.alloc,
-            &mut self.err,
-            "C: ",
-            cut(shown_command(command)),
-        )
+impl<'a, E: Write> Trace<'a, E> {
+    fn show(&mut self, mark: &str, octets: &[u8]) -> io::Result<()> {
+        match &mut self.err {
+            Some(err) => write_line(self.alloc, err, mark, octets),
+            None => Ok(()),
+        }
     }
 
     fn show_answer(&mut self, answer: &[u8]) -> io::Result<()> {
@@ -39,13 +40,16 @@ impl<E: Write> Trace<E> {
             Some(password) => shown_answer(answer, password.as_slice()),
             None => answer,
         };
-        write_line(self.alloc, &mut self.err, "S: ", cut(answer))
+        if let Some(denial) = self.denial {
+            denial.note(self.alloc, cut(answer));
+        }
+        self.show("S: ", cut(answer))
     }
 
     fn show_count(&mut self) -> io::Result<()> {
         let octets = self.octets.saturating_sub(END_MARK);
         let text = count_text(self.alloc, self.lines, octets)?;
-        write_line(self.alloc, &mut self.err, "S: ", text.as_bytes())
+        self.show("S: ", text.as_bytes())
     }
 
     /// More of a body came.
@@ -56,9 +60,9 @@ impl<E: Write> Trace<E> {
     }
 
     /// Shows a part of the conversation, unless it is within a body.
-    fn show(&mut self, part: Note<'_>) -> io::Result<()> {
+    fn note(&mut self, part: Note<'_>) -> io::Result<()> {
         match part {
-            Note::Command(command) => self.show_command(command),
+            Note::Command(command) => self.show("C: ", cut(shown_command(command))),
             Note::Reply(answer) => self.show_answer(answer),
             Note::Body {
                 text,
@@ -74,46 +78,49 @@ impl<E: Write> Trace<E> {
 
 /// A link that passes each call on. If there is a writer, it gets a line for each command, for the first
 /// line of each answer, and for how much followed it: `C: ` or `S: `, then at most 512 octets. Passwords
-/// aren't shown. A line that can't be written, or for which there is no memory, is left out.
+/// aren't shown. A line that can't be written, or for which there is no memory, is left out. The first answer
+/// that isn't positive is kept, if there is a place for it.
 #[derive(Drop)]
-pub struct TracedWire<W, E> {
+pub struct TracedWire<'a, W, E> {
     wire: W,
-    trace: Option<Trace<E>>,
+    trace: Option<Trace<'a, E>>,
 }
 
-impl<W: Wire, E: Write + Drop> TracedWire<W, E> {
+impl<'a, W: Wire, E: Write + Drop> TracedWire<'a, W, E> {
     /// A link around this one. What an answer says isn't shown if this password occurs in it.
     pub fn new(
         alloc: Global,
         wire: W,
         err: Option<E>,
         password: Option<Vec<u8>>,
-    ) -> TracedWire<W, E>
+        denial: Option<&'a Denial>,
+    ) -> TracedWire<'a, W, E>
         ensures { result.wire ≡ wire }
     {
-        let trace = match err {
-            Some(err) => Some(Trace {
-                alloc,
-                err,
-                password,
-                lines: 0,
-                octets: 0,
-            }),
-            None => None,
-        };
+        if err.is_none() && denial.is_none() {
+            return TracedWire { wire, trace: None };
+        }
+        let trace = Some(Trace {
+            alloc,
+            err,
+            denial,
+            password,
+            lines: 0,
+            octets: 0,
+        });
         TracedWire { wire, trace }
     }
 
     /// The link inside.
     pub fn into_inner(self) -> W
-        ensures { result ≡ self.wire }
+        ensures { result ≡ self.entry.wire }
     {
         let TracedWire { wire, .. } = self;
         wire
     }
 }
 
-impl<W: Wire, E: Write + Drop> Wire for TracedWire<W, E> {
+impl<'a, W: Wire, E: Write + Drop> Wire for TracedWire<'a, W, E> {
     ghost history = { λ w. W.history w.wire };
 
     ghost sound = { λ w. W.sound w.wire };
@@ -130,7 +137,7 @@ impl<W: Wire, E: Write + Drop> Wire for TracedWire<W, E> {
 
     fn note(&mut self, part: Note<'_>) {
         if let Some(trace) = &mut self.trace {
-            let _ = trace.show(part);
+            let _ = trace.note(part);
         }
         self.wire.note(part)
     }

@@ -9,7 +9,6 @@ ghost use Rattle.folder_drop.specs.RealMaildir.{id_of_name, names_of, uid_of, Ha
 use crate::folders_look::FoldersLook;
 use crate::listed_file::{Counted, FoundFiles, ListedFile, Listing, PIECE};
 use crate::maildir_drop::MaildirDrop;
-use crate::maildir_folders::Unread;
 use crate::maildir_names::{MailFile, unique_id};
 use crate::seen_files::SeenFiles;
 use mail_terms::base;
@@ -17,6 +16,7 @@ use pop3_server::{Entry, MAX_COUNT, MAX_SIZE};
 use std::alloc::AllocError;
 use std::collections::HashSet;
 use std::hash::RandomState;
+use std::io;
 use std::random::RandomSource;
 use std::rt::Files;
 use std::time::Clock;
@@ -75,13 +75,13 @@ impl Messages {
 
 impl<'a, R: Files + Clock + RandomSource + AllocGlobal + Clone + Drop> MaildirDrop<'a, R> {
     /// The files of the Maildir: those of the earlier listing, if it is still valid.
-    fn find(&self, last_seen: &mut SeenFiles) -> Result<FoundFiles, Unread> {
+    fn find(&self, last_seen: &mut SeenFiles) -> io::Result<FoundFiles> {
         let look = self.folders.look()?;
         if self.earlier.look.stands_at(&look) {
-            return Ok(self.earlier.found(self.rt.alloc())?);
+            return Ok(self.earlier.found(self.system.alloc())?);
         }
         let placed = self.folders.list()?;
-        let mut files = Vec::with_capacity(self.rt.alloc(), placed.len())?;
+        let mut files = Vec::with_capacity(self.system.alloc(), placed.len())?;
         for file in placed {
             if let Some(stamp) = self.folders.stamp(last_seen, &file)? {
                 files.push(MailFile::of(file, stamp))?;
@@ -97,7 +97,7 @@ impl<'a, R: Files + Clock + RandomSource + AllocGlobal + Clone + Drop> MaildirDr
         file: &MailFile,
         known: Option<u64>,
         piece: &mut [u8],
-    ) -> Result<Option<u64>, Unread> {
+    ) -> io::Result<Option<u64>> {
         match known {
             Some(size) => Ok(Some(size)),
             None => self
@@ -115,12 +115,12 @@ impl<'a, R: Files + Clock + RandomSource + AllocGlobal + Clone + Drop> MaildirDr
         file: &MailFile,
         known: Option<u64>,
         piece: &mut [u8],
-    ) -> Result<Option<(Vec<u8>, Entry)>, Unread>
+    ) -> io::Result<Option<(Vec<u8>, Entry)>>
         ensures key { IfOk result (λ found. IfSome found (λ message. message.0.items ≡ message.1.uid)) }
         ensures id { IfOk result (λ found. IfSome found (λ message. message.1.uid ≡ id_of_name (string_bytes file.now.name))) }
         ensures fresh { IfOk result (λ found. IfSome found (λ message. contains same_key listed.now message.0 ≡ false)) }
     {
-        let alloc = self.rt.alloc();
+        let alloc = self.system.alloc();
         let uid = unique_id(alloc, base(file.name.as_str()).as_bytes())?;
         let key = Vec::from_slice(alloc, uid.as_slice())?;
         // The size is at least the length.
@@ -135,21 +135,21 @@ impl<'a, R: Files + Clock + RandomSource + AllocGlobal + Clone + Drop> MaildirDr
 
     /// An empty set with room for `count` ids. Its hash keys are random, since the names of files
     /// may come from ids that a server chose.
-    fn no_ids(&self, count: usize) -> Result<Ids, Unread>
+    fn no_ids(&self, count: usize) -> io::Result<Ids>
         ensures { IfOk result (λ ids. IsEmpty ids) }
     {
-        let hasher = RandomState::new(self.rt)?;
-        Ok(HashSet::with_capacity_and_hasher(self.rt.alloc(), count, hasher)?)
+        let hasher = RandomState::new(self.system.rt)?;
+        Ok(HashSet::with_capacity_and_hasher(self.system.alloc(), count, hasher)?)
     }
 
     /// The messages of these files: only the first of several with the same id, none above the
     /// limits, and none whose file is gone.
-    fn list(&self, last_seen: &mut SeenFiles, found: FoundFiles) -> Result<ListedMessages, Unread>
+    fn list(&self, last_seen: &mut SeenFiles, found: FoundFiles) -> io::Result<ListedMessages>
         ensures within { IfOk result (λ listed. vec_len listed.entries ≤ MAX_COUNT) }
         ensures distinct { IfOk result (λ listed. AreDistinct (map uid_of listed.entries.items)) }
         ensures names { IfOk result (λ listed. HaveIds listed.entries.items (names_of listed.listing.files.items)) }
     {
-        let alloc = self.rt.alloc();
+        let alloc = self.system.alloc();
         let FoundFiles { look, files: found } = found;
         let mut listed = Messages {
             ids: self.no_ids(found.len())?,
@@ -173,7 +173,7 @@ impl<'a, R: Files + Clock + RandomSource + AllocGlobal + Clone + Drop> MaildirDr
     }
 
     /// The messages of the Maildir as it is now.
-    pub(crate) fn look(&self, last_seen: &mut SeenFiles) -> Result<ListedMessages, Unread>
+    pub(crate) fn look(&self, last_seen: &mut SeenFiles) -> io::Result<ListedMessages>
         ensures within { IfOk result (λ listed. vec_len listed.entries ≤ MAX_COUNT) }
         ensures distinct { IfOk result (λ listed. AreDistinct (map uid_of listed.entries.items)) }
         ensures names { IfOk result (λ listed. HaveIds listed.entries.items (names_of listed.listing.files.items)) }

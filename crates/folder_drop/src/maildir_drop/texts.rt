@@ -2,20 +2,20 @@
 ghost use Rattle.std.specs.Prelude.{◌≡◌, ◌≤◌, ◌<◌, ◌+◌, ◌^◌, length, IfOk};
 
 use crate::maildir_drop::{MaildirDrop, OpenText};
-use crate::maildir_folders::Unread;
 use std::io::{self, ErrorKind, Read, Seek, SeekFrom};
 use std::random::RandomSource;
 use std::rt::Files;
 use std::time::Clock;
+use trace::Told;
 
 /// The error for a file that isn't there.
-fn missing() -> Unread {
-    io::Error::from(ErrorKind::NotFound).into()
+fn missing() -> io::Error {
+    io::Error::from(ErrorKind::NotFound)
 }
 
 impl<'a, R: Files + Clock + RandomSource + AllocGlobal + Clone + Drop> MaildirDrop<'a, R> {
     /// Opens the file at a place of the last listing.
-    fn open_file(&mut self, i: usize) -> Result<R::File, Unread>
+    fn open_file(&mut self, i: usize) -> io::Result<Told<'a, R::File>>
         ensures same { self.new ≡ self.old }
     {
         let Some(listed) = self.listing.files.get(i) else {
@@ -31,7 +31,7 @@ impl<'a, R: Files + Clock + RandomSource + AllocGlobal + Clone + Drop> MaildirDr
     /// The bytes of the file at a place of the last listing. The buffer has room for one octet
     /// more than the listing counted, so that the read that finds the end fits too; it grows only
     /// if the file has grown.
-    pub(crate) fn read_file(&mut self, i: usize) -> Result<Vec<u8>, Unread>
+    pub(crate) fn read_file(&mut self, i: usize) -> io::Result<Vec<u8>>
         ensures same { self.new ≡ self.old }
     {
         let mut file = self.open_file(i)?;
@@ -40,13 +40,13 @@ impl<'a, R: Files + Clock + RandomSource + AllocGlobal + Clone + Drop> MaildirDr
             None => 0,
         };
         let room = (length as usize).saturating_add(1);
-        let mut text = Vec::with_capacity(self.rt.alloc(), room)?;
+        let mut text = Vec::with_capacity(self.system.alloc(), room)?;
         file.read_to_end(&mut text)?;
         Ok(text)
     }
 
     /// Opens the file at a place of the last listing, to be read from the octet `start` on.
-    fn open_text(&mut self, i: usize, start: usize) -> Result<OpenText<R::File>, Unread>
+    fn open_text(&mut self, i: usize, start: usize) -> io::Result<OpenText<Told<'a, R::File>>>
         ensures same { self.new ≡ self.old }
     {
         let mut file = self.open_file(i)?;
@@ -67,7 +67,7 @@ impl<'a, R: Files + Clock + RandomSource + AllocGlobal + Clone + Drop> MaildirDr
         i: usize,
         start: usize,
         piece: &mut [u8],
-    ) -> Result<usize, Unread>
+    ) -> io::Result<usize>
         ensures same { self.new ≡ self.old }
         ensures within { IfOk result (λ n. n ≤ length piece.new) }
         ensures countable { IfOk result (λ n. start + n < 2 ^ 64) }
@@ -84,7 +84,7 @@ impl<'a, R: Files + Clock + RandomSource + AllocGlobal + Clone + Drop> MaildirDr
         };
         let n = text.file.read(piece)?;
         let Some(read) = start.checked_add(n) else {
-            return Err(io::Error::from(ErrorKind::FileTooLarge).into());
+            return Err(io::Error::from(ErrorKind::FileTooLarge));
         };
         if n > 0 {
             text.read = read;
@@ -95,7 +95,7 @@ impl<'a, R: Files + Clock + RandomSource + AllocGlobal + Clone + Drop> MaildirDr
 
     /// Removes the file at a place of the last listing, and each other one with its base. One that is
     /// gone already counts as removed. The first removal of a session lists the folders for all.
-    pub(crate) fn remove_file(&mut self, i: usize) -> Result<(), Unread>
+    pub(crate) fn remove_file(&mut self, i: usize) -> io::Result<()>
         ensures same { self.new ≡ self.old }
     {
         let Some(listed) = self.listing.files.get(i) else {

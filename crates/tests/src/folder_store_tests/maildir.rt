@@ -5,6 +5,7 @@ use folder_store::{FolderMaildir, ProcessMark};
 use mail_store::{MaildirDisk, StoreFault, deliver};
 use std::fs;
 use std::test::Fail;
+use trace::{Refusals, System};
 
 /// The mark of this process.
 fn mark_of(rt: &HostRuntime) -> Result<ProcessMark, Fail> {
@@ -16,7 +17,9 @@ fn names_no_file_of_another_folder(rt: HostRuntime) -> Result<(), Fail> {
     make_maildir(&rt, "folder_within")?;
     fs::create_dir(&rt, "folder_within/tmp/sub")?;
     fs::create_dir(&rt, "folder_within/new/sub")?;
-    let mut disk = FolderMaildir::at(&rt, "folder_within", mark_of(&rt)?);
+    let refusals = Refusals::new(rt.alloc(), None);
+    let system = System::new(&rt, &refusals);
+    let mut disk = FolderMaildir::at(&system, "folder_within", mark_of(&rt)?);
     assert_eq!(rt;
         deliver(rt.alloc(), &mut disk, "sub/one", b"x"),
         Err(StoreFault::Refused)
@@ -35,7 +38,9 @@ fn names_no_file_of_another_folder(rt: HostRuntime) -> Result<(), Fail> {
 #[test]
 fn one_file_is_begun_at_a_time(rt: HostRuntime) -> Result<(), Fail> {
     make_maildir(&rt, "begun_twice")?;
-    let mut disk = FolderMaildir::at(&rt, "begun_twice", mark_of(&rt)?);
+    let refusals = Refusals::new(rt.alloc(), None);
+    let system = System::new(&rt, &refusals);
+    let mut disk = FolderMaildir::at(&system, "begun_twice", mark_of(&rt)?);
     disk.begin("one")?;
     assert_eq!(rt; disk.begin("two"), Err(StoreFault::Refused));
     disk.add(b"x")?;

@@ -6,6 +6,7 @@ use folder_drop::MaildirDrop;
 use pop3_server::{DropFault, Maildrop, MemoryDrop};
 use std::fs;
 use std::test::Fail;
+use trace::{Refusals, System};
 
 /// Prints a maildrop's fault.
 fn tell_drop_fault(rt: &HostRuntime, fault: DropFault) {
@@ -52,7 +53,10 @@ fn read_folder(rt: &HostRuntime, maildrop: &mut MaildirDrop<'_, HostRuntime>) {
 fn folder_text_row(rt: HostRuntime) -> Result<(), Fail> {
     make_maildir(&rt, "mail")?;
     fs::write(&rt, "mail/new/a", b"one\n")?;
-    let mut maildrop = MaildirDrop::at(&rt, String::from_str(rt.alloc(), "mail")?);
+    let refusals = Refusals::new(rt.alloc(), None);
+    let path = String::from_str(rt.alloc(), "mail")?;
+    let system = System::new(&rt, &refusals);
+    let mut maildrop = MaildirDrop::at(&system, path);
     maildrop.entries()?;
     read_folder(&rt, &mut maildrop);
     read_folder(&rt, &mut maildrop);

@@ -37,7 +37,7 @@ fn send_traced(rt: &HostRuntime) -> Result<(), Fail> {
     let alloc = rt.alloc();
     let script = ScriptWire::new(alloc, Vec::from_slice(alloc, b"+OK\r\n")?, 4096);
     let err: Vec<u8> = Vec::new(alloc);
-    let mut wire = TracedWire::new(alloc, script, Some(err), None);
+    let mut wire = TracedWire::new(alloc, script, Some(err), None, None);
     begin(rt);
     wire.note(Note::Command(b"NOOP".as_slice()));
     let answer = wire.send(b"NOOP\r\n");

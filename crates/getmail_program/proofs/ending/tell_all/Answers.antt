@@ -10,7 +10,7 @@ returns-clause-told g c =
     c.outcome-outcome.ensures c.tell_cut.ensures in
     let unwritten = subst (λ (octets : List ℕ). Puts g.E.Write.contents c.tell_cut.new.errors.err octets c.put.new.self)
     (c.as_bytes.ensures.value ∙ c.unwritten_line.ensures ∙ ap₂ unwritten_line c.outcome-outcome.ensures c.refusal.ensures) c.put.ensures in
-    let left = subst (λ reasons. Puts g.E.Write.contents c.tell_cut-2.new.errors.err (left_out_said c.args.settings.now reasons c.args.told.now) c.tell_left_out.new.errors.err)
+    let left = subst (λ says_why. Puts g.E.Write.contents c.tell_cut-2.new.errors.err (left_out_said c.args.settings.now says_why c.args.told.now) c.tell_left_out.new.errors.err)
     (c.tell_cut-2.ensures.same ∙ c.tell_cut.ensures.same) c.tell_left_out.ensures in
     record {
       idle = c.is_idle.ensures;
@@ -22,8 +22,8 @@ returns-clause-told g c =
       reason = cut.reason;
       is_reason = cut.is_reason;
       further = c.tell_cut-2.ensures.reason;
-      is_further = subst (λ reasons. IsReason c.args.settings.now reasons c.foreseen-ahead.result c.tell_cut-2.ensures.reason)
+      is_further = subst (λ says_why. IsReason c.args.settings.now says_why c.foreseen-ahead.result c.tell_cut-2.ensures.reason)
           c.tell_cut.ensures.same c.tell_cut-2.ensures.is_reason;
-      said = said _ _ _ _ _ _ _ _ _ (left_out_said c.args.settings.now c.args.errors.now.reasons c.args.told.now) c.tell_left_out.new.errors.err cut unwritten
+      said = said _ _ _ _ _ _ _ _ _ (left_out_said c.args.settings.now c.args.errors.now.says_why c.args.told.now) c.tell_left_out.new.errors.err cut unwritten
           c.tell_cut-2.ensures left;
     }

@@ -1,0 +1,75 @@
+//! The machine's file system, whose refused calls are noted.
+use crate::refusals::Refusals;
+use crate::told::Told;
+use std::alloc::Global;
+use std::fs;
+use std::fs::{Metadata, OpenOptions};
+use std::io::{self, ErrorKind};
+use std::rt::Files;
+
+/// The machine's file system, as a device asks it, and where the calls that it refuses are noted.
+#[derive(Drop)]
+pub struct System<'a, R> {
+    pub rt: &'a R,
+    pub refusals: &'a Refusals,
+}
+
+impl<'a, R: AllocGlobal> System<'a, R> {
+    /// The file system of this runtime.
+    pub fn new(rt: &'a R, refusals: &'a Refusals) -> System<'a, R> {
+        System { rt, refusals }
+    }
+
+    /// The allocator.
+    pub fn alloc(&self) -> Global {
+        self.rt.alloc()
+    }
+}
+
+impl<'a, R: Files + AllocGlobal> System<'a, R> {
+    /// The metadata of what a path leads to.
+    pub fn stat(&self, path: &str) -> io::Result<Metadata> {
+        self.refusals
+            .told("stat", path, fs::metadata(self.rt, path))
+    }
+
+    /// The metadata of what a path names. That there is nothing isn't noted: the programs ask whether a name
+    /// is free.
+    pub fn lstat(&self, path: &str) -> io::Result<Metadata> {
+        match fs::symlink_metadata(self.rt, path) {
+            Err(error) if error.kind() == ErrorKind::NotFound => Err(error),
+            answer => self.refusals.told("lstat", path, answer),
+        }
+    }
+
+    /// Opens a file or a folder to read it.
+    pub fn open(&self, path: &str) -> io::Result<Told<'a, R::File>> {
+        self.opened(path, fs::open(self.rt, path))
+    }
+
+    /// Opens a file in another way.
+    pub fn open_with(&self, how: &OpenOptions, path: &str) -> io::Result<Told<'a, R::File>> {
+        self.opened(path, how.open(self.rt, path))
+    }
+
+    fn opened(&self, path: &str, file: io::Result<R::File>) -> io::Result<Told<'a, R::File>> {
+        let file = self.refusals.told("open", path, file)?;
+        Ok(Told::new(self.rt.alloc(), file, path, self.refusals))
+    }
+
+    /// Gives a file another name.
+    pub fn rename(&self, from: &str, to: &str) -> io::Result<()> {
+        let answer = fs::rename(self.rt, from, to);
+        if answer.is_err() {
+            let paths = format!(in self.rt.alloc(); "{from} to {to}")?;
+            return self.refusals.told("rename", paths.as_str(), answer);
+        }
+        answer
+    }
+
+    /// Removes a file.
+    pub fn unlink(&self, path: &str) -> io::Result<()> {
+        self.refusals
+            .told("unlink", path, fs::remove_file(self.rt, path))
+    }
+}

@@ -1,0 +1,88 @@
+//! An open file, folder or connection whose refused calls are noted.
+ghost use Rattle.std.specs.Prelude.{◌≡◌};
+
+use crate::refusals::Refusals;
+use std::alloc::Global;
+use std::fs::{Metadata, OpenFile};
+use std::io::{self, Read, Seek, SeekFrom, Write};
+
+/// An open file, folder or connection that passes each call on, and notes those that are refused.
+#[derive(Drop)]
+pub struct Told<'a, S> {
+    inner: S,
+    path: Option<String>,
+    refusals: &'a Refusals,
+}
+
+impl<'a, S> Told<'a, S> {
+    /// What is open at this path, or the connection of this name. Without memory for that, nothing is noted.
+    pub fn new(alloc: Global, inner: S, path: &str, refusals: &'a Refusals) -> Told<'a, S>
+        ensures { result.inner ≡ inner }
+    {
+        Told {
+            inner,
+            path: String::from_str(alloc, path).ok(),
+            refusals,
+        }
+    }
+
+    fn told<T>(&self, call: &str, answer: io::Result<T>) -> io::Result<T>
+        ensures { result ≡ answer }
+    {
+        match &self.path {
+            Some(path) => self.refusals.told(call, path.as_str(), answer),
+            None => answer,
+        }
+    }
+}
+
+impl<'a, S: Read> Read for Told<'a, S> {
+    ghost remaining = { λ t. S.remaining t.inner };
+
+    fn read(&mut self, buf: &mut [u8]) -> io::Result<usize> {
+        let answer = self.inner.read(buf);
+        self.told("read", answer)
+    }
+}
+
+impl<'a, S: Write> Write for Told<'a, S> {
+    ghost contents = { λ t. S.contents t.inner };
+
+    fn write(&mut self, buf: &[u8]) -> io::Result<usize> {
+        let answer = self.inner.write(buf);
+        self.told("write", answer)
+    }
+
+    fn flush(&mut self) -> io::Result<()> {
+        self.inner.flush()
+    }
+}
+
+impl<'a, S: Seek> Seek for Told<'a, S> {
+    ghost stream_position = { λ t. S.stream_position t.inner };
+
+    ghost stream_bytes = { λ t. S.stream_bytes t.inner };
+
+    fn seek(&mut self, to: SeekFrom) -> io::Result<u64> {
+        let answer = self.inner.seek(to);
+        self.told("lseek", answer)
+    }
+}
+
+impl<'a, S: OpenFile> OpenFile for Told<'a, S> {
+    fn metadata(&self) -> io::Result<Metadata> {
+        self.told("fstat", self.inner.metadata())
+    }
+
+    fn set_len(&self, size: u64) -> io::Result<()> {
+        self.told("ftruncate", self.inner.set_len(size))
+    }
+
+    fn sync_all(&self) -> io::Result<()> {
+        self.told("fsync", self.inner.sync_all())
+    }
+
+    fn sync_data(&self) -> io::Result<()> {
+        self.told("fdatasync", self.inner.sync_data())
+    }
+}
