@@ -1,6 +1,6 @@
 //! A conversation of `pop3_client` with standard input as the server.
 
-use crate::trouble::Result;
+use crate::trouble::Trouble;
 use pop3_client::{Client, ClientFault};
 use pop3_wire::{StreamWire, Wire};
 use std::alloc::Global;
@@ -41,7 +41,7 @@ fn fetch_all<W: Wire>(alloc: Global, wire: &mut W) -> Result<(u32, u64), ClientF
 
 /// Fetches each message piece by piece, and prints how many messages and how many octets of text there
 /// were.
-pub fn fetch(rt: &HostRuntime) -> Result<()> {
+pub fn fetch(rt: &HostRuntime) -> Result<(), Trouble> {
     let mut wire = StreamWire::new(rt.stdin(), io::sink());
     match fetch_all(rt.alloc(), &mut wire) {
         Ok((messages, octets)) => println!(rt; "{messages} {octets}")?,

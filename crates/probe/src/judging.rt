@@ -2,6 +2,7 @@
 
 use crate::trouble::Result;
 use fetch_rules::Seen;
+use std::alloc::Global;
 use std::fs;
 use std::hash::RandomState;
 use std::io::Write;
@@ -23,15 +24,20 @@ fn answer(seen: &mut Seen<RandomState>, record: &[u8], answers: &mut Vec<u8>) ->
     Ok(())
 }
 
-/// Prints the answer for each record of a file.
-pub fn judge(rt: &HostRuntime, path: &str) -> Result<()> {
-    let alloc = rt.alloc();
-    let records = fs::read(rt, path)?;
+/// The answer for each record of a file's bytes.
+fn answers(alloc: Global, hasher: RandomState, bytes: &[u8]) -> Result<Vec<u8>> {
     let mut answers = Vec::new(alloc);
-    let mut seen = Seen::new(alloc, RandomState::new(rt)?);
-    for record in records.split(|byte| *byte == END) {
+    let mut seen = Seen::new(alloc, hasher);
+    for record in bytes.split(|byte| *byte == END) {
         answer(&mut seen, record, &mut answers)?;
     }
+    Ok(answers)
+}
+
+/// Prints the answer for each record of a file.
+pub fn judge(rt: &HostRuntime, path: &str) -> Result<()> {
+    let records = fs::read(rt, path)?;
+    let answers = answers(rt.alloc(), RandomState::new(rt)?, &records)?;
     rt.stdout().write_all(&answers)?;
     Ok(())
 }

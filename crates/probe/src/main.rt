@@ -23,13 +23,9 @@ fn tell_usage(rt: &HostRuntime) -> Result<()> {
 /// Makes the calls of this name on a folder or a file.
 fn use_store(rt: &HostRuntime, call: &str, path: &str, count: u32) -> Result<()> {
     match call {
-        "held" => stores::time_held(rt, path, count),
-        "deliver" => stores::time_deliver(rt, path, count),
-        "rewrite" => stores::rewrite(rt, path, count),
-        "append" => mbox::append(rt, path, count),
-        "blocks" => stores::append_blocks(rt, path, count),
+        "held" | "deliver" => stores::use_maildir_at(rt, call, path, count),
+        "rewrite" | "append" | "blocks" | "texts" => stores::use_file_at(rt, call, path, count),
         "sweep" => stores::sweep(rt, path),
-        "texts" => mbox::time_texts(rt, path),
         "quote" => mbox::time_quote(rt, path),
         _ => tell_usage(rt),
     }

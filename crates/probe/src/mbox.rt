@@ -3,13 +3,10 @@ ghost use Rattle.std.specs.Prelude.{IfOk};
 ghost use Rattle.mail_terms.specs.Text.{IsWhole};
 
 use crate::stopwatch::Stopwatch;
-use crate::stores::mark_of;
 use crate::trouble::{Result, Trouble};
-use folder_store::HostFile;
 use mail_store::{FlatFile, append_entry, is_whole, quote, read_mbox};
 use std::alloc::Global;
 use std::fs;
-use trace::{Refusals, System};
 
 /// The text in a file, which must be whole.
 fn text_of(rt: &HostRuntime, path: &str) -> Result<Vec<u8>>
@@ -34,26 +31,17 @@ fn append_texts<F: FlatFile>(alloc: Global, file: &mut F, text: &[u8], count: u3
 
 /// Appends the entry of a text to the file, `count` times. The text is in the file of that name
 /// with `.text` after it.
-pub fn append(rt: &HostRuntime, path: &str, count: u32) -> Result<()> {
+pub fn append<F: FlatFile>(rt: &HostRuntime, path: &str, file: &mut F, count: u32) -> Result<()> {
     let beside = format!(in rt.alloc(); "{path}.text")?;
     let text = text_of(rt, beside.as_str())?;
-    let refusals = Refusals::new(rt.alloc(), None);
-    let system = System::new(rt, &refusals);
-    let mut file = HostFile::at(&system, path, mark_of(rt)?);
-    append_texts(rt.alloc(), &mut file, &text, count)?;
+    append_texts(rt.alloc(), file, &text, count)?;
     println!(rt; "{count}")?;
     Ok(())
 }
 
-/// The bytes of the file.
-fn bytes_of(rt: &HostRuntime, path: &str) -> Result<Vec<u8>> {
-    let refusals = Refusals::new(rt.alloc(), None);
-    Ok(HostFile::at(&System::new(rt, &refusals), path, mark_of(rt)?).load()?)
-}
-
 /// Reads the texts of the file. Prints how many there are, and the time.
-pub fn time_texts(rt: &HostRuntime, path: &str) -> Result<()> {
-    let bytes = bytes_of(rt, path)?;
+pub fn time_texts<F: FlatFile>(rt: &HostRuntime, file: &mut F) -> Result<()> {
+    let bytes = file.load()?;
     let watch = Stopwatch::new(rt)?;
     let texts = read_mbox(rt.alloc(), &bytes)?;
     watch.tell(rt, texts.len())

@@ -127,15 +127,25 @@ fn time_bytes(rt: &HostRuntime, least: usize, seen: &Seen<RandomState>) -> Resul
     Ok(())
 }
 
+/// Makes the calls of one session over a listing and a record whose file has `least` octets.
+fn time_calls(
+    rt: &HostRuntime,
+    listing: &Listing,
+    seen: &mut Seen<RandomState>,
+    least: usize,
+) -> Result<()> {
+    time_merge(rt, listing, seen)?;
+    time_plan(rt, listing, seen)?;
+    time_bytes(rt, least, seen)
+}
+
 /// Makes the calls of one session over `count` messages and a record of as many rows. The record
 /// knows half of the messages.
 pub fn time_session(rt: &HostRuntime, count: u32) -> Result<()> {
     let listing = time_join(rt, count)?;
     let file = file_of(rt.alloc(), count)?;
     let mut seen = time_reading(rt, &file)?;
-    time_merge(rt, &listing, &mut seen)?;
-    time_plan(rt, &listing, &seen)?;
-    time_bytes(rt, file.len(), &seen)
+    time_calls(rt, &listing, &mut seen, file.len())
 }
 
 /// Reads a record of `count` rows.

@@ -1,6 +1,7 @@
 //! Calls of `mail_store` on a Maildir in a folder and on a file.
 ghost use Rattle.std.specs.Prelude.{◌≡◌, IfOk, length};
 
+use crate::mbox;
 use crate::stopwatch::Stopwatch;
 use crate::trouble::{Result, Trouble};
 use folder_store::{FolderMaildir, HostFile, HostFolder, HostFolders, ProcessMark};
@@ -42,97 +43,127 @@ type HostMaildir<'a> = FolderMaildir<HostFolders<'a, HostRuntime>>;
 /// A file in a folder.
 type RealFile<'a> = HostFile<'a, HostFolder<'a, HostRuntime>>;
 
+// These types are large, and each way out of a function that has a value of one is proved to give it back. So
+// one function makes it, and those that it calls borrow it.
+
 /// Asks once which of `count` messages the Maildir holds. Prints how many, and the time.
-pub fn time_held(rt: &HostRuntime, path: &str, count: u32) -> Result<()> {
+fn time_held<D: MaildirDisk>(rt: &HostRuntime, disk: &mut D, count: u32) -> Result<()> {
     let listing = listing_of(rt.alloc(), count)?;
-    let refusals = Refusals::new(rt.alloc(), None);
-    let system = System::new(rt, &refusals);
-    let mut disk = FolderMaildir::at(&system, path, mark_of(rt)?);
     let watch = Stopwatch::new(rt)?;
-    let flags = held_in(rt.alloc(), &mut disk, &listing)?;
+    let flags = held(
+        rt.alloc(),
+        disk,
+        &account_id("bench", 110, "bench"),
+        &listing,
+    )?;
     watch.tell(rt, flags.iter().filter(|flag| **flag).count())
 }
 
-/// Which messages the Maildir holds.
-fn held_in<D: MaildirDisk>(alloc: Global, disk: &mut D, listing: &Listing) -> Result<Vec<bool>> {
-    Ok(held(alloc, disk, &account_id("bench", 110, "bench"), listing)?)
-}
-
-/// Delivers message `number`.
-fn deliver_one(alloc: Global, disk: &mut HostMaildir<'_>, number: u32) -> Result<()> {
-    let text = [b'x'; 2048];
+/// Delivers a text as message `number`.
+fn deliver_one(alloc: Global, disk: &mut HostMaildir<'_>, number: u32, text: &[u8]) -> Result<()> {
     let id = id_of(alloc, number)?;
     if !is_legal_id(id.as_bytes()) {
         return Err(Trouble::Other);
     }
     let stem = file_stem(alloc, &account_id("bench", 110, "bench"), id.as_bytes())?;
-    Ok(deliver(alloc, disk, stem.as_str(), text.as_slice())?)
+    Ok(deliver(alloc, disk, stem.as_str(), text)?)
 }
 
 /// Delivers `count` texts of 2,048 bytes. Prints how many, and the time.
-pub fn time_deliver(rt: &HostRuntime, path: &str, count: u32) -> Result<()> {
-    let refusals = Refusals::new(rt.alloc(), None);
-    let system = System::new(rt, &refusals);
-    let mut disk = FolderMaildir::at(&system, path, mark_of(rt)?);
+fn time_deliver(rt: &HostRuntime, disk: &mut HostMaildir<'_>, count: u32) -> Result<()> {
+    let text = Vec::from_elem(rt.alloc(), b'x', 2048)?;
     let watch = Stopwatch::new(rt)?;
     for number in 1..=count {
-        deliver_one(rt.alloc(), &mut disk, number)?;
+        deliver_one(rt.alloc(), disk, number, &text)?;
     }
     watch.tell(rt, count as usize)
 }
 
-/// Replaces a file by a text of 2,048 bytes, appends another one and cuts that off again.
-fn rewrite_once(file: &mut RealFile<'_>) -> Result<()> {
-    let text = [b'x'; 2048];
-    file.replace(text.as_slice())?;
-    file.append(text.as_slice())?;
-    Ok(file.cut_to(2048)?)
+/// Makes the calls of this name on a Maildir.
+fn use_maildir(rt: &HostRuntime, call: &str, disk: &mut HostMaildir<'_>, count: u32) -> Result<()> {
+    match call {
+        "held" => time_held(rt, disk, count),
+        _ => time_deliver(rt, disk, count),
+    }
 }
 
-/// Rewrites a file `count` times.
-pub fn rewrite(rt: &HostRuntime, path: &str, count: u32) -> Result<()> {
+/// Makes the calls of this name on the Maildir at a path.
+pub fn use_maildir_at(rt: &HostRuntime, call: &str, path: &str, count: u32) -> Result<()> {
+    let mark = mark_of(rt)?;
     let refusals = Refusals::new(rt.alloc(), None);
     let system = System::new(rt, &refusals);
-    let mut file = HostFile::at(&system, path, mark_of(rt)?);
+    use_maildir(rt, call, &mut FolderMaildir::at(&system, path, mark), count)
+}
+
+/// Replaces a file by a text, appends it and cuts that off again.
+fn rewrite_once(file: &mut RealFile<'_>, text: &[u8]) -> Result<()> {
+    file.replace(text)?;
+    file.append(text)?;
+    Ok(file.cut_to(text.len() as u64)?)
+}
+
+/// Rewrites a file `count` times with a text of 2,048 bytes.
+fn rewrite(rt: &HostRuntime, file: &mut RealFile<'_>, count: u32) -> Result<()> {
+    let text = Vec::from_elem(rt.alloc(), b'x', 2048)?;
     for _ in 0..count {
-        rewrite_once(&mut file)?;
+        rewrite_once(file, &text)?;
     }
     println!(rt; "{count}")?;
     Ok(())
 }
 
 /// Appends a text of `count` bytes to a file.
-fn append_once<F: FlatFile>(alloc: Global, file: &mut F, count: u32) -> Result<()> {
-    let text = Vec::from_elem(alloc, b'x', count as usize)?;
+fn append_once<F: FlatFile>(rt: &HostRuntime, file: &mut F, count: u32) -> Result<()> {
+    let text = Vec::from_elem(rt.alloc(), b'x', count as usize)?;
     file.edges()?;
-    Ok(file.append(&text)?)
-}
-
-/// Appends one text of `count` bytes to a file, block by block as to a record.
-pub fn append_blocks(rt: &HostRuntime, path: &str, count: u32) -> Result<()> {
-    let refusals = Refusals::new(rt.alloc(), None);
-    let system = System::new(rt, &refusals);
-    let mut file = HostFile::by_blocks(&system, path, mark_of(rt)?);
-    append_once(rt.alloc(), &mut file, count)?;
+    file.append(&text)?;
     println!(rt; "{count}")?;
     Ok(())
 }
 
-/// Removes what killed runs left beside the record of a Maildir.
-fn sweep_record(rt: &HostRuntime, path: &str, mark: ProcessMark) -> Result<()> {
-    let record = format!(in rt.alloc(); "{path}/seen")?;
+/// Makes the calls of this name on a file.
+fn use_file(
+    rt: &HostRuntime,
+    call: &str,
+    path: &str,
+    file: &mut RealFile<'_>,
+    count: u32,
+) -> Result<()> {
+    match call {
+        "rewrite" => rewrite(rt, file, count),
+        "append" => mbox::append(rt, path, file, count),
+        "blocks" => append_once(rt, file, count),
+        _ => mbox::time_texts(rt, file),
+    }
+}
+
+/// Makes the calls of this name on the file at a path. With `blocks` a text of `count` bytes is
+/// appended block by block, as to a record.
+pub fn use_file_at(rt: &HostRuntime, call: &str, path: &str, count: u32) -> Result<()> {
+    let mark = mark_of(rt)?;
     let refusals = Refusals::new(rt.alloc(), None);
-    HostFile::by_blocks(&System::new(rt, &refusals), record.as_str(), mark).sweep();
+    let system = System::new(rt, &refusals);
+    let mut file = if call == "blocks" {
+        HostFile::by_blocks(&system, path, mark)
+    } else {
+        HostFile::at(&system, path, mark)
+    };
+    use_file(rt, call, path, &mut file, count)
+}
+
+/// Removes what killed runs left beside the record of a Maildir.
+fn sweep_record(system: &System<'_, HostRuntime>, path: &str, mark: ProcessMark) -> Result<()> {
+    let record = format!(in system.alloc(); "{path}/seen")?;
+    HostFile::by_blocks(system, record.as_str(), mark).sweep();
     Ok(())
 }
 
 /// Removes what killed runs left in a Maildir and beside the record in it.
 pub fn sweep(rt: &HostRuntime, path: &str) -> Result<()> {
     let mark = mark_of(rt)?;
-    sweep_record(rt, path, mark)?;
     let refusals = Refusals::new(rt.alloc(), None);
-    FolderMaildir::at(&System::new(rt, &refusals), path, mark).sweep(&account_id(
-        "bench", 110, "bench",
-    ));
+    let system = System::new(rt, &refusals);
+    sweep_record(&system, path, mark)?;
+    FolderMaildir::at(&system, path, mark).sweep(&account_id("bench", 110, "bench"));
     Ok(())
 }
