@@ -193,37 +193,32 @@ served_stopped sound mail old server next before link taken sent waiting after g
     subst (λ (l : Link). Served sound mail old before (Err NoMemory) next l) (sym none)
     (served_unanswered sound mail old server next before link taken waiting g after.left p took left same)
 
--- memory ran out for the greeting, or it was sent in part
-pub served_unmade : {D : Type 0} (sound : D → Type 0) (mail : D → Mail) (old server : Machine D) (before : Link) → server ≡ old → Served sound mail old before (Err NoMemory) server before
-served_unmade sound mail old server before same = record {
+-- not even the greeting was sent whole
+served_nothing : {D : Type 0} (sound : D → Type 0) (mail : D → Mail) (old server : Machine D) (before link : Link) (front : List ℕ) (fault : ServerFault)
+    → link.got ≡ before.got → link.sent ≡ before.sent ++ front → WentOut sound mail old [] [] front (Err fault) server → Served sound mail old before (Err fault) server link
+served_nothing sound mail old server before link front fault got sent answered = record {
   gained = [];
-  got = sym (append-nil before.got);
-  bound = omega arith;
-  lines = [];
-  rest = [];
-  each = tt;
-  heard = refl;
-  out = [];
-  sent = sym (append-nil before.sent);
-  answered = inl (refl, refl, same);
-  ends = λ e. cc;
-}
-
-pub served_ungreeted : {D : Type 0} (sound : D → Type 0) (mail : D → Mail) (old server : Machine D) (before link : Link) (hello front rest : List ℕ) (count : ℕ)
-    → server ≡ old → hello ≡ greeting → hello ≡ front ++ rest → link ≡ record before { sent = before.sent ++ front; failures = count } → Served sound mail old before (Err WriteFailed) server link
-served_ungreeted sound mail old server before link hello front rest count same is part sends = record {
-  gained = [];
-  got = ap (λ (l : Link). l.got) sends ∙ sym (append-nil before.got);
+  got = got ∙ sym (append-nil before.got);
   bound = omega arith;
   lines = [];
   rest = [];
   each = tt;
   heard = refl;
   out = front;
-  sent = ap (λ (l : Link). l.sent) sends;
-  answered = inl (rest, sym is ∙ part, refl, same);
+  sent = sent;
+  answered = answered;
   ends = λ e. cc;
 }
+
+-- memory ran out for the greeting, or it was sent in part
+pub served_unmade : {D : Type 0} (sound : D → Type 0) (mail : D → Mail) (old server : Machine D) (before : Link) → server ≡ old → Served sound mail old before (Err NoMemory) server before
+served_unmade sound mail old server before same = served_nothing sound mail old server before before [] NoMemory refl (sym (append-nil before.sent)) (inl (refl, refl, same))
+
+pub served_ungreeted : {D : Type 0} (sound : D → Type 0) (mail : D → Mail) (old server : Machine D) (before link : Link) (hello front rest : List ℕ) (count : ℕ)
+    → server ≡ old → hello ≡ greeting → hello ≡ front ++ rest → link ≡ record before { sent = before.sent ++ front; failures = count } → Served sound mail old before (Err WriteFailed) server link
+served_ungreeted sound mail old server before link hello front rest count same is part sends =
+    served_nothing sound mail old server before link front WriteFailed (ap (λ (l : Link). l.got) sends) (ap (λ (l : Link). l.sent) sends)
+    (inl (rest, sym is ∙ part, refl, same))
 
 long_command : (line : List ℕ) → 510 < length line → command_of line ≡ Err BadCommand
 unfolding command_of
