@@ -8,6 +8,7 @@ mod MboxState
 mod PowerLosses
 mod PowerRecord
 mod PowerSessions
+mod PowerTakings
 mod RunLemmas
 mod StateCases
 mod StateDone

@@ -28,7 +28,7 @@ not_none : {A : Type 0} (x : A) (xs : List A) → x ∷ xs ≢ []
 not_none x xs none = cc
 
 -- a name with this stem is that of a file with it
-named_some : (front : List ℕ) (fs : List File) (name : List ℕ) → bytes_eq front (stem name) ≡ true → Contains (names_of fs) name → copies fs front ≢ []
+pub named_some : (front : List ℕ) (fs : List File) (name : List ℕ) → bytes_eq front (stem name) ≡ true → Contains (names_of fs) name → copies fs front ≢ []
 named_some front [] name same (k, below, is) = absurd (omega (arith, below))
 named_some front (f ∷ fs) name same (zero, below, is) = λ none.
     let e : bytes_eq front (stem f.name) ≡ true = ap (λ n. bytes_eq front (stem n)) is ∙ same in

@@ -74,7 +74,7 @@ pub less_than_one : {A : Type 0} (xs ys : List A) → length xs < length ys → 
 less_than_one [] ys less one = (refl, λ none. let e = ap length none in absurd (omega (arith, less, e)))
 less_than_one (x ∷ xs) ys less one = absurd (omega (arith, less, one))
 
-nothing_or_some : {A : Type 0} (xs : List A) → (xs ≡ []) ⊎ (xs ≢ [])
+pub nothing_or_some : {A : Type 0} (xs : List A) → (xs ≡ []) ⊎ (xs ≢ [])
 nothing_or_some [] = inl refl
 nothing_or_some (x ∷ xs) = inr (λ none. cc)
 

@@ -22,8 +22,8 @@ use Rattle.mail_terms.specs.UniqueId.{has_id, is_legal_id}
 use Rattle.pop3_wire.specs.Place.{Place, at}
 use Rattle.rc_file.specs.declared.settings.Settings.{Settings}
 use Rattle.run_law.specs.Sessions.{Served}
-use Rattle.fetch_runs.specs.Headline.{World, State, Occasion, Fetched, AreSettings, IsSession, IsSound, IsKept, IsLastStored}
-use Rattle.fetch_runs.specs.Headline.{IsPowerLost, account_of, after_event, maildrop_at}
+use Rattle.fetch_runs.specs.Headline.{World, State, Event, Occasion, Fetched, AreSettings, AreTaken, IsSession, IsSound, IsKept, IsLastStored}
+use Rattle.fetch_runs.specs.Headline.{IsPowerLost, account_of, after_event, maildrop_at, state_after}
 
 -- what a loss of power may leave of the files that calls see: some of them, in order, each whole; among these one of each name
 -- that stays, and each file that outlives it
@@ -68,6 +68,12 @@ abbrev pub AllMayBeOnDisk : {D F : Type 0} → DiskGhosts D → FileGhosts F →
 AllMayBeOnDisk {D} {F} disk files = (device : D) (f : F) (world : World) (state : State)
     → ((name : List ℕ) → Contains (names_of state.kept.maildir.files) name → disk.stays device name)
     → ((left : Option (List ℕ)) → files.may_leave f left → left ≡ state.kept.file.content) → CanLosePower disk files device f world state
+
+-- a law: it still is after readers took files away
+abbrev pub TakingsKeepPower : {D F : Type 0} → DiskGhosts D → FileGhosts F → Type 0
+TakingsKeepPower {D} {F} disk files = (device : D) (f : F) (world : World) (state : State) (left : List File) (events : List Event)
+    → IsSound world → IsKept world state → IsPart state.kept.maildir.files left → AreTaken world state left events
+    → CanLosePower disk files device f world state → CanLosePower disk files device f world (state_after state events)
 
 -- ---- a session that wasn't cut while it prepared the record
 

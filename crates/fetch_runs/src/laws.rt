@@ -14,6 +14,7 @@ ghost use Rattle.fetch_runs.specs.MboxHonestSession.{MboxHonestSessions};
 ghost use Rattle.fetch_runs.specs.MboxSteps.{MboxSessionIsAStep};
 ghost use Rattle.fetch_runs.specs.MboxTexts.{MboxSessionsAddTexts};
 ghost use Rattle.fetch_runs.specs.Power.{AllMayBeOnDisk, LossesAreEvents, SessionsAndPower};
+ghost use Rattle.fetch_runs.specs.Power.{TakingsKeepPower};
 ghost use Rattle.fetch_runs.specs.Steps.{SessionIsAStep};
 
 use fetch_rules::{
@@ -160,6 +161,13 @@ pub fn all_on_disk<D: MaildirDisk, F: FlatFile>()
     ensures { AllMayBeOnDisk D.MaildirDisk F.FlatFile }
 {
     files_stand_for_one_record();
+}
+
+/// It still is if readers took files away.
+pub fn takings_keep_power<D: MaildirDisk, F: FlatFile>()
+    ensures { TakingsKeepPower D.MaildirDisk F.FlatFile }
+{
+    headline();
 }
 
 /// So it is after a session, whatever cut it, if it was before, except for one that was cut while it

@@ -11,6 +11,7 @@ pub use laws::{
     mbox_honest_sessions, mbox_session_is_a_step, mbox_sessions_add_texts,
     mbox_sessions_follow_plans, mbox_start_is_kept, mbox_stops_are_runs, mbox_writings_are_events,
     new_processes_are_between, recorded_stay_away, session_is_a_step, sessions_and_power,
-    sessions_are_conversations, stops_are_runs, takings_are_events, uncut_sessions_do_tasks,
+    sessions_are_conversations, stops_are_runs, takings_are_events, takings_keep_power,
+    uncut_sessions_do_tasks,
 };
 pub use run::{Visit, run_sessions};

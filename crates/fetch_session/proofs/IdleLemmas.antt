@@ -1,12 +1,12 @@
 -- What is ready if the store needn't be asked what it holds.
-use Rattle.std.proofs.Common.{◌≡◌, ℕ, suc, Bool, true, false, List, [], ◌∷◌, ◌++◌, length, Option, None, Some, Ok, Err, refl, sym, ap, subst, ◌∙◌, arith}
+use Rattle.std.proofs.Common.{◌≡◌, ◌≢◌, ℕ, suc, Bool, true, false, List, [], ◌∷◌, ◌++◌, length, map, Option, None, Some, Ok, Err, refl, sym, ap, subst, ◌∙◌, arith}
 use Rattle.std.specs.Prelude.{All, Result, IfOk, IfSome, OnOk}
 use Rattle.std.specs.List.{AllByRecursion}
 use Rattle.std.proofs.lemmas.List.{length-map}
 use Rattle.mail_terms.specs.Listing.{Item}
 use Rattle.rc_file.specs.declared.settings.Settings.{Settings}
 use Rattle.fetch_rules.specs.Record.{Row, Held, Intent, IsRecord, Loaded, has_row, is_delivered, merged, none_open}
-use Rattle.fetch_rules.specs.Plan.{IsQuiet}
+use Rattle.fetch_rules.specs.Plan.{IsQuiet, planned}
 use Rattle.fetch_rules.specs.declared.steps.Step.{Step}
 use Rattle.mail_store.specs.FlatFile.{Stored}
 use Rattle.mail_store.specs.FileName.{is_held}
@@ -22,9 +22,9 @@ use Rattle.fetch_session.specs.declared.account.Store.{Store}
 use Rattle.fetch_session.specs.declared.account.Store.TheVariants.{Maildir as InMaildir, Mboxrd as InMbox}
 use Rattle.fetch_session.specs.declared.readiness.Ready.{Ready}
 use Rattle.fetch_session.specs.Mbox.{AsksMbox, IsStoreFault}
-use Rattle.fetch_session.specs.Readiness.{AreAsHeld, ChecksStore, IsIdle, IsReady, Readies, Rests, Settles, Unready}
+use Rattle.fetch_session.specs.Readiness.{AreAsHeld, ChecksStore, IsIdle, IsReady, Readies, Rests, Settles, Unready, merged_in}
 use Rattle.fetch_session.specs.Record.{ReadAs, Steady, held_in}
-use Rattle.fetch_session.specs.Target.{Kind, Files, Entries, Target, AsFiles, AsEntries, Stores, flags_in, in_maildir, in_mbox, kind_of, rows_in, stores_of, target_of}
+use Rattle.fetch_session.specs.Target.{Kind, Files, Entries, Target, AsFiles, AsEntries, Stores, flags_in, in_maildir, in_mbox, kind_of, none_held, rows_in, stores_of, target_of}
 use Rattle.fetch_session.specs.Task.{Task, fetching, deleting, tasks_in, tasks_planned}
 use Rattle.fetch_session.proofs.MboxLemmas.{asks_refused, held_same}
 use Rattle.fetch_session.proofs.ReadyLemmas.{not_found}
