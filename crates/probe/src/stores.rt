@@ -121,6 +121,21 @@ fn append_once<F: FlatFile>(rt: &HostRuntime, file: &mut F, count: u32) -> Resul
     Ok(())
 }
 
+/// Makes the calls of this name on a file of any kind.
+fn use_any_file<F: FlatFile>(
+    rt: &HostRuntime,
+    call: &str,
+    path: &str,
+    file: &mut F,
+    count: u32,
+) -> Result<()> {
+    match call {
+        "append" => mbox::append(rt, path, file, count),
+        "blocks" => append_once(rt, file, count),
+        _ => mbox::time_texts(rt, file),
+    }
+}
+
 /// Makes the calls of this name on a file.
 fn use_file(
     rt: &HostRuntime,
@@ -129,12 +144,10 @@ fn use_file(
     file: &mut RealFile<'_>,
     count: u32,
 ) -> Result<()> {
-    match call {
-        "rewrite" => rewrite(rt, file, count),
-        "append" => mbox::append(rt, path, file, count),
-        "blocks" => append_once(rt, file, count),
-        _ => mbox::time_texts(rt, file),
+    if call == "rewrite" {
+        return rewrite(rt, file, count);
     }
+    use_any_file(rt, call, path, file, count)
 }
 
 /// Makes the calls of this name on the file at a path. With `blocks` a text of `count` bytes is
