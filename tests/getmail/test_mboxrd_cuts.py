@@ -231,20 +231,23 @@ class RefusedSteps(Shared):
             self.assertEqual(account.content(), entries([b"one\n", b"two\n", b"three\n"]))
             self.assertEqual(len(account.content()), 149)
 
-    def test_an_entry_whose_append_is_refused_and_taken_back(self):
-        """Nothing of the second entry stays, and its intent is closed by a record that is written whole."""
+    def test_an_entry_whose_append_is_refused(self):
+        """With no effect, its intent is closed by a record that is written whole. What came unseen isn't taken back."""
         self.server.messages = [(b"a", b"one\n"), (b"b", b"two\n"), (b"c", b"three\n")]
         number = self.number_of("write", "mbox", 2)
-        for effect in ("none", "half", "whole"):
+        rows = rb"getmail-seen 2\na \d+ 1\nb \d+ 0\nc \d+ 0\n"
+        for effect, length, intent, fetched in (("none", 49, None, ["RETR 2"]), ("half", 73, (b"b", b"49", b"49"), ["RETR 2"]),
+                                                ("whole", 98, (b"b", b"49", b"49"), [])):
             with self.subTest(effect), MboxAccount(self.server.port) as account:
                 self.server.forget()
                 self.assertEqual(self.refused_session(account, number, effect)[0], REFUSED)
                 self.assertEqual(self.server.commands[1], LOGIN + ["RETR 1", "RETR 2", "RSET", "QUIT"])
-                self.assertEqual(account.content(), entries([b"one\n"]))
-                self.assertRegex(account.record.read_bytes(), rb"\Agetmail-seen 2\na \d+ 1\nb \d+ 0\nc \d+ 0\n\Z")
+                self.assertEqual((len(account.content()), account.known()), (length, ([b"a"], intent)))
+                if intent is None:
+                    self.assertRegex(account.record.read_bytes(), rb"\A" + rows + rb"\Z")
                 self.server.forget()
                 self.assertEqual(self.session(account), GOOD)
-                self.assertEqual(self.server.commands[1], LOGIN + ["RETR 2", "RETR 3", "QUIT"])
+                self.assertEqual(self.server.commands[1], LOGIN + fetched + ["RETR 3", "QUIT"])
                 self.assertEqual(len(account.content()), 149)
 
     def test_an_append_that_is_refused_and_not_taken_back(self):
