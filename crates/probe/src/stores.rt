@@ -88,7 +88,12 @@ fn use_maildir(rt: &HostRuntime, call: &str, disk: &mut HostMaildir<'_>, count: 
 }
 
 /// Makes the calls of this name on the Maildir at a path.
-pub fn use_maildir_at(rt: &HostRuntime, call: &str, path: &str, count: u32) -> Result<()> {
+pub fn use_maildir_at<'a>(
+    rt: &'a HostRuntime,
+    call: &str,
+    path: &'a str,
+    count: u32,
+) -> Result<()> {
     let mark = mark_of(rt)?;
     let refusals = Refusals::new(rt.alloc(), None);
     let system = System::new(rt, &refusals);
@@ -152,7 +157,12 @@ fn use_file(
 
 /// Makes the calls of this name on the file at a path. With `blocks` a text of `count` bytes is
 /// appended block by block, as to a record.
-pub fn use_file_at(rt: &HostRuntime, call: &str, path: &str, count: u32) -> Result<()> {
+pub fn use_file_at<'a>(
+    rt: &'a HostRuntime,
+    call: &str,
+    path: &'a str,
+    count: u32,
+) -> Result<()> {
     let mark = mark_of(rt)?;
     let refusals = Refusals::new(rt.alloc(), None);
     let system = System::new(rt, &refusals);
@@ -165,14 +175,18 @@ pub fn use_file_at(rt: &HostRuntime, call: &str, path: &str, count: u32) -> Resu
 }
 
 /// Removes what killed runs left beside the record of a Maildir.
-fn sweep_record(system: &System<'_, HostRuntime>, path: &str, mark: ProcessMark) -> Result<()> {
+fn sweep_record<'a>(
+    system: &'a System<'a, HostRuntime>,
+    path: &str,
+    mark: ProcessMark,
+) -> Result<()> {
     let record = format!(in system.alloc(); "{path}/seen")?;
     HostFile::by_blocks(system, record.as_str(), mark).sweep();
     Ok(())
 }
 
 /// Removes what killed runs left in a Maildir and beside the record in it.
-pub fn sweep(rt: &HostRuntime, path: &str) -> Result<()> {
+pub fn sweep<'a>(rt: &'a HostRuntime, path: &'a str) -> Result<()> {
     let mark = mark_of(rt)?;
     let refusals = Refusals::new(rt.alloc(), None);
     let system = System::new(rt, &refusals);
