@@ -88,12 +88,7 @@ fn use_maildir(rt: &HostRuntime, call: &str, disk: &mut HostMaildir<'_>, count: 
 }
 
 /// Makes the calls of this name on the Maildir at a path.
-pub fn use_maildir_at<'a>(
-    rt: &'a HostRuntime,
-    call: &str,
-    path: &'a str,
-    count: u32,
-) -> Result<()> {
+pub fn use_maildir_at(rt: &HostRuntime, call: &str, path: &str, count: u32) -> Result<()> {
     let mark = mark_of(rt)?;
     let refusals = Refusals::new(rt.alloc(), None);
     let system = System::new(rt, &refusals);
@@ -155,38 +150,43 @@ fn use_file(
     use_any_file(rt, call, path, file, count)
 }
 
-/// Makes the calls of this name on the file at a path. With `blocks` a text of `count` bytes is
-/// appended block by block, as to a record.
-pub fn use_file_at<'a>(
-    rt: &'a HostRuntime,
+/// The file at a path, whose texts are appended block by block if the call is `blocks`, as to a record.
+fn file_at<'a>(
+    system: &'a System<'a, HostRuntime>,
     call: &str,
     path: &'a str,
-    count: u32,
-) -> Result<()> {
+    mark: ProcessMark,
+) -> RealFile<'a> {
+    if call == "blocks" {
+        HostFile::by_blocks(system, path, mark)
+    } else {
+        HostFile::at(system, path, mark)
+    }
+}
+
+/// Makes the calls of this name on the file at a path. With `blocks` a text of `count` bytes is appended.
+pub fn use_file_at(rt: &HostRuntime, call: &str, path: &str, count: u32) -> Result<()> {
     let mark = mark_of(rt)?;
     let refusals = Refusals::new(rt.alloc(), None);
     let system = System::new(rt, &refusals);
-    let mut file = if call == "blocks" {
-        HostFile::by_blocks(&system, path, mark)
-    } else {
-        HostFile::at(&system, path, mark)
-    };
-    use_file(rt, call, path, &mut file, count)
+    use_file(
+        rt,
+        call,
+        path,
+        &mut file_at(&system, call, path, mark),
+        count,
+    )
 }
 
 /// Removes what killed runs left beside the record of a Maildir.
-fn sweep_record<'a>(
-    system: &'a System<'a, HostRuntime>,
-    path: &str,
-    mark: ProcessMark,
-) -> Result<()> {
+fn sweep_record(system: &System<'_, HostRuntime>, path: &str, mark: ProcessMark) -> Result<()> {
     let record = format!(in system.alloc(); "{path}/seen")?;
     HostFile::by_blocks(system, record.as_str(), mark).sweep();
     Ok(())
 }
 
 /// Removes what killed runs left in a Maildir and beside the record in it.
-pub fn sweep<'a>(rt: &'a HostRuntime, path: &'a str) -> Result<()> {
+pub fn sweep(rt: &HostRuntime, path: &str) -> Result<()> {
     let mark = mark_of(rt)?;
     let refusals = Refusals::new(rt.alloc(), None);
     let system = System::new(rt, &refusals);
