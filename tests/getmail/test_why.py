@@ -51,6 +51,11 @@ class OfMaildirs(Sessions):
         shutil.rmtree(self.account.maildir / "new")
         self.check_told("destination missing", f"{self.account.maildir}/new.*: {NO_MEMBER}")
 
+    def test_a_preview_where_tmp_is_a_file(self):
+        shutil.rmtree(self.account.maildir / "tmp")
+        (self.account.maildir / "tmp").touch()
+        self.check_told("destination refused", f"{self.account.maildir}/tmp: not a folder", "--pretend")
+
     def test_a_record_that_is_a_folder(self):
         os.mkdir(self.account.record)
         self.check_told("seen file refused", f"{self.account.record}: Is a directory")

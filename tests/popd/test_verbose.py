@@ -1,5 +1,6 @@
 """`--verbose`: a line on standard error for where it listens, each login, each refused one, each QUIT that removed messages."""
 
+import contextlib
 import os
 import select
 import socket
@@ -132,9 +133,14 @@ class Beginnings(unittest.TestCase):
         told = f"popd: {fault}\npopd: {reason}\n".encode()
         self.assertEqual(programs.run("popd", "--verbose", *self.words), programs.Run(1, b"", told))
         ours, theirs = os.openpty()
-        with open(ours, "rb", buffering=0) as terminal, open(theirs, "wb", buffering=0) as err:
-            self.assertEqual(programs.run("popd", *self.words, err=err).status, 1)
-            self.assertEqual(terminal.read(65536).replace(b"\r\n", b"\n"), told)
+        with open(ours, "rb", buffering=0) as terminal:
+            with open(theirs, "wb", buffering=0) as err:
+                self.assertEqual(programs.run("popd", *self.words, err=err).status, 1)
+            shown = b""
+            with contextlib.suppress(OSError):
+                while piece := terminal.read(65536):
+                    shown += piece
+            self.assertEqual(shown.replace(b"\r\n", b"\n"), told)
 
     def test_an_address_that_is_taken(self):
         self.check_told(f"cannot listen on {self.address}", f"{self.address}: Address already in use")

@@ -23,7 +23,7 @@ use Rattle.fetch_session.specs.declared.work.Work.{Work}
 use Rattle.fetch_session.specs.Record.{Steady, bytes_in, held}
 use Rattle.fetch_session.specs.Scene.{Scene, scene, Went, AllWent}
 use Rattle.fetch_session.specs.Store.{Brings, Ends, begun_with}
-use Rattle.fetch_session.specs.Lasting.{AreLeft, CutLasts, DoesForGood, DonesLast, IsSafe, IsSafeStore, IsSafeWork, IsUntouched, IsLeft, KeepsMailIn, KeepsRows, KeepsWork, Leaves, NewOutlive, RowsLast, ShowsRows, TextsLast, may_leave_in, outlives_in}
+use Rattle.fetch_session.specs.Lasting.{AreLeft, CutLasts, DoesForGood, DonesLast, IsSafe, IsSafeStore, IsSafeWork, IsUntouched, IsLeft, KeepsMailIn, RowsStillLast, KeepsWork, Leaves, NewOutlive, RowsLast, ShowsRows, TextsLast, may_leave_in, outlives_in}
 use Rattle.fetch_session.specs.Target.{Kind, Target, AsFiles, AsEntries, Stores, kind_of, stores_of, target as target_at, target_of}
 use Rattle.fetch_session.specs.Task.{Task, Done, files_of, ids_in, ids_of, texts_of}
 use Rattle.fetch_session.proofs.RecordLemmas.{is_there}
@@ -183,7 +183,7 @@ shown_longer rows was left (bytes, behind, inr is, stands) (inr (some, more, was
   stands,
 )
 
-pub longer_rows : {F : Type 0} (file : FileGhosts F) (f f' : F) → LeavesLonger (file.may_leave f) (file.may_leave f') → (rows : List Row) → KeepsRows file rows f f'
+pub longer_rows : {F : Type 0} (file : FileGhosts F) (f f' : F) → LeavesLonger (file.may_leave f) (file.may_leave f') → (rows : List Row) → RowsStillLast file rows f f'
 longer_rows file f f' longer rows last left may =
     let was = longer left may in shown_longer rows was.0 left (last was.0 was.1) was.2
 
@@ -193,7 +193,7 @@ module _ {F : Type 0} (file : FileGhosts F) (f f' : F) (rows : List Row) (bytes 
   all_of : (left : Option (List ℕ)) → left ≡ Some bytes → left ≡ Some (bytes ++ [])
   all_of left is = is ∙ ap (λ (l : List ℕ). Some l) (sym (append-nil bytes))
 
-  pub either_rows : KeepsRows file rows f f'
+  pub either_rows : RowsStillLast file rows f f'
   either_rows last left may = elim (either left may) [
     | inl before ↦ last left before
     | inr is ↦ (bytes, [], inr (all_of left is), stands)

@@ -103,19 +103,20 @@ abbrev pub RowsLast : {F : Type 0} → FileGhosts F → F → List Row → Type 
 RowsLast file f rows = (left : Option (List ℕ)) → file.may_leave f left → ShowsRows rows left
 
 -- these rows still outlive it, if they did before
-abbrev pub KeepsRows : {F : Type 0} → FileGhosts F → List Row → F → F → Type 0
-KeepsRows file rows old new = RowsLast file old rows → RowsLast file new rows
+abbrev pub RowsStillLast : {F : Type 0} → FileGhosts F → List Row → F → F → Type 0
+RowsStillLast file rows old new = RowsLast file old rows → RowsLast file new rows
 
 -- all of a session's work
 abbrev pub KeepsWork : {D F H Z : Type 0} → DiskGhosts D → FileGhosts F → Work D F H Z → Work D F H Z → Type 0
 KeepsWork disk file old new = KeepsMailIn disk old.store new.store × KeepsMboxIn disk file old.store new.store
-    × KeepsRows file old.ledger.seen.rows old.ledger.file new.ledger.file
+    × RowsStillLast file old.ledger.seen.rows old.ledger.file new.ledger.file
 
 -- this holds of whatever a loss of power leaves of a file that is there
 abbrev pub Leaves : {F : Type 0} → FileGhosts F → F → (Option (List ℕ) → Type 0) → Type 0
 Leaves file f Is = (bytes : List ℕ) → (file.stored f).content ≡ Some bytes → (left : Option (List ℕ)) → file.may_leave f left → Is left
 
--- bytes that stand for this record, and behind them what a loss of power may leave of what was appended
+-- bytes that stand for this record, and behind them what a loss of power may leave of what was appended; nothing is appended to an
+-- empty file
 pub record IsLeft (was : Held) (added : List ℕ) (left : Option (List ℕ)) : Type 0 where
   pub bytes : List ℕ
   pub behind : List ℕ

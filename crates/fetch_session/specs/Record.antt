@@ -61,8 +61,8 @@ Saves old was now (Err SeenRefused) new = (new.failures ≡ old.failures + 1)
 Saves old was now (Err NoMemory) new = new ≡ old
 Saves old was now (Err _) new = ⊥
 
--- an open intent was closed, as none of its entry is there, by writing the record whole; or that was refused, and it may be open;
--- or memory ran out, and nothing was done
+-- an open intent was closed, as none of its entry is there; or that was refused, and it may be open; or memory ran out, and nothing
+-- was done
 abbrev pub TakesBack : Stored → Held → Result (Unit {0}) Fault → Stored → Type 0
 TakesBack old was (Ok done) new = Saves old was (none_open was.rows) (Ok tt) new ⊎ Saves old was (none_open was.rows) (Err SeenRefused) new
 TakesBack old was (Err NoMemory) new = new ≡ old

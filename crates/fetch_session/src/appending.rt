@@ -14,7 +14,7 @@ ghost use Rattle.pop3_wire.specs.declared.unstuffer.Spot.TheVariants.{Done};
 ghost use Rattle.fetch_session.specs.Intake.{TookTillCut};
 ghost use Rattle.fetch_session.specs.Mbox.{AppendsText, HoldsText, IsStoreFault};
 ghost use Rattle.mail_store.specs.Power.{KeepsWhole};
-ghost use Rattle.fetch_session.specs.Lasting.{IsSafe, KeepsRows};
+ghost use Rattle.fetch_session.specs.Lasting.{IsSafe, RowsStillLast};
 ghost use Rattle.fetch_session.specs.Parts.{KeepsLedger, KeepsLink, KeepsRecord};
 ghost use Rattle.fetch_session.specs.Record.{Steady};
 ghost use Rattle.fetch_session.specs.Refusal.{RefusesTillCut};
@@ -98,7 +98,7 @@ fn append_text<F: FlatFile, H: BuildHasher>(
         (F.stored mbox.new) (F.stored ledger.new.file) ledger.new.seen }
     ensures keeps { F.sound mbox.new → F.sound ledger.new.file
         → KeepsWhole (F.stored mbox.old).content (F.may_leave mbox.old) (F.may_leave mbox.new)
-        × KeepsRows F.FlatFile ledger.old.seen.rows ledger.old.file ledger.new.file }
+        × RowsStillLast F.FlatFile ledger.old.seen.rows ledger.old.file ledger.new.file }
     ensures lasts { F.sound mbox.new → F.sound ledger.new.file → F.is_sure mbox.old → IsSafe F.FlatFile ledger.old.file
         → OnOk result (IsSafe F.FlatFile mbox.new × IsSafe F.FlatFile ledger.new.file) }
 {
@@ -145,7 +145,7 @@ pub(crate) fn take_into_mbox<W: Wire, F: FlatFile, H: BuildHasher>(
         ledger.new.lines.items)) }
     ensures keeps { F.sound mbox.new → F.sound ledger.new.file
         → KeepsWhole (F.stored mbox.old).content (F.may_leave mbox.old) (F.may_leave mbox.new)
-        × KeepsRows F.FlatFile ledger.old.seen.rows ledger.old.file ledger.new.file }
+        × RowsStillLast F.FlatFile ledger.old.seen.rows ledger.old.file ledger.new.file }
     ensures lasts { F.sound mbox.new → F.sound ledger.new.file → F.is_sure mbox.old → IsSafe F.FlatFile ledger.old.file
         → OnOk result (IsSafe F.FlatFile mbox.new × IsSafe F.FlatFile ledger.new.file) }
 {

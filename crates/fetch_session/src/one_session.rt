@@ -96,7 +96,8 @@ fn session_over<W: Wire, D: MaildirDisk, F: FlatFile, H: BuildHasher>(
     ensures session { WhereAllSound W.sound W.leads_to (is_sound D.MaildirDisk F.FlatFile) F.sound client.old.wire.now client.new.wire.now
         account.old.store account.new.store account.old.file account.new.file
         (AfterTakingIn (stores_of D.MaildirDisk F.FlatFile account.old.store) (λ left. SessionForGood D.MaildirDisk F.FlatFile
-        account.old.store account.old.file account.old.settings (target_of account.old.store (digits_of account.old.settings)) now (link_of W.Wire client.old)
+        account.old.store account.old.file account.old.settings
+        (target_of account.old.store (digits_of account.old.settings)) now (link_of W.Wire client.old)
         (keeping left (F.stored account.old.file)) result (link_of W.Wire client.new)
         (keeping (stores_of D.MaildirDisk F.FlatFile account.new.store) (F.stored account.new.file)) account.new.store account.new.file)) }
     ensures bounded { W.sound client.new.wire.now
@@ -166,7 +167,8 @@ pub fn session<W: Wire, D: MaildirDisk, F: FlatFile, H: BuildHasher>(
         → GotAtMost (session_limit result.total) (W.history wire.old) (W.history wire.new) }
     ensures power { W.sound wire.new → is_sound D.MaildirDisk F.FlatFile account.new.store → F.sound account.new.file
         → AfterTakingIn (stores_of D.MaildirDisk F.FlatFile account.old.store) (λ left. SessionForGood D.MaildirDisk F.FlatFile
-        account.old.store account.old.file account.old.settings (target_of account.old.store (digits_of account.old.settings)) now (W.history wire.old)
+        account.old.store account.old.file account.old.settings
+        (target_of account.old.store (digits_of account.old.settings)) now (W.history wire.old)
         (keeping left (F.stored account.old.file)) result (W.history wire.new)
         (keeping (stores_of D.MaildirDisk F.FlatFile account.new.store) (F.stored account.new.file)) account.new.store account.new.file) }
 {

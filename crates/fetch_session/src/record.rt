@@ -7,7 +7,7 @@ ghost use Rattle.fetch_rules.specs.RecordFile.{Two, file_of};
 ghost use Rattle.fetch_rules.specs.RecordMeaning.{Means, Rows};
 ghost use Rattle.fetch_rules.specs.RecordGrowth.{Grows};
 ghost use Rattle.fetch_session.specs.Record.{Writes, Saves, Steady, TakesBack, bytes_in, held_in, intent_at, with_open};
-ghost use Rattle.fetch_session.specs.Lasting.{AreLeft, IsLeft, IsSafe, KeepsRows, Leaves};
+ghost use Rattle.fetch_session.specs.Lasting.{AreLeft, IsLeft, IsSafe, RowsStillLast, Leaves};
 
 use crate::fault::Fault;
 use fetch_rules::{Seen, appended_counts, bytes_stand, cut_is_ignored};
@@ -38,7 +38,7 @@ pub(crate) fn grow<F: FlatFile>(file: &mut F, group: &[u8]) -> Result<(), Fault>
     ensures saves { F.sound file.new → F.sound file.old
         × ((was now : Held) → Grows was.rows was.intent group.now now.rows now.intent
         → Saves (F.stored file.old) was now result (F.stored file.new)) }
-    ensures keeps { F.sound file.new → ((rows : List Row) → KeepsRows F.FlatFile rows file.old file.new) }
+    ensures keeps { F.sound file.new → ((rows : List Row) → RowsStillLast F.FlatFile rows file.old file.new) }
     ensures lasts { F.sound file.new → IsSafe F.FlatFile file.old → OnOk result (IsSafe F.FlatFile file.new) }
     ensures leaves { F.sound file.new → IsSafe F.FlatFile file.old
         → ((was : Held) → Steady (F.stored file.old).content was → Leaves F.FlatFile file.new (IsLeft was group.now)) }
@@ -74,7 +74,7 @@ pub(crate) fn intend<F: FlatFile, H: BuildHasher>(
     ensures saves { F.sound file.new → F.sound file.old
         × Saves (F.stored file.old) (none_open seen.old.rows) (with_open seen.old.rows (intent_at uid.now start len)) result
         (F.stored file.new) }
-    ensures keeps { F.sound file.new → ((rows : List Row) → KeepsRows F.FlatFile rows file.old file.new)
+    ensures keeps { F.sound file.new → ((rows : List Row) → RowsStillLast F.FlatFile rows file.old file.new)
         × (IsSafe F.FlatFile file.old → ((others : List Row) → Leaves F.FlatFile file.new (AreLeft seen.old.rows others))) }
     ensures lasts { F.sound file.new → IsSafe F.FlatFile file.old → OnOk result (IsSafe F.FlatFile file.new) }
 {
@@ -94,7 +94,7 @@ pub(crate) fn take_back<F: FlatFile, H: BuildHasher>(
     ensures rows { seen.new.rows ≡ seen.old.rows }
     ensures closes { F.sound file.new → F.sound file.old
         × TakesBack (F.stored file.old) (held_in seen.old) result (F.stored file.new) }
-    ensures keeps { F.sound file.new → KeepsRows F.FlatFile seen.old.rows file.old file.new }
+    ensures keeps { F.sound file.new → RowsStillLast F.FlatFile seen.old.rows file.old file.new }
     ensures leaves { F.sound file.new → ((others : List Row)
         → Leaves F.FlatFile file.old (AreLeft seen.old.rows others) → Leaves F.FlatFile file.new (AreLeft seen.old.rows others)) }
 {
@@ -121,7 +121,7 @@ pub(crate) fn remember<F: FlatFile, H: BuildHasher>(
     ensures closed { OnOk result (seen.new.intent ≡ None) }
     ensures saves { F.sound file.new → F.sound file.old
         × Saves (F.stored file.old) (held_in seen.old) (none_open (marked seen.old.rows uid.now)) result (F.stored file.new) }
-    ensures keeps { F.sound file.new → ((rows : List Row) → KeepsRows F.FlatFile rows file.old file.new)
+    ensures keeps { F.sound file.new → ((rows : List Row) → RowsStillLast F.FlatFile rows file.old file.new)
         × (IsSafe F.FlatFile file.old → Leaves F.FlatFile file.new (AreLeft seen.old.rows (marked seen.old.rows uid.now))) }
     ensures lasts { F.sound file.new → IsSafe F.FlatFile file.old → OnOk result (IsSafe F.FlatFile file.new) }
 {

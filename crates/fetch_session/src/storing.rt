@@ -14,7 +14,7 @@ ghost use Rattle.mail_store.specs.FileName.{HasRoomForSize, IsAccountText, is_he
 ghost use Rattle.mail_store.specs.Maildir.{File, IsThere, file, mail, with_file};
 ghost use Rattle.mail_store.specs.Power.{KeepsMail};
 ghost use Rattle.fetch_session.specs.Intake.{TookTillCut};
-ghost use Rattle.fetch_session.specs.Lasting.{AreLeft, IsSafe, KeepsRows, Leaves, OneOutlives};
+ghost use Rattle.fetch_session.specs.Lasting.{AreLeft, IsSafe, RowsStillLast, Leaves, OneOutlives};
 ghost use Rattle.fetch_session.specs.Parts.{KeepsLedger, KeepsLink};
 ghost use Rattle.fetch_session.specs.Refusal.{RefusesTillCut};
 ghost use Rattle.fetch_session.specs.Report.{Adds, HasRoom};
@@ -238,7 +238,7 @@ pub(crate) fn take_into_maildir<W: Wire, D: MaildirDisk, F: FlatFile, H: BuildHa
         ledger.new.lines.items)) }
     ensures keeps { D.sound disk.new → F.sound ledger.new.file
         → KeepsMail (D.stays disk.old) (D.outlives disk.old) (D.stays disk.new) (D.outlives disk.new)
-        × ((rows : List Row) → KeepsRows F.FlatFile rows ledger.old.file ledger.new.file) }
+        × ((rows : List Row) → RowsStillLast F.FlatFile rows ledger.old.file ledger.new.file) }
     ensures lasts { D.sound disk.new → F.sound ledger.new.file → IsSafe F.FlatFile ledger.old.file
         → OnOk result (IsSafe F.FlatFile ledger.new.file × ((files : List File)
         → (D.maildir disk.new).files ≡ (D.maildir disk.old).files ++ files → AllByRecursion (D.outlives disk.new) files))

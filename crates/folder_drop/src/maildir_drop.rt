@@ -154,6 +154,7 @@ impl<'a, R: Files + Clock + RandomSource + AllocGlobal + Clone + Drop> Maildrop
             return Err(DropFault::Refused);
         }
         let mut last_seen = SeenFiles::none();
+        self.system.refusals.forget();
         match self.look(&mut last_seen) {
             Ok(ListedMessages { entries, listing }) => {
                 self.listing = listing;

@@ -118,7 +118,7 @@ impl<'a, R: Files + Clock + AllocGlobal + Clone + Drop> MaildirFolders<'a, R> {
     }
 
     /// The files of both folders at one moment, in order: each once, although others move files between
-    /// the two meanwhile. The error is TimedOut if `new` changes all the time.
+    /// the two meanwhile. Refused if `new` changes all the time.
     pub fn list(&self) -> io::Result<Vec<PlacedFile>> {
         let start = self.system.rt.monotonic()?;
         for _ in 0..MOST_LISTINGS {

@@ -226,6 +226,16 @@ impl<'a, R: Files + Clock + AllocGlobal + Clone + Drop> HostFolder<'a, R> {
         Ok(names)
     }
 
+    // Notes why the folder isn't used.
+    pub(crate) fn refuse_folder(&self, words: &str) {
+        match self.folder_path(self.folder) {
+            Ok(path) => {
+                let _ = self.system.refusals.refuse(path.as_str(), words);
+            }
+            Err(_) => self.system.refusals.forget(),
+        }
+    }
+
     fn look_up(&self, name: &str) -> io::Result<Metadata> {
         self.system.lstat(self.path_of(name)?.as_str())
     }
@@ -412,7 +422,7 @@ impl<'a, R: Files + Clock + AllocGlobal + Clone + Drop> HostFolder<'a, R> {
             Some(folder) => folder,
             None => self.system.open(self.folder_path(self.folder)?.as_str())?,
         };
-        flush_folder(&folder)?;
+        flush_folder(&folder, self.system.refusals)?;
         self.names = Some(folder);
         Ok(())
     }

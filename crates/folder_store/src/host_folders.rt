@@ -95,7 +95,7 @@ impl<'a, R: Files + Clock + AllocGlobal + Clone + Drop> MailFolders for HostFold
         ) {
             Ok(found) if found.is_dir() => Ok(()),
             Ok(_) => {
-                self.system.refusals.forget();
+                self.folder_mut(folder).host.refuse_folder("not a folder");
                 Err(StoreFault::Refused)
             }
             Err(fault) => Err(fault),
@@ -126,7 +126,11 @@ impl<'a, R: Files + Clock + AllocGlobal + Clone + Drop> MailFolders for HostFold
         if times == 0 {
             self.start = now;
         }
-        now.saturating_sub(self.start) < Duration::from_secs(MOST_SECONDS)
+        let may = now.saturating_sub(self.start) < Duration::from_secs(MOST_SECONDS);
+        if !may {
+            self.new_folder.host.refuse_folder("changes all the time");
+        }
+        may
     }
 
     fn has(&mut self, name: &str) -> Result<bool, StoreFault> {

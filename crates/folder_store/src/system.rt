@@ -8,7 +8,7 @@ use std::os::unix::fs::OpenOptionsExt;
 use std::rt::Files;
 use std::time::{Clock, SystemTime};
 use std::{fs, io};
-use trace::{System, Told};
+use trace::{Refusals, System, Told};
 
 /// How many seconds nothing is written to a file before it counts as left behind. A run at work waits
 /// for the server for three minutes at most.
@@ -27,10 +27,16 @@ pub fn make_file<'a, R: Files + AllocGlobal>(
 
 /// Flushes the names of a folder to the disk, so that they outlive a loss of power. A system that
 /// flushes no folders answers Ok.
-pub fn flush_folder<F: OpenFile>(folder: &F) -> io::Result<()> {
+pub fn flush_folder<F: OpenFile>(folder: &F, refusals: &Refusals) -> io::Result<()> {
     match folder.sync_all() {
-        Err(fault) if fault.kind() == ErrorKind::InvalidInput => Ok(()),
-        Err(fault) if fault.kind() == ErrorKind::Unsupported => Ok(()),
+        Err(fault)
+            if matches!(
+                fault.kind(),
+                ErrorKind::InvalidInput | ErrorKind::Unsupported
+            ) => {
+            refusals.forget();
+            Ok(())
+        }
         answer => answer,
     }
 }

@@ -1,6 +1,6 @@
 //! The TCP connection to the server.
 use fetch_rules::Settings;
-use getmail_program::{Errors, Failure, Reasons, failure_of};
+use getmail_program::{Errors, Failure, failure_of};
 use pop3_wire::StreamWire;
 use std::alloc::{AllocError, Global};
 use std::io::{self, Stderr};
@@ -63,16 +63,27 @@ pub fn connect<'a>(
 #[derive(Drop)]
 pub struct Peer {
     name: String,
-    password: Vec<u8>,
+    password: Option<Vec<u8>>,
 }
 
-/// What the link needs. It is made before there is a connection, so that want of memory doesn't end one.
-pub fn peer_of(alloc: Global, settings: &Settings) -> Result<Peer, AllocError> {
+/// What the link needs, which is nothing if nothing is shown of it. It is made before there is a connection,
+/// so that want of memory doesn't end one.
+pub fn peer_of(
+    alloc: Global,
+    settings: &Settings,
+    errors: &Errors<'_, Stderr>,
+) -> Result<Peer, AllocError> {
+    if !errors.says_why && errors.reasons.link.trace().is_none() {
+        return Ok(Peer {
+            name: String::new(alloc),
+            password: None,
+        });
+    }
     let server = settings.server.as_str();
     let port = settings.port;
     Ok(Peer {
         name: format!(in alloc; "{server}:{port}")?,
-        password: Vec::from_slice(alloc, settings.password.as_bytes())?,
+        password: Some(Vec::from_slice(alloc, settings.password.as_bytes())?),
     })
 }
 
@@ -96,5 +107,5 @@ pub fn link_over<'a>(
     } else {
         None
     };
-    TracedWire::new(alloc, wire, reasons.link.trace(), Some(password), denial)
+    TracedWire::new(alloc, wire, reasons.link.trace(), password, denial)
 }

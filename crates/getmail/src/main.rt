@@ -31,9 +31,13 @@ fn draw(rt: &HostRuntime) -> io::Result<(RandomState, ProcessMark)> {
 type Prepared = ((RandomState, ProcessMark), Peer);
 
 /// Prepares a run, so that nothing is refused for want of memory between the connection and the session.
-fn prepare<'a>(rt: &HostRuntime, settings: &Settings) -> Result<Prepared, Failure<'a>> {
+fn prepare<'a>(
+    rt: &HostRuntime,
+    settings: &Settings,
+    errors: &Errors<'_, Stderr>,
+) -> Result<Prepared, Failure<'a>> {
     match draw(rt) {
-        Ok(drawn) => Ok((drawn, peer_of(rt.alloc(), settings)?)),
+        Ok(drawn) => Ok((drawn, peer_of(rt.alloc(), settings, errors)?)),
         Err(error) => Err(failure_of(error, Failure::CannotRead)),
     }
 }
@@ -44,7 +48,7 @@ fn fetch(rt: &HostRuntime, setup: Setup, errors: Errors<'_, Stderr>) -> u8
     ensures { result ≤ 2 }
 {
     let settings = &setup.settings;
-    let (drawn, peer) = match prepare(rt, settings) {
+    let (drawn, peer) = match prepare(rt, settings, &errors) {
         Ok(prepared) => prepared,
         Err(failure) => return fail(rt, failure, None, &errors),
     };

@@ -14,7 +14,7 @@ mod wire;
 pub use command::{commands_hide_passwords, shown_answer, shown_command};
 pub use denial::Denial;
 pub use line::line_text;
-pub use refusal::{refusal_text, tell_refusal};
+pub use refusal::refusal_text;
 pub use refusals::{Refusal, Refusals};
 pub use system::System;
 pub use told::Told;

@@ -61,8 +61,10 @@ impl<'a, R: Files + AllocGlobal> System<'a, R> {
     pub fn rename(&self, from: &str, to: &str) -> io::Result<()> {
         let answer = fs::rename(self.rt, from, to);
         if answer.is_err() {
-            let paths = format!(in self.rt.alloc(); "{from} to {to}")?;
-            return self.refusals.told("rename", paths.as_str(), answer);
+            if let Ok(paths) = format!(in self.rt.alloc(); "{from} to {to}") {
+                return self.refusals.told("rename", paths.as_str(), answer);
+            }
+            self.refusals.forget();
         }
         answer
     }

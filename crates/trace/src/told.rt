@@ -31,7 +31,12 @@ impl<'a, S> Told<'a, S> {
     {
         match &self.path {
             Some(path) => self.refusals.told(call, path.as_str(), answer),
-            None => answer,
+            None => {
+                if answer.is_err() {
+                    self.refusals.forget();
+                }
+                answer
+            }
         }
     }
 }

@@ -5,7 +5,7 @@ use Rattle.mail_store.specs.MboxCalls.{AppendsEntry}
 use Rattle.mail_store.specs.declared.fault.EntryFault.{EntryFault}
 use Rattle.mail_store.specs.Mboxrd.{entry_of}
 use Rattle.mail_store.specs.Power.{KeepsWhole}
-use Rattle.fetch_session.specs.Lasting.{AreLeft, IsSafe, KeepsRows, Leaves}
+use Rattle.fetch_session.specs.Lasting.{AreLeft, IsSafe, RowsStillLast, Leaves}
 use Rattle.fetch_session.specs.Mbox.{IsIntended}
 use Rattle.fetch_session.specs.Record.{TakesBack, held_in, intent_at, with_open}
 use Rattle.fetch_session.proofs.LastLemmas.{no_more_keeps, same_left}
@@ -164,9 +164,9 @@ whole g c m before bytes is front =
     (no_more_keeps (g.F.FlatFile.stored c.args.mbox.now).content (c.edges.ensures.keeps before) bytes is front)
 
 -- the rows after the intent was closed, or not
-closed : (g : Over) (c : After-take_back g) → g.F.FlatFile.sound c.take_back.new.file → g.F.FlatFile.sound c.intend.new.file → KeepsRows g.F.FlatFile c.args.ledger.now.seen.rows c.args.ledger.now.file c.take_back.new.file
+closed : (g : Over) (c : After-take_back g) → g.F.FlatFile.sound c.take_back.new.file → g.F.FlatFile.sound c.intend.new.file → RowsStillLast g.F.FlatFile c.args.ledger.now.seen.rows c.args.ledger.now.file c.take_back.new.file
 closed g c f before last =
-    subst (λ (r : List Row). KeepsRows g.F.FlatFile r c.intend.new.file c.take_back.new.file) c.intend.ensures.rows (c.take_back.ensures.keeps f)
+    subst (λ (r : List Row). RowsStillLast g.F.FlatFile r c.intend.new.file c.take_back.new.file) c.intend.ensures.rows (c.take_back.ensures.keeps f)
     ((c.intend.ensures.keeps before).0 c.args.ledger.now.seen.rows last)
 
 pub returns-in-Ok-append_entry-clause-keeps : goal.returns-in-Ok-append_entry-clause-keeps
