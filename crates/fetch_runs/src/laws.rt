@@ -170,8 +170,7 @@ pub fn takings_keep_power<D: MaildirDisk, F: FlatFile>()
     headline();
 }
 
-/// So it is after a session, whatever cut it, if it was before, except for one that was cut while it
-/// prepared its record.
+/// So it is after a session, if it was before, unless the session was cut while it prepared its record.
 pub fn sessions_and_power<D: MaildirDisk, F: FlatFile>()
     ensures { SessionsAndPower D.MaildirDisk F.FlatFile }
 {
