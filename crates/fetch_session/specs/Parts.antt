@@ -82,7 +82,8 @@ pub record KeepsStore {D F H Z : Type 0} (disk : DiskGhosts D) (file : FileGhost
   pub calm : is_sound disk file new.store → is_sound disk file old.store × ((stores_of disk file new.store).maildir.begun ≡ None)
 
 -- a part of a session that has these tasks: it takes and notes no more than they may, and what a loss of power would have left it still
--- leaves; without a mark the record's file is as it was; and if all went well, what was safe is safe, and what was ready for these tasks and others is ready for the others
+-- leaves; without a mark the record's file is as it was; and if all went well, what was safe is safe, and what was ready for these tasks
+-- and others is ready for the others
 pub record KeepsSession {W D F H Z : Type 0} (link : WireGhosts W) (disk : DiskGhosts D) (file : FileGhosts F) (account : List ℕ)
     (tasks : List Task) (client : Client W) (work : Work D F H Z) (result : Result (Unit {0}) Cut) (client' : Client W)
     (work' : Work D F H Z) : Type 0 where
