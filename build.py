@@ -99,7 +99,8 @@ class Build:
 
     def begin(self):
         ready, most = self.ready(), most_at_once()
-        jobs = max(1, processors() // max(1, min(most, len(ready) + len(self.runs))))
+        # a crate that is begun beside others has processors left once these have ended
+        jobs = max((processors() + 1) // 2, processors() // max(1, min(most, len(ready) + len(self.runs))))
         for crate in ready[:max(0, most - len(self.runs))]:
             lines = {name: line for name, line in self.lines.items() if name in {crate, *self.below[crate]}}
             self.runs.append(Run(self.room, crate, lines, jobs))
