@@ -262,11 +262,11 @@ digits_behind account name marked None e h = λ digits same. h digits (append_ca
 digits_behind account name marked (Some rest) e h = e ∙ ap (λ (xs : List ℕ). account ++ xs) h
 
 -- what follows a front that was taken off a text
-pub text_behind_is : (text front : List ℕ) (r : Option (Bor (List ℕ)))
+pub text_after_is : (text front : List ℕ) (r : Option (Bor (List ℕ)))
     → MatchOption r (FindsTextPrefix front text None) (λ rest. StripsPrefix (FindsTextPrefix front) text rest.now)
     → MatchOption r ((rest : List ℕ) → text ≢ front ++ rest) (λ rest. text ≡ front ++ rest.now)
-text_behind_is text front None h = h
-text_behind_is text front (Some rest) h = h.1.1 ∙ ap (λ (xs : List ℕ). front ++ xs) (sym h.2)
+text_after_is text front None h = h
+text_after_is text front (Some rest) h = h.1.1 ∙ ap (λ (xs : List ℕ). front ++ xs) (sym h.2)
 
 -- if no id has this text, no id has the stem that ends in it
 pub none_named : {E : Type 0} {B : Type 0} (account name digits : List ℕ) (r : Result (Option (Vec ℕ B)) E) → name ≡ account ++ 46 ∷ digits

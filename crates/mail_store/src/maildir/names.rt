@@ -125,23 +125,8 @@ pub fn unheld_ids_are_not_there()
         → IsThere maildir (name_of account uid size) → ⊥ }
 {}
 
-/// What follows `front` in bytes that begin with it.
-fn behind<'a>(front: &[u8], bytes: &'a [u8]) -> Option<&'a [u8]>
-    ensures { MatchOption result ((rest : List ℕ) → bytes.now ≢ front.now ++ rest) (λ rest. bytes.now ≡ front.now ++ rest.now) }
-{
-    bytes.strip_prefix(front)
-}
-
-/// What follows the account's digits and a full stop in a name, if it begins with them.
-fn digits_in<'a>(account: &AccountId, name: &'a [u8]) -> Option<&'a [u8]>
-    ensures { MatchOption result ((digits : List ℕ) → name.now ≢ account.now ++ 46 ∷ digits)
-        (λ digits. name.now ≡ account.now ++ 46 ∷ digits.now) }
-{
-    behind(b".", behind(account.as_str().as_bytes(), name)?)
-}
-
 /// What follows `front` in a text that begins with it.
-fn text_behind<'a>(front: &str, text: &'a str) -> Option<&'a str>
+fn text_after<'a>(front: &str, text: &'a str) -> Option<&'a str>
     ensures { MatchOption result ((rest : List ℕ) → text.now ≢ front.now ++ rest) (λ rest. text.now ≡ front.now ++ rest.now) }
 {
     text.strip_prefix(front)
@@ -152,7 +137,7 @@ pub fn id_digits<'a>(account: &str, stem: &'a str) -> Option<&'a str>
     ensures { MatchOption result ((digits : List ℕ) → stem.now ≢ account.now ++ 46 ∷ digits)
         (λ digits. stem.now ≡ account.now ++ 46 ∷ digits.now) }
 {
-    text_behind(".", text_behind(account, stem)?)
+    text_after(".", text_after(account, stem)?)
 }
 
 /// The legal id whose lower-case hexadecimal text is this, else None.
@@ -186,8 +171,8 @@ pub fn uid_of(alloc: Global, account: &AccountId, name: &str) -> Result<Option<V
     ensures some { IfOk result (λ id. IfSome id (λ uid. IsLegalId uid.items × (stem_of account.now uid.items ≡ stem name.now))) }
     ensures none { IfOk result (λ id. IfNone id ((uid : List ℕ) → IsLegalId uid → stem_of account.now uid ≢ stem name.now)) }
 {
-    match digits_in(account, stem(name).as_bytes()) {
-        Some(digits) => decode_id(alloc, digits),
+    match id_digits(account.as_str(), stem(name)) {
+        Some(digits) => decode_id(alloc, digits.as_bytes()),
         None => Ok(None),
     }
 }
