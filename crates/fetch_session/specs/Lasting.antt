@@ -18,12 +18,14 @@ use Rattle.fetch_rules.specs.Plan.{IsQuiet, planned}
 use Rattle.fetch_session.specs.declared.account.Store.{Store}
 use Rattle.fetch_session.specs.declared.account.Store.TheVariants.{Maildir as InMaildir, Mboxrd as InMbox}
 use Rattle.fetch_session.specs.declared.fault.Cut.{Cut}
+use Rattle.fetch_session.specs.declared.fault.Fault.{Fault}
+use Rattle.fetch_session.specs.declared.readiness.Ready.{Ready}
 use Rattle.fetch_session.specs.declared.report.Report.{Report}
 use Rattle.fetch_session.specs.declared.report.ReportLine.{ReportLine}
 use Rattle.fetch_session.specs.declared.report.Skips.{Skips}
 use Rattle.fetch_session.specs.declared.work.Work.{Work}
 use Rattle.fetch_session.specs.Plan.{Carried, Unprepared, tasks_ahead}
-use Rattle.fetch_session.specs.Readiness.{merged_in}
+use Rattle.fetch_session.specs.Readiness.{Readies, merged_in}
 use Rattle.fetch_session.specs.Record.{Keeps, Steady, held}
 use Rattle.fetch_session.specs.Report.{Reports, none_skipped}
 use Rattle.fetch_session.specs.Scene.{Scene, scene, Does}
@@ -192,6 +194,10 @@ abbrev pub LeavesMerged : {F : Type 0} → FileGhosts F → List Row → List Ro
 LeavesMerged files rows others from f = (left : Option (List ℕ)) → files.may_leave f left
     → files.may_leave from left ⊎ (AreLeft rows others left ⊎ AreLeft others others left)
 
+-- of what was appended to the record's file no more may be left than a part
+abbrev pub LeavesLeft : {F : Type 0} → FileGhosts F → Held → List ℕ → F → F → Type 0
+LeavesLeft files was added from f = (left : Option (List ℕ)) → files.may_leave f left → files.may_leave from left ⊎ IsLeft was added left
+
 -- a record was merged, or was about to be: each file of a Maildir stays
 pub record MergeLasts {D F : Type 0} (disk : DiskGhosts D) (files : FileGhosts F) (target : Target) (items : List Item) (now : ℕ)
     (old : Stores) (file : Stored) (store : Store D F) (from f : F) : Type 0 where
@@ -206,6 +212,23 @@ pub record UnreadyLasts {D F : Type 0} (disk : DiskGhosts D) (files : FileGhosts
     (items : List Item) (now : ℕ) (old : Stores) (file : Stored) (store : Store D F) (f : F) : Type 0 where
   pub mail : KeepsLeftIn disk files was old.maildir.files store
   pub rows : LeavesNoMore (files.may_leave from) (files.may_leave f) ⊎ MergeLasts disk files target items now old file store from f
+
+-- what is ready outlives a loss of power: nothing is to be fetched or deleted and nothing was written; or the record's file is safe, and
+-- what is left of the store stays
+abbrev pub ReadyLasts : {D F : Type 0} → DiskGhosts D → FileGhosts F → Store D F → F → Target → List Item → ℕ → Stores → Result Ready Fault
+    → Store D F → F → Type 0
+ReadyLasts disk files was from target items now old (Ok ready) store f =
+    (All IsQuiet ready.steps.items × IsUntouched disk files was store from f)
+    ⊎ ((IsSafe files f × IsSafeStore files store) × AllStayIn disk store × KeepsLeftIn disk files was old.maildir.files store)
+ReadyLasts disk files was from target items now old (Err fault) store f =
+    UnreadyLasts disk files was from target items now old (files.stored from) store f
+
+-- as `Readies`, with what outlives a loss of power if this premise holds
+pub record ReadiesForGood {D F : Type 0} (disk : DiskGhosts D) (files : FileGhosts F) (safe : Type 0) (was : Store D F) (from : F)
+    (settings : Settings) (target : Target) (items : List Item) (now : ℕ) (old : Stores) (result : Result Ready Fault) (after : List Row)
+    (store : Store D F) (f : F) : Type 0 where
+  pub readies : Readies settings target items now old (files.stored from) result after (stores_of disk files store) (files.stored f)
+  pub lasts : safe → ReadyLasts disk files was from target items now old result store f
 
 -- the record wasn't ready, as `Unprepared` says; and if no flush was refused before, this is left
 pub record UnpreparedForGood {D F : Type 0} (disk : DiskGhosts D) (files : FileGhosts F) (was : Store D F) (from : F) (target : Target)
