@@ -2,8 +2,9 @@
 use Rattle.std.proofs.Common.{◌≡◌, ◌⊎◌, inl, inr, ℕ, List, Option, Result, Ok, Err, sym, ap, subst, ◌∙◌}
 use Rattle.std.specs.Prelude.{All, IfOk}
 use Rattle.fetch_rules.specs.Plan.{IsQuiet}
-use Rattle.fetch_rules.specs.Record.{Intent, Row}
+use Rattle.fetch_rules.specs.Record.{Intent, Loaded, Row}
 use Rattle.fetch_rules.specs.declared.steps.Step.{Step}
+use Rattle.mail_store.specs.FlatFile.{Stored}
 use Rattle.mail_store.specs.Maildir.{File, Maildir}
 use Rattle.mail_store.specs.Power.{LeavesNoMore}
 use Rattle.mail_store.specs.declared.file.flat_file.FlatFile.{Ghosts as FileGhosts}
@@ -13,13 +14,25 @@ use Rattle.rc_file.specs.declared.settings.Settings.{Settings}
 use Rattle.fetch_session.specs.declared.account.Store.{Store}
 use Rattle.fetch_session.specs.declared.account.Store.TheVariants.{Maildir as InMaildir, Mboxrd as InMbox}
 use Rattle.fetch_session.specs.declared.fault.Fault.{Fault}
-use Rattle.fetch_session.specs.declared.fault.Fault.TheVariants.{NoMemory, StoreRefused}
+use Rattle.fetch_session.specs.declared.fault.Fault.TheVariants.{BadSeen, NoMemory, SeenRefused, StoreRefused}
 use Rattle.fetch_session.specs.declared.fault.Why.TheVariants as why
 use Rattle.fetch_session.specs.declared.readiness.Found.{Found}
 use Rattle.fetch_session.specs.declared.readiness.Ready.{Ready}
 use Rattle.fetch_session.specs.Lasting.{KeepsLeftIn, KeepsMailIn, MergeLasts, ReadiesForGood, ReadyLasts, UnreadyLasts}
 use Rattle.fetch_session.specs.Readiness.{FindsIn}
+use Rattle.fetch_session.specs.Record.{IsSecured, Reads}
 use Rattle.fetch_session.specs.Target.{AsFiles, Stores, Target, in_maildir, left_in, stores_of, target_of}
+
+-- a record's file that couldn't be read or flushed has the same bytes
+pub misread_same : (old new : Stored) (loaded : Loaded) (fault : Fault) → Reads old loaded (Err fault) new → new.content ≡ old.content
+misread_same old new loaded SeenRefused is = ap (λ (s : Stored). s.content) is
+misread_same old new loaded (BadSeen line) is = ap (λ (s : Stored). s.content) is.3
+misread_same old new loaded NoMemory is = ap (λ (s : Stored). s.content) is
+misread_same old new loaded _ never = absurd never
+
+pub unsecured_same : (old new : Stored) (fault : Fault) → IsSecured old (Err fault) new → new.content ≡ old.content
+unsecured_same old new SeenRefused is = ap (λ (s : Stored). s.content) is
+unsecured_same old new _ never = absurd never
 
 module _ {D F : Type 0} (disk : DiskGhosts D) (files : FileGhosts F) where
   -- ---- a Maildir
@@ -65,7 +78,7 @@ module _ {D F : Type 0} (disk : DiskGhosts D) (files : FileGhosts F) where
   rest_lasts was store from f target items now old (Ok ready) steps keeps no_more same quiet are =
       inl (subst (λ (ss : List Step). All IsQuiet ss) (sym are) quiet, record { mail = keeps; no_more = no_more; same = same })
   rest_lasts was store from f target items now old (Err fault) steps keeps no_more same quiet are =
-      record { mail = left_same was store old.maildir.files keeps; rows = inl no_more }
+      record { mail = left_same was store old.maildir.files keeps; rows = inl (no_more, ap (λ (s : Stored). s.content) same) }
 
   -- the same if the record's file was read and flushed before
   module _ (from mid f : F) (no_more : LeavesNoMore (files.may_leave from) (files.may_leave mid)) (same : files.stored mid ≡ files.stored from) where
@@ -73,9 +86,10 @@ module _ {D F : Type 0} (disk : DiskGhosts D) (files : FileGhosts F) where
         → UnreadyLasts disk files was mid target items now old (files.stored mid) store f → UnreadyLasts disk files was from target items now old (files.stored from) store f
     unready_from was store target items now old lasts = record { mail = lasts.mail; rows = rows }
       where
-        rows : LeavesNoMore (files.may_leave from) (files.may_leave f) ⊎ MergeLasts disk files target items now old (files.stored from) store from f
+        rows : (LeavesNoMore (files.may_leave from) (files.may_leave f) × ((files.stored f).content ≡ (files.stored from).content))
+            ⊎ MergeLasts disk files target items now old (files.stored from) store from f
         rows = elim lasts.rows [
-          | inl none ↦ inl (λ left may. no_more left (none left may))
+          | inl (none, is) ↦ inl (λ left may. no_more left (none left may), is ∙ ap (λ (s : Stored). s.content) same)
           | inr merge ↦ inr (record {
             stay = merge.stay;
             was = merge.was;

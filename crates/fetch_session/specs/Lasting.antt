@@ -207,11 +207,12 @@ pub record MergeLasts {D F : Type 0} (disk : DiskGhosts D) (files : FileGhosts F
   pub leaves : LeavesMerged files was.rows (merged_in target old was items now) from f
 
 -- what a session leaves that was cut while it prepared the record: of a Maildir the same, except for what readers took away; and of the
--- record's file no more than before, or what a merge leaves
+-- record's file, if it was not written, no more than before; or what a merge leaves
 pub record UnreadyLasts {D F : Type 0} (disk : DiskGhosts D) (files : FileGhosts F) (was : Store D F) (from : F) (target : Target)
     (items : List Item) (now : ℕ) (old : Stores) (file : Stored) (store : Store D F) (f : F) : Type 0 where
   pub mail : KeepsLeftIn disk files was old.maildir.files store
-  pub rows : LeavesNoMore (files.may_leave from) (files.may_leave f) ⊎ MergeLasts disk files target items now old file store from f
+  pub rows : (LeavesNoMore (files.may_leave from) (files.may_leave f) × ((files.stored f).content ≡ file.content))
+      ⊎ MergeLasts disk files target items now old file store from f
 
 -- what is ready outlives a loss of power: nothing is to be fetched or deleted and nothing was written; or the record's file is safe, and
 -- what is left of the store stays

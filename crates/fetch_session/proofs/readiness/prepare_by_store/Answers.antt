@@ -30,7 +30,7 @@ returns-in-Err-clause-readies g c = λ d f.
               file file seen c.in-Err.fault (c.requires.stands f) refl finds.1.2;
           lasts = λ safe. record {
             mail = left_found g.D.MaildirDisk g.F.FlatFile was c.ask_store.new.store c.args.terms.account.now seen.intent c.args.listing.now (Err c.in-Err.fault) finds.1.0 finds.1.2 (c.in-Err.ensures.keeps d);
-            rows = inl (λ left may. may);
+            rows = inl (λ left may. may, refl);
           };
         },
       ),
