@@ -189,16 +189,17 @@ abbrev pub KeepsLeftIn : {D F : Type 0} → DiskGhosts D → FileGhosts F → St
 KeepsLeftIn disk files was left store = KeepsLeft (stores_of disk files was).maildir.files left (stays_in disk was) (outlives_in disk was)
     (stays_in disk store) (outlives_in disk store)
 
--- of the record's file may be left what may have been left before, these rows, perhaps with a part of what makes others of them, or the others
+-- what may be left of the record's file could be left before, or it is these rows, perhaps with a part of what makes those others of them,
+-- or it is the others
 abbrev pub LeavesMerged : {F : Type 0} → FileGhosts F → List Row → List Row → F → F → Type 0
 LeavesMerged files rows others from f = (left : Option (List ℕ)) → files.may_leave f left
     → files.may_leave from left ⊎ (AreLeft rows others left ⊎ AreLeft others others left)
 
--- of what was appended to the record's file no more may be left than a part
+-- what may be left of the record's file could be left before, or a part of what was appended stands behind what the file had
 abbrev pub LeavesLeft : {F : Type 0} → FileGhosts F → Held → List ℕ → F → F → Type 0
 LeavesLeft files was added from f = (left : Option (List ℕ)) → files.may_leave f left → files.may_leave from left ⊎ IsLeft was added left
 
--- a record was merged, or was about to be: each file of a Maildir stays
+-- the record was merged, or was to be, after each file of a Maildir was on the disk
 pub record MergeLasts {D F : Type 0} (disk : DiskGhosts D) (files : FileGhosts F) (target : Target) (items : List Item) (now : ℕ)
     (old : Stores) (file : Stored) (store : Store D F) (from f : F) : Type 0 where
   pub stay : AllStayIn disk store
