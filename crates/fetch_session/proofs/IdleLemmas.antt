@@ -13,8 +13,6 @@ use Rattle.mail_store.specs.FileName.{is_held}
 use Rattle.mail_store.specs.declared.maildir.disk.MaildirDisk.{Ghosts as DiskGhosts}
 use Rattle.mail_store.specs.declared.file.flat_file.FlatFile.{Ghosts as FileGhosts}
 use Rattle.fetch_session.specs.declared.fault.Fault.{Fault}
-use Rattle.fetch_session.specs.declared.fault.Fault.TheVariants.{NoMemory, StoreRefused}
-use Rattle.fetch_session.specs.declared.fault.Why.TheVariants as why
 use Rattle.mail_store.specs.Maildir.{Maildir}
 use Rattle.mail_store.specs.declared.fault.StoreFault.{StoreFault}
 use Rattle.mail_store.specs.declared.fault.StoreFault.TheVariants as refused
@@ -125,21 +123,12 @@ rest_has_plan settings items now seen (Ok ready) steps law idle closed same held
 }
 rest_has_plan settings items now seen (Err fault) steps law idle closed same held = tt
 
-none_begun : (kind : Kind) (items : List Item) (old new : Stores) (r : Result Ready Fault) → Rests kind old items r new → new.maildir.begun ≡ old.maildir.begun
-none_begun Files items old new (Ok ready) ((news, curs, same), others) = ap (λ (m : Maildir). m.begun) same
-none_begun Files items old new (Err (StoreRefused why.Missing)) is = ap (λ (m : Maildir). m.begun) is.1
-none_begun Files items old new (Err (StoreRefused why.Refused)) is = ap (λ (m : Maildir). m.begun) is
-none_begun Files items old new (Err NoMemory) is = ap (λ (m : Maildir). m.begun) is
-none_begun Files items old new (Err _) never = absurd never
-none_begun Entries items old new (Ok ready) is = ap (λ (m : Maildir). m.begun) is.1
-none_begun Entries items old new (Err fault) is = ap (λ (m : Maildir). m.begun) is.1
-
-pub rest_stays : (r : Result Ready Fault) (kind : Kind) (target : Target) (steps : List Step) (items : List Item) (old new : Stores) → All IsQuiet steps
-    → IfOk r (λ ready. ready.steps.items ≡ steps) → IfOk r (λ ready. length ready.held.items ≡ length items) → Rests kind old items r new
-    → (new.maildir.begun ≡ old.maildir.begun) × IfOk r (λ ready. AreAsHeld ready.steps.items items ready.held.items (flags_in target new items))
-rest_stays (Ok ready) kind target steps items old new quiet same held rests =
-    (none_begun kind items old new (Ok ready) rests, quiet_same ready.steps.items items ready.held.items (flags_in target new items) (subst (λ (ss : List Step). All IsQuiet ss) (sym same) quiet) held (flags_length target new items))
-rest_stays (Err fault) kind target steps items old new quiet same held rests = (none_begun kind items old new (Err fault) rests, tt)
+pub rest_held : (r : Result Ready Fault) (target : Target) (steps : List Step) (items : List Item) (new : Stores) → All IsQuiet steps
+    → IfOk r (λ ready. ready.steps.items ≡ steps) → IfOk r (λ ready. length ready.held.items ≡ length items)
+    → IfOk r (λ ready. AreAsHeld ready.steps.items items ready.held.items (flags_in target new items))
+rest_held (Ok ready) target steps items new quiet same held =
+    quiet_same ready.steps.items items ready.held.items (flags_in target new items) (subst (λ (ss : List Step). All IsQuiet ss) (sym same) quiet) held (flags_length target new items)
+rest_held (Err fault) target steps items new quiet same held = tt
 
 pub rested : {D F : Type 0} (disk : DiskGhosts D) (files : FileGhosts F) (account : List ℕ) {settings : Settings} {items : List Item} {now : ℕ} (store : Store D F) (new : Stores) (file read : Stored) (loaded : Loaded)
     (r : Result Ready Fault) (steps : List Step)
