@@ -28,18 +28,19 @@ use Rattle.mail_store.specs.declared.maildir.disk.MaildirDisk.{Ghosts as DiskGho
 use Rattle.mail_store.specs.declared.file.flat_file.FlatFile.{Ghosts as FileGhosts}
 use Rattle.fetch_session.specs.declared.account.Store.{Store}
 use Rattle.fetch_session.specs.declared.account.Store.TheVariants.{Maildir as InMaildir, Mboxrd as InMbox}
-use Rattle.fetch_session.specs.Lasting.{AllStayIn, AreSure, CarriedForGood, DoesForGood, IsUntouched, KeepsMailIn, Lasts, StayFrom}
+use Rattle.fetch_session.specs.Lasting.{AllStayIn, AreSure, CarriedForGood, DoesForGood, IsUntouched, KeepsLeftIn, KeepsMailIn, Lasts, MailLasts, StayFrom}
 use Rattle.std.specs.List.{AllByRecursion}
 use Rattle.std.proofs.lemmas.List.Elements.{recursion_from_All}
 use Rattle.fetch_session.proofs.FreshLemmas.{ahead}
 use Rattle.fetch_session.proofs.LastLemmas.{keeps_mail_on}
+use Rattle.fetch_session.proofs.UnreadyLemmas.{left_on}
 
 pub planned_length : (settings : Settings) (rows : List Row) (items : List Item) (now : ℕ) → length (planned settings rows items now) ≡ length items
 planned_length settings rows items now = length-map (numbered items) (step_of settings rows items now) ∙ length-enumerate_from 1 items
 
-pub unprepared : {target : Target} {items : List Item} {now : ℕ} {place : Place} {store : Stores} {file : Stored} {lines : List ReportLine} {fault : Fault} {cut : Cut} {store' : Stores} {file' : Stored}
-    → cut ≡ cut_of fault None → Unready target items now store file fault store' file' → Unprepared target items now place store file lines cut (scene place store' file' [] lines)
-unprepared plain why = rw plain (record { none = refl; unready = why; place_is = refl; lines_are = refl })
+pub unprepared : {target : Target} {items : List Item} {now : ℕ} {place : Place} {store : Stores} {file : Stored} {lines : List ReportLine} {fault : Fault} {cut : Cut} {store' : Stores} {file' : Stored} {lines' : List ReportLine}
+    → cut ≡ cut_of fault None → lines' ≡ lines → Unready target items now store file fault store' file' → Unprepared target items now place store file lines cut (scene place store' file' [] lines')
+unprepared plain same why = rw plain (record { none = refl; unready = why; place_is = refl; lines_are = same })
 
 -- the files that were there stay
 pub stay_from : {D F : Type 0} (disk : DiskGhosts D) (files : FileGhosts F) (target : Target) (was : Held) (items : List Item) (old : Stores) (mid end : Store D F)
@@ -67,31 +68,32 @@ quiet_ids (s ∷ ss) (i ∷ is) (h ∷ hs) quiet =
 
 -- the planned tasks and QUIT were done once the record was ready, or as far as went well
 pub carried : {D F : Type 0} (disk : DiskGhosts D) (files : FileGhosts F) {safe : Type 0} {settings : Settings} {target : Target} {items : List Item} {now : ℕ} {place : Place} {store : Stores} {file : Stored} {lines : List ReportLine} {ready : Ready} {after : List Row}
-    (was before : Store D F) {end : Store D F} (from mid_file : F) {f : F} {file' : Stored} (steps : List Step) (held : List Bool) {skipped : Skips} {r : Result (Unit {0}) Cut} {new : Scene}
-    → IsReady settings target items now store file ready after (stores_of disk files before) file' → steps ≡ ready.steps.items → held ≡ ready.held.items → skipped ≡ skips_of settings after items now ready.steps.items
-    → (AreSure files was from → (All IsQuiet ready.steps.items × IsUntouched disk files was before from mid_file) ⊎ (safe × AllStayIn disk before)) → KeepsMailIn disk before end
+    (was before : Store D F) {end : Store D F} (from mid_file : F) {f : F} {file' : Stored} (mid_lines : List ReportLine) (steps : List Step) (held : List Bool) {skipped : Skips} {r : Result (Unit {0}) Cut} {new : Scene}
+    → mid_lines ≡ lines → IsReady settings target items now store file ready after (stores_of disk files before) file' → steps ≡ ready.steps.items → held ≡ ready.held.items → skipped ≡ skips_of settings after items now ready.steps.items
+    → (AreSure files was from → (All IsQuiet ready.steps.items × IsUntouched disk files was before from mid_file) ⊎ (safe × AllStayIn disk before × KeepsLeftIn disk files was store.maildir.files before)) → KeepsMailIn disk before end
     → (ids_ahead (tasks_planned steps items held) ≡ [] → f ≡ mid_file)
-    → DoesForGood disk files safe target (tasks_planned steps items held ++ says quit ∷ []) (scene place (stores_of disk files before) file' after lines) r new end f
+    → DoesForGood disk files safe target (tasks_planned steps items held ++ says quit ∷ []) (scene place (stores_of disk files before) file' after mid_lines) r new end f
     → CarriedForGood disk files was from settings target items now place store file lines r new skipped end f
-carried {D} {F} disk files {safe} {settings} {target} {items} {now} {place} {store} {file} {lines} {ready} {after} was before {end} from mid_file {f} {file'} steps held {skipped} {r} {new} is steps_are held_are skipped_is firm keeps same_file does =
-    let mid : Scene = scene place (stores_of disk files before) file' after lines in
+carried {D} {F} disk files {safe} {settings} {target} {items} {now} {place} {store} {file} {lines} {ready} {after} was before {end} from mid_file {f} {file'} mid_lines steps held {skipped} {r} {new} lines_are is steps_are held_are skipped_is firm keeps same_file does =
+    let mid : Scene = scene place (stores_of disk files before) file' after mid_lines in
     let good = rw (steps_are, held_are, is.held, is.steps) at does in
     record {
       carried = record {
         mid = mid;
-        prepared = record { was = is.was; stood = is.stood; rows = is.rows; saved = is.saved; file_count = is.file_count; place_is = refl; settles = is.settles; lines_are = refl };
+        prepared = record { was = is.was; stood = is.stood; rows = is.rows; saved = is.saved; file_count = is.file_count; place_is = refl; settles = is.settles; lines_are = lines_are };
         does = good.does;
         skips = skipped_is ∙ ap (skips_of settings after items now) is.steps;
       };
       lasts = λ sure. by (Lasts disk files target (tasks_ahead settings target items now store after) mid r new good.does end f) good.lasts (firm sure);
     }
   where
-    by : (P : Type 0) → (safe → P) → (All IsQuiet ready.steps.items × IsUntouched disk files was before from mid_file) ⊎ (safe × AllStayIn disk before)
-        → (All IsQuiet (planned settings after items now) × IsUntouched disk files was end from f) ⊎ (P × StayFrom disk target store end)
+    by : (P : Type 0) → (safe → P) → (All IsQuiet ready.steps.items × IsUntouched disk files was before from mid_file) ⊎ (safe × AllStayIn disk before × KeepsLeftIn disk files was store.maildir.files before)
+        → (All IsQuiet (planned settings after items now) × IsUntouched disk files was end from f) ⊎ (P × MailLasts disk files was target store end)
     by P good (inl (quiet, still)) =
         let same = same_file (quiet_ids steps items held (subst (λ (ss : List Step). AllByRecursion IsQuiet ss) (sym steps_are) (recursion_from_All IsQuiet ready.steps.items quiet))) in
         inl (
           subst (λ (ss : List Step). All IsQuiet ss) is.steps quiet,
           subst (λ (g : F). IsUntouched disk files was end from g) (sym same) (record { mail = keeps_mail_on still.mail keeps; no_more = still.no_more; same = still.same }),
         )
-    by P good (inr (s, all)) = inr (good s, stay_from disk files target is.was items store before end is.settles all keeps)
+    by P good (inr (s, all, left)) =
+        inr (good s, record { stay = stay_from disk files target is.was items store before end is.settles all keeps; keeps = left_on disk files was before end store.maildir.files left keeps })

@@ -1,20 +1,18 @@
 -- What is ready if the store needn't be asked what it holds.
-use Rattle.std.proofs.Common.{◌≡◌, ◌≢◌, ℕ, suc, Bool, true, false, List, [], ◌∷◌, ◌++◌, length, map, Option, None, Some, Ok, Err, refl, sym, ap, subst, ◌∙◌, arith}
-use Rattle.std.specs.Prelude.{All, Result, IfOk, IfSome, OnOk}
+use Rattle.std.proofs.Common.{◌≡◌, ℕ, suc, Bool, true, false, List, [], ◌∷◌, ◌++◌, length, Option, None, Some, Ok, Err, refl, sym, ap, subst, ◌∙◌, arith}
+use Rattle.std.specs.Prelude.{All, Result, IfOk, IfSome}
 use Rattle.std.specs.List.{AllByRecursion}
 use Rattle.std.proofs.lemmas.List.{length-map}
 use Rattle.mail_terms.specs.Listing.{Item}
 use Rattle.rc_file.specs.declared.settings.Settings.{Settings}
 use Rattle.fetch_rules.specs.Record.{Row, Held, Intent, IsRecord, Loaded, has_row, is_delivered, merged, none_open}
-use Rattle.fetch_rules.specs.Plan.{IsQuiet, planned}
+use Rattle.fetch_rules.specs.Plan.{IsQuiet}
 use Rattle.fetch_rules.specs.declared.steps.Step.{Step}
 use Rattle.mail_store.specs.FlatFile.{Stored}
 use Rattle.mail_store.specs.FileName.{is_held}
 use Rattle.mail_store.specs.declared.maildir.disk.MaildirDisk.{Ghosts as DiskGhosts}
 use Rattle.mail_store.specs.declared.file.flat_file.FlatFile.{Ghosts as FileGhosts}
 use Rattle.fetch_session.specs.declared.fault.Fault.{Fault}
-use Rattle.fetch_session.specs.declared.fault.Fault.TheVariants.{NoMemory, StoreRefused}
-use Rattle.fetch_session.specs.declared.fault.Why.TheVariants as why
 use Rattle.mail_store.specs.Maildir.{Maildir}
 use Rattle.mail_store.specs.declared.fault.StoreFault.{StoreFault}
 use Rattle.mail_store.specs.declared.fault.StoreFault.TheVariants as refused
@@ -22,11 +20,12 @@ use Rattle.fetch_session.specs.declared.account.Store.{Store}
 use Rattle.fetch_session.specs.declared.account.Store.TheVariants.{Maildir as InMaildir, Mboxrd as InMbox}
 use Rattle.fetch_session.specs.declared.readiness.Ready.{Ready}
 use Rattle.fetch_session.specs.Mbox.{AsksMbox, IsStoreFault}
-use Rattle.fetch_session.specs.Readiness.{AreAsHeld, ChecksStore, IsIdle, IsReady, Readies, Rests, Settles, Unready, merged_in}
+use Rattle.fetch_session.specs.Readiness.{AreAsHeld, ChecksStore, HasPlan, IsIdle, IsReady, Readies, Rests, Settles, Unready}
 use Rattle.fetch_session.specs.Record.{ReadAs, Steady, held_in}
-use Rattle.fetch_session.specs.Target.{Kind, Files, Entries, Target, AsFiles, AsEntries, Stores, flags_in, in_maildir, in_mbox, kind_of, none_held, rows_in, stores_of, target_of}
+use Rattle.fetch_session.specs.Target.{Kind, Files, Entries, Target, AsFiles, AsEntries, Stores, flags_in, in_maildir, in_mbox, kind_of, rows_in, stores_of, target_of}
 use Rattle.fetch_session.specs.Task.{Task, fetching, deleting, tasks_in, tasks_planned}
 use Rattle.fetch_session.proofs.MboxLemmas.{asks_refused, held_same}
+use Rattle.fetch_session.proofs.CarryLemmas.{planned_length}
 use Rattle.fetch_session.proofs.ReadyLemmas.{not_found}
 use Rattle.fetch_session.proofs.RecordLemmas.{read_keeps, read_steady}
 
@@ -113,31 +112,23 @@ known_have_rows law rows (item ∷ items) known =
 
 -- ---- whatever came of it
 
-pub whole : {A E : Type 0} {P : Type 0} (r : Result A E) → P → OnOk r P
-whole (Ok value) p = p
-whole (Err fault) p = tt
+pub rest_has_plan : (settings : Settings) (items : List Item) (now : ℕ) (seen : Loaded) (r : Result Ready Fault) (steps : List Step)
+    → ((rows : List Row) (uid : List ℕ) → is_delivered rows uid ≡ true → has_row rows uid ≡ true) → IsIdle settings seen.rows items now steps → seen.intent ≡ None
+    → IfOk r (λ ready. ready.steps.items ≡ steps) → IfOk r (λ ready. length ready.held.items ≡ length items) → IfOk r (λ ready. HasPlan settings items now ready seen)
+rest_has_plan settings items now seen (Ok ready) steps law idle closed same held = record {
+  steps = same ∙ idle.planned;
+  lengths = (ap length (same ∙ idle.planned) ∙ planned_length settings seen.rows items now, held);
+  rows = known_have_rows law seen.rows items idle.known;
+  closed = closed;
+}
+rest_has_plan settings items now seen (Err fault) steps law idle closed same held = tt
 
-pub rest_lengths : (r : Result Ready Fault) (steps : List Step) (items : List Item) → length steps ≡ length items
+pub rest_held : (r : Result Ready Fault) (target : Target) (steps : List Step) (items : List Item) (new : Stores) → All IsQuiet steps
     → IfOk r (λ ready. ready.steps.items ≡ steps) → IfOk r (λ ready. length ready.held.items ≡ length items)
-    → IfOk r (λ ready. (length ready.steps.items ≡ length items) × (length ready.held.items ≡ length items))
-rest_lengths (Ok ready) steps items counted same held = (ap length same ∙ counted, held)
-rest_lengths (Err fault) steps items counted same held = tt
-
-none_begun : (kind : Kind) (items : List Item) (old new : Stores) (r : Result Ready Fault) → Rests kind old items r new → new.maildir.begun ≡ old.maildir.begun
-none_begun Files items old new (Ok ready) ((news, curs, same), others) = ap (λ (m : Maildir). m.begun) same
-none_begun Files items old new (Err (StoreRefused why.Missing)) is = ap (λ (m : Maildir). m.begun) is.1
-none_begun Files items old new (Err (StoreRefused why.Refused)) is = ap (λ (m : Maildir). m.begun) is
-none_begun Files items old new (Err NoMemory) is = ap (λ (m : Maildir). m.begun) is
-none_begun Files items old new (Err _) never = absurd never
-none_begun Entries items old new (Ok ready) is = ap (λ (m : Maildir). m.begun) is.1
-none_begun Entries items old new (Err fault) is = ap (λ (m : Maildir). m.begun) is.1
-
-pub rest_stays : (r : Result Ready Fault) (kind : Kind) (target : Target) (steps : List Step) (items : List Item) (old new : Stores) → All IsQuiet steps
-    → IfOk r (λ ready. ready.steps.items ≡ steps) → IfOk r (λ ready. length ready.held.items ≡ length items) → Rests kind old items r new
-    → (new.maildir.begun ≡ old.maildir.begun) × IfOk r (λ ready. AreAsHeld ready.steps.items items ready.held.items (flags_in target new items))
-rest_stays (Ok ready) kind target steps items old new quiet same held rests =
-    (none_begun kind items old new (Ok ready) rests, quiet_same ready.steps.items items ready.held.items (flags_in target new items) (subst (λ (ss : List Step). All IsQuiet ss) (sym same) quiet) held (flags_length target new items))
-rest_stays (Err fault) kind target steps items old new quiet same held rests = (none_begun kind items old new (Err fault) rests, tt)
+    → IfOk r (λ ready. AreAsHeld ready.steps.items items ready.held.items (flags_in target new items))
+rest_held (Ok ready) target steps items new quiet same held =
+    quiet_same ready.steps.items items ready.held.items (flags_in target new items) (subst (λ (ss : List Step). All IsQuiet ss) (sym same) quiet) held (flags_length target new items)
+rest_held (Err fault) target steps items new quiet same held = tt
 
 pub rested : {D F : Type 0} (disk : DiskGhosts D) (files : FileGhosts F) (account : List ℕ) {settings : Settings} {items : List Item} {now : ℕ} (store : Store D F) (new : Stores) (file read : Stored) (loaded : Loaded)
     (r : Result Ready Fault) (steps : List Step)

@@ -8,7 +8,7 @@ use Rattle.pop3_wire.specs.Bodies.{Rest}
 use Rattle.mail_terms.specs.Listing.{Item}
 use Rattle.pop3_client.specs.declared.fault.Asked.{Asked}
 use Rattle.pop3_client.specs.declared.fault.Asked.TheVariants.{User as ByUser, Pass as ByPass, Quit as ByQuit}
-use Rattle.pop3_client.specs.Turns.{Turn, Names, line_limit, text_limit, retr, dele, quit}
+use Rattle.pop3_client.specs.Turns.{Turn, Names, line_limit, text_limit, retr, quit}
 use Rattle.pop3_client.specs.Texts.{Fetching}
 use Rattle.fetch_session.specs.Mbox.{HoldsText}
 use Rattle.pop3_client.specs.Conversation.{Talked, Talks, Completes, Broke, most_of, ConversationsArePaced}

@@ -7,7 +7,7 @@ use Rattle.std.specs.List.{flat_map, AllByRecursion}
 use Rattle.std.specs.Prelude.{option_map}
 use Rattle.pop3_wire.specs.Place.{Place}
 use Rattle.fetch_rules.specs.Record.{Row, Held, Intent, none_open, marked_all}
-use Rattle.fetch_rules.specs.RecordGrowth.{Grows}
+use Rattle.fetch_rules.specs.RecordGrowth.{Grows, Updates}
 use Rattle.mail_store.specs.FlatFile.{Stored}
 use Rattle.mail_store.specs.declared.maildir.disk.MaildirDisk.{Ghosts as DiskGhosts}
 use Rattle.mail_store.specs.declared.file.flat_file.FlatFile.{Ghosts as FileGhosts}
@@ -23,7 +23,7 @@ use Rattle.fetch_session.specs.declared.work.Work.{Work}
 use Rattle.fetch_session.specs.Record.{Steady, bytes_in, held}
 use Rattle.fetch_session.specs.Scene.{Scene, scene, Went, AllWent}
 use Rattle.fetch_session.specs.Store.{Brings, Ends, begun_with}
-use Rattle.fetch_session.specs.Lasting.{AreLeft, CutLasts, DoesForGood, DonesLast, IsSafe, IsSafeStore, IsSafeWork, IsUntouched, IsLeft, KeepsMailIn, RowsStillLast, KeepsWork, Leaves, NewOutlive, RowsLast, ShowsRows, TextsLast, may_leave_in, outlives_in}
+use Rattle.fetch_session.specs.Lasting.{AreLeft, CutLasts, DoesForGood, DonesLast, IsSafe, IsSafeStore, IsSafeWork, IsUntouched, IsLeft, KeepsMailIn, RowsStillLast, KeepsWork, Leaves, LeavesLeft, LeavesMerged, NewOutlive, RowsLast, ShowsRows, TextsLast, may_leave_in, outlives_in}
 use Rattle.fetch_session.specs.Target.{Kind, Target, AsFiles, AsEntries, Stores, kind_of, stores_of, target as target_at, target_of}
 use Rattle.fetch_session.specs.Task.{Task, Done, files_of, ids_in, ids_of, texts_of}
 use Rattle.fetch_session.proofs.RecordLemmas.{is_there}
@@ -59,8 +59,8 @@ module _ {F : Type 0} (file : FileGhosts F) (f : F) where
 
   -- bytes were appended, or a part of them
   pub part_left : (old : Stored) (was : Held) (added : List ℕ) → bytes_in old.content ≢ [] → Steady old.content was → LeavesPart old.content added (file.may_leave f)
-      → Leaves file f (IsLeft was added)
-  part_left old was added some stood part bytes is left may =
+      → (left : Option (List ℕ)) → file.may_leave f left → IsLeft was added left
+  part_left old was added some stood part left may =
       let behind = part (bytes_in old.content) (is_there old.content some) left may in
       record { bytes = bytes_in old.content; behind = behind.0; is = behind.1; stands = stood; part = behind.2; begun = inr some }
 
@@ -187,6 +187,18 @@ pub longer_rows : {F : Type 0} (file : FileGhosts F) (f f' : F) → LeavesLonger
 longer_rows file f f' longer rows last left may =
     let was = longer left may in shown_longer rows was.0 left (last was.0 was.1) was.2
 
+-- bytes that stand for these rows
+whole_left : (rows others : List Row) (bytes : List ℕ) (left : Option (List ℕ)) → Steady (Some bytes) (none_open rows) → left ≡ Some bytes → AreLeft rows others left
+whole_left rows others bytes left stands all = record {
+  before = None;
+  added = [];
+  next = rows;
+  after = None;
+  grows = inl (inl (refl, refl, refl));
+  next_is = inl refl;
+  file = record { bytes = bytes; behind = []; is = all ∙ ap (λ (l : List ℕ). Some l) (sym (append-nil bytes)); stands = stands; part = tt; begun = inl refl };
+}
+
 -- the file was replaced, or may have been, by bytes that stand for the rows
 module _ {F : Type 0} (file : FileGhosts F) (f f' : F) (rows : List Row) (bytes : List ℕ) (stands : Steady (Some bytes) (none_open rows))
     (either : LeavesEither (file.may_leave f) bytes (file.may_leave f')) where
@@ -202,15 +214,24 @@ module _ {F : Type 0} (file : FileGhosts F) (f f' : F) (rows : List Row) (bytes 
   pub either_left : (content : List ℕ) → (file.stored f).content ≡ Some content → (others : List Row) → Leaves file f (AreLeft rows others) → Leaves file f' (AreLeft rows others)
   either_left content is others leaves now is_now left may = elim (either left may) [
     | inl before ↦ leaves content is left before
-    | inr all ↦ record {
-      before = None;
-      added = [];
-      next = rows;
-      after = None;
-      grows = inl (inl (refl, refl, refl));
-      next_is = inl refl;
-      file = record { bytes = bytes; behind = []; is = all_of left all; stands = stands; part = tt; begun = inl refl };
-    }
+    | inr all ↦ whole_left rows others bytes left stands all
+  ]
+
+-- ---- a record that is merged
+
+module _ {F : Type 0} (files : FileGhosts F) (rows others : List Row) (from f : F) where
+  -- it was written whole
+  pub written_merged : (bytes : List ℕ) → Steady (Some bytes) (none_open others) → LeavesEither (files.may_leave from) bytes (files.may_leave f) → LeavesMerged files rows others from f
+  written_merged bytes stands either left may = elim (either left may) [
+    | inl before ↦ inl before
+    | inr all ↦ inr (inr (whole_left others others bytes left stands all))
+  ]
+
+  -- a group was appended
+  pub grown_merged : (group : List ℕ) → Updates rows None group others None → LeavesLeft files (none_open rows) group from f → LeavesMerged files rows others from f
+  grown_merged group updates leaves left may = elim (leaves left may) [
+    | inl before ↦ inl before
+    | inr is ↦ inr (inl (record { before = None; added = group; next = others; after = None; grows = inl updates; next_is = inr refl; file = is }))
   ]
 
 -- nothing came yet

@@ -22,3 +22,4 @@ mod StoreLemmas
 mod TailLemmas
 mod TakeLemmas
 mod TalkLemmas
+mod UnreadyLemmas

@@ -1,5 +1,5 @@
 -- What a session that changes nothing tells, and why it tells nothing.
-use Rattle.std.proofs.Common.{◌≡◌, inr, ℕ, Bool, false, List, [], ◌∷◌, length, Option, None, Result, Ok, Err, ap, subst, ◌∙◌}
+use Rattle.std.proofs.Common.{◌≡◌, inr, ℕ, Bool, false, List, [], ◌∷◌, length, Option, None, Result, Ok, Err, ap, ◌∙◌}
 use Rattle.pop3_wire.specs.Link.{Link}
 use Rattle.pop3_wire.specs.Place.{Place, at}
 use Rattle.mail_terms.specs.Listing.{Item}

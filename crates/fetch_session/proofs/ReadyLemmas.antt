@@ -1,5 +1,5 @@
 -- What a session has ready, or why it isn't ready.
-use Rattle.std.proofs.Common.{◌≡◌, ◌⊎◌, inl, inr, ◌<◌, ◌+◌, ℕ, Bool, true, List, [], ◌∷◌, ◌++◌, append_assoc, Option, Some, Ok, Err, refl, sym, ap, subst, ◌∙◌, arith}
+use Rattle.std.proofs.Common.{◌≡◌, ◌⊎◌, inl, inr, ◌<◌, ℕ, Bool, true, List, [], ◌∷◌, ◌++◌, append_assoc, Ok, Err, refl, sym, ap, subst, ◌∙◌, arith}
 use Rattle.mail_terms.specs.Listing.{Item}
 use Rattle.std.specs.Prelude.{◌||◌}
 use Rattle.std.proofs.Math.Bool.{or-true}
@@ -15,15 +15,19 @@ use Rattle.rc_file.specs.declared.settings.Settings.{Settings}
 use Rattle.mail_store.specs.Maildir.{Maildir}
 use Rattle.mail_store.specs.FlatFile.{Stored}
 use Rattle.fetch_session.specs.declared.fault.Fault.{Fault}
-use Rattle.fetch_session.specs.declared.fault.Fault.TheVariants.{Refused, StoreRefused, SeenRefused, NoMemory, BadSeen}
+use Rattle.fetch_session.specs.declared.fault.Fault.TheVariants.{StoreRefused, SeenRefused, NoMemory, BadSeen}
 use Rattle.fetch_session.specs.declared.fault.Why.TheVariants as why
 use Rattle.fetch_session.specs.declared.readiness.Found.{Found}
 use Rattle.fetch_session.specs.declared.readiness.Ready.{Ready}
 use Rattle.fetch_session.specs.Mbox.{AsksMbox}
+use Rattle.mail_store.specs.declared.file.flat_file.FlatFile.{Ghosts as FileGhosts}
+use Rattle.mail_store.specs.declared.maildir.disk.MaildirDisk.{Ghosts as DiskGhosts}
+use Rattle.fetch_session.specs.declared.account.Store.{Store}
+use Rattle.fetch_session.specs.Lasting.{AllStayIn, LeavesMerged, MergeLasts}
 use Rattle.fetch_session.specs.Readiness.{CausesUnready, FindsIn, FindsRefused, IsReady, IsSettledBy, MboxUnready, Settles, Unready, UnreadyCause, merged_in}
 use Rattle.fetch_session.specs.Task.{tasks_planned}
 use Rattle.fetch_session.specs.Record.{Keeps, Steady, ReadAs, Reads, Merges, held_in}
-use Rattle.fetch_session.specs.Target.{Target, AsFiles, AsEntries, Stores, closed_file, flags_in, is_stored, mail_in, rows_in}
+use Rattle.fetch_session.specs.Target.{Target, AsFiles, AsEntries, Stores, closed_file, flags_in, rows_in}
 use Rattle.fetch_session.proofs.RecordLemmas.{read_keeps, steady_keeps, not_whole}
 
 -- ---- what was found
@@ -126,6 +130,12 @@ module _ (settings : Settings) (target : Target) (items : List Item) (now : ℕ)
     cause = wants_cause target settles;
     content = inr (held_in loaded, kept, settles, inr (subst (λ (rows : List Row). Keeps new.content (none_open rows)) as_now (steady_keeps new.content (none_open here) merges.1)));
   }
+
+  -- what may be left of the record's file
+  pub merge_lasts : {D F : Type 0} (disk : DiskGhosts D) (files : FileGhosts F) (place : Store D F) (from f : F) → AllStayIn disk place → LeavesMerged files loaded.rows here from f
+      → MergeLasts disk files target items now store file place from f
+  merge_lasts disk files place from f stay leaves =
+      record { stay = stay; was = held_in loaded; stood = kept; leaves = subst (λ (rows : List Row). LeavesMerged files loaded.rows rows from f) as_now leaves }
 
 -- ---- every listed id has a row
 

@@ -64,7 +64,7 @@ session_in {D} {F} {disk} {files} {was} {from} {settings} {target} {now} {link} 
     carries : (items : List Item) (mid : Place) (result : Result (Unit {0}) Cut) → CarriesForGood disk files was from settings target items now mid before.store before.file [] result s.mid after.store after.file s.notes.lines s.notes.skipped store f
         → Carries settings target items now mid before.store before.file [] result s.mid after.store after.file s.notes.lines s.notes.skipped
     carries items mid (Ok done) (rows, is) = (rows, is.carried)
-    carries items mid (Err cut) (rows, inl not) = (rows, inl not)
+    carries items mid (Err cut) (rows, inl not) = (rows, inl (not.0, not.1.unprepared))
     carries items mid (Err cut) (rows, inr is) = (rows, inr is.carried)
 
     dealt_in : (result : Result (Unit {0}) Cut) → DealtForGood disk files was from settings target now (at link []) before result s.mid after s.notes store f → Dealt settings target now (at link []) before result s.mid after s.notes

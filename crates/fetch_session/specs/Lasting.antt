@@ -7,7 +7,7 @@ use Rattle.mail_store.specs.FlatFile.{Stored}
 use Rattle.mail_store.specs.Maildir.{File, Maildir, names_of}
 use Rattle.mail_store.specs.Mboxrd.{entry_of}
 use Rattle.mail_store.specs.Settling.{MayBeLeft}
-use Rattle.mail_store.specs.Power.{AllStay, KeepsMail, KeepsWhole, LastsWhole, LeavesNoMore, Outlives}
+use Rattle.mail_store.specs.Power.{AllStay, KeepsLeft, KeepsMail, KeepsWhole, LastsWhole, LeavesNoMore, Outlives}
 use Rattle.mail_terms.specs.Listing.{Item}
 use Rattle.pop3_wire.specs.Link.{Link}
 use Rattle.pop3_wire.specs.Place.{Place, at}
@@ -18,12 +18,15 @@ use Rattle.fetch_rules.specs.Plan.{IsQuiet, planned}
 use Rattle.fetch_session.specs.declared.account.Store.{Store}
 use Rattle.fetch_session.specs.declared.account.Store.TheVariants.{Maildir as InMaildir, Mboxrd as InMbox}
 use Rattle.fetch_session.specs.declared.fault.Cut.{Cut}
+use Rattle.fetch_session.specs.declared.fault.Fault.{Fault}
+use Rattle.fetch_session.specs.declared.readiness.Ready.{Ready}
 use Rattle.fetch_session.specs.declared.report.Report.{Report}
 use Rattle.fetch_session.specs.declared.report.ReportLine.{ReportLine}
 use Rattle.fetch_session.specs.declared.report.Skips.{Skips}
 use Rattle.fetch_session.specs.declared.work.Work.{Work}
 use Rattle.fetch_session.specs.Plan.{Carried, Unprepared, tasks_ahead}
-use Rattle.fetch_session.specs.Record.{Steady, held}
+use Rattle.fetch_session.specs.Readiness.{Readies, merged_in}
+use Rattle.fetch_session.specs.Record.{Keeps, Steady, held}
 use Rattle.fetch_session.specs.Report.{Reports, none_skipped}
 use Rattle.fetch_session.specs.Scene.{Scene, scene, Does}
 use Rattle.fetch_session.specs.Session.{Enters_with, Keeping, LeavesLink, NoRoom, NotEntered, Noted, outcome_of}
@@ -181,8 +184,69 @@ pub record IsUntouched {D F : Type 0} (disk : DiskGhosts D) (files : FileGhosts 
   pub no_more : LeavesNoMore (files.may_leave from) (files.may_leave f)
   pub same : files.stored f ≡ files.stored from
 
+-- what a loss of power would have left of a Maildir before it still leaves, except for files that readers took away: these are left
+abbrev pub KeepsLeftIn : {D F : Type 0} → DiskGhosts D → FileGhosts F → Store D F → List File → Store D F → Type 0
+KeepsLeftIn disk files was left store = KeepsLeft (stores_of disk files was).maildir.files left (stays_in disk was) (outlives_in disk was)
+    (stays_in disk store) (outlives_in disk store)
+
+-- what may be left of the record's file could be left before, or it is these rows, perhaps with a part of what makes those others of them,
+-- or it is the others
+abbrev pub LeavesMerged : {F : Type 0} → FileGhosts F → List Row → List Row → F → F → Type 0
+LeavesMerged files rows others from f = (left : Option (List ℕ)) → files.may_leave f left
+    → files.may_leave from left ⊎ (AreLeft rows others left ⊎ AreLeft others others left)
+
+-- what may be left of the record's file could be left before, or a part of what was appended stands behind what the file had
+abbrev pub LeavesLeft : {F : Type 0} → FileGhosts F → Held → List ℕ → F → F → Type 0
+LeavesLeft files was added from f = (left : Option (List ℕ)) → files.may_leave f left → files.may_leave from left ⊎ IsLeft was added left
+
+-- the record was merged, or was to be, after each file of a Maildir was on the disk
+pub record MergeLasts {D F : Type 0} (disk : DiskGhosts D) (files : FileGhosts F) (target : Target) (items : List Item) (now : ℕ)
+    (old : Stores) (file : Stored) (store : Store D F) (from f : F) : Type 0 where
+  pub stay : AllStayIn disk store
+  pub was : Held
+  pub stood : Keeps file.content was
+  pub leaves : LeavesMerged files was.rows (merged_in target old was items now) from f
+
+-- what a session leaves that was cut while it prepared the record: of a Maildir the same, except for what readers took away; and of the
+-- record's file, if it was not written, no more than before; or what a merge leaves
+pub record UnreadyLasts {D F : Type 0} (disk : DiskGhosts D) (files : FileGhosts F) (was : Store D F) (from : F) (target : Target)
+    (items : List Item) (now : ℕ) (old : Stores) (file : Stored) (store : Store D F) (f : F) : Type 0 where
+  pub mail : KeepsLeftIn disk files was old.maildir.files store
+  pub rows : (LeavesNoMore (files.may_leave from) (files.may_leave f) × ((files.stored f).content ≡ file.content))
+      ⊎ MergeLasts disk files target items now old file store from f
+
+-- what is ready outlives a loss of power: nothing is to be fetched or deleted and nothing was written; or the record's file is safe, and
+-- what is left of the store stays
+abbrev pub ReadyLasts : {D F : Type 0} → DiskGhosts D → FileGhosts F → Store D F → F → Target → List Item → ℕ → Stores → Result Ready Fault
+    → Store D F → F → Type 0
+ReadyLasts disk files was from target items now old (Ok ready) store f =
+    (All IsQuiet ready.steps.items × IsUntouched disk files was store from f)
+    ⊎ ((IsSafe files f × IsSafeStore files store) × AllStayIn disk store × KeepsLeftIn disk files was old.maildir.files store)
+ReadyLasts disk files was from target items now old (Err fault) store f =
+    UnreadyLasts disk files was from target items now old (files.stored from) store f
+
+-- as `Readies`, with what outlives a loss of power if this premise holds
+pub record ReadiesForGood {D F : Type 0} (disk : DiskGhosts D) (files : FileGhosts F) (safe : Type 0) (was : Store D F) (from : F)
+    (settings : Settings) (target : Target) (items : List Item) (now : ℕ) (old : Stores) (result : Result Ready Fault) (after : List Row)
+    (store : Store D F) (f : F) : Type 0 where
+  pub readies : Readies settings target items now old (files.stored from) result after (stores_of disk files store) (files.stored f)
+  pub lasts : safe → ReadyLasts disk files was from target items now old result store f
+
+-- the record wasn't ready, as `Unprepared` says; and if no flush was refused before, this is left
+pub record UnpreparedForGood {D F : Type 0} (disk : DiskGhosts D) (files : FileGhosts F) (was : Store D F) (from : F) (target : Target)
+    (items : List Item) (now : ℕ) (place : Place) (old : Stores) (file : Stored) (lines : List ReportLine) (cut : Cut) (new : Scene)
+    (store : Store D F) (f : F) : Type 0 where
+  pub unprepared : Unprepared target items now place old file lines cut new
+  pub lasts : AreSure files was from → UnreadyLasts disk files was from target items now old file store f
+
+-- each file that was in a Maildir stays, and each that outlived a loss of power before still does, except for what readers took away
+pub record MailLasts {D F : Type 0} (disk : DiskGhosts D) (files : FileGhosts F) (was : Store D F) (target : Target) (old : Stores)
+    (store : Store D F) : Type 0 where
+  pub stay : StayFrom disk target old store
+  pub keeps : KeepsLeftIn disk files was old.maildir.files store
+
 -- what was planned was done, or as much as went well; and if no flush was refused before, nothing was to be fetched or deleted and nothing
--- was written, or what was done outlives a loss of power and each file that was in the Maildir before stays
+-- was written, or what was done outlives a loss of power and so does what was in the Maildir before
 pub record CarriedForGood {D F : Type 0} (disk : DiskGhosts D) (files : FileGhosts F) (was : Store D F) (from : F) (settings : Settings)
     (target : Target) (items : List Item)
     (now : ℕ) (place : Place) (old : Stores) (file : Stored) (lines : List ReportLine) (result : Result (Unit {0}) Cut) (new : Scene)
@@ -191,7 +255,7 @@ pub record CarriedForGood {D F : Type 0} (disk : DiskGhosts D) (files : FileGhos
   pub lasts : AreSure files was from
       → (All IsQuiet (planned settings carried.mid.rows items now) × IsUntouched disk files was store from f)
       ⊎ (Lasts disk files target (tasks_ahead settings target items now old carried.mid.rows) carried.mid result new carried.does store f
-      × StayFrom disk target old store)
+      × MailLasts disk files was target old store)
 
 abbrev pub CarriesForGood : {D F : Type 0} → DiskGhosts D → FileGhosts F → Store D F → F → Settings → Target → List Item → ℕ → Place → Stores
     → Stored → List ReportLine → Result (Unit {0}) Cut → Place → Stores → Stored → List ReportLine → Skips → Store D F → F → Type 0
@@ -201,7 +265,8 @@ CarriesForGood disk files was from settings target items now place old file line
     (scene place' new file' rows lines') skipped store f
 CarriesForGood disk files was from settings target items now place old file lines (Err cut) place' new file' lines' skipped store f =
     (rows : List Row)
-    × (((skipped ≡ none_skipped) × Unprepared target items now place old file lines cut (scene place' new file' rows lines'))
+    × (((skipped ≡ none_skipped) × UnpreparedForGood disk files was from target items now place old file lines cut
+    (scene place' new file' rows lines') store f)
     ⊎ CarriedForGood disk files was from settings target items now place old file lines (Err cut)
     (scene place' new file' rows lines') skipped store f)
 

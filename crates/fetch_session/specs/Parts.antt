@@ -81,6 +81,13 @@ pub record KeepsStore {D F H Z : Type 0} (disk : DiskGhosts D) (file : FileGhost
   pub kind : kind_of new.store ≡ kind_of old.store
   pub calm : is_sound disk file new.store → is_sound disk file old.store × ((stores_of disk file new.store).maildir.begun ≡ None)
 
+-- no line was noted, the store is of the same kind, and the same file is begun in it
+pub record KeepsBegun {D F H Z : Type 0} (disk : DiskGhosts D) (file : FileGhosts F) (old new : Work D F H Z) : Type 0 where
+  pub lines : new.ledger.lines ≡ old.ledger.lines
+  pub kind : kind_of new.store ≡ kind_of old.store
+  pub begun : is_sound disk file new.store → is_sound disk file old.store
+      × ((stores_of disk file new.store).maildir.begun ≡ (stores_of disk file old.store).maildir.begun)
+
 -- a part of a session that has these tasks: it takes and notes no more than they may, and what a loss of power would have left it still
 -- leaves; without a mark the record's file is as it was; and if all went well, what was safe is safe, and what was ready for these tasks
 -- and others is ready for the others

@@ -1,7 +1,8 @@
 -- What a session has ready before its first task, or why it isn't ready.
-use Rattle.std.specs.Prelude.{◌≡◌, ◌⊎◌, ◌<◌, ℕ, Bool, true, false, All, List, Option, None, Some, Result, Ok, Err, Vec}
+use Rattle.std.specs.Prelude.{◌≡◌, ◌⊎◌, ◌<◌, ℕ, Bool, true, false, All, List, length, Option, None, Some, Result, Ok, Err, Vec}
+use Rattle.std.specs.List.{AllByRecursion}
 use Rattle.mail_terms.specs.Listing.{Item}
-use Rattle.fetch_rules.specs.Record.{Row, Intent, Held, IsRecord, is_delivered, none_open, merged}
+use Rattle.fetch_rules.specs.Record.{Row, Intent, Held, IsRecord, Loaded, has_row, is_delivered, none_open, merged}
 use Rattle.fetch_rules.specs.Plan.{IsQuiet, planned}
 use Rattle.fetch_rules.specs.declared.steps.Step.{Step}
 use Rattle.fetch_session.specs.Task.{tasks_planned}
@@ -81,6 +82,13 @@ Rests Entries old items (Err fault) new = AsksMbox None old.mbox items (Err faul
 -- the flags are those of the store, as far as the steps use them
 abbrev pub AreAsHeld : List Step → List Item → List Bool → List Bool → Type 0
 AreAsHeld steps items flags held = tasks_planned steps items flags ≡ tasks_planned steps items held
+
+-- each listed message has a step of the plan and a flag, and each listed id a row; no intent is open
+pub record HasPlan (settings : Settings) (items : List Item) (now : ℕ) (ready : Ready) (seen : Loaded) : Type 0 where
+  pub steps : ready.steps.items ≡ planned settings seen.rows items now
+  pub lengths : (length ready.steps.items ≡ length items) × (length ready.held.items ≡ length items)
+  pub rows : AllByRecursion (λ (item : Item). has_row seen.rows item.uid ≡ true) items
+  pub closed : seen.intent ≡ None
 
 -- the record was read, merged and saved, and the plan made; no intent is open any more
 pub record IsReady (settings : Settings) (target : Target) (items : List Item) (now : ℕ) (store : Stores)

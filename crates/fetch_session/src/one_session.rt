@@ -7,7 +7,7 @@ ghost use Rattle.mail_store.specs.FileName.{IsAccountText};
 ghost use Rattle.mail_store.specs.Maildir.{AfterTaking};
 ghost use Rattle.fetch_session.specs.Scene.{WhereAllSound};
 ghost use Rattle.fetch_session.specs.Work.{WhereWorkSound};
-ghost use Rattle.fetch_session.specs.Account.{digits_of};
+ghost use Rattle.fetch_session.specs.Account.{IsSameAccount, digits_of};
 ghost use Rattle.fetch_session.specs.Intake.{GotAtMost, session_limit, TookWithTail, opening_limit, step_limit, tail_limit};
 ghost use Rattle.fetch_session.specs.Refusal.{RefusesByOutcome};
 ghost use Rattle.fetch_session.specs.Lasting.{ProceedsForGood, SessionForGood};
@@ -15,7 +15,7 @@ ghost use Rattle.fetch_session.specs.Parts.{KeepsLink, KeepsStore};
 ghost use Rattle.fetch_session.specs.Report.{Reports, most_lines, none_skipped};
 ghost use Rattle.fetch_session.specs.Session.{MboxSession, Session, keeping, kept, mbox_kept, noted};
 ghost use Rattle.fetch_session.specs.Target.{AfterTakingIn, IsCalm, IsSoundMaildir, IsSoundMbox};
-ghost use Rattle.fetch_session.specs.Target.{is_sound, kind_of, maildir_of, mbox_of, stores_of, target_of};
+ghost use Rattle.fetch_session.specs.Target.{is_sound, maildir_of, mbox_of, stores_of, target_of};
 
 use crate::account::Account;
 use crate::fault::{Cut, Fault, broken, plain};
@@ -91,8 +91,7 @@ fn session_over<W: Wire, D: MaildirDisk, F: FlatFile, H: BuildHasher>(
     requires { client.old.reader ≡ [] }
     ensures link { HasSameLink client.old client.new }
     ensures counted { RefusesByOutcome (link_of W.Wire client.old) result.outcome (link_of W.Wire client.new) }
-    ensures settings { account.new.settings ≡ account.old.settings }
-    ensures kind { kind_of account.new.store ≡ kind_of account.old.store }
+    ensures same { IsSameAccount account.old account.new }
     ensures session { WhereAllSound W.sound W.leads_to (is_sound D.MaildirDisk F.FlatFile) F.sound client.old.wire.now client.new.wire.now
         account.old.store account.new.store account.old.file account.new.file
         (AfterTakingIn (stores_of D.MaildirDisk F.FlatFile account.old.store) (λ left. SessionForGood D.MaildirDisk F.FlatFile
@@ -151,8 +150,7 @@ pub fn session<W: Wire, D: MaildirDisk, F: FlatFile, H: BuildHasher>(
     now: u64,
 ) -> Report
     ensures counted { RefusesByOutcome (W.history wire.old) result.outcome (W.history wire.new) }
-    ensures settings { account.new.settings ≡ account.old.settings }
-    ensures kind { kind_of account.new.store ≡ kind_of account.old.store }
+    ensures same { IsSameAccount account.old account.new }
     ensures session { WhereAllSound W.sound W.leads_to (IsSoundMaildir D.MaildirDisk) F.sound wire.old wire.new
         account.old.store account.new.store account.old.file account.new.file
         (AfterTaking (maildir_of D.MaildirDisk account.old.store) (λ left. Session account.old.settings (digits_of account.old.settings)

@@ -51,14 +51,7 @@ pub fn carry_out<W: Wire, D: MaildirDisk, F: FlatFile, H: BuildHasher>(
 {
     turns_join();
     firsts_are_fetched();
-    let ready = match prepare(
-        work.ledger.alloc,
-        terms,
-        &mut work.store,
-        &mut work.ledger.file,
-        &mut work.ledger.seen,
-        listing,
-    ) {
+    let ready = match prepare(work, terms, listing) {
         Ok(ready) => ready,
         Err(fault) => return Err(plain(fault)),
     };

@@ -8,10 +8,12 @@ ghost use Rattle.fetch_rules.specs.Plan.{IsQuiet, planned};
 ghost use Rattle.mail_store.specs.Fault.{IsDeviceFault};
 ghost use Rattle.fetch_session.specs.Mbox.{AsksMbox, SettlesIntent};
 ghost use Rattle.mail_store.specs.Maildir.{AfterTaking};
-ghost use Rattle.mail_store.specs.Power.{AllStay, KeepsMail, LeavesNoMore};
-ghost use Rattle.fetch_session.specs.Lasting.{AllStayIn, AreSure, IsSafe, IsSafeStore, IsUntouched, KeepsMailIn, is_sure};
+ghost use Rattle.mail_store.specs.Power.{AllStay, KeepsLeft, KeepsMail, LeavesNoMore};
+ghost use Rattle.fetch_session.specs.Lasting.{AllStayIn, AreSure, IsSafe, IsSafeStore, KeepsLeftIn, KeepsMailIn, LeavesMerged};
+ghost use Rattle.fetch_session.specs.Lasting.{ReadiesForGood, is_sure};
+ghost use Rattle.fetch_session.specs.Parts.{KeepsBegun};
 ghost use Rattle.fetch_session.specs.Target.{AfterTakingIn, flags_in, is_sound, kind_of, stores_of, target_of};
-ghost use Rattle.fetch_session.specs.Readiness.{AreAsHeld, ChecksBoth, ChecksStore, FindsHeld, FindsIn, IsIdle, Readies, Rests};
+ghost use Rattle.fetch_session.specs.Readiness.{AreAsHeld, ChecksBoth, ChecksStore, FindsHeld, FindsIn, HasPlan, IsIdle, Rests};
 ghost use Rattle.fetch_session.specs.Record.{Gets, Reads, ReadAs, Merges, IsLineFault, IsSecured, Steady, bytes_in, held_in};
 
 use crate::account::Store;
@@ -19,6 +21,7 @@ use crate::appending::refused;
 use crate::fault::{Fault, Why};
 use crate::record::{grow, save};
 use crate::terms::Terms;
+use crate::work::{Ledger, Work};
 use fetch_rules::{
     Listing, Seen, SeenFault, Step, ask_nothing, delivered_has_row, known_listings_change_nothing,
     listed_has_row, plan, plan_of_known,
@@ -99,6 +102,7 @@ pub(crate) fn read<F: FlatFile, H: BuildHasher>(
 /// Flushes the record's file, if it is there, so that no loss of power takes back what was read.
 fn secure<F: FlatFile>(file: &mut F) -> Result<(), Fault>
     ensures same { F.sound file.new → F.sound file.old × IsSecured (F.stored file.old) result (F.stored file.new) }
+    ensures keeps { F.sound file.new → LeavesNoMore (F.may_leave file.old) (F.may_leave file.new) }
     ensures lasts { F.sound file.new → F.is_sure file.old → OnOk result (IsSafe F.FlatFile file.new) }
 {
     match file.edges() {
@@ -118,7 +122,9 @@ pub(crate) fn ask_held<D: MaildirDisk>(
     ensures length { IfOk result (λ flags. length flags.items ≡ length listing.now) }
     ensures finds { D.sound disk.new → D.sound disk.old
         × AfterTaking (D.maildir disk.old) (λ left. FindsHeld account.now left listing.now result (D.maildir disk.new)) }
-    ensures lasts { D.sound disk.new → OnOk result (AllStay (D.maildir disk.new) (D.stays disk.new)) }
+    ensures lasts { D.sound disk.new → KeepsLeft (D.maildir disk.old).files (D.maildir disk.new).files
+        (D.stays disk.old) (D.outlives disk.old) (D.stays disk.new) (D.outlives disk.new)
+        × OnOk result (AllStay (D.maildir disk.new) (D.stays disk.new)) }
 {
     match held(alloc, disk, account, listing) {
         Ok(flags) => Ok(flags),
@@ -195,6 +201,8 @@ fn ask_store<D: MaildirDisk, F: FlatFile, H: BuildHasher>(
     ensures finds { is_sound D.MaildirDisk F.FlatFile store.new → is_sound D.MaildirDisk F.FlatFile store.old
         × AfterTakingIn (stores_of D.MaildirDisk F.FlatFile store.old) (λ left. FindsIn (target_of store.old account.now) seen.now.intent
         left listing.now result (stores_of D.MaildirDisk F.FlatFile store.new)) }
+    ensures keeps { is_sound D.MaildirDisk F.FlatFile store.new → KeepsLeftIn D.MaildirDisk F.FlatFile store.old
+        (stores_of D.MaildirDisk F.FlatFile store.new).maildir.files store.new }
     ensures lasts { is_sound D.MaildirDisk F.FlatFile store.new → is_sure F.FlatFile store.old
         → OnOk result (IsSafeStore F.FlatFile store.new × AllStayIn D.MaildirDisk store.new) }
 {
@@ -233,7 +241,9 @@ fn take_in<F: FlatFile, H: BuildHasher>(
         × Merges (F.stored file.old) (held_in seen.old) (none_open
         (merged (closed_rows found.now.stored seen.old.rows seen.old.intent) listing.now found.now.held.items now)) result
         (F.stored file.new) }
-    ensures lasts { F.sound file.new → IsSafe F.FlatFile file.old → OnOk result (IsSafe F.FlatFile file.new) }
+    ensures lasts { F.sound file.new → IsSafe F.FlatFile file.old → LeavesMerged F.FlatFile seen.old.rows
+        (merged (closed_rows found.now.stored seen.old.rows seen.old.intent) listing.now found.now.held.items now) file.old file.new
+        × OnOk result (IsSafe F.FlatFile file.new) }
 {
     seen.close(found.stored);
     let Ok(group) = seen.merge_rows(listing, &found.held, now) else {
@@ -327,41 +337,39 @@ fn rest<D: MaildirDisk, F: FlatFile>(
 /// Settles the open intent of the record that was read, merges the listing and what the store holds
 /// of it, saves the record if that changed it, and makes the plan.
 fn prepare_by_store<D: MaildirDisk, F: FlatFile, H: BuildHasher>(
-    alloc: Global,
+    work: &mut Work<D, F, H>,
     terms: Terms<'_>,
-    store: &mut Store<D, F>,
-    file: &mut F,
-    seen: &mut Seen<H>,
     listing: &Listing,
     is_new: bool,
 ) -> Result<Ready, Fault>
-    requires stands { F.sound file.old → ReadAs (F.stored file.old).content seen.old }
-    requires begun { F.sound file.old → is_new ≡ false → bytes_in (F.stored file.old).content ≢ [] }
-    ensures kind { kind_of store.new ≡ kind_of store.old }
-    ensures lengths { IfOk result (λ ready. (length ready.steps.items ≡ length listing.now)
-        × (length ready.held.items ≡ length listing.now)) }
-    ensures plans { IfOk result (λ ready. ready.steps.items ≡ planned terms.entry.settings.now seen.new.rows listing.now terms.entry.now) }
-    ensures rows { OnOk result (AllByRecursion (λ item. has_row seen.new.rows item.uid ≡ true) listing.now) }
-    ensures stays { is_sound D.MaildirDisk F.FlatFile store.new → is_sound D.MaildirDisk F.FlatFile store.old
-        × ((stores_of D.MaildirDisk F.FlatFile store.new).maildir.begun ≡ (stores_of D.MaildirDisk F.FlatFile store.old).maildir.begun)
-        × IfOk result (λ ready. ready.held.items
-        ≡ flags_in (target_of store.old terms.entry.account.now) (stores_of D.MaildirDisk F.FlatFile store.new) listing.now) }
-    ensures steady { F.sound file.new → F.sound file.old × OnOk result (Steady (F.stored file.new).content (none_open seen.new.rows)) }
-    ensures closed { OnOk result (seen.new.intent ≡ None) }
-    ensures readies { is_sound D.MaildirDisk F.FlatFile store.new → F.sound file.new
-        → is_sound D.MaildirDisk F.FlatFile store.old × F.sound file.old
-        × AfterTakingIn (stores_of D.MaildirDisk F.FlatFile store.old) (λ left. Readies terms.entry.settings.now
-        (target_of store.old terms.entry.account.now) listing.now terms.entry.now left (F.stored file.old) result seen.new.rows
-        (stores_of D.MaildirDisk F.FlatFile store.new) (F.stored file.new)) }
-    ensures lasts { is_sound D.MaildirDisk F.FlatFile store.new → is_sure F.FlatFile store.old
-        → OnOk result (IsSafeStore F.FlatFile store.new × AllStayIn D.MaildirDisk store.new) }
-    ensures file_lasts { F.sound file.new → IsSafe F.FlatFile file.old → OnOk result (IsSafe F.FlatFile file.new) }
+    requires stands { F.sound work.old.ledger.file → ReadAs (F.stored work.old.ledger.file).content work.old.ledger.seen }
+    requires begun { F.sound work.old.ledger.file → is_new ≡ false → bytes_in (F.stored work.old.ledger.file).content ≢ [] }
+    ensures store { KeepsBegun D.MaildirDisk F.FlatFile work.old work.new }
+    ensures plans { IfOk result (λ ready. HasPlan terms.entry.settings.now listing.now terms.entry.now ready work.new.ledger.seen) }
+    ensures held { is_sound D.MaildirDisk F.FlatFile work.new.store → IfOk result (λ ready. ready.held.items
+        ≡ flags_in (target_of work.old.store terms.entry.account.now) (stores_of D.MaildirDisk F.FlatFile work.new.store) listing.now) }
+    ensures steady { F.sound work.new.ledger.file → F.sound work.old.ledger.file
+        × OnOk result (Steady (F.stored work.new.ledger.file).content (none_open work.new.ledger.seen.rows)) }
+    ensures readies { is_sound D.MaildirDisk F.FlatFile work.new.store → F.sound work.new.ledger.file
+        → is_sound D.MaildirDisk F.FlatFile work.old.store × F.sound work.old.ledger.file
+        × AfterTakingIn (stores_of D.MaildirDisk F.FlatFile work.old.store) (λ left. ReadiesForGood D.MaildirDisk F.FlatFile
+        (is_sure F.FlatFile work.old.store × IsSafe F.FlatFile work.old.ledger.file) work.old.store work.old.ledger.file
+        terms.entry.settings.now (target_of work.old.store terms.entry.account.now) listing.now terms.entry.now left result
+        work.new.ledger.seen.rows work.new.store work.new.ledger.file) }
 {
     listed_has_row();
-    let found = match ask_store(alloc, store, seen, terms.account, listing) {
+    let alloc = work.ledger.alloc;
+    let found = match ask_store(
+        alloc,
+        &mut work.store,
+        &work.ledger.seen,
+        terms.account,
+        listing,
+    ) {
         Ok(found) => found,
         Err(fault) => return Err(fault),
     };
+    let Ledger { file, seen, .. } = &mut work.ledger;
     if let Err(fault) = take_in(file, seen, listing, &found, terms.now, is_new) {
         return Err(fault);
     }
@@ -378,47 +386,39 @@ fn prepare_by_store<D: MaildirDisk, F: FlatFile, H: BuildHasher>(
 /// saves the record if that changed it, and makes the plan. A store isn't asked what it holds if
 /// that can change nothing: then nothing is fetched, deleted, written or flushed.
 pub fn prepare<D: MaildirDisk, F: FlatFile, H: BuildHasher>(
-    alloc: Global,
+    work: &mut Work<D, F, H>,
     terms: Terms<'_>,
-    store: &mut Store<D, F>,
-    file: &mut F,
-    seen: &mut Seen<H>,
     listing: &Listing,
 ) -> Result<Ready, Fault>
-    ensures kind { kind_of store.new ≡ kind_of store.old }
-    ensures lengths { IfOk result (λ ready. (length ready.steps.items ≡ length listing.now)
-        × (length ready.held.items ≡ length listing.now)) }
-    ensures plans { IfOk result (λ ready. ready.steps.items ≡ planned terms.entry.settings.now seen.new.rows listing.now terms.entry.now) }
-    ensures rows { OnOk result (AllByRecursion (λ item. has_row seen.new.rows item.uid ≡ true) listing.now) }
-    ensures stays { is_sound D.MaildirDisk F.FlatFile store.new → is_sound D.MaildirDisk F.FlatFile store.old
-        × ((stores_of D.MaildirDisk F.FlatFile store.new).maildir.begun ≡ (stores_of D.MaildirDisk F.FlatFile store.old).maildir.begun)
-        × IfOk result (λ ready. AreAsHeld ready.steps.items listing.now ready.held.items
-        (flags_in (target_of store.old terms.entry.account.now) (stores_of D.MaildirDisk F.FlatFile store.new) listing.now)) }
-    ensures steady { F.sound file.new → F.sound file.old × OnOk result (Steady (F.stored file.new).content (none_open seen.new.rows)) }
-    ensures closed { OnOk result (seen.new.intent ≡ None) }
-    ensures readies { is_sound D.MaildirDisk F.FlatFile store.new → F.sound file.new
-        → is_sound D.MaildirDisk F.FlatFile store.old × F.sound file.old
-        × AfterTakingIn (stores_of D.MaildirDisk F.FlatFile store.old) (λ left. Readies terms.entry.settings.now
-        (target_of store.old terms.entry.account.now) listing.now terms.entry.now left (F.stored file.old) result seen.new.rows
-        (stores_of D.MaildirDisk F.FlatFile store.new) (F.stored file.new)) }
-    ensures lasts { is_sound D.MaildirDisk F.FlatFile store.new → F.sound file.new → AreSure F.FlatFile store.old file.old
-        → IfOk result (λ ready. (All IsQuiet ready.steps.items
-        × IsUntouched D.MaildirDisk F.FlatFile store.old store.new file.old file.new)
-        ⊎ ((IsSafe F.FlatFile file.new × IsSafeStore F.FlatFile store.new) × AllStayIn D.MaildirDisk store.new)) }
+    ensures store { KeepsBegun D.MaildirDisk F.FlatFile work.old work.new }
+    ensures plans { IfOk result (λ ready. HasPlan terms.entry.settings.now listing.now terms.entry.now ready work.new.ledger.seen) }
+    ensures held { is_sound D.MaildirDisk F.FlatFile work.new.store → IfOk result (λ ready. AreAsHeld ready.steps.items listing.now
+        ready.held.items
+        (flags_in (target_of work.old.store terms.entry.account.now) (stores_of D.MaildirDisk F.FlatFile work.new.store) listing.now)) }
+    ensures steady { F.sound work.new.ledger.file → F.sound work.old.ledger.file
+        × OnOk result (Steady (F.stored work.new.ledger.file).content (none_open work.new.ledger.seen.rows)) }
+    ensures readies { is_sound D.MaildirDisk F.FlatFile work.new.store → F.sound work.new.ledger.file
+        → is_sound D.MaildirDisk F.FlatFile work.old.store × F.sound work.old.ledger.file
+        × AfterTakingIn (stores_of D.MaildirDisk F.FlatFile work.old.store) (λ left. ReadiesForGood D.MaildirDisk F.FlatFile
+        (AreSure F.FlatFile work.old.store work.old.ledger.file) work.old.store work.old.ledger.file
+        terms.entry.settings.now (target_of work.old.store terms.entry.account.now) listing.now terms.entry.now left result
+        work.new.ledger.seen.rows work.new.store work.new.ledger.file) }
 {
     delivered_has_row();
     known_listings_change_nothing();
+    let alloc = work.ledger.alloc;
+    let Ledger { file, seen, .. } = &mut work.ledger;
     let is_new = match read(alloc, file, seen) {
         Ok(is_new) => is_new,
         Err(fault) => return Err(fault),
     };
     match idle_steps(alloc, terms, seen, listing) {
-        Ok(Some(steps)) => return rest(alloc, store, listing, steps),
+        Ok(Some(steps)) => return rest(alloc, &mut work.store, listing, steps),
         Ok(None) => {}
         Err(_) => return Err(Fault::NoMemory),
     }
     if let Err(fault) = secure(file) {
         return Err(fault);
     }
-    prepare_by_store(alloc, terms, store, file, seen, listing, is_new)
+    prepare_by_store(work, terms, listing, is_new)
 }

@@ -7,7 +7,8 @@ ghost use Rattle.fetch_rules.specs.RecordFile.{Two, file_of};
 ghost use Rattle.fetch_rules.specs.RecordMeaning.{Means, Rows};
 ghost use Rattle.fetch_rules.specs.RecordGrowth.{Grows};
 ghost use Rattle.fetch_session.specs.Record.{Writes, Saves, Steady, TakesBack, bytes_in, held_in, intent_at, with_open};
-ghost use Rattle.fetch_session.specs.Lasting.{AreLeft, IsLeft, IsSafe, RowsStillLast, Leaves};
+ghost use Rattle.fetch_session.specs.Lasting.{AreLeft, IsLeft, IsSafe, RowsStillLast, Leaves, LeavesLeft};
+ghost use Rattle.mail_store.specs.Power.{LeavesEither};
 
 use crate::fault::Fault;
 use fetch_rules::{Seen, appended_counts, bytes_stand, cut_is_ignored};
@@ -20,6 +21,7 @@ pub(crate) fn save<F: FlatFile, H: BuildHasher>(file: &mut F, seen: &Seen<H>) ->
     ensures stands { Means (file_of seen.now.rows seen.now.intent) (Rows Two seen.now.rows seen.now.intent false) }
     ensures saves { F.sound file.new → F.sound file.old
         × Writes (F.stored file.old) (held_in seen.now) result (F.stored file.new) }
+    ensures leaves { F.sound file.new → LeavesEither (F.may_leave file.old) (file_of seen.now.rows None) (F.may_leave file.new) }
     ensures lasts { F.sound file.new → OnOk result (IsSafe F.FlatFile file.new) }
 {
     bytes_stand();
@@ -41,7 +43,8 @@ pub(crate) fn grow<F: FlatFile>(file: &mut F, group: &[u8]) -> Result<(), Fault>
     ensures keeps { F.sound file.new → ((rows : List Row) → RowsStillLast F.FlatFile rows file.old file.new) }
     ensures lasts { F.sound file.new → IsSafe F.FlatFile file.old → OnOk result (IsSafe F.FlatFile file.new) }
     ensures leaves { F.sound file.new → IsSafe F.FlatFile file.old
-        → ((was : Held) → Steady (F.stored file.old).content was → Leaves F.FlatFile file.new (IsLeft was group.now)) }
+        → ((was : Held) → Steady (F.stored file.old).content was → Leaves F.FlatFile file.new (IsLeft was group.now)
+        × LeavesLeft F.FlatFile was group.now file.old file.new) }
 {
     appended_counts();
     cut_is_ignored();

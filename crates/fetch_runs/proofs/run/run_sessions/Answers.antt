@@ -30,7 +30,7 @@ loop-i-preserved g c =
     let here : get_or c.args.visits.now i old ≡ old = sym (inv.4 i old (omega arith)) ∙ ap (λ (d : Visit (g.row.W).Denot). get_or c.loop-i.visits i d) (sym c.index-visits-i.is) in
     let mbox_before = mbox_kept (mbox_of g.F.FlatFile c.loop-i.account.store) (g.F.FlatFile.stored c.loop-i.account.file) in
     let mbox_after = mbox_kept (mbox_of g.F.FlatFile c.session-report.new.account.store) (g.F.FlatFile.stored c.session-report.new.account.file) in (
-      c.session-report.ensures.settings ∙ inv.0,
+      c.session-report.ensures.same.settings ∙ inv.0,
       ap (λ (l : List Report). length l) pushed ∙ length-append c.loop-i.reports.items (c.session-report.result ∷ []) ∙ ap (λ (k : ℕ). k + 1) inv.1,
       omega (arith, inv.2, c.push.ensures.capacity),
       length-set c.loop-i.visits i new ∙ inv.3,

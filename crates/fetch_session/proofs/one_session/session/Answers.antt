@@ -19,7 +19,7 @@ returns-clause-session g c = λ w d f.
     let new = c.session_over.new.account in
     files_session g.D.MaildirDisk g.F.FlatFile old.store new.store (digits_of old.settings)
     (λ t s s'. AfterTakingIn s (λ left. SessionIn old.settings t c.args.now (g.W.Wire.history c.args.wire.now) (keeping left (g.F.FlatFile.stored old.file)) c.session_over.result (g.W.Wire.history c.wire-1.given.0) (keeping s' (g.F.FlatFile.stored new.file))))
-    _ _ _ c.session_over.ensures.kind (λ sound. let s = whole w sound f in (s.0, s.1, s.2, s.3, (s.4.0, s.4.1, session_in s.4.2))) d
+    _ _ _ c.session_over.ensures.same.kind (λ sound. let s = whole w sound f in (s.0, s.1, s.2, s.3, (s.4.0, s.4.1, session_in s.4.2))) d
 
 pub returns-clause-mbox_session : goal.returns-clause-mbox_session
 returns-clause-mbox_session g c = λ w d f.
@@ -29,4 +29,4 @@ returns-clause-mbox_session g c = λ w d f.
     let new = c.session_over.new.account in
     entries_session g.D.MaildirDisk g.F.FlatFile old.store new.store (digits_of old.settings)
     (λ t s s'. SessionIn old.settings t c.args.now (g.W.Wire.history c.args.wire.now) (keeping s (g.F.FlatFile.stored old.file)) c.session_over.result (g.W.Wire.history c.wire-1.given.0) (keeping s' (g.F.FlatFile.stored new.file)))
-    _ _ _ c.session_over.ensures.kind (λ sound. let s = whole w sound f in (s.0, s.1, s.2, s.3, (s.4.0, s.4.1, session_in s.4.2))) d
+    _ _ _ c.session_over.ensures.same.kind (λ sound. let s = whole w sound f in (s.0, s.1, s.2, s.3, (s.4.0, s.4.1, session_in s.4.2))) d

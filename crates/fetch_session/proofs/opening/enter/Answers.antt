@@ -1,4 +1,3 @@
-use Rattle.std.proofs.Common.{Err}
 use Rattle.pop3_client.specs.Client.{place_of}
 use Rattle.fetch_session.proofs.LinkLemmas.{in_words, and_then, and_then_two}
 use Rattle.fetch_session.proofs.OpeningLemmas.{not_entered, not_counted, listed_too}

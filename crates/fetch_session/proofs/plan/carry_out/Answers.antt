@@ -1,4 +1,4 @@
-use Rattle.std.proofs.Common.{◌≡◌, ◌+◌, ◌*◌, ℕ, List, [], ◌∷◌, true, inl, inr, arith, length, Ok, Err, refl, ap, ◌∙◌}
+use Rattle.std.proofs.Common.{◌≡◌, ◌+◌, ◌*◌, ℕ, List, [], ◌∷◌, true, inl, inr, arith, length, Ok, Err, refl, sym, ap, subst, ◌∙◌}
 use Rattle.std.proofs.lemmas.List.{append-nil}
 use Rattle.mail_terms.specs.UniqueId.{IsLegalId}
 use Rattle.fetch_rules.specs.Plan.{planned}
@@ -6,7 +6,7 @@ use Rattle.fetch_rules.specs.Record.{has_row}
 use Rattle.pop3_client.specs.Turns.{quit}
 use Rattle.fetch_session.specs.Target.{stores_of}
 use Rattle.fetch_session.specs.Task.{says, tasks_planned}
-use Rattle.fetch_session.specs.Report.{skips_of}
+use Rattle.fetch_session.specs.Report.{Adds, HasRoom, skips_of}
 use Rattle.fetch_session.specs.Intake.{TookTillCut, step_limit, tail_limit}
 use Rattle.fetch_session.specs.Parts.{IsReadyFor, KeepsLink, KeepsStore}
 use Rattle.fetch_session.proofs.PlanLemmas.{flags_same, fresh_firsts}
@@ -20,30 +20,31 @@ use Rattle.fetch_session.proofs.plan.carry_out.Goals as goal
 pub returns-in-Err-clause-carries : goal.returns-in-Err-clause-carries
 returns-in-Err-clause-carries g c = λ w d f.
     let ready = c.in-Err.ensures.readies d f in
-    (w, ready.0, ready.1, g.met.W.Wire.leads_same c.args.client.now.wire.now, (ready.2.0, ready.2.1, ([], inl (c.requires.none_skipped, unprepared c.plain.ensures ready.2.2))))
+    (w, ready.0, ready.1, g.met.W.Wire.leads_same c.args.client.now.wire.now, (ready.2.0, ready.2.1, ([], inl (c.requires.none_skipped, record { unprepared = unprepared c.plain.ensures (ap (λ lines. lines.items) c.in-Err.ensures.store.lines) ready.2.2.readies; lasts = ready.2.2.lasts }))))
 
 -- all is ready for the planned steps
 ready_to_do : (g : Over) (c : After-deref-3 g) → IsReadyFor g.D.MaildirDisk g.F.FlatFile c.args.terms.account.now (tasks_planned c.deref-2.result.now c.args.listing.now c.deref-3.result.now)
-    (record c.args.work.now { store = c.prepare.new.store; ledger = record c.args.work.now.ledger { file = c.prepare.new.file; seen = c.prepare.new.seen } })
+    c.prepare.new.work
 ready_to_do g c =
     let account = c.args.terms.account.now in
     let items = c.args.listing.now in
-    let rows = c.prepare.new.seen.rows in
+    let rows = c.prepare.new.work.ledger.seen.rows in
     let steps = c.deref-2.result.now in
     let held = c.deref-3.result.now in
     record {
       digits = c.requires.digits;
-      room = omega (arith, c.requires.room, (most_planned steps items held).1);
+      room =
+          let room = subst (λ lines. HasRoom lines (2 * length items)) (sym c.in-Ok.ensures.store.lines) c.requires.room in
+          omega (arith, room, (most_planned steps items held).1);
       ready = record {
-        calm = λ d. let stays = c.in-Ok.ensures.stays d in stays.1 ∙ c.requires.calm stays.0;
-        written = record { closed = c.in-Ok.ensures.closed; steady = λ f. (c.in-Ok.ensures.steady f).1 };
+        calm = λ d. let begun = c.in-Ok.ensures.store.begun d in begun.1 ∙ c.requires.calm begun.0;
+        written = record { closed = c.in-Ok.ensures.plans.closed; steady = λ f. (c.in-Ok.ensures.steady f).1 };
       };
       legal = planned_all IsLegalId steps items held c.requires.legal;
-      rows = planned_all (λ (uid : List ℕ). has_row rows uid ≡ true) steps items held c.in-Ok.ensures.rows;
+      rows = planned_all (λ (uid : List ℕ). has_row rows uid ≡ true) steps items held c.in-Ok.ensures.plans.rows;
       free = λ kept.
-          let stays = c.in-Ok.ensures.stays kept in
-          rw (c.deref-2.ensures.value, c.deref-3.ensures.value, stays.2, c.in-Ok.ensures.plans, ← c.prepare.ensures.kind, flags_same g.D.MaildirDisk g.F.FlatFile c.prepare.new.store account items)
-          (fresh_firsts account (stores_of g.D.MaildirDisk g.F.FlatFile c.prepare.new.store).maildir [] (planned c.args.terms.settings.now rows items c.args.terms.now) items
+          rw (c.deref-2.ensures.value, c.deref-3.ensures.value, c.in-Ok.ensures.held kept, c.in-Ok.ensures.plans.steps, ← c.prepare.ensures.store.kind, flags_same g.D.MaildirDisk g.F.FlatFile c.prepare.new.work.store account items)
+          (fresh_firsts account (stores_of g.D.MaildirDisk g.F.FlatFile c.prepare.new.work.store).maildir [] (planned c.args.terms.settings.now rows items c.args.terms.now) items
           (c.firsts_are_fetched.ensures c.args.terms.settings.now rows items c.args.terms.now) c.requires.legal);
     }
 
@@ -63,9 +64,9 @@ returns-in-Err-do_steps-clause-carries g c = λ w d f.
         ready.2.1,
         (
           c.do_steps.new.work.ledger.seen.rows,
-          inr (carried g.D.MaildirDisk g.F.FlatFile c.args.work.now.store c.prepare.new.store c.args.work.now.ledger.file c.prepare.new.file c.deref-2.result.now c.deref-3.result.now ready.2.2 c.deref-2.ensures.value c.deref-3.ensures.value
-              (c.skips_of.ensures ∙ ap (skips_of c.args.terms.settings.now c.prepare.new.seen.rows c.args.listing.now c.args.terms.now) c.deref.ensures.value) (c.in-Ok.ensures.lasts done.1 done.2) (c.in-Err-do_steps.ensures.keeps.lasts d f).1 c.in-Err-do_steps.ensures.keeps.idle
-              (good_before (says quit ∷ []) (in_kind c.prepare.new.store c.args.work.now.store c.args.terms.account.now c.prepare.ensures.kind done.4
+          inr (carried g.D.MaildirDisk g.F.FlatFile c.args.work.now.store c.prepare.new.work.store c.args.work.now.ledger.file c.prepare.new.work.ledger.file c.prepare.new.work.ledger.lines.items c.deref-2.result.now c.deref-3.result.now (ap (λ lines. lines.items) c.prepare.ensures.store.lines) ready.2.2.readies c.deref-2.ensures.value c.deref-3.ensures.value
+              (c.skips_of.ensures ∙ ap (skips_of c.args.terms.settings.now c.prepare.new.work.ledger.seen.rows c.args.listing.now c.args.terms.now) c.deref.ensures.value) ready.2.2.lasts (c.in-Err-do_steps.ensures.keeps.lasts d f).1 c.in-Err-do_steps.ensures.keeps.idle
+              (good_before (says quit ∷ []) (in_kind c.prepare.new.work.store c.args.work.now.store c.args.terms.account.now c.prepare.ensures.store.kind done.4
               (λ safe. safe)))),
         ),
       ),
@@ -92,10 +93,10 @@ returns-in-Ok-end-clause-carries g c = λ w d f.
         ready.2.1,
         (
           c.end.new.work.ledger.seen.rows,
-          (carried g.D.MaildirDisk g.F.FlatFile c.args.work.now.store c.prepare.new.store c.args.work.now.ledger.file c.prepare.new.file c.deref-2.result.now c.deref-3.result.now ready.2.2 c.deref-2.ensures.value c.deref-3.ensures.value
-              (c.skips_of.ensures ∙ ap (skips_of c.args.terms.settings.now c.prepare.new.seen.rows c.args.listing.now c.args.terms.now) c.deref.ensures.value) (c.in-Ok.ensures.lasts done.1 done.2)
+          (carried g.D.MaildirDisk g.F.FlatFile c.args.work.now.store c.prepare.new.work.store c.args.work.now.ledger.file c.prepare.new.work.ledger.file c.prepare.new.work.ledger.lines.items c.deref-2.result.now c.deref-3.result.now (ap (λ lines. lines.items) c.prepare.ensures.store.lines) ready.2.2.readies c.deref-2.ensures.value c.deref-3.ensures.value
+              (c.skips_of.ensures ∙ ap (skips_of c.args.terms.settings.now c.prepare.new.work.ledger.seen.rows c.args.listing.now c.args.terms.now) c.deref.ensures.value) ready.2.2.lasts
               ((kept_on tasks (says quit ∷ []) (Ok tt) c.in_default.ensures.keeps keeps).lasts d f).1 (λ none. keeps.idle refl ∙ c.in_default.ensures.keeps.idle none)
-              (in_kind c.prepare.new.store c.args.work.now.store account c.prepare.ensures.kind done.4 (λ safe. safe))),
+              (in_kind c.prepare.new.work.store c.args.work.now.store account c.prepare.ensures.store.kind done.4 (λ safe. safe))),
         ),
       ),
     )
@@ -117,10 +118,10 @@ returns-clause-carries g c = λ w d f.
         ready.2.1,
         (
           c.end.new.work.ledger.seen.rows,
-          inr (carried g.D.MaildirDisk g.F.FlatFile c.args.work.now.store c.prepare.new.store c.args.work.now.ledger.file c.prepare.new.file c.deref-2.result.now c.deref-3.result.now ready.2.2 c.deref-2.ensures.value c.deref-3.ensures.value
-              (c.skips_of.ensures ∙ ap (skips_of c.args.terms.settings.now c.prepare.new.seen.rows c.args.listing.now c.args.terms.now) c.deref.ensures.value) (c.in-Ok.ensures.lasts done.1 done.2)
+          inr (carried g.D.MaildirDisk g.F.FlatFile c.args.work.now.store c.prepare.new.work.store c.args.work.now.ledger.file c.prepare.new.work.ledger.file c.prepare.new.work.ledger.lines.items c.deref-2.result.now c.deref-3.result.now (ap (λ lines. lines.items) c.prepare.ensures.store.lines) ready.2.2.readies c.deref-2.ensures.value c.deref-3.ensures.value
+              (c.skips_of.ensures ∙ ap (skips_of c.args.terms.settings.now c.prepare.new.work.ledger.seen.rows c.args.listing.now c.args.terms.now) c.deref.ensures.value) ready.2.2.lasts
               ((kept_on tasks (says quit ∷ []) (Err cut) c.in_default.ensures.keeps keeps).lasts d f).1 (λ none. keeps.idle refl ∙ c.in_default.ensures.keeps.idle none)
-              (in_kind c.prepare.new.store c.args.work.now.store account c.prepare.ensures.kind done.4 (λ safe. safe))),
+              (in_kind c.prepare.new.work.store c.args.work.now.store account c.prepare.ensures.store.kind done.4 (λ safe. safe))),
         ),
       ),
     )
@@ -145,7 +146,11 @@ returns-clause-link g c = link_on_tail (length c.args.listing.now * step_limit +
 stood : (g : Over) (c : After-do_steps g) → KeepsStore g.D.MaildirDisk g.F.FlatFile (2 * length c.args.listing.now) c.args.work.now c.do_steps.new.work
 stood g c =
     let kept = store_less (most_planned c.deref-2.result.now c.args.listing.now c.deref-3.result.now).1 c.do_steps.ensures.keeps.store in
-    record { lines = kept.lines; kind = kept.kind ∙ c.prepare.ensures.kind; calm = λ d. ((c.in-Ok.ensures.stays (kept.calm d).0).0, (kept.calm d).1) }
+    record {
+      lines = subst (λ lines. Adds lines (2 * length c.args.listing.now) c.do_steps.new.work.ledger.lines) c.prepare.ensures.store.lines kept.lines;
+      kind = kept.kind ∙ c.prepare.ensures.store.kind;
+      calm = λ d. ((c.prepare.ensures.store.begun (kept.calm d).0).0, (kept.calm d).1);
+    }
 
 pub returns-in-Err-do_steps-clause-store : goal.returns-in-Err-do_steps-clause-store
 returns-in-Err-do_steps-clause-store g c = stood g (goal.at.returns-in-Err-do_steps-clause-store g c).After-do_steps

@@ -1,11 +1,9 @@
-use Rattle.std.proofs.Common.{ℕ, List, Ok, Err, ap, refl, subst}
+use Rattle.std.proofs.Common.{ℕ, List, Ok, Err, ap, refl}
 use Rattle.pop3_client.specs.Client.{place_of}
-use Rattle.fetch_session.specs.Account.{digits_of}
 use Rattle.fetch_session.specs.declared.preview.Preview.{Preview}
 use Rattle.fetch_session.specs.declared.report.Outcome.TheVariants.{Cut as WasCut}
-use Rattle.fetch_session.specs.Pretend.{Pretends}
 use Rattle.fetch_session.specs.Session.{keeping}
-use Rattle.fetch_session.specs.Target.{is_sound, stores_of, target_of}
+use Rattle.fetch_session.specs.Target.{stores_of, target_of}
 use Rattle.fetch_session.proofs.PretendLemmas.{left_preview}
 use Rattle.fetch_session.proofs.preview.pretend_over.Goals as goal
 

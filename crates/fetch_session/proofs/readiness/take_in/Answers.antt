@@ -1,10 +1,36 @@
-use Rattle.std.proofs.Common.{◌≡◌, List, Bool, ℕ, None, false, inl, sym, ap, subst, ◌∙◌}
+use Rattle.std.proofs.Common.{◌≡◌, List, None, false, inl, sym, ap, subst, ◌∙◌}
 use Rattle.fetch_rules.specs.Intents.{closed_rows}
 use Rattle.fetch_rules.specs.Record.{Row, Held, none_open, merged}
+use Rattle.fetch_rules.specs.RecordFile.{Two, file_of}
 use Rattle.fetch_rules.specs.RecordGrowth.{Updates}
-use Rattle.fetch_session.specs.Record.{Merges, held_in}
+use Rattle.fetch_rules.specs.RecordMeaning.{Means, Rows}
+use Rattle.mail_store.specs.Power.{LeavesEither}
+use Rattle.fetch_session.specs.Record.{Merges, Steady, held_in}
+use Rattle.fetch_session.proofs.LastLemmas.{grown_merged, written_merged}
 use Rattle.fetch_session.proofs.RecordLemmas.{saves_merges, writes_merges, read_keeps, read_steady, held_is}
+use Rattle.fetch_session.proofs.readiness.take_in.Given.{Over}
+use Rattle.fetch_session.proofs.readiness.take_in.Goals.{After-grow, After-needs_rewrite}
 use Rattle.fetch_session.proofs.readiness.take_in.Goals as goal
+
+-- ---- the rows were appended
+
+-- the record in the file, and the group that was appended
+grows : (g : Over) (c : After-grow g) → g.F.FlatFile.sound c.grow.new.file
+    → Steady (g.F.FlatFile.stored c.args.file.now).content (none_open c.args.seen.now.rows) × (c.args.seen.now.intent ≡ None)
+    × Updates c.args.seen.now.rows None c.deref-2.result.now
+    (merged (closed_rows c.args.found.now.stored c.args.seen.now.rows c.args.seen.now.intent) c.args.listing.now c.args.found.now.held.items c.args.now) None
+grows g c kept =
+    let was = c.args.seen.now.rows in
+    let closed = closed_rows c.args.found.now.stored was c.args.seen.now.intent in
+    let rows = merged closed c.args.listing.now c.args.found.now.held.items c.args.now in
+    let fresh : c.args.seen.now.stale ≡ false = sym c.close.ensures.stale ∙ sym c.merge_rows.ensures.stale ∙ sym c.needs_rewrite.ensures ∙ c.if-needs_rewrite.false in
+    let steady = read_steady (g.F.FlatFile.stored c.args.file.now).content c.args.seen.now (c.requires.stands (c.grow.ensures.saves kept).0) fresh in
+    let is_was : closed ≡ was = ap (closed_rows c.args.found.now.stored was) steady.1 in (
+      steady.0,
+      steady.1,
+      rw c.deref-2.ensures.value (subst (λ (w : List Row). Updates w None c.in-Ok.group.items rows None) is_was
+          (rw (c.in-Ok.ensures.rows, c.deref.ensures.value, c.close.ensures.rows) at c.in-Ok.ensures.updates)),
+    )
 
 pub returns-clause-merges : goal.returns-clause-merges
 returns-clause-merges g c = λ kept.
@@ -12,30 +38,55 @@ returns-clause-merges g c = λ kept.
     let old = g.F.FlatFile.stored c.args.file.now in
     let new = g.F.FlatFile.stored c.grow.new.file in
     let was = c.args.seen.now.rows in
-    let held = c.args.found.now.held.items in
-    let closed = closed_rows c.args.found.now.stored was c.args.seen.now.intent in
-    let rows = merged closed c.args.listing.now held c.args.now in
-    let fresh : c.args.seen.now.stale ≡ false = sym c.close.ensures.stale ∙ sym c.merge_rows.ensures.stale ∙ sym c.needs_rewrite.ensures ∙ c.if-needs_rewrite.false in
-    let steady = read_steady old.content c.args.seen.now (c.requires.stands saves.0) fresh in
-    let is_was : closed ≡ was = ap (closed_rows c.args.found.now.stored was) steady.1 in
-    let updates : Updates was None c.deref-2.result.now rows None =
-    rw c.deref-2.ensures.value (subst (λ (w : List Row). Updates w None c.in-Ok.group.items rows None) is_was
-    (rw (c.in-Ok.ensures.rows, c.deref.ensures.value, c.close.ensures.rows) at c.in-Ok.ensures.updates)) in (
+    let rows = merged (closed_rows c.args.found.now.stored was c.args.seen.now.intent) c.args.listing.now c.args.found.now.held.items c.args.now in
+    let it = grows g (goal.at.returns-clause-merges g c).After-grow kept in (
       saves.0,
-      subst (λ (h : Held). Merges old h (none_open rows) c.grow.result new) (held_is c.args.seen.now steady.1)
-          (saves_merges old new (none_open was) (none_open rows) c.grow.result steady.0 (saves.1 (none_open was) (none_open rows) (inl updates))),
+      subst (λ (h : Held). Merges old h (none_open rows) c.grow.result new) (held_is c.args.seen.now it.1)
+          (saves_merges old new (none_open was) (none_open rows) c.grow.result it.0 (saves.1 (none_open was) (none_open rows) (inl it.2))),
     )
+
+pub returns-clause-lasts : goal.returns-clause-lasts
+returns-clause-lasts g c = λ kept safe.
+    let it = grows g (goal.at.returns-clause-lasts g c).After-grow kept in (
+      grown_merged g.F.FlatFile c.args.seen.now.rows _ c.args.file.now c.grow.new.file c.deref-2.result.now it.2 (c.grow.ensures.leaves kept safe (none_open c.args.seen.now.rows) it.0).1,
+      c.grow.ensures.lasts kept safe,
+    )
+
+-- ---- the record was written whole
+
+-- what was merged
+rows_are : (g : Over) (c : After-needs_rewrite g) → (c.merge_rows.new.self.rows ≡ merged (closed_rows c.args.found.now.stored c.args.seen.now.rows c.args.seen.now.intent) c.args.listing.now c.args.found.now.held.items c.args.now)
+    × (held_in c.merge_rows.new.self ≡ none_open (merged (closed_rows c.args.found.now.stored c.args.seen.now.rows c.args.seen.now.intent) c.args.listing.now c.args.found.now.held.items c.args.now))
+rows_are g c =
+    let closed : c.merge_rows.new.self.intent ≡ None = c.merge_rows.ensures.intent ∙ c.close.ensures.intent in
+    let rows : c.merge_rows.new.self.rows ≡ merged (closed_rows c.args.found.now.stored c.args.seen.now.rows c.args.seen.now.intent) c.args.listing.now c.args.found.now.held.items c.args.now =
+    rw (c.in-Ok.ensures.rows, c.deref.ensures.value, c.close.ensures.rows) in
+    (rows, sym (held_is c.merge_rows.new.self closed) ∙ ap (λ (r : List Row). none_open r) rows)
 
 pub returns-then-needs_rewrite-clause-merges : goal.returns-then-needs_rewrite-clause-merges
 returns-then-needs_rewrite-clause-merges g c = λ kept.
     let writes = c.save.ensures.saves kept in
     let old = g.F.FlatFile.stored c.args.file.now in
-    let new = g.F.FlatFile.stored c.save.new.file in
-    let held = c.args.found.now.held.items in
-    let closed : c.merge_rows.new.self.intent ≡ None = c.merge_rows.ensures.intent ∙ c.close.ensures.intent in
-    let rows : c.merge_rows.new.self.rows ≡ merged (closed_rows c.args.found.now.stored c.args.seen.now.rows c.args.seen.now.intent) c.args.listing.now held c.args.now =
-    rw (c.in-Ok.ensures.rows, c.deref.ensures.value, c.close.ensures.rows) in (
+    let new = g.F.FlatFile.stored c.save.new.file in (
       writes.0,
-      subst (λ (h : Held). Merges old (held_in c.args.seen.now) h c.save.result new) (sym (held_is c.merge_rows.new.self closed) ∙ ap (λ (r : List Row). none_open r) rows)
+      subst (λ (h : Held). Merges old (held_in c.args.seen.now) h c.save.result new) (rows_are g (goal.at.returns-then-needs_rewrite-clause-merges g c).After-needs_rewrite).1
           (writes_merges old new (held_in c.args.seen.now) (held_in c.merge_rows.new.self) c.save.result (read_keeps old.content c.args.seen.now (c.requires.stands writes.0)) c.save.ensures.stands writes.1),
+    )
+
+pub returns-then-needs_rewrite-clause-lasts : goal.returns-then-needs_rewrite-clause-lasts
+returns-then-needs_rewrite-clause-lasts g c = λ kept safe.
+    let are = rows_are g (goal.at.returns-then-needs_rewrite-clause-lasts g c).After-needs_rewrite in (
+      written_merged g.F.FlatFile c.args.seen.now.rows _ c.args.file.now c.save.new.file _
+          (subst (λ (h : Held). Means (file_of h.rows h.intent) (Rows Two h.rows h.intent false)) are.1 c.save.ensures.stands)
+          (subst (λ (r : List Row). LeavesEither (g.F.FlatFile.may_leave c.args.file.now) (file_of r None) (g.F.FlatFile.may_leave c.save.new.file)) are.0 (c.save.ensures.leaves kept)),
+      c.save.ensures.lasts kept,
+    )
+
+pub returns-then-not-is_empty-clause-lasts : goal.returns-then-not-is_empty-clause-lasts
+returns-then-not-is_empty-clause-lasts g c = λ kept safe.
+    let are = rows_are g (goal.at.returns-then-not-is_empty-clause-lasts g c).After-needs_rewrite in (
+      written_merged g.F.FlatFile c.args.seen.now.rows _ c.args.file.now c.save-then-not-is_empty.new.file _
+          (subst (λ (h : Held). Means (file_of h.rows h.intent) (Rows Two h.rows h.intent false)) are.1 c.save-then-not-is_empty.ensures.stands)
+          (subst (λ (r : List Row). LeavesEither (g.F.FlatFile.may_leave c.args.file.now) (file_of r None) (g.F.FlatFile.may_leave c.save-then-not-is_empty.new.file)) are.0 (c.save-then-not-is_empty.ensures.leaves kept)),
+      c.save-then-not-is_empty.ensures.lasts kept,
     )

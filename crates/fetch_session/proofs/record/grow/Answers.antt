@@ -1,3 +1,4 @@
+use Rattle.std.proofs.Common.{inl, inr}
 use Rattle.fetch_session.proofs.LastLemmas.{longer_rows, part_left, safe_left}
 use Rattle.fetch_session.proofs.RecordLemmas.{not_empty, grown, cut_short}
 use Rattle.fetch_session.proofs.record.grow.Goals as goal
@@ -19,19 +20,21 @@ returns-in-Err-clause-saves g c = λ kept.
     )
 
 pub returns-then-is_empty-clause-leaves : goal.returns-then-is_empty-clause-leaves
-returns-then-is_empty-clause-leaves g c = λ kept safe was stood. safe_left g.F.FlatFile c.args.file.now was c.args.group.now safe stood
+returns-then-is_empty-clause-leaves g c = λ kept safe was stood. (safe_left g.F.FlatFile c.args.file.now was c.args.group.now safe stood, λ left may. inl may)
 
 pub returns-in-Ok-clause-leaves : goal.returns-in-Ok-clause-leaves
 returns-in-Ok-clause-leaves g c = λ kept safe was stood.
-    part_left g.F.FlatFile c.append.new.self (g.F.FlatFile.stored c.args.file.now) was c.args.group.now
+    let part = part_left g.F.FlatFile c.append.new.self (g.F.FlatFile.stored c.args.file.now) was c.args.group.now
     (c.requires.begun (c.in-Ok.ensures.appends kept).0 (not_empty c.args.group.now c.is_empty.result c.if-is_empty.false c.is_empty.ensures)) stood
-    ((c.append.ensures.keeps kept).1 safe.1)
+    ((c.append.ensures.keeps kept).1 safe.1) in
+    (λ bytes is. part, λ left may. inr (part left may))
 
 pub returns-in-Err-clause-leaves : goal.returns-in-Err-clause-leaves
 returns-in-Err-clause-leaves g c = λ kept safe was stood.
-    part_left g.F.FlatFile c.append.new.self (g.F.FlatFile.stored c.args.file.now) was c.args.group.now
+    let part = part_left g.F.FlatFile c.append.new.self (g.F.FlatFile.stored c.args.file.now) was c.args.group.now
     (c.requires.begun (c.in-Err.ensures.appends kept).0 (not_empty c.args.group.now c.is_empty.result c.if-is_empty.false c.is_empty.ensures)) stood
-    ((c.append.ensures.keeps kept).1 safe.1)
+    ((c.append.ensures.keeps kept).1 safe.1) in
+    (λ bytes is. part, λ left may. inr (part left may))
 
 pub returns-in-Ok-clause-keeps : goal.returns-in-Ok-clause-keeps
 returns-in-Ok-clause-keeps g c = λ kept. longer_rows g.F.FlatFile c.args.file.now c.append.new.self (c.append.ensures.keeps kept).0

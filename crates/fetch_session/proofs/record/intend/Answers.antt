@@ -36,5 +36,5 @@ returns-clause-keeps g c = λ kept.
     opens rows intent c.deref.result.now (record { legal = c.requires.legal; start = c.ranges.start.fits; len = c.ranges.len.fits }) c.requires.row (c.deref.ensures.value ∙ c.in-Ok.ensures.line) in (
       c.grow.ensures.keeps kept,
       λ safe others. rows_left g.F.FlatFile c.grow.new.file rows others rows None (Some intent) c.deref.result.now grows (inl refl)
-          (c.grow.ensures.leaves kept safe (none_open rows) (c.requires.steady (c.grow.ensures.saves kept).0)),
+          (c.grow.ensures.leaves kept safe (none_open rows) (c.requires.steady (c.grow.ensures.saves kept).0)).0,
     )

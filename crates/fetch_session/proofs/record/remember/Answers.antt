@@ -51,5 +51,5 @@ returns-clause-keeps g c = λ kept.
     (subst (λ (i : Option Intent). Updates was c.args.seen.now.intent c.in-Ok.group.items rows i) c.in-Ok.ensures.intent c.in-Ok.ensures.updates) in (
       c.grow.ensures.keeps kept,
       λ safe. rows_left g.F.FlatFile c.grow.new.file was (marked was c.args.uid.now) rows c.args.seen.now.intent None c.deref.result.now (inl updates) (inr c.in-Ok.ensures.rows)
-          (c.grow.ensures.leaves kept safe (held_in c.args.seen.now) (c.requires.steady (c.grow.ensures.saves kept).0)),
+          (c.grow.ensures.leaves kept safe (held_in c.args.seen.now) (c.requires.steady (c.grow.ensures.saves kept).0)).0,
     )
