@@ -193,10 +193,16 @@ class WithReader(Reading):
 
 
 class EachCall(WithReader):
-    def check_each_call(self, part, keeps_record=True, **changes):
+    def make_one_new(self):
+        name = os.listdir(self.account.maildir / "cur")[0]
+        os.replace(self.account.maildir / "cur" / name, self.account.maildir / "new" / name.partition(":")[0])
+
+    def check_each_call(self, part, keeps_record=True, one_is_new=False, **changes):
         for call in range(1, 200):
             with self.subTest(call=call):
                 self.put_back(part)
+                if one_is_new:
+                    self.make_one_new()
                 if not keeps_record:
                     self.account.record.unlink(missing_ok=True)
                 run, came = self.read_at(call, **changes)
@@ -214,8 +220,8 @@ class EachCall(WithReader):
         self.check_each_call("new")
 
     def test_messages_that_are_put_back_into_new(self):
-        """Also between the listing of `new` and that of `cur`, so that neither has them."""
-        self.check_each_call("cur", READER_BACK="1")
+        """Also between the listing of `new`, which has another, and that of `cur`, so that neither has them."""
+        self.check_each_call("cur", one_is_new=True, READER_BACK="1")
 
     def test_messages_that_are_put_back_while_there_is_no_record(self):
         self.account.rcfile.write_text(self.account.rcfile.read_text() + "read_all = false\n")

@@ -11,9 +11,10 @@ use command_line::StandIns;
 use fetch_rules::{RcFault, Settings};
 use folder_store::ProcessMark;
 use getmail_program::{
-    Errors, Failure, Output, Reasons, Setup, Words, explain, fail, failure_of, fetch_at, home,
-    read_words, rehearse, set_up, tell,
+    Errors, Failure, Output, Reasons, Setup, explain, fail, failure_of, fetch_at, home, rehearse,
+    set_up, tell,
 };
+use getmail_words::{Words, read_words};
 use std::env;
 use std::hash::RandomState;
 use std::io::{self, ErrorKind, IsTerminal, Stderr};

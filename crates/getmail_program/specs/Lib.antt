@@ -1,4 +1,3 @@
-pub mod CommandLine
 pub mod Failures
 pub mod Holding
 pub mod Output

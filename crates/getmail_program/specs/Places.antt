@@ -13,7 +13,7 @@ use Rattle.fetch_session.specs.Account.{digits_of}
 use Rattle.fetch_session.specs.Target.{Kind, Files, Entries}
 use Rattle.getmail_program.specs.declared.setup.Paths.{Paths}
 use Rattle.getmail_program.specs.declared.setup.Setup.{Setup}
-use Rattle.getmail_program.specs.declared.words.Words.{Words}
+use Rattle.getmail_words.specs.declared.words.Words.{Words}
 
 -- the path of a file of a folder, with one '/' between them
 abbrev pub joined : List ℕ → List ℕ → List ℕ

@@ -1,8 +1,12 @@
 //! Why a run ends before its session: the line on standard error, and the exit status.
-ghost use Rattle.std.specs.Prelude.{◌≡◌, ◌≢◌, ◌≤◌};
+ghost use Rattle.std.specs.Prelude.{◌≡◌, ◌≢◌, ◌≤◌, true, false};
 ghost use Rattle.std.specs.IoError.{error_kind};
+ghost use Rattle.clap.specs.Values.{kind_of};
+ghost use Rattle.command_line.specs.Rules.{is_asked_for};
 ghost use Rattle.getmail_program.specs.Failures.{status_of};
 
+use clap::Error;
+use command_line::show;
 use fetch_rules::{RcFault, rc_text};
 use std::alloc::{AllocError, AllocFailed, Global};
 use std::io::{self, ErrorKind};
@@ -100,5 +104,18 @@ pub fn tell<R: Eprint + AllocGlobal>(rt: &R, failure: Failure<'_>) -> u8
     match failure {
         Failure::CannotConnect(_, _) => 1,
         _ => 2,
+    }
+}
+
+/// Shows why there are no words, and returns the exit status: 0 for help or the version that was written,
+/// 1 for one that wasn't, 2 for a mistake or if memory ran out.
+pub fn explain<R: Print + Eprint + AllocGlobal>(rt: &R, error: &Error) -> u8
+    ensures text { is_asked_for (kind_of error.now) ≡ true → result ≤ 1 }
+    ensures other { is_asked_for (kind_of error.now) ≡ false → result ≡ 2 }
+    ensures within { result ≤ 2 }
+{
+    match show(rt, "getmail", error) {
+        Some(status) => status,
+        None => tell(rt, Failure::NoMemory),
     }
 }

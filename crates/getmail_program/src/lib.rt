@@ -18,11 +18,10 @@ mod shown_wire;
 mod told;
 mod transcript;
 mod why;
-mod words;
 
 pub use devices::fetch_at;
 pub use ending::{Fetched, Manner};
-pub use failure::{Failure, failure_of, tell};
+pub use failure::{Failure, explain, failure_of, tell};
 pub use output::{Output, Refusal};
 pub use place::home;
 pub use rehearsal::rehearse;
@@ -31,4 +30,3 @@ pub use setup::{Paths, Setup, set_up};
 pub use shown_wire::ShownWire;
 pub use told::Told;
 pub use why::{Errors, Reasons, fail};
-pub use words::{Words, explain, read_words};

@@ -1,7 +1,7 @@
 use Rattle.std.proofs.Common.{◌∙◌, ap₂, refl}
 use Rattle.std.proofs.lemmas.Result.{IfOk-weaker}
 use Rattle.clap.specs.Words.{with_rule}
-use Rattle.getmail_program.proofs.words.with_places.Goals as goal
+use Rattle.getmail_words.proofs.words.with_places.Goals as goal
 
 pub returns : goal.returns
 returns c =

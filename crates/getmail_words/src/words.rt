@@ -1,17 +1,12 @@
 //! The command line, read with clap.
-ghost use Rattle.std.specs.Prelude.{◌≡◌, ◌≤◌, true, false, IfOk, map};
+ghost use Rattle.std.specs.Prelude.{◌≡◌, IfOk, map};
 ghost use Rattle.std.specs.String.{string_bytes};
-ghost use Rattle.clap.specs.Values.{kind_of};
 ghost use Rattle.clap.specs.Words.{FailsBy, app_of, fault_of, found_of, matches_of, rows_of};
-ghost use Rattle.command_line.specs.Rules.{is_asked_for};
-ghost use Rattle.getmail_program.specs.CommandLine.{AsksFor, flags_in, getmail, with_choices, with_loudness, with_places};
+ghost use Rattle.getmail_words.specs.CommandLine.{AsksFor, flags_in, getmail, with_choices, with_loudness, with_places};
 
-use crate::failure::{Failure, tell};
 use clap::{ArgMatches, Command, Error};
-use command_line::{
-    add, flag, is_given, is_on, long_flag, program, show, switch, text, value_option,
-};
-use fetch_rules::Flags;
+use command_line::{add, flag, is_given, is_on, long_flag, program, switch, text, value_option};
+use rc_file::Flags;
 use std::alloc::{AllocError, Global};
 
 /// What the command line asks for.
@@ -143,18 +138,5 @@ pub fn read_words(alloc: Global, words: &[String]) -> Result<Words, Error>
     match command(alloc)?.try_get_matches_from(words) {
         Ok(matches) => Ok(words_of(alloc, &matches)?),
         Err(error) => Err(error),
-    }
-}
-
-/// Shows why there are no words, and returns the exit status: 0 for help or the version that was written,
-/// 1 for one that wasn't, 2 for a mistake or if memory ran out.
-pub fn explain<R: Print + Eprint + AllocGlobal>(rt: &R, error: &Error) -> u8
-    ensures text { is_asked_for (kind_of error.now) ≡ true → result ≤ 1 }
-    ensures other { is_asked_for (kind_of error.now) ≡ false → result ≡ 2 }
-    ensures within { result ≤ 2 }
-{
-    match show(rt, "getmail", error) {
-        Some(status) => status,
-        None => tell(rt, Failure::NoMemory),
     }
 }

@@ -1,4 +1,4 @@
-use Rattle.getmail_program.proofs.words.words_of.Goals as goal
+use Rattle.getmail_words.proofs.words.words_of.Goals as goal
 
 pub returns : goal.returns
 returns c = record {
