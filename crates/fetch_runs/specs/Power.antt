@@ -16,6 +16,7 @@ use Rattle.mail_store.specs.declared.file.flat_file.FlatFile.{Ghosts as FileGhos
 use Rattle.mail_store.specs.declared.maildir.disk.MaildirDisk.{Ghosts as DiskGhosts}
 use Rattle.mail_store.specs.FileName.{is_held, names_id}
 use Rattle.mail_store.specs.FlatFile.{Stored}
+use Rattle.mail_store.specs.Loss.{MayLeave}
 use Rattle.mail_store.specs.Maildir.{File, IsPart, names_of, with_files}
 use Rattle.mail_terms.specs.Listing.{Item}
 use Rattle.mail_terms.specs.UniqueId.{has_id, is_legal_id}
@@ -24,13 +25,6 @@ use Rattle.rc_file.specs.declared.settings.Settings.{Settings}
 use Rattle.run_law.specs.Sessions.{Served}
 use Rattle.fetch_runs.specs.Headline.{World, State, Event, Occasion, Fetched, AreSettings, AreTaken, IsSession, IsSound, IsKept, IsLastStored}
 use Rattle.fetch_runs.specs.Headline.{IsPowerLost, account_of, after_event, maildrop_at, state_after}
-
--- what a loss of power may leave of the files that calls see: some of them, in order, each whole; among these one of each name
--- that stays, and each file that outlives it
-pub record MayLeave {D : Type 0} (disk : DiskGhosts D) (device : D) (files left : List File) : Type 0 where
-  pub part : IsPart files left
-  pub named : (name : List ℕ) → Contains (names_of files) name → disk.stays device name → Contains (names_of left) name
-  pub whole : (f : File) → Contains files f → disk.outlives device f → Contains left f
 
 -- a file of the message stays
 pub record IsSure {D : Type 0} (disk : DiskGhosts D) (device : D) (world : World) (files : List File) (id : List ℕ) : Type 0 where

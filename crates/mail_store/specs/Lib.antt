@@ -4,6 +4,7 @@ pub mod FlatFile
 pub mod Fuse
 pub mod FileName
 pub mod Held
+pub mod Loss
 pub mod Mboxrd
 pub mod MboxCalls
 pub mod MboxScan
