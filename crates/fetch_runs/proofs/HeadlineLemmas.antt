@@ -246,7 +246,7 @@ event_promised laws world state (PowerLost after) sound is lost =
 -- ---- any list of them
 
 -- what is left of the mail is sound
-sound_after : WorldsShrink → (world : World) (event : Event) → IsSound world → IsSound (world_after world event)
+pub sound_after : WorldsShrink → (world : World) (event : Event) → IsSound world → IsSound (world_after world event)
 sound_after shrink world (Withdrawn ids) sound = shrink world.all ids sound
 sound_after shrink world event sound = sound
 

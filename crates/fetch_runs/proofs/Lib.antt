@@ -3,8 +3,10 @@ mod Courses
 mod Fronts
 mod FrontsHonest
 mod HeadlineLemmas
+mod LegalRows
 mod MboxHeadlineLemmas
 mod MboxState
+mod PowerEvents
 mod PowerLosses
 mod PowerRecord
 mod PowerSessions

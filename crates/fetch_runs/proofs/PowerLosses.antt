@@ -64,35 +64,35 @@ held_named account id (x ∷ fs) name (suc k, below, is) named = or_second (name
     or_second a b is = grind (arith, is)
 
 pub losses_are_events : Headline → {D F : Type 0} (disk : DiskGhosts D) (files : FileGhosts F) → LossesAreEvents disk files
-losses_are_events law disk files device f world state left file now sound is can may may_file keeps = record {
+losses_are_events law disk files device f world state after now sound is can may may_file keeps = record {
   record_is = λ rows keeps_rows. (
     now,
     keeps,
-    λ id d. elim (can.shows file.content now rows may_file keeps keeps_rows id d) [
+    λ id d. elim (can.shows after.file.content now rows may_file keeps keeps_rows id d) [
       | inl was ↦ inl was
-      | inr (legal, inl one) ↦ inr (legal, inl (held_named (account_of world) id left one.one.name (named_left id one one.sure) one.named))
+      | inr (legal, inl one) ↦ inr (legal, inl (held_named (account_of world) id after.maildir.files one.one.name (named_left id one one.sure) one.named))
       | inr (legal, inr taken) ↦ inr (legal, inr taken)
     ],
   );
-  mail = λ id legal. by id legal ((law world state [] sound is tt).0.once id legal) (part_copies (stem_of (account_of world) id) state.kept.maildir.files left may.part);
+  mail = λ id legal. by id legal ((law world state [] sound is tt).0.once id legal) (part_copies (stem_of (account_of world) id) state.kept.maildir.files after.maildir.files may.part);
 }
   where
-    named_left : (id : List ℕ) → (one : IsSure disk device world state.kept.maildir.files id) → disk.stays device one.one.name ⊎ disk.outlives device one.one → Contains (names_of left) one.one.name
+    named_left : (id : List ℕ) → (one : IsSure disk device world state.kept.maildir.files id) → disk.stays device one.one.name ⊎ disk.outlives device one.one → Contains (names_of after.maildir.files) one.one.name
     named_left id one (inl stays) = may.named one.one.name (named_in state.kept.maildir.files one.one one.there) stays
-    named_left id one (inr outlives) = named_in left one.one (may.whole one.one one.there outlives)
+    named_left id one (inr outlives) = named_in after.maildir.files one.one (may.whole one.one one.there outlives)
 
-    may_go : (id : List ℕ) → copies left (stem_of (account_of world) id) ≡ [] → IsSure disk device world state.kept.maildir.files id ⊎ (has_id state.taken id ≡ true) ⊎ IsLastStored world state id
+    may_go : (id : List ℕ) → copies after.maildir.files (stem_of (account_of world) id) ≡ [] → IsSure disk device world state.kept.maildir.files id ⊎ (has_id state.taken id ≡ true) ⊎ IsLastStored world state id
         → (has_id state.taken id ≡ true) ⊎ IsLastStored world state id
-    may_go id none (inl one) = absurd (named_some (stem_of (account_of world) id) left one.one.name one.named (named_left id one one.sure) none)
+    may_go id none (inl one) = absurd (named_some (stem_of (account_of world) id) after.maildir.files one.one.name one.named (named_left id one one.sure) none)
     may_go id none (inr may') = may'
 
     by : (id : List ℕ) → is_legal_id id ≡ true → length (contents_of world state.kept id) ≤ 1
-        → (copies left (stem_of (account_of world) id) ≡ contents_of world state.kept id) ⊎ (length (copies left (stem_of (account_of world) id)) < length (contents_of world state.kept id))
-        → (copies left (stem_of (account_of world) id) ≡ contents_of world state.kept id)
-        ⊎ ((copies left (stem_of (account_of world) id) ≡ []) × ((has_id state.taken id ≡ true) ⊎ IsLastStored world state id))
+        → (copies after.maildir.files (stem_of (account_of world) id) ≡ contents_of world state.kept id) ⊎ (length (copies after.maildir.files (stem_of (account_of world) id)) < length (contents_of world state.kept id))
+        → (copies after.maildir.files (stem_of (account_of world) id) ≡ contents_of world state.kept id)
+        ⊎ ((copies after.maildir.files (stem_of (account_of world) id) ≡ []) × ((has_id state.taken id ≡ true) ⊎ IsLastStored world state id))
     by id legal once (inl same) = inl same
     by id legal once (inr less) =
-        let parts = less_than_one (copies left (stem_of (account_of world) id)) (contents_of world state.kept id) less once in
+        let parts = less_than_one (copies after.maildir.files (stem_of (account_of world) id)) (contents_of world state.kept id) less once in
         inr (parts.0, may_go id parts.0 (can.stay id legal (some_held (account_of world) id state.kept.maildir.files parts.1)))
 
 pub all_on_disk : OneRecord → {D F : Type 0} (disk : DiskGhosts D) (files : FileGhosts F) → AllMayBeOnDisk disk files

@@ -8,13 +8,14 @@ use Rattle.std.proofs.lemmas.List.Elements.{filter-append, recursion_from_All}
 use Rattle.std.proofs.lemmas.List.Concat.{flat_map-append}
 use Rattle.std.proofs.lemmas.List.Folds.{list_any-append}
 use Rattle.std.proofs.lemmas.Slice.Eq.{bytes_eq-Decides}
-use Rattle.fetch_rules.specs.Record.{Row, has_row, is_delivered, marked, marked_all, none_open}
+use Rattle.fetch_rules.specs.Record.{Row, has_row, is_delivered, marked, marked_all, merged, none_open}
 use Rattle.fetch_rules.specs.Plan.{IsQuiet, planned}
 use Rattle.fetch_rules.specs.declared.steps.Step.{Step}
 use Rattle.fetch_session.specs.Account.{digits_of}
-use Rattle.fetch_session.specs.Lasting.{AreLeft, AreSure, CarriesForGood, IsUntouched, Lasts, Leaves, ProceedsForGood}
+use Rattle.fetch_session.specs.Lasting.{AreLeft, AreSure, CarriesForGood, IsUntouched, Lasts, Leaves, MergeLasts, ProceedsForGood, UnpreparedForGood, UnreadyLasts}
 use Rattle.fetch_session.specs.Laws.{LastingIsASession, SteadyFilesKeep, UnsavedFilesKeep}
 use Rattle.fetch_session.specs.Plan.{Carried, tasks_ahead}
+use Rattle.fetch_session.specs.Readiness.{UnreadyCause}
 use Rattle.fetch_session.specs.Record.{KeepsRows}
 use Rattle.fetch_session.specs.Scene.{FileNotSaved, NoFile, Scene, Stops, scene}
 use Rattle.fetch_session.specs.Session.{Keeping, Kept, LeavesLink, Session, keeps_files, kept, outcome_of}
@@ -24,14 +25,19 @@ use Rattle.fetch_session.specs.Target.{AsFiles, Stores, flags_in, in_maildir}
 use Rattle.fetch_session.specs.Task.{Done, Task, deleting, fetching, file_from, files_in, files_of, ids_ahead, ids_in, ids_of, says, stores, tasks_of, tasks_planned}
 use Rattle.fetch_session.specs.declared.account.Store.TheVariants.{Maildir as InMaildir}
 use Rattle.fetch_session.specs.declared.fault.Cut.{Cut}
+use Rattle.fetch_session.specs.declared.fault.Fault.{Fault}
+use Rattle.fetch_session.specs.declared.fault.Fault.TheVariants.{BadSeen, NoMemory, SeenRefused, StoreRefused}
+use Rattle.fetch_session.specs.declared.fault.Why.TheVariants.{Missing, Refused}
 use Rattle.fetch_session.specs.declared.report.ReportLine.{ReportLine}
 use Rattle.fetch_session.specs.declared.report.Skips.{Skips}
 use Rattle.mail_store.specs.declared.file.flat_file.FlatFile.{Ghosts as FileGhosts}
 use Rattle.mail_store.specs.declared.maildir.disk.MaildirDisk.{Ghosts as DiskGhosts}
 use Rattle.mail_store.specs.FileName.{IsAccountText, NamesAreBases, NamesHaveStems, StemsDiffer, account_text, is_held, names_id, sized_file, stem, stem_of}
 use Rattle.mail_store.specs.FlatFile.{Stored}
-use Rattle.mail_store.specs.Maildir.{File, Maildir, counted, dropped, names_of}
-use Rattle.mail_terms.specs.Listing.{Item}
+use Rattle.mail_store.specs.Held.{flags_of}
+use Rattle.mail_store.specs.Maildir.{File, Maildir, counted, dropped, name_in, names_of}
+use Rattle.mail_store.specs.Power.{LeavesNoMore, TookOne, count_named}
+use Rattle.mail_terms.specs.Listing.{Item, is_flagged}
 use Rattle.mail_terms.specs.UniqueId.{has_id, is_legal_id}
 use Rattle.pop3_wire.specs.Place.{Place, at}
 use Rattle.rc_file.specs.declared.settings.Settings.{Settings}
@@ -41,11 +47,13 @@ use Rattle.run_law.specs.Accounts.{copies}
 use Rattle.run_law.specs.Mails.{messages_after, selected}
 use Rattle.run_law.specs.Power.{OneMoreIsLast}
 use Rattle.fetch_runs.specs.Headline.{World, State, Occasion, Fetched, IsNeither, IsRecorded, IsSession, IsSound, IsKept, IsLastStored, Headline, account_of, after_event, frame_of, situation}
-use Rattle.fetch_runs.specs.Power.{AllButLastStay, CanLosePower, IsSessionOf, IsSure, PreparedAny, SessionsAndPower, ShowsSure, WasReady}
+use Rattle.fetch_runs.specs.Power.{AllButLastStay, CanLosePower, IsSessionOf, IsSure, IsSureOrTaken, SessionsAndPower, ShowsSure}
 use Rattle.fetch_runs.proofs.HeadlineLemmas.{Laws, same_digits, sound_frame, vanished_recorded}
 use Rattle.fetch_runs.proofs.TalkCommands.{all_weaker}
+use Rattle.fetch_runs.proofs.PowerEvents.{recorded_sure}
 use Rattle.fetch_runs.proofs.PowerLosses.{held_file, named_in}
-use Rattle.fetch_runs.proofs.PowerRecord.{IsLegalOr, IsOneOf, RecordLaws, left_stands}
+use Rattle.fetch_runs.proofs.LegalRows.{kept_legal}
+use Rattle.fetch_runs.proofs.PowerRecord.{RecordLaws, left_stands}
 
 -- the laws that are used
 pub record PowerLaws : Type 0 where
@@ -58,6 +66,8 @@ pub record PowerLaws : Type 0 where
   pub steady : SteadyFilesKeep
   pub unsaved : UnsavedFilesKeep
   pub all : Laws
+  pub flagged : (rows : List Row) (listing : List Item) (held : List Bool) (now : ℕ) (uid : List ℕ)
+      → is_delivered (merged rows listing held now) uid ≡ is_delivered rows uid || is_flagged listing held uid
 
 pub named_file : NamesHaveStems → NamesAreBases → (account uid text : List ℕ) → IsAccountText account → names_id account uid (sized_file (stem_of account uid) text).name ≡ true
 named_file stems bases account uid text is =
@@ -65,6 +75,56 @@ named_file stems bases account uid text is =
     (bytes_eq-Decides (stem_of account uid) (stem (sized_file (stem_of account uid) text).name)).1 (sym e)
 
 -- ---- lists
+
+count_there : (fs : List File) (f : File) → Contains fs f → 1 ≤ count_named f.name fs
+count_there [] f (k, below, is) = absurd (omega (arith, below))
+count_there (x ∷ fs) f (zero, below, is) =
+    let e : bytes_eq f.name x.name ≡ true = (bytes_eq-Decides f.name x.name).1 (ap name_in (sym is)) in
+    let more : count_named f.name (x ∷ fs) ≡ suc (count_named f.name fs) = rw e refl in
+    omega (arith, more)
+count_there (x ∷ fs) f (suc k, below, is) = by (bytes_eq f.name x.name) refl (count_there fs f (k, omega (arith, below), is))
+  where
+    by : (b : Bool) → bytes_eq f.name x.name ≡ b → 1 ≤ count_named f.name fs → 1 ≤ count_named f.name (x ∷ fs)
+    by true e some = let more : count_named f.name (x ∷ fs) ≡ suc (count_named f.name fs) = rw e refl in omega (arith, more)
+    by false e some = let same : count_named f.name (x ∷ fs) ≡ count_named f.name fs = rw e refl in omega (arith, same, some)
+
+-- files of one name have one stem
+count_below : (front name : List ℕ) (fs : List File) → bytes_eq front (stem name) ≡ true → count_named name fs ≤ length (copies fs front)
+count_below front name [] its = omega arith
+count_below front name (x ∷ fs) its = by (count_below front name fs its) (bytes_eq name x.name) refl (bytes_eq front (stem x.name)) refl
+  where
+    by : count_named name fs ≤ length (copies fs front) → (b : Bool) → bytes_eq name x.name ≡ b → (s : Bool) → bytes_eq front (stem x.name) ≡ s → count_named name (x ∷ fs) ≤ length (copies (x ∷ fs) front)
+    by rest true e true s =
+        let a : count_named name (x ∷ fs) ≡ suc (count_named name fs) = rw e refl in
+        let b : copies (x ∷ fs) front ≡ x.content ∷ copies fs front = rw s refl in
+        let c = ap length b in
+        omega (arith, a, c, rest)
+    by rest true e false s = absurd (both_ways (bytes_eq front (stem x.name)) s (ap (λ n. bytes_eq front (stem n)) (sym ((bytes_eq-Decides name x.name).0 e)) ∙ its))
+    by rest false e true s =
+        let a : count_named name (x ∷ fs) ≡ count_named name fs = rw e refl in
+        let b : copies (x ∷ fs) front ≡ x.content ∷ copies fs front = rw s refl in
+        let c = ap length b in
+        omega (arith, a, c, rest)
+    by rest false e false s =
+        let a : count_named name (x ∷ fs) ≡ count_named name fs = rw e refl in
+        let b : copies (x ∷ fs) front ≡ copies fs front = rw s refl in
+        let c = ap length b in
+        omega (arith, a, c, rest)
+
+-- what is flagged is held
+flag_held : (account : List ℕ) (maildir : Maildir) (items : List Item) (id : List ℕ) → is_flagged items (flags_of account maildir items) id ≡ true → is_held account maildir id ≡ true
+flag_held account maildir [] id never = absurd (both_ways false refl never)
+flag_held account maildir (i ∷ items) id flagged =
+    elim (or_cases (is_held account maildir i.uid && bytes_eq i.uid id) (is_flagged items (flags_of account maildir items) id) flagged) [
+      | inl here ↦ subst (λ (x : List ℕ). is_held account maildir x ≡ true) ((bytes_eq-Decides i.uid id).0 (second (is_held account maildir i.uid) (bytes_eq i.uid id) here)) (first (is_held account maildir i.uid) (bytes_eq i.uid id) here)
+      | inr later ↦ flag_held account maildir items id later
+    ]
+  where
+    first : (a b : Bool) → (a && b) ≡ true → a ≡ true
+    first a b both = grind (arith, both)
+
+    second : (a b : Bool) → (a && b) ≡ true → b ≡ true
+    second a b both = grind (arith, both)
 
 contains_split : {A : Type 0} (xs ys : List A) (x : A) → Contains (xs ++ ys) x → Contains xs x ⊎ Contains ys x
 contains_split [] ys x there = inr there
@@ -202,7 +262,7 @@ module _ (laws : PowerLaws) {D F : Type 0} (disk : DiskGhosts D) (files : FileGh
 
   -- the ids that these rows deliver are delivered in those, or a file of them is sure
   abbrev Shown : Maildir → List Row → List Row → List ℕ → Type 0
-  Shown maildir rows others id = is_delivered others id ≡ true → IsLegalOr rows id
+  Shown maildir rows others id = is_delivered others id ≡ true → is_legal_id id ≡ true
       → (is_delivered rows id ≡ true) ⊎ ((is_legal_id id ≡ true) × (IsSure disk device world maildir.files id ⊎ (has_id taken id ≡ true)))
 
   shown_by : (maildir : Maildir) (was others : List Row) → Leaves files f (AreLeft was others)
@@ -218,9 +278,9 @@ module _ (laws : PowerLaws) {D F : Type 0} (disk : DiskGhosts D) (files : FileGh
           let no_rows = (subst (λ (c : Option (List ℕ)). KeepsRows c now) none keeps_now).1.0 in
           absurd (both_ways false refl (sym (ap (λ (r : List Row). is_delivered r id) no_rows) ∙ d))
 
-      stands : IsOneOf was others now → Result
+      stands : (now ≡ was) ⊎ (now ≡ others) → Result
       stands (inl same) = inl (within rows keeps id (subst (λ (r : List Row). is_delivered r id ≡ true) same d))
-      stands (inr (same, legal)) = elim (more id (subst (λ (r : List Row). is_delivered r id ≡ true) same d) (legal id d)) [
+      stands (inr same) = elim (more id (subst (λ (r : List Row). is_delivered r id ≡ true) same d) (kept_legal left now keeps_now id d)) [
         | inl e ↦ inl (within rows keeps id e)
         | inr sure ↦ inr sure
       ]
@@ -234,16 +294,19 @@ module _ (laws : PowerLaws) {D F : Type 0} (disk : DiskGhosts D) (files : FileGh
       → (id : List ℕ) → Shown maildir was (marked was uid) id
   one_more maildir was uid g there outlives named id d legal = elim (or_cases (is_delivered was id) (has_row was id && bytes_eq uid id) (sym (laws.record_is.marks was uid id) ∙ d)) [
     | inl e ↦ inl e
-    | inr both ↦ by legal (subst (λ x. names_id account x g.name ≡ true) ((bytes_eq-Decides uid id).0 (second (has_row was id) (bytes_eq uid id) both)) named)
+    | inr both ↦ inr (
+      legal,
+      inl (record {
+        one = g;
+        there = there;
+        named = subst (λ x. names_id account x g.name ≡ true) ((bytes_eq-Decides uid id).0 (second (has_row was id) (bytes_eq uid id) both)) named;
+        sure = inr outlives;
+      }),
+    )
   ]
     where
       second : (a b : Bool) → (a && b) ≡ true → b ≡ true
       second a b both = grind (arith, both)
-
-      by : IsLegalOr was id → names_id account id g.name ≡ true
-          → (is_delivered was id ≡ true) ⊎ ((is_legal_id id ≡ true) × (IsSure disk device world maildir.files id ⊎ (has_id taken id ≡ true)))
-      by (inl e) its = inl e
-      by (inr l) its = inr (l, inl (record { one = g; there = there; named = its; sure = inr outlives }))
 
   -- ---- of a session
 
@@ -486,24 +549,12 @@ module _ (laws : PowerLaws) {D F : Type 0} (disk : DiskGhosts D) (files : FileGh
   abbrev pub Answered : Type 0
   Answered = CanLosePower disk files device f world (after_event state (Fetched occasion))
 
-  -- nothing was written
-  module _ (same : occasion.after.maildir.files ≡ state.kept.maildir.files) (un : IsUntouched disk files (InMaildir was) (InMaildir device) from f) where
-    same_content : occasion.after.file.content ≡ state.kept.file.content
-    same_content = ap (λ (s : Stored). s.content) (is.file_is ∙ un.same ∙ sym is.from_is)
-
+  -- the files and the record are as they were, and no more may be left
+  module _ (same : occasion.after.maildir.files ≡ state.kept.maildir.files) (same_content : occasion.after.file.content ≡ state.kept.file.content)
+      (no_more : LeavesNoMore (files.may_leave from) (files.may_leave f))
+      (sure_on : (id : List ℕ) → is_legal_id id ≡ true → IsSure disk was world state.kept.maildir.files id → IsSure disk device world occasion.after.maildir.files id) where
     same_held : (id : List ℕ) → is_held (account_of world) occasion.after.maildir id ≡ is_held (account_of world) state.kept.maildir id
     same_held id = ap (λ (l : List File). list_any (λ (g : File). names_id (account_of world) id g.name) l) same
-
-    sure_on : (id : List ℕ) → IsSure disk was world state.kept.maildir.files id → IsSure disk device world occasion.after.maildir.files id
-    sure_on id one = record {
-      one = one.one;
-      there = subst (λ (l : List File). Contains l one.one) (sym same) one.there;
-      named = one.named;
-      sure = elim one.sure [
-        | inl stays ↦ inl (un.mail.0 one.one.name stays)
-        | inr outlives ↦ inr (un.mail.1 one.one outlives)
-      ];
-    }
 
     recorded_back : (id : List ℕ) → IsRecorded occasion.after id → IsRecorded state.kept id
     recorded_back id r = (r.0, subst (λ (c : Option (List ℕ)). KeepsRows c r.0) same_content r.1, r.2)
@@ -520,48 +571,169 @@ module _ (laws : PowerLaws) {D F : Type 0} (disk : DiskGhosts D) (files : FileGh
           (messages_after id (selected world.max_size world.all)) (λ m not. (same_held m.uid ∙ not.0, not.1)) lastly.last;
     })
 
-    still : Answered
-    still = record {
+    as_it_was : Answered
+    as_it_was = record {
       stay = λ id legal held. elim (can.stay id legal (sym (same_held id) ∙ held)) [
-        | inl one ↦ inl (sure_on id one)
+        | inl one ↦ inl (sure_on id legal one)
         | inr go ↦ inr (go_on id go)
       ];
-      shows = λ left now rows may keeps_now keeps id d. elim (can.shows left now rows (un.no_more left may) keeps_now (subst (λ (c : Option (List ℕ)). KeepsRows c rows) same_content keeps) id d) [
+      shows = λ left now rows may keeps_now keeps id d. elim (can.shows left now rows (no_more left may) keeps_now (subst (λ (c : Option (List ℕ)). KeepsRows c rows) same_content keeps) id d) [
         | inl e ↦ inl e
-        | inr (legal, inl one) ↦ inr (legal, inl (sure_on id one))
+        | inr (legal, inl one) ↦ inr (legal, inl (sure_on id legal one))
         | inr (legal, inr taken) ↦ inr (legal, inr taken)
       ];
     }
 
-  pub answered : Answered
-  answered = by is.session.result is.session.proceeds is.ready is.session.leaves is.session.reports
-    where
-      safe : AreSure files (InMaildir was) from
-      safe = (tt, is.sure)
+  -- nothing was written
+  still : occasion.after.maildir.files ≡ state.kept.maildir.files → IsUntouched disk files (InMaildir was) (InMaildir device) from f → Answered
+  still same un = as_it_was same (ap (λ (s : Stored). s.content) (is.file_is ∙ un.same ∙ sym is.from_is)) un.no_more (λ id legal one. record {
+    one = one.one;
+    there = subst (λ (l : List File). Contains l one.one) (sym same) one.there;
+    named = one.named;
+    sure = elim one.sure [
+      | inl stays ↦ inl (un.mail.0 one.one.name stays)
+      | inr outlives ↦ inr (un.mail.1 one.one outlives)
+    ];
+  })
 
+  safe : AreSure files (InMaildir was) from
+  safe = (tt, is.sure)
+
+  -- it was cut while it prepared the record
+  module _ (items : List Item) (place place' : Place) (cut : Cut) (rows' : List Row) (lines : List ReportLine)
+      (u : UnpreparedForGood disk files (InMaildir was) from (AsFiles digits_here) items occasion.now place (in_maildir state.kept.maildir) state.kept.file [] cut
+      (scene place' (in_maildir occasion.after.maildir) occasion.after.file rows' lines) (InMaildir device) f) where
+    same_files : occasion.after.maildir.files ≡ state.kept.maildir.files
+    same_files = by cut.fault u.unprepared.unready.cause
+      where
+        by : (fault : Fault) → UnreadyCause fault state.kept.maildir state.kept.file occasion.after.maildir occasion.after.file → occasion.after.maildir.files ≡ state.kept.maildir.files
+        by SeenRefused cause = ap (λ (m : Maildir). m.files) cause.1
+        by (BadSeen line) cause = ap (λ (m : Maildir). m.files) cause.1
+        by (StoreRefused Missing) cause = ap (λ (m : Maildir). m.files) cause.1
+        by (StoreRefused Refused) cause = ap (λ (m : Maildir). m.files) cause
+        by NoMemory cause = ap (λ (m : Maildir). m.files) cause
+        by _ never = absurd never
+
+    lasts : UnreadyLasts disk files (InMaildir was) from (AsFiles digits_here) items occasion.now (in_maildir state.kept.maildir) state.kept.file (InMaildir device) f
+    lasts = u.lasts safe
+
+    sure_left : (id : List ℕ) → is_legal_id id ≡ true → IsSure disk was world state.kept.maildir.files id → IsSure disk device world occasion.after.maildir.files id
+    sure_left id legal one = record {
+      one = one.one;
+      there = subst (λ (l : List File). Contains l one.one) (sym same_files) one.there;
+      named = one.named;
+      sure = elim one.sure [
+        | inl stays ↦ elim (lasts.mail.0 one.one.name stays) [
+          | inl on ↦ inl on
+          | inr took ↦ absurd (none_took took)
+        ]
+        | inr outlives ↦ elim (lasts.mail.1 one.one outlives) [
+          | inl on ↦ inr on
+          | inr took ↦ absurd (none_took took)
+        ]
+      ];
+    }
+      where
+        none_took : TookOne one.one.name (disk.maildir was).files state.kept.maildir.files → ⊥
+        none_took took =
+            let there = count_there state.kept.maildir.files one.one one.there in
+            let below = count_below (stem_of (account_of world) id) one.one.name (disk.maildir was).files one.named in
+            let once = is.once id legal in
+            absurd (omega (arith, took, there, below, once))
+
+    -- the record was merged, or was about to be
+    module _ (m : MergeLasts disk files (AsFiles digits_here) items occasion.now (in_maildir state.kept.maildir) state.kept.file (InMaildir device) from f) where
+      abbrev here : List Row
+      here = merged m.was.rows items (flags_of digits_here state.kept.maildir items) occasion.now
+
+      all_sure : (id : List ℕ) → is_held (account_of world) occasion.after.maildir id ≡ true → IsSure disk device world occasion.after.maildir.files id
+      all_sure id held =
+          let file = held_file (account_of world) id occasion.after.maildir.files held in
+          record {
+            one = file.0;
+            there = file.1;
+            named = file.2;
+            sure = inl (m.stay file.0.name (subst (λ (d : Maildir). Contains (names_of d.files) file.0.name) is.maildir_is (named_in occasion.after.maildir.files file.0 file.1)));
+          }
+
+      abbrev Shows : List ℕ → List Row → Type 0
+      Shows id rows = (is_delivered rows id ≡ true) ⊎ ((is_legal_id id ≡ true) × IsSureOrTaken disk device world (after_event state (Fetched occasion)) id)
+
+      moved : (id : List ℕ) → is_legal_id id ≡ true → IsSureOrTaken disk was world state id → IsSureOrTaken disk device world (after_event state (Fetched occasion)) id
+      moved id legal (inl sure) = inl (sure_left id legal sure)
+      moved id legal (inr taken) = inr taken
+
+      of_recorded : (id : List ℕ) (rows : List Row) → is_delivered is_kept.0 id ≡ true → Shows id rows
+      of_recorded id rows delivered =
+          let safe_before = recorded_sure laws.record_is.one disk files world sound state is_kept was from can id delivered in
+          inr (safe_before.0, moved id safe_before.0 safe_before.1)
+
+      of_was : (id : List ℕ) (rows : List Row) → is_delivered m.was.rows id ≡ true → Shows id rows
+      of_was id rows delivered = of_recorded id rows (ap (λ (r : List Row). is_delivered r id)
+          (laws.record_is.one state.kept.file.content is_kept.0 m.was.rows is_kept.1.0 m.was.intent is_kept.1.1 m.stood).0 ∙ delivered)
+
+      of_merged : (id : List ℕ) (rows : List Row) → is_legal_id id ≡ true → is_delivered here id ≡ true → Shows id rows
+      of_merged id rows legal delivered =
+          elim (or_cases (is_delivered m.was.rows id) (is_flagged items (flags_of digits_here state.kept.maildir items) id)
+          (sym (laws.flagged m.was.rows items (flags_of digits_here state.kept.maildir items) occasion.now id) ∙ delivered)) [
+            | inl before ↦ of_was id rows before
+            | inr flagged ↦ inr (
+              legal,
+              inl (all_sure id (ap (λ (l : List File). list_any (λ (g : File). names_id (account_of world) id g.name) l) same_files
+                  ∙ subst (λ (a : List ℕ). is_held a state.kept.maildir id ≡ true) (same_digits world occasion.settings is.settings) (flag_held digits_here state.kept.maildir items id flagged))),
+            )
+          ]
+
+      shows_left : (left : Option (List ℕ)) (now rows : List Row) → KeepsRows left now → (id : List ℕ) → is_delivered now id ≡ true
+          → files.may_leave from left ⊎ (AreLeft m.was.rows here left ⊎ AreLeft here here left) → Shows id rows
+      shows_left left now rows keeps_now id d (inl before) = elim (can.shows left now is_kept.0 before keeps_now is_kept.1 id d) [
+        | inl delivered ↦ of_recorded id rows delivered
+        | inr (legal, safe_before) ↦ inr (legal, moved id legal safe_before)
+      ]
+      shows_left left now rows keeps_now id d (inr (inl are)) = elim (left_stands laws.record_is m.was.rows here now left are keeps_now) [
+        | inl same ↦ of_was id rows (subst (λ (r : List Row). is_delivered r id ≡ true) same d)
+        | inr same ↦ of_merged id rows (kept_legal left now keeps_now id d) (subst (λ (r : List Row). is_delivered r id ≡ true) same d)
+      ]
+      shows_left left now rows keeps_now id d (inr (inr are)) = elim (left_stands laws.record_is here here now left are keeps_now) [
+        | inl same ↦ of_merged id rows (kept_legal left now keeps_now id d) (subst (λ (r : List Row). is_delivered r id ≡ true) same d)
+        | inr same ↦ of_merged id rows (kept_legal left now keeps_now id d) (subst (λ (r : List Row). is_delivered r id ≡ true) same d)
+      ]
+
+      merging : Answered
+      merging = record {
+        stay = λ id legal held. inl (all_sure id held);
+        shows = λ left now rows may keeps_now keeps id d. shows_left left now rows keeps_now id d (m.leaves left may);
+      }
+
+    unready : Answered
+    unready = elim lasts.rows [
+      | inl (no_more, same) ↦ as_it_was same_files (ap (λ (s : Stored). s.content) is.file_is ∙ same) no_more sure_left
+      | inr m ↦ merging m
+    ]
+
+  pub answered : Answered
+  answered = by is.session.result is.session.proceeds is.session.leaves is.session.reports
+    where
       by : (result : Result (Unit {0}) Cut)
           → (proceeds : ProceedsForGood disk files (InMaildir was) from occasion.settings (AsFiles digits_here) occasion.now (at occasion.link []) (keeps_files state.kept) result is.session.mid (keeps_files occasion.after) is.session.notes (InMaildir device) f)
-          → PreparedAny disk files (InMaildir was) from occasion.settings (AsFiles digits_here) occasion.now (at occasion.link []) (keeps_files state.kept) result is.session.mid (keeps_files occasion.after) is.session.notes (InMaildir device) f proceeds
           → LeavesLink result is.session.mid occasion.link' → Reports (outcome_of result) is.session.notes.total is.session.notes.skipped is.session.notes.lines occasion.report → Answered
-      by (Ok done) dealt ready leaves reports =
+      by (Ok done) dealt leaves reports =
           let c = dealt.carries.1 in
           elim (c.lasts safe) [
             | inl (quiet, un) ↦ still (quiet_ok laws disk files world sound state.kept gone_after state.taken occasion.after.file device f is.file_is is.none _ _ _ _ _ _ _ _ _ occasion.after.maildir (same_digits world occasion.settings is.settings) c.carried quiet) un
-            | inr (lasts, stay) ↦ answer_ok laws disk files world sound state.kept gone_after state.taken occasion.after.file device f is.file_is is.none _ _ _ _ _ _ _ _ _ occasion.after.maildir (same_digits world occasion.settings is.settings) c.carried stay lasts
+            | inr (lasts, mail) ↦ answer_ok laws disk files world sound state.kept gone_after state.taken occasion.after.file device f is.file_is is.none _ _ _ _ _ _ _ _ _ occasion.after.maildir (same_digits world occasion.settings is.settings) c.carried mail.stay lasts
           ]
-      by (Err cut) (inl (stopped, un)) ready leaves reports = still (ap (λ (k : Keeping). k.store.maildir.files) stopped.same) un
-      by (Err cut) (inr (inl (wanting, un))) ready leaves reports = still (ap (λ (k : Keeping). k.store.maildir.files) wanting.same) un
-      by (Err cut) (inr (inr dealt)) ready leaves reports = of dealt.carries ready
+      by (Err cut) (inl (stopped, un)) leaves reports = still (ap (λ (k : Keeping). k.store.maildir.files) stopped.same) un
+      by (Err cut) (inr (inl (wanting, un))) leaves reports = still (ap (λ (k : Keeping). k.store.maildir.files) wanting.same) un
+      by (Err cut) (inr (inr dealt)) leaves reports = of dealt.carries
         where
           of : (carries : CarriesForGood disk files (InMaildir was) from occasion.settings (AsFiles digits_here) dealt.items occasion.now dealt.mid (in_maildir state.kept.maildir) state.kept.file [] (Err cut) is.session.mid
-              (in_maildir occasion.after.maildir) occasion.after.file is.session.notes.lines is.session.notes.skipped (InMaildir device) f)
-              → WasReady disk files (InMaildir was) from occasion.settings (AsFiles digits_here) dealt.items occasion.now dealt.mid (in_maildir state.kept.maildir) state.kept.file [] cut is.session.mid
-              (in_maildir occasion.after.maildir) occasion.after.file is.session.notes.lines is.session.notes.skipped (InMaildir device) f carries → Answered
-          of (rows, inl not) never = absurd never
-          of (rows, inr c) ready = elim (c.lasts safe) [
+              (in_maildir occasion.after.maildir) occasion.after.file is.session.notes.lines is.session.notes.skipped (InMaildir device) f) → Answered
+          of (rows, inl (none_said, u)) = unready dealt.items dealt.mid is.session.mid cut rows is.session.notes.lines u
+          of (rows, inr c) = elim (c.lasts safe) [
             | inl (quiet, un) ↦ still (quiet_cut laws disk files world sound state.kept gone_after state.taken occasion.after.file device f is.file_is is.none _ _ _ _ _ _ _ _ _ occasion.after.maildir (same_digits world occasion.settings is.settings) c.carried quiet) un
-            | inr (lasts, stay) ↦ answer_cut laws disk files world sound state.kept gone_after state.taken occasion.after.file device f is.file_is is.none _ _ _ _ _ _ _ _ _ occasion.after.maildir (same_digits world occasion.settings is.settings)
-                c.carried stay lasts
+            | inr (lasts, mail) ↦ answer_cut laws disk files world sound state.kept gone_after state.taken occasion.after.file device f is.file_is is.none _ _ _ _ _ _ _ _ _ occasion.after.maildir (same_digits world occasion.settings is.settings)
+                c.carried mail.stay lasts
                 (λ m carried. kept_after m (record {
                   result = Err cut;
                   mid = is.session.mid;

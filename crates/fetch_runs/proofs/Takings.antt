@@ -11,7 +11,7 @@ use Rattle.mail_store.specs.FileName.{StemsDiffer, names_id, stem, stem_of}
 use Rattle.run_law.specs.Accounts.{copies}
 use Rattle.run_law.specs.Mails.{ids_of, selected}
 use Rattle.fetch_session.specs.Session.{kept}
-use Rattle.fetch_runs.specs.Headline.{World, State, Event, Between, TakenAway, AreTaken, Headline, IsTakenAway, TakingsAreEvents, account_of}
+use Rattle.fetch_runs.specs.Headline.{World, State, Event, Between, TakenAway, AreTaken, Headline, IsKept, IsSound, IsTakenAway, TakingsAreEvents, account_of, after_event}
 
 abbrev others_than : List ℕ → List File → List File
 others_than front fs = filter (λ (f : File). not (bytes_eq front (stem f.name))) fs
@@ -78,6 +78,41 @@ pub nothing_or_some : {A : Type 0} (xs : List A) → (xs ≡ []) ⊎ (xs ≢ [])
 nothing_or_some [] = inl refl
 nothing_or_some (x ∷ xs) = inr (λ none. cc)
 
+-- ---- parts
+
+-- each event leaves some of the files
+abbrev pub LeaveParts : State → List Event → Type 0
+LeaveParts state [] = Unit {0}
+LeaveParts state (event ∷ events) = IsPart state.kept.maildir.files (after_event state event).kept.maildir.files × LeaveParts (after_event state event) events
+
+others_are_part : (front : List ℕ) (fs : List File) → IsPart fs (others_than front fs)
+others_are_part front [] = refl
+others_are_part front (f ∷ fs) = by (others_are_part front fs) (bytes_eq front (stem f.name)) refl
+  where
+    by : IsPart fs (others_than front fs) → (b : Bool) → bytes_eq front (stem f.name) ≡ b → IsPart (f ∷ fs) (others_than front (f ∷ fs))
+    by more true e = let fewer : others_than front (f ∷ fs) ≡ others_than front fs = rw e refl in subst (IsPart (f ∷ fs)) (sym fewer) (inl more)
+    by more false e = let same : others_than front (f ∷ fs) ≡ f ∷ others_than front fs = rw e refl in inr (others_than front fs, same, more)
+
+-- what is left and has no file of this stem is a part of the others
+part_of_others : (front : List ℕ) (fs left : List File) → IsPart fs left → copies left front ≡ [] → IsPart (others_than front fs) left
+part_of_others front [] left is none = is
+part_of_others front (f ∷ fs) left (inl is) none = by (part_of_others front fs left is none) (bytes_eq front (stem f.name)) refl
+  where
+    by : IsPart (others_than front fs) left → (b : Bool) → bytes_eq front (stem f.name) ≡ b → IsPart (others_than front (f ∷ fs)) left
+    by more true e = let fewer : others_than front (f ∷ fs) ≡ others_than front fs = rw e refl in subst (λ (l : List File). IsPart l left) (sym fewer) more
+    by more false e = let same : others_than front (f ∷ fs) ≡ f ∷ others_than front fs = rw e refl in subst (λ (l : List File). IsPart l left) (sym same) (inl more)
+part_of_others front (f ∷ fs) left (inr (rest, are, is)) none = by (part_of_others front fs rest is) (bytes_eq front (stem f.name)) refl
+  where
+    by : (copies rest front ≡ [] → IsPart (others_than front fs) rest) → (b : Bool) → bytes_eq front (stem f.name) ≡ b → IsPart (others_than front (f ∷ fs)) left
+    by more true e =
+        let there : copies (f ∷ rest) front ≡ f.content ∷ copies rest front = rw e refl in
+        let never : f.content ∷ copies rest front ≡ [] = sym there ∙ ap (λ (l : List File). copies l front) (sym are) ∙ none in
+        absurd cc
+    by more false e =
+        let same : others_than front (f ∷ fs) ≡ f ∷ others_than front fs = rw e refl in
+        let fewer : copies (f ∷ rest) front ≡ copies rest front = rw e refl in
+        subst (λ (l : List File). IsPart l left) (sym same) (inr (rest, are, more (sym fewer ∙ ap (λ (l : List File). copies l front) (sym are) ∙ none)))
+
 -- ---- one id after another
 
 -- the files of each legal id are as they are left; or it is one of these ids, and its files are to be taken away
@@ -93,7 +128,7 @@ module _ (differ : StemsDiffer) (world : World) (maildir : Maildir) (file : Stor
   with_kept fs taken = record { kept = kept (with_files fs maildir) file; gone = gone; taken = taken }
 
   abbrev Told : List File → List (List ℕ) → Type 0
-  Told fs taken = (events : List Event) × AreTaken world (with_kept fs taken) left events
+  Told fs taken = (events : List Event) × AreTaken world (with_kept fs taken) left events × LeaveParts (with_kept fs taken) events
 
   -- its files are taken away
   abbrev IsDue : List File → List ℕ → Type 0
@@ -156,16 +191,18 @@ module _ (differ : StemsDiffer) (world : World) (maildir : Maildir) (file : Stor
   }
 
   one_more : (fs : List File) (id : List ℕ) (taken : List (List ℕ)) → IsDue fs id → Told (without id fs) (id ∷ taken) → Told fs taken
-  one_more fs id taken due (events, told) = (
+  one_more fs id taken due (events, told, parts) = (
     TakenAway id (kept (with_files (without id fs) maildir) file) ∷ events,
     record { each = told.each; run = (is_taken fs id due, told.run); kept = told.kept; gone = told.gone },
+    (others_are_part (stem_of account id) fs, parts),
   )
 
   -- all others are files of other names
-  rest : (fs : List File) (taken : List (List ℕ)) → AreDue account left [] fs → Told fs taken
-  rest fs taken due = (
+  rest : (fs : List File) (taken : List (List ℕ)) → AreDue account left [] fs → IsPart fs left → Told fs taken
+  rest fs taken due part = (
     Between (kept (with_files left maildir) file) ∷ [],
     record { each = tt; run = (record { record_is = λ rows keeps. keeps; mail = λ id l. same id (due id l) }, tt); kept = refl; gone = refl },
+    (part, tt),
   )
     where
       same : (id : List ℕ) → (copies left (stem_of account id) ≡ copies fs (stem_of account id))
@@ -174,21 +211,22 @@ module _ (differ : StemsDiffer) (world : World) (maildir : Maildir) (file : Stor
       same id (inl is) = is
       same id (inr (never, none, some)) = absurd (true≢false (sym never))
 
-  all_told : (ids : List (List ℕ)) (fs : List File) (taken : List (List ℕ)) → AreDue account left ids fs → Told fs taken
-  all_told [] fs taken due = rest fs taken due
-  all_told (id ∷ ids) fs taken due = elim (is_due fs id) [
-    | inl is ↦ one_more fs id taken is (all_told ids (without id fs) (id ∷ taken) (took fs id ids due is))
-    | inr not ↦ all_told ids fs taken (passed fs id ids due not)
+  all_told : (ids : List (List ℕ)) (fs : List File) (taken : List (List ℕ)) → AreDue account left ids fs → IsPart fs left → Told fs taken
+  all_told [] fs taken due part = rest fs taken due part
+  all_told (id ∷ ids) fs taken due part = elim (is_due fs id) [
+    | inl is ↦ one_more fs id taken is (all_told ids (without id fs) (id ∷ taken) (took fs id ids due is) (part_of_others (stem_of account id) fs left part is.1))
+    | inr not ↦ all_told ids fs taken (passed fs id ids due not) part
   ]
 
-pub takings_are_events : Headline → StemsDiffer → TakingsAreEvents
-takings_are_events law differ world state left sound is part =
+pub takings_leave_parts : Headline → StemsDiffer → (world : World) (state : State) (left : List File) → IsSound world → IsKept world state
+    → IsPart state.kept.maildir.files left → (events : List Event) × AreTaken world state left events × LeaveParts state events
+takings_leave_parts law differ world state left sound is part =
     let holds = (law world state [] sound is tt).0 in
     let account = account_of world in
     let ids = ids_of (take holds.j (selected world.max_size world.all)) in
     let files = state.kept.maildir.files in
     all_told differ world state.kept.maildir state.kept.file state.gone left ids files state.taken
-    (λ id l. due ids account files id (holds.ids id l) (holds.once id l) (part_copies (stem_of account id) files left part))
+    (λ id l. due ids account files id (holds.ids id l) (holds.once id l) (part_copies (stem_of account id) files left part)) part
   where
     due : (ids : List (List ℕ)) (account : List ℕ) (files : List File) (id : List ℕ) → (list_any (λ (f : File). names_id account id f.name) files ≡ true → has_id ids id ≡ true)
         → length (copies files (stem_of account id)) ≤ 1
@@ -199,3 +237,8 @@ takings_are_events law differ world state left sound is part =
     due ids account files id among once (inr less) =
         let parts = less_than_one (copies left (stem_of account id)) (copies files (stem_of account id)) less once in
         inr (among (some_held account id files parts.1), parts.0, parts.1)
+
+pub takings_are_events : Headline → StemsDiffer → TakingsAreEvents
+takings_are_events law differ world state left sound is part =
+    let told = takings_leave_parts law differ world state left sound is part in
+    (told.0, told.1)

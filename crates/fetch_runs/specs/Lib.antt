@@ -10,5 +10,6 @@ pub mod MboxRuns
 pub mod MboxSteps
 pub mod MboxTexts
 pub mod Power
+pub mod PowerRuns
 pub mod Runs
 pub mod Steps

@@ -14,7 +14,7 @@ ghost use Rattle.fetch_runs.specs.MboxHonestSession.{MboxHonestSessions};
 ghost use Rattle.fetch_runs.specs.MboxSteps.{MboxSessionIsAStep};
 ghost use Rattle.fetch_runs.specs.MboxTexts.{MboxSessionsAddTexts};
 ghost use Rattle.fetch_runs.specs.Power.{AllMayBeOnDisk, LossesAreEvents, SessionsAndPower};
-ghost use Rattle.fetch_runs.specs.Power.{TakingsKeepPower};
+ghost use Rattle.fetch_runs.specs.PowerRuns.{AsMuchIsSure, EventsKeepPower, HeadlineOn, TakingsRunOn};
 ghost use Rattle.fetch_runs.specs.Steps.{SessionIsAStep};
 
 use fetch_rules::{
@@ -163,14 +163,7 @@ pub fn all_on_disk<D: MaildirDisk, F: FlatFile>()
     files_stand_for_one_record();
 }
 
-/// It still is if readers took files away.
-pub fn takings_keep_power<D: MaildirDisk, F: FlatFile>()
-    ensures { TakingsKeepPower D.MaildirDisk F.FlatFile }
-{
-    headline();
-}
-
-/// So it is after a session, if it was before, unless the session was cut while it prepared its record.
+/// So it is after a session, if it was before.
 pub fn sessions_and_power<D: MaildirDisk, F: FlatFile>()
     ensures { SessionsAndPower D.MaildirDisk F.FlatFile }
 {
@@ -186,6 +179,7 @@ pub fn sessions_and_power<D: MaildirDisk, F: FlatFile>()
     appended_counts();
     torn_is_ignored_or_seen();
     marked_is_delivered();
+    held_is_delivered();
     one_more_is_last();
     stems_differ();
     names_have_stems();
@@ -193,6 +187,44 @@ pub fn sessions_and_power<D: MaildirDisk, F: FlatFile>()
     steady_files_keep();
     unsaved_files_keep();
     lasting_sessions_are_sessions::<D, F>();
+}
+
+/// What devices made anew leave, if it is as much as the last ones left, is kept, also while readers
+/// take files away.
+pub fn as_much_is_sure<D: MaildirDisk, F: FlatFile>()
+    ensures { AsMuchIsSure D.MaildirDisk F.FlatFile }
+{
+    headline();
+}
+
+/// Files that readers take away from a kept state, also during a session, are events over its devices.
+pub fn takings_run_on<D: MaildirDisk, F: FlatFile>()
+    ensures { TakingsRunOn D.MaildirDisk F.FlatFile }
+{
+    headline();
+    stems_differ();
+}
+
+/// Each event keeps it, with what its devices keep; a loss of power is an event, and leaves devices from
+/// which it goes on.
+pub fn events_keep_power<D: MaildirDisk, F: FlatFile>()
+    ensures { EventsKeepPower D.MaildirDisk F.FlatFile }
+{
+    headline();
+    files_stand_for_one_record();
+    losses_are_events::<D, F>();
+    all_on_disk::<D, F>();
+    sessions_and_power::<D, F>();
+}
+
+/// The headline over devices: after any list of sessions, losses of power and other events, each with
+/// what its devices keep, all that the headline promises holds.
+pub fn headline_over_devices<D: MaildirDisk, F: FlatFile>()
+    ensures { HeadlineOn D.MaildirDisk F.FlatFile }
+{
+    headline();
+    worlds_shrink();
+    events_keep_power::<D, F>();
 }
 
 /// A record's file that is missing or empty is one that forgot, whatever it held.

@@ -17,6 +17,7 @@ returns g c = lemmas.sessions_and_power (record {
   digits = c.account_texts_are_digits.ensures;
   steady = c.steady_files_keep.ensures;
   unsaved = c.unsaved_files_keep.ensures;
+  flagged = c.held_is_delivered.ensures;
   all = record {
     steps = c.session_is_a_step.ensures;
     visits = c.links_are_visits.ensures;

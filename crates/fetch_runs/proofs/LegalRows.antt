@@ -1,0 +1,110 @@
+-- Each id that a record delivers is legal, if a file stands for it.
+use Rattle.std.proofs.Common.{◌≡◌, inl, inr, ℕ, zero, suc, ◌+◌, List, [], ◌∷◌, ◌++◌, Bool, true, false, ◌&&◌, ◌||◌, cond, Option, None, Some, refl, sym, subst, arith}
+use Rattle.std.specs.List.{AllByRecursion}
+use Rattle.std.proofs.lemmas.Bool.{both_ways, or_cases}
+use Rattle.std.proofs.lemmas.List.Elements.{recursion_from_All}
+use Rattle.std.proofs.lemmas.Slice.Eq.{bytes_eq-Decides}
+use Rattle.mail_terms.specs.UniqueId.{is_legal_id}
+use Rattle.fetch_rules.specs.Record.{Row, Intent, has_row, is_delivered, is_of, marked}
+use Rattle.fetch_rules.specs.RecordFile.{Version, One, Two, Line, RowLine, GroupLine, IntentLine, IsLine}
+use Rattle.fetch_rules.specs.RecordMeaning.{Ends, Fails, Fault, Judged, InBase, InGroup, BetweenGroups, Means, Progress, Rows, Stands, after_intent, after_line, at_end, counted, has_bytes, has_line_feed, is_open, judged, left_open, line_after, may_take, taken}
+use Rattle.fetch_rules.specs.declared.seen.SeenFault.{SeenFault}
+use Rattle.fetch_rules.specs.declared.seen.SeenFault.TheVariants.{BadRow}
+use Rattle.fetch_session.specs.Record.{KeepsRows}
+
+abbrev AreLegal : List Row → Type 0
+AreLegal rows = AllByRecursion (λ (row : Row). is_legal_id row.uid ≡ true) rows
+
+more_legal : (rows : List Row) (row : Row) → AreLegal rows → is_legal_id row.uid ≡ true → AreLegal (rows ++ row ∷ [])
+more_legal [] row all one = (one, tt)
+more_legal (r ∷ rows) row all one = (all.0, more_legal rows row all.1 one)
+
+marked_legal : (rows : List Row) (uid : List ℕ) → AreLegal rows → AreLegal (marked rows uid)
+marked_legal [] uid all = tt
+marked_legal (r ∷ rows) uid all = (all.0, marked_legal rows uid all.1)
+
+taken_legal : (rows : List Row) (row : Row) → AreLegal rows → is_legal_id row.uid ≡ true → AreLegal (taken rows row)
+taken_legal rows row all one = by (has_row rows row.uid) refl
+  where
+    by : (b : Bool) → has_row rows row.uid ≡ b → AreLegal (taken rows row)
+    by true e = rw e (marked_legal rows row.uid all)
+    by false e = rw e (more_legal rows row all one)
+
+abbrev Legal : Judged → Type 0
+Legal (Stands (InBase rows)) = AreLegal rows
+Legal (Stands (BetweenGroups rows intent)) = AreLegal rows
+Legal (Stands (InGroup before intent rows more)) = AreLegal before × AreLegal rows
+Legal (Fails fault) = Unit {0}
+
+if_stands : (b : Bool) (next : Judged) (fault : SeenFault) → Legal next → Legal (cond b next (Fails fault))
+if_stands true next fault legal = legal
+if_stands false next fault legal = tt
+
+if_fails : (b : Bool) (next : Judged) (fault : SeenFault) → Legal next → Legal (cond b (Fails fault) next)
+if_fails true next fault legal = tt
+if_fails false next fault legal = legal
+
+intent_legal : (version : Version) (n : ℕ) (rows : List Row) (before : Option Intent) (intent : Intent) → AreLegal rows → Legal (after_intent version n rows before intent)
+intent_legal One n rows before intent all = tt
+intent_legal Two n rows (Some other) intent all = tt
+intent_legal Two n rows None intent all = if_stands (has_row rows intent.uid) (Stands (BetweenGroups rows (Some intent))) _ all
+
+line_legal : (version : Version) (n : ℕ) (progress : Progress) (line : Line) → Legal (Stands progress) → IsLine line → Legal (after_line version n progress line)
+line_legal version n (InBase rows) (RowLine row) all is = if_fails (has_row rows row.uid) (Stands (InBase (rows ++ row ∷ []))) _ (more_legal rows row all is.legal)
+line_legal version n (InBase rows) (GroupLine count) all is = (all, all)
+line_legal version n (InBase rows) (IntentLine intent) all is = intent_legal version n rows None intent all
+line_legal version n (BetweenGroups rows before) (RowLine row) all is = tt
+line_legal version n (BetweenGroups rows before) (GroupLine count) all is = (all, all)
+line_legal version n (BetweenGroups rows before) (IntentLine intent) all is = intent_legal version n rows before intent all
+line_legal version n (InGroup old before rows zero) (RowLine row) all is =
+    if_stands (may_take version rows row) (Stands (BetweenGroups (taken rows row) None)) _ (taken_legal rows row all.1 is.legal)
+line_legal version n (InGroup old before rows (suc more)) (RowLine row) all is =
+    if_stands (may_take version rows row) (Stands (InGroup old before (taken rows row) more)) _ (all.0, taken_legal rows row all.1 is.legal)
+line_legal version n (InGroup old before rows more) (GroupLine count) all is = tt
+line_legal version n (InGroup old before rows more) (IntentLine intent) all is = tt
+
+lines_legal : (version : Version) (n : ℕ) (so_far : Judged) (lines : List Line) → Legal so_far → AllByRecursion IsLine lines → Legal (judged version n so_far lines)
+lines_legal version n so_far [] legal each = legal
+lines_legal version n (Fails fault) (line ∷ lines) legal each = tt
+lines_legal version n (Stands progress) (line ∷ lines) legal each =
+    lines_legal version (n + 1) (after_line version n progress line) lines (line_legal version n progress line legal each.0) each.1
+
+counted_legal : (progress : Progress) → Legal (Stands progress) → AreLegal (counted progress)
+counted_legal (InBase rows) all = all
+counted_legal (BetweenGroups rows intent) all = all
+counted_legal (InGroup before intent rows more) all = all.0
+
+ends_legal : (version : Version) (rows : List Row) (intent : Option Intent) (torn : Bool) (of : Version) (n : ℕ) (end : Judged) (rest : List ℕ) → Legal end
+    → Ends of n end rest (Rows version rows intent torn) → AreLegal rows
+ends_legal version rows intent torn of n (Fails fault) rest legal never = absurd cc
+ends_legal version rows intent torn of n (Stands progress) rest legal (none, is) = by (has_line_feed rest) refl
+  where
+    by : (b : Bool) → has_line_feed rest ≡ b → AreLegal rows
+    by true e =
+        let there : at_end of n progress rest ≡ Fault (BadRow (line_after n)) = rw e refl in
+        absurd cc
+    by false e =
+        let there : at_end of n progress rest ≡ Rows of (counted progress) (left_open progress) (is_open progress || has_bytes rest) = rw e refl in
+        let same : rows ≡ counted progress = cc in
+        subst AreLegal (sym same) (counted_legal progress legal)
+
+means_legal : (bytes : List ℕ) (version : Version) (rows : List Row) (intent : Option Intent) (torn : Bool) → Means bytes (Rows version rows intent torn) → AreLegal rows
+means_legal bytes version rows intent torn (inl (none, is)) = let same : rows ≡ [] = cc in subst AreLegal (sym same) tt
+means_legal bytes version rows intent torn (inr (inl (some, other, never))) = absurd cc
+means_legal bytes version rows intent torn (inr (inr by_lines)) =
+    ends_legal version rows intent torn by_lines.version _ (judged by_lines.version 0 (Stands (InBase [])) by_lines.lines) by_lines.rest
+    (lines_legal by_lines.version 0 (Stands (InBase [])) by_lines.lines tt (recursion_from_All IsLine by_lines.lines by_lines.cut.each)) by_lines.ends
+
+and_first : (a b : Bool) → (a && b) ≡ true → a ≡ true
+and_first a b both = grind (arith, both)
+
+delivered_legal : (rows : List Row) (id : List ℕ) → AreLegal rows → is_delivered rows id ≡ true → is_legal_id id ≡ true
+delivered_legal [] id all never = absurd (both_ways false refl never)
+delivered_legal (row ∷ rows) id all delivered = elim (or_cases (is_of id row && row.delivered) (is_delivered rows id) delivered) [
+  | inl here ↦ subst (λ (x : List ℕ). is_legal_id x ≡ true) (sym ((bytes_eq-Decides id row.uid).0 (and_first (is_of id row) row.delivered here))) all.0
+  | inr later ↦ delivered_legal rows id all.1 later
+]
+
+pub kept_legal : (content : Option (List ℕ)) (rows : List Row) → KeepsRows content rows → (id : List ℕ) → is_delivered rows id ≡ true → is_legal_id id ≡ true
+kept_legal None rows (intent, stands) id delivered = absurd (both_ways false refl (subst (λ (r : List Row). is_delivered r id ≡ true) stands.0 delivered))
+kept_legal (Some bytes) rows keeps id delivered = delivered_legal rows id (means_legal bytes keeps.1.0 rows keeps.0 keeps.1.1 keeps.1.2) delivered

@@ -1,0 +1,422 @@
+-- Each event of a run leaves a state in which a loss of power is one.
+use Rattle.std.proofs.Common.{◌≡◌, ◌≢◌, ◌⊎◌, inl, inr, ℕ, List, [], ◌∷◌, ◌++◌, Bool, true, false, not, ◌||◌, Option, refl, sym, ap, subst, ◌∙◌, arith}
+use Rattle.std.specs.Prelude.{bytes_eq}
+use Rattle.std.specs.List.{AllByRecursion, filter}
+use Rattle.std.proofs.lemmas.Bool.{both_ways, cases_Bool, false_from_ne_true, or_cases, or_from}
+use Rattle.std.proofs.lemmas.List.Folds.{list_any-append}
+use Rattle.std.proofs.lemmas.Slice.Eq.{bytes_eq-Decides}
+use Rattle.fetch_rules.specs.Record.{Row, is_delivered}
+use Rattle.fetch_rules.specs.RecordGrowth.{OneRecord}
+use Rattle.fetch_session.specs.Record.{KeepsRows}
+use Rattle.mail_store.specs.declared.file.flat_file.FlatFile.{Ghosts as FileGhosts}
+use Rattle.mail_store.specs.declared.maildir.disk.MaildirDisk.{Ghosts as DiskGhosts}
+use Rattle.mail_store.specs.FileName.{StemsDiffer, is_held, stem_of}
+use Rattle.mail_terms.specs.UniqueId.{has_id, is_legal_id}
+use Rattle.pop3_wire.specs.World.{Message, IsMessage}
+use Rattle.run_law.specs.Accounts.{copies}
+use Rattle.run_law.specs.Mails.{WorldsShrink, ids_of, is_selected, messages_after, selected, texts_of, without}
+use Rattle.run_law.specs.Runs.{HoldsOf}
+use Rattle.fetch_session.specs.Session.{Kept}
+use Rattle.fetch_runs.specs.Headline.{World, AreTaken, AreTakings, State, Event, Fetched, Between, Expired, Withdrawn, TakenAway, BroughtBack, Forgotten, PowerLost, Follows, Headline, IsKept, IsLastStored, IsNeither, IsRecorded, IsRun, IsSound, KeepsRecord, account_of, after_event, contents_of, frame_of, situation, world_after}
+use Rattle.fetch_runs.specs.Power.{AllMayBeOnDisk, CanLosePower, IsSure, IsSureOrTaken, LossesAreEvents, SessionsAndPower}
+use Rattle.fetch_runs.specs.PowerRuns.{AsMuchIsSure, CanAlwaysLosePower, EventOn, EventsKeepPower, HeadlineOn, IsRunOn, KeepsSure, TakingsRunOn, events_of}
+use Rattle.fetch_runs.proofs.HeadlineLemmas.{held_in, sound_after}
+use Rattle.fetch_runs.proofs.PowerLosses.{held_file, named_in, named_some}
+use Rattle.fetch_runs.proofs.PowerTakings.{all_after, all_both, all_selected, contains_part, held_some, same_or_taken, stay_taken, two_in}
+use Rattle.fetch_runs.proofs.Takings.{LeaveParts, some_held, takings_leave_parts}
+
+-- the laws that are used
+pub record EventLaws {D F : Type 0} (disk : DiskGhosts D) (files : FileGhosts F) : Type 0 where
+  pub headline : Headline
+  pub one : OneRecord
+  pub losses : LossesAreEvents disk files
+  pub begins : AllMayBeOnDisk disk files
+  pub sessions : SessionsAndPower disk files
+
+-- ---- lists
+
+or_second : (a b : Bool) → b ≡ true → (a || b) ≡ true
+or_second a b is = grind (arith, is)
+
+not_none : {A : Type 0} (x : A) (xs : List A) → x ∷ xs ≢ []
+not_none x xs none = cc
+
+-- an id of some of these messages is legal
+legal_in : (done rest : List Message) (id : List ℕ) → AllByRecursion (λ (m : Message). is_legal_id m.uid ≡ true) (done ++ rest) → has_id (ids_of done) id ≡ true → is_legal_id id ≡ true
+legal_in [] rest id all never = absurd (both_ways false refl never)
+legal_in (m ∷ done) rest id all has = elim (or_cases (bytes_eq id m.uid) (has_id (ids_of done) id) has) [
+  | inl same ↦ subst (λ (x : List ℕ). is_legal_id x ≡ true) (sym ((bytes_eq-Decides id m.uid).0 same)) all.0
+  | inr more ↦ legal_in done rest id all.1 more
+]
+
+texts_some : (done : List Message) (id : List ℕ) → has_id (ids_of done) id ≡ true → texts_of done id ≢ []
+texts_some [] id never = absurd (both_ways false refl never)
+texts_some (m ∷ done) id has = by (texts_some done id) (bytes_eq id m.uid) refl (or_cases (bytes_eq id m.uid) (has_id (ids_of done) id) has)
+  where
+    by : (has_id (ids_of done) id ≡ true → texts_of done id ≢ []) → (b : Bool) → bytes_eq id m.uid ≡ b → (bytes_eq id m.uid ≡ true) ⊎ (has_id (ids_of done) id ≡ true) → texts_of (m ∷ done) id ≢ []
+    by more true e either none =
+        let there : texts_of (m ∷ done) id ≡ m.text ∷ texts_of done id = rw e refl in
+        not_none m.text (texts_of done id) (sym there ∙ none)
+    by more false e (inl same) none = absurd (both_ways (bytes_eq id m.uid) e same)
+    by more false e (inr later) none =
+        let there : texts_of (m ∷ done) id ≡ texts_of done id = rw e refl in
+        more later (sym there ∙ none)
+
+none_filtered : (p : List ℕ → Bool) (ids : List (List ℕ)) (id : List ℕ) → has_id ids id ≡ false → has_id (filter p ids) id ≡ false
+none_filtered p [] id none = refl
+none_filtered p (x ∷ ids) id none = by (none_filtered p ids id rest) (p x) refl
+  where
+    first : bytes_eq id x ≡ false
+    first = false_from_ne_true (bytes_eq id x) (λ same. both_ways (has_id (x ∷ ids) id) none (ap (λ b. b || has_id ids id) same))
+
+    rest : has_id ids id ≡ false
+    rest = false_from_ne_true (has_id ids id) (λ has. both_ways (has_id (x ∷ ids) id) none (or_second (bytes_eq id x) (has_id ids id) has))
+
+    by : has_id (filter p ids) id ≡ false → (b : Bool) → p x ≡ b → has_id (filter p (x ∷ ids)) id ≡ false
+    by more true e = rw e (or_from (bytes_eq id x) (has_id (filter p ids) id) first more)
+    by more false e = rw e more
+
+still_filtered : (id : List ℕ) (ids : List (List ℕ)) (other : List ℕ) → bytes_eq other id ≡ false → has_id ids other ≡ true → has_id (filter (λ x. not (bytes_eq x id)) ids) other ≡ true
+still_filtered id [] other apart never = absurd (both_ways false refl never)
+still_filtered id (x ∷ ids) other apart has = by (still_filtered id ids other apart) (bytes_eq x id) refl (or_cases (bytes_eq other x) (has_id ids other) has)
+  where
+    by : (has_id ids other ≡ true → has_id (filter (λ y. not (bytes_eq y id)) ids) other ≡ true) → (b : Bool) → bytes_eq x id ≡ b → (bytes_eq other x ≡ true) ⊎ (has_id ids other ≡ true) → has_id (filter (λ y. not (bytes_eq y id)) (x ∷ ids)) other ≡ true
+    by later true e (inl same) = absurd (both_ways (bytes_eq other id) apart (ap (λ (y : List ℕ). bytes_eq y id) ((bytes_eq-Decides other x).0 same) ∙ e))
+    by later true e (inr more) = rw e (later more)
+    by later false e (inl same) = rw e (ap (λ b. b || has_id (filter (λ y. not (bytes_eq y id)) ids) other) same)
+    by later false e (inr more) = rw e (or_second (bytes_eq other x) (has_id (filter (λ y. not (bytes_eq y id)) ids) other) (later more))
+
+-- what holds of all later messages holds of those that aren't withdrawn
+all_without : (P : Message → Type 0) (limit : ℕ) (ids : List (List ℕ)) (ms : List Message) → AllByRecursion P (selected limit ms) → AllByRecursion P (selected limit (without ids ms))
+all_without P limit ids [] all = tt
+all_without P limit ids (m ∷ ms) all = by (all_without P limit ids ms) (is_selected limit m) refl (has_id ids m.uid) refl
+  where
+    first : is_selected limit m ≡ true → P m × AllByRecursion P (selected limit ms)
+    first s = let there : selected limit (m ∷ ms) ≡ m ∷ selected limit ms = rw s refl in subst (AllByRecursion P) there all
+
+    others : is_selected limit m ≡ false → AllByRecursion P (selected limit ms)
+    others s = let there : selected limit (m ∷ ms) ≡ selected limit ms = rw s refl in subst (AllByRecursion P) there all
+
+    by : (AllByRecursion P (selected limit ms) → AllByRecursion P (selected limit (without ids ms))) → (b : Bool) → is_selected limit m ≡ b → (w : Bool) → has_id ids m.uid ≡ w
+        → AllByRecursion P (selected limit (without ids (m ∷ ms)))
+    by next true s true w = rw w (next (first s).1)
+    by next true s false w = rw (w, s) ((first s).0, next (first s).1)
+    by next false s true w = rw w (next (others s))
+    by next false s false w = rw (w, s) (next (others s))
+
+-- ---- one event
+
+module _ (one : OneRecord) {D F : Type 0} (disk : DiskGhosts D) (files : FileGhosts F) (world : World) (sound : IsSound world) (state : State) (is : IsKept world state)
+    (was : D) (from : F) (can : CanLosePower disk files was from world state) where
+  abbrev account : List ℕ
+  account = account_of world
+
+  all_legal : AllByRecursion (λ (m : Message). is_legal_id m.uid ≡ true) (selected world.max_size world.all)
+  all_legal = all_selected (λ (m : Message). is_legal_id m.uid ≡ true) world.max_size world.all
+      (all_both IsMessage IsMessage (λ (m : Message). is_legal_id m.uid ≡ true) (λ m a b. a.legal) world.all sound.messages sound.messages)
+
+  -- what is recorded has a file that stays, or was taken away
+  pub recorded_sure : (id : List ℕ) → is_delivered is.0 id ≡ true → (is_legal_id id ≡ true) × IsSureOrTaken disk was world state id
+  recorded_sure id delivered = (legal, by (is.2.holds id legal))
+    where
+      has : has_id (ids_of is.2.done) id ≡ true
+      has = is.2.recorded id delivered
+
+      legal : is_legal_id id ≡ true
+      legal = legal_in is.2.done is.2.rest id (subst (AllByRecursion (λ (m : Message). is_legal_id m.uid ≡ true)) is.2.prefix all_legal) has
+
+      by : HoldsOf (frame_of world) (situation is.0 state) is.2.done id → IsSureOrTaken disk was world state id
+      by (inr taken) = inr taken.0
+      by (inl same) = elim (can.stay id legal (some_held account id state.kept.maildir.files (λ none. texts_some is.2.done id has (sym same ∙ none)))) [
+        | inl sure ↦ inl sure
+        | inr (inl taken) ↦ inr taken
+        | inr (inr lastly) ↦ absurd (lastly.unrecorded (is.0, is.1, delivered))
+      ]
+
+  -- a message is held where its files hold what they held
+  held_back : (after : Kept) (id : List ℕ) → contents_of world after id ≡ contents_of world state.kept id → is_held account after.maildir id ≡ true → is_held account state.kept.maildir id ≡ true
+  held_back after id same held = some_held account id state.kept.maildir.files (λ none. held_some account id after.maildir.files held (same ∙ none))
+
+  not_held : (after : Kept) (id : List ℕ) → contents_of world after id ≡ contents_of world state.kept id → is_held account state.kept.maildir id ≡ false → is_held account after.maildir id ≡ false
+  not_held after id same not = false_from_ne_true (is_held account after.maildir id) (λ held. both_ways (is_held account state.kept.maildir id) not (held_back after id same held))
+
+  same_recorded : (after : Kept) → KeepsRecord state.kept after → (id : List ℕ) → IsRecorded after id → IsRecorded state.kept id
+  same_recorded after keeps id recorded =
+      (is.0, is.1, ap (λ (r : List Row). is_delivered r id) (one after.file.content is.0 recorded.0 (keeps is.0 is.1).0 recorded.1.0 (keeps is.0 is.1).1 recorded.1.1).0 ∙ recorded.2)
+
+  module _ (device : D) (after : State) where
+    abbrev Shown : Type 0
+    Shown = (rows : List Row) → KeepsRows after.kept.file.content rows → (id : List ℕ) → is_delivered is.0 id ≡ true
+        → (is_delivered rows id ≡ true) ⊎ ((is_legal_id id ≡ true) × IsSureOrTaken disk device world after id)
+
+    same_shown : KeepsRecord state.kept after.kept → Shown
+    same_shown same rows keeps_rows id delivered =
+        inl (ap (λ (r : List Row). is_delivered r id) (one after.kept.file.content rows is.0 keeps_rows.0 (same is.0 is.1).0 keeps_rows.1 (same is.0 is.1).1).0 ∙ delivered)
+
+  module _ (device : D) (f : F) (after : State) (keeps : KeepsSure disk files world was from state device f after) where
+    -- the last that was stored still is
+    still_last : ((id : List ℕ) → IsRecorded after.kept id → IsRecorded state.kept id) → ((m : Message) → is_legal_id m.uid ≡ true → IsNeither world state m.uid → IsNeither world after m.uid)
+        → (id : List ℕ) → (has_id state.gone id ≡ false → has_id after.gone id ≡ false) → IsLastStored world state id → IsLastStored world after id
+    still_last back neither id on_server lastly = record {
+      unrecorded = λ recorded. lastly.unrecorded (back id recorded);
+      on_server = on_server lastly.on_server;
+      last = all_both (λ (m : Message). is_legal_id m.uid ≡ true) (λ (m : Message). IsNeither world state m.uid) (λ (m : Message). IsNeither world after m.uid) neither
+          (messages_after id (selected world.max_size world.all)) (all_after (λ (m : Message). is_legal_id m.uid ≡ true) id (selected world.max_size world.all) all_legal) lastly.last;
+    }
+
+    can_after : ((id : List ℕ) → is_legal_id id ≡ true → is_held account after.kept.maildir id ≡ true → IsSureOrTaken disk device world after id ⊎ (is_held account state.kept.maildir id ≡ true))
+        → ((id : List ℕ) → is_legal_id id ≡ true → IsLastStored world state id → IsSureOrTaken disk device world after id ⊎ IsLastStored world after id)
+        → Shown device after → CanLosePower disk files device f world after
+    can_after held last shown = record {
+      stay = λ id legal there. elim (held id legal there) [
+        | inl safe ↦ placed id (inl safe)
+        | inr before ↦ elim (can.stay id legal before) [
+          | inl sure ↦ placed id (inl (keeps.mail id legal (inl sure)))
+          | inr (inl taken) ↦ placed id (inl (keeps.mail id legal (inr taken)))
+          | inr (inr lastly) ↦ placed id (last id legal lastly)
+        ]
+      ];
+      shows = λ left now rows may keeps_now keeps_rows id delivered. elim (keeps.record_is left may) [
+        | inl same ↦
+            let there = subst (λ (c : Option (List ℕ)). KeepsRows c now) same keeps_now in
+            inl (ap (λ (r : List Row). is_delivered r id) (one after.kept.file.content rows now keeps_rows.0 there.0 keeps_rows.1 there.1).0 ∙ delivered)
+        | inr before ↦ elim (can.shows left now is.0 before keeps_now is.1 id delivered) [
+          | inl shown_before ↦ shown rows keeps_rows id shown_before
+          | inr (legal, safe) ↦ inr (legal, keeps.mail id legal safe)
+        ]
+      ];
+    }
+      where
+        placed : (id : List ℕ) → IsSureOrTaken disk device world after id ⊎ IsLastStored world after id
+            → IsSure disk device world after.kept.maildir.files id ⊎ (has_id after.taken id ≡ true) ⊎ IsLastStored world after id
+        placed id (inl (inl sure)) = inl sure
+        placed id (inl (inr taken)) = inr (inl taken)
+        placed id (inr lastly) = inr (inr lastly)
+
+  -- the last that was stored still is if other messages are withdrawn
+  after_withdrawn : (P : Message → Type 0) (limit : ℕ) (ids : List (List ℕ)) (id : List ℕ) → has_id ids id ≡ false → (ms : List Message)
+      → AllByRecursion P (messages_after id (selected limit ms)) → AllByRecursion P (messages_after id (selected limit (without ids ms)))
+  after_withdrawn P limit ids id kept [] all = tt
+  after_withdrawn P limit ids id kept (m ∷ ms) all = by (after_withdrawn P limit ids id kept ms) (is_selected limit m) refl (has_id ids m.uid) refl (bytes_eq id m.uid) refl
+    where
+      next_is : Type 0
+      next_is = AllByRecursion P (messages_after id (selected limit ms)) → AllByRecursion P (messages_after id (selected limit (without ids ms)))
+
+      unselected : is_selected limit m ≡ false → AllByRecursion P (messages_after id (selected limit ms))
+      unselected s = let there : messages_after id (selected limit (m ∷ ms)) ≡ messages_after id (selected limit ms) = rw s refl in subst (AllByRecursion P) there all
+
+      later : is_selected limit m ≡ true → bytes_eq id m.uid ≡ false → AllByRecursion P (messages_after id (selected limit ms))
+      later s apart = let there : messages_after id (selected limit (m ∷ ms)) ≡ messages_after id (selected limit ms) = rw (s, apart) refl in subst (AllByRecursion P) there all
+
+      here : is_selected limit m ≡ true → bytes_eq id m.uid ≡ true → AllByRecursion P (selected limit ms)
+      here s same = let there : messages_after id (selected limit (m ∷ ms)) ≡ selected limit ms = rw (s, same) refl in subst (AllByRecursion P) there all
+
+      by : next_is → (b : Bool) → is_selected limit m ≡ b → (w : Bool) → has_id ids m.uid ≡ w → (e : Bool) → bytes_eq id m.uid ≡ e → AllByRecursion P (messages_after id (selected limit (without ids (m ∷ ms))))
+      by next false s true w e same = rw w (next (unselected s))
+      by next false s false w e same = rw (w, s) (next (unselected s))
+      by next true s true w true same = absurd (both_ways (has_id ids id) kept (subst (λ (x : List ℕ). has_id ids x ≡ true) (sym ((bytes_eq-Decides id m.uid).0 same)) w))
+      by next true s true w false same = rw w (next (later s same))
+      by next true s false w true same = rw (w, s, same) (all_without P limit ids ms (here s same))
+      by next true s false w false same = rw (w, s, same) (next (later s same))
+
+  module _ (device : D) (f : F) where
+    abbrev Keeps : State → Type 0
+    Keeps after = KeepsSure disk files world was from state device f after
+
+    -- of each message the files hold what they held, and nothing more was taken away
+    after_same : (after : Kept) → Keeps (record state { kept = after }) → ((id : List ℕ) → is_legal_id id ≡ true → contents_of world after id ≡ contents_of world state.kept id)
+        → ((id : List ℕ) → IsRecorded after id → IsRecorded state.kept id) → Shown device (record state { kept = after }) → CanLosePower disk files device f world (record state { kept = after })
+    after_same after keeps same back shown = can_after device f (record state { kept = after }) keeps
+        (λ id legal held. inr (held_back after id (same id legal) held))
+        (λ id legal lastly. inr (still_last device f (record state { kept = after }) keeps back (λ m l neither. (not_held after m.uid (same m.uid l) neither.0, neither.1)) id (λ on. on) lastly))
+        shown
+
+    after_expired : (ids : List (List ℕ)) → Keeps (record state { gone = state.gone ++ ids }) → AllByRecursion (λ id. IsLastStored world state id → IsSureOrTaken disk was world state id) ids
+        → CanLosePower disk files device f world (record state { gone = state.gone ++ ids })
+    after_expired ids keeps safe = can_after device f after keeps
+        (λ id legal held. inr held)
+        (λ id legal lastly. by id legal lastly (cases_Bool (has_id ids id)))
+        (same_shown device after (λ rows keeps_rows. keeps_rows))
+      where
+        after : State
+        after = record state { gone = state.gone ++ ids }
+
+        by : (id : List ℕ) → is_legal_id id ≡ true → IsLastStored world state id → (has_id ids id ≡ true) ⊎ (has_id ids id ≡ false)
+            → IsSureOrTaken disk device world after id ⊎ IsLastStored world after id
+        by id legal lastly (inl gone) = inl (keeps.mail id legal (held_in (λ x. IsLastStored world state x → IsSureOrTaken disk was world state x) ids id safe gone lastly))
+        by id legal lastly (inr on) = inr (still_last device f after keeps (λ x recorded. recorded) (λ m l neither. neither) id
+            (λ before. list_any-append (bytes_eq id) state.gone ids ∙ or_from (has_id state.gone id) (has_id ids id) before on) lastly)
+
+    after_withdrawing : (ids : List (List ℕ)) → Keeps state → AllByRecursion (IsNeither world state) ids → CanLosePower disk files device f (record world { all = without ids world.all }) state
+    after_withdrawing ids keeps neither = record {
+      stay = λ id legal held. elim (same.stay id legal held) [
+        | inl sure ↦ inl (record { one = sure.one; there = sure.there; named = sure.named; sure = sure.sure })
+        | inr (inl taken) ↦ inr (inl taken)
+        | inr (inr lastly) ↦ inr (inr (record {
+          unrecorded = lastly.unrecorded;
+          on_server = lastly.on_server;
+          last = after_withdrawn (λ (m : Message). IsNeither (record world { all = without ids world.all }) state m.uid) world.max_size ids id (kept_id id held) world.all lastly.last;
+        }))
+      ];
+      shows = λ left now rows may keeps_now keeps_rows id delivered. elim (same.shows left now rows may keeps_now keeps_rows id delivered) [
+        | inl shown ↦ inl shown
+        | inr (legal, inl sure) ↦ inr (legal, inl (record { one = sure.one; there = sure.there; named = sure.named; sure = sure.sure }))
+        | inr (legal, inr taken) ↦ inr (legal, inr taken)
+      ];
+    }
+      where
+        same : CanLosePower disk files device f world state
+        same = can_after device f state keeps (λ id legal held. inr held) (λ id legal lastly. inr lastly) (same_shown device state (λ rows keeps_rows. keeps_rows))
+
+        kept_id : (id : List ℕ) → is_held account state.kept.maildir id ≡ true → has_id ids id ≡ false
+        kept_id id held = false_from_ne_true (has_id ids id) (λ has. both_ways (is_held account state.kept.maildir id) (held_in (IsNeither world state) ids id neither has).0 held)
+
+    after_taking : (id : List ℕ) (after : Kept) → Keeps (after_event state (TakenAway id after)) → Follows world state (TakenAway id after) → CanLosePower disk files device f world (after_event state (TakenAway id after))
+    after_taking id after keeps taken = can_after device f next keeps
+        (λ other legal held. by other legal held (cases_Bool (bytes_eq other id)))
+        (λ other legal lastly. inr (still_last device f next keeps (same_recorded after taken.record_is) (λ m l neither.
+        let apart = others m neither in
+        (not_held after m.uid (taken.others m.uid l apart) neither.0, or_from (bytes_eq m.uid id) (has_id state.taken m.uid) apart neither.1)) other (λ on. on) lastly))
+        (same_shown device next taken.record_is)
+      where
+        next : State
+        next = after_event state (TakenAway id after)
+
+        others : (m : Message) → IsNeither world state m.uid → bytes_eq m.uid id ≡ false
+        others m neither = false_from_ne_true (bytes_eq m.uid id) (λ same. both_ways (is_held account state.kept.maildir m.uid) neither.0
+            (subst (λ (x : List ℕ). is_held account state.kept.maildir x ≡ true) (sym ((bytes_eq-Decides m.uid id).0 same)) taken.held))
+
+        by : (other : List ℕ) → is_legal_id other ≡ true → is_held account after.maildir other ≡ true → (bytes_eq other id ≡ true) ⊎ (bytes_eq other id ≡ false)
+            → IsSureOrTaken disk device world next other ⊎ (is_held account state.kept.maildir other ≡ true)
+        by other legal held (inl same) = inl (inr (ap (λ b. b || has_id state.taken other) same))
+        by other legal held (inr apart) = inr (held_back after other (taken.others other legal apart) held)
+
+    after_bringing : (id : List ℕ) (after : Kept) → Keeps (after_event state (BroughtBack id after)) → Follows world state (BroughtBack id after) → CanLosePower disk files device f world (after_event state (BroughtBack id after))
+    after_bringing id after keeps brought = can_after device f next keeps
+        (λ other legal held. by other legal held (cases_Bool (bytes_eq other id)))
+        (λ other legal lastly. inr (still_last device f next keeps (same_recorded after brought.record_is) (λ m l neither.
+        (not_held after m.uid (brought.others m.uid l (others m neither)) neither.0, none_filtered (λ x. not (bytes_eq x id)) state.taken m.uid neither.1)) other (λ on. on) lastly))
+        (same_shown device next brought.record_is)
+      where
+        next : State
+        next = after_event state (BroughtBack id after)
+
+        others : (m : Message) → IsNeither world state m.uid → bytes_eq m.uid id ≡ false
+        others m neither = false_from_ne_true (bytes_eq m.uid id) (λ same. both_ways (has_id state.taken m.uid) neither.1
+            (subst (λ (x : List ℕ). has_id state.taken x ≡ true) (sym ((bytes_eq-Decides m.uid id).0 same)) brought.taken))
+
+        by : (other : List ℕ) → is_legal_id other ≡ true → is_held account after.maildir other ≡ true → (bytes_eq other id ≡ true) ⊎ (bytes_eq other id ≡ false)
+            → IsSureOrTaken disk device world next other ⊎ (is_held account state.kept.maildir other ≡ true)
+        by other legal held (inl same) = inl (keeps.mail other legal (inr (subst (λ (x : List ℕ). has_id state.taken x ≡ true) (sym ((bytes_eq-Decides other id).0 same)) brought.taken)))
+        by other legal held (inr apart) = inr (held_back after other (brought.others other legal apart) held)
+
+    after_forgetting : (after : Kept) → Keeps (record state { kept = after }) → Follows world state (Forgotten after) → CanLosePower disk files device f world (record state { kept = after })
+    after_forgetting after keeps forgets = after_same after keeps forgets.mail back
+        (λ rows keeps_rows id delivered. let safe = recorded_sure id delivered in inr (safe.0, keeps.mail id safe.0 safe.1))
+      where
+        back : (id : List ℕ) → IsRecorded after id → IsRecorded state.kept id
+        back id recorded =
+            let fewer = forgets.record_is is.0 is.1 in
+            (is.0, is.1, fewer.2 id (ap (λ (r : List Row). is_delivered r id) (one after.file.content fewer.0 recorded.0 fewer.1.0 recorded.1.0 fewer.1.1 recorded.1.1).0 ∙ recorded.2))
+
+pub events_keep_power : {D F : Type 0} (disk : DiskGhosts D) (files : FileGhosts F) → EventLaws disk files → EventsKeepPower disk files
+events_keep_power disk files laws world state was from (Fetched occasion) device f sound is can follows = laws.sessions world state occasion was from device f sound is follows can
+events_keep_power disk files laws world state was from (Between after) device f sound is can follows = (
+  follows.0,
+  after_same laws.one disk files world sound state is was from can device f after follows.2 follows.0.mail
+      (same_recorded laws.one disk files world sound state is was from can after follows.0.record_is)
+      (same_shown laws.one disk files world sound state is was from can device (record state { kept = after }) follows.0.record_is),
+)
+events_keep_power disk files laws world state was from (Expired ids) device f sound is can follows =
+    (follows.0, after_expired laws.one disk files world sound state is was from can device f ids follows.2 follows.1)
+events_keep_power disk files laws world state was from (Withdrawn ids) device f sound is can follows =
+    (follows.0, after_withdrawing laws.one disk files world sound state is was from can device f ids follows.2 follows.0)
+events_keep_power disk files laws world state was from (TakenAway id after) device f sound is can follows =
+    (follows.0, after_taking laws.one disk files world sound state is was from can device f id after follows.2 follows.0)
+events_keep_power disk files laws world state was from (BroughtBack id after) device f sound is can follows =
+    (follows.0, after_bringing laws.one disk files world sound state is was from can device f id after follows.2 follows.0)
+events_keep_power disk files laws world state was from (Forgotten after) device f sound is can follows =
+    (follows.0, after_forgetting laws.one disk files world sound state is was from can device f after follows.2 follows.0)
+events_keep_power disk files laws world state was from (PowerLost after) device f sound is can left = (
+  laws.losses was from world state after left.readable.0 sound is can left.mail left.record_is left.readable.1,
+  laws.begins device f world (record state { kept = after }) left.stay left.same,
+)
+
+-- ---- a run
+
+run_on : {D F : Type 0} (disk : DiskGhosts D) (files : FileGhosts F) → Headline → WorldsShrink → EventsKeepPower disk files → (world : World) (state : State) (was : D) (from : F) (ons : List (EventOn D F))
+    → IsSound world → IsKept world state → CanLosePower disk files was from world state → IsRunOn disk files world state was from ons
+    → IsRun world state (events_of ons) × CanAlwaysLosePower disk files world state was from ons
+run_on disk files law shrink keep world state was from [] sound is can run = (tt, can)
+run_on disk files law shrink keep world state was from (on ∷ ons) sound is can run =
+    let now = keep world state was from on.event on.device on.file sound is can run.0 in
+    let after = (law world state (on.event ∷ []) sound is (now.0, tt)).1 in
+    let later = run_on disk files law shrink keep (world_after world on.event) (after_event state on.event) on.device on.file ons (sound_after shrink world on.event sound) after now.1 run.1 in
+    ((now.0, later.0), (can, later.1))
+
+pub headline_on : {D F : Type 0} (disk : DiskGhosts D) (files : FileGhosts F) → Headline → WorldsShrink → EventsKeepPower disk files → HeadlineOn disk files
+headline_on disk files law shrink keep world start was from ons sound is can run =
+    let is_run = run_on disk files law shrink keep world start was from ons sound is can run in
+    let promised = law world start (events_of ons) sound is is_run.0 in
+    (is_run.0, promised.0, promised.1, is_run.1)
+
+-- ---- devices made anew, and readers
+
+pub as_much_is_sure : Headline → {D F : Type 0} (disk : DiskGhosts D) (files : FileGhosts F) → AsMuchIsSure disk files
+as_much_is_sure law disk files world state was from event device f sound is takes follows part much = record {
+  mail = λ id legal safe. by id legal safe (same_or_taken world state (event ∷ []) id legal takes (follows, tt));
+  record_is = λ left may. inr (much.record_is left may);
+}
+  where
+    next : State
+    next = after_event state event
+
+    front : List ℕ → List ℕ
+    front id = stem_of (account_of world) id
+
+    by : (id : List ℕ) → is_legal_id id ≡ true → IsSureOrTaken disk was world state id → (contents_of world next.kept id ≡ contents_of world state.kept id) ⊎ (has_id next.taken id ≡ true)
+        → IsSureOrTaken disk device world next id
+    by id legal safe (inr taken) = inr taken
+    by id legal (inr taken) (inl same) = inr (stay_taken state (event ∷ []) id takes taken)
+    by id legal (inl sure) (inl same) =
+        let some : copies next.kept.maildir.files (front id) ≢ [] = λ none. named_some (front id) state.kept.maildir.files sure.one.name sure.named (named_in state.kept.maildir.files sure.one sure.there) (sym same ∙ none) in
+        let g = held_file (account_of world) id next.kept.maildir.files (some_held (account_of world) id next.kept.maildir.files some) in
+        let e = two_in (front id) state.kept.maildir.files g.0 sure.one (contains_part state.kept.maildir.files next.kept.maildir.files g.0 part g.1) g.2 sure.there sure.named ((law world state [] sound is tt).0.once id legal) in
+        inl (record {
+          one = g.0;
+          there = g.1;
+          named = g.2;
+          sure = elim sure.sure [
+            | inl stays ↦ inl (subst (λ h. disk.stays device h.name) (sym e) (much.mail.0 sure.one.name stays))
+            | inr outlives ↦ inr (subst (disk.outlives device) (sym e) (much.mail.1 sure.one outlives))
+          ];
+        })
+
+abbrev on_same : {D F : Type 0} → D → F → List Event → List (EventOn D F)
+on_same device f [] = []
+on_same device f (event ∷ events) = record { event = event; device = device; file = f } ∷ on_same device f events
+
+same_events : {D F : Type 0} (device : D) (f : F) (events : List Event) → events_of (on_same device f events) ≡ events
+same_events device f [] = refl
+same_events device f (event ∷ events) = ap (λ (es : List Event). event ∷ es) (same_events device f events)
+
+taking_on : Headline → {D F : Type 0} (disk : DiskGhosts D) (files : FileGhosts F) (device : D) (f : F) (world : World) (state : State) (events : List Event) → IsSound world → IsKept world state
+    → AreTakings events → IsRun world state events → LeaveParts state events → IsRunOn disk files world state device f (on_same device f events)
+taking_on law disk files device f world state [] sound is each run parts = tt
+taking_on law disk files device f world state (TakenAway id after ∷ events) sound is each run parts = (
+  (run.0, tt, as_much_is_sure law disk files world state device f (TakenAway id after) device f sound is tt run.0 parts.0 (record { mail = (λ name stays. stays, λ one outlives. outlives); record_is = λ left may. may })),
+  taking_on law disk files device f world (after_event state (TakenAway id after)) events sound (law world state (TakenAway id after ∷ []) sound is (run.0, tt)).1 each run.1 parts.1,
+)
+taking_on law disk files device f world state (Between after ∷ events) sound is each run parts = (
+  (run.0, tt, as_much_is_sure law disk files world state device f (Between after) device f sound is tt run.0 parts.0 (record { mail = (λ name stays. stays, λ one outlives. outlives); record_is = λ left may. may })),
+  taking_on law disk files device f world (after_event state (Between after)) events sound (law world state (Between after ∷ []) sound is (run.0, tt)).1 each run.1 parts.1,
+)
+taking_on law disk files device f world state (_ ∷ events) sound is never run parts = absurd never
+
+pub takings_run_on : Headline → StemsDiffer → {D F : Type 0} (disk : DiskGhosts D) (files : FileGhosts F) → TakingsRunOn disk files
+takings_run_on law differ disk files device f world state left sound is part =
+    let told = takings_leave_parts law differ world state left sound is part in (
+      on_same device f told.0,
+      subst (AreTaken world state left) (sym (same_events device f told.0)) told.1,
+      taking_on law disk files device f world state told.0 sound is told.1.each told.1.run told.2,
+    )
