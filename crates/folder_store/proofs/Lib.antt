@@ -12,4 +12,5 @@ mod MailWriting
 mod MailTelling
 mod MailReaders
 mod MailLoss
+mod NewDevices
 mod MemoryMail

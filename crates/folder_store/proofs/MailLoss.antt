@@ -13,7 +13,7 @@ here x y xs same = (0, omega arith, same)
 later : {A : Type 0} (x y : A) (xs : List A) → Contains xs y → Contains (x ∷ xs) y
 later x y xs (k, below, is) = (suc k, omega (arith, below), is)
 
-left_whole : (s t : MailFile) → s.is_flushed ≡ true → IsLeftAs s t → mail_at t ≡ mail_at s
+pub left_whole : (s t : MailFile) → s.is_flushed ≡ true → IsLeftAs s t → mail_at t ≡ mail_at s
 left_whole s t flushed l = ap (λ (n : List ℕ). file n t.content) l.title ∙ ap (λ (c : List ℕ). file (base s.name) c) (l.content flushed)
 
 stays : (ss left : List MailFile) (name : List ℕ) → StaysIn ss name → AreLeftAs ss left → Contains (names_of (files_at left)) name

@@ -25,13 +25,13 @@ files_kept (s ∷ ss) [] h = absurd h
 files_kept (s ∷ ss) (t ∷ ts) h =
     ap (λ (f : File). f ∷ files_at ts) (same_mail s t h.0) ∙ ap (λ (fs : List File). mail_at s ∷ fs) (files_kept ss ts h.1)
 
-stays_kept : (a b : List MailFile) → Each KeepsFile a b → (name : List ℕ) → StaysIn a name → StaysIn b name
+pub stays_kept : (a b : List MailFile) → Each KeepsFile a b → (name : List ℕ) → StaysIn a name → StaysIn b name
 stays_kept [] b h name is = absurd is
 stays_kept (s ∷ ss) [] h name is = absurd h
 stays_kept (s ∷ ss) (t ∷ ts) h name (inl (is, named)) = inl (h.0.title ∙ is, h.0.named named)
 stays_kept (s ∷ ss) (t ∷ ts) h name (inr is) = inr (stays_kept ss ts h.1 name is)
 
-outlives_kept : (a b : List MailFile) → Each KeepsFile a b → (f : File) → OutlivesIn a f → OutlivesIn b f
+pub outlives_kept : (a b : List MailFile) → Each KeepsFile a b → (f : File) → OutlivesIn a f → OutlivesIn b f
 outlives_kept [] b h f is = absurd is
 outlives_kept (s ∷ ss) [] h f is = absurd h
 outlives_kept (s ∷ ss) (t ∷ ts) h f (inl (is, named, flushed)) = inl (same_mail s t h.0 ∙ is, h.0.named named, h.0.flushed ∙ flushed)
@@ -102,7 +102,7 @@ keeps_leads a b there made keeps = record {
 
 -- ---- others' moves, and flushes of names
 
-each_keeps : (a b : List MailFile) → Each MovesFile a b → Each KeepsFile a b
+pub each_keeps : (a b : List MailFile) → Each MovesFile a b → Each KeepsFile a b
 each_keeps [] [] h = tt
 each_keeps [] (t ∷ ts) h = absurd h
 each_keeps (s ∷ ss) [] h = absurd h

@@ -6,4 +6,5 @@ pub mod MailFolders
 pub mod MailPower
 pub mod MemoryFolder
 pub mod MemoryFolders
+pub mod NewDevices
 pub mod PowerLoss

@@ -2,6 +2,7 @@
 
 ghost use Rattle.std.specs.Prelude.{◌≡◌, ◌<◌, ◌+◌, false, OnErr, OnOk};
 ghost use Rattle.mail_terms.specs.FailureCount.{greatest_count};
+ghost use Rattle.folder_store.specs.NewDevices.{LeftFilesStand, NewFilesLeaveNoMore};
 
 use crate::device::FileFolder;
 use crate::host::HostFolder;
@@ -292,3 +293,10 @@ impl<'a, F: FileFolder + Drop> FlatFile for HostFile<'a, F> {
         self.failures.count()
     }
 }
+
+/// A file made anew over the same folder leaves no more than the last one did; over a folder that a loss of
+/// power left, it leaves exactly what calls see.
+pub fn new_files_leave_no_more<'a, F: FileFolder + Drop>()
+    ensures anew { NewFilesLeaveNoMore ⟦<HostFile<'a, F> as FlatFile>⟧ (λ f. F.directory f.folder) (λ f. f.name.now) (λ f. f.is_flushed) }
+    ensures left { LeftFilesStand ⟦<HostFile<'a, F> as FlatFile>⟧ (λ f. F.directory f.folder) }
+{}

@@ -21,7 +21,7 @@ mod tally;
 
 pub use device::FileFolder;
 pub use exact_listing::{ChangeTime, FolderNames, list_names};
-pub use file::HostFile;
+pub use file::{HostFile, new_files_leave_no_more};
 pub use host::HostFolder;
 pub use host_folders::HostFolders;
 pub use laws::{
@@ -29,7 +29,7 @@ pub use laws::{
     mail_outlives_power, power_leaves, readers_move, writes_outlive_power,
 };
 pub use mail_folders::MailFolders;
-pub use maildir::FolderMaildir;
+pub use maildir::{FolderMaildir, new_maildirs_keep_mail};
 pub use memory::{Left, MemoryFolder};
 pub use memory_folders::{MailLeft, MemoryFolders, ReaderStep};
 pub use process_mark::ProcessMark;

@@ -2,6 +2,7 @@
 
 ghost use Rattle.std.specs.Prelude.{◌≡◌, ◌<◌, ◌+◌};
 ghost use Rattle.mail_terms.specs.FailureCount.{greatest_count};
+ghost use Rattle.folder_store.specs.NewDevices.{LeftMaildirsStay, LossesMayLeave, NewMaildirsKeepMail};
 
 use crate::host_folders::HostFolders;
 use crate::mail_folders::MailFolders;
@@ -177,3 +178,12 @@ impl<F: MailFolders + Drop> MaildirDisk for FolderMaildir<F> {
         self.failures.count()
     }
 }
+
+/// What a loss of power leaves of the folders may be left of the Maildir, if the bytes of its files are on
+/// the disk. Made anew over the same folders, a Maildir keeps what the last one kept; over folders that a loss
+/// of power left, all of it stays.
+pub fn new_maildirs_keep_mail<F: MailFolders + Drop>()
+    ensures losses { LossesMayLeave ⟦<FolderMaildir<F> as MaildirDisk>⟧ (λ d. F.directories d.folders) }
+    ensures keeps { NewMaildirsKeepMail ⟦<FolderMaildir<F> as MaildirDisk>⟧ (λ d. F.directories d.folders) }
+    ensures stays { LeftMaildirsStay ⟦<FolderMaildir<F> as MaildirDisk>⟧ (λ d. F.directories d.folders) }
+{}

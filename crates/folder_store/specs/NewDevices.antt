@@ -1,0 +1,55 @@
+-- What a loss of power leaves to a device, and what a device that is made anew over the same folders begins with.
+use Rattle.std.specs.Prelude.{◌≡◌, ℕ, Bool, true, false, List, Option}
+use Rattle.std.specs.List.{AllByRecursion}
+use Rattle.mail_store.specs.declared.file.flat_file.FlatFile.{Ghosts as FileGhosts}
+use Rattle.mail_store.specs.declared.maildir.disk.MaildirDisk.{Ghosts as DiskGhosts}
+use Rattle.mail_store.specs.Loss.{MayLeave}
+use Rattle.mail_store.specs.Power.{AllStay, KeepsMail, LeavesNoMore}
+use Rattle.folder_store.specs.FileFolder.{Directory}
+use Rattle.folder_store.specs.PowerLoss.{Loses}
+use Rattle.folder_store.specs.MailFolders.{Directories, Each, MailFile, MovesFile, files_at}
+use Rattle.folder_store.specs.MailPower.{LosesMail}
+
+-- ---- a Maildir
+
+-- the bytes of each file are on the disk
+abbrev pub AllFlushed : List MailFile → Type 0
+AllFlushed entries = AllByRecursion (λ (s : MailFile). s.is_flushed ≡ true) entries
+
+-- the folders as another process finds them: readers may have moved, marked and taken away files
+pub record FoundAgain (old new : Directories) : Type 0 where
+  pub there : new.there ≡ old.there
+  pub moves : Each MovesFile old.entries new.entries
+
+-- a law: if the bytes of each file are on the disk, whatever a loss of power leaves of the folders may be left of the device's files
+abbrev pub LossesMayLeave : {D : Type 0} → DiskGhosts D → (D → Directories) → Type 0
+LossesMayLeave {D} disk folders = (device : D) (left : Directories) → AllFlushed (folders device).entries → LosesMail (folders device) left
+    → MayLeave disk device (disk.maildir device).files (files_at left.entries)
+
+-- a law: over folders as another device left them, a device sees the same files, and a loss of power leaves what it would have left
+abbrev pub NewMaildirsKeepMail : {D : Type 0} → DiskGhosts D → (D → Directories) → Type 0
+NewMaildirsKeepMail {D} disk folders = (was device : D) → FoundAgain (folders was) (folders device)
+    → ((disk.maildir device).files ≡ (disk.maildir was).files)
+    × KeepsMail (disk.stays was) (disk.outlives was) (disk.stays device) (disk.outlives device)
+    × (AllFlushed (folders was).entries → AllFlushed (folders device).entries)
+
+-- a law: over folders that a loss of power left, each name stays, and the bytes of each file are on the disk
+abbrev pub LeftMaildirsStay : {D : Type 0} → DiskGhosts D → (D → Directories) → Type 0
+LeftMaildirsStay {D} disk folders = (old left : Directories) (device : D) → LosesMail old left → FoundAgain left (folders device)
+    → AllStay (disk.maildir device) (disk.stays device) × AllFlushed (folders device).entries
+
+-- ---- a file
+
+-- a law: over the same file of the same folder, a device that doesn't know whether that is flushed leaves what another one left, and is
+-- sure if the other was
+abbrev pub NewFilesLeaveNoMore : {D : Type 0} → FileGhosts D → (D → Directory) → (D → List ℕ) → (D → Bool) → Type 0
+NewFilesLeaveNoMore {D} files folder name is_flushed = (was device : D) → folder device ≡ folder was → name device ≡ name was
+    → ((files.stored device).content ≡ (files.stored was).content)
+    × LeavesNoMore (files.may_leave was) (files.may_leave device)
+    × (is_flushed device ≡ false → files.is_sure was → files.is_sure device)
+
+-- a law: over a folder that a loss of power left, a device is sure, and another loss of power leaves exactly what calls see
+abbrev pub LeftFilesStand : {D : Type 0} → FileGhosts D → (D → Directory) → Type 0
+LeftFilesStand {D} files folder = (old : Directory) (device : D) → Loses old (folder device)
+    → files.is_sure device
+    × ((left : Option (List ℕ)) → files.may_leave device left → left ≡ (files.stored device).content)
