@@ -8,13 +8,13 @@ use Rattle.mail_terms.specs.MaildirName.{base}
 use Rattle.mail_store.specs.declared.maildir.disk.Folder.TheVariants.{New}
 use Rattle.mail_store.specs.Maildir.{Maildir, File, Folders, IsPart, file, mail, names_of}
 use Rattle.folder_store.specs.MailFolders.{MailFile, Draft, Directories, KeepsFile, MovesFile, Each, Moved, mail_at, files_at, touches_new, maildir_in, content_made}
-use Rattle.folder_store.specs.MailPower.{AreLeftAs, IsLeftAs, LeavesMail, StaysIn, OutlivesIn}
+use Rattle.folder_store.specs.MailPower.{AllFlushed, AreLeftAs, IsLeftAs, LeavesMail, StaysIn, OutlivesIn}
 use Rattle.folder_store.specs.MailCalls.{Leads, Brings, Then, FlushesDraft, PutsIntoNew, put_as, IsUnknown, StandsIn, PutsForGood, FlushesNamesIn, named_by}
 use Rattle.folder_store.proofs.MailMoves.{moved_leads, same_mail, leaves_kept, leaves_on, each_same, same_keeps}
 use Rattle.folder_store.proofs.MailLooks.{flushes_leads}
 
 pub leads_bring : (a b : Directories) → Leads a b → Brings a [] b
-leads_bring a b l = record { there = l.there; files = l.files ∙ sym (append-nil (files_at a.entries)); keeps = l.keeps; leaves = l.leaves }
+leads_bring a b l = record { there = l.there; files = l.files ∙ sym (append-nil (files_at a.entries)); keeps = l.keeps; leaves = l.leaves; flushed = l.flushed }
 
 pub brings_on : (a b c : Directories) (xs ys : List File) → Brings a xs b → Brings b ys c → Brings a (xs ++ ys) c
 brings_on a b c xs ys first then = record {
@@ -22,6 +22,7 @@ brings_on a b c xs ys first then = record {
   files = then.files ∙ ap (λ (fs : List File). fs ++ ys) first.files ∙ append_assoc (files_at a.entries) xs ys;
   keeps = (λ name is. then.keeps.0 name (first.keeps.0 name is), λ f is. then.keeps.1 f (first.keeps.1 f is));
   leaves = leaves_on a b c xs ys first.leaves then.leaves;
+  flushed = λ all. then.flushed (first.flushed all);
 }
 
 -- a call that only changed the file made
@@ -32,6 +33,7 @@ made_brings a b m e = subst (λ (x : Directories). Brings a [] x) (sym e)
       files = sym (append-nil (files_at a.entries));
       keeps = (λ name is. is, λ f is. is);
       leaves = leaves_kept a (record a { made = m }) refl (each_same KeepsFile same_keeps a.entries);
+      flushed = λ all. all;
     })
 
 pub moved_brings : (a m b : Directories) → Moved a m → Brings m [] b → Brings a [] b
@@ -48,6 +50,10 @@ outlives_before : (ss : List MailFile) (s : MailFile) (f : File) → OutlivesIn 
 outlives_before [] s f is = absurd is
 outlives_before (x ∷ ss) s f (inl is) = inl is
 outlives_before (x ∷ ss) s f (inr is) = inr (outlives_before ss s f is)
+
+flushed_before : (ss : List MailFile) (s : MailFile) → s.is_flushed ≡ true → AllFlushed ss → AllFlushed (ss ++ s ∷ [])
+flushed_before [] s flushed all = (flushed, tt)
+flushed_before (x ∷ ss) s flushed all = (all.0, flushed_before ss s flushed all.1)
 
 -- a file is there, flushed, and a flush of the names of `new` makes it last
 abbrev ComesIn : List MailFile → File → Type 0
@@ -126,6 +132,7 @@ put_brings m b name p unknown flushed =
         files = map-append mail_at m.entries (put ∷ []);
         keeps = (stays_before m.entries put, outlives_before m.entries put);
         leaves = leaves_put m after put flushed refl refl;
+        flushed = flushed_before m.entries put flushed;
       },
       comes_last m.entries put refl flushed,
     )

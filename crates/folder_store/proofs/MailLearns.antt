@@ -11,7 +11,7 @@ use Rattle.mail_store.specs.declared.maildir.disk.Folder.TheVariants.{New, Cur}
 use Rattle.mail_store.specs.Maildir.{File, IsPart}
 use Rattle.mail_store.specs.Power.{TookOne}
 use Rattle.folder_store.specs.MailFolders.{MailFile, Directories, files_at, is_left, mail_at}
-use Rattle.folder_store.specs.MailPower.{AllNamed, AreLeftAs, SomeIs, StaysIn, OutlivesIn}
+use Rattle.folder_store.specs.MailPower.{AllFlushed, AllNamed, AreLeftAs, SomeIs, StaysIn, OutlivesIn}
 use Rattle.folder_store.specs.MailCalls.{Leads, Learns, listed}
 use Rattle.folder_store.proofs.MailLoss.{kept, kept_left}
 use Rattle.folder_store.proofs.MailMoves.{leads_same}
@@ -51,6 +51,11 @@ pub named_left : (ss : List MailFile) → AllNamed ss → AllNamed (filter is_le
 named_left [] named = tt
 named_left (s ∷ ss) named =
     by_first (λ (ts : List MailFile). AllNamed ts) s ss (λ gone. named_left ss named.1) (λ here. (named.0, named_left ss named.1))
+
+flushed_left : (ss : List MailFile) → AllFlushed ss → AllFlushed (filter is_left ss)
+flushed_left [] all = tt
+flushed_left (s ∷ ss) all =
+    by_first (λ (ts : List MailFile). AllFlushed ts) s ss (λ gone. flushed_left ss all.1) (λ here. (all.0, flushed_left ss all.1))
 
 -- a file that is such is left, or was taken away
 abbrev LeftOrTook : (MailFile → Type 0) → List ℕ → List MailFile → List MailFile → Type 0
@@ -122,6 +127,7 @@ left_learns a b there made is = subst (λ (ts : List MailFile). Learns a (record
   leaves = λ left loses.
       let r = were_some a.entries left.entries loses.each in
       (record left { there = a.there; entries = r.0 }, record { there = refl; each = r.1; made = loses.made }, r.2);
+  flushed = flushed_left a.entries;
 })
 
 pub listed_learns : (folder : Folder) (a : Directories) → Learns a (listed folder a)
@@ -138,6 +144,7 @@ leads_learns a b l = record {
       let r = l.leaves left loses in
       let same = r.files ∙ ap (λ (fs : List File). files_at r.before.entries ++ fs) r.is_part ∙ append-nil (files_at r.before.entries) in
       (r.before, r.loses, subst (IsPart (files_at r.before.entries)) (sym same) (part_same (files_at r.before.entries)));
+  flushed = l.flushed;
 }
 
 pub learns_on : (a b c : Directories) → Learns a b → Learns b c → Learns a c
@@ -153,6 +160,7 @@ learns_on a b c first then = record {
       let two = then.leaves left loses in
       let one = first.leaves two.0 two.1 in
       (one.0, one.1, part_trans (files_at one.0.entries) (files_at two.0.entries) (files_at left.entries) one.2 two.2);
+  flushed = λ all. then.flushed (first.flushed all);
 }
   where
     stays_on : (P Q : Type 0) (name : List ℕ) → (P → Q ⊎ TookOne name (files_at b.entries) (files_at c.entries))

@@ -10,7 +10,7 @@ use Rattle.mail_store.specs.declared.maildir.disk.Folder.{Folder}
 use Rattle.mail_store.specs.declared.maildir.disk.Folder.TheVariants.{New, Cur}
 use Rattle.mail_store.specs.Maildir.{Maildir, File, Folders, IsPart, file, names_of, with_files}
 use Rattle.folder_store.specs.MailFolders.{MailFile, Draft, Directories, KeepsFile, MovesFile, RestsFile, Each, Moved, mail_at, files_at, name_at, entries_in, touches_new, touches_cur, maildir_in, content_made}
-use Rattle.folder_store.specs.MailPower.{AreLeftAs, IsLeftAs, LeavesMail, StaysIn, OutlivesIn, AllNamed}
+use Rattle.folder_store.specs.MailPower.{AreLeftAs, IsLeftAs, LeavesMail, StaysIn, OutlivesIn, AllFlushed, AllNamed}
 use Rattle.folder_store.specs.MailCalls.{Leads, named_by, names_flushed_in}
 
 -- ---- files that keep their names up to the colon and their bytes
@@ -36,6 +36,12 @@ outlives_kept [] b h f is = absurd is
 outlives_kept (s ∷ ss) [] h f is = absurd h
 outlives_kept (s ∷ ss) (t ∷ ts) h f (inl (is, named, flushed)) = inl (same_mail s t h.0 ∙ is, h.0.named named, h.0.flushed ∙ flushed)
 outlives_kept (s ∷ ss) (t ∷ ts) h f (inr is) = inr (outlives_kept ss ts h.1 f is)
+
+pub flushed_kept : (a b : List MailFile) → Each KeepsFile a b → AllFlushed a → AllFlushed b
+flushed_kept [] [] h all = tt
+flushed_kept [] (t ∷ ts) h all = absurd h
+flushed_kept (s ∷ ss) [] h all = absurd h
+flushed_kept (s ∷ ss) (t ∷ ts) h all = (h.0.flushed ∙ all.0, flushed_kept ss ts h.1 all.1)
 
 -- what a loss of power leaves of a file could be left of it before, where it was
 abbrev where_it_was : MailFile → MailFile → MailFile
@@ -98,6 +104,7 @@ keeps_leads a b there made keeps = record {
   files = files_kept a.entries b.entries keeps;
   keeps = (stays_kept a.entries b.entries keeps, outlives_kept a.entries b.entries keeps);
   leaves = leaves_kept a b there keeps;
+  flushed = flushed_kept a.entries b.entries keeps;
 }
 
 -- ---- others' moves, and flushes of names
@@ -163,6 +170,7 @@ leads_on a b c first then = record {
   files = then.files ∙ first.files;
   keeps = (λ name is. then.keeps.0 name (first.keeps.0 name is), λ f is. then.keeps.1 f (first.keeps.1 f is));
   leaves = leaves_on a b c [] [] first.leaves then.leaves;
+  flushed = λ all. then.flushed (first.flushed all);
 }
 
 -- the Maildir is as it was, with these files

@@ -1,13 +1,13 @@
 -- What telling the names of the folders does to the Maildir of the folders, once the call was counted.
-use Rattle.std.proofs.Common.{◌≡◌, ◌+◌, inl, inr, ℕ, List, Option, Result, Ok, Err, sym, ap, subst, ◌∙◌, String, Vec}
-use Rattle.std.specs.Prelude.{IsPermutation, if◌then◌else◌}
+use Rattle.std.proofs.Common.{◌≡◌, ◌+◌, inl, inr, ℕ, List, Option, Result, Ok, Err, sym, ap, ◌∙◌, String, Vec}
+use Rattle.std.specs.Prelude.{if◌then◌else◌}
 use Rattle.std.proofs.lemmas.List.Sorted.{Contains-permutation, IsPermutation-sym}
 use Rattle.mail_terms.specs.FailureCount.{refuses}
 use Rattle.mail_store.specs.Fault.{is_refusal}
 use Rattle.mail_store.specs.declared.fault.StoreFault.{StoreFault}
 use Rattle.mail_store.specs.declared.fault.StoreFault.TheVariants.{Missing, Refused, NotMbox, NoMemory}
 use Rattle.mail_store.specs.declared.maildir.disk.Folder.{Folder}
-use Rattle.mail_store.specs.Maildir.{File, Folders, AfterTaking, AreTheirs, Checks, Lists, ListsAll, bases_told, is_there, names_of, with_files}
+use Rattle.mail_store.specs.Maildir.{Folders, AfterTaking, Checks, Lists, ListsAll, bases_told, is_there, names_of, with_files}
 use Rattle.mail_store.specs.Power.{ToldStay}
 use Rattle.folder_store.specs.MailFolders.{Directories, files_at, maildir_in}
 use Rattle.folder_store.specs.MailPower.{StaysIn}

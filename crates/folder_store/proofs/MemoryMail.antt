@@ -10,7 +10,7 @@ use Rattle.mail_store.specs.declared.maildir.disk.Folder.{Folder}
 use Rattle.mail_store.specs.declared.maildir.disk.Folder.TheVariants.{New, Cur}
 use Rattle.mail_store.specs.Maildir.{all_there}
 use Rattle.folder_store.specs.declared.memory_folders.KeptMail.{KeptMail}
-use Rattle.folder_store.specs.MailFolders.{Draft, MailFile, Directories, MovesFile, RestsFile, Each, Moved, entries_in, is_in, is_in_new, is_in_cur, is_left, is_told, name_at, rests_in}
+use Rattle.folder_store.specs.MailFolders.{Draft, MailFile, Directories, MovesFile, RestsFile, Each, Moved, entries_in, is_in_new, is_in_cur, is_left, is_told, name_at, rests_in}
 use Rattle.folder_store.specs.MailPower.{AreLeftAs}
 use Rattle.folder_store.specs.MemoryFolders.{MayBeLeftAs, list_of, mail_file}
 use Rattle.folder_store.proofs.MailMoves.{each_same}

@@ -1,9 +1,8 @@
 -- What a loss of power leaves to a device, and what a device that is made anew begins with.
 use Rattle.std.proofs.Common.{inl, inr, List, [], ◌∷◌, ap, ◌∙◌}
 use Rattle.mail_store.specs.Maildir.{File, IsPart}
-use Rattle.folder_store.specs.MailFolders.{Each, MailFile, MovesFile, files_at}
-use Rattle.folder_store.specs.MailPower.{AllNamed, AllOnDisk, AreLeftAs}
-use Rattle.folder_store.specs.NewDevices.{AllFlushed}
+use Rattle.folder_store.specs.MailFolders.{MailFile, files_at}
+use Rattle.folder_store.specs.MailPower.{AllFlushed, AllNamed, AllOnDisk, AreLeftAs}
 use Rattle.folder_store.proofs.MailLoss.{left_whole}
 
 -- what a loss of power leaves of files whose bytes are on the disk is some of them, in order
@@ -15,12 +14,6 @@ flushed_part (s ∷ ss) left all (inr (t, rest, e, is, l)) = inr (
   ap files_at e ∙ ap (λ (f : File). f ∷ files_at rest) (left_whole s t all.0 is),
   flushed_part ss rest all.1 l,
 )
-
-pub flushed_moved : (a b : List MailFile) → Each MovesFile a b → AllFlushed a → AllFlushed b
-flushed_moved [] [] h all = tt
-flushed_moved [] (t ∷ ts) h all = absurd h
-flushed_moved (s ∷ ss) [] h all = absurd h
-flushed_moved (s ∷ ss) (t ∷ ts) h all = (h.0.keeps.flushed ∙ all.0, flushed_moved ss ts h.1 all.1)
 
 pub named_of : (ss : List MailFile) → AllOnDisk ss → AllNamed ss
 named_of [] all = tt

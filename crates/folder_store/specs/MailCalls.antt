@@ -9,7 +9,7 @@ use Rattle.mail_store.specs.declared.maildir.disk.Folder.TheVariants.{New, Cur}
 use Rattle.mail_store.specs.Maildir.{File, IsPart, mail, bases_told, names_of, is_there, AreTheirs}
 use Rattle.mail_store.specs.Power.{KeepsLeft, KeepsMail, ToldStay}
 use Rattle.folder_store.specs.MailFolders.{Directories, MailFile, Draft, Moved, files_at, is_left, name_at, entries_in, rests_in, touches_new, touches_cur}
-use Rattle.folder_store.specs.MailPower.{AllNamed, StaysIn, OutlivesIn, LeavesMail, LeavesSome}
+use Rattle.folder_store.specs.MailPower.{AllFlushed, AllNamed, StaysIn, OutlivesIn, LeavesMail, LeavesSome}
 
 -- others moved files, and then the call did this
 abbrev pub Then : (Directories → Directories → Type 0) → Directories → Directories → Type 0
@@ -122,13 +122,14 @@ FlushesNamesIn folder (Err NoMemory) old new = ⊥
 
 -- ---- several calls
 
--- these files came after the others, what stayed and outlived still does, and a loss of power leaves at most these
--- files besides what it could have left before
+-- these files came after the others, flushed, what stayed and outlived still does, and a loss of power leaves at most
+-- these files besides what it could have left before
 pub record Brings (old : Directories) (added : List File) (new : Directories) : Type 0 where
   pub there : new.there ≡ old.there
   pub files : files_at new.entries ≡ files_at old.entries ++ added
   pub keeps : KeepsMail (StaysIn old.entries) (OutlivesIn old.entries) (StaysIn new.entries) (OutlivesIn new.entries)
   pub leaves : LeavesMail old added new
+  pub flushed : AllFlushed old.entries → AllFlushed new.entries
 
 -- all that calls see of the folders is as it was, and so is what a loss of power leaves at most
 pub record Leads (old new : Directories) : Type 0 where
@@ -137,6 +138,7 @@ pub record Leads (old new : Directories) : Type 0 where
   pub files : files_at new.entries ≡ files_at old.entries
   pub keeps : KeepsMail (StaysIn old.entries) (OutlivesIn old.entries) (StaysIn new.entries) (OutlivesIn new.entries)
   pub leaves : LeavesMail old [] new
+  pub flushed : AllFlushed old.entries → AllFlushed new.entries
 
 -- the same, but files that readers took away may be known no longer
 pub record Learns (old new : Directories) : Type 0 where
@@ -146,6 +148,7 @@ pub record Learns (old new : Directories) : Type 0 where
   pub keeps : KeepsLeft (files_at old.entries) (files_at new.entries) (StaysIn old.entries) (OutlivesIn old.entries)
       (StaysIn new.entries) (OutlivesIn new.entries)
   pub leaves : LeavesSome old new
+  pub flushed : AllFlushed old.entries → AllFlushed new.entries
 
 -- the names of both folders at one moment, each of a file that has a name on the disk
 pub record ToldBoth {A : Type 0} (names : List (String A)) (d : Directories) : Type 0 where

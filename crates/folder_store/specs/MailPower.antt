@@ -50,6 +50,10 @@ OutlivesIn entries f = SomeIs (λ (s : MailFile). (mail_at s ≡ f) × (s.is_nam
 abbrev pub AllNamed : List MailFile → Type 0
 AllNamed entries = AllByRecursion (λ (s : MailFile). s.is_named ≡ true) entries
 
+-- the bytes of each file are on the disk
+abbrev pub AllFlushed : List MailFile → Type 0
+AllFlushed entries = AllByRecursion (λ (s : MailFile). s.is_flushed ≡ true) entries
+
 -- each file is on the disk whole
 abbrev pub AllOnDisk : List MailFile → Type 0
 AllOnDisk entries = AllByRecursion (λ (s : MailFile). (s.is_named ≡ true) × (s.is_flushed ≡ true)) entries

@@ -1,20 +1,15 @@
 -- What a loss of power leaves to a device, and what a device that is made anew over the same folders begins with.
-use Rattle.std.specs.Prelude.{◌≡◌, ℕ, Bool, true, false, List, Option}
-use Rattle.std.specs.List.{AllByRecursion}
+use Rattle.std.specs.Prelude.{◌≡◌, ℕ, Bool, false, List, Option}
 use Rattle.mail_store.specs.declared.file.flat_file.FlatFile.{Ghosts as FileGhosts}
 use Rattle.mail_store.specs.declared.maildir.disk.MaildirDisk.{Ghosts as DiskGhosts}
 use Rattle.mail_store.specs.Loss.{MayLeave}
 use Rattle.mail_store.specs.Power.{AllStay, KeepsMail, LeavesNoMore}
 use Rattle.folder_store.specs.FileFolder.{Directory}
 use Rattle.folder_store.specs.PowerLoss.{Loses}
-use Rattle.folder_store.specs.MailFolders.{Directories, Each, MailFile, MovesFile, files_at}
-use Rattle.folder_store.specs.MailPower.{LosesMail}
+use Rattle.folder_store.specs.MailFolders.{Directories, Each, MovesFile, files_at}
+use Rattle.folder_store.specs.MailPower.{AllFlushed, LosesMail}
 
 -- ---- a Maildir
-
--- the bytes of each file are on the disk
-abbrev pub AllFlushed : List MailFile → Type 0
-AllFlushed entries = AllByRecursion (λ (s : MailFile). s.is_flushed ≡ true) entries
 
 -- the folders as another process finds them: readers may have moved, marked and taken away files
 pub record FoundAgain (old new : Directories) : Type 0 where

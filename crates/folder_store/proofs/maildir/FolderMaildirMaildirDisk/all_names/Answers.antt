@@ -5,7 +5,6 @@ use Rattle.mail_store.specs.Maildir.{AfterTaking, ListsAll}
 use Rattle.mail_store.specs.Power.{ToldStay}
 use Rattle.folder_store.specs.MailFolders.{maildir_in}
 use Rattle.folder_store.specs.MailPower.{StaysIn}
-use Rattle.folder_store.proofs.MailLearns.{learns_same}
 use Rattle.folder_store.proofs.MailTelling.{all_stay, both_learn, told_all}
 use Rattle.folder_store.proofs.maildir.FolderMaildirMaildirDisk.all_names.Goals as goal
 
