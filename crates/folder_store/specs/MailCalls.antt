@@ -1,5 +1,6 @@
 -- What each call does to the folders of a Maildir, once others have moved files.
 use Rattle.std.specs.Prelude.{◌≡◌, ◌≢◌, ◌⊎◌, ◌||◌, ◌↔◌, ℕ, Bool, true, false, IsTrue, List, [], ◌∷◌, ◌++◌, map, Option, Some, None, Result, Ok, Err, Vec, String, string_bytes, IsPermutation, Contains}
+use Rattle.std.specs.Global.{Global}
 use Rattle.std.specs.List.{AllByRecursion, filter}
 use Rattle.mail_terms.specs.MaildirName.{base}
 use Rattle.mail_store.specs.declared.fault.StoreFault.{StoreFault}
@@ -211,3 +212,22 @@ MadeBringsNone = (old new : Directories) → Then ChangesMade old new → Brings
 -- what two calls bring, one after the other
 abbrev pub BothBring : Type 0
 BothBring = (a b c : Directories) (xs ys : List File) → Brings a xs b → Brings b ys c → Brings a (xs ++ ys) c
+
+-- if the bytes of each file were on the disk, they are
+abbrev pub KeepsFlushed : Directories → Directories → Type 0
+KeepsFlushed old new = AllFlushed old.entries → AllFlushed new.entries
+
+-- telling names, and looking for a folder, keeps them there
+abbrev pub TellingKeepsFlushed : Type 0
+TellingKeepsFlushed = (folder : Folder) (old new : Directories) (r : Result (Vec (String Global) Global) StoreFault) (found : Result (Unit {0}) StoreFault)
+    → TellsBoth old r new ⊎ (TellsOne old folder r new ⊎ Then (ChecksIn folder found) old new) → KeepsFlushed old new
+
+-- so does writing a file, and giving it up
+abbrev pub WritingKeepsFlushed : Type 0
+WritingKeepsFlushed = (old new : Directories) (bytes : List ℕ) (r : Result (Unit {0}) StoreFault)
+    → Then (MakesDraft r) old new ⊎ (Then (WritesDraft bytes r) old new ⊎ Then GivesUp old new) → KeepsFlushed old new
+
+-- so does settling it, if no file has its name
+abbrev pub SettlingKeepsFlushed : Type 0
+SettlingKeepsFlushed = (old new : Directories) (name : List ℕ) (r : Result (Unit {0}) StoreFault) → IsUnknown name old → PutsForGood old name r new
+    → KeepsFlushed old new

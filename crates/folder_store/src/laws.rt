@@ -4,7 +4,7 @@
 ghost use Rattle.std.specs.Prelude.{List};
 ghost use Rattle.folder_store.specs.PowerLoss.{DiskIsKnown, DiskStands, PowerLeaves};
 ghost use Rattle.folder_store.specs.HostFile.{AppendsLast, CutsLast, ReplacesLast};
-ghost use Rattle.folder_store.specs.MailCalls.{BothBring, MadeBringsNone};
+ghost use Rattle.folder_store.specs.MailCalls.{BothBring, MadeBringsNone, SettlingKeepsFlushed, TellingKeepsFlushed, WritingKeepsFlushed};
 ghost use Rattle.folder_store.specs.MailFolders.{Directories, MailFile, Moved, OneMoves};
 ghost use Rattle.folder_store.specs.MailPower.{LeftMailIsOnDisk, MailCanLosePower, MailOnDiskIsLeft, OutlivingMailIsLeft, StayingMailIsLeft};
 
@@ -34,6 +34,13 @@ pub fn writes_outlive_power()
 pub fn calls_bring_mail()
     ensures made { MadeBringsNone }
     ensures both { BothBring }
+{}
+
+/// If the bytes of each file of a Maildir are on the disk, they still are after each of its calls.
+pub fn calls_keep_mail_flushed()
+    ensures telling { TellingKeepsFlushed }
+    ensures writing { WritingKeepsFlushed }
+    ensures settling { SettlingKeepsFlushed }
 {}
 
 /// Readers may do nothing, move or mark a file, and do so again.
