@@ -219,7 +219,8 @@ KeepsFlushed old new = AllFlushed old.entries → AllFlushed new.entries
 
 -- telling names, and looking for a folder, keeps them there
 abbrev pub TellingKeepsFlushed : Type 0
-TellingKeepsFlushed = (folder : Folder) (old new : Directories) (r : Result (Vec (String Global) Global) StoreFault) (found : Result (Unit {0}) StoreFault)
+TellingKeepsFlushed = (folder : Folder) (old new : Directories)
+    → (r : Result (Vec (String Global) Global) StoreFault) (found : Result (Unit {0}) StoreFault)
     → TellsBoth old r new ⊎ (TellsOne old folder r new ⊎ Then (ChecksIn folder found) old new) → KeepsFlushed old new
 
 -- so does writing a file, and giving it up
@@ -229,5 +230,5 @@ WritingKeepsFlushed = (old new : Directories) (bytes : List ℕ) (r : Result (Un
 
 -- so does settling it, if no file has its name
 abbrev pub SettlingKeepsFlushed : Type 0
-SettlingKeepsFlushed = (old new : Directories) (name : List ℕ) (r : Result (Unit {0}) StoreFault) → IsUnknown name old → PutsForGood old name r new
-    → KeepsFlushed old new
+SettlingKeepsFlushed = (old new : Directories) (name : List ℕ) (r : Result (Unit {0}) StoreFault)
+    → IsUnknown name old → PutsForGood old name r new → KeepsFlushed old new

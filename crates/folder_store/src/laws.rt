@@ -4,7 +4,8 @@
 ghost use Rattle.std.specs.Prelude.{List};
 ghost use Rattle.folder_store.specs.PowerLoss.{DiskIsKnown, DiskStands, PowerLeaves};
 ghost use Rattle.folder_store.specs.HostFile.{AppendsLast, CutsLast, ReplacesLast};
-ghost use Rattle.folder_store.specs.MailCalls.{BothBring, MadeBringsNone, SettlingKeepsFlushed, TellingKeepsFlushed, WritingKeepsFlushed};
+ghost use Rattle.folder_store.specs.MailCalls.{BothBring, MadeBringsNone};
+ghost use Rattle.folder_store.specs.MailCalls.{SettlingKeepsFlushed, TellingKeepsFlushed, WritingKeepsFlushed};
 ghost use Rattle.folder_store.specs.MailFolders.{Directories, MailFile, Moved, OneMoves};
 ghost use Rattle.folder_store.specs.MailPower.{LeftMailIsOnDisk, MailCanLosePower, MailOnDiskIsLeft, OutlivingMailIsLeft, StayingMailIsLeft};
 
