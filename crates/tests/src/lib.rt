@@ -7,8 +7,6 @@ mod fetch_session_tests;
 #[cfg(test)]
 mod folder_store_tests;
 #[cfg(test)]
-mod getmail_program_tests;
-#[cfg(test)]
 mod local_fetch_tests;
 #[cfg(test)]
 mod mail_store_tests;
