@@ -1,27 +1,29 @@
 //! Sessions whose link ends or fails, and the sessions after them.
 
-use crate::fetch_session_tests::list::expect_by_one_call;
 use crate::fetch_session_tests::visit::{
-    LISTED, ONE, THREE, TWO, Visit, expect, nothing_kept, run,
+    LISTED, ONE, Row, THREE, TWO, Visit, expect, nothing_kept, run,
 };
 use std::test::Fail;
 
 #[test]
 fn goes_on_after_a_cut(rt: HostRuntime) -> Result<(), Fail> {
     let rows = [
-        (
-            Visit::new(rt.alloc(), "", 0, &[LISTED, ONE, "+OK|tw"])?,
+        Row::new(
+            "",
+            0,
+            &[LISTED, ONE, "+OK|tw"],
             "P|RETR 1|RETR 2| Cut(ConnectionEnded) 1/3 4 s0 d0 - a=one/ - - \
              getmail-seen 2/a 0 0/b 0 0/c 0 0/+ 1/a 0 1/",
         ),
-        (
-            Visit::new(rt.alloc(), "", 0, &[LISTED, TWO, THREE, "+OK|"])?,
+        Row::new(
+            "",
+            0,
+            &[LISTED, TWO, THREE, "+OK|"],
             "P|RETR 2|RETR 3|QUIT| Ended 2/3 10 s1 d0 - a=one/ b=two/ c=three/ - - \
              getmail-seen 2/a 0 0/b 0 0/c 0 0/+ 1/a 0 1/+ 1/b 0 1/+ 1/c 0 1/",
         ),
     ];
-    expect(&rt, &rows)?;
-    expect_by_one_call(&rt, "", &rows)
+    expect(&rt, &rows)
 }
 
 #[test]

@@ -1,6 +1,6 @@
 //! Texts that are stored.
 
-use crate::fetch_session_tests::visit::{A_LISTED, Visit, expect};
+use crate::fetch_session_tests::visit::{A_LISTED, Row, expect};
 use std::test::Fail;
 
 #[test]
@@ -20,10 +20,7 @@ fn stores_texts_line_by_line(rt: HostRuntime) -> Result<(), Fail> {
         )?;
         expect(
             &rt,
-            &[(
-                Visit::new(rt.alloc(), "", 0, &[A_LISTED, reply, "+OK bye|"])?,
-                wanted.as_str(),
-            )],
+            &[Row::new("", 0, &[A_LISTED, reply, "+OK bye|"], wanted.as_str())],
         )?;
     }
     Ok(())

@@ -260,15 +260,41 @@ pub fn run(alloc: Global, kept: Kept, visit: &Visit, cut: usize) -> Result<(Kept
     Ok((kept, told))
 }
 
+/// A session that no call refuses, and what is to come of it.
+#[derive(Clone, Copy)]
+pub struct Row<'a> {
+    pub options: &'a str,
+    pub now: u64,
+    pub replies: &'a [&'a str],
+    pub wanted: &'a str,
+}
+
+impl<'a> Row<'a> {
+    pub fn new(options: &'a str, now: u64, replies: &'a [&'a str], wanted: &'a str) -> Row<'a> {
+        Row {
+            options,
+            now,
+            replies,
+            wanted,
+        }
+    }
+
+    /// The session.
+    pub fn visit(&self, alloc: Global) -> Result<Visit, AllocError> {
+        Visit::new(alloc, self.options, self.now, self.replies)
+    }
+}
+
 /// Runs sessions one after the other, with replies in pieces of at most `cut` octets, and
 /// compares the result of each.
-fn compare(rt: &(impl Abort + AllocGlobal), rows: &[(Visit, &str)], cut: usize) -> Result<(), Fail>
+fn compare(rt: &(impl Abort + AllocGlobal), rows: &[Row<'_>], cut: usize) -> Result<(), Fail>
     requires { 0 < cut }
 {
     let mut kept = nothing_kept(rt.alloc());
-    for (visit, wanted) in rows {
-        let (after, told) = run(rt.alloc(), kept, visit, cut)?;
-        assert_eq!(rt; told.as_str(), *wanted, "in pieces of {cut}");
+    for row in rows {
+        let visit = row.visit(rt.alloc())?;
+        let (after, told) = run(rt.alloc(), kept, &visit, cut)?;
+        assert_eq!(rt; told.as_str(), row.wanted, "in pieces of {cut}");
         kept = after;
     }
     Ok(())
@@ -276,7 +302,7 @@ fn compare(rt: &(impl Abort + AllocGlobal), rows: &[(Visit, &str)], cut: usize) 
 
 /// Runs these sessions one after the other, from an empty Maildir and no record, and compares the
 /// result of each; all of it with replies in pieces of 1, 2, 3 and 4,096 octets.
-pub fn expect(rt: &(impl Abort + AllocGlobal), rows: &[(Visit, &str)]) -> Result<(), Fail> {
+pub fn expect(rt: &(impl Abort + AllocGlobal), rows: &[Row<'_>]) -> Result<(), Fail> {
     for cut in [1usize, 2, 3, 4096] {
         assert!(rt; cut > 0);
         compare(rt, rows, cut)?;
