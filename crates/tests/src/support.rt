@@ -8,6 +8,6 @@ mod records;
 
 pub use listings::listing_of;
 pub use maildirs::make_maildir;
-pub use maildrops::{maildrop_of, put};
+pub use maildrops::maildrop_of;
 pub use names::fred;
 pub use records::{Record, read_record};

@@ -3,15 +3,13 @@
 use crate::fetch_session_tests::visit::{
     Kept, SOUND, account, counts, held, kept_by, nothing_kept,
 };
-use crate::support::{maildrop_of, put};
+use crate::support::maildrop_of;
 use fetch_runs::{Visit, run_sessions};
 use fetch_session::Report;
 use local_fetch::fetch_local;
-use mail_store::Folder;
 use pop3_server::{LoopWire, MemoryDrop, Server};
 use pop3_wire::FusedWire;
 use std::alloc::{AllocError, Global};
-use std::process::Abort;
 use std::test::Fail;
 
 /// The messages of the maildrop.
@@ -108,36 +106,5 @@ fn goes_on_after_a_cut_by_one_call(rt: HostRuntime) -> Result<(), Fail> {
         "Cut(ReadFailed) 1/3 4 s0 d0; Ended 2/3 10 s1 d0; a=one/ b=two/ c=three/ - - \
          getmail-seen 2/a 0 0/b 0 0/c 0 0/+ 1/a 0 1/+ 1/b 0 1/+ 1/c 0 1/"
     );
-    Ok(())
-}
-
-/// A maildrop of three hundred messages, the i-th of i lines.
-fn long_maildrop(rt: &(impl Abort + AllocGlobal)) -> Result<MemoryDrop, Fail> {
-    let alloc = rt.alloc();
-    let mut maildrop = MemoryDrop::new(alloc);
-    let mut text = Vec::new(alloc);
-    for i in 1u64..=300 {
-        text.extend_from_slice(&[b'x'; 80])?;
-        text.push(b'\n')?;
-        let uid = format!(in alloc; "m{i}")?;
-        put(&mut maildrop, uid.as_bytes(), text.as_slice())?;
-    }
-    Ok(maildrop)
-}
-
-#[test]
-fn fetches_and_deletes_three_hundred_messages(rt: HostRuntime) -> Result<(), Fail> {
-    let alloc = rt.alloc();
-    let ends = Ends {
-        kept: nothing_kept(alloc),
-        maildrop: long_maildrop(&rt)?,
-    };
-    let (ends, report) = fetch(alloc, "delete = true", ends)?;
-    assert_eq!(rt;
-        counts(alloc, &report)?.as_str(),
-        "Ended 300/300 3657150 s0 d300"
-    );
-    assert_eq!(rt; ends.kept.maildir.files(Folder::New).len(), 300);
-    assert_eq!(rt; ends.maildrop.len(), 0);
     Ok(())
 }

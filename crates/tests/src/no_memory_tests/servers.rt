@@ -49,16 +49,20 @@ fn read_folder(rt: &HostRuntime, maildrop: &mut MaildirDrop<'_, HostRuntime>) {
     tell_mail(rt, answer);
 }
 
+fn read_twice(rt: &HostRuntime, maildrop: &mut MaildirDrop<'_, HostRuntime>) -> Result<(), Fail> {
+    maildrop.entries()?;
+    read_folder(rt, maildrop);
+    read_folder(rt, maildrop);
+    Ok(())
+}
+
 #[test]
 fn folder_text_row(rt: HostRuntime) -> Result<(), Fail> {
     make_maildir(&rt, "mail")?;
     fs::write(&rt, "mail/new/a", b"one\n")?;
-    let refusals = Refusals::new(rt.alloc(), None);
     let path = String::from_str(rt.alloc(), "mail")?;
+    let refusals = Refusals::new(rt.alloc(), None);
     let system = System::new(&rt, &refusals);
-    let mut maildrop = MaildirDrop::at(&system, path);
-    maildrop.entries()?;
-    read_folder(&rt, &mut maildrop);
-    read_folder(&rt, &mut maildrop);
+    read_twice(&rt, &mut MaildirDrop::at(&system, path))?;
     Ok(fs::remove_dir_all(&rt, "mail")?)
 }

@@ -5,7 +5,7 @@ use pop3_wire::is_legal_id;
 use std::test::Fail;
 
 /// Puts a message into a maildrop of fewer than 1,000; its size is at most 100,000 octets.
-pub fn put(maildrop: &mut MemoryDrop, uid: &[u8], text: &[u8]) -> Result<(), Fail> {
+fn put(maildrop: &mut MemoryDrop, uid: &[u8], text: &[u8]) -> Result<(), Fail> {
     if !is_legal_id(uid) || maildrop.contains(uid) {
         return Err(Fail::new("an id that is free"));
     }
