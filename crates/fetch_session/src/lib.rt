@@ -6,6 +6,7 @@ mod appending;
 mod ending;
 mod fault;
 mod laws;
+mod listener;
 mod one_session;
 mod opening;
 mod plan;
@@ -27,9 +28,10 @@ pub use fault::{Cut, Fault, Why};
 pub use laws::{
     lasting_sessions_are_sessions, steady_files_keep, stopping_cuts_short, unsaved_files_keep,
 };
-pub use one_session::session;
+pub use listener::{Listener, Silent};
+pub use one_session::{session, session_told};
 pub use preview::{Preview, pretend};
 pub use prospect::{Fate, Prospect};
 pub use report::{LeftOut, Outcome, Report, ReportLine};
 pub use telling::preview_text;
-pub use text::{fault_number, fault_text, report_text};
+pub use text::{fault_number, fault_text, heading, line_text, report_text};

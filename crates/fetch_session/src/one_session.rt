@@ -9,7 +9,7 @@ ghost use Rattle.fetch_session.specs.Scene.{WhereAllSound};
 ghost use Rattle.fetch_session.specs.Work.{WhereWorkSound};
 ghost use Rattle.fetch_session.specs.Account.{IsSameAccount, digits_of};
 ghost use Rattle.fetch_session.specs.Intake.{GotAtMost, session_limit, TookWithTail, opening_limit, step_limit, tail_limit};
-ghost use Rattle.fetch_session.specs.Refusal.{RefusesByOutcome};
+ghost use Rattle.fetch_session.specs.Refusal.{IsWithinLimits, RefusesByOutcome};
 ghost use Rattle.fetch_session.specs.Lasting.{ProceedsForGood, SessionForGood};
 ghost use Rattle.fetch_session.specs.Parts.{KeepsLink, KeepsStore};
 ghost use Rattle.fetch_session.specs.Report.{Reports, most_lines, none_skipped};
@@ -19,6 +19,7 @@ ghost use Rattle.fetch_session.specs.Target.{is_sound, maildir_of, mbox_of, stor
 
 use crate::account::Account;
 use crate::fault::{Cut, Fault, broken, plain};
+use crate::listener::{Listener, Silent};
 use crate::opening::enter;
 use crate::plan::carry_out;
 use crate::report::{Outcome, Report, ReportLine, Skips, none_skipped, report_of};
@@ -49,11 +50,12 @@ fn reported(outcome: Outcome, counts: Counts, lines: Vec<ReportLine>) -> Report
 }
 
 /// Logs in, deals with the listed messages, and quits, up to the first fault.
-fn proceed<W: Wire, D: MaildirDisk, F: FlatFile, H: BuildHasher>(
+fn proceed<W: Wire, D: MaildirDisk, F: FlatFile, H: BuildHasher, L: Listener>(
     client: &mut Client<'_, W>,
     work: &mut Work<D, F, H>,
     terms: Terms<'_>,
     counts: &mut Counts,
+    listener: &mut L,
 ) -> Result<(), Cut>
     requires valid { IsValid terms.settings.now }
     requires digits { IsAccountText terms.account.now }
@@ -69,6 +71,7 @@ fn proceed<W: Wire, D: MaildirDisk, F: FlatFile, H: BuildHasher>(
         terms.entry.settings.now (target_of work.old.store terms.entry.account.now) terms.entry.now old.place
         (keeping left old.file) result
         new.place (keeping new.store new.file) (noted counts.new.total counts.new.skipped new.lines) work.new.store work.new.ledger.file)) }
+    ensures heard { L.goes_on listener.old listener.new }
 {
     conversations_are_paced();
     let listing = match enter(work.ledger.alloc, terms.settings, client) {
@@ -79,14 +82,15 @@ fn proceed<W: Wire, D: MaildirDisk, F: FlatFile, H: BuildHasher>(
     if let Err(_) = work.ledger.lines.reserve(2 * listing.len() as usize) {
         return Err(plain(Fault::NoMemory));
     }
-    carry_out(client, work, terms, &listing, &mut counts.skipped)
+    carry_out(client, work, terms, &listing, &mut counts.skipped, listener)
 }
 
 /// Runs one session of an account over a client with nothing waiting.
-fn session_over<W: Wire, D: MaildirDisk, F: FlatFile, H: BuildHasher>(
+fn session_over<W: Wire, D: MaildirDisk, F: FlatFile, H: BuildHasher, L: Listener>(
     account: &mut Account<D, F, H>,
     client: &mut Client<'_, W>,
     now: u64,
+    listener: &mut L,
 ) -> Report
     requires { client.old.reader ≡ [] }
     ensures link { HasSameLink client.old client.new }
@@ -101,6 +105,7 @@ fn session_over<W: Wire, D: MaildirDisk, F: FlatFile, H: BuildHasher>(
         (keeping (stores_of D.MaildirDisk F.FlatFile account.new.store) (F.stored account.new.file)) account.new.store account.new.file)) }
     ensures bounded { W.sound client.new.wire.now
         → GotAtMost (session_limit result.total) (link_of W.Wire client.old) (link_of W.Wire client.new) }
+    ensures heard { L.goes_on listener.old listener.new }
 {
     conversations_are_paced();
     let mut counts = Counts {
@@ -113,7 +118,7 @@ fn session_over<W: Wire, D: MaildirDisk, F: FlatFile, H: BuildHasher>(
         account: &account.id,
         now,
     };
-    if let Err(cut) = proceed(client, &mut account.work, terms, &mut counts) {
+    if let Err(cut) = proceed(client, &mut account.work, terms, &mut counts, listener) {
         let outcome = Outcome::Cut(cut.fault);
         leave(client, cut);
         prove!(client.waiting().len() < PIECE_ROOM);
@@ -170,6 +175,36 @@ pub fn session<W: Wire, D: MaildirDisk, F: FlatFile, H: BuildHasher>(
         (keeping left (F.stored account.old.file)) result (W.history wire.new)
         (keeping (stores_of D.MaildirDisk F.FlatFile account.new.store) (F.stored account.new.file)) account.new.store account.new.file) }
 {
+    session_told(account, wire, now, &mut Silent)
+}
+
+/// As `session`; the listener is told of the lines as they are noted.
+pub fn session_told<W: Wire, D: MaildirDisk, F: FlatFile, H: BuildHasher, L: Listener>(
+    account: &mut Account<D, F, H>,
+    wire: &mut W,
+    now: u64,
+    listener: &mut L,
+) -> Report
+    ensures link { IsWithinLimits W.Wire wire.old result wire.new }
+    ensures same { IsSameAccount account.old account.new }
+    ensures session { WhereAllSound W.sound W.leads_to (IsSoundMaildir D.MaildirDisk) F.sound wire.old wire.new
+        account.old.store account.new.store account.old.file account.new.file
+        (AfterTaking (maildir_of D.MaildirDisk account.old.store) (λ left. Session account.old.settings (digits_of account.old.settings)
+        now (W.history wire.old) (kept left (F.stored account.old.file)) result (W.history wire.new)
+        (kept (maildir_of D.MaildirDisk account.new.store) (F.stored account.new.file)))) }
+    ensures mbox_session { WhereAllSound W.sound W.leads_to (IsSoundMbox F.FlatFile) F.sound wire.old wire.new
+        account.old.store account.new.store account.old.file account.new.file
+        (MboxSession account.old.settings now (W.history wire.old)
+        (mbox_kept (mbox_of F.FlatFile account.old.store) (F.stored account.old.file)) result (W.history wire.new)
+        (mbox_kept (mbox_of F.FlatFile account.new.store) (F.stored account.new.file))) }
+    ensures power { W.sound wire.new → is_sound D.MaildirDisk F.FlatFile account.new.store → F.sound account.new.file
+        → AfterTakingIn (stores_of D.MaildirDisk F.FlatFile account.old.store) (λ left. SessionForGood D.MaildirDisk F.FlatFile
+        account.old.store account.old.file account.old.settings
+        (target_of account.old.store (digits_of account.old.settings)) now (W.history wire.old)
+        (keeping left (F.stored account.old.file)) result (W.history wire.new)
+        (keeping (stores_of D.MaildirDisk F.FlatFile account.new.store) (F.stored account.new.file)) account.new.store account.new.file) }
+    ensures heard { L.goes_on listener.old listener.new }
+{
     let mut client = Client::new(wire);
-    session_over(account, &mut client, now)
+    session_over(account, &mut client, now, listener)
 }

@@ -13,10 +13,11 @@ ghost use Rattle.fetch_session.specs.Report.{HasRoom, none_skipped};
 
 use crate::ending::end;
 use crate::fault::{Cut, plain};
+use crate::listener::Listener;
 use crate::prospect::skips_of;
 use crate::readiness::{Ready, prepare};
 use crate::report::Skips;
-use crate::step::do_steps;
+use crate::step::{Planned, do_steps};
 use crate::terms::Terms;
 use crate::work::Work;
 use fetch_rules::{Listing, firsts_are_fetched};
@@ -26,13 +27,14 @@ use pop3_wire::Wire;
 use std::hash::BuildHasher;
 
 /// Makes the record ready for a listing, does what is planned for it, and quits. How many messages the
-/// plan passes over is put into `skipped`.
-pub fn carry_out<W: Wire, D: MaildirDisk, F: FlatFile, H: BuildHasher>(
+/// plan passes over is put into `skipped`. The listener is told of the lines as they are noted.
+pub fn carry_out<W: Wire, D: MaildirDisk, F: FlatFile, H: BuildHasher, L: Listener>(
     client: &mut Client<'_, W>,
     work: &mut Work<D, F, H>,
     terms: Terms<'_>,
     listing: &Listing,
     skipped: &mut Skips,
+    listener: &mut L,
 ) -> Result<(), Cut>
     requires digits { IsAccountText terms.account.now }
     requires room { HasRoom work.old.ledger.lines (2 * length listing.now) }
@@ -48,6 +50,7 @@ pub fn carry_out<W: Wire, D: MaildirDisk, F: FlatFile, H: BuildHasher>(
         terms.entry.settings.now (target_of work.old.store terms.entry.account.now) listing.now terms.entry.now
         old.place left old.file old.lines result
         new.place new.store new.file new.lines skipped.new work.new.store work.new.ledger.file)) }
+    ensures heard { L.goes_on listener.old listener.new }
 {
     turns_join();
     firsts_are_fetched();
@@ -57,7 +60,12 @@ pub fn carry_out<W: Wire, D: MaildirDisk, F: FlatFile, H: BuildHasher>(
     };
     let Ready { held, steps } = ready;
     *skipped = skips_of(terms, &work.ledger.seen, listing, &steps);
-    if let Err(cut) = do_steps(client, work, terms.account, &steps, listing, &held) {
+    let plan = Planned {
+        listing,
+        steps: &steps,
+        held: &held,
+    };
+    if let Err(cut) = do_steps(client, work, terms.account, plan, listener) {
         return Err(cut);
     }
     match end(client, work) {

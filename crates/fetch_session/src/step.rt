@@ -15,6 +15,7 @@ ghost use Rattle.pop3_wire.specs.Link.{WhereSound};
 use crate::account::Store;
 use crate::appending::take_into_mbox;
 use crate::fault::{Cut, broken};
+use crate::listener::Listener;
 use crate::report::{ReportLine, note};
 use crate::storing::{reread, take_into_maildir};
 use crate::work::Work;
@@ -154,29 +155,43 @@ fn do_step<W: Wire, D: MaildirDisk, F: FlatFile, H: BuildHasher>(
     do_task(client, work, account, Task::Delete { number })
 }
 
-/// Does the planned steps, up to the first fault.
-pub fn do_steps<W: Wire, D: MaildirDisk, F: FlatFile, H: BuildHasher>(
+/// What is planned for a listing: a step for each message, and whether the store holds it.
+#[derive(Clone, Copy)]
+pub struct Planned<'a> {
+    pub listing: &'a Listing,
+    pub steps: &'a [Step],
+    pub held: &'a [bool],
+}
+
+/// Does the planned steps, up to the first fault. The listener is told of the lines after each.
+pub fn do_steps<W: Wire, D: MaildirDisk, F: FlatFile, H: BuildHasher, L: Listener>(
     client: &mut Client<'_, W>,
     work: &mut Work<D, F, H>,
     account: &AccountId,
-    steps: &[Step],
-    listing: &Listing,
-    held: &[bool],
+    plan: Planned<'_>,
+    listener: &mut L,
 ) -> Result<(), Cut>
-    requires all_steps { length steps.now ≡ length listing.now }
-    requires all_flags { length held.now ≡ length listing.now }
-    requires ready { IsReadyFor D.MaildirDisk F.FlatFile account.now (tasks_planned steps.now listing.now held.now) work.old }
-    ensures keeps { KeepsSession W.Wire D.MaildirDisk F.FlatFile account.now (tasks_planned steps.now listing.now held.now)
-        client.old work.old result client.new work.new }
-    ensures does { DoesTasks W.Wire D.MaildirDisk F.FlatFile account.now (tasks_planned steps.now listing.now held.now)
-        client.old work.old result client.new work.new }
+    requires all_steps { length plan.steps.now ≡ length plan.listing.now }
+    requires all_flags { length plan.held.now ≡ length plan.listing.now }
+    requires ready { IsReadyFor D.MaildirDisk F.FlatFile account.now (tasks_planned plan.steps.now plan.listing.now plan.held.now) work.old }
+    ensures keeps { KeepsSession W.Wire D.MaildirDisk F.FlatFile account.now
+        (tasks_planned plan.entry.steps.now plan.entry.listing.now plan.entry.held.now) client.old work.old result client.new work.new }
+    ensures does { DoesTasks W.Wire D.MaildirDisk F.FlatFile account.now
+        (tasks_planned plan.entry.steps.now plan.entry.listing.now plan.entry.held.now) client.old work.old result client.new work.new }
+    ensures heard { L.goes_on listener.old listener.new }
 {
     turns_join();
+    let Planned {
+        listing,
+        steps,
+        held,
+    } = plan;
     for i in 0..listing.len() {
         let place = i as usize;
         let step = steps[place];
         let first = first_task(step, listing.uid(i), listing.size(i), held[place]);
         do_step(client, work, account, step, first)?;
+        listener.hear(listing.len(), &work.ledger.lines);
     }
     Ok(())
 }

@@ -86,7 +86,7 @@ pub fn fault_number(outcome: &Outcome) -> u8
 }
 
 /// The report's first line: whose mail it is.
-pub(crate) fn heading(alloc: Global, settings: &Settings) -> Result<String, AllocError>
+pub fn heading(alloc: Global, settings: &Settings) -> Result<String, AllocError>
     ensures { IfOk result (λ text. string_bytes text ≡ heading settings.now) }
 {
     let username = settings.username.as_str();
@@ -96,7 +96,7 @@ pub(crate) fn heading(alloc: Global, settings: &Settings) -> Result<String, Allo
 }
 
 /// One line of a report; empty for a message that was passed over, unless `verbose` is 2.
-fn line_text(
+pub fn line_text(
     alloc: Global,
     verbose: u8,
     total: u32,

@@ -13,19 +13,19 @@ use Rattle.fetch_session.proofs.step.do_steps.Goals as goal
 pub loop-i-init : goal.loop-i-init
 loop-i-init g c =
     let kept = kept_nothing c.requires.ready.ready in
-    ([], refl, kept, does_nothing g.met.W.Wire.leads_same kept c.requires.ready.ready)
+    ([], refl, kept, does_nothing g.met.W.Wire.leads_same kept c.requires.ready.ready, g.met.L.Listener.goes_same c.args.listener.now)
 
 -- what is done for the i-th message, and after it
 abbrev now : (g : Over) → After-first_task-first g → List Task
-now g c = task_of c.first_task-first.result ∷ deleting (step_at c.args.steps.now c.loop-i.i).delete (step_at c.args.steps.now c.loop-i.i).number
+now g c = task_of c.first_task-first.result ∷ deleting (step_at c.args.plan.steps.now c.loop-i.i).delete (step_at c.args.plan.steps.now c.loop-i.i).number
 
 abbrev later : (g : Over) → After-first_task-first g → List Task
-later g c = later_at c.args.steps.now c.args.listing.now c.args.held.now c.loop-i.i
+later g c = later_at c.args.plan.steps.now c.args.plan.listing.now c.args.plan.held.now c.loop-i.i
 
-split : (g : Over) (c : After-first_task-first g) → tasks_planned c.args.steps.now c.args.listing.now c.args.held.now ≡ (c.loop-i.invariant.0 ++ now g c) ++ later g c
+split : (g : Over) (c : After-first_task-first g) → tasks_planned c.args.plan.steps.now c.args.plan.listing.now c.args.plan.held.now ≡ (c.loop-i.invariant.0 ++ now g c) ++ later g c
 split g c =
     let done = c.loop-i.invariant.0 in
-    c.loop-i.invariant.1 ∙ ap (λ (ts : List Task). done ++ ts) (tasks_left c.args.steps.now c.args.listing.now c.args.held.now c.loop-i.i c.uid.result.now c.size.result (task_of c.first_task-first.result)
+    c.loop-i.invariant.1 ∙ ap (λ (ts : List Task). done ++ ts) (tasks_left c.args.plan.steps.now c.args.plan.listing.now c.args.plan.held.now c.loop-i.i c.uid.result.now c.size.result (task_of c.first_task-first.result)
     (omega (arith, c.loop-i-test.true, c.len-i-end.ensures.count)) c.requires.all_steps c.requires.all_flags (c.uid.ensures.value no_item) (c.size.ensures no_item) c.first_task-first.ensures)
     ∙ sym (append_assoc done (now g c) (later g c))
 
@@ -41,7 +41,7 @@ loop-i-preserved g c =
     let d = (goal.at.loop-i-preserved g c).After-first_task-first in
     let inv = c.loop-i.invariant in
     let kept = c.in_ok-do_step.ensures.keeps in
-    (inv.0 ++ now g d, split g d, kept_on inv.0 (now g d) (Ok tt) inv.2 kept, does_on c.turns_join.ensures g.met.W.Wire.leads_on inv.0 (now g d) (Ok tt) inv.2 inv.3 kept c.in_ok-do_step.ensures.does)
+    (inv.0 ++ now g d, split g d, kept_on inv.0 (now g d) (Ok tt) inv.2 kept, does_on c.turns_join.ensures g.met.W.Wire.leads_on inv.0 (now g d) (Ok tt) inv.2 inv.3 kept c.in_ok-do_step.ensures.does, g.met.L.Listener.goes_further _ _ _ inv.4 c.hear.ensures)
 
 pub returns-in_err-do_step-clause-keeps : goal.returns-in_err-do_step-clause-keeps
 returns-in_err-do_step-clause-keeps g c =
@@ -61,11 +61,11 @@ returns-in_err-do_step-clause-does g c =
     (does_on c.turns_join.ensures g.met.W.Wire.leads_on inv.0 (now g d) (Err cut) inv.2 inv.3 kept c.in_err-do_step.ensures.does))
 
 -- none is left
-all_done : (g : Over) (c : After-loop-i g) → tasks_planned c.args.steps.now c.args.listing.now c.args.held.now ≡ c.loop-i.invariant.0
+all_done : (g : Over) (c : After-loop-i g) → tasks_planned c.args.plan.steps.now c.args.plan.listing.now c.args.plan.held.now ≡ c.loop-i.invariant.0
 all_done g c =
     let inv = c.loop-i.invariant in
-    inv.1 ∙ ap (λ (ss : List Step). inv.0 ++ tasks_planned ss (drop c.loop-i.i c.args.listing.now) (drop c.loop-i.i c.args.held.now))
-    (drop_all c.loop-i.i c.args.steps.now (omega (arith, c.loop-i-test.false, c.len-i-end.ensures.count, c.requires.all_steps))) ∙ append-nil inv.0
+    inv.1 ∙ ap (λ (ss : List Step). inv.0 ++ tasks_planned ss (drop c.loop-i.i c.args.plan.listing.now) (drop c.loop-i.i c.args.plan.held.now))
+    (drop_all c.loop-i.i c.args.plan.steps.now (omega (arith, c.loop-i-test.false, c.len-i-end.ensures.count, c.requires.all_steps))) ∙ append-nil inv.0
 
 pub returns-clause-keeps : goal.returns-clause-keeps
 returns-clause-keeps g c = rw (all_done g (goal.at.returns-clause-keeps g c).After-loop-i) c.loop-i.invariant.2

@@ -3,7 +3,7 @@ use Rattle.fetch_session.specs.Account.{digits_of}
 use Rattle.fetch_session.specs.Session.{SessionIn, keeping}
 use Rattle.fetch_session.specs.Target.{AfterTakingIn}
 use Rattle.fetch_session.proofs.SessionLemmas.{entries_session, files_session, session_in}
-use Rattle.fetch_session.proofs.one_session.session.Goals as goal
+use Rattle.fetch_session.proofs.one_session.session_told.Goals as goal
 
 pub returns-clause-power : goal.returns-clause-power
 returns-clause-power g c = λ w d f.
