@@ -4,4 +4,5 @@ pub mod Output
 pub mod Places
 pub mod Progress
 pub mod Rehearsal
+pub mod Teller
 pub mod Telling

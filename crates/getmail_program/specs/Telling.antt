@@ -109,20 +109,24 @@ status_when Ended None (Cut fault) = 1
 status_when Ended (Some why) foreseen = 1
 status_when (Cut fault) why foreseen = 1
 
--- what a session said was written to `out`, and nothing else; to `err` were written the line of the fault that cut it with its reason,
--- the line of a text that wasn't written, after a preview the line of the fault that would cut a run, with its reason, and the line on
--- messages that were left out
-pub record TellsAll {O E : Type 0} (out_contents : O → Option (List ℕ)) (err_contents : E → Option (List ℕ)) (pretends : Bool)
-    (settings : Settings) (told : Told) (out : Output O) (old : Errors E) (fetched : Fetched) (out' : Output O) (new : Errors E)
-    : Type 0 where
+-- to `err` were written the line of the fault that cut a session with its reason, the line of a text that wasn't written, after a preview
+-- the line of the fault that would cut a run, with its reason, and the line on messages that were left out
+pub record TellsErrors {E : Type 0} (contents : E → Option (List ℕ)) (pretends : Bool) (settings : Settings) (told : Told)
+    (refusal : Option Refusal) (old : Errors E) (fetched : Fetched) (new : Errors E) : Type 0 where
   pub idle : fetched.is_idle ≡ is_idle told
-  pub reported : Puts out_contents out (text_of settings told) out'
   pub foreseen : Outcome
   pub run : pretends ≡ false → foreseen ≡ Ended
-  pub status : fetched.status ≡ status_when (outcome_of told) out'.refusal foreseen
+  pub status : fetched.status ≡ status_when (outcome_of told) refusal foreseen
   pub reason : List ℕ
   pub is_reason : IsReason settings old.says_why (outcome_of told) reason
   pub further : List ℕ
   pub is_further : IsReason settings old.says_why foreseen further
-  pub said : Puts err_contents old.err ((((outcome_line (outcome_of told) ++ reason) ++ unwritten_line (outcome_of told) out'.refusal)
+  pub said : Puts contents old.err ((((outcome_line (outcome_of told) ++ reason) ++ unwritten_line (outcome_of told) refusal)
       ++ (outcome_line foreseen ++ further)) ++ left_out_said settings old.says_why told) new.err
+
+-- what a session said was written to `out`, and nothing else; and the rest to `err`
+pub record TellsAll {O E : Type 0} (out_contents : O → Option (List ℕ)) (err_contents : E → Option (List ℕ)) (pretends : Bool)
+    (settings : Settings) (told : Told) (out : Output O) (old : Errors E) (fetched : Fetched) (out' : Output O) (new : Errors E)
+    : Type 0 where
+  pub reported : Puts out_contents out (text_of settings told) out'
+  pub errors : TellsErrors err_contents pretends settings told out'.refusal old fetched new

@@ -1,7 +1,7 @@
 //! What is written to standard error at a session's end.
 ghost use Rattle.std.specs.Prelude.{◌≡◌, ◌≤◌, false};
 ghost use Rattle.getmail_program.specs.Output.{Puts};
-ghost use Rattle.getmail_program.specs.Telling.{TellsAll, TellsCut, lacks_memory, outcome_line, status_when, unwritten_line};
+ghost use Rattle.getmail_program.specs.Telling.{TellsCut, TellsErrors, lacks_memory, outcome_line, status_when, unwritten_line};
 
 use crate::doubt::doubt_of;
 use crate::failure::OUT_OF_MEMORY;
@@ -119,33 +119,29 @@ fn status_when(outcome: Outcome, refusal: Option<Refusal>, foreseen: Outcome) ->
     }
 }
 
-/// Writes what a session says at its end to `out`, and to standard error the line of the fault that cut it
-/// and its reason, whether the text wasn't written, after a preview the fault that would cut a run, and how
-/// many messages were left out.
-pub fn tell_all<R: Files + AllocGlobal, O: Write, E: Write>(
+/// Writes to standard error the line of the fault that cut a session and its reason, whether what it says
+/// wasn't written, after a preview the fault that would cut a run, and how many messages were left out.
+pub fn tell_all<R: Files + AllocGlobal, E: Write>(
     rt: &R,
     settings: &Settings,
     manner: Manner<'_>,
     told: &Told,
-    out: &mut Output<O>,
+    refusal: Option<Refusal>,
     errors: &mut Errors<'_, E>,
 ) -> Fetched
     ensures within { result.status ≤ 1 }
-    ensures told { TellsAll O.contents E.contents manner.entry.pretends settings.now told.now out.old errors.old result out.new errors.new }
+    ensures told { TellsErrors E.contents manner.entry.pretends settings.now told.now refusal errors.old result errors.new }
 {
     let alloc = rt.alloc();
     let outcome = told.outcome();
-    told.write(alloc, settings, out);
     tell_cut(alloc, settings, &outcome, errors);
-    errors
-        .err
-        .put(unwritten_line(&outcome, out.refusal()).as_bytes());
+    errors.err.put(unwritten_line(&outcome, refusal).as_bytes());
     let system = System::new(rt, &errors.reasons.store);
     let ahead = foreseen(&system, settings, manner, told);
     tell_cut(alloc, settings, &ahead, errors);
     tell_left_out(alloc, settings, told, errors);
     Fetched {
-        status: status_when(outcome, out.refusal(), ahead),
+        status: status_when(outcome, refusal, ahead),
         is_idle: told.is_idle(),
     }
 }

@@ -15,6 +15,7 @@ mod rehearsal;
 mod run;
 mod setup;
 mod shown_wire;
+mod teller;
 mod told;
 mod transcript;
 mod why;

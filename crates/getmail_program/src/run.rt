@@ -45,6 +45,6 @@ pub fn fetch_over<
         × TellsAll O.contents E.contents manner.entry.pretends account.old.settings told out.old errors.old result out.new
         errors.new }
 {
-    let told = hold(account, wire, manner.now, manner.pretends);
-    tell_all(rt, account.settings(), manner, &told, out, errors)
+    let told = hold(rt.alloc(), account, wire, manner, out);
+    tell_all(rt, account.settings(), manner, &told, out.refusal(), errors)
 }

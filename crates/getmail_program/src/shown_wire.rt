@@ -39,7 +39,8 @@ impl<W: Wire, S: Write> ShownWire<W, S> {
         }
     }
 
-    /// Takes note of a part of the conversation, and shows how far the fetch is, if it is time to.
+    /// Takes note of a part of the conversation, and shows how far the fetch is, if it is time to. At the end
+    /// of a message the line is wiped: a line of the report may follow.
     fn show(&mut self, part: Note<'_>)
         ensures { self.new.wire ≡ self.old.wire }
     {
@@ -51,6 +52,9 @@ impl<W: Wire, S: Write> ShownWire<W, S> {
                     let _ = write_line(self.alloc, screen, text.as_str());
                 }
             }
+        }
+        if let Note::Body { ended: true, .. } = part {
+            self.wipe();
         }
     }
 

@@ -1,4 +1,4 @@
-use Rattle.std.proofs.Common.{◌∙◌, ℕ, List, ap₂, subst}
+use Rattle.std.proofs.Common.{◌∙◌, ℕ, List, ap, subst}
 use Rattle.getmail_program.specs.Output.{Puts}
 use Rattle.getmail_program.specs.Telling.{IsReason, TellsCut, left_out_said, status_when, unwritten_line}
 use Rattle.getmail_program.proofs.OutputLemmas.{said}
@@ -9,16 +9,15 @@ returns-clause-told g c =
     let cut = subst (λ outcome. TellsCut g.E.Write.contents c.args.settings.now outcome c.args.errors.now c.tell_cut.new.errors)
     c.outcome-outcome.ensures c.tell_cut.ensures in
     let unwritten = subst (λ (octets : List ℕ). Puts g.E.Write.contents c.tell_cut.new.errors.err octets c.put.new.self)
-    (c.as_bytes.ensures.value ∙ c.unwritten_line.ensures ∙ ap₂ unwritten_line c.outcome-outcome.ensures c.refusal.ensures) c.put.ensures in
+    (c.as_bytes.ensures.value ∙ c.unwritten_line.ensures ∙ ap (λ outcome. unwritten_line outcome c.args.refusal) c.outcome-outcome.ensures) c.put.ensures in
     let left = subst (λ says_why. Puts g.E.Write.contents c.tell_cut-2.new.errors.err (left_out_said c.args.settings.now says_why c.args.told.now) c.tell_left_out.new.errors.err)
     (c.tell_cut-2.ensures.same ∙ c.tell_cut.ensures.same) c.tell_left_out.ensures in
     record {
       idle = c.is_idle.ensures;
-      reported = c.write.ensures;
       foreseen = c.foreseen-ahead.result;
       run = c.foreseen-ahead.ensures;
       status = c.status_when.ensures.status
-          ∙ ap₂ (λ outcome refusal. status_when outcome refusal c.foreseen-ahead.result) c.outcome-outcome.ensures c.refusal-2.ensures;
+          ∙ ap (λ outcome. status_when outcome c.args.refusal c.foreseen-ahead.result) c.outcome-outcome.ensures;
       reason = cut.reason;
       is_reason = cut.is_reason;
       further = c.tell_cut-2.ensures.reason;

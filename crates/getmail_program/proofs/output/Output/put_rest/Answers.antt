@@ -1,0 +1,18 @@
+use Rattle.std.proofs.Common.{◌≡◌, ◌++◌, List, Some, ℕ, subst, sym}
+use Rattle.std.specs.Io.KnownBytes.{Appends}
+use Rattle.std.proofs.KnownBytes.{Appends-trans}
+use Rattle.std.proofs.lemmas.Bool.Decides.{Decides-eqb}
+use Rattle.std.proofs.lemmas.Slice.Eq.{strip_prefix_is}
+use Rattle.getmail_program.proofs.output.Output.put_rest.Goals as goal
+
+pub returns-in-Some : goal.returns-in-Some
+returns-in-Some g c = λ start so whole.
+    let put = c.put.ensures whole in
+    let begun = so put.0 in
+    let split : c.args.text.now ≡ c.args.written.now ++ c.in-Some.rest.now
+    = strip_prefix_is Decides-eqb c.args.text.now c.args.written.now (Some c.in-Some.rest) c.in-Some.ensures.cases in
+    let both = Appends-trans _ _ _ _ _ begun.1 put.1 in (
+      begun.0,
+      subst (λ (text : List ℕ). Appends (g.W.Write.contents start.writer) (g.W.Write.contents c.put.new.self.writer) text)
+          (sym split) both,
+    )

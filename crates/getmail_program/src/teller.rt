@@ -1,0 +1,78 @@
+//! The lines of a report that are written while its session runs.
+ghost use Rattle.std.specs.Prelude.{◌≡◌, []};
+ghost use Rattle.std.proofs.Common.{refl, ◌∙◌};
+ghost use Rattle.getmail_program.specs.Teller.{HasSameLinks, WroteMore, wrote_nothing, wrote_both};
+
+use crate::output::Output;
+use fetch_session::{Listener, ReportLine, line_text};
+use std::alloc::{AllocError, Global};
+use std::io::Write;
+use std::vec::Vec;
+
+/// Writes the first line of a report and the lines of its messages as they come, up to the first deletion:
+/// a cut may take back deletions. It keeps what it wrote. After a refused write it writes no more.
+#[derive(Drop)]
+pub struct Teller<'a, O> {
+    pub(crate) alloc: Global,
+    pub(crate) out: &'a mut Output<O>,
+    pub(crate) verbose: u8,
+    pub(crate) heard: usize,
+    pub(crate) is_open: bool,
+    pub(crate) written: &'a mut Vec<u8>,
+}
+
+impl<'a, O: Write> Teller<'a, O> {
+    /// Nothing is written yet. With `verbose` 0 nothing will be.
+    pub fn new(
+        alloc: Global,
+        out: &'a mut Output<O>,
+        written: &'a mut Vec<u8>,
+        verbose: u8,
+    ) -> Teller<'a, O>
+        ensures links { (result.out.ghost_name ≡ out.entry.ghost_name) × (result.written.ghost_name ≡ written.entry.ghost_name) }
+        ensures start { (result.out.now ≡ out.old) × (result.written.now.items ≡ written.old.items) }
+    {
+        Teller {
+            alloc,
+            out,
+            verbose,
+            heard: 0,
+            is_open: verbose > 0,
+            written,
+        }
+    }
+
+    /// Writes a text, unless there is no memory for it or nothing more is to be written.
+    pub fn put(&mut self, text: Result<String, AllocError>)
+        ensures links { HasSameLinks self.old self.new }
+        ensures wrote { WroteMore O.contents self.old self.new }
+    {
+        if !self.is_open || self.out.refusal().is_some() {
+            return;
+        }
+        if let Ok(text) = text {
+            if let Ok(()) = self.written.extend_from_slice(text.as_bytes()) {
+                return self.out.put(text.as_bytes());
+            }
+        }
+        self.is_open = false;
+    }
+}
+
+impl<'a, O: Write> Listener for Teller<'a, O> {
+    ghost goes_on = { λ a b. HasSameLinks a b × WroteMore O.contents a b };
+
+    fn hear(&mut self, total: u32, lines: &[ReportLine]) {
+        for i in self.heard..lines.len() {
+            let line = &lines[i];
+            self.is_open = self.is_open && !matches!(line, ReportLine::Deleted { .. });
+            let text = line_text(self.alloc, self.verbose, total, line);
+            self.put(text);
+        }
+        self.heard = lines.len();
+    }
+
+    ghost goes_same = { λ a. ((refl, refl), wrote_nothing O.contents a) };
+
+    ghost goes_further = { λ a b c p q. ((q.0.0 ∙ p.0.0, q.0.1 ∙ p.0.1), wrote_both O.contents a b c p.1 q.1) };
+}
