@@ -332,7 +332,7 @@ class Demo(Copied):
             (self.top / "crates" / crate / "src/main.rt").touch()
         log = self.top.parent / "log"
         told = self.make(PATH=self.path_with(PROVE), LOG=str(log), TOP=str(self.top))
-        self.assertRegex(told, r"(?m)^ +0:1\d  \d+ of 16 crates proved; \d being proved: \w+")
+        self.assertRegex(told, r"(?m)^ +0:1\d  \d+ of 17 crates proved; \d being proved: \w+")
         begun = [line.split() for line in log.read_text().splitlines()]
         self.assertEqual(len(begun), 16)
         self.assertNotIn("tests", [crate for crate, *_ in begun])
