@@ -334,7 +334,7 @@ class Demo(Copied):
         told = self.make(PATH=self.path_with(PROVE), LOG=str(log), TOP=str(self.top))
         self.assertRegex(told, r"(?m)^ +0:1\d  \d+ of 17 crates proved; \d being proved: \w+")
         begun = [line.split() for line in log.read_text().splitlines()]
-        self.assertEqual(len(begun), 16)
+        self.assertEqual(len(begun), 17)
         self.assertNotIn("tests", [crate for crate, *_ in begun])
         below = {crate: {name for name in libraries.split()} for crate, _, libraries in lines}
         for at, (crate, *proved) in enumerate(begun):
