@@ -7,7 +7,7 @@ use Rattle.std.proofs.lemmas.List.Edits.{length-insert, length-remove}
 use Rattle.std.proofs.lemmas.List.Elements.{Contains-append_left, Contains-append_right, Contains-append_cases}
 use Rattle.std.proofs.lemmas.List.Sorted.{IsPermutation-refl, IsPermutation-cons, IsPermutation-map, IsPermutation-middle, IsPermutation-sym, IsPermutation-trans, Contains-permutation}
 use Rattle.mail_terms.specs.MaildirName.{base}
-use Rattle.mail_store.specs.Maildir.{Maildir, File, file, mail, with_file, file_of, name_in, names_of, bases_told, is_there, all_there, AreTheirs}
+use Rattle.mail_store.specs.Maildir.{Maildir, File, file, mail, with_files, file_of, name_in, names_of, bases_told, is_there, all_there, AreTheirs}
 use Rattle.mail_store.specs.declared.maildir.disk.Folder.{Folder}
 use Rattle.mail_store.specs.declared.maildir.disk.Folder.TheVariants.{New, Cur}
 use Rattle.mail_store.specs.MemoryMaildir.{Kept, Takes, count, kept_in, merged, shown}
@@ -338,12 +338,11 @@ shown_iff files new cur front both = (
         (IsPermutation-map name_in files (map shown (map file_of new ++ map file_of cur)) both)) there
 
 -- what a device in memory is after a file came
-pub came_to : (old : Maildir) (files files' : List File) (was begun : Option File) (failures : ℕ) (title name bytes content : List ℕ)
-    → record { there = all_there; files = files; begun = was; failures = failures } ≡ old → files' ≡ files ++ mail title bytes ∷ []
-    → title ≡ name → bytes ≡ content → begun ≡ None
-    → record { there = all_there; files = files'; begun = begun; failures = failures } ≡ with_file old (mail name content)
-came_to old files files' was begun failures title name bytes content is came titled same none =
+pub came_to : (old : Maildir) (files files' : List File) (begun : Option File) (failures : ℕ) (title name content : List ℕ)
+    → record { there = all_there; files = files; begun = begun; failures = failures } ≡ old → files' ≡ files ++ mail title content ∷ []
+    → title ≡ name
+    → record { there = all_there; files = files'; begun = begun; failures = failures } ≡ with_files (old.files ++ mail name content ∷ []) old
+came_to old files files' begun failures title name content is came titled =
     ap (λ (fs : List File). record { there = all_there; files = fs; begun = begun; failures = failures })
-    (came ∙ ap (λ (f : File). files ++ f ∷ []) (ap (λ (n : List ℕ). mail n bytes) titled ∙ ap (mail name) same))
-    ∙ ap (λ (b : Option File). record { there = all_there; files = files ++ mail name content ∷ []; begun = b; failures = failures }) none
-    ∙ ap (λ (m : Maildir). with_file m (mail name content)) is
+    (came ∙ ap (λ (n : List ℕ). files ++ mail n content ∷ []) titled)
+    ∙ ap (λ (m : Maildir). with_files (m.files ++ mail name content ∷ []) m) is

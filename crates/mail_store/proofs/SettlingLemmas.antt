@@ -3,7 +3,7 @@ use Rattle.std.proofs.Common.{get_or, ◌≡◌, ◌⊎◌, inl, inr, ℕ, suc, 
 use Rattle.std.specs.Prelude.{bytes_eq, HoldsAt, not, ◌==◌, nat_eq, nat_lt, nat_le, slice_index, Vec}
 use Rattle.std.specs.Cmp.Lexicographic.{pointwise}
 use Rattle.std.specs.List.{list_all, AllByRecursion}
-use Rattle.std.proofs.lemmas.Bool.{and_parts, cases_Bool, cases_lt, or_cases, or_right, true≢false, lt-ltb, le-leb, eq-eqb}
+use Rattle.std.proofs.lemmas.Bool.{and_parts, cases_Bool, cases_lt, or_cases, or_right, true≢false, lt-ltb, lt-leb, le-leb, eq-eqb}
 use Rattle.std.proofs.lemmas.Bool.Decides.{eqb_tells}
 use Rattle.std.proofs.Math.Bool.{and-false, or-true}
 use Rattle.std.proofs.lemmas.List.{append-nil, length-drop, nil_from_length, take_all}
@@ -17,7 +17,8 @@ use Rattle.mail_store.specs.declared.file.flat_file.Edges.{Edges}
 use Rattle.mail_store.specs.FlatFile.{Stored, holding, counted, piece_at, Measures}
 use Rattle.mail_store.specs.Mboxrd.{separator, begins_entry, quoted_text, unquoted_text, entry_of, text_in, MboxFile}
 use Rattle.mail_store.specs.MboxScan.{IsApart}
-use Rattle.mail_store.specs.Settling.{block_size, is_lost, is_torn, MayBeLeft, begin_with, is_one_entry, ends_empty, is_ours, is_entry, listed_size, has_size, is_whole, stands_whole, settled_file, CountsWhole, IsCutOff, LeftoversAreSettled, FrontsAreSettled, WholeEntriesCount, ReadsBehind, SettlesFile}
+use Rattle.mail_store.specs.Settling.{block_size, is_lost, is_torn, MayBeLeft, begin_with, is_one_entry, ends_empty, is_ours, is_entry, listed_size, has_size, is_whole, stands_whole, settled_file, CountsWhole, IsCutOff, LeftoversAreSettled, FrontsAreSettled, WholeEntriesCount, ReadsBehind, IsBehind, LooksBehind, SettlesFile}
+use Rattle.mail_store.specs.declared.mboxrd.settling.Behind.TheVariants.{Others, Whole, Torn}
 use Rattle.mail_store.proofs.OneEntry.{holds_needle, needle, needle_there, one_entry_is}
 use Rattle.mail_store.proofs.MboxQuoting.{begins_with, unquotes_quoted}
 use Rattle.mail_store.proofs.MboxGroups.{inner_apart, entry_group, entry_lines, entry_is_group, entry_adds_text, texts_go_on}
@@ -319,61 +320,6 @@ whole_counts file text listed whole = (counts, cut)
           | inl is ↦ absurd (true≢false (sym is.0 ∙ fails))
           | inr is ↦ is
         ]
-
--- ---- the ways out of `settle_file`
-
--- what is known once the bytes were read
-pub record Looked (old new : Stored) (start : ℕ) (rest : List ℕ) : Type 0 where
-  pub was : List ℕ
-  pub content : old.content ≡ Some was
-  pub rest_is : rest ≡ drop start was
-  pub same : new ≡ old
-
-pub looked : {A : Type 0} (old mid new : Stored) (edges : Edges) (start behind : ℕ) (bytes : Vec ℕ A) (rest : List ℕ) → rest ≡ bytes.items → Measures old (Ok edges) mid
-    → behind ≡ edges.size - start → ReadsBehind mid start behind (Ok bytes) new → Looked old new start rest
-looked old mid new edges start behind bytes rest items measures is reads =
-    let was = measures.0.0 in
-    let same : reads.0.0 ≡ was = same_Some reads.0.0 was (sym reads.0.1 ∙ ap (λ (s : Stored). s.content) measures.1 ∙ measures.0.1) in
-    let long = ap (λ (e : Edges). e.size) measures.0.2 in
-    let left = length-drop start was in
-    record {
-      was = was;
-      content = measures.0.1;
-      rest_is = items ∙ reads.0.2 ∙ ap (piece_at start behind) same ∙ take_all behind (drop start was) (omega (arith, left, long, is));
-      same = reads.1 ∙ measures.1;
-    }
-
-pub out_whole : (old new : Stored) (start len : ℕ) (listed : Option ℕ) (rest : List ℕ) → Looked old new start rest → is_whole start len listed rest ≡ true → SettlesFile old start len listed (Ok true) new
-out_whole old new start len listed rest is test =
-    let whole : stands_whole start len listed is.was ≡ true = ap (λ (l : List ℕ). is_whole start len listed l) (sym is.rest_is) ∙ test in
-    (is.was, is.content, sym whole, is.same ∙ kept_holding old is.was is.content ∙ ap (holding old) (sym (settles_whole start len listed is.was whole)))
-
-cut_is : (old new : Stored) (start len : ℕ) (listed : Option ℕ) (rest : List ℕ) → (is : Looked old new start rest) → 0 < length rest → length rest ≤ len → is_ours start rest ≡ true
-    → is_whole start len listed rest ≡ false → (stands_whole start len listed is.was ≡ false) × (settled_file start len listed is.was ≡ take start is.was)
-cut_is old new start len listed rest is some few ours test =
-    let fails : stands_whole start len listed is.was ≡ false = ap (λ (l : List ℕ). is_whole start len listed l) (sym is.rest_is) ∙ test in
-    let size = ap length is.rest_is in
-    (fails, settles_torn start len listed is.was (omega (arith, size, some)) (omega (arith, size, few)) (ap (is_ours start) (sym is.rest_is) ∙ ours) fails)
-
-pub out_cut : (old mid new : Stored) (start len : ℕ) (listed : Option ℕ) (rest : List ℕ) → Looked old mid start rest → 0 < length rest → length rest ≤ len → is_ours start rest ≡ true
-    → is_whole start len listed rest ≡ false → ((was : List ℕ) → mid.content ≡ Some was → new ≡ holding mid (take start was)) → SettlesFile old start len listed (Ok false) new
-out_cut old mid new start len listed rest is some few ours test cuts =
-    let told = cut_is old mid start len listed rest is some few ours test in (
-      is.was,
-      is.content,
-      sym told.0,
-      cuts is.was (ap (λ (s : Stored). s.content) is.same ∙ is.content) ∙ ap (λ (s : Stored). holding s (take start is.was)) is.same ∙ ap (holding old) (sym told.1),
-    )
-
-pub out_refused : (old mid new : Stored) (start len : ℕ) (listed : Option ℕ) (rest : List ℕ) (fault : StoreFault) → Looked old mid start rest → 0 < length rest → length rest ≤ len → is_ours start rest ≡ true
-    → is_whole start len listed rest ≡ false → fault ≡ Refused
-    → ((was : List ℕ) → mid.content ≡ Some was → (new ≡ counted mid) ⊎ (new ≡ counted (holding mid (take start was)))) → SettlesFile old start len listed (Err fault) new
-out_refused old mid new start len listed rest fault is some few ours test refused cuts =
-    let told = cut_is old mid start len listed rest is some few ours test in
-    subst (λ (f : StoreFault). SettlesFile old start len listed (Err f) new) (sym refused) (elim (cuts is.was (ap (λ (s : Stored). s.content) is.same ∙ is.content)) [
-      | inl kept ↦ inl (kept ∙ ap counted is.same)
-      | inr cut ↦ inr (is.was, is.content, cut ∙ ap (λ (s : Stored). counted (holding s (take start is.was))) is.same ∙ ap (λ (l : List ℕ). counted (holding old l)) (sym told.1))
-    ])
 
 -- ---- the listed size
 

@@ -48,8 +48,8 @@ impl Model for MemoryMaildir {
 }
 
 impl MemoryMaildir {
-    ghost use Rattle.std.specs.Prelude.{◌≡◌, ◌<◌, ◌↔◌, ◌++◌, [], None, map, slice_index, IsTrue, IsSome, IsPermutation};
-    ghost use Rattle.mail_store.specs.Maildir.{Maildir, File, IsThere, all_there, file_of};
+    ghost use Rattle.std.specs.Prelude.{◌≡◌, ◌<◌, ◌↔◌, ◌++◌, ◌∷◌, [], None, map, slice_index, IsTrue, IsSome, IsPermutation, OnErr, OnOk};
+    ghost use Rattle.mail_store.specs.Maildir.{Maildir, File, IsThere, all_there, file_of, mail};
     ghost use Rattle.mail_store.specs.MemoryMaildir.{Kept, kept_in, shown, Moves};
 
     /// A Maildir without files.
@@ -95,6 +95,20 @@ impl MemoryMaildir {
         ensures { IsTrue result ↔ IsSome self.now.maildir.begun }
     {
         self.begun.is_some()
+    }
+
+    /// Adds a file to `new`. If memory runs out, nothing changes.
+    fn put(&mut self, name: &str, content: Vec<u8>) -> Result<(), AllocError>
+        ensures puts { OnOk result (self.new.maildir ≡ record self.old.maildir {
+          files = self.old.maildir.files ++ mail name.now content.items ∷ []
+        }) }
+        ensures same { OnErr result (self.new.maildir ≡ self.old.maildir) }
+    {
+        let name = String::from_str(self.alloc, name)?;
+        self.are_new.reserve(1)?;
+        self.in_new.push((name, content))?;
+        self.are_new.push(true).unwrap();
+        Ok(())
     }
 
     /// Moves a file from `new` to `cur` and appends a suffix, which must begin with a colon, to its
@@ -267,14 +281,10 @@ impl MaildirDisk for MemoryMaildir {
         let Some((_, content)) = self.begun.take() else {
             unreachable!()
         };
-        let Ok(name) = String::from_str(self.alloc, name) else {
-            return Err(refuse(&mut self.failures));
-        };
-        if self.are_new.reserve(1).is_err() || self.in_new.push((name, content)).is_err() {
-            return Err(refuse(&mut self.failures));
+        match self.put(name, content) {
+            Ok(()) => Ok(()),
+            Err(_) => Err(refuse(&mut self.failures)),
         }
-        self.are_new.push(true).unwrap();
-        Ok(())
     }
 
     fn abandon(&mut self) {

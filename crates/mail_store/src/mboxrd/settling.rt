@@ -1,14 +1,14 @@
 //! What is left of an entry that was about to be appended when a session was cut.
 
 ghost use Rattle.std.specs.Prelude.{◌≡◌, ◌≢◌, ◌↔◌, ◌==◌, ◌&&◌, ◌+◌, ◌%◌, ◌≤◌, ◌<◌, ◌^◌, ◌∷◌, ℕ, List, true, length};
-ghost use Rattle.std.specs.Prelude.{IfErr, IfOk, IsTrue, OnOk};
+ghost use Rattle.std.specs.Prelude.{IfErr, IfOk, IsTrue, OnOk, drop};
 ghost use Rattle.mail_terms.specs.FailureCount.{Tallies, refuses};
 ghost use Rattle.mail_store.specs.Fault.{is_refusal};
 ghost use Rattle.mail_store.specs.Mboxrd.{text_in};
 ghost use Rattle.mail_store.specs.Power.{LastsWhole, LeavesFronts, LeavesNoMore};
 ghost use Rattle.mail_store.specs.Settling.{block_size, begin_with, ends_empty, has_size, is_entry, is_lost, is_one_entry};
 ghost use Rattle.mail_store.specs.Settling.{is_ours, is_torn, is_whole, listed_size};
-ghost use Rattle.mail_store.specs.Settling.{FrontsAreSettled, LeftoversAreSettled, ReadsBehind, SettlesFile, WholeEntriesCount};
+ghost use Rattle.mail_store.specs.Settling.{FrontsAreSettled, IsBehind, LeftoversAreSettled, LooksBehind, ReadsBehind, SettlesFile, WholeEntriesCount};
 
 use crate::fault::StoreFault;
 use crate::file::flat_file::FlatFile;
@@ -161,6 +161,57 @@ fn read_behind<F: FlatFile>(
     Ok(bytes)
 }
 
+/// What stands at the place where an entry was about to be appended.
+#[derive(Clone, Copy, PartialEq, Eq)]
+enum Behind {
+    /// Nothing, or octets that aren't ours.
+    Others,
+    /// The whole entry.
+    Whole,
+    /// Octets that are ours, and no whole entry.
+    Torn,
+}
+
+/// What the octets from `start` on are; at most `len` should be there, and these were read.
+fn judge(start: u64, behind: u64, len: u64, listed: Option<u64>, rest: &[u8]) -> Behind
+    requires part { (0 < behind) × (behind ≤ len) }
+    requires place { start + length rest.now < 2 ^ 64 }
+    ensures { (was : List ℕ) → rest.now ≡ drop start was → behind ≡ length rest.now → IsBehind result start len listed was }
+{
+    if (rest.len() as u64) < behind || !is_ours(start, rest) {
+        return Behind::Others;
+    }
+    if is_whole(start, len, listed, rest) {
+        return Behind::Whole;
+    }
+    Behind::Torn
+}
+
+/// Looks at what stands at `start` in a file.
+fn look_behind<F: FlatFile>(
+    alloc: Global,
+    file: &mut F,
+    start: u64,
+    len: u64,
+    listed: Option<u64>,
+) -> Result<Behind, StoreFault>
+    ensures looks { F.sound file.new → F.sound file.old
+        × LooksBehind (F.stored file.old) start len listed result (F.stored file.new) }
+    ensures fault { IfErr result (λ e. e ≢ StoreFault.NotMbox) }
+    ensures keeps { F.sound file.new → LeavesNoMore (F.may_leave file.old) (F.may_leave file.new) }
+    ensures lasts { F.sound file.new → F.is_sure file.old
+        → OnOk result (F.is_sure file.new × LastsWhole (F.stored file.new).content (F.is_on_disk file.new) (F.may_leave file.new)) }
+    ensures count { Tallies (refuses is_refusal result) (F.stored file.old).failures (F.stored file.new).failures }
+{
+    let edges = file.edges()?;
+    let behind = edges.size.saturating_sub(start);
+    if !may_be_part(behind, len) {
+        return Ok(Behind::Others);
+    }
+    let bytes = read_behind(alloc, file, start, behind)?;
+    Ok(judge(start, behind, len, listed, bytes.as_slice()))
+}
+
 /// Settles what follows `start` in a file, where an entry of `len` octets was about to be appended
 /// when a session was cut, and returns whether it is there whole. `listed` is the size that the
 /// server lists for its message now, None if that isn't listed.
@@ -190,23 +241,14 @@ pub fn settle_file<F: FlatFile>(
         → OnOk result (F.is_sure file.new × LastsWhole (F.stored file.new).content (F.is_on_disk file.new) (F.may_leave file.new)) }
     ensures count { Tallies (refuses is_refusal result) (F.stored file.old).failures (F.stored file.new).failures }
 {
-    let edges = file.edges()?;
-    let behind = edges.size.saturating_sub(start);
-    if !may_be_part(behind, len) {
-        return Ok(false);
+    match look_behind(alloc, file, start, len, listed)? {
+        Behind::Others => Ok(false),
+        Behind::Whole => Ok(true),
+        Behind::Torn => {
+            file.cut_to(start)?;
+            Ok(false)
+        }
     }
-    let bytes = read_behind(alloc, file, start, behind)?;
-    let rest = bytes.as_slice();
-    if (rest.len() as u64) < behind || !is_ours(start, rest) {
-        return Ok(false);
-    }
-    if is_whole(start, len, listed, rest) {
-        return Ok(true);
-    }
-    if let Err(fault) = file.cut_to(start) {
-        return Err(fault);
-    }
-    Ok(false)
 }
 
 /// What a loss of power leaves of an entry that was appended to a file counts as whole only if it
