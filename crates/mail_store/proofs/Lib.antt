@@ -2,6 +2,7 @@ mod AccountLemmas
 mod Deliveries
 mod FusedCalls
 mod HeldLemmas
+mod FlushLemmas
 mod Leavings
 mod MboxAppends
 mod MboxGroups

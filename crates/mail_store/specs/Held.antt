@@ -1,5 +1,5 @@
 -- What `held` answers for a Maildir.
-use Rattle.std.specs.Prelude.{◌≡◌, ℕ, List, map, Bool, true, false, Result, Ok, Err, Vec, ◌⊎◌, ◌∷◌, ◌++◌, bytes_eq, String, string_bytes}
+use Rattle.std.specs.Prelude.{◌≡◌, ℕ, List, map, Bool, true, false, Result, Ok, Err, Vec, ◌⊎◌, ◌∷◌, ◌++◌, bytes_eq, String, string_bytes, Contains, HoldsAt, ◌<◌}
 use Rattle.std.specs.List.{list_any}
 use Rattle.std.specs.Borrow.{Bor}
 use Rattle.std.specs.BTreeSet.{BTreeSet, contains_by}
@@ -8,12 +8,18 @@ use Rattle.std.specs.Cmp.Lexicographic.{slice_cmp}
 use Rattle.mail_terms.specs.Listing.{Item}
 use Rattle.mail_store.specs.declared.fault.StoreFault.{StoreFault}
 use Rattle.mail_store.specs.declared.fault.StoreFault.TheVariants.{Missing, Refused, NotMbox, NoMemory}
-use Rattle.mail_store.specs.Maildir.{Maildir, counted}
-use Rattle.mail_store.specs.FileName.{is_held, stem}
+use Rattle.mail_store.specs.Maildir.{Maildir, File, counted}
+use Rattle.mail_store.specs.FileName.{is_held, names_id, stem, stem_of}
+use Rattle.mail_store.specs.Power.{is_among}
 
 -- whether the id of each item is held, in order
 abbrev pub flags_of : List ℕ → Maildir → List Item → List Bool
 flags_of account maildir items = map (λ (item : Item). is_held account maildir item.uid) items
+
+-- a file that holds this id is there, and outlives a loss of power
+abbrev pub HasLasting : List ℕ → Maildir → (File → Type 0) → List ℕ → Type 0
+HasLasting account maildir outlives uid =
+    (f : File) × Contains maildir.files f × (names_id account uid f.name ≡ true) × outlives f
 
 -- `held`: `new` and `cur` are there, and there is a flag for each item; `new` or `cur` isn't there; or a call was refused
 abbrev pub Finds : {B : Type 0} → List ℕ → Maildir → List Item → Result (Vec Bool B) StoreFault → Maildir → Type 0
@@ -24,6 +30,13 @@ Finds account old items (Err Refused) new = new ≡ counted old
 Finds account old items (Err NotMbox) new = ⊥
 Finds account old items (Err NoMemory) new = new ≡ old
 
+-- of each item that is flagged, if it is held, a file is there and outlives a loss of power
+abbrev pub FoundOutlive : List ℕ → Maildir → (File → Type 0) → List Item → List Bool → Type 0
+FoundOutlive account maildir outlives (item ∷ items) (flag ∷ flags) =
+    (flag ≡ true → is_held account maildir item.uid ≡ true → HasLasting account maildir outlives item.uid)
+    × FoundOutlive account maildir outlives items flags
+FoundOutlive account maildir outlives _ _ = Unit {0}
+
 -- whether a set of texts has this one
 abbrev pub has_text : BTreeSet (Bor (List ℕ)) → List ℕ → Bool
 has_text texts q = contains_by (λ text. slice_cmp nat_cmp q text.now) texts
@@ -31,3 +44,8 @@ has_text texts q = contains_by (λ text. slice_cmp nat_cmp q text.now) texts
 -- whether the stem of one of these names is the account's text, a full stop and these digits
 abbrev pub any_name : {A : Type 0} → List ℕ → List ℕ → List (String A) → Bool
 any_name account q names = list_any (λ name. bytes_eq (account ++ 46 ∷ q) (stem (string_bytes name))) names
+
+-- each of the first n items for which both flags are set has its stem among these
+abbrev pub HasStems : {A : Type 0} → List ℕ → List Item → List Bool → List Bool → ℕ → List (String A) → Type 0
+HasStems account items held flags n stems = (k : ℕ) (item : Item) → k < n → HoldsAt (λ i. i ≡ item) items k → HoldsAt (λ h. h ≡ true) held k
+    → HoldsAt (λ f. f ≡ true) flags k → is_among stems (stem_of account item.uid) ≡ true

@@ -120,6 +120,11 @@ Checks old folder (Err Refused) new = new ≡ counted old
 Checks old folder (Err NotMbox) new = ⊥
 Checks old folder (Err NoMemory) new = ⊥
 
+-- `flush`: nothing that calls see changes
+abbrev pub Flushes : {T : Type 0} → Maildir → Result T StoreFault → Maildir → Type 0
+Flushes old (Ok done) new = new ≡ old
+Flushes old (Err fault) new = new ≡ counted old
+
 -- `begin`: an empty file of this name is being written; after a fault none is
 abbrev pub Begins : {T : Type 0} → Maildir → List ℕ → Result T StoreFault → Maildir → Type 0
 Begins old name (Ok done) new = (old.there.tmp ≡ true) × (new ≡ record old { begun = Some (file name []) })

@@ -1,8 +1,10 @@
 -- What outlives a loss of power, as each device defines it.
-use Rattle.std.specs.Prelude.{◌≡◌, ◌⊎◌, ◌<◌, ℕ, List, ◌++◌, bytes_eq, length, take, Option, Some, option_map, Result, Ok, Err, Vec, String, Contains, filter}
+use Rattle.std.specs.Prelude.{◌≡◌, ◌⊎◌, ◌<◌, ℕ, List, ◌++◌, bytes_eq, length, take, Bool, true, Option, Some, option_map, Result, Ok, Err, Vec, String, string_bytes, Contains, filter}
+use Rattle.std.specs.List.{list_any}
 use Rattle.mail_store.specs.declared.fault.StoreFault.{StoreFault}
 use Rattle.mail_store.specs.declared.fault.StoreFault.TheVariants.{Missing, Refused, NotMbox, NoMemory}
 use Rattle.mail_store.specs.Maildir.{Maildir, File, mail, names_of, bases_told}
+use Rattle.mail_store.specs.FileName.{stem}
 use Rattle.mail_store.specs.Settling.{MayBeLeft}
 
 -- ---- a Maildir: names, without their marks, that stay in `new` or `cur`, and whole files that outlive a loss of power
@@ -34,6 +36,16 @@ ToldStay (Err fault) stays = Unit {0}
 abbrev pub SettledOutlives : {T : Type 0} → Maildir → List ℕ → Result T StoreFault → (File → Type 0) → Type 0
 SettledOutlives old name (Ok done) outlives = (f : File) → old.begun ≡ Some f → outlives (mail name f.content)
 SettledOutlives old name (Err fault) outlives = Unit {0}
+
+-- whether one of these texts is this one
+abbrev pub is_among : {A : Type 0} → List (String A) → List ℕ → Bool
+is_among texts text = list_any (λ other. bytes_eq text (string_bytes other)) texts
+
+-- `flush`: of each name that stays and has one of these stems a file that is there outlives a loss of power
+abbrev pub FlushedOutlive : {A T : Type 0} → Maildir → List (String A) → Result T StoreFault → (List ℕ → Type 0) → (File → Type 0) → Type 0
+FlushedOutlive maildir stems (Ok done) stays outlives = (name : List ℕ) → Contains (names_of maildir.files) name
+    → is_among stems (stem name) ≡ true → stays name → (f : File) × Contains maildir.files f × (f.name ≡ name) × outlives f
+FlushedOutlive maildir stems (Err fault) stays outlives = Unit {0}
 
 -- each name that calls see stays
 abbrev pub AllStay : Maildir → (List ℕ → Type 0) → Type 0

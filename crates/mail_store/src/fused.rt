@@ -105,8 +105,8 @@ impl<D: MaildirDisk> MaildirDisk for Fused<D> {
     ghost use Rattle.std.specs.Prelude.{◌≡◌, ◌<◌, IfErr, IsSome, OnErr, OnOk, Some, None};
     ghost use Rattle.mail_terms.specs.FailureCount.{Tallies, refuses, greatest_count};
     ghost use Rattle.mail_store.specs.Fault.{IsDeviceFault};
-    ghost use Rattle.mail_store.specs.Maildir.{AfterTaking, IsThere, Lists, ListsAll, Checks, Begins, Adds, Settles, dropped, name_begun};
-    ghost use Rattle.mail_store.specs.Power.{KeepsLeft, KeepsMail, SettledOutlives, ToldStay};
+    ghost use Rattle.mail_store.specs.Maildir.{AfterTaking, IsThere, Lists, ListsAll, Checks, Flushes, Begins, Adds, Settles, dropped, name_begun};
+    ghost use Rattle.mail_store.specs.Power.{FlushedOutlive, KeepsLeft, KeepsMail, SettledOutlives, ToldStay};
     ghost use Rattle.mail_store.specs.Fuse.{device_of, passes_left, effect_is_due, refusals, fused_maildir};
     ghost use Rattle.mail_store.specs.Fuse.{FusedIsSound, Burns, Fuses, SettlesBehind};
 
@@ -163,6 +163,22 @@ impl<D: MaildirDisk> MaildirDisk for Fused<D> {
         admit(&self.failures)?;
         self.pass()?;
         let answer = self.device.check(folder);
+        self.tally(answer)
+    }
+
+    fn flush(&mut self, stems: &[String]) -> Result<(), StoreFault>
+        ensures flushes { FusedIsSound D.sound self.new → FusedIsSound D.sound self.old
+            × Flushes (fused_maildir D.maildir self.old) result (fused_maildir D.maildir self.new) }
+        ensures fault { IfErr result (λ e. e ≡ StoreFault.Refused) }
+        ensures lasts { FusedIsSound D.sound self.new → KeepsMail (D.stays (device_of self.old)) (D.outlives (device_of self.old))
+            (D.stays (device_of self.new)) (D.outlives (device_of self.new))
+            × FlushedOutlive (fused_maildir D.maildir self.old) stems.now result (D.stays (device_of self.old)) (D.outlives (device_of self.new)) }
+        ensures count { Tallies (refuses is_refusal result) (refusals self.old) (refusals self.new) }
+        ensures fuse { Fuses (λ d. (D.maildir d).failures) self.old result self.new }
+    {
+        admit(&self.failures)?;
+        self.pass()?;
+        let answer = self.device.flush(stems);
         self.tally(answer)
     }
 

@@ -24,8 +24,8 @@ pub trait MaildirDisk {
     ghost use Rattle.std.specs.Prelude.{◌≡◌, ℕ, List, IfErr, IsSome, OnErr, OnOk, Some, None};
     ghost use Rattle.mail_terms.specs.FailureCount.{Tallies, refuses};
     ghost use Rattle.mail_store.specs.Fault.{is_refusal, IsDeviceFault};
-    ghost use Rattle.mail_store.specs.Maildir.{Maildir, AfterTaking, File, IsThere, Lists, ListsAll, Checks, Begins, Adds, Settles, dropped, name_begun};
-    ghost use Rattle.mail_store.specs.Power.{KeepsLeft, KeepsMail, SettledOutlives, ToldStay};
+    ghost use Rattle.mail_store.specs.Maildir.{Maildir, AfterTaking, File, IsThere, Lists, ListsAll, Checks, Flushes, Begins, Adds, Settles, dropped, name_begun};
+    ghost use Rattle.mail_store.specs.Power.{FlushedOutlive, KeepsLeft, KeepsMail, SettledOutlives, ToldStay};
 
     // What is known of the Maildir. Whether a file is begun, its name and the count of refusals are
     // known even if the device isn't sound.
@@ -69,6 +69,16 @@ pub trait MaildirDisk {
             × Checks (maildir self.old) folder result (maildir self.new) }
         ensures fault { IfErr result IsDeviceFault }
         ensures lasts { sound self.new → KeepsMail (stays self.old) (outlives self.old) (stays self.new) (outlives self.new) }
+        ensures count { Tallies (refuses is_refusal result) (maildir self.old).failures (maildir self.new).failures };
+
+    /// Flushes the bytes of the files whose names have one of these stems (see `stem`). The only fault
+    /// is Refused: also if a stem has no file any more, as when a reader took it away.
+    fn flush(&mut self, stems: &[String]) -> Result<(), StoreFault>
+        ensures flushes { sound self.new → sound self.old
+            × Flushes (maildir self.old) result (maildir self.new) }
+        ensures fault { IfErr result (λ e. e ≡ StoreFault.Refused) }
+        ensures lasts { sound self.new → KeepsMail (stays self.old) (outlives self.old) (stays self.new) (outlives self.new)
+            × FlushedOutlive (maildir self.old) stems.now result (stays self.old) (outlives self.new) }
         ensures count { Tallies (refuses is_refusal result) (maildir self.old).failures (maildir self.new).failures };
 
     /// Begins an empty file of this name in `tmp`; an older file of that name there is replaced. None

@@ -7,7 +7,7 @@ ghost use Rattle.mail_store.specs.Fault.{is_refusal};
 ghost use Rattle.mail_store.specs.FileName.{stem, is_held};
 ghost use Rattle.mail_terms.specs.Listing.{Item, has_item, is_flagged};
 ghost use Rattle.mail_store.specs.Maildir.{AfterTaking, Maildir};
-ghost use Rattle.mail_store.specs.Held.{Finds, any_name, flags_of, has_text};
+ghost use Rattle.mail_store.specs.Held.{Finds, FoundOutlive, HasStems, any_name, flags_of, has_text};
 ghost use Rattle.mail_store.specs.Power.{AllStay, KeepsLeft};
 
 use crate::account::AccountId;
@@ -78,6 +78,31 @@ fn flags_of(
     Ok(flags)
 }
 
+/// The stems of the files of the items for which both flags are set, the flags in the listing's order.
+fn stems_of(
+    alloc: Global,
+    account: &AccountId,
+    listing: &Listing,
+    held: &[bool],
+    flags: &[bool],
+) -> Result<Vec<String>, AllocError>
+    requires held { length held.now ≡ length listing.now }
+    requires flags { length flags.now ≡ length listing.now }
+    ensures { IfOk result (λ stems. HasStems account.now listing.now held.now flags.now (length listing.now) stems.items) }
+{
+    let mut stems = Vec::new(alloc);
+    for i in 0..listing.len() {
+        if !held[i as usize] {
+            continue;
+        }
+        if !flags[i as usize] {
+            continue;
+        }
+        stems.push(names::file_stem(alloc, account, listing.uid(i))?)?;
+    }
+    Ok(stems)
+}
+
 /// Of the flags that `held` returns, one of an id is set exactly if the id is listed and held.
 pub fn flags_tell_what_is_held()
     ensures { (account : List ℕ) (maildir : Maildir) (items : List Item) (uid : List ℕ)
@@ -110,4 +135,33 @@ pub fn held<D: MaildirDisk>(
     // All of the account's names begin alike, so only what follows is compared.
     let found = digits_of(alloc, account.as_str(), &names)?;
     Ok(flags_of(alloc, &found, listing)?)
+}
+
+/// As `held`, and flushes the file of each item that is held and for which a flag is set, one for each
+/// item in the listing's order. Refused also if readers took such a file away meanwhile.
+pub fn flush_held<D: MaildirDisk>(
+    alloc: Global,
+    disk: &mut D,
+    account: &AccountId,
+    listing: &Listing,
+    flags: &[bool],
+) -> Result<Vec<bool>, StoreFault>
+    requires { length flags.now ≡ length listing.now }
+    ensures finds { D.sound disk.new → D.sound disk.old
+        × AfterTaking (D.maildir disk.old) (λ left. Finds account.now left listing.now result (D.maildir disk.new)) }
+    ensures lasts { D.sound disk.new → KeepsLeft (D.maildir disk.old).files (D.maildir disk.new).files
+        (D.stays disk.old) (D.outlives disk.old) (D.stays disk.new) (D.outlives disk.new)
+        × OnOk result (AllStay (D.maildir disk.new) (D.stays disk.new)
+        × FoundOutlive account.now (D.maildir disk.new) (D.outlives disk.new) listing.now flags.now) }
+    ensures count { Tallies (refuses is_refusal result) (D.maildir disk.old).failures (D.maildir disk.new).failures }
+    ensures length { IfOk result (λ flags. vec_len flags ≡ length listing.now) }
+    ensures fault { result ≢ Err StoreFault.NotMbox }
+{
+    let found = held(alloc, disk, account, listing)?;
+    let stems = stems_of(alloc, account, listing, &found, flags)?;
+    if stems.is_empty() {
+        return Ok(found);
+    }
+    disk.flush(&stems)?;
+    Ok(found)
 }

@@ -251,6 +251,10 @@ impl MaildirDisk for MemoryMaildir {
         admit(&self.failures)
     }
 
+    fn flush(&mut self, _stems: &[String]) -> Result<(), StoreFault> {
+        admit(&self.failures)
+    }
+
     fn begin(&mut self, name: &str) -> Result<(), StoreFault> {
         admit(&self.failures)?;
         match String::from_str(self.alloc, name) {
