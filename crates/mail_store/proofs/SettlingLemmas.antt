@@ -1,24 +1,19 @@
 -- What a loss of power leaves of an entry, and what settling does to the file that it is in.
-use Rattle.std.proofs.Common.{get_or, ◌≡◌, ◌⊎◌, inl, inr, ℕ, suc, ◌+◌, ◌-◌, ◌<◌, ◌≤◌, ◌%◌, Bool, true, false, cond, ◌&&◌, ◌||◌, List, [], ◌∷◌, ◌++◌, length, take, drop, Option, Some, Ok, Err, refl, sym, ap, subst, ◌∙◌, arith, length-append}
-use Rattle.std.specs.Prelude.{bytes_eq, HoldsAt, not, ◌==◌, nat_eq, nat_lt, nat_le, slice_index, Vec}
+use Rattle.std.proofs.Common.{get_or, ◌≡◌, ◌⊎◌, inl, inr, ℕ, suc, ◌+◌, ◌-◌, ◌<◌, ◌≤◌, ◌%◌, Bool, true, false, cond, ◌&&◌, ◌||◌, List, [], ◌∷◌, ◌++◌, length, take, drop, Option, Some, refl, sym, ap, subst, ◌∙◌, arith, length-append}
+use Rattle.std.specs.Prelude.{bytes_eq, HoldsAt, not, ◌==◌, nat_eq, nat_lt, nat_le, slice_index}
 use Rattle.std.specs.Cmp.Lexicographic.{pointwise}
 use Rattle.std.specs.List.{list_all, AllByRecursion}
-use Rattle.std.proofs.lemmas.Bool.{and_parts, cases_Bool, cases_lt, or_cases, or_right, true≢false, lt-ltb, lt-leb, le-leb, eq-eqb}
+use Rattle.std.proofs.lemmas.Bool.{and_parts, cases_Bool, cases_lt, or_cases, or_right, true≢false, lt-ltb, le-leb, eq-eqb}
 use Rattle.std.proofs.lemmas.Bool.Decides.{eqb_tells}
 use Rattle.std.proofs.Math.Bool.{and-false, or-true}
-use Rattle.std.proofs.lemmas.List.{append-nil, length-drop, nil_from_length, take_all}
-use Rattle.std.proofs.lemmas.Option.{same_Some}
+use Rattle.std.proofs.lemmas.List.{append-nil, nil_from_length}
 use Rattle.std.proofs.Math.Seq.{drop-append_seam, drop-cons, take-append_seam}
 use Rattle.mail_terms.specs.Listing.{Item}
 use Rattle.mail_terms.specs.Text.{IsWhole}
-use Rattle.mail_store.specs.declared.fault.StoreFault.{StoreFault}
-use Rattle.mail_store.specs.declared.fault.StoreFault.TheVariants.{Refused}
-use Rattle.mail_store.specs.declared.file.flat_file.Edges.{Edges}
-use Rattle.mail_store.specs.FlatFile.{Stored, holding, counted, piece_at, Measures}
+use Rattle.mail_store.specs.FlatFile.{Stored, holding}
 use Rattle.mail_store.specs.Mboxrd.{separator, begins_entry, quoted_text, unquoted_text, entry_of, text_in, MboxFile}
 use Rattle.mail_store.specs.MboxScan.{IsApart}
-use Rattle.mail_store.specs.Settling.{block_size, is_lost, is_torn, MayBeLeft, begin_with, is_one_entry, ends_empty, is_ours, is_entry, listed_size, has_size, is_whole, stands_whole, settled_file, CountsWhole, IsCutOff, LeftoversAreSettled, FrontsAreSettled, WholeEntriesCount, ReadsBehind, IsBehind, LooksBehind, SettlesFile}
-use Rattle.mail_store.specs.declared.mboxrd.settling.Behind.TheVariants.{Others, Whole, Torn}
+use Rattle.mail_store.specs.Settling.{block_size, is_lost, is_torn, MayBeLeft, begin_with, is_one_entry, ends_empty, is_ours, is_entry, listed_size, has_size, is_whole, stands_whole, settled_file, CountsWhole, IsCutOff, LeftoversAreSettled, FrontsAreSettled, WholeEntriesCount}
 use Rattle.mail_store.proofs.OneEntry.{holds_needle, needle, needle_there, one_entry_is}
 use Rattle.mail_store.proofs.MboxQuoting.{begins_with, unquotes_quoted}
 use Rattle.mail_store.proofs.MboxGroups.{inner_apart, entry_group, entry_lines, entry_is_group, entry_adds_text, texts_go_on}

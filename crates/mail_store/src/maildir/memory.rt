@@ -100,7 +100,7 @@ impl MemoryMaildir {
     /// Adds a file to `new`. If memory runs out, nothing changes.
     fn put(&mut self, name: &str, content: Vec<u8>) -> Result<(), AllocError>
         ensures puts { OnOk result (self.new.maildir ≡ record self.old.maildir {
-          files = self.old.maildir.files ++ mail name.now content.items ∷ []
+          files = self.old.maildir.files ++ mail name.now content.items ∷ [];
         }) }
         ensures same { OnErr result (self.new.maildir ≡ self.old.maildir) }
     {

@@ -1,5 +1,5 @@
-use Rattle.std.proofs.Common.{rules, ◌≡◌, ◌++◌, ◌∷◌, [], true, ap, ◌∙◌, option_map, string_bytes}
-use Rattle.mail_store.specs.Maildir.{file_of, mail, with_files}
+use Rattle.std.proofs.Common.{rules, ◌≡◌, ◌++◌, ◌∷◌, [], true, ap, option_map, string_bytes}
+use Rattle.mail_store.specs.Maildir.{file_of}
 use Rattle.mail_store.specs.MemoryMaildir.{Kept}
 use Rattle.mail_store.proofs.MoveLemmas.{came_to, settled}
 use Rattle.mail_store.proofs.maildir.memory.MemoryMaildir.put.Goals as goal
