@@ -10,7 +10,6 @@ use Rattle.std.proofs.lemmas.List.{append-nil, nil_from_length}
 use Rattle.std.proofs.Math.Seq.{drop-append_seam, drop-cons, take-append_seam}
 use Rattle.mail_terms.specs.Listing.{Item}
 use Rattle.mail_terms.specs.Text.{IsWhole}
-use Rattle.mail_store.specs.FlatFile.{Stored, holding}
 use Rattle.mail_store.specs.Mboxrd.{separator, begins_entry, quoted_text, unquoted_text, entry_of, text_in, MboxFile}
 use Rattle.mail_store.specs.MboxScan.{IsApart}
 use Rattle.mail_store.specs.Settling.{block_size, is_lost, is_torn, MayBeLeft, begin_with, is_one_entry, ends_empty, is_ours, is_entry, listed_size, has_size, is_whole, stands_whole, settled_file, CountsWhole, IsCutOff, LeftoversAreSettled, FrontsAreSettled, WholeEntriesCount}
@@ -170,9 +169,6 @@ entry_ends text whole = elim (texts_go_on (entry_of text) (text ∷ []) (entry_a
     none = record { groups = []; are = tt; whole = refl; read = refl }
 
 -- ---- settling
-
-kept_holding : (old : Stored) (was : List ℕ) → old.content ≡ Some was → old ≡ holding old was
-kept_holding old was is = ap (λ (c : Option (List ℕ)). record old { content = c }) is
 
 -- nothing follows
 settles_none : (start len : ℕ) (listed : Option ℕ) (was : List ℕ) → length (drop start was) ≡ 0 → (stands_whole start len listed was ≡ false) × (settled_file start len listed was ≡ was)
