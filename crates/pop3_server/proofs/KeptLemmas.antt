@@ -1,5 +1,5 @@
 -- What a server keeps as it makes an answer.
-use Rattle.std.proofs.Common.{◌≡◌, ℕ, true, false, List, Option, Some, None, slice_get, sym, ap, ◌∙◌, true≢false, IsSome}
+use Rattle.std.proofs.Common.{◌≡◌, ℕ, true, List, Option, Some, None, slice_get, sym, ap, ◌∙◌, true≢false, IsSome}
 use Rattle.pop3_server.specs.declared.state.State.{State}
 use Rattle.pop3_server.specs.declared.text_part.TextBody.{TextBody}
 use Rattle.pop3_server.specs.Maildrop.{Mail, HasPlace, there}

@@ -1,4 +1,4 @@
-use Rattle.std.proofs.Common.{◌≡◌, ◌≤◌, ◌<◌, ◌+◌, ◌*◌, ◌++◌, ◌∙◌, List, ℕ, [], length, arith, refl, sym, ap, subst, Ok, length-append}
+use Rattle.std.proofs.Common.{◌≡◌, ◌≤◌, ◌<◌, ◌+◌, ◌*◌, ◌++◌, ◌∙◌, [], length, arith, refl, sym, ap, subst, Ok, length-append}
 use Rattle.pop3_server.specs.Got.{Waiting}
 use Rattle.pop3_server.specs.Serving.{Queues}
 use Rattle.pop3_server.proofs.ServeIntakeLemmas.{took_on, took_none, takes_none, takes_piece, hears_on, still_none, still_short, all_waits}
