@@ -18,7 +18,7 @@ mod reading;
 mod row_map;
 
 pub use crate::seen::line::Intent;
-use crate::seen::line::{HEADER, group, write_intent, write_line};
+use crate::seen::line::{HEADER, row_group, write_intent, write_line};
 use crate::seen::row_map::{RowMap, State};
 use mail_terms::Listing;
 use std::alloc::{AllocError, AllocFailed, Global};
@@ -97,7 +97,7 @@ fn has_mark(state: State, intent: &Option<OwnedIntent>) -> bool
     state.delivered && intent.is_none()
 }
 
-/// A copy of an intent that was read.
+/// A copy of an intent.
 fn keep(alloc: Global, found: Option<Intent<'_>>) -> Result<Option<OwnedIntent>, AllocError>
     ensures { IfOk result (λ kept. intent_in kept ≡ open_seen found.entry) }
 {
@@ -219,13 +219,10 @@ impl<H: BuildHasher> Seen<H> {
         ensures err { OnErr result (self.new ≡ self.old) }
     {
         let _ = self.rows.state(uid);
-        let line = write_intent(self.alloc, Intent { uid, start, len })?;
-        let id = Vec::from_slice(self.alloc, uid)?;
-        self.intent = Some(OwnedIntent {
-            uid: id,
-            start,
-            len,
-        });
+        let intent = Intent { uid, start, len };
+        let line = write_intent(self.alloc, intent)?;
+        let kept = keep(self.alloc, Some(intent))?;
+        self.intent = kept;
         Ok(line)
     }
 
@@ -334,13 +331,11 @@ impl<H: BuildHasher> Seen<H> {
         if has_mark(state, &self.intent) {
             return Ok(Vec::new(self.alloc));
         }
-        let mut line = Vec::new(self.alloc);
         let delivered = State {
             first_seen: state.first_seen,
             delivered: true,
         };
-        write_line(self.alloc, &mut line, uid, delivered)?;
-        let group = group(self.alloc, 1, &line)?;
+        let group = row_group(self.alloc, uid, delivered)?;
         self.rows.set_delivered(uid);
         self.intent = None;
         Ok(group)

@@ -5,6 +5,7 @@ mod GoneLemmas
 mod HonestLemmas
 mod HonestLoopLemmas
 mod HonestTurns
+mod KeptLemmas
 mod LeaveLemmas
 mod LoopLemmas
 mod OpenLemmas

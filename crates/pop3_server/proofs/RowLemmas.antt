@@ -3,13 +3,16 @@ use Rattle.std.proofs.Common.{◌≡◌, ℕ, zero, suc, ◌<◌, ◌≤◌, tru
 use Rattle.pop3_server.specs.declared.rows.MessageRow.{MessageRow}
 use Rattle.std.proofs.lemmas.List.Elements.{All-push}
 use Rattle.pop3_server.specs.Maildrop.{max_size}
-use Rattle.pop3_server.specs.ServerMachine.{marked, unmarked, mark_at, IsSmall}
+use Rattle.pop3_server.specs.ServerMachine.{marked, unmarked, mark_at, IsSmall, SamePlaces}
 
 -- a row that is written back with its mark
 pub set_mark : (rows : List MessageRow) (i : ℕ) (row : MessageRow) → row ≡ get_or rows i row → i < length rows → slice_set rows i (record { entry = row.entry; marked = true }) ≡ mark_at rows i
 set_mark [] i row is fits = absurd (omega arith)
 set_mark (first ∷ rows) zero row is fits = ap (λ (r : MessageRow). marked r ∷ rows) is
 set_mark (first ∷ rows) (suc i) row is fits = ap (λ l. first ∷ l) (set_mark rows i row is (omega arith))
+
+pub same_rows : (rows : List MessageRow) → SamePlaces rows rows
+same_rows rows i row h = (row, h)
 
 -- each place that has a row had one before
 pub row_of_mark : (rows : List MessageRow) (i k : ℕ) (row : MessageRow) → slice_get (mark_at rows i) k ≡ Some row → (r : MessageRow) × (slice_get rows k ≡ Some r)

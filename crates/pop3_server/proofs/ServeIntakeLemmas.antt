@@ -1,10 +1,13 @@
 -- Octets that are dropped in pieces and make one line.
-use Rattle.std.proofs.Common.{◌≡◌, ◌<◌, ◌≤◌, ◌+◌, ◌*◌, ℕ, zero, suc, List, [], ◌∷◌, ◌++◌, length, take, drop, refl, sym, ap, subst, ◌∙◌, arith, append_assoc, length-append, length-take-le, take-append-drop, take_all, append-nil, length-drop}
+use Rattle.std.proofs.Common.{◌≡◌, ◌<◌, ◌≤◌, ◌+◌, ◌*◌, ℕ, zero, suc, List, [], ◌∷◌, ◌++◌, length, take, drop, refl, sym, ap, subst, ◌∙◌, arith, append_assoc, length-append, length-take-le, take-append-drop, take_all, append-nil, length-drop, Result, Ok, Err}
 use Rattle.pop3_wire.specs.Line.{crlf, IsLine, ended}
 use Rattle.pop3_wire.specs.Link.{Link}
 use Rattle.pop3_wire.specs.Place.{HasLine, HasNoLine}
 use Rattle.pop3_server.specs.Got.{Waiting}
-use Rattle.pop3_server.specs.Serving.{Queues}
+use Rattle.pop3_server.specs.declared.fault.ServerFault.{ServerFault}
+use Rattle.pop3_server.specs.declared.intake.NextLine.{NextLine}
+use Rattle.pop3_server.specs.declared.intake.NextLine.TheVariants.{Line, LongLine, End}
+use Rattle.pop3_server.specs.Serving.{Queues, Hears}
 use Rattle.pop3_wire.specs.Bodies.{Drew}
 
 -- the parts of a line are lines
@@ -126,6 +129,21 @@ takes_on a b c dropped g h first second = record {
 
 pub takes_piece : (a b c : Waiting) (g piece : List ℕ) → Queues a [] b g → c.octets ≡ b.octets ++ piece → length piece + c.left ≡ b.left → Queues a [] c (g ++ piece)
 takes_piece a b c g piece first octets left = takes_on a b c [] g piece first (record { octets = sym octets; left = left })
+
+pub takes_none : (a : Waiting) → Queues a [] a []
+takes_none a = record { octets = append-nil a.octets; left = omega arith }
+
+-- what came next, after more octets that wait
+pub hears_on : (a b c : Link) (before mid after : Waiting) (g : List ℕ) (result : Result NextLine ServerFault)
+    → Drew a b g → Queues before [] mid g → Hears b mid result c after → Hears a before result c after
+hears_on a b c before mid after g (Ok (Line n)) drew takes heard =
+    (g ++ heard.0, took_on a b c g heard.0 drew heard.1, takes_on before mid after [] g heard.0 takes heard.2, heard.3)
+hears_on a b c before mid after g (Ok LongLine) drew takes heard =
+    (g ++ heard.0, heard.1, took_on a b c g heard.0 drew heard.2, takes_on before mid after (ended heard.1) g heard.0 takes heard.3, heard.4, heard.5)
+hears_on a b c before mid after g (Ok End) drew takes heard =
+    (g ++ heard.0, heard.1, took_on a b c g heard.0 drew heard.2, takes_on before mid after heard.1 g heard.0 takes heard.3, heard.4, heard.5)
+hears_on a b c before mid after g (Err fault) drew takes heard =
+    (heard.0, (g ++ heard.1.0, heard.1.1, took_on a b c g heard.1.0 drew heard.1.2, takes_on before mid after heard.1.1 g heard.1.0 takes heard.1.3))
 
 -- the same octets wait
 pub still_dropping : (before now then_ : Waiting) (gained part : List ℕ) → then_ ≡ now → Dropping before now gained part → Dropping before then_ gained part

@@ -1,5 +1,5 @@
 -- How far a server that serves a link has come, and why it ends.
-use Rattle.std.proofs.Common.{◌≡◌, inl, inr, ◌<◌, ◌+◌, ℕ, true, false, List, [], ◌∷◌, ◌++◌, length, take, drop, refl, sym, ap, subst, ◌∙◌, arith, append_assoc, length-append, Option, Some, Ok, Err, codes}
+use Rattle.std.proofs.Common.{◌≡◌, ◌⊎◌, inl, inr, ◌<◌, ◌+◌, ℕ, true, false, List, [], ◌∷◌, ◌++◌, length, take, drop, refl, sym, ap, subst, ◌∙◌, arith, append_assoc, length-append, Option, Some, Result, Ok, Err, codes}
 use Rattle.std.specs.List.{flat_map, AllByRecursion}
 use Rattle.std.proofs.lemmas.Bool.{cond-true, lt-ltb}
 use Rattle.std.proofs.lemmas.List.{append-nil, flat_map_more}
@@ -16,7 +16,8 @@ use Rattle.pop3_server.specs.ServerMachine.{Machine, greeting, said, is_open}
 use Rattle.pop3_server.specs.LoopLaws.{runs_on}
 use Rattle.pop3_server.specs.AnswersLines.{AnswersLines, AnswersLine, MakesAnswer, SameServer}
 use Rattle.pop3_server.specs.Got.{Waiting}
-use Rattle.pop3_server.specs.Serving.{Queues, AllSent, LastSent, SendsAnswer, Served, WentOut}
+use Rattle.pop3_server.specs.declared.intake.NextLine.TheVariants.{End}
+use Rattle.pop3_server.specs.Serving.{Hears, Queues, AllSent, LastSent, SendsAnswer, Served, WentOut}
 use Rattle.pop3_wire.specs.Bodies.{Drew}
 
 -- the greeting and the answers to all lines that came whole were sent
@@ -192,6 +193,41 @@ served_stopped sound mail old server next before link taken sent waiting after g
 served_stopped sound mail old server next before link taken sent waiting after g line NoMemory p took octets left is (same, none) =
     subst (λ (l : Link). Served sound mail old before (Err NoMemory) next l) (sym none)
     (served_unanswered sound mail old server next before link taken waiting g after.left p took left same)
+
+-- no whole line came
+served_after : {D : Type 0} (sound : D → Type 0) (mail : D → Mail) (old server : Machine D) (before link taken : Link) (waiting after : Waiting) (g dropped : List ℕ) (result : Result (Unit {0}) ServerFault)
+    (p : Progress sound mail old before server link waiting) → Drew link taken g → Queues waiting dropped after g
+    → WentOut sound mail old p.lines (dropped ++ after.octets) (greeting ++ p.answers) result server
+    → (result ≡ Ok tt → (is_open server.state ≡ false) ⊎ ((taken.ended ≡ true) ⊎ (length (p.gained ++ g) ≡ 16777216)))
+    → Served sound mail old before result server taken
+served_after sound mail old server before link taken waiting after g dropped result p took takes answered ends =
+    let total = within sound mail old server before link waiting g after.left p takes.left in
+    record {
+      gained = p.gained ++ g;
+      got = took.got ∙ ap (λ (l : List ℕ). l ++ g) p.got ∙ append_assoc before.got p.gained g;
+      bound = omega arith;
+      lines = p.lines;
+      rest = dropped ++ after.octets;
+      each = p.each;
+      heard = ap (λ (l : List ℕ). l ++ g) p.heard ∙ append_assoc (flat_map ended p.lines) waiting.octets g ∙ ap (λ (l : List ℕ). flat_map ended p.lines ++ l) takes.octets;
+      out = greeting ++ p.answers;
+      sent = took.sent ∙ p.sent;
+      answered = answered;
+      ends = ends;
+    }
+
+pub served_unread : {D : Type 0} (sound : D → Type 0) (mail : D → Mail) (old server : Machine D) (before link taken : Link) (waiting after : Waiting) (fault : ServerFault)
+    → Progress sound mail old before server link waiting → Hears link waiting (Err fault) taken after → Served sound mail old before (Err fault) server taken
+served_unread sound mail old server before link taken waiting after fault p heard =
+    subst (λ (f : ServerFault). Served sound mail old before (Err f) server taken) (sym heard.0)
+    (served_after sound mail old server before link taken waiting after heard.1.0 heard.1.1 (Err ReadFailed) p heard.1.2 heard.1.3 (all_sent sound mail old server before link waiting p) (λ e. cc))
+
+pub served_ended : {D : Type 0} (sound : D → Type 0) (mail : D → Mail) (old server : Machine D) (before link taken : Link) (waiting after : Waiting)
+    → Progress sound mail old before server link waiting → Hears link waiting (Ok End) taken after → Served sound mail old before (Ok tt) server taken
+served_ended sound mail old server before link taken waiting after p heard =
+    let total = within sound mail old server before link waiting heard.0 after.left p heard.3.left in
+    served_after sound mail old server before link taken waiting after heard.0 heard.1 (Ok tt) p heard.2 heard.3 (all_sent sound mail old server before link waiting p, inr heard.4)
+    (λ _. inr (elim heard.5 [ inl ends ↦ inl ends | inr none ↦ inr (omega (arith, total, none)) ]))
 
 -- not even the greeting was sent whole
 served_nothing : {D : Type 0} (sound : D → Type 0) (mail : D → Mail) (old server : Machine D) (before link : Link) (front : List ℕ) (fault : ServerFault)

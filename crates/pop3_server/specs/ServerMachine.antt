@@ -157,6 +157,13 @@ in_transaction rows Rset = Say (said (codes "+OK")) (Transaction (map unmarked r
 in_transaction rows Noop = Say (said (codes "+OK")) (Transaction rows)
 in_transaction rows Quit = Leave rows
 
+-- whether the rows alone give the answer to a command
+abbrev pub is_about_rows : Command → Bool
+is_about_rows (Retr k) = false
+is_about_rows (Top k n) = false
+is_about_rows Quit = false
+is_about_rows command = true
+
 -- what a line asks for, given its command or its fault; a closed server isn't asked
 abbrev pub action_of : List ℕ → List ℕ → State → Result Command WireFault → Action
 action_of user pass state (Err fault) = Say (said (codes "-ERR bad command")) state

@@ -1,7 +1,7 @@
 //! What a server does for each command: the table of states and commands (RFC 1939, sections 4 to 7).
 ghost use Rattle.std.specs.Prelude.{◌≡◌, ◌<◌, ◌-◌, ℕ, Bool, List, Option, map, slice_get, Some};
-ghost use Rattle.std.specs.Prelude.{None, IfOk, IfErr, IfSome, MatchResult, bytes_eq, codes, ◌++◌};
-ghost use Rattle.pop3_wire.specs.declared.command.Command.TheVariants.{Retr, Top, Dele, Rset};
+ghost use Rattle.std.specs.Prelude.{true, None, IfOk, IfErr, IfSome, MatchResult, bytes_eq, codes, ◌++◌};
+ghost use Rattle.pop3_wire.specs.declared.command.Command.TheVariants.{Pass, Retr, Top, Dele, Rset};
 ghost use Rattle.pop3_server.specs.declared.rows.MessageRow.{MessageRow};
 ghost use Rattle.pop3_server.specs.declared.state.State.{State};
 ghost use Rattle.pop3_server.specs.declared.state.State.TheVariants.{Authorization, Transaction, Closed};
@@ -9,7 +9,7 @@ ghost use Rattle.mail_terms.specs.FailureCount.{counted_up};
 ghost use Rattle.pop3_server.specs.Maildrop.{HasPlace};
 ghost use Rattle.pop3_server.specs.ServerMachine.{Say, Open, Give, Leave, Answers, SamePlaces, Unanswered, Tied};
 ghost use Rattle.pop3_server.specs.ServerMachine.{Tries, Empties, with_marked, in_authorization, in_transaction};
-ghost use Rattle.pop3_server.specs.ServerMachine.{next_of, said, of_row, row_at, scan_line, uid_line, text_body};
+ghost use Rattle.pop3_server.specs.ServerMachine.{is_about_rows, next_of, said, of_row, row_at, scan_line, uid_line, text_body};
 ghost use Rattle.pop3_server.specs.TextAnswer.{AnswersOrBegins, Follows};
 ghost use Rattle.pop3_server.specs.TextBody.{still};
 
@@ -196,6 +196,32 @@ fn are_same(one: &[u8], other: &[u8]) -> bool
     same
 }
 
+/// PASS after USER: lists the maildrop if both words are right.
+fn log_in<D: Maildrop>(
+    alloc: Global,
+    drop: &mut D,
+    user: &[u8],
+    pass: &[u8],
+    name: &Bytes,
+    word: &Bytes,
+) -> Result<Outcome, ServerFault>
+    ensures ok { IfOk result (λ outcome. (state : State) → AnswersOrBegins D.sound D.mail
+        (in_authorization user.now pass.now (Some name.now) (Pass word.now))
+        drop.old outcome.bytes.items outcome.rest (next_of state outcome.next) drop.new) }
+    ensures whole { IfOk result (λ outcome. outcome.rest ≡ None) }
+    ensures tied { IfOk result (λ outcome. (state : State) → Tied (D.sound drop.new) (D.mail drop.new) (next_of state outcome.next)) }
+    ensures err { IfErr result (λ e. (e ≡ ServerFault.NoMemory) × Unanswered D.sound D.mail drop.old drop.new) }
+{
+    // Both are compared, so that the time doesn't tell which of them differs.
+    let right_name = are_same(name.as_slice(), user);
+    let right_word = are_same(word.as_slice(), pass);
+    if right_name & right_word {
+        open(alloc, drop)
+    } else {
+        Ok(Outcome::go(say(alloc, b"-ERR refused")?, State::Authorization(None)))
+    }
+}
+
 /// A command in the AUTHORIZATION state.
 pub fn authorize<D: Maildrop>(
     alloc: Global,
@@ -219,16 +245,7 @@ pub fn authorize<D: Maildrop>(
         )),
         Command::Pass(word) => match kept {
             None => Ok(Outcome::stay(say(alloc, b"-ERR USER first")?)),
-            Some(name) => {
-                // Both are compared, so that the time doesn't tell which of them differs.
-                let right_name = are_same(name.as_slice(), user);
-                let right_word = are_same(word.as_slice(), pass);
-                if right_name & right_word {
-                    open(alloc, drop)
-                } else {
-                    Ok(Outcome::go(say(alloc, b"-ERR refused")?, State::Authorization(None)))
-                }
-            }
+            Some(name) => log_in(alloc, drop, user, pass, name, &word),
         },
         Command::Quit => Ok(Outcome::go(say(alloc, b"+OK bye")?, State::Closed)),
         Command::Stat
@@ -308,6 +325,28 @@ fn quit<D: Maildrop>(
     if leave(drop, rows) { Ok(all) } else { Ok(some) }
 }
 
+/// A command in the TRANSACTION state that is answered by the rows alone.
+#[tactic(auto, using(crate::proofs::RowLemmas::same_rows))]
+fn answer_by_rows(alloc: Global, rows: &mut Rows, command: &Command) -> Result<Vec<u8>, ServerFault>
+    requires { is_about_rows command.now ≡ true }
+    ensures ok { IfOk result (λ reply. in_transaction rows.old command.now ≡ Say reply.items (Transaction rows.new)) }
+    ensures same_places { SamePlaces rows.old rows.new }
+    ensures err { IfErr result (λ e. (e ≡ ServerFault.NoMemory) × (rows.new ≡ rows.old)) }
+{
+    match command {
+        Command::User(_) | Command::Pass(_) => say(alloc, b"-ERR not now"),
+        Command::Stat => say_left(alloc, rows.as_slice()),
+        Command::ListAll => say_sizes(alloc, rows.as_slice()),
+        Command::UidlAll => say_uids(alloc, rows.as_slice()),
+        Command::ListOne(number) => list_one(alloc, rows, *number),
+        Command::UidlOne(number) => uidl_one(alloc, rows, *number),
+        Command::Dele(number) => dele(alloc, rows, *number),
+        Command::Rset => rset(alloc, rows),
+        Command::Noop => say(alloc, b"+OK"),
+        Command::Retr(_) | Command::Top(_, _) | Command::Quit => unreachable!(),
+    }
+}
+
 /// A command in the TRANSACTION state. A reply with a text is made until it ends or has more than
 /// `limit` octets.
 pub fn transact<D: Maildrop>(
@@ -329,17 +368,18 @@ pub fn transact<D: Maildrop>(
     ensures err { IfErr result (λ e. (e ≡ ServerFault.NoMemory) × (rows.new ≡ rows.old) × Unanswered D.sound D.mail drop.old drop.new) }
 {
     match command {
-        Command::User(_) | Command::Pass(_) => Ok(Outcome::stay(say(alloc, b"-ERR not now")?)),
-        Command::Stat => Ok(Outcome::stay(say_left(alloc, rows.as_slice())?)),
-        Command::ListAll => Ok(Outcome::stay(say_sizes(alloc, rows.as_slice())?)),
-        Command::UidlAll => Ok(Outcome::stay(say_uids(alloc, rows.as_slice())?)),
-        Command::ListOne(number) => Ok(Outcome::stay(list_one(alloc, rows, *number)?)),
-        Command::UidlOne(number) => Ok(Outcome::stay(uidl_one(alloc, rows, *number)?)),
         Command::Retr(number) => retr(alloc, drop, rows, *number, limit),
         Command::Top(number, count) => top(alloc, drop, rows, *number, *count, limit),
-        Command::Dele(number) => Ok(Outcome::stay(dele(alloc, rows, *number)?)),
-        Command::Rset => Ok(Outcome::stay(rset(alloc, rows)?)),
-        Command::Noop => Ok(Outcome::stay(say(alloc, b"+OK")?)),
         Command::Quit => Ok(Outcome::go(quit(alloc, drop, rows.as_slice())?, State::Closed)),
+        Command::User(_)
+        | Command::Pass(_)
+        | Command::Stat
+        | Command::ListAll
+        | Command::UidlAll
+        | Command::ListOne(_)
+        | Command::UidlOne(_)
+        | Command::Dele(_)
+        | Command::Rset
+        | Command::Noop => Ok(Outcome::stay(answer_by_rows(alloc, rows, command)?)),
     }
 }

@@ -7,6 +7,7 @@ mod EndlessLemmas
 mod HonestRows
 mod LineLemmas
 mod LineReaderLemmas
+mod LineWaitLemmas
 mod ReadingLemmas
 mod RowsLemmas
 mod ScriptLemmas

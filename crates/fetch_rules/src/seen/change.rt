@@ -1,11 +1,11 @@
 //! How a listing changes the rows of a record.
 
-ghost use Rattle.std.specs.Prelude.{◌≡◌, ◌≢◌, ◌≤◌, ◌++◌, ◌&&◌, not, ℕ, List, length, map, take, All, true, OnOk, OnErr, IfOk};
+ghost use Rattle.std.specs.Prelude.{◌≡◌, ◌≢◌, ◌⊎◌, ◌≤◌, ◌<◌, ◌++◌, ◌&&◌, ◌||◌, not, ℕ, List, length, map, take, All, true, false, OnOk, OnErr, IfOk, IsTrue};
 ghost use Rattle.std.specs.Bool.{OnTrue, OnFalse};
 ghost use Rattle.mail_terms.specs.Listing.{message_limit, is_flagged};
 ghost use Rattle.fetch_rules.specs.Record.{IsRecord, marked, with_held, new_ids, undelivered, is_delivered};
 ghost use Rattle.fetch_rules.specs.RecordFile.{changed, written};
-ghost use Rattle.mail_terms.specs.UniqueId.{has_id};
+ghost use Rattle.mail_terms.specs.UniqueId.{IsLegalId, has_id};
 
 use crate::id_set::IdSet;
 use crate::seen::line::{group, write_line};
@@ -13,6 +13,28 @@ use crate::seen::row_map::{RowMap, State};
 use mail_terms::Listing;
 use std::alloc::{AllocError, Global};
 use std::hash::BuildHasher;
+
+/// Whether a row is delivered, or its id is among these.
+fn is_marked(state: State, ids: &IdSet<'_>, uid: &[u8]) -> bool
+    requires { IsLegalId uid.now }
+    ensures { result ≡ (state.delivered || has_id ids.now uid.now) }
+{
+    if state.delivered {
+        return true;
+    }
+    ids.has(uid)
+}
+
+/// Whether a row at a place is one of the first `count`, and its state stays.
+fn is_as_before(place: usize, count: usize, old: bool, new: bool) -> bool
+    ensures same { IsTrue result → (place < count) × (new ≡ old) }
+    ensures other { result ≡ false → (count ≤ place) ⊎ (new ≢ old) }
+{
+    if place >= count {
+        return false;
+    }
+    new == old
+}
 
 impl<H: BuildHasher> RowMap<H> {
     /// Sets delivered for the id, if it has a row. Returns whether this changed the row.
@@ -147,8 +169,8 @@ impl<H: BuildHasher> RowMap<H> {
         let mut changes: usize = 0;
         for place in 0..self.len() {
             let (uid, state) = self.at(place);
-            let delivered = state.delivered || ids.has(uid);
-            if place < count && delivered == state.delivered {
+            let delivered = is_marked(state, &ids, uid);
+            if is_as_before(place, count, state.delivered, delivered) {
                 continue;
             }
             let first_seen = state.first_seen;

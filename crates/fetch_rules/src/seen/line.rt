@@ -5,7 +5,7 @@
 //! leading zeros; single spaces separate the fields, and LF ends each line. The header of version 1 is
 //! `getmail-seen 1`; it has no intents.
 
-ghost use Rattle.std.specs.Prelude.{◌≡◌, ◌≢◌, ℕ, ◌≤◌, ◌++◌, Bool, List, length, flat_map, OnOk, IfOk, IfSome, IfNone};
+ghost use Rattle.std.specs.Prelude.{◌≡◌, ◌≢◌, ℕ, ◌≤◌, ◌++◌, Bool, List, [], ◌∷◌, length, flat_map, OnOk, IfOk, IfSome, IfNone};
 ghost use Rattle.mail_terms.specs.Listing.{message_limit};
 ghost use Rattle.fetch_rules.specs.Record.{Row, Intent as TheIntent, IsRow, IsIntent};
 ghost use Rattle.fetch_rules.specs.RecordFile.{header, state_of, line_of, group_line, intent_line};
@@ -170,6 +170,16 @@ pub(crate) fn write_intent(alloc: Global, intent: Intent<'_>) -> Result<Vec<u8>,
     let mut bytes = Vec::from_slice(alloc, INTENT_SIGN)?;
     bytes.extend_from_slice(intent.uid)?;
     bytes.extend_from_slice(numbers.as_bytes())?;
+    Ok(bytes)
+}
+
+/// The group of one row.
+pub(crate) fn row_group(alloc: Global, uid: &[u8], state: State) -> Result<Vec<u8>, AllocError>
+    ensures { IfOk result (λ bytes. bytes.items ≡ written (row_from uid.now state ∷ [])) }
+{
+    let mut line = Vec::new(alloc);
+    write_line(alloc, &mut line, uid, state)?;
+    let bytes = group(alloc, 1, &line)?;
     Ok(bytes)
 }
 

@@ -1,12 +1,12 @@
 //! The rows of a record as a map from id to what is known of its message, in order of first
 //! appearance.
 
-ghost use Rattle.std.specs.Prelude.{◌≡◌, ◌<◌, ◌++◌, [], ◌∷◌, true, false, length, take, OnOk, OnErr, IfOk, HoldsAt, IfSome, IfNone};
+ghost use Rattle.std.specs.Prelude.{◌≡◌, ◌<◌, ◌++◌, [], ◌∷◌, true, false, length, take, OnOk, OnErr, IfOk, IsTrue, HoldsAt, IfSome, IfNone};
 ghost use Rattle.mail_terms.specs.UniqueId.{IsLegalId};
 ghost use Rattle.fetch_rules.specs.Record.{IsRecord, has_row, is_delivered, marked};
 ghost use Rattle.fetch_rules.specs.Rows.{row_from, state_in};
 
-use crate::id_text::text_of;
+use crate::id_text::{owned_id, text_of};
 use indexmap::IndexMap;
 use std::alloc::{AllocError, Global};
 use std::hash::BuildHasher;
@@ -88,6 +88,20 @@ impl<H: BuildHasher> RowMap<H> {
         self.states.get(text_of(uid)?).copied()
     }
 
+    /// Whether the row at a place is an id's.
+    fn is_at(&self, uid: &[u8], place: usize) -> bool
+        ensures there { IsTrue result → (place < length self.now) × HoldsAt (λ row. row.uid ≡ uid.now) self.now place }
+        ensures is_record { IsRecord self.now }
+    {
+        if place >= self.len() {
+            return false;
+        }
+        if self.at(place).0 == uid {
+            return true;
+        }
+        false
+    }
+
     /// The place of an id's row, if it has one. The row at the place `likely` is compared first, and the
     /// id is hashed only if it is another's.
     pub(crate) fn place_of(&self, uid: &[u8], likely: usize) -> Option<usize>
@@ -95,7 +109,7 @@ impl<H: BuildHasher> RowMap<H> {
         ensures none { IfNone result (has_row self.now uid.now ≡ false) }
         ensures is_record { IsRecord self.now }
     {
-        if likely < self.len() && self.at(likely).0 == uid {
+        if self.is_at(uid, likely) {
             return Some(likely);
         }
         self.states.get_index_of(text_of(uid)?)
@@ -138,10 +152,7 @@ impl<H: BuildHasher> RowMap<H> {
         ensures err { OnErr result (self.new ≡ self.old) }
         ensures is_record { IsRecord self.new }
     {
-        let Some(text) = text_of(uid) else {
-            unreachable!()
-        };
-        let id = String::from_str(self.alloc, text)?;
+        let id = owned_id(self.alloc, uid)?;
         Ok(self.states.insert(id, state)?)
     }
 

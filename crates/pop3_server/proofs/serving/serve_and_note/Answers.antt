@@ -2,7 +2,7 @@ use Rattle.std.proofs.Common.{◌≡◌, ◌+◌, true, take, drop, None, refl, 
 use Rattle.std.proofs.lemmas.Bool.{not-true, not-false}
 use Rattle.pop3_server.specs.ServerMachine.{is_open}
 use Rattle.pop3_server.specs.Got.{Waiting}
-use Rattle.pop3_server.proofs.ServeLemmas.{greeted, served_unmade, served_ungreeted, served_unsent, served_stopped, served_closed, progress_line, long_turn, line_octets}
+use Rattle.pop3_server.proofs.ServeLemmas.{greeted, served_unmade, served_ungreeted, served_unsent, served_stopped, served_closed, served_unread, served_ended, progress_line, long_turn, line_octets}
 use Rattle.pop3_server.proofs.serving.serve_and_note.Goals as goal
 
 pub returns-in-Err-clause-served : goal.returns-in-Err-clause-served
@@ -118,3 +118,30 @@ loop-heard-preserved g c =
                 inv.2 heard.1 line.0 line.1 line.2 went.2.1 went.2.2,
           ),
     )
+
+pub returns-in-Err-next-clause-served : goal.returns-in-Err-next-clause-served
+returns-in-Err-next-clause-served g c = λ s.
+    let came = c.in-Err-next.ensures.hears s in
+    let inv = c.loop-heard.invariant.3 came.0 in (
+      inv.0,
+      g.met.W.Wire.leads_on _ _ _ inv.1 came.1,
+      served_unread g.D.Maildrop.sound g.D.Maildrop.mail c.args.server.now c.loop-heard.server (g.W.Wire.history c.args.wire.now) (g.W.Wire.history c.loop-heard.wire)
+          (g.W.Wire.history c.next.new.wire) c.loop-heard.intake c.next.new.self c.in-Err-next.fault inv.2 came.2,
+    )
+
+pub returns-in-End-clause-served : goal.returns-in-End-clause-served
+returns-in-End-clause-served g c = λ s.
+    let came = c.in-Ok-next.ensures.hears s in
+    let heard = rw c.in-End.is at came.2 in
+    let inv = c.loop-heard.invariant.3 came.0 in (
+      inv.0,
+      g.met.W.Wire.leads_on _ _ _ inv.1 came.1,
+      served_ended g.D.Maildrop.sound g.D.Maildrop.mail c.args.server.now c.loop-heard.server (g.W.Wire.history c.args.wire.now) (g.W.Wire.history c.loop-heard.wire)
+          (g.W.Wire.history c.next.new.wire) c.loop-heard.intake c.next.new.self inv.2 heard,
+    )
+
+pub returns-in-Err-answer_line-clause-removals : goal.returns-in-Err-answer_line-clause-removals
+returns-in-Err-answer_line-clause-removals g c = λ opened. c.in-Err-answer_line.ensures.removals opened ∙ c.loop-heard.invariant.2
+
+pub returns-then-closing-clause-removals : goal.returns-then-closing-clause-removals
+returns-then-closing-clause-removals g c = λ opened. c.in-Ok-answer_line.ensures.removals opened ∙ c.loop-heard.invariant.2

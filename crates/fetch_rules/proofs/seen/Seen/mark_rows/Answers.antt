@@ -1,7 +1,7 @@
-use Rattle.std.proofs.Common.{◌∙◌, ◌++◌, ◌∷◌, [], inr, sym, ap, subst, refl, List, ℕ, None, append-nil}
+use Rattle.std.proofs.Common.{◌∙◌, ◌∷◌, [], inr, sym, ap, subst, refl, List, None}
 use Rattle.std.proofs.lemmas.List.Elements.{recursion_from_All}
 use Rattle.fetch_rules.specs.Record.{Row, Loaded, IsRow, marked}
-use Rattle.fetch_rules.specs.RecordFile.{line_of, marking, written}
+use Rattle.fetch_rules.specs.RecordFile.{marking, written}
 use Rattle.fetch_rules.specs.RecordGrowth.{Updates}
 use Rattle.fetch_rules.specs.Intents.{intent_in, IsNoneOrOf}
 use Rattle.fetch_rules.proofs.RowLemmas.{unmarked_none, marked-delivered, none_written, mark_is_written, marked_parts, unmarked_parts}
@@ -45,10 +45,8 @@ returns-then-has_mark-clause-group g c =
 
 pub returns-clause-group : goal.returns-clause-group
 returns-clause-group g c =
-    let row : Row = now_delivered c.args.uid.now c.in-Some.state in
     let why = unmarked_parts c.in-Some.state.delivered (intent_in c.self.inside.intent) c.has_mark.result c.has_mark.ensures c.if-has_mark.false in
-    c.in_ok-group.ensures (row ∷ []) refl
-    (append-nil (line_of row) ∙ sym (c.deref.ensures.value ∙ c.in_ok-write_line.ensures ∙ ap (λ (xs : List ℕ). xs ++ line_of row) c.new-line.ensures.items))
+    c.in_ok-group.ensures
     ∙ ap written (sym (mark_is_written (intent_in c.self.inside.intent) c.args.uid.now c.self.inside.rows c.in-Some.state c.state.ensures.is_record (sym c.in-Some.ensures.value) why))
     ∙ ap (λ (rows : List Row). written (marking (intent_in c.self.inside.intent) c.args.uid.now c.self.inside.rows rows)) (sym c.set_delivered.ensures.rows)
     ∙ ap (λ (loaded : Loaded). written (marking loaded.intent c.args.uid.now loaded.rows c.set_delivered.new.self)) c.self.view_is
@@ -64,8 +62,7 @@ returns-clause-updates g c =
     (inr (
       row ∷ [],
       mark.0,
-      c.in_ok-group.ensures (row ∷ []) refl
-          (append-nil (line_of row) ∙ sym (c.deref.ensures.value ∙ c.in_ok-write_line.ensures ∙ ap (λ (xs : List ℕ). xs ++ line_of row) c.new-line.ensures.items)),
+      c.in_ok-group.ensures,
       c.set_delivered.ensures.rows ∙ sym mark.1,
       refl,
     ))

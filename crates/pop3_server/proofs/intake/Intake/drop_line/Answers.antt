@@ -69,3 +69,28 @@ loop-length-preserved g c =
           let on = drops_on c.args.self.now c.line_end.new.self c.more.new.self inv.2.0 inv.2.1 takes.0 d takes.2 takes.1 in
           (inv.0, g.met.W.Wire.leads_on _ _ _ inv.1 more.1, (inv.2.0 ++ takes.0, inv.2.1, took_on _ _ _ inv.2.0 takes.0 inv.2.2 more.2, on)),
     )
+
+pub returns-in-Err-clause-hears : goal.returns-in-Err-clause-hears
+returns-in-Err-clause-hears g c = λ s.
+    let takes = c.in-Err.ensures.takes in
+    let more = takes.5 s in
+    let inv = c.loop-length.invariant.2 more.0 in
+    let d = still_dropping c.args.self.now c.loop-length.self c.line_end.new.self inv.2.0 inv.2.1 c.line_end.ensures.same inv.2.3 in
+    let on = drops_on c.args.self.now c.line_end.new.self c.more.new.self inv.2.0 inv.2.1 takes.0 d takes.2 takes.1 in
+    (inv.0, g.met.W.Wire.leads_on _ _ _ inv.1 more.1, (c.in-Err.ensures.err, (inv.2.0 ++ takes.0, inv.2.1, took_on _ _ _ inv.2.0 takes.0 inv.2.2 more.2, on.takes)))
+
+pub returns-in-Err-clause-fewer : goal.returns-in-Err-clause-fewer
+returns-in-Err-clause-fewer g c =
+    let takes = c.in-Err.ensures.takes in
+    let before : length c.line_end.new.self.octets + 2 * c.line_end.new.self.left < length c.args.self.now.octets + 2 * c.args.self.now.left = rw c.line_end.ensures.same c.loop-length.invariant.1 in
+    let size : length c.more.new.self.octets ≡ length c.line_end.new.self.octets + length takes.0 = ap length takes.2 ∙ length-append c.line_end.new.self.octets takes.0 in
+    let left = takes.1 in
+    omega arith
+
+pub returns-then-not-came-clause-fewer : goal.returns-then-not-came-clause-fewer
+returns-then-not-came-clause-fewer g c =
+    let takes = c.in-Ok.ensures.takes in
+    let before : length c.line_end.new.self.octets + 2 * c.line_end.new.self.left < length c.args.self.now.octets + 2 * c.args.self.now.left = rw c.line_end.ensures.same c.loop-length.invariant.1 in
+    let size : length c.more.new.self.octets ≡ length c.line_end.new.self.octets + length takes.0 = ap length takes.2 ∙ length-append c.line_end.new.self.octets takes.0 in
+    let left = takes.1 in
+    omega arith
