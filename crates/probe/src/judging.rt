@@ -10,14 +10,22 @@ use std::io::Write;
 /// Separates the records of the file that is read, and ends each answer. No record has this octet.
 const END: u8 = 0xff;
 
-/// Reads a record in place of the last one. The answer is whether its file must be written anew,
-/// `true` or `false`, and the record as `bytes` writes it; or the fault.
+/// Whether a record's file must be written anew, `true` or `false`, and the record as `bytes` writes it.
+fn tell_record(seen: &Seen<RandomState>, answers: &mut Vec<u8>) -> Result<()> {
+    let word: &[u8] = if seen.needs_rewrite() {
+        b"true\n"
+    } else {
+        b"false\n"
+    };
+    answers.extend_from_slice(word)?;
+    answers.extend_from_slice(&seen.bytes()?)?;
+    Ok(())
+}
+
+/// Reads a record in place of the last one. The answer is the record, or the fault.
 fn answer(seen: &mut Seen<RandomState>, record: &[u8], answers: &mut Vec<u8>) -> Result<()> {
     match seen.reread(record) {
-        Ok(()) => {
-            writeln!(answers, "{}", seen.needs_rewrite())?;
-            answers.extend_from_slice(&seen.bytes()?)?;
-        }
+        Ok(()) => tell_record(seen, answers)?,
         Err(fault) => writeln!(answers, "{fault}")?,
     }
     answers.push(END)?;
@@ -25,12 +33,17 @@ fn answer(seen: &mut Seen<RandomState>, record: &[u8], answers: &mut Vec<u8>) ->
 }
 
 /// The answer for each record of a file's bytes.
+fn answer_each(seen: &mut Seen<RandomState>, bytes: &[u8], answers: &mut Vec<u8>) -> Result<()> {
+    for record in bytes.split(|byte| *byte == END) {
+        answer(seen, record, answers)?;
+    }
+    Ok(())
+}
+
+/// The answers for a file's bytes.
 fn answers(alloc: Global, hasher: RandomState, bytes: &[u8]) -> Result<Vec<u8>> {
     let mut answers = Vec::new(alloc);
-    let mut seen = Seen::new(alloc, hasher);
-    for record in bytes.split(|byte| *byte == END) {
-        answer(&mut seen, record, &mut answers)?;
-    }
+    answer_each(&mut Seen::new(alloc, hasher), bytes, &mut answers)?;
     Ok(answers)
 }
 

@@ -24,9 +24,20 @@ fn settings(alloc: Global) -> Settings {
 }
 
 /// The id of a number: sixteen digits, in no order.
-fn id_of(alloc: Global, number: u32) -> Result<String> {
+fn id_of(alloc: Global, number: u32) -> Result<Vec<u8>> {
     let mixed = u64::from(number).wrapping_mul(0x9E37_79B9_7F4A_7C15);
-    Ok(format!(in alloc; "{mixed:016x}")?)
+    Ok(format!(in alloc; "{mixed:016x}")?.into_bytes())
+}
+
+/// Appends a row of a record.
+fn add_row(file: &mut Vec<u8>, id: &[u8], is_delivered: bool) -> Result<()> {
+    file.extend_from_slice(id)?;
+    file.extend_from_slice(if is_delivered {
+        b" 1700000000 1\n"
+    } else {
+        b" 1700000000 0\n"
+    })?;
+    Ok(())
 }
 
 /// The file of a record that has seen the ids of the numbers 1 to `count`, and has every other one
@@ -34,12 +45,7 @@ fn id_of(alloc: Global, number: u32) -> Result<String> {
 fn file_of(alloc: Global, count: u32) -> Result<Vec<u8>> {
     let mut file = Vec::from_slice(alloc, b"getmail-seen 2\n")?;
     for number in 1..=count {
-        let line = format!(in alloc;
-            "{} 1700000000 {}\n",
-            id_of(alloc, number)?.as_str(),
-            number % 2
-        )?;
-        file.extend_from_slice(line.as_bytes())?;
+        add_row(&mut file, &id_of(alloc, number)?, number % 2 == 1)?;
     }
     Ok(file)
 }
@@ -48,8 +54,7 @@ fn file_of(alloc: Global, count: u32) -> Result<Vec<u8>> {
 fn uid_rows(alloc: Global, known: u32, count: u32) -> Result<Vec<UidRow>> {
     let mut rows = Vec::with_capacity(alloc, count as usize)?;
     for number in 1..=count {
-        let id = id_of(alloc, known.saturating_add(number))?;
-        let uid = Vec::from_slice(alloc, id.as_bytes())?;
+        let uid = id_of(alloc, known.saturating_add(number))?;
         rows.push(UidRow { number, uid })?;
     }
     Ok(rows)
@@ -84,13 +89,15 @@ fn time_join(rt: &HostRuntime, count: u32) -> Result<Listing> {
     Ok(listing)
 }
 
-/// Reads a record.
-fn time_reading(rt: &HostRuntime, file: &[u8]) -> Result<Seen<RandomState>> {
-    let hasher = RandomState::new(rt)?;
+/// Reads a record in place of the last one. Its file needn't be written anew.
+fn time_reading(rt: &HostRuntime, seen: &mut Seen<RandomState>, file: &[u8]) -> Result<()> {
     let start = rt.process_cpu_time()?;
-    let seen = Seen::read(rt.alloc(), file, hasher)?;
+    seen.reread(file)?;
     tell(rt, "read", start)?;
-    Ok(seen)
+    if seen.needs_rewrite() {
+        return Err(Trouble::Other);
+    }
+    Ok(())
 }
 
 /// Merges a listing whose messages are all held.
@@ -105,10 +112,14 @@ fn time_merge(rt: &HostRuntime, listing: &Listing, seen: &mut Seen<RandomState>)
 }
 
 /// Plans the steps of a session.
-fn time_plan(rt: &HostRuntime, listing: &Listing, seen: &Seen<RandomState>) -> Result<()> {
-    let settings = settings(rt.alloc());
+fn time_plan(
+    rt: &HostRuntime,
+    settings: &Settings,
+    listing: &Listing,
+    seen: &Seen<RandomState>,
+) -> Result<()> {
     let start = rt.process_cpu_time()?;
-    let steps = plan(rt.alloc(), &settings, seen, listing, 1_800_000_000)?;
+    let steps = plan(rt.alloc(), settings, seen, listing, 1_800_000_000)?;
     tell(rt, "plan", start)?;
     if steps.len() != listing.len() as usize {
         return Err(Trouble::Other);
@@ -127,16 +138,17 @@ fn time_bytes(rt: &HostRuntime, least: usize, seen: &Seen<RandomState>) -> Resul
     Ok(())
 }
 
-/// Makes the calls of one session over a listing and a record whose file has `least` octets.
+/// Makes the calls of one session over a listing and a record in a file.
 fn time_calls(
     rt: &HostRuntime,
     listing: &Listing,
     seen: &mut Seen<RandomState>,
-    least: usize,
+    file: &[u8],
 ) -> Result<()> {
+    time_reading(rt, seen, file)?;
     time_merge(rt, listing, seen)?;
-    time_plan(rt, listing, seen)?;
-    time_bytes(rt, least, seen)
+    time_plan(rt, &settings(rt.alloc()), listing, seen)?;
+    time_bytes(rt, file.len(), seen)
 }
 
 /// Makes the calls of one session over `count` messages and a record of as many rows. The record
@@ -144,16 +156,13 @@ fn time_calls(
 pub fn time_session(rt: &HostRuntime, count: u32) -> Result<()> {
     let listing = time_join(rt, count)?;
     let file = file_of(rt.alloc(), count)?;
-    let mut seen = time_reading(rt, &file)?;
-    time_calls(rt, &listing, &mut seen, file.len())
+    let hasher = RandomState::new(rt)?;
+    time_calls(rt, &listing, &mut Seen::new(rt.alloc(), hasher), &file)
 }
 
 /// Reads a record of `count` rows.
 pub fn time_read(rt: &HostRuntime, count: u32) -> Result<()> {
     let file = file_of(rt.alloc(), count)?;
-    let seen = time_reading(rt, &file)?;
-    if seen.needs_rewrite() {
-        return Err(Trouble::Other);
-    }
-    Ok(())
+    let hasher = RandomState::new(rt)?;
+    time_reading(rt, &mut Seen::new(rt.alloc(), hasher), &file)
 }

@@ -1,5 +1,4 @@
 //! Calls of `mail_store` on a Maildir in a folder and on a file.
-ghost use Rattle.std.specs.Prelude.{◌≡◌, IfOk, length};
 
 use crate::mbox;
 use crate::stopwatch::Stopwatch;
@@ -21,9 +20,7 @@ pub fn mark_of(rt: &HostRuntime) -> Result<ProcessMark> {
 }
 
 /// The listing of messages 1 to `count`.
-fn listing_of(alloc: Global, count: u32) -> Result<Listing>
-    ensures { IfOk result (λ listing. length listing ≡ count) }
-{
+fn listing_of(alloc: Global, count: u32) -> Result<Listing> {
     let mut uids = Vec::new(alloc);
     let mut sizes = Vec::new(alloc);
     for number in 1..=count {
@@ -178,19 +175,33 @@ pub fn use_file_at(rt: &HostRuntime, call: &str, path: &str, count: u32) -> Resu
     )
 }
 
+/// Removes what killed runs left beside a record.
+fn sweep_file(system: &System<'_, HostRuntime>, path: &str, mark: ProcessMark) {
+    HostFile::by_blocks(system, path, mark).sweep();
+}
+
 /// Removes what killed runs left beside the record of a Maildir.
 fn sweep_record(system: &System<'_, HostRuntime>, path: &str, mark: ProcessMark) -> Result<()> {
     let record = format!(in system.alloc(); "{path}/seen")?;
-    HostFile::by_blocks(system, record.as_str(), mark).sweep();
+    sweep_file(system, record.as_str(), mark);
     Ok(())
 }
 
+/// Removes what killed runs left in a Maildir.
+fn sweep_maildir(system: &System<'_, HostRuntime>, path: &str, mark: ProcessMark) {
+    FolderMaildir::at(system, path, mark).sweep(&account_id("bench", 110, "bench"));
+}
+
 /// Removes what killed runs left in a Maildir and beside the record in it.
+fn sweep_both(system: &System<'_, HostRuntime>, path: &str, mark: ProcessMark) -> Result<()> {
+    sweep_record(system, path, mark)?;
+    sweep_maildir(system, path, mark);
+    Ok(())
+}
+
+/// Removes what killed runs left in the Maildir at a path and beside the record in it.
 pub fn sweep(rt: &HostRuntime, path: &str) -> Result<()> {
     let mark = mark_of(rt)?;
     let refusals = Refusals::new(rt.alloc(), None);
-    let system = System::new(rt, &refusals);
-    sweep_record(&system, path, mark)?;
-    FolderMaildir::at(&system, path, mark).sweep(&account_id("bench", 110, "bench"));
-    Ok(())
+    sweep_both(&System::new(rt, &refusals), path, mark)
 }

@@ -25,14 +25,20 @@ fn tell_warning(rt: &HostRuntime, warning: &Warning) {
     tell_text(rt, answer);
 }
 
-#[test]
-fn warning_text_row(rt: HostRuntime) -> Result<(), Fail> {
+fn tell_twice(rt: &HostRuntime, section: String, key: String) {
     let warning = Warning {
         line: 10,
-        section: String::from_str(rt.alloc(), "options")?,
-        key: String::from_str(rt.alloc(), "timeout")?,
+        section,
+        key,
     };
-    tell_warning(&rt, &warning);
-    tell_warning(&rt, &warning);
+    tell_warning(rt, &warning);
+    tell_warning(rt, &warning);
+}
+
+#[test]
+fn warning_text_row(rt: HostRuntime) -> Result<(), Fail> {
+    let section = String::from_str(rt.alloc(), "options")?;
+    let key = String::from_str(rt.alloc(), "timeout")?;
+    tell_twice(&rt, section, key);
     Ok(())
 }

@@ -2,6 +2,7 @@
 
 use crate::no_memory_tests::watched::{begin, end, tell, tell_bytes, tell_no_memory};
 use mail_store::{Folder, MemoryMaildir, StoreFault, deliver};
+use std::alloc::Global;
 use std::test::Fail;
 
 /// Prints a fault.
@@ -10,14 +11,6 @@ fn tell_store_fault(rt: &HostRuntime, fault: StoreFault) {
         StoreFault::NoMemory => tell_no_memory(rt),
         StoreFault::Refused => tell(rt, "refused"),
         _ => tell(rt, "another fault"),
-    }
-}
-
-/// Prints what a call answered that answers no value.
-fn tell_done(rt: &HostRuntime, answer: Result<(), StoreFault>) {
-    match answer {
-        Ok(()) => tell(rt, "done"),
-        Err(fault) => tell_store_fault(rt, fault),
     }
 }
 
@@ -37,13 +30,21 @@ fn tell_maildir(rt: &HostRuntime, disk: &MemoryMaildir) {
     );
 }
 
+/// Prints what a call answered that answers no value, and what it left.
+fn tell_left(rt: &HostRuntime, answer: Result<(), StoreFault>, disk: &MemoryMaildir) {
+    match answer {
+        Ok(()) => tell(rt, "done"),
+        Err(fault) => tell_store_fault(rt, fault),
+    }
+    tell_maildir(rt, disk);
+}
+
 fn deliver_one(rt: &HostRuntime) {
     let mut disk = MemoryMaildir::new(rt.alloc());
     begin(rt);
     let answer = deliver(rt.alloc(), &mut disk, "one", b"x\n");
     end(rt);
-    tell_done(rt, answer);
-    tell_maildir(rt, &disk);
+    tell_left(rt, answer, &disk);
 }
 
 #[test]
@@ -65,13 +66,22 @@ fn move_one(rt: &HostRuntime, disk: &mut MemoryMaildir) -> bool {
     answer.is_ok()
 }
 
+fn move_twice(rt: &HostRuntime, disk: &mut MemoryMaildir) {
+    tell_maildir(rt, disk);
+    if !move_one(rt, disk) {
+        move_one(rt, disk);
+    }
+}
+
+/// A Maildir with the file `one,S=2`.
+fn maildir_of_one(alloc: Global) -> Result<MemoryMaildir, StoreFault> {
+    let mut disk = MemoryMaildir::new(alloc);
+    deliver(alloc, &mut disk, "one", b"x\n")?;
+    Ok(disk)
+}
+
 #[test]
 fn move_to_cur_row(rt: HostRuntime) -> Result<(), Fail> {
-    let mut disk = MemoryMaildir::new(rt.alloc());
-    deliver(rt.alloc(), &mut disk, "one", b"x\n")?;
-    tell_maildir(&rt, &disk);
-    if !move_one(&rt, &mut disk) {
-        move_one(&rt, &mut disk);
-    }
+    move_twice(&rt, &mut maildir_of_one(rt.alloc())?);
     Ok(())
 }

@@ -2,7 +2,6 @@
 
 use crate::no_memory_tests::watched::{begin, end, tell, tell_answer, tell_bytes, tell_text};
 use pop3_wire::{Note, ScriptWire, Wire};
-use std::test::Fail;
 use trace::{TracedWire, line_text, refusal_text};
 
 fn tell_line(rt: &HostRuntime) {
@@ -31,25 +30,28 @@ fn refusal_text_row(rt: HostRuntime) {
     tell_refusal(&rt);
 }
 
-/// Sends a command over a traced link, and prints what the link inside sent. A line of the trace
-/// for which there is no memory is left out.
-fn send_traced(rt: &HostRuntime) -> Result<(), Fail> {
-    let alloc = rt.alloc();
-    let script = ScriptWire::new(alloc, Vec::from_slice(alloc, b"+OK\r\n")?, 4096);
-    let err: Vec<u8> = Vec::new(alloc);
-    let mut wire = TracedWire::new(alloc, script, Some(err), None, None);
+/// Notes and sends a command.
+fn send<W: Wire>(rt: &HostRuntime, wire: &mut W) {
     begin(rt);
     wire.note(Note::Command(b"NOOP".as_slice()));
     let answer = wire.send(b"NOOP\r\n");
     end(rt);
     tell(rt, if answer.is_ok() { "sent" } else { "refused" });
-    let script = wire.into_inner();
-    tell_bytes(rt, script.sent());
-    Ok(())
+}
+
+/// Sends a command over a traced link, and prints what the link inside sent. A line of the trace
+/// for which there is no memory is left out.
+fn send_traced(rt: &HostRuntime) {
+    let alloc = rt.alloc();
+    let script = ScriptWire::new(alloc, Vec::new(alloc), 4096);
+    let err: Vec<u8> = Vec::new(alloc);
+    let mut wire = TracedWire::new(alloc, script, Some(err), None, None);
+    send(rt, &mut wire);
+    tell_bytes(rt, wire.into_inner().sent());
 }
 
 #[test]
-fn traced_wire_row(rt: HostRuntime) -> Result<(), Fail> {
-    send_traced(&rt)?;
-    send_traced(&rt)
+fn traced_wire_row(rt: HostRuntime) {
+    send_traced(&rt);
+    send_traced(&rt);
 }

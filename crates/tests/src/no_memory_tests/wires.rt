@@ -52,14 +52,17 @@ fn send_to_endless(rt: &HostRuntime, wire: &mut EndlessWire) -> bool {
     answer.is_ok()
 }
 
+fn send_twice(rt: &HostRuntime, wire: &mut EndlessWire) {
+    tell_bytes(rt, wire.sent());
+    if !send_to_endless(rt, wire) {
+        send_to_endless(rt, wire);
+    }
+}
+
 #[test]
 fn endless_wire_row(rt: HostRuntime) -> Result<(), Fail> {
     let alloc = rt.alloc();
     let pattern = Vec::from_slice(alloc, b"a")?;
-    let mut wire = EndlessWire::new(alloc, Vec::new(alloc), pattern);
-    tell_bytes(&rt, wire.sent());
-    if !send_to_endless(&rt, &mut wire) {
-        send_to_endless(&rt, &mut wire);
-    }
+    send_twice(&rt, &mut EndlessWire::new(alloc, Vec::new(alloc), pattern));
     Ok(())
 }
