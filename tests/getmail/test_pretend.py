@@ -143,6 +143,14 @@ class IntoMaildir(Pretends, unittest.TestCase):
             self.assertEqual(told, nothing)
             (self.account.maildir / "other").rename(self.account.maildir / folder)
 
+    def test_a_run_that_could_make_no_file(self):
+        """Nothing is said to be fetched that the run couldn't store; if nothing would be fetched, it would end well."""
+        (self.account.maildir / "tmp").rmdir()
+        told = self.check_run(1, b"getmail: destination missing\n", ["QUIT"])
+        self.assertEqual(told, ["0 of 3 messages would be fetched, 0 deleted"])
+        self.account.record.write_bytes(record_of((b"a", 5, 1), (b"b", 5, 1), (b"c", 5, 1)))
+        self.check(["delivered before"] * 3, (0, 0))
+
     def test_a_quit_that_is_refused(self):
         self.server.refuses = ("QUIT",)
         told = self.check_run(1, b"getmail: server refused QUIT\n", ["QUIT"])
@@ -194,7 +202,8 @@ class IntoMboxrd(Pretends, unittest.TestCase):
         self.check_run(1, b"getmail: destination missing\n", ["RSET", "QUIT"])
 
     def test_an_entry_that_is_open(self):
-        """A run would settle it; here it stays, whole or not, and the line says so."""
+        """A run would settle it; here it stays, whole or not, and the line says so. If the file is missing or no mbox, the
+        run would settle nothing, and nothing is said of it."""
         rows = record_of((b"a", 5, 1), (b"b", 5, 0), (b"c", 5, 0))
         self.account.record.write_bytes(rows + b"! b 0 40\n")
         for content in (b"", b"Fro", b"From MAILER-DAEMON", b"x\n", None):
@@ -205,7 +214,7 @@ class IntoMboxrd(Pretends, unittest.TestCase):
             else:
                 self.account.mbox.write_bytes(content)
             told = self.check_run(1 if fault else 0, fault, ["QUIT"])
-            self.assertEqual(told, [
+            self.assertEqual(told, ["0 of 3 messages would be fetched, 0 deleted"] if fault else [
                 "the last entry of the mbox file is looked at first: if it is whole, its message is not fetched",
                 "msg 1/3 (5 octets) delivered before", "msg 2/3 (5 octets) would be fetched",
                 "msg 3/3 (7 octets) would be fetched", "2 of 3 messages would be fetched, 0 deleted"])

@@ -23,3 +23,4 @@ pub mod Parts
 pub mod Prospect
 pub mod Pretend
 pub mod Telling
+pub mod Reasons

@@ -16,6 +16,7 @@ use crate::fault::{Cut, plain};
 use crate::listener::Listener;
 use crate::prospect::skips_of;
 use crate::readiness::{Ready, prepare};
+use crate::reasons::tell_plan;
 use crate::report::Skips;
 use crate::step::{Planned, do_steps};
 use crate::terms::Terms;
@@ -27,7 +28,7 @@ use pop3_wire::Wire;
 use std::hash::BuildHasher;
 
 /// Makes the record ready for a listing, does what is planned for it, and quits. How many messages the
-/// plan passes over is put into `skipped`. The listener is told of the lines as they are noted.
+/// plan passes over is put into `skipped`. The listener is told of the plan, and of the lines as they are noted.
 pub fn carry_out<W: Wire, D: MaildirDisk, F: FlatFile, H: BuildHasher, L: Listener>(
     client: &mut Client<'_, W>,
     work: &mut Work<D, F, H>,
@@ -65,6 +66,7 @@ pub fn carry_out<W: Wire, D: MaildirDisk, F: FlatFile, H: BuildHasher, L: Listen
         steps: &steps,
         held: &held,
     };
+    tell_plan(work.ledger.alloc, terms, &work.ledger.seen, plan, listener);
     if let Err(cut) = do_steps(client, work, terms.account, plan, listener) {
         return Err(cut);
     }

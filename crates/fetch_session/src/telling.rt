@@ -70,7 +70,7 @@ fn due_text(alloc: Global, due: Option<u64>) -> Result<String, AllocError>
 }
 
 impl Fate {
-    fn text(self) -> &'static str
+    pub(crate) fn text(self) -> &'static str
         ensures { result.now ≡ fate_text self }
     {
         match self {

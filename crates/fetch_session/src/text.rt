@@ -122,7 +122,7 @@ pub fn line_text(
 }
 
 /// The report's last line.
-fn summary(alloc: Global, report: &Report) -> Result<String, AllocError>
+pub(crate) fn summary(alloc: Global, report: &Report) -> Result<String, AllocError>
     ensures { IfOk result (λ text. string_bytes text ≡ summary report.now) }
 {
     let Report {

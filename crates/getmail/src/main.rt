@@ -89,6 +89,7 @@ fn obey(rt: &HostRuntime, words: &Words) -> u8
         err: Output::new(err),
         shows_progress: is_terminal && !words.trace,
         says_why: words.why || is_terminal,
+        explains: words.why || rt.stdout().is_terminal(),
         reasons: &reasons,
     };
     if words.rehearse {

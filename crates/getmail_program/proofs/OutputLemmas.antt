@@ -16,14 +16,12 @@ puts_both contents old mid new first second put more whole =
     let rest = more whole in let begun = put rest.0 in
     (begun.0, Appends-trans (contents old.writer) (contents mid.writer) (contents new.writer) first second begun.1 rest.1)
 
--- a cut, what was written next, another cut, and what was written last
-pub said : {E : Type 0} (contents : E → Option (List ℕ)) (settings : Settings) (outcome ahead : Outcome) (next : List ℕ)
-    (old first second third : Errors E) (more : List ℕ) (last : Output E) (cut : TellsCut contents settings outcome old first) → Puts contents first.err next second.err
-    → (later : TellsCut contents settings ahead second third) → Puts contents third.err more last
-    → Puts contents old.err ((((outcome_line outcome ++ cut.reason) ++ next) ++ (outcome_line ahead ++ later.reason)) ++ more) last
-said contents settings outcome ahead next old first second third more last cut put later left =
-    puts_both contents old.err third.err last _ more
-    (puts_both contents old.err second.err third.err _ _ (puts_both contents old.err first.err second.err _ _ cut.puts put) later.puts) left
+-- a cut, what was written next, and what was written last
+pub said : {E : Type 0} (contents : E → Option (List ℕ)) (settings : Settings) (outcome : Outcome) (next : List ℕ)
+    (old first : Errors E) (second : Output E) (more : List ℕ) (last : Output E) (cut : TellsCut contents settings outcome old first) → Puts contents first.err next second
+    → Puts contents second more last → Puts contents old.err (((outcome_line outcome ++ cut.reason) ++ next) ++ more) last
+said contents settings outcome next old first second more last cut put left =
+    puts_both contents old.err second last _ more (puts_both contents old.err first.err second _ _ cut.puts put) left
 
 -- the line of a fault in pieces
 pub in_pieces : {W : Type 0} (contents : W → Option (List ℕ)) (fault : Fault) (words : List ℕ) (number : Option ℕ) (a b c d e : Output W)

@@ -1,13 +1,15 @@
 -- The session that a run holds.
-use Rattle.std.specs.Prelude.{◌≡◌, ℕ, Bool, true, false}
+use Rattle.std.specs.Prelude.{◌≡◌, ◌⊎◌, ℕ, Bool, true, false}
 use Rattle.pop3_wire.specs.declared.wire.Wire.{Ghosts as WireGhosts}
 use Rattle.mail_store.specs.declared.maildir.disk.MaildirDisk.{Ghosts as DiskGhosts}
 use Rattle.mail_store.specs.declared.file.flat_file.FlatFile.{Ghosts as FileGhosts}
 use Rattle.mail_store.specs.Maildir.{AfterTaking}
+use Rattle.fetch_session.specs.declared.fault.Fault.{Fault}
 use Rattle.fetch_session.specs.declared.preview.Preview.{Preview}
+use Rattle.fetch_session.specs.declared.report.Outcome.TheVariants.{Ended, Cut}
 use Rattle.fetch_session.specs.declared.report.Report.{Report}
 use Rattle.fetch_session.specs.Account.{Holding, digits_of}
-use Rattle.fetch_session.specs.Pretend.{Pretends}
+use Rattle.fetch_session.specs.Pretend.{Pretends, told_in, told_nothing}
 use Rattle.fetch_session.specs.Refusal.{RefusesByOutcome}
 use Rattle.fetch_session.specs.Session.{MboxSession, Session, keeping, kept, mbox_kept}
 use Rattle.fetch_session.specs.Target.{AfterTakingIn, IsSoundMaildir, IsSoundMbox, is_sound, maildir_of, mbox_of, stores_of, target_of}
@@ -35,10 +37,20 @@ PreviewsSession link disk file now old wire preview new wire' =
     (link.history wire) (keeping left (file.stored old.file)) preview (link.history wire')
     (keeping (stores_of disk file new.store) (file.stored new.file)))
 
--- what is told is the report of the session that was run, or what its preview says
+-- a run would be cut, and nothing is said of its messages
+pub record IsCutShort (total : ℕ) (said : Preview) : Type 0 where
+  pub fault : Fault
+  pub outcome : said.outcome ≡ Cut fault
+  pub nothing : told_in said ≡ told_nothing total
+
+-- what is said ahead of a run: what its preview says; or, if the preview found no fault, one that would cut the run
+abbrev pub SaysAhead : Preview → Preview → Type 0
+SaysAhead preview said = (said ≡ preview) ⊎ ((preview.outcome ≡ Ended) × IsCutShort preview.total said)
+
+-- what is told is the report of the session that was run, or what is said ahead of one
 abbrev pub HoldsSession : {W D F : Type 0} → WireGhosts W → DiskGhosts D → FileGhosts F → Bool → ℕ → Holding D F → W → Told → Holding D F
     → W → Type 0
 HoldsSession link disk file pretends now old wire (Done report) new wire' =
     (pretends ≡ false) × RunsSession link disk file now old wire report new wire'
-HoldsSession link disk file pretends now old wire (Ahead preview) new wire' =
-    (pretends ≡ true) × PreviewsSession link disk file now old wire preview new wire'
+HoldsSession link disk file pretends now old wire (Ahead said) new wire' =
+    (pretends ≡ true) × ((preview : Preview) × PreviewsSession link disk file now old wire preview new wire' × SaysAhead preview said)

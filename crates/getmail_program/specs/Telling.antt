@@ -7,8 +7,10 @@ use Rattle.fetch_session.specs.declared.fault.Fault.{Fault}
 use Rattle.fetch_session.specs.declared.report.LeftOut.{LeftOut}
 use Rattle.fetch_session.specs.declared.report.Outcome.{Outcome}
 use Rattle.fetch_session.specs.declared.report.Outcome.TheVariants.{Ended, Cut}
+use Rattle.fetch_session.specs.declared.prospect.Prospect.{Prospect}
+use Rattle.fetch_session.specs.Reasons.{told_report}
 use Rattle.fetch_session.specs.Telling.{preview_text}
-use Rattle.fetch_session.specs.Text.{fault_text, outcome_number, report_text}
+use Rattle.fetch_session.specs.Text.{fault_text, outcome_number}
 use Rattle.getmail_program.specs.declared.output.Output.{Output}
 use Rattle.getmail_program.specs.declared.output.Refusal.{Refusal}
 use Rattle.getmail_program.specs.declared.output.Refusal.TheVariants.{NoMemory, Refused}
@@ -24,9 +26,17 @@ abbrev pub outcome_of : Told → Outcome
 outcome_of (Done report) = report.outcome
 outcome_of (Ahead preview) = preview.outcome
 
-abbrev pub text_of : Settings → Told → List ℕ
-text_of settings (Done report) = report_text report settings
-text_of settings (Ahead preview) = preview_text preview settings
+-- a report has the reasons why messages were passed over, if a plan is known
+abbrev pub text_of : Settings → List Prospect → Told → List ℕ
+text_of settings plan (Done report) = told_report plan report settings
+text_of settings plan (Ahead preview) = preview_text preview settings
+
+-- what a session said was written to `out`, and nothing else; there are reasons only if they are asked for
+pub record Reported {O : Type 0} (contents : O → Option (List ℕ)) (explains : Bool) (settings : Settings) (told : Told) (out out' : Output O)
+    : Type 0 where
+  pub plan : List Prospect
+  pub asked : explains ≡ false → plan ≡ []
+  pub puts : Puts contents out (text_of settings plan told) out'
 
 -- the plan passes over all that is listed, or nothing was to be done
 abbrev pub is_idle : Told → Bool
@@ -102,31 +112,26 @@ pub record TellsCut {E : Type 0} (contents : E → Option (List ℕ)) (settings 
   pub puts : Puts contents old.err (outcome_line outcome ++ reason) new.err
   pub same : new.says_why ≡ old.says_why
 
--- the exit status: 0 if the session ended, all was written, and nothing is foreseen that would cut a run
-abbrev pub status_when : Outcome → Option Refusal → Outcome → ℕ
-status_when Ended None Ended = 0
-status_when Ended None (Cut fault) = 1
-status_when Ended (Some why) foreseen = 1
-status_when (Cut fault) why foreseen = 1
+-- the exit status: 0 if the session ended and all was written
+abbrev pub status_when : Outcome → Option Refusal → ℕ
+status_when Ended None = 0
+status_when Ended (Some why) = 1
+status_when (Cut fault) why = 1
 
--- to `err` were written the line of the fault that cut a session with its reason, the line of a text that wasn't written, after a preview
--- the line of the fault that would cut a run, with its reason, and the line on messages that were left out
-pub record TellsErrors {E : Type 0} (contents : E → Option (List ℕ)) (pretends : Bool) (settings : Settings) (told : Told)
+-- to `err` were written the line of the fault that cut a session with its reason, the line of a text that wasn't written, and the line
+-- on messages that were left out
+pub record TellsErrors {E : Type 0} (contents : E → Option (List ℕ)) (settings : Settings) (told : Told)
     (refusal : Option Refusal) (old : Errors E) (fetched : Fetched) (new : Errors E) : Type 0 where
   pub idle : fetched.is_idle ≡ is_idle told
-  pub foreseen : Outcome
-  pub run : pretends ≡ false → foreseen ≡ Ended
-  pub status : fetched.status ≡ status_when (outcome_of told) refusal foreseen
+  pub status : fetched.status ≡ status_when (outcome_of told) refusal
   pub reason : List ℕ
   pub is_reason : IsReason settings old.says_why (outcome_of told) reason
-  pub further : List ℕ
-  pub is_further : IsReason settings old.says_why foreseen further
-  pub said : Puts contents old.err ((((outcome_line (outcome_of told) ++ reason) ++ unwritten_line (outcome_of told) refusal)
-      ++ (outcome_line foreseen ++ further)) ++ left_out_said settings old.says_why told) new.err
+  pub said : Puts contents old.err (((outcome_line (outcome_of told) ++ reason) ++ unwritten_line (outcome_of told) refusal)
+      ++ left_out_said settings old.says_why told) new.err
 
 -- what a session said was written to `out`, and nothing else; and the rest to `err`
-pub record TellsAll {O E : Type 0} (out_contents : O → Option (List ℕ)) (err_contents : E → Option (List ℕ)) (pretends : Bool)
+pub record TellsAll {O E : Type 0} (out_contents : O → Option (List ℕ)) (err_contents : E → Option (List ℕ)) (explains : Bool)
     (settings : Settings) (told : Told) (out : Output O) (old : Errors E) (fetched : Fetched) (out' : Output O) (new : Errors E)
     : Type 0 where
-  pub reported : Puts out_contents out (text_of settings told) out'
-  pub errors : TellsErrors err_contents pretends settings told out'.refusal old fetched new
+  pub reported : Reported out_contents explains settings told out out'
+  pub errors : TellsErrors err_contents settings told out'.refusal old fetched new

@@ -4,11 +4,11 @@ ghost use Rattle.rc_file.specs.Settings.{IsValid};
 ghost use Rattle.fetch_session.specs.Target.{IsCalm, kind_of};
 ghost use Rattle.getmail_program.specs.Places.{kind_in};
 
-use crate::ending::Manner;
 use crate::output::Output;
 use crate::run::fetch_over;
 use crate::setup::{Paths, Setup, account_of};
 use crate::shown_wire::ShownWire;
+use crate::told::Manner;
 use crate::why::Errors;
 use fetch_rules::{Dest, Settings};
 use fetch_session::{Account, Store};
@@ -95,6 +95,32 @@ fn tell_rests<R: Files + Clock + AllocGlobal + Clone + Drop, E: Write>(
     }
 }
 
+/// The store of a run.
+type HostStore<'a, R> = Store<HostMaildir<'a, R>, HostRecord<'a, R>>;
+
+/// Writes where is kept what a run cut off from an mboxrd file, if it has one.
+fn tell_kept<R: Files + Clock + AllocGlobal + Clone + Drop, E: Write>(
+    store: &HostStore<'_, R>,
+    rests: &str,
+    err: &mut Output<E>,
+) {
+    if let Store::Mboxrd(mbox) = store {
+        tell_rests(mbox, rests, err);
+    }
+}
+
+/// Removes what killed runs of an account left.
+fn sweep<R: Files + Clock + AllocGlobal + Clone + Drop>(
+    settings: &Settings,
+    store: &HostStore<'_, R>,
+    record: &HostRecord<'_, R>,
+) {
+    if let Store::Maildir(maildir) = store {
+        maildir.sweep(&account_of(settings));
+    }
+    record.sweep();
+}
+
 /// Closes the account of a run, and removes what killed runs of it left, unless the run had nothing
 /// to fetch. Where is kept what it cut off from an mboxrd file goes to standard error.
 fn close<R: Files + Clock + AllocGlobal + Clone + Drop, H: BuildHasher + Drop, E: Write>(
@@ -104,16 +130,10 @@ fn close<R: Files + Clock + AllocGlobal + Clone + Drop, H: BuildHasher + Drop, E
     err: &mut Output<E>,
 ) {
     let (settings, store, record) = account.into_parts();
-    if let Store::Mboxrd(mbox) = &store {
-        tell_rests(mbox, rests, err);
+    tell_kept(&store, rests, err);
+    if !is_idle {
+        sweep(&settings, &store, &record);
     }
-    if is_idle {
-        return;
-    }
-    if let Store::Maildir(maildir) = &store {
-        maildir.sweep(&account_of(&settings));
-    }
-    record.sweep();
 }
 
 /// Runs one session on a machine's files, or only previews it, and returns the exit status. The caller has
@@ -151,6 +171,7 @@ pub fn fetch_at<
         now: seconds_now(rt),
         destination: paths.destination.as_str(),
         pretends,
+        explains: errors.explains,
     };
     let fetched = fetch_over(rt, &mut account, &mut wire, manner, out, &mut errors);
     let rests = paths.rests.as_str();

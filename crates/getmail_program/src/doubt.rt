@@ -1,19 +1,13 @@
 //! What would keep a run from storing messages although a preview of it found nothing wrong.
+ghost use Rattle.getmail_program.specs.Holding.{SaysAhead};
+
 use crate::place::joined;
 use fetch_rules::Dest;
-use fetch_session::{Fault, Why};
+use fetch_session::{Fate, Fault, Outcome, Preview, Why};
 use std::io::{self, ErrorKind, Read};
 use std::rt::Files;
+use std::vec::Vec;
 use trace::System;
-
-/// What would keep a run from storing messages.
-#[derive(Clone, Copy)]
-pub struct Doubt {
-    /// What would cut the run.
-    pub fault: Fault,
-    /// Whether it would be only if there is a message to fetch.
-    pub only_to_fetch: bool,
-}
 
 /// The folder of a Maildir in which messages are made.
 const TMP: &str = "tmp";
@@ -65,18 +59,48 @@ fn doubt_of_mbox<R: Files + AllocGlobal>(system: &System<'_, R>, path: &str) -> 
     }
 }
 
-/// What would keep a run from storing messages at a destination of this path. Nothing is changed.
-pub fn doubt_of<R: Files + AllocGlobal>(
+/// Whether a run would fetch a message.
+fn would_fetch(preview: &Preview) -> bool {
+    preview.prospects.iter().any(|prospect| matches!(
+        prospect.fate,
+        Fate::Fetched | Fate::FetchedAndDeleted
+    ))
+}
+
+/// What would cut a run, whose destination has this path.
+fn doubt_of<R: Files + AllocGlobal>(
     system: &System<'_, R>,
     dest: &Dest,
     path: &str,
-) -> Option<Doubt> {
-    let (fault, only_to_fetch) = match dest {
-        Dest::Maildir(_) => (doubt_of_maildir(system, path)?, true),
-        Dest::Mboxrd(_) => (doubt_of_mbox(system, path)?, false),
-    };
-    Some(Doubt {
-        fault,
-        only_to_fetch,
-    })
+    preview: &Preview,
+) -> Option<Fault> {
+    match dest {
+        Dest::Maildir(_) if !would_fetch(preview) => None,
+        Dest::Maildir(_) => doubt_of_maildir(system, path),
+        Dest::Mboxrd(_) => doubt_of_mbox(system, path),
+    }
+}
+
+/// What is said ahead of a run: what its preview says; or, if the preview found no fault, one that would keep
+/// the run from storing messages at this path. Nothing is changed.
+pub fn said_ahead<R: Files + AllocGlobal>(
+    system: &System<'_, R>,
+    dest: &Dest,
+    path: &str,
+    preview: Preview,
+) -> Preview
+    ensures { SaysAhead preview result }
+{
+    if let Outcome::Cut(_) = preview.outcome {
+        return preview;
+    }
+    match doubt_of(system, dest, path, &preview) {
+        Some(fault) => Preview {
+            outcome: Outcome::Cut(fault),
+            total: preview.total,
+            unsettled: false,
+            prospects: Vec::new(system.alloc()),
+        },
+        None => preview,
+    }
 }

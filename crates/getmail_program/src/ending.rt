@@ -1,9 +1,8 @@
 //! What is written to standard error at a session's end.
-ghost use Rattle.std.specs.Prelude.{◌≡◌, ◌≤◌, false};
+ghost use Rattle.std.specs.Prelude.{◌≡◌, ◌≤◌};
 ghost use Rattle.getmail_program.specs.Output.{Puts};
 ghost use Rattle.getmail_program.specs.Telling.{TellsCut, TellsErrors, lacks_memory, outcome_line, status_when, unwritten_line};
 
-use crate::doubt::doubt_of;
 use crate::failure::OUT_OF_MEMORY;
 use crate::fault_line::put_fault;
 use crate::left_out::tell_left_out;
@@ -14,22 +13,9 @@ use fetch_rules::Settings;
 use fetch_session::{Outcome, fault_number};
 use std::alloc::Global;
 use std::io::Write;
-use std::rt::Files;
-use trace::System;
 
 /// The number of want of memory among faults.
 const NO_MEMORY: u8 = 13;
-
-/// When a session is, where its texts go, and whether it only shows what it would do.
-#[derive(Clone, Copy)]
-pub struct Manner<'a> {
-    /// In seconds since 1970.
-    pub now: u64,
-    /// The destination's path.
-    pub destination: &'a str,
-    /// Whether nothing is to be done.
-    pub pretends: bool,
-}
 
 /// How a run ended.
 #[derive(Clone, Copy)]
@@ -90,58 +76,35 @@ pub fn unwritten_line(outcome: &Outcome, refusal: Option<Refusal>) -> &'static s
     }
 }
 
-/// How a run would end although its preview came to its end.
-fn foreseen<R: Files + AllocGlobal>(
-    system: &System<'_, R>,
-    settings: &Settings,
-    manner: Manner<'_>,
-    told: &Told,
-) -> Outcome
-    ensures { manner.entry.pretends ≡ false → result ≡ Outcome.Ended }
-{
-    if !manner.pretends || told.outcome() != Outcome::Ended {
-        return Outcome::Ended;
-    }
-    match doubt_of(system, &settings.dest, manner.destination) {
-        Some(doubt) if told.would_fetch() || !doubt.only_to_fetch => Outcome::Cut(doubt.fault),
-        _ => Outcome::Ended,
-    }
-}
-
 /// The exit status.
-fn status_when(outcome: Outcome, refusal: Option<Refusal>, foreseen: Outcome) -> u8
-    ensures status { result ≡ status_when outcome refusal foreseen }
+fn status_when(outcome: Outcome, refusal: Option<Refusal>) -> u8
+    ensures status { result ≡ status_when outcome refusal }
     ensures within { result ≤ 1 }
 {
-    match (outcome, refusal, foreseen) {
-        (Outcome::Ended, None, Outcome::Ended) => 0,
+    match (outcome, refusal) {
+        (Outcome::Ended, None) => 0,
         _ => 1,
     }
 }
 
 /// Writes to standard error the line of the fault that cut a session and its reason, whether what it says
-/// wasn't written, after a preview the fault that would cut a run, and how many messages were left out.
-pub fn tell_all<R: Files + AllocGlobal, E: Write>(
-    rt: &R,
+/// wasn't written, and how many messages were left out.
+pub fn tell_all<E: Write>(
+    alloc: Global,
     settings: &Settings,
-    manner: Manner<'_>,
     told: &Told,
     refusal: Option<Refusal>,
     errors: &mut Errors<'_, E>,
 ) -> Fetched
     ensures within { result.status ≤ 1 }
-    ensures told { TellsErrors E.contents manner.entry.pretends settings.now told.now refusal errors.old result errors.new }
+    ensures told { TellsErrors E.contents settings.now told.now refusal errors.old result errors.new }
 {
-    let alloc = rt.alloc();
     let outcome = told.outcome();
     tell_cut(alloc, settings, &outcome, errors);
     errors.err.put(unwritten_line(&outcome, refusal).as_bytes());
-    let system = System::new(rt, &errors.reasons.store);
-    let ahead = foreseen(&system, settings, manner, told);
-    tell_cut(alloc, settings, &ahead, errors);
     tell_left_out(alloc, settings, told, errors);
     Fetched {
-        status: status_when(outcome, refusal, ahead),
+        status: status_when(outcome, refusal),
         is_idle: told.is_idle(),
     }
 }

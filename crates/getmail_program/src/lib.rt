@@ -21,7 +21,7 @@ mod transcript;
 mod why;
 
 pub use devices::fetch_at;
-pub use ending::{Fetched, Manner};
+pub use ending::Fetched;
 pub use failure::{Failure, explain, failure_of, tell};
 pub use output::{Output, Refusal};
 pub use place::home;
@@ -29,5 +29,5 @@ pub use rehearsal::rehearse;
 pub use run::fetch_over;
 pub use setup::{Paths, Setup, set_up};
 pub use shown_wire::ShownWire;
-pub use told::Told;
+pub use told::{Manner, Told};
 pub use why::{Errors, Reasons, fail};

@@ -94,16 +94,14 @@ fn write_outcome<W: Write>(
     output.flush()
 }
 
-/// Runs a session with these settings, and returns the exit status.
-fn rehearse_with<R: Read + Drop, W: Write + Drop, E: Write, T: Write + Drop>(
+/// Runs a session with these settings in memory. Returns how it came out, the store and the output.
+fn run_in_memory<R: Read + Drop, W: Write + Drop, T: Write + Drop>(
     alloc: Global,
     settings: Settings,
     streams: (R, W),
-    err: &mut E,
     trace: Option<T>,
-) -> u8
+) -> (Outcome, Store<MemoryMaildir, MemoryFile>, W)
     requires { IsValid settings }
-    ensures { result ≤ 1 }
 {
     let (input, output) = streams;
     let store = Store::Maildir(MemoryMaildir::new(alloc));
@@ -118,20 +116,46 @@ fn rehearse_with<R: Read + Drop, W: Write + Drop, E: Write, T: Write + Drop>(
     let mut wire = TracedWire::new(alloc, wire, trace, None, None);
     let report = session(&mut account, &mut wire, 0);
     let (_input, transcript) = wire.into_inner().into_parts();
-    let mut output = transcript.into_inner();
     let (_settings, store, _record) = account.into_parts();
-    let Store::Maildir(maildir) = store else {
-        return 1;
-    };
-    if let Err(error) = write_outcome(alloc, &mut output, &maildir, &report.outcome) {
+    (report.outcome, store, transcript.into_inner())
+}
+
+/// Writes the last lines, or why they can't be written, and returns the exit status.
+fn tell_end<W: Write, E: Write>(
+    alloc: Global,
+    output: &mut W,
+    maildir: &MemoryMaildir,
+    outcome: &Outcome,
+    err: &mut E,
+) -> u8
+    ensures { result ≤ 1 }
+{
+    if let Err(error) = write_outcome(alloc, output, maildir, outcome) {
         let line = unwritten_line(&Outcome::Ended, Some(refusal_of(&error)));
         let _ = err.write_all(line.as_bytes());
         return 1;
     }
-    if report.outcome == Outcome::Ended {
-        0
-    } else {
-        1
+    match outcome {
+        Outcome::Ended => 0,
+        Outcome::Cut(_) => 1,
+    }
+}
+
+/// Runs a session with these settings, and returns the exit status.
+fn rehearse_with<R: Read + Drop, W: Write + Drop, E: Write, T: Write + Drop>(
+    alloc: Global,
+    settings: Settings,
+    streams: (R, W),
+    err: &mut E,
+    trace: Option<T>,
+) -> u8
+    requires { IsValid settings }
+    ensures { result ≤ 1 }
+{
+    let (outcome, store, mut output) = run_in_memory(alloc, settings, streams, trace);
+    match &store {
+        Store::Maildir(maildir) => tell_end(alloc, &mut output, maildir, &outcome, err),
+        Store::Mboxrd(_) => 1,
     }
 }
 

@@ -5,10 +5,10 @@ ghost use Rattle.getmail_program.specs.Holding.{HoldsSession};
 ghost use Rattle.getmail_program.specs.Telling.{TellsAll};
 ghost use Rattle.getmail_program.specs.declared.told.Told.{Told};
 
-use crate::ending::{Fetched, Manner, tell_all};
+use crate::ending::{Fetched, tell_all};
 use crate::output::Output;
 use crate::shown_wire::ShownWire;
-use crate::told::hold;
+use crate::told::{Manner, hold};
 use crate::why::Errors;
 use fetch_session::Account;
 use mail_store::{FlatFile, MaildirDisk};
@@ -16,6 +16,7 @@ use pop3_wire::Wire;
 use std::hash::BuildHasher;
 use std::io::Write;
 use std::rt::Files;
+use trace::System;
 
 /// Runs one session of the account over the link, or only previews it. What it says goes to `out`, all else
 /// to standard error. The caller has drawn the hasher's keys and the mark of the files.
@@ -42,9 +43,11 @@ pub fn fetch_over<
     ensures fetched { (told : Told)
         × HoldsSession W.Wire D.MaildirDisk F.FlatFile manner.entry.pretends manner.entry.now account.old wire.old.wire told
         account.new wire.new.wire
-        × TellsAll O.contents E.contents manner.entry.pretends account.old.settings told out.old errors.old result out.new
+        × TellsAll O.contents E.contents manner.entry.explains account.old.settings told out.old errors.old result out.new
         errors.new }
 {
-    let told = hold(rt.alloc(), account, wire, manner, out);
-    tell_all(rt, account.settings(), manner, &told, out.refusal(), errors)
+    let reasons = errors.reasons;
+    let system = System::new(rt, &reasons.store);
+    let told = hold(&system, account, wire, manner, out);
+    tell_all(rt.alloc(), account.settings(), &told, out.refusal(), errors)
 }

@@ -4,10 +4,31 @@ ghost use Rattle.std.proofs.Common.{refl, ◌∙◌};
 ghost use Rattle.getmail_program.specs.Teller.{HasSameLinks, WroteMore, wrote_nothing, wrote_both};
 
 use crate::output::Output;
-use fetch_session::{Listener, ReportLine, line_text};
+use fetch_session::{Listener, Prospect, ReportLine, explained_line};
 use std::alloc::{AllocError, Global};
 use std::io::Write;
 use std::vec::Vec;
+
+/// What a teller keeps.
+#[derive(Drop)]
+pub struct Notes {
+    /// What it wrote.
+    pub written: Vec<u8>,
+    /// What is planned for each message, if it asks for it.
+    pub plan: Vec<Prospect>,
+}
+
+impl Notes {
+    /// Nothing yet.
+    pub fn new(alloc: Global) -> Notes
+        ensures { result.written.items ≡ [] }
+    {
+        Notes {
+            written: Vec::new(alloc),
+            plan: Vec::new(alloc),
+        }
+    }
+}
 
 /// Writes the first line of a report and the lines of its messages as they come, up to the first deletion:
 /// a cut may take back deletions. It keeps what it wrote. After a refused write it writes no more.
@@ -16,29 +37,33 @@ pub struct Teller<'a, O> {
     pub(crate) alloc: Global,
     pub(crate) out: &'a mut Output<O>,
     pub(crate) verbose: u8,
+    pub(crate) explains: bool,
     pub(crate) heard: usize,
     pub(crate) is_open: bool,
-    pub(crate) written: &'a mut Vec<u8>,
+    pub(crate) notes: &'a mut Notes,
 }
 
 impl<'a, O: Write> Teller<'a, O> {
-    /// Nothing is written yet. With `verbose` 0 nothing will be.
+    /// Nothing is written yet. With `verbose` 0 nothing will be. With `explains` the lines of messages that are
+    /// passed over have the reasons.
     pub fn new(
         alloc: Global,
         out: &'a mut Output<O>,
-        written: &'a mut Vec<u8>,
+        notes: &'a mut Notes,
         verbose: u8,
+        explains: bool,
     ) -> Teller<'a, O>
-        ensures links { (result.out.ghost_name ≡ out.entry.ghost_name) × (result.written.ghost_name ≡ written.entry.ghost_name) }
-        ensures start { (result.out.now ≡ out.old) × (result.written.now.items ≡ written.old.items) }
+        ensures links { (result.out.ghost_name ≡ out.entry.ghost_name) × (result.notes.ghost_name ≡ notes.entry.ghost_name) }
+        ensures start { (result.out.now ≡ out.old) × (result.notes.now.written.items ≡ notes.old.written.items) }
     {
         Teller {
             alloc,
             out,
             verbose,
+            explains,
             heard: 0,
             is_open: verbose > 0,
-            written,
+            notes,
         }
     }
 
@@ -51,7 +76,7 @@ impl<'a, O: Write> Teller<'a, O> {
             return;
         }
         if let Ok(text) = text {
-            if let Ok(()) = self.written.extend_from_slice(text.as_bytes()) {
+            if let Ok(()) = self.notes.written.extend_from_slice(text.as_bytes()) {
                 return self.out.put(text.as_bytes());
             }
         }
@@ -62,11 +87,19 @@ impl<'a, O: Write> Teller<'a, O> {
 impl<'a, O: Write> Listener for Teller<'a, O> {
     ghost goes_on = { λ a b. HasSameLinks a b × WroteMore O.contents a b };
 
+    fn asks_why(&self) -> bool {
+        self.explains && self.verbose == 2
+    }
+
+    fn expect(&mut self, plan: Vec<Prospect>) {
+        self.notes.plan = plan;
+    }
+
     fn hear(&mut self, total: u32, lines: &[ReportLine]) {
         for i in self.heard..lines.len() {
             let line = &lines[i];
             self.is_open = self.is_open && !matches!(line, ReportLine::Deleted { .. });
-            let text = line_text(self.alloc, self.verbose, total, line);
+            let text = explained_line(self.alloc, self.verbose, total, &self.notes.plan, line);
             self.put(text);
         }
         self.heard = lines.len();

@@ -1,27 +1,42 @@
 //! What a session says at its end.
-ghost use Rattle.std.specs.Prelude.{◌≡◌, IfOk};
-ghost use Rattle.std.specs.String.{string_bytes};
+ghost use Rattle.std.specs.Prelude.{◌≡◌, [], false, true};
+ghost use Rattle.fetch_session.specs.Reasons.{told_report};
 ghost use Rattle.fetch_session.specs.Target.{kind_of};
+ghost use Rattle.fetch_session.specs.Telling.{preview_text};
 ghost use Rattle.getmail_program.specs.Holding.{HoldsSession, RunsSession};
 ghost use Rattle.getmail_program.specs.Output.{Puts};
 ghost use Rattle.getmail_program.specs.Teller.{HasSameLinks, WroteMore};
-ghost use Rattle.getmail_program.specs.Telling.{is_idle, outcome_of, text_of};
+ghost use Rattle.getmail_program.specs.Telling.{Reported, is_idle, outcome_of};
 
-use crate::ending::Manner;
+use crate::doubt::said_ahead;
 use crate::output::Output;
 use crate::shown_wire::ShownWire;
-use crate::teller::Teller;
+use crate::teller::{Notes, Teller};
 use fetch_rules::Settings;
 use fetch_session::{
-    Account, Fate, Outcome, Preview, Report, heading, pretend, preview_text, report_text,
-    session_told,
+    Account, Outcome, Preview, Prospect, Report, heading, pretend, preview_text, session_told,
+    told_report,
 };
 use mail_store::{FlatFile, MaildirDisk};
 use pop3_wire::Wire;
-use std::alloc::{AllocError, Global};
+use std::alloc::Global;
 use std::hash::BuildHasher;
 use std::io::Write;
-use std::vec::Vec;
+use std::rt::Files;
+use trace::System;
+
+/// When a session is, where its texts go, and what is said of it.
+#[derive(Clone, Copy)]
+pub struct Manner<'a> {
+    /// In seconds since 1970.
+    pub now: u64,
+    /// The destination's path.
+    pub destination: &'a str,
+    /// Whether nothing is to be done but to say what would be.
+    pub pretends: bool,
+    /// Whether the report says why messages are passed over.
+    pub explains: bool,
+}
 
 /// What a session says at its end.
 #[derive(Drop)]
@@ -52,43 +67,33 @@ impl Told {
             Told::Ahead(_) => true,
         }
     }
+}
 
-    /// Whether it says that a run would fetch a message.
-    pub fn would_fetch(&self) -> bool {
-        match self {
-            Told::Done(_) => false,
-            Told::Ahead(preview) => preview.prospects.iter().any(|prospect| matches!(
-                prospect.fate,
-                Fate::Fetched | Fate::FetchedAndDeleted
-            )),
-        }
+/// Writes what a preview says.
+fn put_preview<O: Write>(alloc: Global, preview: &Preview, settings: &Settings, out: &mut Output<O>)
+    ensures { Puts O.contents out.old (preview_text preview.now settings.now) out.new }
+{
+    match preview_text(alloc, preview, settings) {
+        Ok(text) => out.put(text.as_bytes()),
+        Err(_) => out.lack_memory(),
     }
+}
 
-    /// Its report, or the lines on what a run would do.
-    fn text(&self, alloc: Global, settings: &Settings) -> Result<String, AllocError>
-        ensures { IfOk result (λ text. string_bytes text ≡ text_of settings.now self.now) }
-    {
-        match self {
-            Told::Done(report) => report_text(alloc, report, settings),
-            Told::Ahead(preview) => preview_text(alloc, preview, settings),
-        }
-    }
-
-    /// Writes the rest of its text after what was written of it.
-    fn write<O: Write>(
-        &self,
-        alloc: Global,
-        settings: &Settings,
-        written: &[u8],
-        out: &mut Output<O>,
-    )
-        ensures { (start : Output O) → Puts O.contents start written.now out.old
-            → Puts O.contents start (text_of settings.now self.now) out.new }
-    {
-        match self.text(alloc, settings) {
-            Ok(text) => out.put_rest(written, text.as_bytes()),
-            Err(_) => out.lack_memory(),
-        }
+/// Writes the rest of a report after what was written of it.
+fn put_report<O: Write>(
+    alloc: Global,
+    report: &Report,
+    settings: &Settings,
+    plan: &[Prospect],
+    written: &[u8],
+    out: &mut Output<O>,
+)
+    ensures { (start : Output O) → Puts O.contents start written.now out.old
+        → Puts O.contents start (told_report plan.now report.now settings.now) out.new }
+{
+    match told_report(alloc, report, settings, plan) {
+        Ok(text) => out.put_rest(written, text.as_bytes()),
+        Err(_) => out.lack_memory(),
     }
 }
 
@@ -109,30 +114,104 @@ fn hold_over<W: Wire, S: Write, D: MaildirDisk, F: FlatFile, H: BuildHasher, O: 
 }
 
 /// Runs one session of the account over the link. The first line of its report and those of its messages are
-/// written as they come, up to a deletion. Returns the report, and what was written of it.
+/// written as they come, up to a deletion. Returns the report, and what was written of it and heard.
 fn hold_telling<W: Wire, S: Write, D: MaildirDisk, F: FlatFile, H: BuildHasher, O: Write>(
     alloc: Global,
     account: &mut Account<D, F, H>,
     wire: &mut ShownWire<W, S>,
-    now: u64,
+    manner: Manner<'_>,
     out: &mut Output<O>,
-) -> (Report, Vec<u8>)
+) -> (Report, Notes)
     ensures settings { account.new.settings ≡ account.old.settings }
     ensures kind { kind_of account.new.store ≡ kind_of account.old.store }
-    ensures runs { RunsSession W.Wire D.MaildirDisk F.FlatFile now account.old wire.old.wire result.0 account.new wire.new.wire }
-    ensures told { Puts O.contents out.old result.1.items out.new }
+    ensures runs { RunsSession W.Wire D.MaildirDisk F.FlatFile manner.entry.now account.old wire.old.wire result.0 account.new wire.new.wire }
+    ensures told { Puts O.contents out.old result.1.written.items out.new }
 {
-    let mut written = Vec::new(alloc);
-    let mut teller = Teller::new(alloc, out, &mut written, account.settings().verbose);
+    let mut notes = Notes::new(alloc);
+    let verbose = account.settings().verbose;
+    let mut teller = Teller::new(alloc, out, &mut notes, verbose, manner.explains);
     teller.put(heading(alloc, account.settings()));
-    let report = hold_over(account, wire, now, &mut teller);
-    (report, written)
+    let report = hold_over(account, wire, manner.now, &mut teller);
+    (report, notes)
+}
+
+/// The plan, if reasons are asked for.
+fn asked_for(explains: bool, plan: &[Prospect]) -> &[Prospect]
+    ensures { explains ≡ false → result.now ≡ [] }
+{
+    if explains { plan } else { &[] }
+}
+
+/// Runs one session of the account over the link, wipes the line of progress, and writes the report.
+fn hold_run<W: Wire, S: Write, D: MaildirDisk, F: FlatFile, H: BuildHasher, O: Write>(
+    alloc: Global,
+    account: &mut Account<D, F, H>,
+    wire: &mut ShownWire<W, S>,
+    manner: Manner<'_>,
+    out: &mut Output<O>,
+) -> Told
+    ensures settings { account.new.settings ≡ account.old.settings }
+    ensures kind { kind_of account.new.store ≡ kind_of account.old.store }
+    ensures held { HoldsSession W.Wire D.MaildirDisk F.FlatFile false manner.entry.now account.old wire.old.wire result
+        account.new wire.new.wire }
+    ensures reported { Reported O.contents manner.entry.explains account.old.settings result out.old out.new }
+{
+    let (report, notes) = hold_telling(alloc, account, wire, manner, out);
+    wire.wipe();
+    let plan = asked_for(manner.explains, &notes.plan);
+    put_report(
+        alloc,
+        &report,
+        account.settings(),
+        plan,
+        &notes.written,
+        out,
+    );
+    Told::Done(report)
+}
+
+/// Previews a session of the account over the link, wipes the line of progress, and writes what a run would do.
+fn hold_preview<
+    R: Files + AllocGlobal,
+    W: Wire,
+    S: Write,
+    D: MaildirDisk,
+    F: FlatFile,
+    H: BuildHasher,
+    O: Write,
+>(
+    system: &System<'_, R>,
+    account: &mut Account<D, F, H>,
+    wire: &mut ShownWire<W, S>,
+    manner: Manner<'_>,
+    out: &mut Output<O>,
+) -> Told
+    ensures settings { account.new.settings ≡ account.old.settings }
+    ensures kind { kind_of account.new.store ≡ kind_of account.old.store }
+    ensures held { HoldsSession W.Wire D.MaildirDisk F.FlatFile true manner.entry.now account.old wire.old.wire result
+        account.new wire.new.wire }
+    ensures reported { Reported O.contents manner.entry.explains account.old.settings result out.old out.new }
+{
+    let preview = pretend(account, wire, manner.now);
+    wire.wipe();
+    let settings = account.settings();
+    let said = said_ahead(system, &settings.dest, manner.destination, preview);
+    put_preview(system.alloc(), &said, settings, out);
+    Told::Ahead(said)
 }
 
 /// Runs one session of the account over the link, or only previews it, and wipes the line of progress. What it
 /// says is written to `out`.
-pub fn hold<W: Wire, S: Write, D: MaildirDisk, F: FlatFile, H: BuildHasher, O: Write>(
-    alloc: Global,
+pub fn hold<
+    R: Files + AllocGlobal,
+    W: Wire,
+    S: Write,
+    D: MaildirDisk,
+    F: FlatFile,
+    H: BuildHasher,
+    O: Write,
+>(
+    system: &System<'_, R>,
     account: &mut Account<D, F, H>,
     wire: &mut ShownWire<W, S>,
     manner: Manner<'_>,
@@ -142,18 +221,10 @@ pub fn hold<W: Wire, S: Write, D: MaildirDisk, F: FlatFile, H: BuildHasher, O: W
     ensures kind { kind_of account.new.store ≡ kind_of account.old.store }
     ensures held { HoldsSession W.Wire D.MaildirDisk F.FlatFile manner.entry.pretends manner.entry.now account.old wire.old.wire result
         account.new wire.new.wire }
-    ensures reported { Puts O.contents out.old (text_of account.old.settings result) out.new }
+    ensures reported { Reported O.contents manner.entry.explains account.old.settings result out.old out.new }
 {
-    let (told, written) = if manner.pretends {
-        (
-            Told::Ahead(pretend(account, wire, manner.now)),
-            Vec::new(alloc),
-        )
-    } else {
-        let (report, written) = hold_telling(alloc, account, wire, manner.now, out);
-        (Told::Done(report), written)
-    };
-    wire.wipe();
-    told.write(alloc, account.settings(), written.as_slice(), out);
-    told
+    if manner.pretends {
+        return hold_preview(system, account, wire, manner, out);
+    }
+    hold_run(system.alloc(), account, wire, manner, out)
 }

@@ -49,6 +49,8 @@ pub struct Errors<'a, E> {
     pub shows_progress: bool,
     /// Whether reasons are written.
     pub says_why: bool,
+    /// Whether the report, on standard output, says why messages are passed over.
+    pub explains: bool,
     pub reasons: &'a Reasons,
 }
 

@@ -163,3 +163,14 @@ returns-clause-store g c = store_on (omega arith) (stood g (goal.at.returns-clau
 
 pub returns-in-Err-clause-link : goal.returns-in-Err-clause-link
 returns-in-Err-clause-link g c = link_with_tail (link_idle {limit = length c.args.listing.now * step_limit} c.plain.ensures)
+
+-- ---- what the listener heard
+
+pub returns-in-Err-do_steps-clause-heard : goal.returns-in-Err-do_steps-clause-heard
+returns-in-Err-do_steps-clause-heard g c = g.met.L.Listener.goes_further _ _ _ c.tell_plan.ensures c.do_steps.ensures.heard
+
+pub returns-in-Ok-end-clause-heard : goal.returns-in-Ok-end-clause-heard
+returns-in-Ok-end-clause-heard g c = g.met.L.Listener.goes_further _ _ _ c.tell_plan.ensures c.do_steps.ensures.heard
+
+pub returns-clause-heard : goal.returns-clause-heard
+returns-clause-heard g c = g.met.L.Listener.goes_further _ _ _ c.tell_plan.ensures c.do_steps.ensures.heard

@@ -1,6 +1,6 @@
 use Rattle.std.proofs.Common.{◌∙◌, ℕ, List, ap, subst}
 use Rattle.getmail_program.specs.Output.{Puts}
-use Rattle.getmail_program.specs.Telling.{IsReason, TellsCut, left_out_said, status_when, unwritten_line}
+use Rattle.getmail_program.specs.Telling.{TellsCut, left_out_said, status_when, unwritten_line}
 use Rattle.getmail_program.proofs.OutputLemmas.{said}
 use Rattle.getmail_program.proofs.ending.tell_all.Goals as goal
 
@@ -10,19 +10,12 @@ returns-clause-told g c =
     c.outcome-outcome.ensures c.tell_cut.ensures in
     let unwritten = subst (λ (octets : List ℕ). Puts g.E.Write.contents c.tell_cut.new.errors.err octets c.put.new.self)
     (c.as_bytes.ensures.value ∙ c.unwritten_line.ensures ∙ ap (λ outcome. unwritten_line outcome c.args.refusal) c.outcome-outcome.ensures) c.put.ensures in
-    let left = subst (λ says_why. Puts g.E.Write.contents c.tell_cut-2.new.errors.err (left_out_said c.args.settings.now says_why c.args.told.now) c.tell_left_out.new.errors.err)
-    (c.tell_cut-2.ensures.same ∙ c.tell_cut.ensures.same) c.tell_left_out.ensures in
+    let left = subst (λ says_why. Puts g.E.Write.contents c.put.new.self (left_out_said c.args.settings.now says_why c.args.told.now) c.tell_left_out.new.errors.err)
+    c.tell_cut.ensures.same c.tell_left_out.ensures in
     record {
       idle = c.is_idle.ensures;
-      foreseen = c.foreseen-ahead.result;
-      run = c.foreseen-ahead.ensures;
-      status = c.status_when.ensures.status
-          ∙ ap (λ outcome. status_when outcome c.args.refusal c.foreseen-ahead.result) c.outcome-outcome.ensures;
+      status = c.status_when.ensures.status ∙ ap (λ outcome. status_when outcome c.args.refusal) c.outcome-outcome.ensures;
       reason = cut.reason;
       is_reason = cut.is_reason;
-      further = c.tell_cut-2.ensures.reason;
-      is_further = subst (λ says_why. IsReason c.args.settings.now says_why c.foreseen-ahead.result c.tell_cut-2.ensures.reason)
-          c.tell_cut.ensures.same c.tell_cut-2.ensures.is_reason;
-      said = said _ _ _ _ _ _ _ _ _ (left_out_said c.args.settings.now c.args.errors.now.says_why c.args.told.now) c.tell_left_out.new.errors.err cut unwritten
-          c.tell_cut-2.ensures left;
+      said = said _ _ _ _ _ _ _ (left_out_said c.args.settings.now c.args.errors.now.says_why c.args.told.now) c.tell_left_out.new.errors.err cut unwritten left;
     }
