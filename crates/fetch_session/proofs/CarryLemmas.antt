@@ -1,5 +1,5 @@
 -- What follows once a record is ready, and what of it outlives a loss of power.
-use Rattle.std.proofs.Common.{◌≡◌, ℕ, Bool, true, false, List, [], ◌∷◌, ◌++◌, length, None, refl, sym, ap, subst, ◌∙◌, inl, inr, arith, Result}
+use Rattle.std.proofs.Common.{◌≡◌, ℕ, Bool, true, false, List, [], ◌∷◌, ◌++◌, length, None, Option, refl, sym, ap, subst, ◌∙◌, inl, inr, arith, Result}
 use Rattle.std.proofs.lemmas.List.{length-map}
 use Rattle.std.proofs.lemmas.List.FromFn.{length-enumerate_from}
 use Rattle.pop3_wire.specs.Place.{Place}
@@ -23,12 +23,12 @@ use Rattle.fetch_session.specs.Report.{skips_of}
 use Rattle.fetch_session.specs.Scene.{Scene, scene}
 use Rattle.fetch_session.specs.Plan.{tasks_ahead, Unprepared}
 use Rattle.std.specs.Prelude.{◌⊎◌, All, Contains}
-use Rattle.mail_store.specs.Maildir.{names_of}
+use Rattle.mail_store.specs.Maildir.{File, Maildir, names_of}
 use Rattle.mail_store.specs.declared.maildir.disk.MaildirDisk.{Ghosts as DiskGhosts}
 use Rattle.mail_store.specs.declared.file.flat_file.FlatFile.{Ghosts as FileGhosts}
 use Rattle.fetch_session.specs.declared.account.Store.{Store}
 use Rattle.fetch_session.specs.declared.account.Store.TheVariants.{Maildir as InMaildir, Mboxrd as InMbox}
-use Rattle.fetch_session.specs.Lasting.{AllStayIn, AreSure, CarriedForGood, DoesForGood, IsUntouched, KeepsLeftIn, KeepsMailIn, Lasts, MailLasts, StayFrom}
+use Rattle.fetch_session.specs.Lasting.{AllStayIn, AreSure, CarriedForGood, DoesForGood, FoundLast, IsUntouched, KeepsLeftIn, KeepsMailIn, Lasts, MailLasts, NewsLast, StayFrom, outlives_in}
 use Rattle.std.specs.List.{AllByRecursion}
 use Rattle.std.proofs.lemmas.List.Elements.{recursion_from_All}
 use Rattle.fetch_session.proofs.FreshLemmas.{ahead}
@@ -54,6 +54,21 @@ stay_from disk files (AsFiles account) was items old (InMbox device) end settles
     nothing c = absurd (omega (arith, c.1))
 stay_from disk files AsEntries was items old mid end settles all keeps = tt
 
+-- the files that were found still outlive a loss of power
+lasting_on : (account : List ℕ) (rows : List Row) (items : List Item) (maildir : Maildir) (outlives outlives' : File → Type 0) → ((f : File) → outlives f → outlives' f)
+    → FoundLast account rows items maildir outlives → FoundLast account rows items maildir outlives'
+lasting_on account rows [] maildir outlives outlives' keeps news = tt
+lasting_on account rows (item ∷ items) maildir outlives outlives' keeps news = (
+  λ new held. let file = news.0 new held in (file.0, file.1, file.2, keeps file.0 file.3),
+  lasting_on account rows items maildir outlives outlives' keeps news.1,
+)
+
+news_on : {D F : Type 0} (disk : DiskGhosts D) (target : Target) (content : Option (List ℕ)) (items : List Item) (old : Stores) (mid end : Store D F)
+    → KeepsMailIn disk mid end → NewsLast disk target content items old mid → NewsLast disk target content items old end
+news_on disk (AsFiles account) content items old mid end keeps news =
+    λ was stood. lasting_on account was.rows items old.maildir (outlives_in disk mid) (outlives_in disk end) keeps.1 (news was stood)
+news_on disk AsEntries content items old mid end keeps news = tt
+
 -- steps that fetch nothing mark nothing
 quiet_ids : (steps : List Step) (items : List Item) (held : List Bool) → AllByRecursion IsQuiet steps → ids_ahead (tasks_planned steps items held) ≡ []
 quiet_ids [] items held quiet = refl
@@ -70,7 +85,8 @@ quiet_ids (s ∷ ss) (i ∷ is) (h ∷ hs) quiet =
 pub carried : {D F : Type 0} (disk : DiskGhosts D) (files : FileGhosts F) {safe : Type 0} {settings : Settings} {target : Target} {items : List Item} {now : ℕ} {place : Place} {store : Stores} {file : Stored} {lines : List ReportLine} {ready : Ready} {after : List Row}
     (was before : Store D F) {end : Store D F} (from mid_file : F) {f : F} {file' : Stored} (mid_lines : List ReportLine) (steps : List Step) (held : List Bool) {skipped : Skips} {r : Result (Unit {0}) Cut} {new : Scene}
     → mid_lines ≡ lines → IsReady settings target items now store file ready after (stores_of disk files before) file' → steps ≡ ready.steps.items → held ≡ ready.held.items → skipped ≡ skips_of settings after items now ready.steps.items
-    → (AreSure files was from → (All IsQuiet ready.steps.items × IsUntouched disk files was before from mid_file) ⊎ (safe × AllStayIn disk before × KeepsLeftIn disk files was store.maildir.files before)) → KeepsMailIn disk before end
+    → (AreSure files was from → (All IsQuiet ready.steps.items × IsUntouched disk files was before from mid_file)
+    ⊎ (safe × AllStayIn disk before × KeepsLeftIn disk files was store.maildir.files before × NewsLast disk target file.content items store before)) → KeepsMailIn disk before end
     → (ids_ahead (tasks_planned steps items held) ≡ [] → f ≡ mid_file)
     → DoesForGood disk files safe target (tasks_planned steps items held ++ says quit ∷ []) (scene place (stores_of disk files before) file' after mid_lines) r new end f
     → CarriedForGood disk files was from settings target items now place store file lines r new skipped end f
@@ -87,13 +103,21 @@ carried {D} {F} disk files {safe} {settings} {target} {items} {now} {place} {sto
       lasts = λ sure. by (Lasts disk files target (tasks_ahead settings target items now store after) mid r new good.does end f) good.lasts (firm sure);
     }
   where
-    by : (P : Type 0) → (safe → P) → (All IsQuiet ready.steps.items × IsUntouched disk files was before from mid_file) ⊎ (safe × AllStayIn disk before × KeepsLeftIn disk files was store.maildir.files before)
-        → (All IsQuiet (planned settings after items now) × IsUntouched disk files was end from f) ⊎ (P × MailLasts disk files was target store end)
+    by : (P : Type 0) → (safe → P) → (All IsQuiet ready.steps.items × IsUntouched disk files was before from mid_file)
+        ⊎ (safe × AllStayIn disk before × KeepsLeftIn disk files was store.maildir.files before × NewsLast disk target file.content items store before)
+        → (All IsQuiet (planned settings after items now) × IsUntouched disk files was end from f) ⊎ (P × MailLasts disk files was target store file.content items end)
     by P good (inl (quiet, still)) =
         let same = same_file (quiet_ids steps items held (subst (λ (ss : List Step). AllByRecursion IsQuiet ss) (sym steps_are) (recursion_from_All IsQuiet ready.steps.items quiet))) in
         inl (
           subst (λ (ss : List Step). All IsQuiet ss) is.steps quiet,
           subst (λ (g : F). IsUntouched disk files was end from g) (sym same) (record { mail = keeps_mail_on still.mail keeps; no_more = still.no_more; same = still.same }),
         )
-    by P good (inr (s, all, left)) =
-        inr (good s, record { stay = stay_from disk files target is.was items store before end is.settles all keeps; keeps = left_on disk files was before end store.maildir.files left keeps })
+    by P good (inr (s, all, left, news)) =
+        inr (
+          good s,
+          record {
+            stay = stay_from disk files target is.was items store before end is.settles all keeps;
+            keeps = left_on disk files was before end store.maildir.files left keeps;
+            news = news_on disk target file.content items store before end keeps news;
+          },
+        )

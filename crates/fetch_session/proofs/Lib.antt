@@ -6,6 +6,7 @@ mod IntakeLemmas
 mod LastLemmas
 mod LinkLemmas
 mod MboxLemmas
+mod NewsLemmas
 mod OpeningLemmas
 mod PartLemmas
 mod PlanLemmas

@@ -18,7 +18,7 @@ use Rattle.fetch_session.specs.declared.fault.Fault.TheVariants.{BadSeen, NoMemo
 use Rattle.fetch_session.specs.declared.fault.Why.TheVariants as why
 use Rattle.fetch_session.specs.declared.readiness.Found.{Found}
 use Rattle.fetch_session.specs.declared.readiness.Ready.{Ready}
-use Rattle.fetch_session.specs.Lasting.{KeepsLeftIn, KeepsMailIn, MergeLasts, ReadiesForGood, ReadyLasts, UnreadyLasts}
+use Rattle.fetch_session.specs.Lasting.{KeepsLeftIn, KeepsMailIn, MergeLasts, NewsLast, ReadiesForGood, ReadyLasts, UnreadyLasts}
 use Rattle.fetch_session.specs.Readiness.{FindsIn}
 use Rattle.fetch_session.specs.Record.{IsSecured, Reads}
 use Rattle.fetch_session.specs.Target.{AsFiles, Stores, Target, in_maildir, left_in, stores_of, target_of}
@@ -105,7 +105,8 @@ module _ {D F : Type 0} (disk : DiskGhosts D) (files : FileGhosts F) where
         → ReadyLasts disk files was mid target items now old r store f → ReadyLasts disk files was from target items now old r store f
     ready_from was store target items now old (Ok ready) (inl (quiet, un)) =
         inl (quiet, record { mail = un.mail; no_more = λ left may. no_more left (un.no_more left may); same = un.same ∙ same })
-    ready_from was store target items now old (Ok ready) (inr is) = inr is
+    ready_from was store target items now old (Ok ready) (inr (safe, stay, left, news)) =
+        inr (safe, stay, left, subst (λ (s : Stored). NewsLast disk target s.content items old store) same news)
     ready_from was store target items now old (Err fault) lasts = unready_from was store target items now old lasts
 
     pub readies_from : {safe sure : Type 0} {was store : Store D F} {settings : Settings} {target : Target} {items : List Item} {now : ℕ} {old : Stores} {r : Result Ready Fault}

@@ -1,10 +1,12 @@
 -- What of a session outlives a loss of power, by what its devices say.
-use Rattle.std.specs.Prelude.{◌≡◌, ◌≢◌, ◌⊎◌, ℕ, List, [], ◌∷◌, ◌++◌, length, Option, None, Some, Result, Ok, Err, All, Contains}
+use Rattle.std.specs.Prelude.{◌≡◌, ◌≢◌, ◌⊎◌, ℕ, Bool, true, false, List, [], ◌∷◌, ◌++◌, length, Option, None, Some, Result, Ok, Err, All, Contains}
 use Rattle.std.specs.List.{flat_map, AllByRecursion}
 use Rattle.mail_store.specs.declared.maildir.disk.MaildirDisk.{Ghosts as DiskGhosts}
 use Rattle.mail_store.specs.declared.file.flat_file.FlatFile.{Ghosts as FileGhosts}
 use Rattle.mail_store.specs.FlatFile.{Stored}
 use Rattle.mail_store.specs.Maildir.{File, Maildir, names_of}
+use Rattle.mail_store.specs.FileName.{is_held}
+use Rattle.mail_store.specs.Held.{HasLasting}
 use Rattle.mail_store.specs.Mboxrd.{entry_of}
 use Rattle.mail_store.specs.Settling.{MayBeLeft}
 use Rattle.mail_store.specs.Power.{AllStay, KeepsLeft, KeepsMail, KeepsWhole, LastsWhole, LeavesNoMore, Outlives}
@@ -12,7 +14,7 @@ use Rattle.mail_terms.specs.Listing.{Item}
 use Rattle.pop3_wire.specs.Link.{Link}
 use Rattle.pop3_wire.specs.Place.{Place, at}
 use Rattle.rc_file.specs.declared.settings.Settings.{Settings}
-use Rattle.fetch_rules.specs.Record.{Row, Held, Intent, none_open, marked_all}
+use Rattle.fetch_rules.specs.Record.{Row, Held, Intent, is_delivered, none_open, marked_all}
 use Rattle.fetch_rules.specs.RecordGrowth.{Grows}
 use Rattle.fetch_rules.specs.Plan.{IsQuiet, planned}
 use Rattle.fetch_session.specs.declared.account.Store.{Store}
@@ -67,6 +69,21 @@ IsSafeStore file (InMbox device) = file.is_sure device × LastsWhole (file.store
 abbrev pub AllStayIn : {D F : Type 0} → DiskGhosts D → Store D F → Type 0
 AllStayIn disk (InMaildir device) = AllStay (disk.maildir device) (disk.stays device)
 AllStayIn disk (InMbox device) = Unit {0}
+
+-- a file of each listed message that a Maildir holds and these rows don't show as delivered is there and outlives a loss of power
+abbrev pub FoundLast : List ℕ → List Row → List Item → Maildir → (File → Type 0) → Type 0
+FoundLast account rows items maildir outlives = AllByRecursion (λ (item : Item). is_delivered rows item.uid ≡ false
+    → is_held account maildir item.uid ≡ true → HasLasting account maildir outlives item.uid) items
+
+abbrev pub FoundLastIn : {D F : Type 0} → DiskGhosts D → List ℕ → List Row → List Item → Store D F → Type 0
+FoundLastIn disk account rows items (InMaildir device) = FoundLast account rows items (disk.maildir device) (disk.outlives device)
+FoundLastIn disk account rows items (InMbox device) = Unit {0}
+
+-- the same of the rows of whatever record a file stood for that had these bytes, with the files that a Maildir had
+abbrev pub NewsLast : {D F : Type 0} → DiskGhosts D → Target → Option (List ℕ) → List Item → Stores → Store D F → Type 0
+NewsLast disk (AsFiles account) content items old store = (was : Held) → Keeps content was
+    → FoundLast account was.rows items old.maildir (outlives_in disk store)
+NewsLast disk AsEntries content items old store = Unit {0}
 
 abbrev pub IsSafeWork : {D F H Z : Type 0} → FileGhosts F → Work D F H Z → Type 0
 IsSafeWork file work = IsSafe file work.ledger.file × IsSafeStore file work.store
@@ -221,7 +238,8 @@ abbrev pub ReadyLasts : {D F : Type 0} → DiskGhosts D → FileGhosts F → Sto
     → Store D F → F → Type 0
 ReadyLasts disk files was from target items now old (Ok ready) store f =
     (All IsQuiet ready.steps.items × IsUntouched disk files was store from f)
-    ⊎ ((IsSafe files f × IsSafeStore files store) × AllStayIn disk store × KeepsLeftIn disk files was old.maildir.files store)
+    ⊎ ((IsSafe files f × IsSafeStore files store) × AllStayIn disk store × KeepsLeftIn disk files was old.maildir.files store
+    × NewsLast disk target (files.stored from).content items old store)
 ReadyLasts disk files was from target items now old (Err fault) store f =
     UnreadyLasts disk files was from target items now old (files.stored from) store f
 
@@ -239,11 +257,13 @@ pub record UnpreparedForGood {D F : Type 0} (disk : DiskGhosts D) (files : FileG
   pub unprepared : Unprepared target items now place old file lines cut new
   pub lasts : AreSure files was from → UnreadyLasts disk files was from target items now old file store f
 
--- each file that was in a Maildir stays, and each that outlived a loss of power before still does, except for what readers took away
+-- each file that was in a Maildir stays, and each that outlived a loss of power before still does, except for what readers took away;
+-- and of each message that was found there and wasn't recorded as delivered, by a record's file of these bytes, one does now
 pub record MailLasts {D F : Type 0} (disk : DiskGhosts D) (files : FileGhosts F) (was : Store D F) (target : Target) (old : Stores)
-    (store : Store D F) : Type 0 where
+    (content : Option (List ℕ)) (items : List Item) (store : Store D F) : Type 0 where
   pub stay : StayFrom disk target old store
   pub keeps : KeepsLeftIn disk files was old.maildir.files store
+  pub news : NewsLast disk target content items old store
 
 -- what was planned was done, or as much as went well; and if no flush was refused before, nothing was to be fetched or deleted and nothing
 -- was written, or what was done outlives a loss of power and so does what was in the Maildir before
@@ -255,7 +275,7 @@ pub record CarriedForGood {D F : Type 0} (disk : DiskGhosts D) (files : FileGhos
   pub lasts : AreSure files was from
       → (All IsQuiet (planned settings carried.mid.rows items now) × IsUntouched disk files was store from f)
       ⊎ (Lasts disk files target (tasks_ahead settings target items now old carried.mid.rows) carried.mid result new carried.does store f
-      × MailLasts disk files was target old store)
+      × MailLasts disk files was target old file.content items store)
 
 abbrev pub CarriesForGood : {D F : Type 0} → DiskGhosts D → FileGhosts F → Store D F → F → Settings → Target → List Item → ℕ → Place → Stores
     → Stored → List ReportLine → Result (Unit {0}) Cut → Place → Stores → Stored → List ReportLine → Skips → Store D F → F → Type 0

@@ -1,15 +1,15 @@
 //! What a session knows before its plan is carried out: the record, and what the store holds.
-ghost use Rattle.std.specs.Prelude.{◌≡◌, ◌≢◌, ◌⊎◌, ℕ, Bool, List, [], false, true, map, All, None, Some, length, OnOk, IfOk, IfErr, IfSome};
+ghost use Rattle.std.specs.Prelude.{◌≡◌, ◌≢◌, ◌⊎◌, ℕ, Bool, List, [], false, true, not, map, All, None, Some, length, OnOk, IfOk, IfErr, IfSome};
 ghost use Rattle.std.specs.List.{AllByRecursion};
 ghost use Rattle.fetch_rules.specs.Intents.{closed_rows};
-ghost use Rattle.fetch_rules.specs.Record.{Loaded, has_row, none_open, merged};
+ghost use Rattle.fetch_rules.specs.Record.{Loaded, has_row, is_delivered, none_open, merged};
 ghost use Rattle.fetch_rules.specs.RecordFile.{file_of};
 ghost use Rattle.fetch_rules.specs.Plan.{IsQuiet, planned};
 ghost use Rattle.mail_store.specs.Fault.{IsDeviceFault};
 ghost use Rattle.fetch_session.specs.Mbox.{AsksMbox, SettlesIntent};
 ghost use Rattle.mail_store.specs.Maildir.{AfterTaking};
 ghost use Rattle.mail_store.specs.Power.{AllStay, KeepsLeft, KeepsMail, LeavesNoMore};
-ghost use Rattle.fetch_session.specs.Lasting.{AllStayIn, AreSure, IsSafe, IsSafeStore, KeepsLeftIn, KeepsMailIn, LeavesMerged};
+ghost use Rattle.fetch_session.specs.Lasting.{AllStayIn, AreSure, FoundLast, FoundLastIn, IsSafe, IsSafeStore, KeepsLeftIn, KeepsMailIn, LeavesMerged};
 ghost use Rattle.fetch_session.specs.Lasting.{ReadiesForGood, is_sure};
 ghost use Rattle.fetch_session.specs.Parts.{KeepsBegun};
 ghost use Rattle.fetch_session.specs.Target.{AfterTakingIn, flags_in, is_sound, kind_of, stores_of, target_of};
@@ -23,12 +23,12 @@ use crate::record::{grow, save};
 use crate::terms::Terms;
 use crate::work::{Ledger, Work};
 use fetch_rules::{
-    Listing, Seen, SeenFault, Step, ask_nothing, delivered_has_row, known_listings_change_nothing,
-    listed_has_row, plan, plan_of_known,
+    Listing, Seen, SeenFault, Step, ask_nothing, delivered_has_row, files_stand_for_one_record,
+    known_listings_change_nothing, listed_has_row, plan, plan_of_known,
 };
 use mail_store::{
-    AccountId, FlatFile, Folder, MaildirDisk, StoreFault, check_mbox, held, listed_size, peek_mbox,
-    settle_file,
+    AccountId, FlatFile, Folder, MaildirDisk, StoreFault, check_mbox, flush_held, held,
+    listed_size, peek_mbox, settle_file,
 };
 use std::alloc::{AllocError, Global};
 use std::hash::BuildHasher;
@@ -135,6 +135,50 @@ pub(crate) fn ask_held<D: MaildirDisk>(
     }
 }
 
+/// For each message, whether the record doesn't show it as delivered.
+fn undelivered<H: BuildHasher>(
+    alloc: Global,
+    seen: &Seen<H>,
+    listing: &Listing,
+) -> Result<Vec<bool>, AllocError>
+    ensures { IfOk result (λ flags. flags.items ≡ map (λ item. not (is_delivered seen.now.rows item.uid)) listing.now) }
+{
+    let mut flags = Vec::new(alloc);
+    for i in 0..listing.len() {
+        flags.push(!seen.is_delivered(listing.uid(i)))?;
+    }
+    Ok(flags)
+}
+
+/// As `ask_held`, and flushes the files of the messages that are held and that the record doesn't show
+/// as delivered yet.
+fn find_held<D: MaildirDisk, H: BuildHasher>(
+    alloc: Global,
+    disk: &mut D,
+    seen: &Seen<H>,
+    account: &AccountId,
+    listing: &Listing,
+) -> Result<Vec<bool>, Fault>
+    ensures length { IfOk result (λ flags. length flags.items ≡ length listing.now) }
+    ensures finds { D.sound disk.new → D.sound disk.old
+        × AfterTaking (D.maildir disk.old) (λ left. FindsHeld account.now left listing.now result (D.maildir disk.new)) }
+    ensures lasts { D.sound disk.new → KeepsLeft (D.maildir disk.old).files (D.maildir disk.new).files
+        (D.stays disk.old) (D.outlives disk.old) (D.stays disk.new) (D.outlives disk.new)
+        × OnOk result (AllStay (D.maildir disk.new) (D.stays disk.new)
+        × FoundLast account.now seen.now.rows listing.now (D.maildir disk.new) (D.outlives disk.new)) }
+{
+    let Ok(flags) = undelivered(alloc, seen, listing) else {
+        return Err(Fault::NoMemory);
+    };
+    match flush_held(alloc, disk, account, listing, &flags) {
+        Ok(flags) => Ok(flags),
+        Err(StoreFault::Missing) => Err(Fault::StoreRefused(Why::Missing)),
+        Err(StoreFault::Refused) => Err(Fault::StoreRefused(Why::Refused)),
+        Err(StoreFault::NotMbox) => Err(Fault::StoreRefused(Why::NotMbox)),
+        Err(StoreFault::NoMemory) => Err(Fault::NoMemory),
+    }
+}
+
 /// Settles the open intent of the record in the mboxrd file, by the size that is listed for its
 /// message, and returns whether its entry is whole. If no intent is open, the file isn't asked.
 fn settle<F: FlatFile, H: BuildHasher>(
@@ -183,7 +227,8 @@ fn ask_mbox<F: FlatFile, H: BuildHasher>(
     Ok(Found { held, stored })
 }
 
-/// Asks the store which messages it holds. An open intent of the record is settled in the mboxrd
+/// Asks the store which messages it holds. In a Maildir the files of those that the record doesn't show
+/// as delivered are flushed. An open intent of the record is settled in the mboxrd
 /// file; in a Maildir it can't be, and counts as one without an entry.
 fn ask_store<D: MaildirDisk, F: FlatFile, H: BuildHasher>(
     alloc: Global,
@@ -204,10 +249,11 @@ fn ask_store<D: MaildirDisk, F: FlatFile, H: BuildHasher>(
     ensures keeps { is_sound D.MaildirDisk F.FlatFile store.new → KeepsLeftIn D.MaildirDisk F.FlatFile store.old
         (stores_of D.MaildirDisk F.FlatFile store.new).maildir.files store.new }
     ensures lasts { is_sound D.MaildirDisk F.FlatFile store.new → is_sure F.FlatFile store.old
-        → OnOk result (IsSafeStore F.FlatFile store.new × AllStayIn D.MaildirDisk store.new) }
+        → OnOk result (IsSafeStore F.FlatFile store.new × AllStayIn D.MaildirDisk store.new
+        × FoundLastIn D.MaildirDisk account.now seen.now.rows listing.now store.new) }
 {
     match store {
-        Store::Maildir(disk) => match ask_held(alloc, disk, account, listing) {
+        Store::Maildir(disk) => match find_held(alloc, disk, seen, account, listing) {
             Ok(held) => Ok(Found {
                 held,
                 stored: false,
@@ -358,6 +404,7 @@ fn prepare_by_store<D: MaildirDisk, F: FlatFile, H: BuildHasher>(
         work.new.ledger.seen.rows work.new.store work.new.ledger.file) }
 {
     listed_has_row();
+    files_stand_for_one_record();
     let alloc = work.ledger.alloc;
     let found = match ask_store(
         alloc,

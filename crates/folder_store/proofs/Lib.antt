@@ -4,6 +4,7 @@ mod MemoryLoss
 mod Leaving
 mod PowerLoss
 mod MailMoves
+mod MailFlushes
 mod Parts
 mod MailLearns
 mod MailLooks

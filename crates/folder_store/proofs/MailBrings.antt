@@ -67,7 +67,7 @@ comes_last (x ∷ ss) s touches flushed = inr (comes_last ss s touches flushed)
 comes_moved : (a b : List MailFile) → Each MovesFile a b → (f : File) → ComesIn a f → ComesIn b f
 comes_moved [] b h f is = absurd is
 comes_moved (s ∷ ss) [] h f is = absurd h
-comes_moved (s ∷ ss) (t ∷ ts) h f (inl (is, touches, flushed)) = inl (same_mail s t h.0.keeps ∙ is, h.0.new touches, h.0.keeps.flushed ∙ flushed)
+comes_moved (s ∷ ss) (t ∷ ts) h f (inl (is, touches, flushed)) = inl (same_mail s t h.0.keeps ∙ is, h.0.new touches, h.0.keeps.flushed flushed)
 comes_moved (s ∷ ss) (t ∷ ts) h f (inr is) = inr (comes_moved ss ts h.1 f is)
 
 comes_flushed : (ss : List MailFile) (f : File) → ComesIn ss f → OutlivesIn (map (named_by New) ss) f

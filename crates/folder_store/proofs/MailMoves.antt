@@ -34,14 +34,14 @@ stays_kept (s ∷ ss) (t ∷ ts) h name (inr is) = inr (stays_kept ss ts h.1 nam
 pub outlives_kept : (a b : List MailFile) → Each KeepsFile a b → (f : File) → OutlivesIn a f → OutlivesIn b f
 outlives_kept [] b h f is = absurd is
 outlives_kept (s ∷ ss) [] h f is = absurd h
-outlives_kept (s ∷ ss) (t ∷ ts) h f (inl (is, named, flushed)) = inl (same_mail s t h.0 ∙ is, h.0.named named, h.0.flushed ∙ flushed)
+outlives_kept (s ∷ ss) (t ∷ ts) h f (inl (is, named, flushed)) = inl (same_mail s t h.0 ∙ is, h.0.named named, h.0.flushed flushed)
 outlives_kept (s ∷ ss) (t ∷ ts) h f (inr is) = inr (outlives_kept ss ts h.1 f is)
 
 pub flushed_kept : (a b : List MailFile) → Each KeepsFile a b → AllFlushed a → AllFlushed b
 flushed_kept [] [] h all = tt
 flushed_kept [] (t ∷ ts) h all = absurd h
 flushed_kept (s ∷ ss) [] h all = absurd h
-flushed_kept (s ∷ ss) (t ∷ ts) h all = (h.0.flushed ∙ all.0, flushed_kept ss ts h.1 all.1)
+flushed_kept (s ∷ ss) (t ∷ ts) h all = (h.0.flushed all.0, flushed_kept ss ts h.1 all.1)
 
 -- what a loss of power leaves of a file could be left of it before, where it was
 abbrev where_it_was : MailFile → MailFile → MailFile
@@ -52,7 +52,7 @@ left_before s t u k l = record {
   title = l.title ∙ k.title;
   in_new = λ new. ap (λ (b : Bool). b || s.left_new) new;
   in_cur = λ cur. ap (λ (b : Bool). not b || s.left_cur) cur;
-  content = λ flushed. l.content (k.flushed ∙ flushed) ∙ k.content;
+  content = λ flushed. l.content (k.flushed flushed) ∙ k.content;
   flushed = l.flushed;
   named = l.named;
   firm = l.firm;
@@ -123,8 +123,8 @@ still_named New s named = ap (λ (b : Bool). b || touches_new s) named
 still_named Cur s named = ap (λ (b : Bool). b || touches_cur s) named
 
 flush_keeps : (folder : Folder) (s : MailFile) → KeepsFile s (named_by folder s)
-flush_keeps New s = record { title = refl; content = refl; flushed = refl; named = still_named New s }
-flush_keeps Cur s = record { title = refl; content = refl; flushed = refl; named = still_named Cur s }
+flush_keeps New s = record { title = refl; content = refl; flushed = λ h. h; named = still_named New s }
+flush_keeps Cur s = record { title = refl; content = refl; flushed = λ h. h; named = still_named Cur s }
 
 each_flushed : (folder : Folder) (ss : List MailFile) → Each KeepsFile ss (map (named_by folder) ss)
 each_flushed folder [] = tt
@@ -134,7 +134,7 @@ pub flush_leads : (folder : Folder) (a : Directories) → Leads a (names_flushed
 flush_leads folder a = keeps_leads a (names_flushed_in folder a) refl refl (each_flushed folder a.entries)
 
 pub same_keeps : (s : MailFile) → KeepsFile s s
-same_keeps s = record { title = refl; content = refl; flushed = refl; named = λ h. h }
+same_keeps s = record { title = refl; content = refl; flushed = λ h. h; named = λ h. h }
 
 pub each_same : (Does : MailFile → MailFile → Type 0) → ((s : MailFile) → Does s s) → (ss : List MailFile) → Each Does ss ss
 each_same Does same [] = tt

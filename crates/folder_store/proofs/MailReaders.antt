@@ -43,7 +43,7 @@ keeps_on : (s t u : MailFile) → KeepsFile s t → KeepsFile t u → KeepsFile 
 keeps_on s t u a b = record {
   title = b.title ∙ a.title;
   content = b.content ∙ a.content;
-  flushed = b.flushed ∙ a.flushed;
+  flushed = λ is. b.flushed (a.flushed is);
   named = λ h. b.named (a.named h);
 }
 

@@ -8,7 +8,8 @@ use Rattle.mail_store.specs.declared.fault.StoreFault.TheVariants.{Missing, Refu
 use Rattle.mail_store.specs.declared.maildir.disk.Folder.{Folder}
 use Rattle.mail_store.specs.declared.maildir.disk.Folder.TheVariants.{New, Cur}
 use Rattle.mail_store.specs.Maildir.{File, IsPart, mail, bases_told, names_of, is_there, AreTheirs}
-use Rattle.mail_store.specs.Power.{KeepsLeft, KeepsMail, ToldStay}
+use Rattle.mail_store.specs.FileName.{stem}
+use Rattle.mail_store.specs.Power.{KeepsLeft, KeepsMail, ToldStay, is_among}
 use Rattle.folder_store.specs.MailFolders.{Directories, MailFile, Draft, Moved, files_at, is_left, name_at, entries_in, rests_in, touches_new, touches_cur}
 use Rattle.folder_store.specs.MailPower.{AllFlushed, AllNamed, StaysIn, OutlivesIn, LeavesMail, LeavesSome}
 
@@ -120,6 +121,18 @@ FlushesNamesIn folder (Err Missing) old new = (is_there old.there folder ≡ fal
 FlushesNamesIn folder (Err Refused) old new = (new ≡ old) ⊎ (new ≡ names_flushed_in folder old)
 FlushesNamesIn folder (Err NotMbox) old new = ⊥
 FlushesNamesIn folder (Err NoMemory) old new = ⊥
+
+-- a file once those whose names have one of these stems were flushed
+abbrev pub flushed_by : {A : Type 0} → List (String A) → MailFile → MailFile
+flushed_by stems s = record s { is_flushed = s.is_flushed || is_among stems (stem s.name) }
+
+abbrev pub files_flushed : {A : Type 0} → List (String A) → Directories → Directories
+files_flushed stems d = record d { entries = map (flushed_by stems) d.entries }
+
+-- `flush_files`: the bytes of each file with one of these stems are on the disk
+abbrev pub FlushesFiles : {A T : Type 0} → List (String A) → Result T StoreFault → Directories → Directories → Type 0
+FlushesFiles stems (Ok done) old new = new ≡ files_flushed stems old
+FlushesFiles stems (Err fault) old new = new ≡ old
 
 -- ---- several calls
 

@@ -80,11 +80,11 @@ rests_in Cur d = d.cur_rests
 
 -- ---- what readers do
 
--- a file keeps its name up to the first colon, its bytes, and what of them is on the disk
+-- a file keeps its name up to the first colon, its bytes, and what of it is on the disk
 pub record KeepsFile (s t : MailFile) : Type 0 where
   pub title : base t.name ≡ base s.name
   pub content : t.content ≡ s.content
-  pub flushed : t.is_flushed ≡ s.is_flushed
+  pub flushed : s.is_flushed ≡ true → t.is_flushed ≡ true
   pub named : s.is_named ≡ true → t.is_named ≡ true
 
 -- a file was moved and marked any number of times, and perhaps taken away

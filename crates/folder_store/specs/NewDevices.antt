@@ -1,5 +1,7 @@
 -- What a loss of power leaves to a device, and what a device that is made anew over the same folders begins with.
-use Rattle.std.specs.Prelude.{◌≡◌, ℕ, Bool, false, List, Option}
+use Rattle.std.specs.Prelude.{◌≡◌, ℕ, Bool, false, List, Option, Result, String}
+use Rattle.std.specs.Global.{Global}
+use Rattle.mail_store.specs.declared.fault.StoreFault.{StoreFault}
 use Rattle.mail_store.specs.declared.file.flat_file.FlatFile.{Ghosts as FileGhosts}
 use Rattle.mail_store.specs.declared.maildir.disk.MaildirDisk.{Ghosts as DiskGhosts}
 use Rattle.mail_store.specs.Loss.{MayLeave}
@@ -8,6 +10,7 @@ use Rattle.folder_store.specs.FileFolder.{Directory}
 use Rattle.folder_store.specs.PowerLoss.{Loses}
 use Rattle.folder_store.specs.MailFolders.{Directories, Each, MovesFile, files_at}
 use Rattle.folder_store.specs.MailPower.{AllFlushed, LosesMail}
+use Rattle.folder_store.specs.MailCalls.{FlushesFiles, KeepsFlushed, Then}
 
 -- ---- a Maildir
 
@@ -32,6 +35,11 @@ NewMaildirsKeepMail {D} disk folders = (was device : D) → FoundAgain (folders 
 abbrev pub LeftMaildirsStay : {D : Type 0} → DiskGhosts D → (D → Directories) → Type 0
 LeftMaildirsStay {D} disk folders = (old left : Directories) (device : D) → LosesMail old left → FoundAgain left (folders device)
     → AllStay (disk.maildir device) (disk.stays device) × AllFlushed (folders device).entries
+
+-- a law: if the bytes of each file were on the disk, they are once files were flushed
+abbrev pub FlushingKeepsFlushed : Type 0
+FlushingKeepsFlushed = (old new : Directories) (stems : List (String Global)) (r : Result (Unit {0}) StoreFault)
+    → Then (FlushesFiles stems r) old new → KeepsFlushed old new
 
 -- ---- a file
 

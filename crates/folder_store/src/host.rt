@@ -416,6 +416,26 @@ impl<'a, R: Files + Clock + AllocGlobal + Clone + Drop> HostFolder<'a, R> {
             .sync_all()
     }
 
+    // Flushes a file's bytes, and says whether there was such a file.
+    pub(crate) fn sync_if_there(&self, name: &str) -> io::Result<bool> {
+        match self.regular_path(name) {
+            Ok(path) => self.sync_at(path.as_str()),
+            Err(fault) if fault.kind() == ErrorKind::NotFound => Ok(false),
+            Err(fault) => Err(fault),
+        }
+    }
+
+    fn sync_at(&self, path: &str) -> io::Result<bool> {
+        match self.system.open(path) {
+            Ok(file) => {
+                file.sync_all()?;
+                Ok(true)
+            }
+            Err(fault) if fault.kind() == ErrorKind::NotFound => Ok(false),
+            Err(fault) => Err(fault),
+        }
+    }
+
     // The folder is opened once, and again after a fault.
     pub(crate) fn sync_names(&mut self) -> io::Result<()> {
         let folder = match self.names.take() {

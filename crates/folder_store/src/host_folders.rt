@@ -8,13 +8,18 @@ use crate::exact_listing::{ChangeTime, FolderNames};
 use crate::host::{HostFolder, told};
 use crate::mail_folders::MailFolders;
 use crate::process_mark::ProcessMark;
-use mail_store::{Folder, StoreFault};
+use mail_store::{Folder, StoreFault, stem};
+use std::collections::BTreeMap;
+use std::io;
 use std::rt::Files;
 use std::time::{Clock, Duration};
 use trace::System;
 
 /// For how many seconds the folders are listed again while readers change them all the time.
 const MOST_SECONDS: u64 = 4;
+
+/// How many times files that are to be flushed are looked up while readers move them.
+const MOST_PASSES: u32 = 8;
 
 /// A folder, and its time of change when it was last listed.
 #[derive(Drop)]
@@ -70,6 +75,40 @@ impl<'a, R: Files + Clock + AllocGlobal + Clone + Drop> HostFolders<'a, R> {
     /// that weren't changed for an hour. What can't be removed stays.
     pub fn sweep(&self, front: &str) {
         self.new_folder.host.sweep(front);
+    }
+
+    // Flushes the files of a folder that have one of these stems, unless an earlier pass found one.
+    fn sync_in(
+        &self,
+        host: &HostFolder<'a, R>,
+        found: &mut BTreeMap<&str, u32>,
+        pass: u32,
+    ) -> io::Result<()> {
+        for name in &host.read_names()?.names {
+            let Some(at) = found.get_mut(stem(name.as_str())) else {
+                continue;
+            };
+            if (*at == 0 || *at == pass) && host.sync_if_there(name.as_str())? {
+                *at = pass;
+            }
+        }
+        Ok(())
+    }
+
+    // Flushes the files that have one of these stems. False if one of the stems has none.
+    fn sync_all_of(&self, stems: &[String]) -> io::Result<bool> {
+        let mut found = BTreeMap::new(self.system.alloc());
+        for stem in stems {
+            found.insert(stem.as_str(), 0)?;
+        }
+        for pass in 1..=MOST_PASSES {
+            self.sync_in(&self.new_folder.host, &mut found, pass)?;
+            self.sync_in(&self.cur_folder.host, &mut found, pass)?;
+            if found.values().all(|at| *at != 0) {
+                return Ok(true);
+            }
+        }
+        Ok(false)
     }
 
     fn folder_mut(&mut self, folder: Folder) -> &mut ListedFolder<'a, R> {
@@ -135,6 +174,20 @@ impl<'a, R: Files + Clock + AllocGlobal + Clone + Drop> MailFolders for HostFold
 
     fn has(&mut self, name: &str) -> Result<bool, StoreFault> {
         self.new_folder.host.has(name)
+    }
+
+    // A file that a reader moves meanwhile is looked up again.
+    fn flush_files(&mut self, stems: &[String]) -> Result<(), StoreFault> {
+        match told(self.system.refusals, self.sync_all_of(stems)) {
+            Ok(true) => Ok(()),
+            Ok(false) => {
+                self.new_folder
+                    .host
+                    .refuse_folder("a file to be flushed went away");
+                Err(StoreFault::Refused)
+            }
+            Err(fault) => Err(fault),
+        }
     }
 
     fn make(&mut self, name: &str) -> Result<(), StoreFault> {

@@ -7,6 +7,7 @@ ghost use Rattle.folder_store.specs.HostFile.{AppendsLast, CutsLast, ReplacesLas
 ghost use Rattle.folder_store.specs.MailCalls.{BothBring, MadeBringsNone};
 ghost use Rattle.folder_store.specs.MailCalls.{SettlingKeepsFlushed, TellingKeepsFlushed, WritingKeepsFlushed};
 ghost use Rattle.folder_store.specs.MailFolders.{Directories, MailFile, Moved, OneMoves};
+ghost use Rattle.folder_store.specs.NewDevices.{FlushingKeepsFlushed};
 ghost use Rattle.folder_store.specs.MailPower.{LeftMailIsOnDisk, MailCanLosePower, MailOnDiskIsLeft, OutlivingMailIsLeft, StayingMailIsLeft};
 
 /// A loss of power leaves what calls see under a name whose file is on the disk.
@@ -42,6 +43,7 @@ pub fn calls_keep_mail_flushed()
     ensures telling { TellingKeepsFlushed }
     ensures writing { WritingKeepsFlushed }
     ensures settling { SettlingKeepsFlushed }
+    ensures flushing { FlushingKeepsFlushed }
 {}
 
 /// Readers may do nothing, move or mark a file, and do so again.

@@ -12,7 +12,7 @@ pub trait MailFolders {
     ghost use Rattle.std.specs.Prelude.{◌≡◌, IfErr};
     ghost use Rattle.mail_store.specs.Fault.{IsDeviceFault};
     ghost use Rattle.folder_store.specs.MailFolders.{Directories};
-    ghost use Rattle.folder_store.specs.MailCalls.{ChecksIn, FlushesDraft, FlushesNamesIn, GivesUp, ListsIn, LooksUpNew, MakesDraft};
+    ghost use Rattle.folder_store.specs.MailCalls.{ChecksIn, FlushesDraft, FlushesFiles, FlushesNamesIn, GivesUp, ListsIn, LooksUpNew, MakesDraft};
     ghost use Rattle.folder_store.specs.MailCalls.{PutsDraft, TellsRest, Then, WritesDraft};
 
     // What calls see of the folders, and what is on the disk.
@@ -49,6 +49,12 @@ pub trait MailFolders {
     fn has(&mut self, name: &str) -> Result<bool, StoreFault>
         ensures { sound self.new → sound self.old
             × Then (LooksUpNew name.now result) (directories self.old) (directories self.new) };
+
+    /// Flushes the bytes of each file whose name has one of these stems, whichever folder it is in by
+    /// now. Refused also if one of them has no file.
+    fn flush_files(&mut self, stems: &[String]) -> Result<(), StoreFault>
+        ensures { sound self.new → sound self.old
+            × Then (FlushesFiles stems.now result) (directories self.old) (directories self.new) };
 
     /// Makes a file, which its owner alone can read. The name tells it from others that were made.
     /// Missing if the place for such files isn't there.

@@ -9,7 +9,7 @@ use crate::mail_folders::MailFolders;
 use crate::mail_steps::{put_for_good, told_names, told_names_of};
 use crate::process_mark::ProcessMark;
 use crate::tally::tally;
-use mail_store::{AccountId, Folder, MaildirDisk, StoreFault, admit, refuse};
+use mail_store::{AccountId, Folder, MaildirDisk, StoreFault, admit, marks_keep_the_base, refuse};
 use mail_terms::FailureCount;
 use std::alloc::Global;
 use std::rt::Files;
@@ -118,6 +118,15 @@ impl<F: MailFolders + Drop> MaildirDisk for FolderMaildir<F> {
     fn check(&mut self, folder: Folder) -> Result<(), StoreFault> {
         admit(&self.failures)?;
         tally(&mut self.failures, self.folders.check(folder))
+    }
+
+    fn flush(&mut self, stems: &[String]) -> Result<(), StoreFault> {
+        marks_keep_the_base();
+        admit(&self.failures)?;
+        match self.folders.flush_files(stems) {
+            Ok(()) => Ok(()),
+            Err(_) => Err(refuse(&mut self.failures)),
+        }
     }
 
     fn begin(&mut self, name: &str) -> Result<(), StoreFault> {

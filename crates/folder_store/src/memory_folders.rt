@@ -2,13 +2,14 @@
 
 ghost use Rattle.std.specs.Prelude.{◌≡◌, ◌↔◌, ◌++◌, [], ◌∷◌, Contains, IfOk, IsTrue, OnOk, false, if◌then◌else◌, true, map, option_map, string_bytes};
 ghost use Rattle.mail_terms.specs.MaildirName.{base};
-ghost use Rattle.folder_store.specs.MailCalls.{named_by};
+ghost use Rattle.mail_store.specs.Power.{is_among};
+ghost use Rattle.folder_store.specs.MailCalls.{flushed_by, named_by};
 ghost use Rattle.folder_store.specs.MailFolders.{entries_in, is_told, name_at};
 ghost use Rattle.folder_store.specs.MailPower.{AreLeftAs};
 ghost use Rattle.folder_store.specs.MemoryFolders.{list_of, mail_file};
 
 use crate::mail_folders::MailFolders;
-use mail_store::{Folder, StoreFault, marks_keep_the_base};
+use mail_store::{Folder, StoreFault, marks_keep_the_base, stem};
 use mail_terms::base;
 use std::alloc::{AllocError, Global};
 use std::marker::Model;
@@ -131,6 +132,28 @@ fn named_files(
     Ok(named)
 }
 
+/// Whether one of some texts is this one.
+fn is_one_of(texts: &[String], text: &str) -> bool
+    ensures { result ≡ is_among texts.now text.now }
+{
+    texts.iter().any(|other| other.as_str() == text)
+}
+
+/// The files with what a flush of those with these stems makes last.
+fn flushed_files(
+    alloc: Global,
+    files: &[KeptMail],
+    stems: &[String],
+) -> Result<Vec<KeptMail>, AllocError>
+    ensures { IfOk result (λ flushed. map mail_file flushed.items ≡ map (flushed_by stems.now) (map mail_file files.now)) }
+{
+    let mut flushed = Vec::new(alloc);
+    for file in files {
+        flushed.push(file.flushed_by(stems)?)?;
+    }
+    Ok(flushed)
+}
+
 /// What is left of some files, one by one.
 fn files_left(
     alloc: Global,
@@ -183,7 +206,7 @@ fn name_for(alloc: Global, name: &str, is_new: bool) -> Result<String, AllocErro
 
 impl KeptMail {
     ghost use Rattle.std.specs.Prelude.{◌≡◌, ◌||◌, IfOk, if◌then◌else◌, option_map};
-    ghost use Rattle.folder_store.specs.MailCalls.{named_by};
+    ghost use Rattle.folder_store.specs.MailCalls.{flushed_by, named_by};
     ghost use Rattle.folder_store.specs.MailFolders.{MovesFile, is_in, is_told, touches};
     ghost use Rattle.folder_store.specs.MemoryFolders.{MayBeLeftAs, left_with, mail_file};
 
@@ -239,6 +262,32 @@ impl KeptMail {
             is_named,
             left_new,
             left_cur,
+            is_gone: self.is_gone,
+        })
+    }
+
+    // Whether its bytes are on the disk once files with these stems were flushed.
+    fn is_flushed_by(&self, stems: &[String]) -> bool
+        ensures { result ≡ (flushed_by stems.now (mail_file self.now)).is_flushed }
+    {
+        self.is_flushed || is_one_of(stems, stem(self.name.as_str()))
+    }
+
+    // The file once those with these stems were flushed.
+    fn flushed_by(&self, stems: &[String]) -> Result<KeptMail, AllocError>
+        ensures { IfOk result (λ kept. mail_file kept ≡ flushed_by stems.now (mail_file self.now)) }
+    {
+        let name = self.name.clone()?;
+        let content = self.content.clone()?;
+        let is_flushed = self.is_flushed_by(stems);
+        Ok(KeptMail {
+            is_new: self.is_new,
+            name,
+            content,
+            is_flushed,
+            is_named: self.is_named,
+            left_new: self.left_new,
+            left_cur: self.left_cur,
             is_gone: self.is_gone,
         })
     }
@@ -460,6 +509,17 @@ impl MailFolders for MemoryFolders {
         self.let_reader_move();
         match names_in(self.alloc, &self.files, Folder::New) {
             Ok(names) => Ok(is_among(&names, name)),
+            Err(_) => Err(StoreFault::Refused),
+        }
+    }
+
+    fn flush_files(&mut self, stems: &[String]) -> Result<(), StoreFault> {
+        self.let_reader_move();
+        match flushed_files(self.alloc, &self.files, stems) {
+            Ok(files) => {
+                self.files = files;
+                Ok(())
+            }
             Err(_) => Err(StoreFault::Refused),
         }
     }

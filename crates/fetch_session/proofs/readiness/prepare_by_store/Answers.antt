@@ -1,6 +1,7 @@
 use Rattle.std.proofs.Common.{ap, inl, inr, length, refl, ◌∙◌, Err, Ok}
 use Rattle.fetch_session.specs.Target.{left_in, stores_of, target_of}
 use Rattle.fetch_session.proofs.CarryLemmas.{planned_length}
+use Rattle.fetch_session.proofs.NewsLemmas.{news_found}
 use Rattle.fetch_session.proofs.ReadyLemmas.{all_have_rows, merge_lasts, not_found, unsaved_merge, saved_merge, no_plan}
 use Rattle.fetch_session.proofs.UnreadyLemmas.{left_found}
 use Rattle.fetch_session.proofs.readiness.prepare_by_store.Goals as goal
@@ -87,6 +88,8 @@ returns-in-Ok-plan-clause-readies g c = λ d f.
                 ((c.in_default.ensures.lasts f safe.1).1, held.0),
                 held.1,
                 left_found g.D.MaildirDisk g.F.FlatFile was c.ask_store.new.store c.args.terms.account.now seen.intent c.args.listing.now (Ok c.in-Ok.found) finds.1.0 finds.1.2 (c.in-Ok.ensures.keeps d),
+                news_found c.files_stand_for_one_record.ensures g.D.MaildirDisk g.F.FlatFile was c.ask_store.new.store c.args.terms.account.now file.content seen c.args.listing.now c.in-Ok.found finds.1.0
+                    (c.requires.stands merges.0) c.in-Ok.ensures.kind finds.1.2 held.2,
               );
         },
       ),

@@ -1,3 +1,4 @@
+use Rattle.folder_store.proofs.MailFlushes.{flushes_leads}
 use Rattle.folder_store.proofs.NewDevices as lemmas
 use Rattle.folder_store.proofs.laws.calls_keep_mail_flushed.Goals as goal
 
@@ -9,3 +10,6 @@ returns-clause-writing c = lemmas.writing
 
 pub returns-clause-settling : goal.returns-clause-settling
 returns-clause-settling c = lemmas.settling
+
+pub returns-clause-flushing : goal.returns-clause-flushing
+returns-clause-flushing c = λ old new stems r is. (flushes_leads stems old new r is).flushed
