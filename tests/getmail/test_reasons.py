@@ -68,7 +68,7 @@ class Reasons(unittest.TestCase):
         self.assertEqual([line.decode() for line in terminal.screen_of(shown) if line], [self.left_out])
 
     def test_without_such_lines_there_are_no_reasons(self):
-        run = self.session("-v", "--why")
+        run = self.session("--why")
         self.assertEqual(run.out.decode().splitlines(),
                          [self.heading, *(line for line in lines_of(False) if "octets" not in line)])
 
