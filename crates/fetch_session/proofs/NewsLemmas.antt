@@ -14,7 +14,7 @@ use Rattle.fetch_session.specs.declared.readiness.Found.{Found}
 use Rattle.fetch_session.specs.Lasting.{FoundLast, FoundLastIn, NewsLast}
 use Rattle.fetch_session.specs.Readiness.{FindsIn}
 use Rattle.fetch_session.specs.Record.{ReadAs}
-use Rattle.fetch_session.specs.Target.{AsFiles, Stores, in_maildir, kind_of, left_in, stores_of, target_of}
+use Rattle.fetch_session.specs.Target.{Stores, in_maildir, kind_of, left_in, stores_of, target_of}
 use Rattle.fetch_session.proofs.RecordLemmas.{read_keeps}
 
 no_item : Item

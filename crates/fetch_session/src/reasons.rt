@@ -107,9 +107,7 @@ fn explained_report(
     }
     let mut text = heading(alloc, settings)?;
     for line in &report.lines {
-        text.push_str(
-            explained_line(alloc, settings.verbose, report.total, plan, line)?.as_str(),
-        )?;
+        text.push_str(explained_line(alloc, settings.verbose, report.total, plan, line)?.as_str())?;
     }
     text.push_str(summary(alloc, report)?.as_str())?;
     Ok(text)

@@ -1,16 +1,16 @@
 -- What a flush of files does to the folders of a Maildir.
-use Rattle.std.proofs.Common.{◌≡◌, ◌<◌, inl, inr, ℕ, zero, suc, List, [], ◌∷◌, length, map, Option, Result, Ok, Err, refl, sym, ap, subst, ◌∙◌, arith, true, Bool, String}
+use Rattle.std.proofs.Common.{◌≡◌, inl, inr, ℕ, suc, List, [], ◌∷◌, map, Option, Result, Ok, Err, refl, sym, ap, subst, ◌∙◌, arith, true, Bool, String}
 use Rattle.std.specs.Prelude.{◌||◌, Contains}
 use Rattle.std.proofs.Math.Bool.{or-true}
 use Rattle.mail_terms.specs.MaildirName.{base}
 use Rattle.mail_store.specs.declared.fault.StoreFault.{StoreFault}
 use Rattle.mail_store.specs.FileName.{stem}
-use Rattle.mail_store.specs.Maildir.{Maildir, File, Flushes, names_of}
+use Rattle.mail_store.specs.Maildir.{Maildir, File}
 use Rattle.mail_store.specs.Power.{FlushedOutlive, is_among}
-use Rattle.folder_store.specs.MailFolders.{MailFile, Directories, KeepsFile, Each, Moved, files_at, mail_at, maildir_in}
+use Rattle.folder_store.specs.MailFolders.{MailFile, Directories, KeepsFile, Each, files_at, mail_at, maildir_in}
 use Rattle.folder_store.specs.MailPower.{OutlivesIn, StaysIn}
 use Rattle.folder_store.specs.MailCalls.{FlushesFiles, Leads, Then, files_flushed, flushed_by}
-use Rattle.folder_store.proofs.MailMoves.{each_keeps, keeps_leads, leads_maildir, leads_on, leads_same, moved_leads, stays_kept}
+use Rattle.folder_store.proofs.MailMoves.{each_keeps, keeps_leads, leads_on, moved_leads, stays_kept}
 
 module _ {A : Type 0} (stems : List (String A)) where
   keeps : (s : MailFile) → KeepsFile s (flushed_by stems s)

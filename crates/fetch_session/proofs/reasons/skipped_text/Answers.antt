@@ -9,5 +9,5 @@ pub returns : goal.returns
 returns c =
     subst (λ fate. IfOk c.format-2.result (λ text. string_bytes text ≡ skipped_text c.args.total c.args.number c.args.size fate)) (sym c.in-Some.is)
     (subst (λ (reason : List ℕ). IfOk c.format-2.result (λ text. string_bytes text
-        ≡ message_text c.args.total c.args.number (codes "(" ++ (decimal c.args.size ++ (codes " octets) skipped: " ++ (reason ++ codes "\n"))))))
+    ≡ message_text c.args.total c.args.number (codes "(" ++ (decimal c.args.size ++ (codes " octets) skipped: " ++ (reason ++ codes "\n"))))))
     c.skip_text-reason.ensures c.format-2.ensures.ok)
