@@ -290,16 +290,26 @@ class RefusedSteps(Shared):
 class RefusedGrowths(Shared):
     """Each growth of memory refused in turn."""
 
-    def test_each_growth(self):
+    def check_each_growth(self, messages, begin):
         ends = collections.Counter()
         for refusal in growths.refusals():
-            self.server.messages = list(LONG)
-            with self.subTest(growth=refusal.number), MboxAccount(self.server.port) as account:
+            self.server.messages = list(messages)
+            with self.subTest(growth=refusal.number), MboxAccount(self.server.port, begun=OTHER) as account:
+                begin(account)
                 run = self.session(account, "-d", **refusal.environment())
                 ends[run.status, run.err] += 1
-                self.check_left(account, LONG, self.server)
-                self.check_completed(account, LONG, "-d")
+                self.check_left(account, messages, self.server)
+                self.check_completed(account, messages, "-d")
         self.assertGreater(ends[1, b"getmail: out of memory\n"], 0)
+
+    def test_each_growth(self):
+        self.check_each_growth(LONG, lambda account: None)
+
+    def test_each_growth_of_a_session_that_settles(self):
+        """The file ends in a front of an entry, or in a whole one, that isn't recorded."""
+        for count in (21, len(entries([THREE[1][1]]))):
+            with self.subTest(count):
+                self.check_each_growth(THREE, lambda account: self.tear(account, count))
 
 
 class Killed(Shared):

@@ -9,6 +9,7 @@ from getmail.mbox_account import MboxAccount
 from getmail.one_account import LOGIN, THREE
 from getmail.server import Server, size_of
 from harness import growths, programs
+from harness.mboxrd import entries
 
 WEEK = 7 * 86400
 
@@ -165,10 +166,13 @@ class IntoMaildir(Pretends, unittest.TestCase):
 
 
 class RefusedGrowths(Pretends, unittest.TestCase):
+    def prepare(self):
+        self.session("-q")
+
     def test_each_refused_growth(self):
         """A run says all or ends with a fault, and changes nothing in any case."""
         self.set_option("delete_after = 7")
-        self.session("-q")
+        self.prepare()
         whole, left, ends = self.session("--pretend"), self.left(), set()
         thread = self.server.begin_session()
         for refusal in growths.refusals():
@@ -183,6 +187,18 @@ class RefusedGrowths(Pretends, unittest.TestCase):
             ends.add(run.err)
         self.assertEqual(whole.status, 0)
         self.assertLessEqual({b"", b"getmail: out of memory\n"}, ends)
+
+
+class RefusedGrowthsWithAnOpenEntry(RefusedGrowths):
+    def make(self, port):
+        return MboxAccount(port)
+
+    def prepare(self):
+        """An entry is whole in the file, and its intent is open."""
+        content = entries([THREE[0][1]])
+        self.account.mbox.write_bytes(content)
+        rows = record_of((b"a", 5, 0), (b"b", 5, 0), (b"c", 5, 0))
+        self.account.record.write_bytes(rows + b"! a 0 %d\n" % len(content))
 
 
 class IntoMboxrd(Pretends, unittest.TestCase):

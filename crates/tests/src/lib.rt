@@ -3,13 +3,9 @@
 #![tactic(auto)]
 
 #[cfg(test)]
-mod fetch_session_tests;
-#[cfg(test)]
 mod folder_store_tests;
 #[cfg(test)]
 mod local_fetch_tests;
-#[cfg(test)]
-mod mail_store_tests;
 #[cfg(test)]
 mod no_memory_tests;
 #[cfg(test)]

@@ -1,4 +1,3 @@
 //! Tests of `local_fetch`: sessions with both ends in one program.
 
 mod cuts;
-pub mod ends;

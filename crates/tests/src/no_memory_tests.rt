@@ -6,7 +6,6 @@
 //! no assertion here. A call is in a function of its own, with no contract: its own contract is then used
 //! nowhere else.
 
-mod mbox;
 mod records;
 mod servers;
 mod sessions;

@@ -1,13 +1,13 @@
 //! What the tests of several libraries are made of.
 
+mod accounts;
 mod listings;
 mod maildirs;
 mod maildrops;
-mod names;
 mod records;
 
+pub use accounts::{Fred, Fuse, Kept, Link, SOUND, account, kept_by, link, login, nothing_kept};
 pub use listings::listing_of;
 pub use maildirs::make_maildir;
-pub use maildrops::maildrop_of;
-pub use names::fred;
+pub use maildrops::{MESSAGES, maildrop_of};
 pub use records::{Record, read_record};

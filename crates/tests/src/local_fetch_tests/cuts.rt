@@ -1,113 +1,159 @@
 //! Sessions that are cut, each at another place, and a whole session after each.
 
-use crate::fetch_session_tests::visit::{Fuse, SOUND, account, held, kept_by, nothing_kept};
-use crate::local_fetch_tests::ends::{Ends, MESSAGES, fetch, link};
-use crate::support::maildrop_of;
-use fetch_session::{Outcome, session};
+use crate::support::{
+    Fred, Fuse, Kept, Link, MESSAGES, SOUND, account, kept_by, link, login, maildrop_of,
+    nothing_kept,
+};
+use fetch_session::session;
+use local_fetch::fetch_local;
+use mail_store::{Folder, MemoryMaildir};
+use pop3_server::{MemoryDrop, Server};
+use std::alloc::Global;
 use std::process::Abort;
 use std::test::Fail;
 
-/// What refuses calls in a session.
-#[derive(Clone, Copy)]
-enum Refusing {
-    Link,
-    /// The Maildir; whether the first call that it refuses takes effect.
-    Maildir(bool),
-    /// The record's file; whether the first call that it refuses takes effect.
-    Record(bool),
-}
-
 /// Options of accounts: one that fetches what it doesn't hold, one that fetches all each time, and one
 /// that deletes what it holds.
-const PLAIN: &str = "";
+const OPTIONS: [&[u8]; 3] = [b"read_all = false\n", b"read_all = true\n", DELETING];
 
-const READING_ALL: &str = "read_all = true";
+const DELETING: &[u8] = b"read_all = false\ndelete = true\n";
 
-const DELETING: &str = "delete = true";
+/// No session has more calls of the link or of a device.
+const MOST_CALLS: u64 = 30;
 
-/// Runs a session in which calls are refused after `passes` of them, and returns whether it ended.
-fn cut_after(
-    rt: &(impl Abort + AllocGlobal),
-    refusing: Refusing,
-    options: &str,
-    passes: u64,
-) -> Result<(Ends, bool), Fail> {
-    let alloc = rt.alloc();
-    let fuse = |takes_effect| Fuse {
-        passes,
-        takes_effect,
-    };
-    let (calls, disk, record) = match refusing {
-        Refusing::Link => (passes, SOUND, SOUND),
-        Refusing::Maildir(takes_effect) => (u64::MAX, fuse(takes_effect), SOUND),
-        Refusing::Record(takes_effect) => (u64::MAX, SOUND, fuse(takes_effect)),
-    };
-    let mut wire = link(alloc, maildrop_of(rt, &MESSAGES)?, calls)?;
-    let mut account = account(alloc, options, nothing_kept(alloc), disk, record)?;
-    let report = session(&mut account, &mut wire, 0);
-    let ends = Ends {
-        kept: kept_by(alloc, account),
-        maildrop: wire.into_inner().into_inner().into_drop(),
-    };
-    Ok((ends, matches!(&report.outcome, Outcome::Ended)))
+/// After how many calls the link refuses, and the devices of an account.
+#[derive(Clone, Copy)]
+struct Fuses {
+    link: u64,
+    disk: Fuse,
+    record: Fuse,
 }
 
-/// Runs a whole session after one that was cut at this place. Then each message is held once, and
-/// the maildrop is empty if the sessions delete.
-fn complete(
-    rt: &(impl Abort + AllocGlobal),
-    options: &str,
-    ends: Ends,
-    place: u64,
-) -> Result<(), Fail> {
-    let (ends, report) = fetch(rt.alloc(), options, ends)?;
-    assert!(rt; matches!(&report.outcome, Outcome::Ended), "cut at {place}");
-    let held = held(rt.alloc(), &ends.kept)?;
-    assert!(rt;
-        held.as_str().starts_with("a=one/ b=two/ c=three/ - - "),
-        "cut at {place}: {held}"
-    );
-    let left = if options == DELETING { 0 } else { 3 };
-    assert_eq!(rt; ends.maildrop.len(), left, "cut at {place}");
+/// What sessions leave at both ends.
+#[derive(Drop)]
+struct Ends {
+    kept: Kept,
+    maildrop: MemoryDrop,
+}
+
+/// Runs a session. Its contract is long, so nothing else is in this function.
+fn run(account: &mut Fred, wire: &mut Link) {
+    let _ = session(account, wire, 0);
+}
+
+/// Runs a session in which calls are refused.
+fn cut(alloc: Global, options: &[u8], fuses: Fuses) -> Result<Ends, Fail> {
+    let mut wire = link(alloc, maildrop_of(alloc, &MESSAGES)?, fuses.link)?;
+    let mut account = account(
+        alloc,
+        options,
+        nothing_kept(alloc),
+        fuses.disk,
+        fuses.record,
+    )?;
+    run(&mut account, &mut wire);
+    Ok(Ends {
+        kept: kept_by(alloc, account),
+        maildrop: wire.into_inner().into_inner().into_drop(),
+    })
+}
+
+/// Runs a session over a server with this maildrop, and returns what is left in it.
+fn fetch(
+    alloc: Global,
+    account: &mut Fred,
+    maildrop: MemoryDrop,
+    (user, pass): (Vec<u8>, Vec<u8>),
+) -> MemoryDrop {
+    let server = Server::new(alloc, maildrop, user, pass);
+    let (_, wire) = fetch_local(alloc, account, server, 0);
+    wire.into_inner().into_drop()
+}
+
+/// Runs a whole session.
+fn complete(alloc: Global, options: &[u8], ends: Ends) -> Result<Ends, Fail> {
+    let login = login(alloc)?;
+    let mut account = account(alloc, options, ends.kept, SOUND, SOUND)?;
+    let maildrop = fetch(alloc, &mut account, ends.maildrop, login);
+    Ok(Ends {
+        kept: kept_by(alloc, account),
+        maildrop,
+    })
+}
+
+/// Whether each message is held once.
+fn holds_each_once(maildir: &MemoryMaildir) -> bool {
+    let files = maildir.files(Folder::New);
+    files.len() == 3
+        && files[0].1.as_slice() == b"one\n".as_slice()
+        && files[1].1.as_slice() == b"two\n".as_slice()
+        && files[2].1.as_slice() == b"three\n".as_slice()
+        && maildir.files(Folder::Cur).is_empty()
+}
+
+/// Runs a session that is cut, and a whole one. Then each message is held once, and the maildrop is
+/// empty if the sessions delete.
+fn expect(rt: &(impl Abort + AllocGlobal), options: &[u8], fuses: Fuses) -> Result<(), Fail> {
+    let ends = complete(rt.alloc(), options, cut(rt.alloc(), options, fuses)?)?;
+    assert!(rt; holds_each_once(&ends.kept.maildir));
+    assert_eq!(rt; ends.maildrop.is_empty(), options == DELETING);
     Ok(())
 }
 
-/// Cuts a session at its first call, its second, and so on until no call is refused, with a whole
-/// session after each, and returns how many calls there are.
-fn cut_at_each_call(
-    rt: &(impl Abort + AllocGlobal),
-    refusing: Refusing,
-    options: &str,
-) -> Result<u64, Fail> {
-    for passes in 0..100 {
-        let (ends, has_ended) = cut_after(rt, refusing, options, passes)?;
-        complete(rt, options, ends, passes)?;
-        if has_ended {
-            return Ok(passes);
-        }
+/// Sessions whose link, Maildir or record's file refuses each call after the first `passes`; of the last two,
+/// the first refused call takes effect or not.
+fn fuses_after(passes: u64) -> [Fuses; 5] {
+    let whole = Fuses {
+        link: u64::MAX,
+        disk: SOUND,
+        record: SOUND,
+    };
+    let blown = Fuse {
+        passes,
+        takes_effect: false,
+    };
+    let done = Fuse {
+        passes,
+        takes_effect: true,
+    };
+    [
+        Fuses {
+            link: passes,
+            ..whole
+        },
+        Fuses {
+            disk: blown,
+            ..whole
+        },
+        Fuses {
+            disk: done,
+            ..whole
+        },
+        Fuses {
+            record: blown,
+            ..whole
+        },
+        Fuses {
+            record: done,
+            ..whole
+        },
+    ]
+}
+
+/// Cuts sessions after this many calls.
+fn expect_after(rt: &(impl Abort + AllocGlobal), options: &[u8], passes: u64) -> Result<(), Fail> {
+    for fuses in fuses_after(passes) {
+        expect(rt, options, fuses)?;
     }
-    Err(Fail::new("a session has too many calls"))
+    Ok(())
 }
 
 #[test]
 fn stores_each_message_once_whichever_call_is_refused(rt: HostRuntime) -> Result<(), Fail> {
-    let rows = [
-        // the greeting, and nine commands with their replies, or twelve
-        (Refusing::Link, 19, 25),
-        // one call on what is held, and three for each text
-        (Refusing::Maildir(false), 10, 10),
-        (Refusing::Maildir(true), 10, 10),
-        // a look, a flush, a replace and three appends
-        (Refusing::Record(false), 6, 6),
-        (Refusing::Record(true), 6, 6),
-    ];
-    for (refusing, calls, calls_with_deletion) in rows {
-        assert_eq!(rt; cut_at_each_call(&rt, refusing, PLAIN)?, calls);
-        assert_eq!(rt; cut_at_each_call(&rt, refusing, READING_ALL)?, calls);
-        assert_eq!(rt;
-            cut_at_each_call(&rt, refusing, DELETING)?,
-            calls_with_deletion
-        );
+    for passes in 0..MOST_CALLS {
+        for options in OPTIONS {
+            expect_after(&rt, options, passes)?;
+        }
     }
     Ok(())
 }

@@ -36,7 +36,7 @@ fn read_memory(rt: &HostRuntime, maildrop: &mut MemoryDrop) {
 
 #[test]
 fn memory_text_row(rt: HostRuntime) -> Result<(), Fail> {
-    let mut maildrop = maildrop_of(&rt, &[("a", "one\n")])?;
+    let mut maildrop = maildrop_of(rt.alloc(), &[("a", "one\n")])?;
     read_memory(&rt, &mut maildrop);
     read_memory(&rt, &mut maildrop);
     Ok(())
@@ -56,13 +56,17 @@ fn read_twice(rt: &HostRuntime, maildrop: &mut MaildirDrop<'_, HostRuntime>) -> 
     Ok(())
 }
 
+/// Reads from the Maildir at a path. A maildrop of a folder is large, and is made where there is one way out.
+fn read_at(rt: &HostRuntime, path: String) -> Result<(), Fail> {
+    let refusals = Refusals::new(rt.alloc(), None);
+    let system = System::new(rt, &refusals);
+    read_twice(rt, &mut MaildirDrop::at(&system, path))
+}
+
 #[test]
 fn folder_text_row(rt: HostRuntime) -> Result<(), Fail> {
     make_maildir(&rt, "mail")?;
     fs::write(&rt, "mail/new/a", b"one\n")?;
-    let path = String::from_str(rt.alloc(), "mail")?;
-    let refusals = Refusals::new(rt.alloc(), None);
-    let system = System::new(&rt, &refusals);
-    read_twice(&rt, &mut MaildirDrop::at(&system, path))?;
+    read_at(&rt, String::from_str(rt.alloc(), "mail")?)?;
     Ok(fs::remove_dir_all(&rt, "mail")?)
 }

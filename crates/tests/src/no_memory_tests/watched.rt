@@ -1,7 +1,6 @@
 //! The lines that the test from outside reads.
 
-use crate::fetch_session_tests::visit::shown;
-use std::alloc::AllocError;
+use std::alloc::{AllocError, Global};
 
 /// The call begins: from here its growths are counted, and one of them may be refused.
 pub fn begin(rt: &HostRuntime) {
@@ -21,6 +20,22 @@ pub fn tell(rt: &HostRuntime, line: &str) {
 /// The call answered that memory ran out.
 pub fn tell_no_memory(rt: &HostRuntime) {
     tell(rt, "no memory");
+}
+
+/// Bytes as a text in which `|` stands for CR LF and `/` for any other LF.
+fn shown(alloc: Global, bytes: &[u8]) -> Result<String, AllocError> {
+    let mut text = Vec::new(alloc);
+    for byte in bytes {
+        match *byte {
+            b'\n' if text.last() == Some(&b'\r') => {
+                text.pop();
+                text.push(b'|')?;
+            }
+            b'\n' => text.push(b'/')?,
+            other => text.push(other)?,
+        }
+    }
+    String::from_utf8_lossy(alloc, &text)
 }
 
 /// Prints bytes in one line, with `|` for CR LF and `/` for LF.
