@@ -42,7 +42,8 @@ class FoundFiles(unittest.TestCase):
 
     def check_flushed_first(self, rows, inodes):
         """Each of the files is flushed before the record's file is made."""
-        made = next(place for place, words in enumerate(rows) if words[0] == "make")
+        made = next(place for place, words in enumerate(rows)
+                    if words[0] == "make" and str(self.account.record) in words[2])
         flushed = [int(words[1]) for words in rows[:made] if words[0] == "flush"]
         self.assertEqual(set(flushed), inodes)
         return flushed
