@@ -12,13 +12,13 @@ use Rattle.fetch_rules.specs.Record.{Row, has_row, is_delivered, marked, marked_
 use Rattle.fetch_rules.specs.Plan.{IsQuiet, planned}
 use Rattle.fetch_rules.specs.declared.steps.Step.{Step}
 use Rattle.fetch_session.specs.Account.{digits_of}
-use Rattle.fetch_session.specs.Lasting.{AreLeft, AreSure, CarriesForGood, IsUntouched, Lasts, Leaves, MergeLasts, ProceedsForGood, UnpreparedForGood, UnreadyLasts}
-use Rattle.fetch_session.specs.Laws.{LastingIsASession, SteadyFilesKeep, UnsavedFilesKeep}
-use Rattle.fetch_session.specs.Plan.{Carried, tasks_ahead}
+use Rattle.fetch_session.specs.Lasting.{AreLeft, AreSure, CarriesLast, IsUntouched, Lasts, Leaves, MergeLasts, ProceedsLast, UnreadyLasts}
+use Rattle.fetch_session.specs.Laws.{SteadyFilesKeep, UnsavedFilesKeep}
+use Rattle.fetch_session.specs.Plan.{Carried, Carries, Unprepared, tasks_ahead}
 use Rattle.fetch_session.specs.Readiness.{UnreadyCause}
 use Rattle.fetch_session.specs.Record.{KeepsRows}
 use Rattle.fetch_session.specs.Scene.{FileNotSaved, NoFile, Scene, Stops, scene}
-use Rattle.fetch_session.specs.Session.{Keeping, Kept, LeavesLink, Session, keeps_files, kept, outcome_of}
+use Rattle.fetch_session.specs.Session.{Keeping, Kept, LeavesLink, Proceeds, Session, keeps_files, kept, outcome_of}
 use Rattle.fetch_session.specs.Report.{Reports}
 use Rattle.fetch_session.specs.Store.{RefusesText}
 use Rattle.fetch_session.specs.Target.{AsFiles, Stores, flags_in, in_maildir}
@@ -523,7 +523,7 @@ module _ (laws : PowerLaws) {D F : Type 0} (disk : DiskGhosts D) (files : FileGh
 
 -- ---- the session as a whole
 
-module _ (laws : PowerLaws) {D F : Type 0} (disk : DiskGhosts D) (files : FileGhosts F) (lasting : LastingIsASession disk files) (world : World) (state : State) (occasion : Occasion) (was : D) (from : F) (device : D) (f : F)
+module _ (laws : PowerLaws) {D F : Type 0} (disk : DiskGhosts D) (files : FileGhosts F) (world : World) (state : State) (occasion : Occasion) (was : D) (from : F) (device : D) (f : F)
     (sound : IsSound world) (is_kept : IsKept world state) (is : IsSessionOf disk files world state occasion was from device f) (can : CanLosePower disk files was from world state) where
   abbrev gone_after : List (List ℕ)
   gone_after = state.gone ++ occasion.vanished
@@ -544,7 +544,7 @@ module _ (laws : PowerLaws) {D F : Type 0} (disk : DiskGhosts D) (files : FileGh
   kept_after m s = (laws.headline world state (Fetched (with_maildir m) ∷ []) sound is_kept (is_session m s, tt)).1
 
   pub this_session : IsSession world state occasion
-  this_session = is_session occasion.after.maildir (lasting (InMaildir was) (InMaildir device) from f occasion.settings (AsFiles digits_here) occasion.now occasion.link (keeps_files state.kept) occasion.report occasion.link' (keeps_files occasion.after) is.session)
+  this_session = is_session occasion.after.maildir is.session
 
   abbrev pub Answered : Type 0
   Answered = CanLosePower disk files device f world (after_event state (Fetched occasion))
@@ -601,10 +601,11 @@ module _ (laws : PowerLaws) {D F : Type 0} (disk : DiskGhosts D) (files : FileGh
 
   -- it was cut while it prepared the record
   module _ (items : List Item) (place place' : Place) (cut : Cut) (rows' : List Row) (lines : List ReportLine)
-      (u : UnpreparedForGood disk files (InMaildir was) from (AsFiles digits_here) items occasion.now place (in_maildir state.kept.maildir) state.kept.file [] cut
-      (scene place' (in_maildir occasion.after.maildir) occasion.after.file rows' lines) (InMaildir device) f) where
+      (unprepared : Unprepared (AsFiles digits_here) items occasion.now place (in_maildir state.kept.maildir) state.kept.file [] cut
+      (scene place' (in_maildir occasion.after.maildir) occasion.after.file rows' lines))
+      (lasts : UnreadyLasts disk files (InMaildir was) from (AsFiles digits_here) items occasion.now (in_maildir state.kept.maildir) state.kept.file (InMaildir device) f) where
     same_files : occasion.after.maildir.files ≡ state.kept.maildir.files
-    same_files = by cut.fault u.unprepared.unready.cause
+    same_files = by cut.fault unprepared.unready.cause
       where
         by : (fault : Fault) → UnreadyCause fault state.kept.maildir state.kept.file occasion.after.maildir occasion.after.file → occasion.after.maildir.files ≡ state.kept.maildir.files
         by SeenRefused cause = ap (λ (m : Maildir). m.files) cause.1
@@ -613,9 +614,6 @@ module _ (laws : PowerLaws) {D F : Type 0} (disk : DiskGhosts D) (files : FileGh
         by (StoreRefused Refused) cause = ap (λ (m : Maildir). m.files) cause
         by NoMemory cause = ap (λ (m : Maildir). m.files) cause
         by _ never = absurd never
-
-    lasts : UnreadyLasts disk files (InMaildir was) from (AsFiles digits_here) items occasion.now (in_maildir state.kept.maildir) state.kept.file (InMaildir device) f
-    lasts = u.lasts safe
 
     sure_left : (id : List ℕ) → is_legal_id id ≡ true → IsSure disk was world state.kept.maildir.files id → IsSure disk device world occasion.after.maildir.files id
     sure_left id legal one = record {
@@ -712,28 +710,32 @@ module _ (laws : PowerLaws) {D F : Type 0} (disk : DiskGhosts D) (files : FileGh
     ]
 
   pub answered : Answered
-  answered = by is.session.result is.session.proceeds is.session.leaves is.session.reports
+  answered = by is.session.result is.session.proceeds is.lasts is.session.leaves is.session.reports
     where
       by : (result : Result (Unit {0}) Cut)
-          → (proceeds : ProceedsForGood disk files (InMaildir was) from occasion.settings (AsFiles digits_here) occasion.now (at occasion.link []) (keeps_files state.kept) result is.session.mid (keeps_files occasion.after) is.session.notes (InMaildir device) f)
-          → LeavesLink result is.session.mid occasion.link' → Reports (outcome_of result) is.session.notes.total is.session.notes.skipped is.session.notes.lines occasion.report → Answered
-      by (Ok done) dealt leaves reports =
-          let c = dealt.carries.1 in
-          elim (c.lasts safe) [
-            | inl (quiet, un) ↦ still (quiet_ok laws disk files world sound state.kept gone_after state.taken occasion.after.file device f is.file_is is.none _ _ _ _ _ _ _ _ _ occasion.after.maildir (same_digits world occasion.settings is.settings) c.carried quiet) un
-            | inr (lasts, mail) ↦ answer_ok laws disk files world sound state.kept gone_after state.taken occasion.after.file device f is.file_is is.none _ _ _ _ _ _ _ _ _ occasion.after.maildir (same_digits world occasion.settings is.settings) c.carried mail.stay lasts
-          ]
-      by (Err cut) (inl (stopped, un)) leaves reports = still (ap (λ (k : Keeping). k.store.maildir.files) stopped.same) un
-      by (Err cut) (inr (inl (wanting, un))) leaves reports = still (ap (λ (k : Keeping). k.store.maildir.files) wanting.same) un
-      by (Err cut) (inr (inr dealt)) leaves reports = of dealt.carries
+          → (proceeds : Proceeds occasion.settings (AsFiles digits_here) occasion.now (at occasion.link []) (keeps_files state.kept) result is.session.mid (keeps_files occasion.after) is.session.notes)
+          → ProceedsLast disk files (InMaildir was) from _ _ _ _ _ _ _ _ _ proceeds (InMaildir device) f → LeavesLink result is.session.mid occasion.link' → Reports (outcome_of result) is.session.notes.total is.session.notes.skipped is.session.notes.lines occasion.report → Answered
+      by (Ok done) dealt lasts leaves reports = of dealt.carries lasts
         where
-          of : (carries : CarriesForGood disk files (InMaildir was) from occasion.settings (AsFiles digits_here) dealt.items occasion.now dealt.mid (in_maildir state.kept.maildir) state.kept.file [] (Err cut) is.session.mid
-              (in_maildir occasion.after.maildir) occasion.after.file is.session.notes.lines is.session.notes.skipped (InMaildir device) f) → Answered
-          of (rows, inl (none_said, u)) = unready dealt.items dealt.mid is.session.mid cut rows is.session.notes.lines u
-          of (rows, inr c) = elim (c.lasts safe) [
-            | inl (quiet, un) ↦ still (quiet_cut laws disk files world sound state.kept gone_after state.taken occasion.after.file device f is.file_is is.none _ _ _ _ _ _ _ _ _ occasion.after.maildir (same_digits world occasion.settings is.settings) c.carried quiet) un
+          of : (carries : Carries occasion.settings (AsFiles digits_here) dealt.items occasion.now dealt.mid (in_maildir state.kept.maildir) state.kept.file [] (Ok done) is.session.mid
+              (in_maildir occasion.after.maildir) occasion.after.file is.session.notes.lines is.session.notes.skipped) → CarriesLast disk files (InMaildir was) from occasion.settings (AsFiles digits_here) dealt.items occasion.now dealt.mid
+              (in_maildir state.kept.maildir) state.kept.file [] (Ok done) is.session.mid (in_maildir occasion.after.maildir) occasion.after.file is.session.notes.lines is.session.notes.skipped carries (InMaildir device) f → Answered
+          of (rows, c) all = elim (all safe) [
+            | inl (quiet, un) ↦ still (quiet_ok laws disk files world sound state.kept gone_after state.taken occasion.after.file device f is.file_is is.none _ _ _ _ _ _ _ _ _ occasion.after.maildir (same_digits world occasion.settings is.settings) c quiet) un
+            | inr (lasts, mail) ↦ answer_ok laws disk files world sound state.kept gone_after state.taken occasion.after.file device f is.file_is is.none _ _ _ _ _ _ _ _ _ occasion.after.maildir (same_digits world occasion.settings is.settings) c mail.stay lasts
+          ]
+      by (Err cut) (inl stopped) un leaves reports = still (ap (λ (k : Keeping). k.store.maildir.files) stopped.same) un
+      by (Err cut) (inr (inl wanting)) un leaves reports = still (ap (λ (k : Keeping). k.store.maildir.files) wanting.same) un
+      by (Err cut) (inr (inr dealt)) lasts leaves reports = of dealt.carries lasts
+        where
+          of : (carries : Carries occasion.settings (AsFiles digits_here) dealt.items occasion.now dealt.mid (in_maildir state.kept.maildir) state.kept.file [] (Err cut) is.session.mid
+              (in_maildir occasion.after.maildir) occasion.after.file is.session.notes.lines is.session.notes.skipped) → CarriesLast disk files (InMaildir was) from occasion.settings (AsFiles digits_here) dealt.items occasion.now dealt.mid
+              (in_maildir state.kept.maildir) state.kept.file [] (Err cut) is.session.mid (in_maildir occasion.after.maildir) occasion.after.file is.session.notes.lines is.session.notes.skipped carries (InMaildir device) f → Answered
+          of (rows, inl (none_said, unprepared)) all = unready dealt.items dealt.mid is.session.mid cut rows is.session.notes.lines unprepared (all safe)
+          of (rows, inr c) all = elim (all safe) [
+            | inl (quiet, un) ↦ still (quiet_cut laws disk files world sound state.kept gone_after state.taken occasion.after.file device f is.file_is is.none _ _ _ _ _ _ _ _ _ occasion.after.maildir (same_digits world occasion.settings is.settings) c quiet) un
             | inr (lasts, mail) ↦ answer_cut laws disk files world sound state.kept gone_after state.taken occasion.after.file device f is.file_is is.none _ _ _ _ _ _ _ _ _ occasion.after.maildir (same_digits world occasion.settings is.settings)
-                c.carried mail.stay lasts
+                c mail.stay lasts
                 (λ m carried. kept_after m (record {
                   result = Err cut;
                   mid = is.session.mid;
@@ -744,8 +746,8 @@ module _ (laws : PowerLaws) {D F : Type 0} (disk : DiskGhosts D) (files : FileGh
                 }))
           ]
 
-pub sessions_and_power : PowerLaws → {D F : Type 0} (disk : DiskGhosts D) (files : FileGhosts F) → LastingIsASession disk files → SessionsAndPower disk files
-sessions_and_power laws disk files lasting world state occasion was from device f sound is_kept is can = (
-  this_session laws disk files lasting world state occasion was from device f sound is_kept is can,
-  answered laws disk files lasting world state occasion was from device f sound is_kept is can,
+pub sessions_and_power : PowerLaws → {D F : Type 0} (disk : DiskGhosts D) (files : FileGhosts F) → SessionsAndPower disk files
+sessions_and_power laws disk files world state occasion was from device f sound is_kept is can = (
+  this_session laws disk files world state occasion was from device f sound is_kept is can,
+  answered laws disk files world state occasion was from device f sound is_kept is can,
 )

@@ -2,9 +2,9 @@
 use Rattle.std.specs.Prelude.{◌≡◌, ◌≤◌, ◌⊎◌, ℕ, true, length, List, ◌++◌, Option, None, Contains}
 use Rattle.fetch_rules.specs.Record.{Row, is_delivered}
 use Rattle.fetch_session.specs.Account.{digits_of}
-use Rattle.fetch_session.specs.Lasting.{SessionForGood}
+use Rattle.fetch_session.specs.Lasting.{SessionLasts}
 use Rattle.fetch_session.specs.Record.{KeepsRows}
-use Rattle.fetch_session.specs.Session.{Kept, keeps_files}
+use Rattle.fetch_session.specs.Session.{Kept, SessionIn, keeps_files}
 use Rattle.fetch_session.specs.Target.{AsFiles}
 use Rattle.fetch_session.specs.declared.account.Store.TheVariants.{Maildir as InMaildir}
 use Rattle.mail_store.specs.declared.file.flat_file.FlatFile.{Ghosts as FileGhosts}
@@ -68,8 +68,9 @@ pub record IsSessionOf {D F : Type 0} (disk : DiskGhosts D) (files : FileGhosts 
     (was : D) (from : F) (device : D) (f : F) : Type 0 where
   pub settings : AreSettings world occasion.settings
   pub sure : files.is_sure from
-  pub session : SessionForGood disk files (InMaildir was) from occasion.settings (AsFiles (digits_of occasion.settings)) occasion.now
-      occasion.link (keeps_files state.kept) occasion.report occasion.link' (keeps_files occasion.after) (InMaildir device) f
+  pub session : SessionIn occasion.settings (AsFiles (digits_of occasion.settings)) occasion.now
+      occasion.link (keeps_files state.kept) occasion.report occasion.link' (keeps_files occasion.after)
+  pub lasts : SessionLasts disk files (InMaildir was) from session (InMaildir device) f
   pub once : (id : List ℕ) → is_legal_id id ≡ true → length (copies (disk.maildir was).files (stem_of (account_of world) id)) ≤ 1
   pub from_is : state.kept.file ≡ files.stored from
   pub file_is : occasion.after.file ≡ files.stored f

@@ -22,7 +22,7 @@ use fetch_rules::{
     listed_has_row, marked_is_delivered, marked_keeps_rows, plans_fetch_wanted,
     torn_is_ignored_or_seen,
 };
-use fetch_session::{lasting_sessions_are_sessions, steady_files_keep, unsaved_files_keep};
+use fetch_session::{steady_files_keep, unsaved_files_keep};
 use mail_store::{
     FlatFile, MaildirDisk, account_texts_are_digits, entries_add_texts, flags_tell_what_is_held,
     names_are_bases, names_have_stems, stems_differ,
@@ -186,7 +186,6 @@ pub fn sessions_and_power<D: MaildirDisk, F: FlatFile>()
     names_are_bases();
     steady_files_keep();
     unsaved_files_keep();
-    lasting_sessions_are_sessions::<D, F>();
 }
 
 /// What devices made anew leave, if it is as much as the last ones left, is kept, also while readers

@@ -12,7 +12,7 @@ ghost use Rattle.run_law.specs.Sessions.{Fact};
 ghost use Rattle.run_law.specs.MboxRuns.{MboxFrame};
 
 use crate::laws::{headline, mbox_headline, takings_are_events};
-use fetch_session::{Account, Report, session};
+use fetch_session::{Account, Report, session, sessions_by_store};
 use mail_store::{FlatFile, MaildirDisk};
 use pop3_wire::Wire;
 use std::alloc::{AllocError, Global};
@@ -73,6 +73,7 @@ pub fn run_sessions<W: Wire, D: MaildirDisk, F: FlatFile, H: BuildHasher>(
     headline();
     takings_are_events();
     mbox_headline();
+    sessions_by_store::<W, D, F>();
     let _ = account.settings();
     let mut reports = Vec::with_capacity(alloc, visits.len())?;
     for i in 0..visits.len() {

@@ -1,5 +1,5 @@
 -- What follows once a record is ready, and what of it outlives a loss of power.
-use Rattle.std.proofs.Common.{◌≡◌, ℕ, Bool, true, false, List, [], ◌∷◌, ◌++◌, length, None, Option, refl, sym, ap, subst, ◌∙◌, inl, inr, arith, Result}
+use Rattle.std.proofs.Common.{◌≡◌, ℕ, Bool, true, false, List, [], ◌∷◌, ◌++◌, length, None, Option, refl, sym, ap, subst, ◌∙◌, inl, inr, arith, Result, Ok, Err}
 use Rattle.std.proofs.lemmas.List.{length-map}
 use Rattle.std.proofs.lemmas.List.FromFn.{length-enumerate_from}
 use Rattle.pop3_wire.specs.Place.{Place}
@@ -21,14 +21,14 @@ use Rattle.fetch_session.specs.Target.{Target, Stores, AsFiles, AsEntries, in_mb
 use Rattle.fetch_session.specs.declared.report.Skips.{Skips}
 use Rattle.fetch_session.specs.Report.{skips_of}
 use Rattle.fetch_session.specs.Scene.{Scene, scene}
-use Rattle.fetch_session.specs.Plan.{tasks_ahead, Unprepared}
+use Rattle.fetch_session.specs.Plan.{Carried, Carries, tasks_ahead, Unprepared}
 use Rattle.std.specs.Prelude.{◌⊎◌, All, Contains}
 use Rattle.mail_store.specs.Maildir.{File, Maildir, names_of}
 use Rattle.mail_store.specs.declared.maildir.disk.MaildirDisk.{Ghosts as DiskGhosts}
 use Rattle.mail_store.specs.declared.file.flat_file.FlatFile.{Ghosts as FileGhosts}
 use Rattle.fetch_session.specs.declared.account.Store.{Store}
 use Rattle.fetch_session.specs.declared.account.Store.TheVariants.{Maildir as InMaildir, Mboxrd as InMbox}
-use Rattle.fetch_session.specs.Lasting.{AllStayIn, AreSure, CarriedForGood, DoesForGood, FoundLast, IsUntouched, KeepsLeftIn, KeepsMailIn, Lasts, MailLasts, NewsLast, StayFrom, outlives_in}
+use Rattle.fetch_session.specs.Lasting.{AllStayIn, AreSure, CarriedLasts, CarriesLast, DoesAndLasts, FoundLast, IsUntouched, KeepsLeftIn, KeepsMailIn, Lasts, MailLasts, NewsLast, StayFrom, outlives_in}
 use Rattle.std.specs.List.{AllByRecursion}
 use Rattle.std.proofs.lemmas.List.Elements.{recursion_from_All}
 use Rattle.fetch_session.proofs.FreshLemmas.{ahead}
@@ -88,21 +88,26 @@ pub carried : {D F : Type 0} (disk : DiskGhosts D) (files : FileGhosts F) {safe 
     → (AreSure files was from → (All IsQuiet ready.steps.items × IsUntouched disk files was before from mid_file)
     ⊎ (safe × AllStayIn disk before × KeepsLeftIn disk files was store.maildir.files before × NewsLast disk target file.content items store before)) → KeepsMailIn disk before end
     → (ids_ahead (tasks_planned steps items held) ≡ [] → f ≡ mid_file)
-    → DoesForGood disk files safe target (tasks_planned steps items held ++ says quit ∷ []) (scene place (stores_of disk files before) file' after mid_lines) r new end f
-    → CarriedForGood disk files was from settings target items now place store file lines r new skipped end f
+    → DoesAndLasts disk files safe target (tasks_planned steps items held ++ says quit ∷ []) (scene place (stores_of disk files before) file' after mid_lines) r new end f
+    → (is : Carries settings target items now place store file lines r new.place new.store new.file new.lines skipped) × CarriesLast disk files was from _ _ _ _ _ _ _ _ _ _ _ _ _ _ is end f
 carried {D} {F} disk files {safe} {settings} {target} {items} {now} {place} {store} {file} {lines} {ready} {after} was before {end} from mid_file {f} {file'} mid_lines steps held {skipped} {r} {new} lines_are is steps_are held_are skipped_is firm keeps same_file does =
     let mid : Scene = scene place (stores_of disk files before) file' after mid_lines in
     let good = rw (steps_are, held_are, is.held, is.steps) at does in
-    record {
-      carried = record {
+    of_result r (
+      record {
         mid = mid;
         prepared = record { was = is.was; stood = is.stood; rows = is.rows; saved = is.saved; file_count = is.file_count; place_is = refl; settles = is.settles; lines_are = lines_are };
         does = good.does;
         skips = skipped_is ∙ ap (skips_of settings after items now) is.steps;
-      };
-      lasts = λ sure. by (Lasts disk files target (tasks_ahead settings target items now store after) mid r new good.does end f) good.lasts (firm sure);
-    }
+      },
+      λ sure. by (Lasts disk files target (tasks_ahead settings target items now store after) mid r new good.does end f) good.lasts (firm sure),
+    )
   where
+    of_result : (r : Result (Unit {0}) Cut) → (c : Carried settings target items now place store file lines r new skipped) × CarriedLasts disk files was from c end f
+        → (is : Carries settings target items now place store file lines r new.place new.store new.file new.lines skipped) × CarriesLast disk files was from _ _ _ _ _ _ _ _ _ _ _ _ _ _ is end f
+    of_result (Ok done) (c, lasts) = ((new.rows, c), lasts)
+    of_result (Err cut) (c, lasts) = ((new.rows, inr c), lasts)
+
     by : (P : Type 0) → (safe → P) → (All IsQuiet ready.steps.items × IsUntouched disk files was before from mid_file)
         ⊎ (safe × AllStayIn disk before × KeepsLeftIn disk files was store.maildir.files before × NewsLast disk target file.content items store before)
         → (All IsQuiet (planned settings after items now) × IsUntouched disk files was end from f) ⊎ (P × MailLasts disk files was target store file.content items end)

@@ -22,7 +22,7 @@ use Rattle.fetch_session.specs.declared.work.Work.{Work}
 use Rattle.fetch_session.specs.Ending.{IsTold, LooksAgain}
 use Rattle.fetch_session.specs.Fault.{cut_of}
 use Rattle.fetch_session.specs.Intake.{TookTillCut}
-use Rattle.fetch_session.specs.Lasting.{DoesForGood, IsSafeStore, IsSafeWork, KeepsMailIn, KeepsMboxIn, NewOutlive, outlives_in}
+use Rattle.fetch_session.specs.Lasting.{DoesAndLasts, IsSafeStore, IsSafeWork, KeepsMailIn, KeepsMboxIn, NewOutlive, outlives_in}
 use Rattle.fetch_session.specs.Parts.{KeepsLink, KeepsSession, KeepsStore}
 use Rattle.fetch_session.specs.Scene.{scene, Stops, TakesTask}
 use Rattle.fetch_session.specs.Target.{Kind, Files, Entries, Target, Stores, is_sound, kind_of, stores_of, target, target_of}
@@ -121,7 +121,7 @@ module _ {D F H Z : Type 0} {disk : DiskGhosts D} {file : FileGhosts F} (work : 
       (scene b (stores_of disk file store) (file.stored work.ledger.file) work.ledger.seen.rows work.ledger.lines.items)
       → KeepsMailIn disk work.store store × KeepsMboxIn disk file work.store store → (stores_of disk file store).maildir ≡ (stores_of disk file work.store).maildir
       → (IsSafeStore file work.store → OnOk r (IsSafeStore file store))
-      → DoesForGood disk file (IsSafeWork file work) (target_of work.store account) (says quit ∷ []) (scene a (stores_of disk file work.store) (file.stored work.ledger.file) work.ledger.seen.rows work.ledger.lines.items) r
+      → DoesAndLasts disk file (IsSafeWork file work) (target_of work.store account) (says quit ∷ []) (scene a (stores_of disk file work.store) (file.stored work.ledger.file) work.ledger.seen.rows work.ledger.lines.items) r
       (scene b (stores_of disk file store) (file.stored work.ledger.file) work.ledger.seen.rows work.ledger.lines.items) store work.ledger.file
   does_quitting account a b r f took keeps same safe =
       good_task (target_of work.store account) (says quit) a b work left r took (keeps.0, keeps.1, λ last. last) (ready.written.steady f) (on_any r (ready.written.steady f))

@@ -23,7 +23,7 @@ use Rattle.fetch_session.specs.declared.work.Work.{Work}
 use Rattle.fetch_session.specs.Record.{Steady, bytes_in, held}
 use Rattle.fetch_session.specs.Scene.{Scene, scene, Went, AllWent}
 use Rattle.fetch_session.specs.Store.{Brings, Ends, begun_with}
-use Rattle.fetch_session.specs.Lasting.{AreLeft, CutLasts, DoesForGood, DonesLast, IsSafe, IsSafeStore, IsSafeWork, IsUntouched, IsLeft, KeepsMailIn, RowsStillLast, KeepsWork, Leaves, LeavesLeft, LeavesMerged, NewOutlive, RowsLast, ShowsRows, TextsLast, may_leave_in, outlives_in}
+use Rattle.fetch_session.specs.Lasting.{AreLeft, CutLasts, DoesAndLasts, DonesLast, IsSafe, IsSafeStore, IsSafeWork, IsUntouched, IsLeft, KeepsMailIn, RowsStillLast, KeepsWork, Leaves, LeavesLeft, LeavesMerged, NewOutlive, RowsLast, ShowsRows, TextsLast, may_leave_in, outlives_in}
 use Rattle.fetch_session.specs.Target.{Kind, Target, AsFiles, AsEntries, Stores, kind_of, stores_of, target as target_at, target_of}
 use Rattle.fetch_session.specs.Task.{Task, Done, files_of, ids_in, ids_of, texts_of}
 use Rattle.fetch_session.proofs.RecordLemmas.{is_there}
@@ -132,16 +132,16 @@ dones_on disk file target xs ys next a b mid new f went first keeps then =
 -- the same if another premise gives this one, and for another store of this kind
 pub in_kind : {D F : Type 0} {disk : DiskGhosts D} {file : FileGhosts F} {here safe : Type 0} {tasks : List Task} {old new : Scene}
     {r : Result (Unit {0}) Cut} {store : Store D F} {f : F} (a b : Store D F) (account : List ℕ) → kind_of a ≡ kind_of b
-    → DoesForGood disk file here (target_of a account) tasks old r new store f → (safe → here) → DoesForGood disk file safe (target_of b account) tasks old r new store f
+    → DoesAndLasts disk file here (target_of a account) tasks old r new store f → (safe → here) → DoesAndLasts disk file safe (target_of b account) tasks old r new store f
 in_kind {D} {F} {disk} {file} {here} {safe} {tasks} {old} {new} {r} {store} {f} a b account same does on =
-    let moved = subst (λ (k : Kind). DoesForGood disk file here (target_at k account) tasks old r new store f) same does in
+    let moved = subst (λ (k : Kind). DoesAndLasts disk file here (target_at k account) tasks old r new store f) same does in
     record { does = moved.does; lasts = λ s. moved.lasts (on s) }
 
 module _ {D F : Type 0} {disk : DiskGhosts D} {file : FileGhosts F} {safe : Type 0} {target : Target} where
   -- some tasks were done, and then others, or not all of them
   pub good_more : TurnsJoin → {xs ys : List Task} {a b c : Scene} (r : Result (Unit {0}) Cut) (mid : Store D F) {new : Store D F} {f : F} → (went : AllWent target xs a b)
-      → (safe → TextsLast disk file target went.dones a.store mid) → KeepsMailIn disk mid new → DoesForGood disk file safe target ys b r c new f
-      → DoesForGood disk file safe target (xs ++ ys) a r c new f
+      → (safe → TextsLast disk file target went.dones a.store mid) → KeepsMailIn disk mid new → DoesAndLasts disk file safe target ys b r c new f
+      → DoesAndLasts disk file safe target (xs ++ ys) a r c new f
   unfolding all_on fell_on
   good_more joining {xs} {ys} {a} {b} {c} (Ok done) mid {new} {f} went first keeps then = record {
     does = all_on joining target xs ys a b c went then.does;
@@ -153,8 +153,8 @@ module _ {D F : Type 0} {disk : DiskGhosts D} {file : FileGhosts F} {safe : Type
   }
 
   -- some of these tasks were done, and none of those after them
-  pub good_before : {xs : List Task} (ys : List Task) {a new : Scene} {cut : Cut} {store : Store D F} {f : F} → DoesForGood disk file safe target xs a (Err cut) new store f
-      → DoesForGood disk file safe target (xs ++ ys) a (Err cut) new store f
+  pub good_before : {xs : List Task} (ys : List Task) {a new : Scene} {cut : Cut} {store : Store D F} {f : F} → DoesAndLasts disk file safe target xs a (Err cut) new store f
+      → DoesAndLasts disk file safe target (xs ++ ys) a (Err cut) new store f
   unfolding fell_before
   good_before {xs} ys {a} {new} {cut} does = record {
     does = fell_before target xs ys a new cut does.does;

@@ -24,7 +24,7 @@ use Rattle.fetch_session.specs.declared.work.Ledger.{Ledger}
 use Rattle.fetch_session.specs.declared.work.Work.{Work}
 use Rattle.fetch_session.specs.Fault.{cut_of, fault_of}
 use Rattle.fetch_session.specs.Intake.{Took, TookTillCut, TookWithTail, step_limit, tail_limit}
-use Rattle.fetch_session.specs.Lasting.{AreLeft, CutLasts, DoesForGood, IsSafeWork, KeepsMailIn, KeepsWork, Leaves, NewOutlive, RowsLast}
+use Rattle.fetch_session.specs.Lasting.{AreLeft, CutLasts, DoesAndLasts, IsSafeWork, KeepsMailIn, KeepsWork, Leaves, NewOutlive, RowsLast}
 use Rattle.fetch_session.specs.Parts.{DoesTasks, IsReadyFor, KeepsLedger, KeepsLink, KeepsSession, KeepsStore}
 use Rattle.fetch_session.specs.Record.{Steady}
 use Rattle.fetch_session.specs.Scene.{scene, TakesTask}
@@ -312,7 +312,7 @@ module _ {D F H Z : Type 0} {disk : DiskGhosts D} {file : FileGhosts F} where
       → (IsSafeWork file old → Leaves file new.ledger.file (AreLeft old.ledger.seen.rows (marked_all old.ledger.seen.rows (ids_in task))))
       → (IsSafeWork file old → IfErr r (λ cut. CutLasts disk file target cut (scene a (stores_of disk file old.store) (file.stored old.ledger.file) old.ledger.seen.rows old.ledger.lines.items)
       (scene b (stores_of disk file new.store) (file.stored new.ledger.file) new.ledger.seen.rows new.ledger.lines.items) new.store new.ledger.file))
-      → DoesForGood disk file (IsSafeWork file old) target (task ∷ []) (scene a (stores_of disk file old.store) (file.stored old.ledger.file) old.ledger.seen.rows old.ledger.lines.items) r
+      → DoesAndLasts disk file (IsSafeWork file old) target (task ∷ []) (scene a (stores_of disk file old.store) (file.stored old.ledger.file) old.ledger.seen.rows old.ledger.lines.items) r
       (scene b (stores_of disk file new.store) (file.stored new.ledger.file) new.ledger.seen.rows new.ledger.lines.items) new.store new.ledger.file
   unfolding fell_first
   good_task target task a b old new (Ok done) took keeps steady written lasts left next = record {
@@ -333,7 +333,7 @@ module _ {D F H Z : Type 0} {disk : DiskGhosts D} {file : FileGhosts F} where
       → TakesTask target task (scene a (stores_of disk file work.store) (file.stored work.ledger.file) work.ledger.seen.rows work.ledger.lines.items) r
       (scene b (stores_of disk file work.store) (file.stored work.ledger.file) work.ledger.seen.rows new.ledger.lines.items)
       → IsReady disk file work → file.sound work.ledger.file
-      → DoesForGood disk file (IsSafeWork file work) target (task ∷ []) (scene a (stores_of disk file work.store) (file.stored work.ledger.file) work.ledger.seen.rows work.ledger.lines.items) r
+      → DoesAndLasts disk file (IsSafeWork file work) target (task ∷ []) (scene a (stores_of disk file work.store) (file.stored work.ledger.file) work.ledger.seen.rows work.ledger.lines.items) r
       (scene b (stores_of disk file work.store) (file.stored work.ledger.file) work.ledger.seen.rows new.ledger.lines.items) work.store work.ledger.file
   good_talking target task a b work new r took ready f =
       good_task target task a b work (record work { ledger = record work.ledger { lines = new.ledger.lines } }) r took (keeps_same disk file work) (ready.written.steady f) (on_any r (ready.written.steady f))

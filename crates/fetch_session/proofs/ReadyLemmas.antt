@@ -23,7 +23,7 @@ use Rattle.fetch_session.specs.Mbox.{AsksMbox}
 use Rattle.mail_store.specs.declared.file.flat_file.FlatFile.{Ghosts as FileGhosts}
 use Rattle.mail_store.specs.declared.maildir.disk.MaildirDisk.{Ghosts as DiskGhosts}
 use Rattle.fetch_session.specs.declared.account.Store.{Store}
-use Rattle.fetch_session.specs.Lasting.{AllStayIn, LeavesMerged, MergeLasts}
+use Rattle.fetch_session.specs.Lasting.{AllStayIn, LeavesMerged, MergeLasts, NewsLast}
 use Rattle.fetch_session.specs.Readiness.{CausesUnready, FindsIn, FindsRefused, IsReady, IsSettledBy, MboxUnready, Settles, Unready, UnreadyCause, merged_in}
 use Rattle.fetch_session.specs.Task.{tasks_planned}
 use Rattle.fetch_session.specs.Record.{Keeps, Steady, ReadAs, Reads, Merges, held_in}
@@ -133,9 +133,14 @@ module _ (settings : Settings) (target : Target) (items : List Item) (now : ℕ)
 
   -- what may be left of the record's file
   pub merge_lasts : {D F : Type 0} (disk : DiskGhosts D) (files : FileGhosts F) (place : Store D F) (from f : F) → AllStayIn disk place → LeavesMerged files loaded.rows here from f
-      → MergeLasts disk files target items now store file place from f
-  merge_lasts disk files place from f stay leaves =
-      record { stay = stay; was = held_in loaded; stood = kept; leaves = subst (λ (rows : List Row). LeavesMerged files loaded.rows rows from f) as_now leaves }
+      → NewsLast disk target file.content items store place → MergeLasts disk files target items now store file place from f
+  merge_lasts disk files place from f stay leaves news = record {
+    stay = stay;
+    was = held_in loaded;
+    stood = kept;
+    leaves = subst (λ (rows : List Row). LeavesMerged files loaded.rows rows from f) as_now leaves;
+    news = news;
+  }
 
 -- ---- every listed id has a row
 

@@ -14,7 +14,7 @@ use Rattle.mail_store.specs.Maildir.{File, IsPart}
 use Rattle.fetch_session.specs.declared.account.Store.{Store}
 use Rattle.fetch_session.specs.declared.account.Store.TheVariants.{Maildir as InMaildir, Mboxrd as InMbox}
 use Rattle.fetch_session.specs.Target.{Target, AsFiles, AsEntries, Stores, AfterTakingIn, IsSoundMaildir, IsSoundMbox, in_maildir, in_mbox, is_sound, kind_of, left_in, maildir_of, mbox_of, stores_of, target_of}
-use Rattle.fetch_session.specs.Lasting.{CarriesForGood, DealtForGood, ProceedsForGood, SessionForGood}
+use Rattle.fetch_session.specs.Lasting.{CarriesLast, ProceedsLast, SessionLasts}
 use Rattle.fetch_session.specs.Report.{Reports}
 use Rattle.fetch_session.specs.declared.report.Report.{Report}
 
@@ -26,56 +26,27 @@ part_same (f ∷ files) = inr (files, refl, part_same files)
 pub dealt : {D F : Type 0} (disk : DiskGhosts D) (files : FileGhosts F) (was : Store D F) (from : F) (settings : Settings) (target : Target) (now : ℕ) (old : Place) (before : Keeping)
     (result : Result (Unit {0}) Cut) (new : Place) (after : Keeping) (notes : Noted) (items : List Item) (mid : Place) (start : List ReportLine) (store : Store D F) (f : F)
     → start ≡ [] → Enters_with settings old (Ok items) mid → notes.total ≡ length items
-    → CarriesForGood disk files was from settings target items now mid before.store before.file start result new after.store after.file notes.lines notes.skipped store f
-    → ProceedsForGood disk files was from settings target now old before result new after notes store f
+    → (is : Carries settings target items now mid before.store before.file start result new after.store after.file notes.lines notes.skipped)
+    × CarriesLast disk files was from _ _ _ _ _ _ _ _ _ _ _ _ _ _ is store f
+    → (is : Proceeds settings target now old before result new after notes) × ProceedsLast disk files was from _ _ _ _ _ _ _ _ _ is store f
 dealt disk files was from settings target now old before result new after notes items mid start store f none enters total carries =
-    by result (record {
-      items = items;
-      mid = mid;
-      enters = enters;
-      total = total;
-      carries = rw none at carries;
-    })
+    let from_nothing = rw none at carries in
+    by result (record { items = items; mid = mid; enters = enters; total = total; carries = from_nothing.0 }) from_nothing.1
   where
-    by : (r : Result (Unit {0}) Cut) → DealtForGood disk files was from settings target now old before r new after notes store f → ProceedsForGood disk files was from settings target now old before r new after notes store f
-    by (Ok done) is = is
-    by (Err cut) is = inr (inr is)
+    by : (r : Result (Unit {0}) Cut) (is : Dealt settings target now old before r new after notes) → CarriesLast disk files was from _ _ _ _ _ _ _ _ _ _ _ _ _ _ is.carries store f
+        → (is : Proceeds settings target now old before r new after notes) × ProceedsLast disk files was from _ _ _ _ _ _ _ _ _ is store f
+    by (Ok done) is lasts = (is, lasts)
+    by (Err cut) is lasts = (inr (inr is), lasts)
 
 -- a session that was brought to its end, or cut and then left
 pub left_session : {D F : Type 0} {disk : DiskGhosts D} {files : FileGhosts F} {was : Store D F} {from : F} {settings : Settings} {target : Target} {now : ℕ} {link link' : Link} {before after : Keeping} {report : Report} {store : Store D F} {f : F}
     (id : Target) (reader : List ℕ) (result : Result (Unit {0}) Cut) (mid : Place) (notes : Noted)
-    → id ≡ target → reader ≡ [] → ProceedsForGood disk files was from settings id now (at link reader) before result mid after notes store f → LeavesLink result mid link'
-    → Reports (outcome_of result) notes.total notes.skipped notes.lines report → SessionForGood disk files was from settings target now link before report link' after store f
-left_session {D} {F} {disk} {files} {was} {from} {settings} {target} {now} {link} {link'} {before} {after} {report} {store} {f} id reader result mid notes same none proceeds leaves reports = record {
-  result = result;
-  mid = mid;
-  notes = notes;
-  proceeds = rw (same, none) at proceeds;
-  leaves = leaves;
-  reports = reports;
-}
-
--- what such a session is, without what outlives a loss of power
-pub session_in : {D F : Type 0} {disk : DiskGhosts D} {files : FileGhosts F} {was : Store D F} {from : F} {settings : Settings} {target : Target} {now : ℕ} {link : Link} {before : Keeping} {report : Report} {link' : Link} {after : Keeping} {store : Store D F} {f : F}
-    → SessionForGood disk files was from settings target now link before report link' after store f → SessionIn settings target now link before report link' after
-session_in {D} {F} {disk} {files} {was} {from} {settings} {target} {now} {link} {before} {report} {link'} {after} {store} {f} s =
-    record { result = s.result; mid = s.mid; notes = s.notes; proceeds = proceeds s.result s.proceeds; leaves = s.leaves; reports = s.reports }
-  where
-    carries : (items : List Item) (mid : Place) (result : Result (Unit {0}) Cut) → CarriesForGood disk files was from settings target items now mid before.store before.file [] result s.mid after.store after.file s.notes.lines s.notes.skipped store f
-        → Carries settings target items now mid before.store before.file [] result s.mid after.store after.file s.notes.lines s.notes.skipped
-    carries items mid (Ok done) (rows, is) = (rows, is.carried)
-    carries items mid (Err cut) (rows, inl not) = (rows, inl (not.0, not.1.unprepared))
-    carries items mid (Err cut) (rows, inr is) = (rows, inr is.carried)
-
-    dealt_in : (result : Result (Unit {0}) Cut) → DealtForGood disk files was from settings target now (at link []) before result s.mid after s.notes store f → Dealt settings target now (at link []) before result s.mid after s.notes
-    dealt_in result is = record { items = is.items; mid = is.mid; enters = is.enters; total = is.total; carries = carries is.items is.mid result is.carries }
-
-    proceeds : (result : Result (Unit {0}) Cut) → ProceedsForGood disk files was from settings target now (at link []) before result s.mid after s.notes store f
-        → Proceeds settings target now (at link []) before result s.mid after s.notes
-    proceeds (Ok done) is = dealt_in (Ok done) is
-    proceeds (Err cut) (inl none) = inl none.0
-    proceeds (Err cut) (inr (inl room)) = inr (inl room.0)
-    proceeds (Err cut) (inr (inr is)) = inr (inr (dealt_in (Err cut) is))
+    → id ≡ target → reader ≡ [] → (is : Proceeds settings id now (at link reader) before result mid after notes) × ProceedsLast disk files was from _ _ _ _ _ _ _ _ _ is store f
+    → LeavesLink result mid link' → Reports (outcome_of result) notes.total notes.skipped notes.lines report
+    → (session : SessionIn settings target now link before report link' after) × SessionLasts disk files was from session store f
+left_session {D} {F} {disk} {files} {was} {from} {settings} {target} {now} {link} {link'} {before} {after} {report} {store} {f} id reader result mid notes same none proceeds leaves reports =
+    let here = rw (same, none) at proceeds in
+    (record { result = result; mid = mid; notes = notes; proceeds = here.0; leaves = leaves; reports = reports }, here.1)
 
 -- ---- a session of an account with a Maildir, and of one with an mboxrd file
 

@@ -18,7 +18,7 @@ use Rattle.fetch_session.specs.declared.fault.Fault.TheVariants.{BadSeen, NoMemo
 use Rattle.fetch_session.specs.declared.fault.Why.TheVariants as why
 use Rattle.fetch_session.specs.declared.readiness.Found.{Found}
 use Rattle.fetch_session.specs.declared.readiness.Ready.{Ready}
-use Rattle.fetch_session.specs.Lasting.{KeepsLeftIn, KeepsMailIn, MergeLasts, NewsLast, ReadiesForGood, ReadyLasts, UnreadyLasts}
+use Rattle.fetch_session.specs.Lasting.{KeepsLeftIn, KeepsMailIn, MergeLasts, NewsLast, ReadiesAndLasts, ReadyLasts, UnreadyLasts}
 use Rattle.fetch_session.specs.Readiness.{FindsIn}
 use Rattle.fetch_session.specs.Record.{IsSecured, Reads}
 use Rattle.fetch_session.specs.Target.{AsFiles, Stores, Target, in_maildir, left_in, stores_of, target_of}
@@ -98,6 +98,7 @@ module _ {D F : Type 0} (disk : DiskGhosts D) (files : FileGhosts F) where
               | inl before ↦ inl (no_more left before)
               | inr here ↦ inr here
             ];
+            news = subst (λ (s : Stored). NewsLast disk target s.content items old store) same merge.news;
           })
         ]
 
@@ -110,7 +111,6 @@ module _ {D F : Type 0} (disk : DiskGhosts D) (files : FileGhosts F) where
     ready_from was store target items now old (Err fault) lasts = unready_from was store target items now old lasts
 
     pub readies_from : {safe sure : Type 0} {was store : Store D F} {settings : Settings} {target : Target} {items : List Item} {now : ℕ} {old : Stores} {r : Result Ready Fault}
-        {after : List Row} → (sure → safe) → ReadiesForGood disk files safe was mid settings target items now old r after store f
-        → ReadiesForGood disk files sure was from settings target items now old r after store f
+        {after : List Row} → (sure → safe) → ReadiesAndLasts disk files safe was mid settings target items now old r after store f → ReadiesAndLasts disk files sure was from settings target items now old r after store f
     readies_from {safe} {sure} {was} {store} {settings} {target} {items} {now} {old} {r} {after} firm is =
         record { readies = rw same at is.readies; lasts = λ s. ready_from was store target items now old r (is.lasts (firm s)) }

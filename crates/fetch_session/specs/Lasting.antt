@@ -1,6 +1,7 @@
 -- What of a session outlives a loss of power, by what its devices say.
 use Rattle.std.specs.Prelude.{◌≡◌, ◌≢◌, ◌⊎◌, ℕ, true, false, List, [], ◌∷◌, ◌++◌, length, Option, None, Some, Result, Ok, Err, All, Contains}
 use Rattle.std.specs.List.{flat_map, AllByRecursion}
+use Rattle.std.proofs.Common.{inl, inr}
 use Rattle.mail_store.specs.declared.maildir.disk.MaildirDisk.{Ghosts as DiskGhosts}
 use Rattle.mail_store.specs.declared.file.flat_file.FlatFile.{Ghosts as FileGhosts}
 use Rattle.mail_store.specs.FlatFile.{Stored}
@@ -12,7 +13,8 @@ use Rattle.mail_store.specs.Settling.{MayBeLeft}
 use Rattle.mail_store.specs.Power.{AllStay, KeepsLeft, KeepsMail, KeepsWhole, LastsWhole, LeavesNoMore, Outlives}
 use Rattle.mail_terms.specs.Listing.{Item}
 use Rattle.pop3_wire.specs.Link.{Link}
-use Rattle.pop3_wire.specs.Place.{Place, at}
+use Rattle.pop3_wire.specs.declared.wire.Wire.{Ghosts as WireGhosts}
+use Rattle.pop3_wire.specs.Place.{Place}
 use Rattle.rc_file.specs.declared.settings.Settings.{Settings}
 use Rattle.fetch_rules.specs.Record.{Row, Held, Intent, is_delivered, none_open, marked_all}
 use Rattle.fetch_rules.specs.RecordGrowth.{Grows}
@@ -26,13 +28,13 @@ use Rattle.fetch_session.specs.declared.report.Report.{Report}
 use Rattle.fetch_session.specs.declared.report.ReportLine.{ReportLine}
 use Rattle.fetch_session.specs.declared.report.Skips.{Skips}
 use Rattle.fetch_session.specs.declared.work.Work.{Work}
-use Rattle.fetch_session.specs.Plan.{Carried, Unprepared, tasks_ahead}
+use Rattle.fetch_session.specs.Account.{Holding, digits_of}
+use Rattle.fetch_session.specs.Plan.{Carried, Carries, tasks_ahead}
 use Rattle.fetch_session.specs.Readiness.{Readies, merged_in}
 use Rattle.fetch_session.specs.Record.{Keeps, Steady, held}
-use Rattle.fetch_session.specs.Report.{Reports, none_skipped}
-use Rattle.fetch_session.specs.Scene.{Scene, scene, Does}
-use Rattle.fetch_session.specs.Session.{Enters_with, Keeping, LeavesLink, NoRoom, NotEntered, Noted, outcome_of}
-use Rattle.fetch_session.specs.Target.{Target, AsFiles, AsEntries, Stores, stores_of}
+use Rattle.fetch_session.specs.Scene.{Scene, Does, WhereAllSound}
+use Rattle.fetch_session.specs.Session.{Keeping, Noted, Proceeds, SessionIn, keeping}
+use Rattle.fetch_session.specs.Target.{Target, AsFiles, AsEntries, AfterTakingIn, Stores, is_sound, stores_of, target_of}
 use Rattle.fetch_session.specs.Task.{Task, Done, ids_in, ids_of, files_of, texts_of}
 
 -- ---- what the devices say
@@ -178,7 +180,7 @@ Lasts disk file target tasks old (Err cut) new does store f = DonesLast disk fil
     × CutLasts disk file target cut does.mid new store f
 
 -- a list of tasks was done, or as far as went well; and if this premise holds, what was done outlives a loss of power
-pub record DoesForGood {D F : Type 0} (disk : DiskGhosts D) (file : FileGhosts F) (safe : Type 0) (target : Target) (tasks : List Task)
+pub record DoesAndLasts {D F : Type 0} (disk : DiskGhosts D) (file : FileGhosts F) (safe : Type 0) (target : Target) (tasks : List Task)
     (old : Scene) (result : Result (Unit {0}) Cut) (new : Scene) (store : Store D F) (f : F) : Type 0 where
   pub does : Does target tasks old result new
   pub lasts : safe → Lasts disk file target tasks old result new does store f
@@ -216,13 +218,14 @@ LeavesMerged files rows others from f = (left : Option (List ℕ)) → files.may
 abbrev pub LeavesLeft : {F : Type 0} → FileGhosts F → Held → List ℕ → F → F → Type 0
 LeavesLeft files was added from f = (left : Option (List ℕ)) → files.may_leave f left → files.may_leave from left ⊎ IsLeft was added left
 
--- the record was merged, or was to be, after each file of a Maildir was on the disk
+-- the record was merged, or was to be, after each name of a Maildir and the files that were found there were on the disk
 pub record MergeLasts {D F : Type 0} (disk : DiskGhosts D) (files : FileGhosts F) (target : Target) (items : List Item) (now : ℕ)
     (old : Stores) (file : Stored) (store : Store D F) (from f : F) : Type 0 where
   pub stay : AllStayIn disk store
   pub was : Held
   pub stood : Keeps file.content was
   pub leaves : LeavesMerged files was.rows (merged_in target old was items now) from f
+  pub news : NewsLast disk target file.content items old store
 
 -- what a session leaves that was cut while it prepared the record: of a Maildir the same, except for what readers took away; and of the
 -- record's file, if it was not written, no more than before; or what a merge leaves
@@ -243,19 +246,12 @@ ReadyLasts disk files was from target items now old (Ok ready) store f =
 ReadyLasts disk files was from target items now old (Err fault) store f =
     UnreadyLasts disk files was from target items now old (files.stored from) store f
 
--- as `Readies`, with what outlives a loss of power if this premise holds
-pub record ReadiesForGood {D F : Type 0} (disk : DiskGhosts D) (files : FileGhosts F) (safe : Type 0) (was : Store D F) (from : F)
+-- the record was made ready, or wasn't; and if this premise holds, this is left
+pub record ReadiesAndLasts {D F : Type 0} (disk : DiskGhosts D) (files : FileGhosts F) (safe : Type 0) (was : Store D F) (from : F)
     (settings : Settings) (target : Target) (items : List Item) (now : ℕ) (old : Stores) (result : Result Ready Fault) (after : List Row)
     (store : Store D F) (f : F) : Type 0 where
   pub readies : Readies settings target items now old (files.stored from) result after (stores_of disk files store) (files.stored f)
   pub lasts : safe → ReadyLasts disk files was from target items now old result store f
-
--- the record wasn't ready, as `Unprepared` says; and if no flush was refused before, this is left
-pub record UnpreparedForGood {D F : Type 0} (disk : DiskGhosts D) (files : FileGhosts F) (was : Store D F) (from : F) (target : Target)
-    (items : List Item) (now : ℕ) (place : Place) (old : Stores) (file : Stored) (lines : List ReportLine) (cut : Cut) (new : Scene)
-    (store : Store D F) (f : F) : Type 0 where
-  pub unprepared : Unprepared target items now place old file lines cut new
-  pub lasts : AreSure files was from → UnreadyLasts disk files was from target items now old file store f
 
 -- each file that was in a Maildir stays, and each that outlived a loss of power before still does, except for what readers took away;
 -- and of each message that was found there and wasn't recorded as delivered, by a record's file of these bytes, one does now
@@ -265,62 +261,53 @@ pub record MailLasts {D F : Type 0} (disk : DiskGhosts D) (files : FileGhosts F)
   pub keeps : KeepsLeftIn disk files was old.maildir.files store
   pub news : NewsLast disk target content items old store
 
--- what was planned was done, or as much as went well; and if no flush was refused before, nothing was to be fetched or deleted and nothing
+-- what was planned was done, or as much as went well: if no flush was refused before, nothing was to be fetched or deleted and nothing
 -- was written, or what was done outlives a loss of power and so does what was in the Maildir before
-pub record CarriedForGood {D F : Type 0} (disk : DiskGhosts D) (files : FileGhosts F) (was : Store D F) (from : F) (settings : Settings)
-    (target : Target) (items : List Item)
-    (now : ℕ) (place : Place) (old : Stores) (file : Stored) (lines : List ReportLine) (result : Result (Unit {0}) Cut) (new : Scene)
-    (skipped : Skips) (store : Store D F) (f : F) : Type 0 where
-  pub carried : Carried settings target items now place old file lines result new skipped
-  pub lasts : AreSure files was from
-      → (All IsQuiet (planned settings carried.mid.rows items now) × IsUntouched disk files was store from f)
-      ⊎ (Lasts disk files target (tasks_ahead settings target items now old carried.mid.rows) carried.mid result new carried.does store f
-      × MailLasts disk files was target old file.content items store)
+abbrev pub CarriedLasts : {D F : Type 0} → DiskGhosts D → FileGhosts F → Store D F → F → {settings : Settings} {target : Target}
+    {items : List Item} {now : ℕ} {place : Place} {old : Stores} {file : Stored} {lines : List ReportLine} {result : Result (Unit {0}) Cut}
+    {new : Scene} {skipped : Skips} → Carried settings target items now place old file lines result new skipped → Store D F → F → Type 0
+CarriedLasts disk files was from {settings} {target} {items} {now} {place} {old} {file} {lines} {result} {new} {skipped} carried store f =
+    AreSure files was from → (All IsQuiet (planned settings carried.mid.rows items now) × IsUntouched disk files was store from f)
+    ⊎ (Lasts disk files target (tasks_ahead settings target items now old carried.mid.rows) carried.mid result new carried.does store f
+    × MailLasts disk files was target old file.content items store)
 
-abbrev pub CarriesForGood : {D F : Type 0} → DiskGhosts D → FileGhosts F → Store D F → F → Settings → Target → List Item → ℕ → Place → Stores
-    → Stored → List ReportLine → Result (Unit {0}) Cut → Place → Stores → Stored → List ReportLine → Skips → Store D F → F → Type 0
-CarriesForGood disk files was from settings target items now place old file lines (Ok done) place' new file' lines' skipped store f =
-    (rows : List Row)
-    × CarriedForGood disk files was from settings target items now place old file lines (Ok done)
-    (scene place' new file' rows lines') skipped store f
-CarriesForGood disk files was from settings target items now place old file lines (Err cut) place' new file' lines' skipped store f =
-    (rows : List Row)
-    × (((skipped ≡ none_skipped) × UnpreparedForGood disk files was from target items now place old file lines cut
-    (scene place' new file' rows lines') store f)
-    ⊎ CarriedForGood disk files was from settings target items now place old file lines (Err cut)
-    (scene place' new file' rows lines') skipped store f)
+-- the same, or the record wasn't ready
+abbrev pub CarriesLast : {D F : Type 0} → DiskGhosts D → FileGhosts F → Store D F → F → (settings : Settings) (target : Target)
+    (items : List Item) (now : ℕ) (place : Place) (old : Stores) (file : Stored) (lines : List ReportLine) (result : Result (Unit {0}) Cut)
+    (place' : Place) (new : Stores) (file' : Stored) (lines' : List ReportLine) (skipped : Skips)
+    → Carries settings target items now place old file lines result place' new file' lines' skipped → Store D F → F → Type 0
+CarriesLast disk files was from _ _ _ _ _ _ _ _ (Ok done) _ _ _ _ _ (rows, carried) store f = CarriedLasts disk files was from carried store f
+CarriesLast disk files was from _ target items now _ old file _ (Err cut) _ _ _ _ _ (rows, inl unprepared) store f =
+    AreSure files was from → UnreadyLasts disk files was from target items now old file store f
+CarriesLast disk files was from _ _ _ _ _ _ _ _ (Err cut) _ _ _ _ _ (rows, inr carried) store f =
+    CarriedLasts disk files was from carried store f
 
--- as `Dealt`, with what outlives a loss of power
-pub record DealtForGood {D F : Type 0} (disk : DiskGhosts D) (files : FileGhosts F) (was : Store D F) (from : F) (settings : Settings)
-    (target : Target) (now : ℕ) (old : Place)
-    (before : Keeping) (result : Result (Unit {0}) Cut) (new : Place) (after : Keeping) (notes : Noted) (store : Store D F)
-    (f : F) : Type 0 where
-  pub items : List Item
-  pub mid : Place
-  pub enters : Enters_with settings old (Ok items) mid
-  pub total : notes.total ≡ length items
-  pub carries : CarriesForGood disk files was from settings target items now mid before.store before.file [] result new after.store
-      after.file notes.lines notes.skipped store f
+-- a session up to its QUIT, or until it was cut: before its listing was known it wrote nothing
+abbrev pub ProceedsLast : {D F : Type 0} → DiskGhosts D → FileGhosts F → Store D F → F → (settings : Settings) (target : Target) (now : ℕ)
+    (old : Place) (before : Keeping) (result : Result (Unit {0}) Cut) (new : Place) (after : Keeping) (notes : Noted)
+    → Proceeds settings target now old before result new after notes → Store D F → F → Type 0
+ProceedsLast disk files was from settings target now old before (Ok done) new after notes dealt store f =
+    CarriesLast disk files was from settings target dealt.items now dealt.mid before.store before.file [] (Ok done) new after.store after.file
+    notes.lines notes.skipped dealt.carries store f
+ProceedsLast disk files was from _ _ _ _ _ (Err cut) _ _ _ (inl stopped) store f = IsUntouched disk files was store from f
+ProceedsLast disk files was from _ _ _ _ _ (Err cut) _ _ _ (inr (inl wanting)) store f = IsUntouched disk files was store from f
+ProceedsLast disk files was from settings target now old before (Err cut) new after notes (inr (inr dealt)) store f =
+    CarriesLast disk files was from settings target dealt.items now dealt.mid before.store before.file [] (Err cut) new after.store after.file
+    notes.lines notes.skipped dealt.carries store f
 
--- as `Proceeds`, with what outlives a loss of power
-abbrev pub ProceedsForGood : {D F : Type 0} → DiskGhosts D → FileGhosts F → Store D F → F → Settings → Target → ℕ → Place → Keeping
-    → Result (Unit {0}) Cut → Place → Keeping → Noted → Store D F → F → Type 0
-ProceedsForGood disk files was from settings target now old before (Ok done) new after notes store f =
-    DealtForGood disk files was from settings target now old before (Ok done) new after notes store f
-ProceedsForGood disk files was from settings target now old before
-    (Err cut) new after notes store f = (NotEntered settings old before cut new after notes × IsUntouched disk files was store from f)
-    ⊎ ((NoRoom settings old before cut new after notes × IsUntouched disk files was store from f)
-    ⊎ DealtForGood disk files was from settings target now old before (Err cut) new after notes store f)
+-- a whole session. Tasks are done in order, and a deletion comes after its message's other task, so a DELE is sent only for a message
+-- whose text outlives a loss of power
+abbrev pub SessionLasts : {D F : Type 0} → DiskGhosts D → FileGhosts F → Store D F → F → {settings : Settings} {target : Target} {now : ℕ}
+    {link : Link} {before : Keeping} {report : Report} {link' : Link} {after : Keeping}
+    → SessionIn settings target now link before report link' after → Store D F → F → Type 0
+SessionLasts disk files was from session store f =
+    ProceedsLast disk files was from _ _ _ _ _ _ _ _ _ session.proceeds store f
 
--- a whole session, as `SessionIn` says; and if no flush was refused before, what was stored and marked for each task that was
--- done outlives a loss of power. Tasks are done in order, and a deletion comes after its message's other task, so a DELE is sent only
--- for a message whose text outlives a loss of power
-pub record SessionForGood {D F : Type 0} (disk : DiskGhosts D) (files : FileGhosts F) (was : Store D F) (from : F) (settings : Settings)
-    (target : Target) (now : ℕ)
-    (link : Link) (before : Keeping) (report : Report) (link' : Link) (after : Keeping) (store : Store D F) (f : F) : Type 0 where
-  pub result : Result (Unit {0}) Cut
-  pub mid : Place
-  pub notes : Noted
-  pub proceeds : ProceedsForGood disk files was from settings target now (at link []) before result mid after notes store f
-  pub leaves : LeavesLink result mid link'
-  pub reports : Reports (outcome_of result) notes.total notes.skipped notes.lines report
+-- a session of an account over these devices, if they are sound after it; and what of it outlives a loss of power
+abbrev pub RunsSession : {W D F : Type 0} → WireGhosts W → DiskGhosts D → FileGhosts F → ℕ → Holding D F → W → Report → Holding D F → W → Type 0
+RunsSession link disk files now old wire report new wire' = WhereAllSound link.sound link.leads_to (is_sound disk files) files.sound wire wire'
+    old.store new.store old.file new.file
+    (AfterTakingIn (stores_of disk files old.store) (λ left. (session : SessionIn old.settings (target_of old.store (digits_of old.settings)) now
+    (link.history wire) (keeping left (files.stored old.file)) report (link.history wire')
+    (keeping (stores_of disk files new.store) (files.stored new.file)))
+    × SessionLasts disk files old.store old.file session new.store new.file))

@@ -3,7 +3,7 @@ use Rattle.std.specs.Prelude.{◌≡◌, ◌⊎◌, ℕ, List, [], ◌∷◌, �
 use Rattle.std.specs.List.{flat_map, AllZip}
 use Rattle.fetch_rules.specs.Record.{Held, none_open, marked_all}
 use Rattle.mail_store.specs.FlatFile.{Stored}
-use Rattle.mail_store.specs.Maildir.{File}
+use Rattle.mail_store.specs.Maildir.{File, AfterTaking}
 use Rattle.pop3_wire.specs.Reading.{WholeReply, reply_bytes}
 use Rattle.pop3_client.specs.Turns.{IsGood}
 use Rattle.fetch_session.specs.declared.fault.Fault.{Fault}
@@ -12,16 +12,15 @@ use Rattle.fetch_session.specs.declared.fault.Fault.TheVariants.{StoreRefused, S
 use Rattle.fetch_session.specs.declared.fault.Why.TheVariants.{Refused}
 use Rattle.fetch_session.specs.Task.{Task, Done, stores, tasks_of, turns_of, replies_of, ids_of, files_of, file_from, lines_of}
 use Rattle.fetch_session.specs.Record.{Keeps, Steady, Saves}
-use Rattle.fetch_session.specs.Scene.{Scene, Fell}
-use Rattle.fetch_session.specs.Target.{AsFiles, Target}
-use Rattle.fetch_session.specs.Lasting.{SessionForGood}
-use Rattle.fetch_session.specs.Session.{Keeping, SessionIn}
-use Rattle.fetch_session.specs.declared.account.Store.{Store}
+use Rattle.fetch_session.specs.Scene.{Scene, Fell, WhereAllSound}
+use Rattle.fetch_session.specs.Target.{AsFiles, IsSoundMaildir, IsSoundMbox, maildir_of, mbox_of}
+use Rattle.fetch_session.specs.Account.{Holding, IsSameAccount, digits_of}
+use Rattle.fetch_session.specs.Lasting.{RunsSession}
+use Rattle.fetch_session.specs.Session.{MboxSession, Session, kept, mbox_kept}
 use Rattle.fetch_session.specs.declared.report.Report.{Report}
 use Rattle.mail_store.specs.declared.file.flat_file.FlatFile.{Ghosts as FileGhosts}
 use Rattle.mail_store.specs.declared.maildir.disk.MaildirDisk.{Ghosts as DiskGhosts}
-use Rattle.pop3_wire.specs.Link.{Link}
-use Rattle.rc_file.specs.declared.settings.Settings.{Settings}
+use Rattle.pop3_wire.specs.declared.wire.Wire.{Ghosts as WireGhosts}
 
 -- what was got begins with these replies, whole
 abbrev pub Stands : List WholeReply → Scene → Scene → Type 0
@@ -60,12 +59,21 @@ StoppingCutsShort = (account : List ℕ) (tasks : List Task) (old new : Scene) (
     → Fell (AsFiles account) tasks old cut new → old.place.waiting ≡ [] → Steady old.file.content (none_open old.rows)
     → CutShort account tasks old cut.fault new
 
--- a session of which it is said what outlives a loss of power is a session
-abbrev pub LastingIsASession : {D F : Type 0} → DiskGhosts D → FileGhosts F → Type 0
-LastingIsASession {D} {F} disk files = (was store : Store D F) (old new : F) (settings : Settings) (target : Target) (now : ℕ) (link : Link) (before : Keeping)
-    (report : Report) (link' : Link) (after : Keeping)
-    → SessionForGood disk files was old settings target now link before report link' after store new
-    → SessionIn settings target now link before report link' after
+-- a session of an account with a Maildir
+abbrev pub MaildirSessions : {W D F : Type 0} → WireGhosts W → DiskGhosts D → FileGhosts F → Type 0
+MaildirSessions {W} {D} {F} link disk files = (now : ℕ) (old new : Holding D F) (wire wire' : W) (report : Report) → IsSameAccount old new
+    → RunsSession link disk files now old wire report new wire'
+    → WhereAllSound link.sound link.leads_to (IsSoundMaildir disk) files.sound wire wire' old.store new.store old.file new.file
+    (AfterTaking (maildir_of disk old.store) (λ left. Session old.settings (digits_of old.settings) now (link.history wire)
+    (kept left (files.stored old.file)) report (link.history wire') (kept (maildir_of disk new.store) (files.stored new.file))))
+
+-- a session of an account with an mboxrd file
+abbrev pub MboxSessions : {W D F : Type 0} → WireGhosts W → DiskGhosts D → FileGhosts F → Type 0
+MboxSessions {W} {D} {F} link disk files = (now : ℕ) (old new : Holding D F) (wire wire' : W) (report : Report) → IsSameAccount old new
+    → RunsSession link disk files now old wire report new wire'
+    → WhereAllSound link.sound link.leads_to (IsSoundMbox files) files.sound wire wire' old.store new.store old.file new.file
+    (MboxSession old.settings now (link.history wire) (mbox_kept (mbox_of files old.store) (files.stored old.file)) report
+    (link.history wire') (mbox_kept (mbox_of files new.store) (files.stored new.file)))
 
 -- a file of version 2 that stands for a record and has no torn end stands for that record
 abbrev pub SteadyFilesKeep : Type 0

@@ -19,7 +19,7 @@ use Rattle.fetch_session.specs.declared.step.Task.TheVariants.{Store, Reread, Sk
 use Rattle.fetch_session.specs.declared.work.Ledger.{Ledger}
 use Rattle.fetch_session.specs.declared.work.Work.{Work}
 use Rattle.fetch_session.specs.Intake.{TookTillCut}
-use Rattle.fetch_session.specs.Lasting.{AreLeft, DoesForGood, IsSafe, IsSafeWork, KeepsMailIn, Leaves}
+use Rattle.fetch_session.specs.Lasting.{AreLeft, DoesAndLasts, IsSafe, IsSafeWork, KeepsMailIn, Leaves}
 use Rattle.fetch_session.specs.Record.{Steady, held_in}
 use Rattle.fetch_session.specs.Refusal.{RefusesTillCut}
 use Rattle.fetch_session.specs.Report.{Adds, HasRoom}
@@ -107,5 +107,5 @@ pub record KeepsSession {W D F H Z : Type 0} (link : WireGhosts W) (disk : DiskG
 abbrev pub DoesTasks : {W D F H Z : Type 0} → WireGhosts W → DiskGhosts D → FileGhosts F → List ℕ → List Task → Client W → Work D F H Z
     → Result (Unit {0}) Cut → Client W → Work D F H Z → Type 0
 DoesTasks link disk file account tasks client work result client' work' = WhereWorkSound link disk file client work client' work'
-    (λ old new. DoesForGood disk file (IsSafeWork file work) (target_of work.store account) tasks old result new
+    (λ old new. DoesAndLasts disk file (IsSafeWork file work) (target_of work.store account) tasks old result new
     work'.store work'.ledger.file)

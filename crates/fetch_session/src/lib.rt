@@ -27,7 +27,7 @@ mod work;
 pub use account::{Account, Store};
 pub use fault::{Cut, Fault, Why};
 pub use laws::{
-    lasting_sessions_are_sessions, steady_files_keep, stopping_cuts_short, unsaved_files_keep,
+    sessions_by_store, steady_files_keep, stopping_cuts_short, unsaved_files_keep,
 };
 pub use listener::{Listener, Silent};
 pub use one_session::{session, session_told};

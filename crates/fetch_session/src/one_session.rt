@@ -4,18 +4,15 @@ ghost use Rattle.pop3_client.specs.Client.{HasSameLink, link_of};
 ghost use Rattle.std.specs.Vec.{vec_len};
 ghost use Rattle.rc_file.specs.Settings.{IsValid};
 ghost use Rattle.mail_store.specs.FileName.{IsAccountText};
-ghost use Rattle.mail_store.specs.Maildir.{AfterTaking};
-ghost use Rattle.fetch_session.specs.Scene.{WhereAllSound};
 ghost use Rattle.fetch_session.specs.Work.{WhereWorkSound};
-ghost use Rattle.fetch_session.specs.Account.{IsSameAccount, digits_of};
+ghost use Rattle.fetch_session.specs.Account.{IsSameAccount};
 ghost use Rattle.fetch_session.specs.Intake.{GotAtMost, session_limit, TookWithTail, opening_limit, step_limit, tail_limit};
 ghost use Rattle.fetch_session.specs.Refusal.{IsWithinLimits, RefusesByOutcome};
-ghost use Rattle.fetch_session.specs.Lasting.{ProceedsForGood, SessionForGood};
+ghost use Rattle.fetch_session.specs.Lasting.{ProceedsLast, RunsSession};
 ghost use Rattle.fetch_session.specs.Parts.{KeepsLink, KeepsStore};
 ghost use Rattle.fetch_session.specs.Report.{Reports, most_lines, none_skipped};
-ghost use Rattle.fetch_session.specs.Session.{MboxSession, Session, keeping, kept, mbox_kept, noted};
-ghost use Rattle.fetch_session.specs.Target.{AfterTakingIn, IsCalm, IsSoundMaildir, IsSoundMbox};
-ghost use Rattle.fetch_session.specs.Target.{is_sound, maildir_of, mbox_of, stores_of, target_of};
+ghost use Rattle.fetch_session.specs.Session.{Proceeds, keeping, noted};
+ghost use Rattle.fetch_session.specs.Target.{AfterTakingIn, IsCalm, target_of};
 
 use crate::account::Account;
 use crate::fault::{Cut, Fault, broken, plain};
@@ -66,11 +63,10 @@ fn proceed<W: Wire, D: MaildirDisk, F: FlatFile, H: BuildHasher, L: Listener>(
         client.new }
     ensures store { KeepsStore D.MaildirDisk F.FlatFile most_lines work.old work.new }
     ensures proceeds { WhereWorkSound W.Wire D.MaildirDisk F.FlatFile client.old work.old client.new work.new
-        (λ old new. AfterTakingIn old.store (λ left. ProceedsForGood D.MaildirDisk F.FlatFile
-        work.old.store work.old.ledger.file
-        terms.entry.settings.now (target_of work.old.store terms.entry.account.now) terms.entry.now old.place
-        (keeping left old.file) result
-        new.place (keeping new.store new.file) (noted counts.new.total counts.new.skipped new.lines) work.new.store work.new.ledger.file)) }
+        (λ old new. AfterTakingIn old.store (λ left. (is : Proceeds terms.entry.settings.now
+        (target_of work.old.store terms.entry.account.now) terms.entry.now old.place (keeping left old.file) result
+        new.place (keeping new.store new.file) (noted counts.new.total counts.new.skipped new.lines))
+        × ProceedsLast D.MaildirDisk F.FlatFile work.old.store work.old.ledger.file _ _ _ _ _ _ _ _ _ is work.new.store work.new.ledger.file)) }
     ensures heard { L.goes_on listener.old listener.new }
 {
     conversations_are_paced();
@@ -96,13 +92,7 @@ fn session_over<W: Wire, D: MaildirDisk, F: FlatFile, H: BuildHasher, L: Listene
     ensures link { HasSameLink client.old client.new }
     ensures counted { RefusesByOutcome (link_of W.Wire client.old) result.outcome (link_of W.Wire client.new) }
     ensures same { IsSameAccount account.old account.new }
-    ensures session { WhereAllSound W.sound W.leads_to (is_sound D.MaildirDisk F.FlatFile) F.sound client.old.wire.now client.new.wire.now
-        account.old.store account.new.store account.old.file account.new.file
-        (AfterTakingIn (stores_of D.MaildirDisk F.FlatFile account.old.store) (λ left. SessionForGood D.MaildirDisk F.FlatFile
-        account.old.store account.old.file account.old.settings
-        (target_of account.old.store (digits_of account.old.settings)) now (link_of W.Wire client.old)
-        (keeping left (F.stored account.old.file)) result (link_of W.Wire client.new)
-        (keeping (stores_of D.MaildirDisk F.FlatFile account.new.store) (F.stored account.new.file)) account.new.store account.new.file)) }
+    ensures session { RunsSession W.Wire D.MaildirDisk F.FlatFile now account.old client.old.wire.now result account.new client.new.wire.now }
     ensures bounded { W.sound client.new.wire.now
         → GotAtMost (session_limit result.total) (link_of W.Wire client.old) (link_of W.Wire client.new) }
     ensures heard { L.goes_on listener.old listener.new }
@@ -154,26 +144,9 @@ pub fn session<W: Wire, D: MaildirDisk, F: FlatFile, H: BuildHasher>(
     wire: &mut W,
     now: u64,
 ) -> Report
-    ensures counted { RefusesByOutcome (W.history wire.old) result.outcome (W.history wire.new) }
+    ensures limits { IsWithinLimits W.Wire wire.old result wire.new }
     ensures same { IsSameAccount account.old account.new }
-    ensures session { WhereAllSound W.sound W.leads_to (IsSoundMaildir D.MaildirDisk) F.sound wire.old wire.new
-        account.old.store account.new.store account.old.file account.new.file
-        (AfterTaking (maildir_of D.MaildirDisk account.old.store) (λ left. Session account.old.settings (digits_of account.old.settings)
-        now (W.history wire.old) (kept left (F.stored account.old.file)) result (W.history wire.new)
-        (kept (maildir_of D.MaildirDisk account.new.store) (F.stored account.new.file)))) }
-    ensures mbox_session { WhereAllSound W.sound W.leads_to (IsSoundMbox F.FlatFile) F.sound wire.old wire.new
-        account.old.store account.new.store account.old.file account.new.file
-        (MboxSession account.old.settings now (W.history wire.old)
-        (mbox_kept (mbox_of F.FlatFile account.old.store) (F.stored account.old.file)) result (W.history wire.new)
-        (mbox_kept (mbox_of F.FlatFile account.new.store) (F.stored account.new.file))) }
-    ensures bounded { W.sound wire.new
-        → GotAtMost (session_limit result.total) (W.history wire.old) (W.history wire.new) }
-    ensures power { W.sound wire.new → is_sound D.MaildirDisk F.FlatFile account.new.store → F.sound account.new.file
-        → AfterTakingIn (stores_of D.MaildirDisk F.FlatFile account.old.store) (λ left. SessionForGood D.MaildirDisk F.FlatFile
-        account.old.store account.old.file account.old.settings
-        (target_of account.old.store (digits_of account.old.settings)) now (W.history wire.old)
-        (keeping left (F.stored account.old.file)) result (W.history wire.new)
-        (keeping (stores_of D.MaildirDisk F.FlatFile account.new.store) (F.stored account.new.file)) account.new.store account.new.file) }
+    ensures session { RunsSession W.Wire D.MaildirDisk F.FlatFile now account.old wire.old result account.new wire.new }
 {
     session_told(account, wire, now, &mut Silent)
 }
@@ -185,24 +158,9 @@ pub fn session_told<W: Wire, D: MaildirDisk, F: FlatFile, H: BuildHasher, L: Lis
     now: u64,
     listener: &mut L,
 ) -> Report
-    ensures link { IsWithinLimits W.Wire wire.old result wire.new }
+    ensures limits { IsWithinLimits W.Wire wire.old result wire.new }
     ensures same { IsSameAccount account.old account.new }
-    ensures session { WhereAllSound W.sound W.leads_to (IsSoundMaildir D.MaildirDisk) F.sound wire.old wire.new
-        account.old.store account.new.store account.old.file account.new.file
-        (AfterTaking (maildir_of D.MaildirDisk account.old.store) (λ left. Session account.old.settings (digits_of account.old.settings)
-        now (W.history wire.old) (kept left (F.stored account.old.file)) result (W.history wire.new)
-        (kept (maildir_of D.MaildirDisk account.new.store) (F.stored account.new.file)))) }
-    ensures mbox_session { WhereAllSound W.sound W.leads_to (IsSoundMbox F.FlatFile) F.sound wire.old wire.new
-        account.old.store account.new.store account.old.file account.new.file
-        (MboxSession account.old.settings now (W.history wire.old)
-        (mbox_kept (mbox_of F.FlatFile account.old.store) (F.stored account.old.file)) result (W.history wire.new)
-        (mbox_kept (mbox_of F.FlatFile account.new.store) (F.stored account.new.file))) }
-    ensures power { W.sound wire.new → is_sound D.MaildirDisk F.FlatFile account.new.store → F.sound account.new.file
-        → AfterTakingIn (stores_of D.MaildirDisk F.FlatFile account.old.store) (λ left. SessionForGood D.MaildirDisk F.FlatFile
-        account.old.store account.old.file account.old.settings
-        (target_of account.old.store (digits_of account.old.settings)) now (W.history wire.old)
-        (keeping left (F.stored account.old.file)) result (W.history wire.new)
-        (keeping (stores_of D.MaildirDisk F.FlatFile account.new.store) (F.stored account.new.file)) account.new.store account.new.file) }
+    ensures session { RunsSession W.Wire D.MaildirDisk F.FlatFile now account.old wire.old result account.new wire.new }
     ensures heard { L.goes_on listener.old listener.new }
 {
     let mut client = Client::new(wire);

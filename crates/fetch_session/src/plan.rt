@@ -7,8 +7,9 @@ ghost use Rattle.mail_store.specs.FileName.{IsAccountText};
 ghost use Rattle.fetch_session.specs.Target.{AfterTakingIn, IsCalm, target_of};
 ghost use Rattle.fetch_session.specs.Work.{WhereWorkSound};
 ghost use Rattle.fetch_session.specs.Intake.{TookWithTail, step_limit, tail_limit};
-ghost use Rattle.fetch_session.specs.Lasting.{CarriesForGood};
+ghost use Rattle.fetch_session.specs.Lasting.{CarriesLast};
 ghost use Rattle.fetch_session.specs.Parts.{KeepsLink, KeepsStore};
+ghost use Rattle.fetch_session.specs.Plan.{Carries};
 ghost use Rattle.fetch_session.specs.Report.{HasRoom, none_skipped};
 
 use crate::ending::end;
@@ -46,11 +47,10 @@ pub fn carry_out<W: Wire, D: MaildirDisk, F: FlatFile, H: BuildHasher, L: Listen
     ensures link { KeepsLink W.Wire (TookWithTail (length listing.now * step_limit + tail_limit)) client.old result client.new }
     ensures store { KeepsStore D.MaildirDisk F.FlatFile (2 * length listing.now) work.old work.new }
     ensures carries { WhereWorkSound W.Wire D.MaildirDisk F.FlatFile client.old work.old client.new work.new
-        (λ old new. AfterTakingIn old.store (λ left. CarriesForGood D.MaildirDisk F.FlatFile
-        work.old.store work.old.ledger.file
-        terms.entry.settings.now (target_of work.old.store terms.entry.account.now) listing.now terms.entry.now
-        old.place left old.file old.lines result
-        new.place new.store new.file new.lines skipped.new work.new.store work.new.ledger.file)) }
+        (λ old new. AfterTakingIn old.store (λ left. (is : Carries terms.entry.settings.now
+        (target_of work.old.store terms.entry.account.now) listing.now terms.entry.now old.place left old.file old.lines result
+        new.place new.store new.file new.lines skipped.new)
+        × CarriesLast D.MaildirDisk F.FlatFile work.old.store work.old.ledger.file _ _ _ _ _ _ _ _ _ _ _ _ _ _ is work.new.store work.new.ledger.file)) }
     ensures heard { L.goes_on listener.old listener.new }
 {
     turns_join();

@@ -10,7 +10,7 @@ ghost use Rattle.fetch_session.specs.Mbox.{AsksMbox, SettlesIntent};
 ghost use Rattle.mail_store.specs.Maildir.{AfterTaking};
 ghost use Rattle.mail_store.specs.Power.{AllStay, KeepsLeft, KeepsMail, LeavesNoMore};
 ghost use Rattle.fetch_session.specs.Lasting.{AllStayIn, AreSure, FoundLast, FoundLastIn, IsSafe, IsSafeStore, KeepsLeftIn, KeepsMailIn, LeavesMerged};
-ghost use Rattle.fetch_session.specs.Lasting.{ReadiesForGood, is_sure};
+ghost use Rattle.fetch_session.specs.Lasting.{ReadiesAndLasts, is_sure};
 ghost use Rattle.fetch_session.specs.Parts.{KeepsBegun};
 ghost use Rattle.fetch_session.specs.Target.{AfterTakingIn, flags_in, is_sound, kind_of, stores_of, target_of};
 ghost use Rattle.fetch_session.specs.Readiness.{AreAsHeld, ChecksBoth, ChecksStore, FindsHeld, FindsIn, HasPlan, IsIdle, Rests};
@@ -398,7 +398,7 @@ fn prepare_by_store<D: MaildirDisk, F: FlatFile, H: BuildHasher>(
         × OnOk result (Steady (F.stored work.new.ledger.file).content (none_open work.new.ledger.seen.rows)) }
     ensures readies { is_sound D.MaildirDisk F.FlatFile work.new.store → F.sound work.new.ledger.file
         → is_sound D.MaildirDisk F.FlatFile work.old.store × F.sound work.old.ledger.file
-        × AfterTakingIn (stores_of D.MaildirDisk F.FlatFile work.old.store) (λ left. ReadiesForGood D.MaildirDisk F.FlatFile
+        × AfterTakingIn (stores_of D.MaildirDisk F.FlatFile work.old.store) (λ left. ReadiesAndLasts D.MaildirDisk F.FlatFile
         (is_sure F.FlatFile work.old.store × IsSafe F.FlatFile work.old.ledger.file) work.old.store work.old.ledger.file
         terms.entry.settings.now (target_of work.old.store terms.entry.account.now) listing.now terms.entry.now left result
         work.new.ledger.seen.rows work.new.store work.new.ledger.file) }
@@ -446,7 +446,7 @@ pub fn prepare<D: MaildirDisk, F: FlatFile, H: BuildHasher>(
         × OnOk result (Steady (F.stored work.new.ledger.file).content (none_open work.new.ledger.seen.rows)) }
     ensures readies { is_sound D.MaildirDisk F.FlatFile work.new.store → F.sound work.new.ledger.file
         → is_sound D.MaildirDisk F.FlatFile work.old.store × F.sound work.old.ledger.file
-        × AfterTakingIn (stores_of D.MaildirDisk F.FlatFile work.old.store) (λ left. ReadiesForGood D.MaildirDisk F.FlatFile
+        × AfterTakingIn (stores_of D.MaildirDisk F.FlatFile work.old.store) (λ left. ReadiesAndLasts D.MaildirDisk F.FlatFile
         (AreSure F.FlatFile work.old.store work.old.ledger.file) work.old.store work.old.ledger.file
         terms.entry.settings.now (target_of work.old.store terms.entry.account.now) listing.now terms.entry.now left result
         work.new.ledger.seen.rows work.new.store work.new.ledger.file) }

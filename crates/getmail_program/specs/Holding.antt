@@ -3,30 +3,18 @@ use Rattle.std.specs.Prelude.{◌≡◌, ◌⊎◌, ℕ, Bool, true, false}
 use Rattle.pop3_wire.specs.declared.wire.Wire.{Ghosts as WireGhosts}
 use Rattle.mail_store.specs.declared.maildir.disk.MaildirDisk.{Ghosts as DiskGhosts}
 use Rattle.mail_store.specs.declared.file.flat_file.FlatFile.{Ghosts as FileGhosts}
-use Rattle.mail_store.specs.Maildir.{AfterTaking}
 use Rattle.fetch_session.specs.declared.fault.Fault.{Fault}
 use Rattle.fetch_session.specs.declared.preview.Preview.{Preview}
 use Rattle.fetch_session.specs.declared.report.Outcome.TheVariants.{Ended, Cut}
 use Rattle.fetch_session.specs.declared.report.Report.{Report}
 use Rattle.fetch_session.specs.Account.{Holding, digits_of}
+use Rattle.fetch_session.specs.Lasting.{RunsSession}
 use Rattle.fetch_session.specs.Pretend.{Pretends, told_in, told_nothing}
-use Rattle.fetch_session.specs.Refusal.{RefusesByOutcome}
-use Rattle.fetch_session.specs.Session.{MboxSession, Session, keeping, kept, mbox_kept}
-use Rattle.fetch_session.specs.Target.{AfterTakingIn, IsSoundMaildir, IsSoundMbox, is_sound, maildir_of, mbox_of, stores_of, target_of}
+use Rattle.fetch_session.specs.Refusal.{IsWithinLimits}
+use Rattle.fetch_session.specs.Session.{keeping}
+use Rattle.fetch_session.specs.Target.{AfterTakingIn, is_sound, stores_of, target_of}
 use Rattle.getmail_program.specs.declared.told.Told.{Told}
 use Rattle.getmail_program.specs.declared.told.Told.TheVariants.{Done, Ahead}
-
--- one session of an account was run over a link: what it did is what its report says, as far as the devices do what their traits say, and
--- a call on the link was refused only if it was cut
-pub record RunsSession {W D F : Type 0} (link : WireGhosts W) (disk : DiskGhosts D) (file : FileGhosts F) (now : ℕ) (old : Holding D F)
-    (wire : W) (report : Report) (new : Holding D F) (wire' : W) : Type 0 where
-  pub counted : RefusesByOutcome (link.history wire) report.outcome (link.history wire')
-  pub maildir : link.sound wire' → IsSoundMaildir disk new.store → file.sound new.file
-      → AfterTaking (maildir_of disk old.store) (λ left. Session old.settings (digits_of old.settings) now (link.history wire)
-      (kept left (file.stored old.file)) report (link.history wire') (kept (maildir_of disk new.store) (file.stored new.file)))
-  pub mbox : link.sound wire' → IsSoundMbox file new.store → file.sound new.file
-      → MboxSession old.settings now (link.history wire) (mbox_kept (mbox_of file old.store) (file.stored old.file))
-      report (link.history wire') (mbox_kept (mbox_of file new.store) (file.stored new.file))
 
 -- a session that changes nothing was run: the preview says what a run would do
 abbrev pub PreviewsSession : {W D F : Type 0} → WireGhosts W → DiskGhosts D → FileGhosts F → ℕ → Holding D F → W → Preview → Holding D F
@@ -51,6 +39,6 @@ SaysAhead preview said = (said ≡ preview) ⊎ ((preview.outcome ≡ Ended) × 
 abbrev pub HoldsSession : {W D F : Type 0} → WireGhosts W → DiskGhosts D → FileGhosts F → Bool → ℕ → Holding D F → W → Told → Holding D F
     → W → Type 0
 HoldsSession link disk file pretends now old wire (Done report) new wire' =
-    (pretends ≡ false) × RunsSession link disk file now old wire report new wire'
+    (pretends ≡ false) × IsWithinLimits link wire report wire' × RunsSession link disk file now old wire report new wire'
 HoldsSession link disk file pretends now old wire (Ahead said) new wire' =
     (pretends ≡ true) × ((preview : Preview) × PreviewsSession link disk file now old wire preview new wire' × SaysAhead preview said)

@@ -3,7 +3,9 @@ ghost use Rattle.std.specs.Prelude.{◌≡◌, [], false, true};
 ghost use Rattle.fetch_session.specs.Reasons.{told_report};
 ghost use Rattle.fetch_session.specs.Target.{kind_of};
 ghost use Rattle.fetch_session.specs.Telling.{preview_text};
-ghost use Rattle.getmail_program.specs.Holding.{HoldsSession, RunsSession};
+ghost use Rattle.fetch_session.specs.Lasting.{RunsSession};
+ghost use Rattle.fetch_session.specs.Refusal.{IsWithinLimits};
+ghost use Rattle.getmail_program.specs.Holding.{HoldsSession};
 ghost use Rattle.getmail_program.specs.Output.{Puts};
 ghost use Rattle.getmail_program.specs.Teller.{HasSameLinks, WroteMore};
 ghost use Rattle.getmail_program.specs.Telling.{Reported, is_idle, outcome_of};
@@ -106,6 +108,7 @@ fn hold_over<W: Wire, S: Write, D: MaildirDisk, F: FlatFile, H: BuildHasher, O: 
 ) -> Report
     ensures settings { account.new.settings ≡ account.old.settings }
     ensures kind { kind_of account.new.store ≡ kind_of account.old.store }
+    ensures limits { IsWithinLimits W.Wire wire.old.wire result wire.new.wire }
     ensures runs { RunsSession W.Wire D.MaildirDisk F.FlatFile now account.old wire.old.wire result account.new wire.new.wire }
     ensures links { HasSameLinks teller.old teller.new }
     ensures wrote { WroteMore O.contents teller.old teller.new }
@@ -124,6 +127,7 @@ fn hold_telling<W: Wire, S: Write, D: MaildirDisk, F: FlatFile, H: BuildHasher, 
 ) -> (Report, Notes)
     ensures settings { account.new.settings ≡ account.old.settings }
     ensures kind { kind_of account.new.store ≡ kind_of account.old.store }
+    ensures limits { IsWithinLimits W.Wire wire.old.wire result.0 wire.new.wire }
     ensures runs { RunsSession W.Wire D.MaildirDisk F.FlatFile manner.entry.now account.old wire.old.wire result.0 account.new wire.new.wire }
     ensures told { Puts O.contents out.old result.1.written.items out.new }
 {

@@ -11,7 +11,7 @@ ghost use Rattle.fetch_session.specs.Target.{IsSoundMaildir, IsSoundMbox, maildi
 ghost use Rattle.local_fetch.specs.Local.{FetchesFrom, MboxFetchesFrom, loop_to};
 
 use fetch_runs::{mbox_sessions_follow_plans, sessions_are_conversations};
-use fetch_session::{Account, Report, session};
+use fetch_session::{Account, Report, session, sessions_by_store};
 use mail_store::{FlatFile, MaildirDisk};
 use pop3_server::{LoopWire, Maildrop, Server, loops_are_honest};
 use std::alloc::Global;
@@ -47,6 +47,7 @@ pub fn fetch_local<D: MaildirDisk, F: FlatFile, H: BuildHasher, M: Maildrop>(
     sessions_are_conversations();
     mbox_sessions_follow_plans();
     loops_are_honest::<M>();
+    sessions_by_store::<LoopWire<M>, D, F>();
     let _ = account.settings();
     let mut wire = LoopWire::new(alloc, server);
     let report = session(account, &mut wire, now);

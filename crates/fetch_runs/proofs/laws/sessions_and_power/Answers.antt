@@ -27,4 +27,4 @@ returns g c = lemmas.sessions_and_power (record {
     one = c.files_stand_for_one_record.ensures;
     shrink = c.worlds_shrink.ensures;
   };
-}) g.D.MaildirDisk g.F.FlatFile c.lasting_sessions_are_sessions.ensures
+}) g.D.MaildirDisk g.F.FlatFile

@@ -36,7 +36,7 @@ loop-i-preserved g c =
       length-set c.loop-i.visits i new ∙ inv.3,
       others_stay c.loop-i.visits c.args.visits.now i new inv.4,
       ran_next c.args.visits.now c.loop-i.visits i old new inv.5 pushed inside within here (λ sound held.
-          let met = c.session-report.ensures.session sound held.0 held.1 in (
+          let met = c.sessions_by_store.ensures.maildir _ _ _ _ _ _ c.session-report.ensures.same c.session-report.ensures.session sound held.0 held.1 in (
             met.0,
             (met.1, met.2),
             (
@@ -46,7 +46,7 @@ loop-i-preserved g c =
             ),
           )),
       ran_next c.args.visits.now c.loop-i.visits i old new inv.6 pushed inside within here (λ sound held.
-          let met = c.session-report.ensures.mbox_session sound held.0 held.1 in (
+          let met = c.sessions_by_store.ensures.mbox _ _ _ _ _ _ c.session-report.ensures.same c.session-report.ensures.session sound held.0 held.1 in (
             met.0,
             (met.1, met.2),
             (subst (λ (s : Settings). MboxSession s old.now (g.W.Wire.history old.wire) mbox_before c.session-report.result (g.W.Wire.history c.session-report.new.wire) mbox_after) inv.0 met.4, refl),

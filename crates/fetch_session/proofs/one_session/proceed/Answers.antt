@@ -37,14 +37,14 @@ returns-in-Err-clause-proceeds g c = λ w d f.
       d,
       f,
       entered.1,
-      (files, part_same files, inl (record { why = c.in-Err.fault; is = c.broken.ensures; enters = entered.2; same = search rules; nothing = search rules }, untouched g.D.MaildirDisk g.F.FlatFile c.args.work.now.store c.args.work.now.ledger.file)),
+      (files, part_same files, (inl (record { why = c.in-Err.fault; is = c.broken.ensures; enters = entered.2; same = search rules; nothing = search rules }), untouched g.D.MaildirDisk g.F.FlatFile c.args.work.now.store c.args.work.now.ledger.file)),
     )
 
 pub returns-in-Err-reserve-clause-proceeds : goal.returns-in-Err-reserve-clause-proceeds
 returns-in-Err-reserve-clause-proceeds g c = λ w d f.
     let entered = c.in-Ok.ensures.enters w in
     let files = (stores_of g.D.MaildirDisk g.F.FlatFile c.args.work.now.store).maildir.files in
-    (entered.0, d, f, entered.1, (files, part_same files, inr (inl (search rules, untouched g.D.MaildirDisk g.F.FlatFile c.args.work.now.store c.args.work.now.ledger.file))))
+    (entered.0, d, f, entered.1, (files, part_same files, (inr (inl (search rules)), untouched g.D.MaildirDisk g.F.FlatFile c.args.work.now.store c.args.work.now.ledger.file)))
 
 -- ---- what is kept
 

@@ -20,7 +20,7 @@ use Rattle.fetch_session.proofs.plan.carry_out.Goals as goal
 pub returns-in-Err-clause-carries : goal.returns-in-Err-clause-carries
 returns-in-Err-clause-carries g c = λ w d f.
     let ready = c.in-Err.ensures.readies d f in
-    (w, ready.0, ready.1, g.met.W.Wire.leads_same c.args.client.now.wire.now, (ready.2.0, ready.2.1, ([], inl (c.requires.none_skipped, record { unprepared = unprepared c.plain.ensures (ap (λ lines. lines.items) c.in-Err.ensures.store.lines) ready.2.2.readies; lasts = ready.2.2.lasts }))))
+    (w, ready.0, ready.1, g.met.W.Wire.leads_same c.args.client.now.wire.now, (ready.2.0, ready.2.1, (([], inl (c.requires.none_skipped, unprepared c.plain.ensures (ap (λ lines. lines.items) c.in-Err.ensures.store.lines) ready.2.2.readies)), ready.2.2.lasts)))
 
 -- all is ready for the planned steps
 ready_to_do : (g : Over) (c : After-deref-3 g) → IsReadyFor g.D.MaildirDisk g.F.FlatFile c.args.terms.account.now (tasks_planned c.deref-2.result.now c.args.listing.now c.deref-3.result.now)
@@ -62,13 +62,9 @@ returns-in-Err-do_steps-clause-carries g c = λ w d f.
       (
         ready.2.0,
         ready.2.1,
-        (
-          c.do_steps.new.work.ledger.seen.rows,
-          inr (carried g.D.MaildirDisk g.F.FlatFile c.args.work.now.store c.prepare.new.work.store c.args.work.now.ledger.file c.prepare.new.work.ledger.file c.prepare.new.work.ledger.lines.items c.deref-2.result.now c.deref-3.result.now (ap (λ lines. lines.items) c.prepare.ensures.store.lines) ready.2.2.readies c.deref-2.ensures.value c.deref-3.ensures.value
-              (c.skips_of.ensures ∙ ap (skips_of c.args.terms.settings.now c.prepare.new.work.ledger.seen.rows c.args.listing.now c.args.terms.now) c.deref.ensures.value) ready.2.2.lasts (c.in-Err-do_steps.ensures.keeps.lasts d f).1 c.in-Err-do_steps.ensures.keeps.idle
-              (good_before (says quit ∷ []) (in_kind c.prepare.new.work.store c.args.work.now.store c.args.terms.account.now c.prepare.ensures.store.kind done.4
-              (λ safe. safe)))),
-        ),
+        carried g.D.MaildirDisk g.F.FlatFile c.args.work.now.store c.prepare.new.work.store c.args.work.now.ledger.file c.prepare.new.work.ledger.file c.prepare.new.work.ledger.lines.items c.deref-2.result.now c.deref-3.result.now (ap (λ lines. lines.items) c.prepare.ensures.store.lines) ready.2.2.readies c.deref-2.ensures.value c.deref-3.ensures.value
+            (c.skips_of.ensures ∙ ap (skips_of c.args.terms.settings.now c.prepare.new.work.ledger.seen.rows c.args.listing.now c.args.terms.now) c.deref.ensures.value) ready.2.2.lasts (c.in-Err-do_steps.ensures.keeps.lasts d f).1 c.in-Err-do_steps.ensures.keeps.idle
+            (good_before (says quit ∷ []) (in_kind c.prepare.new.work.store c.args.work.now.store c.args.terms.account.now c.prepare.ensures.store.kind done.4 (λ safe. safe))),
       ),
     )
 
@@ -91,13 +87,10 @@ returns-in-Ok-end-clause-carries g c = λ w d f.
       (
         ready.2.0,
         ready.2.1,
-        (
-          c.end.new.work.ledger.seen.rows,
-          (carried g.D.MaildirDisk g.F.FlatFile c.args.work.now.store c.prepare.new.work.store c.args.work.now.ledger.file c.prepare.new.work.ledger.file c.prepare.new.work.ledger.lines.items c.deref-2.result.now c.deref-3.result.now (ap (λ lines. lines.items) c.prepare.ensures.store.lines) ready.2.2.readies c.deref-2.ensures.value c.deref-3.ensures.value
-              (c.skips_of.ensures ∙ ap (skips_of c.args.terms.settings.now c.prepare.new.work.ledger.seen.rows c.args.listing.now c.args.terms.now) c.deref.ensures.value) ready.2.2.lasts
-              ((kept_on tasks (says quit ∷ []) (Ok tt) c.in_default.ensures.keeps keeps).lasts d f).1 (λ none. keeps.idle refl ∙ c.in_default.ensures.keeps.idle none)
-              (in_kind c.prepare.new.work.store c.args.work.now.store account c.prepare.ensures.store.kind done.4 (λ safe. safe))),
-        ),
+        carried g.D.MaildirDisk g.F.FlatFile c.args.work.now.store c.prepare.new.work.store c.args.work.now.ledger.file c.prepare.new.work.ledger.file c.prepare.new.work.ledger.lines.items c.deref-2.result.now c.deref-3.result.now (ap (λ lines. lines.items) c.prepare.ensures.store.lines) ready.2.2.readies c.deref-2.ensures.value c.deref-3.ensures.value
+            (c.skips_of.ensures ∙ ap (skips_of c.args.terms.settings.now c.prepare.new.work.ledger.seen.rows c.args.listing.now c.args.terms.now) c.deref.ensures.value) ready.2.2.lasts
+            ((kept_on tasks (says quit ∷ []) (Ok tt) c.in_default.ensures.keeps keeps).lasts d f).1 (λ none. keeps.idle refl ∙ c.in_default.ensures.keeps.idle none)
+            (in_kind c.prepare.new.work.store c.args.work.now.store account c.prepare.ensures.store.kind done.4 (λ safe. safe)),
       ),
     )
 
@@ -116,13 +109,10 @@ returns-clause-carries g c = λ w d f.
       (
         ready.2.0,
         ready.2.1,
-        (
-          c.end.new.work.ledger.seen.rows,
-          inr (carried g.D.MaildirDisk g.F.FlatFile c.args.work.now.store c.prepare.new.work.store c.args.work.now.ledger.file c.prepare.new.work.ledger.file c.prepare.new.work.ledger.lines.items c.deref-2.result.now c.deref-3.result.now (ap (λ lines. lines.items) c.prepare.ensures.store.lines) ready.2.2.readies c.deref-2.ensures.value c.deref-3.ensures.value
-              (c.skips_of.ensures ∙ ap (skips_of c.args.terms.settings.now c.prepare.new.work.ledger.seen.rows c.args.listing.now c.args.terms.now) c.deref.ensures.value) ready.2.2.lasts
-              ((kept_on tasks (says quit ∷ []) (Err cut) c.in_default.ensures.keeps keeps).lasts d f).1 (λ none. keeps.idle refl ∙ c.in_default.ensures.keeps.idle none)
-              (in_kind c.prepare.new.work.store c.args.work.now.store account c.prepare.ensures.store.kind done.4 (λ safe. safe))),
-        ),
+        carried g.D.MaildirDisk g.F.FlatFile c.args.work.now.store c.prepare.new.work.store c.args.work.now.ledger.file c.prepare.new.work.ledger.file c.prepare.new.work.ledger.lines.items c.deref-2.result.now c.deref-3.result.now (ap (λ lines. lines.items) c.prepare.ensures.store.lines) ready.2.2.readies c.deref-2.ensures.value c.deref-3.ensures.value
+            (c.skips_of.ensures ∙ ap (skips_of c.args.terms.settings.now c.prepare.new.work.ledger.seen.rows c.args.listing.now c.args.terms.now) c.deref.ensures.value) ready.2.2.lasts
+            ((kept_on tasks (says quit ∷ []) (Err cut) c.in_default.ensures.keeps keeps).lasts d f).1 (λ none. keeps.idle refl ∙ c.in_default.ensures.keeps.idle none)
+            (in_kind c.prepare.new.work.store c.args.work.now.store account c.prepare.ensures.store.kind done.4 (λ safe. safe)),
       ),
     )
 

@@ -10,8 +10,8 @@ use Rattle.local_fetch.proofs.fetch.fetch_local.Goals as goal
 
 pub returns-clause-fetches : goal.returns-clause-fetches
 returns-clause-fetches g c = λ d f m messages.
-    let small = few_refused c.new-wire.result.link c.session-report.new.wire.link c.session-report.result.outcome (ap (λ (l : Loop _). l.link.failures) c.new-wire.ensures) c.session-report.ensures.counted in
-    let went = c.session-report.ensures.session small d f in
+    let small = few_refused c.new-wire.result.link c.session-report.new.wire.link c.session-report.result.outcome (ap (λ (l : Loop _). l.link.failures) c.new-wire.ensures) c.session-report.ensures.limits.0 in
+    let went = c.sessions_by_store.ensures.maildir _ _ _ _ _ _ c.session-report.ensures.same c.session-report.ensures.session small d f in
     let account = c.args.account.now in (
       went.1,
       went.2,
@@ -27,8 +27,8 @@ returns-clause-fetches g c = λ d f m messages.
 
 pub returns-clause-mbox_fetches : goal.returns-clause-mbox_fetches
 returns-clause-mbox_fetches g c = λ d f m messages.
-    let small = few_refused c.new-wire.result.link c.session-report.new.wire.link c.session-report.result.outcome (ap (λ (l : Loop _). l.link.failures) c.new-wire.ensures) c.session-report.ensures.counted in
-    let went = c.session-report.ensures.mbox_session small d f in
+    let small = few_refused c.new-wire.result.link c.session-report.new.wire.link c.session-report.result.outcome (ap (λ (l : Loop _). l.link.failures) c.new-wire.ensures) c.session-report.ensures.limits.0 in
+    let went = c.sessions_by_store.ensures.mbox _ _ _ _ _ _ c.session-report.ensures.same c.session-report.ensures.session small d f in
     let account = c.args.account.now in (
       went.1,
       went.2,
