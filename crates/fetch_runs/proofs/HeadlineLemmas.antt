@@ -20,14 +20,14 @@ use Rattle.fetch_session.specs.Account.{digits_of}
 use Rattle.fetch_session.specs.Record.{KeepsRows}
 use Rattle.mail_terms.specs.UniqueId.{has_id, is_legal_id}
 use Rattle.run_law.specs.Mails.{item_of, listing_of, is_selected, WorldsShrink}
-use Rattle.run_law.specs.Accounts.{KeepsOthers, copies, files}
+use Rattle.run_law.specs.Accounts.{Account, KeepsOthers, copies, files}
 use Rattle.run_law.specs.Steps.{Effect, Leaves, Stores, IsHonest, ids_wanted, merged_rows, wanted_at}
-use Rattle.run_law.specs.Runs.{IsFrame, Situation, Visit, Event as EventIn, Visited, Between as BetweenIn, Expired as ExpiredIn, Withdrawn as WithdrawnIn, TakenAway as TakenIn, BroughtBack as BroughtIn, Forgotten as ForgottenIn, PowerLost as PowerLostIn, Visits, IsLastStored as LastIn, Happens, after_event as after_in, frame_after as frame_in, Promises as PromisesIn, Kept, KeptStaysKept, KeptHoldsWhatIsLeft, StartsKept, LeavesOut, DeletesHeld, StoresOnlyNew as StoresNew, past_limit, NothingTakenHoldsExactly}
+use Rattle.run_law.specs.Runs.{IsSound, World, State, Visit, Event as EventIn, Visited, Between as BetweenIn, Expired as ExpiredIn, Withdrawn as WithdrawnIn, TakenAway as TakenIn, BroughtBack as BroughtIn, Forgotten as ForgottenIn, PowerLost as PowerLostIn, Visits, IsLastStored as LastIn, Happens, after_event as after_in, world_after as world_in, Promises as PromisesIn, Kept as IsKeptIn, KeptStaysKept, KeptHoldsWhatIsLeft, StartsKept, LeavesOut, DeletesHeld, StoresOnlyNew as StoresNew, past_limit, NothingTakenHoldsExactly}
 use Rattle.run_law.specs.Sessions.{IsBegun, Link as LinkIn, LinksAreVisits}
 use Rattle.fetch_runs.specs.Steps.{holds, IsStep, SessionIsAStep}
-use Rattle.fetch_runs.specs.Headline.{World, IsSound, account_of, AreSettings, State, Occasion, Event, Fetched, Between, Expired, Withdrawn, TakenAway, BroughtBack, Forgotten, PowerLost, maildrop_at, IsSession, after_event, world_after, world_left, Follows, IsLastStored, frame_of, situation, HoldsAPrefix, IsHeldAfter, IsPastCount, LeavesOutOnlyBeyondLimits, IsForHeld, FilesStay, StoresOnlyNew, Promised, IsKept, Headline, EmptyIsKept, HeadlineFromEmpty, state_after, IsRun, contents_of, IsRecorded, HoldsExactlyAPrefix, IsForOneHeld, IsWordForWord, LeaveAway, HeadlineWordForWord, StaysAway, LostRecordsAreForgotten, NewProcessesAreBetween, StopsAreRuns}
+use Rattle.fetch_runs.specs.Headline.{AreSettings, Occasion, Event, Fetched, Between, Expired, Withdrawn, TakenAway, BroughtBack, Forgotten, PowerLost, maildrop_at, IsSession, after_event, world_after, world_left, Follows, IsLastStored, by_rows, HoldsAPrefix, IsHeldAfter, IsPastCount, LeavesOutOnlyBeyondLimits, IsForHeld, FilesStay, StoresOnlyNew, Promised, IsKept, Headline, EmptyIsKept, HeadlineFromEmpty, state_after, IsRun, contents_of, IsRecorded, HoldsExactlyAPrefix, IsForOneHeld, IsWordForWord, LeaveAway, HeadlineWordForWord, StaysAway, LostRecordsAreForgotten, NewProcessesAreBetween, StopsAreRuns}
 use Rattle.fetch_runs.proofs.TalkCommands.{all_weaker, begins_of}
-use Rattle.fetch_session.specs.Session.{Kept as Holding}
+use Rattle.fetch_session.specs.Session.{Kept, Kept as Kept}
 
 -- the laws that are used
 pub record Laws : Type 0 where
@@ -35,21 +35,13 @@ pub record Laws : Type 0 where
   pub visits : LinksAreVisits
   pub stays : KeptStaysKept
   pub holds_what_is_left : KeptHoldsWhatIsLeft
-  pub digits : (server : List ℕ) (port : ℕ) (username : List ℕ) → IsAccountText (account_text server port username)
   pub one : OneRecord
   pub shrink : WorldsShrink
 
-pub sound_frame : ((server : List ℕ) (port : ℕ) (username : List ℕ) → IsAccountText (account_text server port username)) → (world : World) → IsSound world → IsFrame (frame_of world)
-sound_frame digits world sound = record { account = digits world.server world.port world.username; world = sound }
-
--- the digits are the account's
-pub same_digits : (world : World) (settings : Settings) → AreSettings world settings → digits_of settings ≡ account_of world
-same_digits world settings are = rw (are.server, are.port, are.username)
-
 -- a prefix is held, whatever the record says
-holds_prefix : Laws → (world : World) (state : State) → IsSound world → IsKept world state → HoldsAPrefix world state
+holds_prefix : Laws → (world : World) (state : State Kept) → IsSound world → IsKept world state → HoldsAPrefix world state
 holds_prefix laws world state sound is =
-    let left = laws.holds_what_is_left (frame_of world) (situation is.0 state) (sound_frame laws.digits world sound) is.2 in
+    let left = laws.holds_what_is_left world (by_rows is.0 state) sound is.2 in
     record { j = left.j; below = left.below; contents = left.contents; ids = left.ids; once = left.once }
 
 -- ---- one session
@@ -76,42 +68,42 @@ for_message P drop effect (inl listed) all number begun =
     (begun.3, at.0, at.1, subst (λ (i : Item). P i.uid) (sym at.2) (held_in P effect.begun begun.0.uid all begun.2))
 for_message P drop effect (inr none) all number begun = absurd (true≢false (sym begun.2 ∙ ap (λ (ids : List (List ℕ)). has_id ids begun.0.uid) none.0))
 
-module _ (laws : Laws) (world : World) (state : State) (occasion : Occasion) (sound : IsSound world) (rows : List Row) (keeps : KeepsRows state.kept.file.content rows)
-    (is_kept : Kept (frame_of world) (situation rows state)) (is : IsSession world state occasion) where
+module _ (laws : Laws) (world : World) (state : State Kept) (occasion : Occasion) (sound : IsSound world) (rows : List Row) (keeps : KeepsRows state.kept.file.content rows)
+    (is_kept : IsKeptIn world (by_rows rows state)) (is : IsSession world state occasion) where
   abbrev IsStepFor : List ℕ → Type 0
   IsStepFor account = IsStep occasion.settings account occasion.now occasion.link state.kept rows occasion.report occasion.link' occasion.after
 
-  step : IsStepFor (account_of world)
-  step = subst IsStepFor (same_digits world occasion.settings is.settings)
+  step : IsStepFor world.account
+  step = subst IsStepFor is.settings.account
       (laws.steps occasion.settings (digits_of occasion.settings) occasion.now occasion.link state.kept rows occasion.report occasion.link' occasion.after is.settings.valid keeps is.session)
 
-  abbrev link_of : IsStepFor (account_of world) → LinkIn
+  abbrev link_of : IsStepFor world.account → LinkIn
   link_of s = record { settings = occasion.settings; come = occasion.come; sent = s.sent; got = s.got; vanished = occasion.vanished; after = holds s.rows' occasion.after.maildir }
 
-  abbrev visit_of : IsStepFor (account_of world) → Visit
+  abbrev visit_of : IsStepFor world.account → Visit
   visit_of s = record { settings = occasion.settings; come = occasion.come; effect = s.effect; vanished = occasion.vanished; after = holds s.rows' occasion.after.maildir }
 
-  module _ (s : IsStepFor (account_of world)) where
-    visits : Visits (frame_of world) (situation rows state) (visit_of s)
-    visits = laws.visits (frame_of world) (situation rows state) (link_of s)
+  module _ (s : IsStepFor world.account) where
+    visits : Visits world (by_rows rows state) (visit_of s)
+    visits = laws.visits world (by_rows rows state) (link_of s)
         (record { same = is.settings.max_size; effect = s.effect; session = s.stepped; served = is.served s.sent s.got s.sent_is s.got_is })
 
     -- what the law over runs says of it
     abbrev promised : Type 0
-    promised = Kept (frame_of world) (situation s.rows' (after_event state (Fetched occasion)))
-        × LeavesOut (frame_of world) (situation rows state) (visit_of s) × DeletesHeld (frame_of world) (situation rows state) (visit_of s)
-        × KeepsOthers (account_of world) (holds rows state.kept.maildir) (holds s.rows' occasion.after.maildir) × StoresNew (frame_of world) (situation rows state) (visit_of s)
+    promised = IsKeptIn world (by_rows s.rows' (after_event state (Fetched occasion)))
+        × LeavesOut world (by_rows rows state) (visit_of s) × DeletesHeld world (by_rows rows state) (visit_of s)
+        × KeepsOthers world.account (holds rows state.kept.maildir) (holds s.rows' occasion.after.maildir) × StoresNew world (by_rows rows state) (visit_of s)
 
     happened : promised
     happened =
-        let all = laws.stays (frame_of world) (situation rows state) (Visited (visit_of s) ∷ []) (sound_frame laws.digits world sound) is_kept (visits, tt) in
+        let all = laws.stays world (by_rows rows state) (Visited (visit_of s) ∷ []) sound is_kept (visits, tt) in
         (all.0, all.1.0.0, all.1.0.1, all.1.0.2, all.1.0.3)
 
     -- the listing was the maildrop's, or nothing was begun and the session was cut
     abbrev AreStored : Type 0
     AreStored = Leaves (holds rows state.kept.maildir) s.effect (holds s.rows' occasion.after.maildir)
-        ⊎ (Stores occasion.settings (account_of world) (holds rows state.kept.maildir) s.effect (holds s.rows' occasion.after.maildir)
-        × IsHonest (wanted_at occasion.settings (account_of world) (holds rows state.kept.maildir) s.effect) (maildrop_at world state occasion) s.effect)
+        ⊎ (Stores occasion.settings world.account (holds rows state.kept.maildir) s.effect (holds s.rows' occasion.after.maildir)
+        × IsHonest (wanted_at occasion.settings world.account (holds rows state.kept.maildir) s.effect) (maildrop_at world state occasion) s.effect)
 
     listing_or_nothing : (s.effect.listing ≡ listing_of (maildrop_at world state occasion)) ⊎ ((s.effect.begun ≡ []) × (s.effect.ended ≡ false))
     listing_or_nothing = elim visits.step [
@@ -121,13 +113,13 @@ module _ (laws : Laws) (world : World) (state : State) (occasion : Occasion) (so
 
     -- an uncut session
     past_count : (message : Message) → s.effect.listing ≡ listing_of (maildrop_at world state occasion)
-        → has_id (ids_wanted (past_limit occasion.settings.max_count (candidates occasion.settings (merged_rows (account_of world) (holds rows state.kept.maildir) s.effect) s.effect.listing))) message.uid ≡ true
+        → has_id (ids_wanted (past_limit occasion.settings.max_count (candidates occasion.settings (merged_rows world.account (holds rows state.kept.maildir) s.effect) s.effect.listing))) message.uid ≡ true
         → IsPastCount world state occasion message
     past_count message listed is_past = (rows, keeps, rw (← s.now_is, ← listed) is_past)
 
     abbrev LeftOut : Message → Type 0
-    LeftOut m = (is_held (account_of world) occasion.after.maildir m.uid ≡ true) ⊎ (has_id state.taken m.uid ≡ true) ⊎ (is_selected world.max_size m ≡ false)
-        ⊎ (has_id (ids_wanted (past_limit occasion.settings.max_count (candidates occasion.settings (merged_rows (account_of world) (holds rows state.kept.maildir) s.effect) s.effect.listing))) m.uid ≡ true)
+    LeftOut m = (is_held world.account occasion.after.maildir m.uid ≡ true) ⊎ (has_id state.taken m.uid ≡ true) ⊎ (is_selected world.max_size m ≡ false)
+        ⊎ (has_id (ids_wanted (past_limit occasion.settings.max_count (candidates occasion.settings (merged_rows world.account (holds rows state.kept.maildir) s.effect) s.effect.listing))) m.uid ≡ true)
 
     abbrev Excluded : Message → Type 0
     Excluded m = IsHeldAfter world state occasion m.uid ⊎ (is_selected world.max_size m ≡ false) ⊎ IsPastCount world state occasion m
@@ -138,7 +130,7 @@ module _ (laws : Laws) (world : World) (state : State) (occasion : Occasion) (so
     excluded listed m (inr (inr (inl large))) = inr (inl large)
     excluded listed m (inr (inr (inr is_past))) = inr (inr (past_count m listed is_past))
 
-    leaves_out : LeavesOut (frame_of world) (situation rows state) (visit_of s) → LeavesOutOnlyBeyondLimits world state occasion
+    leaves_out : LeavesOut world (by_rows rows state) (visit_of s) → LeavesOutOnlyBeyondLimits world state occasion
     leaves_out out ended = elim listing_or_nothing [
       | inl listed ↦ all_weaker LeftOut Excluded (maildrop_at world state occasion) (excluded listed) (out (s.ended_is.1 ended))
       | inr nothing ↦ absurd (true≢false (sym (s.ended_is.1 ended) ∙ nothing.1))
@@ -154,7 +146,7 @@ module _ (laws : Laws) (world : World) (state : State) (occasion : Occasion) (so
     files_stay (inl left) = record { gained = []; came = left.same ∙ sym (append-nil state.kept.maildir.files) }
     files_stay (inr (stores, honest)) = record { gained = _; came = stores.came }
 
-    stores_only_new : StoresNew (frame_of world) (situation rows state) (visit_of s) → StoresOnlyNew world state occasion
+    stores_only_new : StoresNew world (by_rows rows state) (visit_of s) → StoresOnlyNew world state occasion
     stores_only_new new only_new id legal recorded =
         let same : rows ≡ recorded.0 = (laws.one state.kept.file.content rows recorded.0 keeps.0 recorded.1.0 keeps.1 recorded.1.1).0 in
         let now = new only_new id legal (ap (λ (rs : List Row). is_delivered rs id) same ∙ recorded.2) in
@@ -194,15 +186,15 @@ module _ (laws : Laws) (world : World) (state : State) (occasion : Occasion) (so
 -- ---- what happens between sessions
 
 -- what the law over runs says of one event
-one_event : Laws → (world : World) (state : State) (event : EventIn) (rows : List Row) → IsSound world → Kept (frame_of world) (situation rows state) → Happens (frame_of world) (situation rows state) event
-    → Kept (frame_in (frame_of world) event) (after_in (situation rows state) event) × PromisesIn (frame_of world) (situation rows state) event
+one_event : Laws → (world : World) (state : State Kept) (event : EventIn) (rows : List Row) → IsSound world → IsKeptIn world (by_rows rows state) → Happens world (by_rows rows state) event
+    → IsKeptIn (world_in world event) (after_in (by_rows rows state) event) × PromisesIn world (by_rows rows state) event
 one_event laws world state event rows sound kept happens =
-    let all = laws.stays (frame_of world) (situation rows state) (event ∷ []) (sound_frame laws.digits world sound) kept (happens, tt) in (all.0, all.1.0)
+    let all = laws.stays world (by_rows rows state) (event ∷ []) sound kept (happens, tt) in (all.0, all.1.0)
 
 -- what a loss of power left of a message's files, over the rows for which the record's file stood
-power_mail : Laws → (world : World) (state : State) (after : Holding) (rows : List Row) → KeepsRows state.kept.file.content rows → (id : List ℕ)
+power_mail : Laws → (world : World) (state : State Kept) (after : Kept) (rows : List Row) → KeepsRows state.kept.file.content rows → (id : List ℕ)
     → (contents_of world after id ≡ contents_of world state.kept id) ⊎ ((contents_of world after id ≡ []) × ((has_id state.taken id ≡ true) ⊎ IsLastStored world state id))
-    → (contents_of world after id ≡ contents_of world state.kept id) ⊎ ((contents_of world after id ≡ []) × ((has_id state.taken id ≡ true) ⊎ LastIn (frame_of world) (situation rows state) id))
+    → (contents_of world after id ≡ contents_of world state.kept id) ⊎ ((contents_of world after id ≡ []) × ((has_id state.taken id ≡ true) ⊎ LastIn world (by_rows rows state) id))
 power_mail laws world state after rows keeps id (inl same) = inl same
 power_mail laws world state after rows keeps id (inr (none, inl taken)) = inr (none, inl taken)
 power_mail laws world state after rows keeps id (inr (none, inr lastly)) = inr (
@@ -214,7 +206,7 @@ power_mail laws world state after rows keeps id (inr (none, inr lastly)) = inr (
   }),
 )
 
-event_promised : Laws → (world : World) (state : State) (event : Event) → IsSound world → IsKept world state → Follows world state event
+event_promised : Laws → (world : World) (state : State Kept) (event : Event) → IsSound world → IsKept world state → Follows world state event
     → Promised world state event × IsKept (world_after world event) (after_event state event)
 event_promised laws world state (Fetched occasion) sound is follows = fetched_promised laws world state occasion sound is.0 is.1 is.2 follows
 event_promised laws world state (Between after) sound is between =
@@ -247,7 +239,7 @@ event_promised laws world state (PowerLost after) sound is lost =
 
 -- what is left of the mail is sound
 pub sound_after : WorldsShrink → (world : World) (event : Event) → IsSound world → IsSound (world_after world event)
-sound_after shrink world (Withdrawn ids) sound = shrink world.all ids sound
+sound_after shrink world (Withdrawn ids) sound = record { account = sound.account; mail = shrink world.all ids sound.mail }
 sound_after shrink world event sound = sound
 
 pub headline : Laws → Headline
@@ -261,9 +253,9 @@ pub empty_is_kept : StartsKept → EmptyIsKept
 empty_is_kept starts world start empty = (
   [],
   empty.record_is,
-  subst (λ (ids : List (List ℕ)). Kept (frame_of world) (let s : Situation = record { account = holds [] start.kept.maildir; gone = ids; taken = start.taken } in s)) (sym empty.none_gone)
-      (subst (λ (ids : List (List ℕ)). Kept (frame_of world) (let s : Situation = record { account = holds [] start.kept.maildir; gone = []; taken = ids } in s)) (sym empty.none_taken)
-      (starts (frame_of world) (holds [] start.kept.maildir) refl empty.no_file)),
+  subst (λ (ids : List (List ℕ)). IsKeptIn world (let s : State Account = record { kept = holds [] start.kept.maildir; gone = ids; taken = start.taken } in s)) (sym empty.none_gone)
+      (subst (λ (ids : List (List ℕ)). IsKeptIn world (let s : State Account = record { kept = holds [] start.kept.maildir; gone = []; taken = ids } in s)) (sym empty.none_taken)
+      (starts world (holds [] start.kept.maildir) refl empty.no_file)),
 )
 
 pub from_empty : Headline → EmptyIsKept → HeadlineFromEmpty
@@ -271,16 +263,16 @@ from_empty law empty_kept world start events sound empty run = (law world start 
 
 -- ---- one event
 
-abbrev OneEvent : World → State → Event → Type 0
+abbrev OneEvent : World → State Kept → Event → Type 0
 OneEvent world state event = HoldsAPrefix world state × Promised world state event × IsKept (world_after world event) (after_event state event)
 
-event_kept : Headline → (world : World) (state : State) (event : Event) → IsSound world → IsKept world state → Follows world state event → OneEvent world state event
+event_kept : Headline → (world : World) (state : State Kept) (event : Event) → IsSound world → IsKept world state → Follows world state event → OneEvent world state event
 event_kept law world state event sound is follows = let all = law world state (event ∷ []) sound is (follows, tt) in (all.0.0, all.0.1, all.1)
 
 -- ---- nothing taken away
 
-module _ (world : World) (state : State) (occasion : Occasion) (none : state.taken ≡ []) where
-  held_after : (id : List ℕ) → IsHeldAfter world state occasion id → is_held (account_of world) occasion.after.maildir id ≡ true
+module _ (world : World) (state : State Kept) (occasion : Occasion) (none : state.taken ≡ []) where
+  held_after : (id : List ℕ) → IsHeldAfter world state occasion id → is_held world.account occasion.after.maildir id ≡ true
   held_after id (inl held) = held
   held_after id (inr taken) = absurd (true≢false (sym taken ∙ ap (λ (ids : List (List ℕ)). has_id ids id) none))
 
@@ -288,7 +280,7 @@ module _ (world : World) (state : State) (occasion : Occasion) (none : state.tak
   IsLeftOut m = IsHeldAfter world state occasion m.uid ⊎ (is_selected world.max_size m ≡ false) ⊎ IsPastCount world state occasion m
 
   abbrev IsLeftOutHeld : Message → Type 0
-  IsLeftOutHeld m = (is_held (account_of world) occasion.after.maildir m.uid ≡ true) ⊎ (is_selected world.max_size m ≡ false) ⊎ IsPastCount world state occasion m
+  IsLeftOutHeld m = (is_held world.account occasion.after.maildir m.uid ≡ true) ⊎ (is_selected world.max_size m ≡ false) ⊎ IsPastCount world state occasion m
 
   left_out : (m : Message) → IsLeftOut m → IsLeftOutHeld m
   left_out m (inl held) = inl (held_after m.uid held)
@@ -309,8 +301,8 @@ module _ (world : World) (state : State) (occasion : Occasion) (none : state.tak
     next = begins_of (IsForHeld world state occasion) (IsForOneHeld world state occasion) for_one promised.1.asked.part promised.1.next;
   }
 
-holds_exactly : NothingTakenHoldsExactly → (world : World) (state : State) → state.taken ≡ [] → HoldsAPrefix world state → HoldsExactlyAPrefix world state
-holds_exactly nothing world state none holds' = nothing (frame_of world) (situation [] state) holds' none
+holds_exactly : NothingTakenHoldsExactly → (world : World) (state : State Kept) → state.taken ≡ [] → HoldsAPrefix world state → HoldsExactlyAPrefix world state
+holds_exactly nothing world state none holds' = nothing world (by_rows [] state) holds' none
 
 pub headline_word_for_word : Headline → NothingTakenHoldsExactly → HeadlineWordForWord
 headline_word_for_word law nothing world start [] sound is run none takes_none = holds_exactly nothing world start none (law world start [] sound is tt).0
@@ -331,13 +323,13 @@ headline_word_for_word law nothing world start (event ∷ events) sound is run n
 -- ---- what is taken away stays away
 
 -- what is recorded and not held
-abbrev IsAway : World → Holding → List ℕ → Type 0
+abbrev IsAway : World → Kept → List ℕ → Type 0
 IsAway world state id = IsRecorded state id × (contents_of world state id ≡ [])
 
-recorded_in : (before after : Holding) (id : List ℕ) → ((rows : List Row) → KeepsRows before.file.content rows → KeepsRows after.file.content rows) → IsRecorded before id → IsRecorded after id
+recorded_in : (before after : Kept) (id : List ℕ) → ((rows : List Row) → KeepsRows before.file.content rows → KeepsRows after.file.content rows) → IsRecorded before id → IsRecorded after id
 recorded_in before after id same recorded = (recorded.0, same recorded.0 recorded.1, recorded.2)
 
-still_away : Headline → (world : World) (state : State) (event : Event) (id : List ℕ) → IsSound world → IsKept world state → Follows world state event
+still_away : Headline → (world : World) (state : State Kept) (event : Event) (id : List ℕ) → IsSound world → IsKept world state → Follows world state event
     → LeaveAway id (event ∷ []) → is_legal_id id ≡ true → IsAway world state.kept id → IsAway (world_after world event) (after_event state event).kept id
 still_away laws world state (Fetched occasion) id sound is follows leave legal away =
     let now = (event_kept laws world state (Fetched occasion) sound is follows).1.4 leave.0 id legal away.0 in (now.1, now.0 ∙ away.1)
@@ -368,7 +360,7 @@ one_left id (Forgotten after) events h = ((h.0, tt), h.1)
 one_left id (PowerLost after) events h = ((h.0, tt), h.1)
 one_left id other events h = (tt, h)
 
-stay_all : WorldsShrink → Headline → (world : World) (start : State) (events : List Event) (id : List ℕ) → IsSound world → IsKept world start → IsRun world start events
+stay_all : WorldsShrink → Headline → (world : World) (start : State Kept) (events : List Event) (id : List ℕ) → IsSound world → IsKept world start → IsRun world start events
     → LeaveAway id events → is_legal_id id ≡ true → IsAway world start.kept id → IsAway (world_left world events) (state_after start events).kept id
 stay_all shrink laws world start [] id sound is run leave legal away = away
 stay_all shrink laws world start (event ∷ events) id sound is run leave legal away =
@@ -376,11 +368,11 @@ stay_all shrink laws world start (event ∷ events) id sound is run leave legal 
     stay_all shrink laws (world_after world event) (after_event start event) events id (sound_after shrink world event sound) (event_kept laws world start event sound is run.0).2 run.1
     split.1 legal (still_away laws world start event id sound is run.0 split.0 legal away)
 
-same_account : (world : World) (events : List Event) → account_of (world_left world events) ≡ account_of world
+same_account : (world : World) (events : List Event) → (world_left world events).account ≡ world.account
 same_account world [] = refl
 same_account world (event ∷ events) = same_account (world_after world event) events ∙ by event
   where
-    by : (event : Event) → account_of (world_after world event) ≡ account_of world
+    by : (event : Event) → (world_after world event).account ≡ world.account
     by (Withdrawn ids) = refl
     by event = refl
 
@@ -394,7 +386,7 @@ stays_away shrink laws world start events id sound is run leave legal recorded n
 pub lost_records_are_forgotten : LostRecordsAreForgotten
 lost_records_are_forgotten world before after lost = record {
   record_is = λ rows keeps. ([], none_left lost.content, λ id never. absurd (true≢false (sym never)));
-  mail = λ id legal. ap (λ fs. copies fs (stem_of (account_of world) id)) lost.files;
+  mail = λ id legal. ap (λ fs. copies fs (stem_of world.account id)) lost.files;
 }
   where
     none_left : (after.file.content ≡ None) ⊎ (after.file.content ≡ Some []) → KeepsRows after.file.content []
@@ -406,7 +398,7 @@ lost_records_are_forgotten world before after lost = record {
 pub new_processes_are_between : NewProcessesAreBetween
 new_processes_are_between world before after same = record {
   record_is = λ rows keeps. subst (λ c. KeepsRows c rows) (sym same.content) keeps;
-  mail = λ id legal. ap (λ fs. copies fs (stem_of (account_of world) id)) same.files;
+  mail = λ id legal. ap (λ fs. copies fs (stem_of world.account id)) same.files;
 }
 
 pub stops_are_runs : StopsAreRuns

@@ -15,9 +15,9 @@ use Rattle.mail_terms.specs.UniqueId.{has_id, is_legal_id}
 use Rattle.pop3_wire.specs.World.{Message, IsMessage}
 use Rattle.run_law.specs.Accounts.{copies}
 use Rattle.run_law.specs.Mails.{WorldsShrink, ids_of, is_selected, messages_after, selected, texts_of, without}
-use Rattle.run_law.specs.Runs.{HoldsOf}
+use Rattle.run_law.specs.Runs.{State, IsSound, World, HoldsOf}
 use Rattle.fetch_session.specs.Session.{Kept}
-use Rattle.fetch_runs.specs.Headline.{World, AreTaken, AreTakings, State, Event, Fetched, Between, Expired, Withdrawn, TakenAway, BroughtBack, Forgotten, PowerLost, Follows, Headline, IsKept, IsLastStored, IsNeither, IsRecorded, IsRun, IsSound, KeepsRecord, account_of, after_event, contents_of, frame_of, situation, world_after}
+use Rattle.fetch_runs.specs.Headline.{AreTaken, AreTakings, Event, Fetched, Between, Expired, Withdrawn, TakenAway, BroughtBack, Forgotten, PowerLost, Follows, Headline, IsKept, IsLastStored, IsNeither, IsRecorded, IsRun, KeepsRecord, after_event, contents_of, by_rows, world_after}
 use Rattle.fetch_runs.specs.Power.{AllMayBeOnDisk, CanLosePower, IsSure, IsSureOrTaken, LossesAreEvents, SessionsAndPower}
 use Rattle.fetch_runs.specs.PowerRuns.{AsMuchIsSure, CanAlwaysLosePower, EventOn, EventsKeepPower, HeadlineOn, IsRunOn, KeepsSure, TakingsRunOn, events_of}
 use Rattle.fetch_runs.proofs.HeadlineLemmas.{held_in, sound_after}
@@ -106,14 +106,14 @@ all_without P limit ids (m ∷ ms) all = by (all_without P limit ids ms) (is_sel
 
 -- ---- one event
 
-module _ (one : OneRecord) {D F : Type 0} (disk : DiskGhosts D) (files : FileGhosts F) (world : World) (sound : IsSound world) (state : State) (is : IsKept world state)
+module _ (one : OneRecord) {D F : Type 0} (disk : DiskGhosts D) (files : FileGhosts F) (world : World) (sound : IsSound world) (state : State Kept) (is : IsKept world state)
     (was : D) (from : F) (can : CanLosePower disk files was from world state) where
   abbrev account : List ℕ
-  account = account_of world
+  account = world.account
 
   all_legal : AllByRecursion (λ (m : Message). is_legal_id m.uid ≡ true) (selected world.max_size world.all)
   all_legal = all_selected (λ (m : Message). is_legal_id m.uid ≡ true) world.max_size world.all
-      (all_both IsMessage IsMessage (λ (m : Message). is_legal_id m.uid ≡ true) (λ m a b. a.legal) world.all sound.messages sound.messages)
+      (all_both IsMessage IsMessage (λ (m : Message). is_legal_id m.uid ≡ true) (λ m a b. a.legal) world.all sound.mail.messages sound.mail.messages)
 
   -- what is recorded has a file that stays, or was taken away
   pub recorded_sure : (id : List ℕ) → is_delivered is.0 id ≡ true → (is_legal_id id ≡ true) × IsSureOrTaken disk was world state id
@@ -125,7 +125,7 @@ module _ (one : OneRecord) {D F : Type 0} (disk : DiskGhosts D) (files : FileGho
       legal : is_legal_id id ≡ true
       legal = legal_in is.2.done is.2.rest id (subst (AllByRecursion (λ (m : Message). is_legal_id m.uid ≡ true)) is.2.prefix all_legal) has
 
-      by : HoldsOf (frame_of world) (situation is.0 state) is.2.done id → IsSureOrTaken disk was world state id
+      by : HoldsOf world (by_rows is.0 state) is.2.done id → IsSureOrTaken disk was world state id
       by (inr taken) = inr taken.0
       by (inl same) = elim (can.stay id legal (some_held account id state.kept.maildir.files (λ none. texts_some is.2.done id has (sym same ∙ none)))) [
         | inl sure ↦ inl sure
@@ -144,7 +144,7 @@ module _ (one : OneRecord) {D F : Type 0} (disk : DiskGhosts D) (files : FileGho
   same_recorded after keeps id recorded =
       (is.0, is.1, ap (λ (r : List Row). is_delivered r id) (one after.file.content is.0 recorded.0 (keeps is.0 is.1).0 recorded.1.0 (keeps is.0 is.1).1 recorded.1.1).0 ∙ recorded.2)
 
-  module _ (device : D) (after : State) where
+  module _ (device : D) (after : State Kept) where
     abbrev Shown : Type 0
     Shown = (rows : List Row) → KeepsRows after.kept.file.content rows → (id : List ℕ) → is_delivered is.0 id ≡ true
         → (is_delivered rows id ≡ true) ⊎ ((is_legal_id id ≡ true) × IsSureOrTaken disk device world after id)
@@ -153,7 +153,7 @@ module _ (one : OneRecord) {D F : Type 0} (disk : DiskGhosts D) (files : FileGho
     same_shown same rows keeps_rows id delivered =
         inl (ap (λ (r : List Row). is_delivered r id) (one after.kept.file.content rows is.0 keeps_rows.0 (same is.0 is.1).0 keeps_rows.1 (same is.0 is.1).1).0 ∙ delivered)
 
-  module _ (device : D) (f : F) (after : State) (keeps : KeepsSure disk files world was from state device f after) where
+  module _ (device : D) (f : F) (after : State Kept) (keeps : KeepsSure disk files world was from state device f after) where
     -- the last that was stored still is
     still_last : ((id : List ℕ) → IsRecorded after.kept id → IsRecorded state.kept id) → ((m : Message) → is_legal_id m.uid ≡ true → IsNeither world state m.uid → IsNeither world after m.uid)
         → (id : List ℕ) → (has_id state.gone id ≡ false → has_id after.gone id ≡ false) → IsLastStored world state id → IsLastStored world after id
@@ -220,7 +220,7 @@ module _ (one : OneRecord) {D F : Type 0} (disk : DiskGhosts D) (files : FileGho
       by next true s false w false same = rw (w, s, same) (next (later s same))
 
   module _ (device : D) (f : F) where
-    abbrev Keeps : State → Type 0
+    abbrev Keeps : State Kept → Type 0
     Keeps after = KeepsSure disk files world was from state device f after
 
     -- of each message the files hold what they held, and nothing more was taken away
@@ -238,7 +238,7 @@ module _ (one : OneRecord) {D F : Type 0} (disk : DiskGhosts D) (files : FileGho
         (λ id legal lastly. by id legal lastly (cases_Bool (has_id ids id)))
         (same_shown device after (λ rows keeps_rows. keeps_rows))
       where
-        after : State
+        after : State Kept
         after = record state { gone = state.gone ++ ids }
 
         by : (id : List ℕ) → is_legal_id id ≡ true → IsLastStored world state id → (has_id ids id ≡ true) ⊎ (has_id ids id ≡ false)
@@ -279,7 +279,7 @@ module _ (one : OneRecord) {D F : Type 0} (disk : DiskGhosts D) (files : FileGho
         (not_held after m.uid (taken.others m.uid l apart) neither.0, or_from (bytes_eq m.uid id) (has_id state.taken m.uid) apart neither.1)) other (λ on. on) lastly))
         (same_shown device next taken.record_is)
       where
-        next : State
+        next : State Kept
         next = after_event state (TakenAway id after)
 
         others : (m : Message) → IsNeither world state m.uid → bytes_eq m.uid id ≡ false
@@ -298,7 +298,7 @@ module _ (one : OneRecord) {D F : Type 0} (disk : DiskGhosts D) (files : FileGho
         (not_held after m.uid (brought.others m.uid l (others m neither)) neither.0, none_filtered (λ x. not (bytes_eq x id)) state.taken m.uid neither.1)) other (λ on. on) lastly))
         (same_shown device next brought.record_is)
       where
-        next : State
+        next : State Kept
         next = after_event state (BroughtBack id after)
 
         others : (m : Message) → IsNeither world state m.uid → bytes_eq m.uid id ≡ false
@@ -344,7 +344,7 @@ events_keep_power disk files laws world state was from (PowerLost after) device 
 
 -- ---- a run
 
-run_on : {D F : Type 0} (disk : DiskGhosts D) (files : FileGhosts F) → Headline → WorldsShrink → EventsKeepPower disk files → (world : World) (state : State) (was : D) (from : F) (ons : List (EventOn D F))
+run_on : {D F : Type 0} (disk : DiskGhosts D) (files : FileGhosts F) → Headline → WorldsShrink → EventsKeepPower disk files → (world : World) (state : State Kept) (was : D) (from : F) (ons : List (EventOn D F))
     → IsSound world → IsKept world state → CanLosePower disk files was from world state → IsRunOn disk files world state was from ons
     → IsRun world state (events_of ons) × CanAlwaysLosePower disk files world state was from ons
 run_on disk files law shrink keep world state was from [] sound is can run = (tt, can)
@@ -368,11 +368,11 @@ as_much_is_sure law disk files world state was from event device f sound is take
   record_is = λ left may. inr (much.record_is left may);
 }
   where
-    next : State
+    next : State Kept
     next = after_event state event
 
     front : List ℕ → List ℕ
-    front id = stem_of (account_of world) id
+    front id = stem_of world.account id
 
     by : (id : List ℕ) → is_legal_id id ≡ true → IsSureOrTaken disk was world state id → (contents_of world next.kept id ≡ contents_of world state.kept id) ⊎ (has_id next.taken id ≡ true)
         → IsSureOrTaken disk device world next id
@@ -380,7 +380,7 @@ as_much_is_sure law disk files world state was from event device f sound is take
     by id legal (inr taken) (inl same) = inr (stay_taken state (event ∷ []) id takes taken)
     by id legal (inl sure) (inl same) =
         let some : copies next.kept.maildir.files (front id) ≢ [] = λ none. named_some (front id) state.kept.maildir.files sure.one.name sure.named (named_in state.kept.maildir.files sure.one sure.there) (sym same ∙ none) in
-        let g = held_file (account_of world) id next.kept.maildir.files (some_held (account_of world) id next.kept.maildir.files some) in
+        let g = held_file world.account id next.kept.maildir.files (some_held world.account id next.kept.maildir.files some) in
         let e = two_in (front id) state.kept.maildir.files g.0 sure.one (contains_part state.kept.maildir.files next.kept.maildir.files g.0 part g.1) g.2 sure.there sure.named ((law world state [] sound is tt).0.once id legal) in
         inl (record {
           one = g.0;
@@ -400,7 +400,7 @@ same_events : {D F : Type 0} (device : D) (f : F) (events : List Event) → even
 same_events device f [] = refl
 same_events device f (event ∷ events) = ap (λ (es : List Event). event ∷ es) (same_events device f events)
 
-taking_on : Headline → {D F : Type 0} (disk : DiskGhosts D) (files : FileGhosts F) (device : D) (f : F) (world : World) (state : State) (events : List Event) → IsSound world → IsKept world state
+taking_on : Headline → {D F : Type 0} (disk : DiskGhosts D) (files : FileGhosts F) (device : D) (f : F) (world : World) (state : State Kept) (events : List Event) → IsSound world → IsKept world state
     → AreTakings events → IsRun world state events → LeaveParts state events → IsRunOn disk files world state device f (on_same device f events)
 taking_on law disk files device f world state [] sound is each run parts = tt
 taking_on law disk files device f world state (TakenAway id after ∷ events) sound is each run parts = (

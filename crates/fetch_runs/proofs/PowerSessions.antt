@@ -46,14 +46,15 @@ use Rattle.pop3_wire.specs.World.{Message}
 use Rattle.run_law.specs.Accounts.{copies}
 use Rattle.run_law.specs.Mails.{messages_after, selected}
 use Rattle.run_law.specs.Power.{OneMoreIsLast}
-use Rattle.fetch_runs.specs.Headline.{World, State, Occasion, Fetched, IsNeither, IsRecorded, IsSession, IsSound, IsKept, IsLastStored, Headline, account_of, after_event, frame_of, situation}
+use Rattle.fetch_runs.specs.Headline.{Occasion, Fetched, IsNeither, IsRecorded, IsSession, IsKept, IsLastStored, Headline, after_event, by_rows}
 use Rattle.fetch_runs.specs.Power.{AllButLastStay, CanLosePower, IsSessionOf, IsSure, IsSureOrTaken, SessionsAndPower, ShowsSure}
-use Rattle.fetch_runs.proofs.HeadlineLemmas.{Laws, same_digits, sound_frame, vanished_recorded}
+use Rattle.fetch_runs.proofs.HeadlineLemmas.{Laws, vanished_recorded}
 use Rattle.fetch_runs.proofs.TalkCommands.{all_weaker}
 use Rattle.fetch_runs.proofs.PowerEvents.{recorded_sure}
 use Rattle.fetch_runs.proofs.PowerLosses.{held_file, named_in}
 use Rattle.fetch_runs.proofs.LegalRows.{kept_legal}
 use Rattle.fetch_runs.proofs.PowerRecord.{RecordLaws, left_stands}
+use Rattle.run_law.specs.Runs.{State, IsSound, World}
 
 -- the laws that are used
 pub record PowerLaws : Type 0 where
@@ -62,7 +63,6 @@ pub record PowerLaws : Type 0 where
   pub last : OneMoreIsLast
   pub differ : StemsDiffer
   pub named : (account uid text : List ℕ) → IsAccountText account → names_id account uid (sized_file (stem_of account uid) text).name ≡ true
-  pub digits : (server : List ℕ) (port : ℕ) (username : List ℕ) → IsAccountText (account_text server port username)
   pub steady : SteadyFilesKeep
   pub unsaved : UnsavedFilesKeep
   pub all : Laws
@@ -187,11 +187,11 @@ quiet_ids (s ∷ ss) (i ∷ is) (h ∷ hs) quiet =
 
 module _ (laws : PowerLaws) {D F : Type 0} (disk : DiskGhosts D) (files : FileGhosts F) (world : World) (sound : IsSound world) (before : Kept) (gone taken : List (List ℕ))
     (file : Stored) (device : D) (f : F) (file_is : file ≡ files.stored f) (none_left : file.content ≡ None → (left : Option (List ℕ)) → files.may_leave f left → left ≡ None) where
-  abbrev pub state_with : Maildir → State
+  abbrev pub state_with : Maildir → State Kept
   state_with maildir = record { kept = kept maildir file; gone = gone; taken = taken }
 
   abbrev account : List ℕ
-  account = account_of world
+  account = world.account
 
   abbrev MayGo : Maildir → List ℕ → Type 0
   MayGo maildir id = (has_id taken id ≡ true) ⊎ IsLastStored world (state_with maildir) id
@@ -225,7 +225,7 @@ module _ (laws : PowerLaws) {D F : Type 0} (disk : DiskGhosts D) (files : FileGh
         copies_more other ∙ ap (λ cs. copies without.files (stem_is other) ++ cs) no_copy ∙ append-nil (copies without.files (stem_is other))
 
     pub may_go : MayGo more id
-    may_go = elim (laws.last (frame_of world) (situation kept_without.0 (state_with without)) more id (sound_frame laws.digits world sound) kept_without.2 legal none other_copies) [
+    may_go = elim (laws.last world (by_rows kept_without.0 (state_with without)) more id sound kept_without.2 legal none other_copies) [
       | inl was ↦ inl was
       | inr lastly ↦ inr (record {
         unrecorded = λ recorded. both_ways (is_delivered kept_without.0 id) lastly.unrecorded
@@ -429,7 +429,7 @@ module _ (laws : PowerLaws) {D F : Type 0} (disk : DiskGhosts D) (files : FileGh
 
       named_here : (uid text : List ℕ) → names_id account uid (sized_file (stem_of digits uid) text).name ≡ true
       named_here uid text = subst (λ (a : List ℕ). names_id account uid (sized_file (stem_of a uid) text).name ≡ true) (sym same_account)
-          (laws.named account uid text (laws.digits world.server world.port world.username))
+          (laws.named account uid text sound.account)
 
       -- the file that came is this one
       named_one : (uid text : List ℕ) (g : File) → maildir.files ≡ mid.store.maildir.files ++ sized_file (stem_of digits uid) text ∷ [] → maildir.files ≡ mid.store.maildir.files ++ g ∷ []
@@ -523,7 +523,7 @@ module _ (laws : PowerLaws) {D F : Type 0} (disk : DiskGhosts D) (files : FileGh
 
 -- ---- the session as a whole
 
-module _ (laws : PowerLaws) {D F : Type 0} (disk : DiskGhosts D) (files : FileGhosts F) (world : World) (state : State) (occasion : Occasion) (was : D) (from : F) (device : D) (f : F)
+module _ (laws : PowerLaws) {D F : Type 0} (disk : DiskGhosts D) (files : FileGhosts F) (world : World) (state : State Kept) (occasion : Occasion) (was : D) (from : F) (device : D) (f : F)
     (sound : IsSound world) (is_kept : IsKept world state) (is : IsSessionOf disk files world state occasion was from device f) (can : CanLosePower disk files was from world state) where
   abbrev gone_after : List (List ℕ)
   gone_after = state.gone ++ occasion.vanished
@@ -553,8 +553,8 @@ module _ (laws : PowerLaws) {D F : Type 0} (disk : DiskGhosts D) (files : FileGh
   module _ (same : occasion.after.maildir.files ≡ state.kept.maildir.files) (same_content : occasion.after.file.content ≡ state.kept.file.content)
       (no_more : LeavesNoMore (files.may_leave from) (files.may_leave f))
       (sure_on : (id : List ℕ) → is_legal_id id ≡ true → IsSure disk was world state.kept.maildir.files id → IsSure disk device world occasion.after.maildir.files id) where
-    same_held : (id : List ℕ) → is_held (account_of world) occasion.after.maildir id ≡ is_held (account_of world) state.kept.maildir id
-    same_held id = ap (λ (l : List File). list_any (λ (g : File). names_id (account_of world) id g.name) l) same
+    same_held : (id : List ℕ) → is_held world.account occasion.after.maildir id ≡ is_held world.account state.kept.maildir id
+    same_held id = ap (λ (l : List File). list_any (λ (g : File). names_id world.account id g.name) l) same
 
     recorded_back : (id : List ℕ) → IsRecorded occasion.after id → IsRecorded state.kept id
     recorded_back id r = (r.0, subst (λ (c : Option (List ℕ)). KeepsRows c r.0) same_content r.1, r.2)
@@ -635,7 +635,7 @@ module _ (laws : PowerLaws) {D F : Type 0} (disk : DiskGhosts D) (files : FileGh
         none_took : TookOne one.one.name (disk.maildir was).files state.kept.maildir.files → ⊥
         none_took took =
             let there = count_there state.kept.maildir.files one.one one.there in
-            let below = count_below (stem_of (account_of world) id) one.one.name (disk.maildir was).files one.named in
+            let below = count_below (stem_of world.account id) one.one.name (disk.maildir was).files one.named in
             let once = is.once id legal in
             absurd (omega (arith, took, there, below, once))
 
@@ -644,9 +644,9 @@ module _ (laws : PowerLaws) {D F : Type 0} (disk : DiskGhosts D) (files : FileGh
       abbrev here : List Row
       here = merged m.was.rows items (flags_of digits_here state.kept.maildir items) occasion.now
 
-      all_sure : (id : List ℕ) → is_held (account_of world) occasion.after.maildir id ≡ true → IsSure disk device world occasion.after.maildir.files id
+      all_sure : (id : List ℕ) → is_held world.account occasion.after.maildir id ≡ true → IsSure disk device world occasion.after.maildir.files id
       all_sure id held =
-          let file = held_file (account_of world) id occasion.after.maildir.files held in
+          let file = held_file world.account id occasion.after.maildir.files held in
           record {
             one = file.0;
             there = file.1;
@@ -677,8 +677,8 @@ module _ (laws : PowerLaws) {D F : Type 0} (disk : DiskGhosts D) (files : FileGh
             | inl before ↦ of_was id rows before
             | inr flagged ↦ inr (
               legal,
-              inl (all_sure id (ap (λ (l : List File). list_any (λ (g : File). names_id (account_of world) id g.name) l) same_files
-                  ∙ subst (λ (a : List ℕ). is_held a state.kept.maildir id ≡ true) (same_digits world occasion.settings is.settings) (flag_held digits_here state.kept.maildir items id flagged))),
+              inl (all_sure id (ap (λ (l : List File). list_any (λ (g : File). names_id world.account id g.name) l) same_files
+                  ∙ subst (λ (a : List ℕ). is_held a state.kept.maildir id ≡ true) is.settings.account (flag_held digits_here state.kept.maildir items id flagged))),
             )
           ]
 
@@ -721,8 +721,8 @@ module _ (laws : PowerLaws) {D F : Type 0} (disk : DiskGhosts D) (files : FileGh
               (in_maildir occasion.after.maildir) occasion.after.file is.session.notes.lines is.session.notes.skipped) → CarriesLast disk files (InMaildir was) from occasion.settings (AsFiles digits_here) dealt.items occasion.now dealt.mid
               (in_maildir state.kept.maildir) state.kept.file [] (Ok done) is.session.mid (in_maildir occasion.after.maildir) occasion.after.file is.session.notes.lines is.session.notes.skipped carries (InMaildir device) f → Answered
           of (rows, c) all = elim (all safe) [
-            | inl (quiet, un) ↦ still (quiet_ok laws disk files world sound state.kept gone_after state.taken occasion.after.file device f is.file_is is.none _ _ _ _ _ _ _ _ _ occasion.after.maildir (same_digits world occasion.settings is.settings) c quiet) un
-            | inr (lasts, mail) ↦ answer_ok laws disk files world sound state.kept gone_after state.taken occasion.after.file device f is.file_is is.none _ _ _ _ _ _ _ _ _ occasion.after.maildir (same_digits world occasion.settings is.settings) c mail.stay lasts
+            | inl (quiet, un) ↦ still (quiet_ok laws disk files world sound state.kept gone_after state.taken occasion.after.file device f is.file_is is.none _ _ _ _ _ _ _ _ _ occasion.after.maildir is.settings.account c quiet) un
+            | inr (lasts, mail) ↦ answer_ok laws disk files world sound state.kept gone_after state.taken occasion.after.file device f is.file_is is.none _ _ _ _ _ _ _ _ _ occasion.after.maildir is.settings.account c mail.stay lasts
           ]
       by (Err cut) (inl stopped) un leaves reports = still (ap (λ (k : Keeping). k.store.maildir.files) stopped.same) un
       by (Err cut) (inr (inl wanting)) un leaves reports = still (ap (λ (k : Keeping). k.store.maildir.files) wanting.same) un
@@ -733,8 +733,8 @@ module _ (laws : PowerLaws) {D F : Type 0} (disk : DiskGhosts D) (files : FileGh
               (in_maildir state.kept.maildir) state.kept.file [] (Err cut) is.session.mid (in_maildir occasion.after.maildir) occasion.after.file is.session.notes.lines is.session.notes.skipped carries (InMaildir device) f → Answered
           of (rows, inl (none_said, unprepared)) all = unready dealt.items dealt.mid is.session.mid cut rows is.session.notes.lines unprepared (all safe)
           of (rows, inr c) all = elim (all safe) [
-            | inl (quiet, un) ↦ still (quiet_cut laws disk files world sound state.kept gone_after state.taken occasion.after.file device f is.file_is is.none _ _ _ _ _ _ _ _ _ occasion.after.maildir (same_digits world occasion.settings is.settings) c quiet) un
-            | inr (lasts, mail) ↦ answer_cut laws disk files world sound state.kept gone_after state.taken occasion.after.file device f is.file_is is.none _ _ _ _ _ _ _ _ _ occasion.after.maildir (same_digits world occasion.settings is.settings)
+            | inl (quiet, un) ↦ still (quiet_cut laws disk files world sound state.kept gone_after state.taken occasion.after.file device f is.file_is is.none _ _ _ _ _ _ _ _ _ occasion.after.maildir is.settings.account c quiet) un
+            | inr (lasts, mail) ↦ answer_cut laws disk files world sound state.kept gone_after state.taken occasion.after.file device f is.file_is is.none _ _ _ _ _ _ _ _ _ occasion.after.maildir is.settings.account
                 c mail.stay lasts
                 (λ m carried. kept_after m (record {
                   result = Err cut;

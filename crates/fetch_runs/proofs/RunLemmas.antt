@@ -10,12 +10,13 @@ use Rattle.fetch_session.specs.declared.report.Report.{Report}
 use Rattle.fetch_session.specs.Session.{Kept, MboxKept, Session}
 use Rattle.fetch_runs.specs.declared.run.Visit.{Visit}
 use Rattle.run_law.specs.Sessions.{Fact}
-use Rattle.run_law.specs.MboxRuns.{MboxFrame}
-use Rattle.fetch_runs.specs.Headline.{AreSettings, AreTakings, World, IsSound, State, Event, Between, Fetched, TakenAway, after_event, state_after, world_left, IsKept, Headline, TakingsAreEvents}
-use Rattle.fetch_runs.specs.MboxHeadline.{MboxState, MboxHeadline, IsMboxKept, AreSettings as AreMboxSettings, Fetched as InMbox, after_event as after_mbox}
+use Rattle.run_law.specs.MboxRuns.{MboxState, MboxWorld}
+use Rattle.fetch_runs.specs.Headline.{AreSettings, AreTakings, Event, Between, Fetched, TakenAway, after_event, state_after, world_left, IsKept, Headline, TakingsAreEvents}
+use Rattle.fetch_runs.specs.MboxHeadline.{MboxHeadline, IsMboxKept, AreSettings as AreMboxSettings, Fetched as InMbox, after_event as after_mbox}
 use Rattle.fetch_runs.specs.MboxRuns.{MboxRuns, AreMboxPromised, mbox_occasion}
 use Rattle.fetch_runs.proofs.TalkCommands.{all_append, all_front, all_back}
 use Rattle.fetch_runs.specs.Runs.{AreSound, RunsBy, Runs, AreServed, ArePromised, occasion_of}
+use Rattle.run_law.specs.Runs.{State, IsSound, World}
 
 -- the first of the visits were made
 pub record Ran {W K : Type 0} (sound : W → Type 0) (Made : Visit W → K → Report → Visit W → K → Type 0) (olds : List (Visit W)) (start : K) (at_start : Type 0) (reports : List Report) (news : List (Visit W)) (last : K) (at_last : Type 0) : Type 0 where
@@ -72,7 +73,7 @@ takings_leave world (TakenAway id after ∷ events) takings = takings_leave worl
 takings_leave world (Between after ∷ events) takings = takings_leave world events takings
 takings_leave world (other ∷ events) takings = absurd takings
 
-pub runs_promised : {W : Type 0} → Headline → TakingsAreEvents → (seen : W → Link) (settings : Settings) (world : World) (olds : List (Visit W)) (state : State) (reports : List Report) (news : List (Visit W)) (facts : List Fact) (last : Kept)
+pub runs_promised : {W : Type 0} → Headline → TakingsAreEvents → (seen : W → Link) (settings : Settings) (world : World) (olds : List (Visit W)) (state : State Kept) (reports : List Report) (news : List (Visit W)) (facts : List Fact) (last : Kept)
     → IsSound world → AreSettings world settings → IsKept world state → AreServed seen world.all state.gone olds news facts
     → Runs seen settings (digits_of settings) olds state.kept reports news last → ArePromised seen settings world state olds reports news facts last
 runs_promised law takings seen settings world [] state [] [] [] last sound are is served runs = ((law world state [] sound is tt).0, is, sym runs)
@@ -98,12 +99,12 @@ runs_promised law takings seen settings world (old ∷ olds) state (report ∷ r
     )
 runs_promised law takings seen settings world olds state reports news facts last sound are is served runs = search rules
 
-pub mbox_runs_promised : {W : Type 0} → MboxHeadline → (seen : W → Link) (settings : Settings) (frame : MboxFrame) (olds : List (Visit W)) (state : MboxState) (reports : List Report) (news : List (Visit W)) (facts : List Fact) (last : MboxKept)
-    → IsWorld frame.all → AreMboxSettings frame settings → IsMboxKept frame state → AreServed seen frame.all state.gone olds news facts
-    → MboxRuns seen settings olds state.kept reports news last → AreMboxPromised seen settings frame state olds reports news facts last
-mbox_runs_promised law seen settings frame [] state [] [] [] last world are is served runs = ((law frame state [] world is tt).0, is, sym runs)
-mbox_runs_promised law seen settings frame (old ∷ olds) state (report ∷ reports) (new ∷ news) (fact ∷ facts) last world are is served runs =
+pub mbox_runs_promised : {W : Type 0} → MboxHeadline → (seen : W → Link) (settings : Settings) (world : MboxWorld) (olds : List (Visit W)) (state : MboxState MboxKept) (reports : List Report) (news : List (Visit W)) (facts : List Fact) (last : MboxKept)
+    → IsWorld world.all → AreMboxSettings world settings → IsMboxKept world state → AreServed seen world.all state.gone olds news facts
+    → MboxRuns seen settings olds state.kept reports news last → AreMboxPromised seen settings world state olds reports news facts last
+mbox_runs_promised law seen settings world [] state [] [] [] last sound are is served runs = ((law world state [] sound is tt).0, is, sym runs)
+mbox_runs_promised law seen settings world (old ∷ olds) state (report ∷ reports) (new ∷ news) (fact ∷ facts) last sound are is served runs =
     let occasion = mbox_occasion seen settings old report new fact runs.0 in
-    let one = law frame state (InMbox occasion ∷ []) world is (record { settings = are; session = runs.1.0; served = served.0 }, tt) in
-    (runs.0, runs.1.0, one.0.0, one.0.1, mbox_runs_promised law seen settings frame olds (after_mbox state (InMbox occasion)) reports news facts last world are one.1 served.1 runs.2)
-mbox_runs_promised law seen settings frame olds state reports news facts last world are is served runs = search rules
+    let one = law world state (InMbox occasion ∷ []) sound is (record { settings = are; session = runs.1.0; served = served.0 }, tt) in
+    (runs.0, runs.1.0, one.0.0, one.0.1, mbox_runs_promised law seen settings world olds (after_mbox state (InMbox occasion)) reports news facts last sound are one.1 served.1 runs.2)
+mbox_runs_promised law seen settings world olds state reports news facts last sound are is served runs = search rules

@@ -10,8 +10,9 @@ use Rattle.mail_store.specs.Maildir.{File, IsPart, Maildir, with_files}
 use Rattle.mail_store.specs.FileName.{StemsDiffer, names_id, stem, stem_of}
 use Rattle.run_law.specs.Accounts.{copies}
 use Rattle.run_law.specs.Mails.{ids_of, selected}
-use Rattle.fetch_session.specs.Session.{kept}
-use Rattle.fetch_runs.specs.Headline.{World, State, Event, Between, TakenAway, AreTaken, Headline, IsKept, IsSound, IsTakenAway, TakingsAreEvents, account_of, after_event}
+use Rattle.fetch_session.specs.Session.{Kept, kept}
+use Rattle.fetch_runs.specs.Headline.{Event, Between, TakenAway, AreTaken, Headline, IsKept, IsTakenAway, TakingsAreEvents, after_event}
+use Rattle.run_law.specs.Runs.{State, IsSound, World}
 
 abbrev others_than : List ℕ → List File → List File
 others_than front fs = filter (λ (f : File). not (bytes_eq front (stem f.name))) fs
@@ -81,7 +82,7 @@ nothing_or_some (x ∷ xs) = inr (λ none. cc)
 -- ---- parts
 
 -- each event leaves some of the files
-abbrev pub LeaveParts : State → List Event → Type 0
+abbrev pub LeaveParts : State Kept → List Event → Type 0
 LeaveParts state [] = Unit {0}
 LeaveParts state (event ∷ events) = IsPart state.kept.maildir.files (after_event state event).kept.maildir.files × LeaveParts (after_event state event) events
 
@@ -122,9 +123,9 @@ AreDue account left ids fs = (id : List ℕ) → is_legal_id id ≡ true → (co
 
 module _ (differ : StemsDiffer) (world : World) (maildir : Maildir) (file : Stored) (gone : List (List ℕ)) (left : List File) where
   abbrev account : List ℕ
-  account = account_of world
+  account = world.account
 
-  abbrev with_kept : List File → List (List ℕ) → State
+  abbrev with_kept : List File → List (List ℕ) → State Kept
   with_kept fs taken = record { kept = kept (with_files fs maildir) file; gone = gone; taken = taken }
 
   abbrev Told : List File → List (List ℕ) → Type 0
@@ -218,11 +219,11 @@ module _ (differ : StemsDiffer) (world : World) (maildir : Maildir) (file : Stor
     | inr not ↦ all_told ids fs taken (passed fs id ids due not) part
   ]
 
-pub takings_leave_parts : Headline → StemsDiffer → (world : World) (state : State) (left : List File) → IsSound world → IsKept world state
+pub takings_leave_parts : Headline → StemsDiffer → (world : World) (state : State Kept) (left : List File) → IsSound world → IsKept world state
     → IsPart state.kept.maildir.files left → (events : List Event) × AreTaken world state left events × LeaveParts state events
 takings_leave_parts law differ world state left sound is part =
     let holds = (law world state [] sound is tt).0 in
-    let account = account_of world in
+    let account = world.account in
     let ids = ids_of (take holds.j (selected world.max_size world.all)) in
     let files = state.kept.maildir.files in
     all_told differ world state.kept.maildir state.kept.file state.gone left ids files state.taken

@@ -18,7 +18,8 @@ use Rattle.fetch_session.specs.Session.{Enters_with, Kept, Session}
 use Rattle.fetch_session.specs.Target.{AsFiles, in_maildir}
 use Rattle.fetch_session.specs.Task.{Done, files_of, ids_of, stores, tasks_of, turns_in}
 use Rattle.fetch_session.specs.Account.{digits_of}
-use Rattle.fetch_runs.specs.Headline.{HasTheSameFiles, IsSession, IsStopped, Occasion, State, World}
+use Rattle.fetch_runs.specs.Headline.{HasTheSameFiles, IsSession, IsStopped, Occasion}
+use Rattle.run_law.specs.Runs.{State, World}
 
 -- what an uncut session of an account with a Maildir had ready before its first task, and the tasks that it did
 pub record Uncut (settings : Settings) (account : List ℕ) (now : ℕ) (link : Link) (before : Kept) (link' : Link)
@@ -79,7 +80,7 @@ cut_at occasion link after report = record occasion { report = report; link' = l
 -- a law: at each such point of an uncut session of a run, a session was cut there and left what is there. It is one of the
 -- run, too, whatever the report that tells of it
 abbrev pub FrontsAreSessions : Type 0
-FrontsAreSessions = (world : World) (state : State) (occasion : Occasion) → IsSession world state occasion
+FrontsAreSessions = (world : World) (state : State Kept) (occasion : Occasion) → IsSession world state occasion
     → (uncut : Uncut occasion.settings (digits_of occasion.settings) occasion.now occasion.link state.kept occasion.link' occasion.after)
     → (front back : List Done) (next : Done) (left : Kept) → uncut.dones ≡ front ++ next ∷ back
     → IsLeftBetween (digits_of occasion.settings) state.kept uncut.ready front next left

@@ -25,45 +25,20 @@ use Rattle.fetch_session.specs.Session.{Kept, Session, kept}
 use Rattle.fetch_session.specs.declared.report.Outcome.TheVariants.{Ended}
 use Rattle.fetch_session.specs.declared.report.Report.{Report}
 use Rattle.run_law.specs.Mails.{listing_of, is_selected, messages_after, selected, texts_of, without}
-use Rattle.run_law.specs.Accounts.{KeepsOthers, copies, files}
+use Rattle.run_law.specs.Accounts.{Account, KeepsOthers, copies, files}
 use Rattle.run_law.specs.Steps.{ids_wanted}
-use Rattle.run_law.specs.Runs.{Frame, Situation, Kept as IsKeptIn, HoldsExactly, HoldsWhatIsLeft, past_limit}
+use Rattle.run_law.specs.Runs.{World, IsSound, State, Kept as IsKeptIn, HoldsExactly, HoldsWhatIsLeft, past_limit}
 use Rattle.run_law.specs.Sessions.{BeginsOne, Served}
 use Rattle.fetch_runs.specs.Steps.{holds}
 
--- ---- the world: unique-ids are distinct and persistent, and the mail unchanged
-
--- whose mail it is: the server, the port and the user name, which make the account; the limit on sizes; and
--- all mail that ever comes, in order of arrival, without what was withdrawn
-pub record World : Type 0 where
-  pub server : List ℕ
-  pub port : ℕ
-  pub username : List ℕ
-  pub max_size : ℕ
-  pub all : List Message
-
--- unique-ids are legal and distinct, and texts are whole
-abbrev pub IsSound : World → Type 0
-IsSound world = IsWorld world.all
-
--- the digits in the names of the account's files
-abbrev pub account_of : World → List ℕ
-account_of world = account_text world.server world.port world.username
+-- A `World` is whose mail it is, by the digits in the names of the account's files; the limit on sizes; and all mail that ever comes, in
+-- order of arrival, without what was withdrawn. It is sound: unique-ids are legal and distinct, and texts are whole.
 
 -- settings that an rc file can give, for this account and with this limit on sizes; the others are a session's own
 pub record AreSettings (world : World) (settings : Settings) : Type 0 where
   pub valid : IsValid settings
-  pub server : string_bytes settings.server ≡ world.server
-  pub port : settings.port ≡ world.port
-  pub username : string_bytes settings.username ≡ world.username
+  pub account : digits_of settings ≡ world.account
   pub max_size : settings.max_size ≡ world.max_size
-
--- the Maildir and the record's file, which ids are gone from the server, and which messages were taken away from the
--- Maildir and weren't brought back
-pub record State : Type 0 where
-  pub kept : Kept
-  pub gone : List (List ℕ)
-  pub taken : List (List ℕ)
 
 -- ---- any list of sessions
 
@@ -93,11 +68,11 @@ pub data Event : Type 0 where
   PowerLost : Kept → Event
 
 -- the maildrop of an occasion
-abbrev pub maildrop_at : World → State → Occasion → List Message
+abbrev pub maildrop_at : World → State Kept → Occasion → List Message
 maildrop_at world state occasion = maildrop_of world.all occasion.come state.gone
 
 -- it was a session, whatever cut it, and all that its link gained came from an honest server with this maildrop
-pub record IsSession (world : World) (state : State) (occasion : Occasion) : Type 0 where
+pub record IsSession (world : World) (state : State Kept) (occasion : Occasion) : Type 0 where
   pub settings : AreSettings world occasion.settings
   pub session : Session occasion.settings (digits_of occasion.settings) occasion.now occasion.link state.kept
       occasion.report occasion.link' occasion.after
@@ -110,7 +85,7 @@ KeepsRecord before after = (rows : List Row) → KeepsRows before.file.content r
 
 -- what the files with an id's stem hold, in `new` and `cur` together
 abbrev pub contents_of : World → Kept → List ℕ → List (List ℕ)
-contents_of world state id = copies (files (holds [] state.maildir)) (stem_of (account_of world) id)
+contents_of world state id = copies (files (holds [] state.maildir)) (stem_of world.account id)
 
 -- the record stays, and for each legal id the files hold what they held. All else may have changed: the
 -- counts of refusals, the file that was begun, which folders are there, and files of other names
@@ -121,14 +96,14 @@ pub record IsBetween (world : World) (before after : Kept) : Type 0 where
 -- it was held, and no longer is; all else of the account is as it was
 pub record IsTakenAway (world : World) (before : Kept) (id : List ℕ) (after : Kept) : Type 0 where
   pub legal : is_legal_id id ≡ true
-  pub held : is_held (account_of world) before.maildir id ≡ true
+  pub held : is_held world.account before.maildir id ≡ true
   pub none : contents_of world after id ≡ []
   pub record_is : KeepsRecord before after
   pub others : (other : List ℕ) → is_legal_id other ≡ true → bytes_eq other id ≡ false
       → contents_of world after other ≡ contents_of world before other
 
 -- it was taken away, and one file holds its text again; all else of the account is as it was
-pub record IsBroughtBack (world : World) (state : State) (id : List ℕ) (after : Kept) : Type 0 where
+pub record IsBroughtBack (world : World) (state : State Kept) (id : List ℕ) (after : Kept) : Type 0 where
   pub legal : is_legal_id id ≡ true
   pub taken : has_id state.taken id ≡ true
   pub text : contents_of world after id ≡ texts_of world.all id
@@ -148,13 +123,13 @@ pub record IsForgotten (world : World) (before after : Kept) : Type 0 where
   pub mail : (id : List ℕ) → is_legal_id id ≡ true → contents_of world after id ≡ contents_of world before id
 
 -- it is neither held nor taken away
-abbrev pub IsNeither : World → State → List ℕ → Type 0
-IsNeither world state id = (is_held (account_of world) state.kept.maildir id ≡ false) × (has_id state.taken id ≡ false)
+abbrev pub IsNeither : World → State Kept → List ℕ → Type 0
+IsNeither world state id = (is_held world.account state.kept.maildir id ≡ false) × (has_id state.taken id ≡ false)
 
 -- it was held, or was taken away before
-abbrev pub IsFetched : World → State → List ℕ → Type 0
+abbrev pub IsFetched : World → State Kept → List ℕ → Type 0
 IsFetched world state id = (is_legal_id id ≡ true)
-    × ((is_held (account_of world) state.kept.maildir id ≡ true) ⊎ (has_id state.taken id ≡ true))
+    × ((is_held world.account state.kept.maildir id ≡ true) ⊎ (has_id state.taken id ≡ true))
 
 -- the record's file stands for a record in which the id is delivered
 abbrev pub IsRecorded : Kept → List ℕ → Type 0
@@ -162,26 +137,26 @@ IsRecorded state id = (rows : List Row) × KeepsRows state.file.content rows × 
 
 -- the record doesn't show the message, the server still has it, and no later one of the selected messages is held or was
 -- taken away: a text and its name are flushed before its row is written, and before the next one is stored
-pub record IsLastStored (world : World) (state : State) (id : List ℕ) : Type 0 where
+pub record IsLastStored (world : World) (state : State Kept) (id : List ℕ) : Type 0 where
   pub unrecorded : IsRecorded state.kept id → ⊥
   pub on_server : has_id state.gone id ≡ false
   pub last : AllByRecursion (λ (message : Message). IsNeither world state message.uid)
       (messages_after id (selected world.max_size world.all))
 
 -- the record's file stands for rows of which each that is delivered was so before, or is held or was taken away
-abbrev pub ShowsWhatIsLeft : World → State → Kept → List Row → Type 0
+abbrev pub ShowsWhatIsLeft : World → State Kept → Kept → List Row → Type 0
 ShowsWhatIsLeft world state after rows = (now : List Row) × KeepsRows after.file.content now
     × ((id : List ℕ) → is_delivered now id ≡ true
     → (is_delivered rows id ≡ true) ⊎ IsFetched world (record state { kept = after }) id)
 
 -- power is lost. For each legal id the files hold what they held; or there is none, and the message was taken away before
 -- and stored again, or is the last that was stored
-pub record IsPowerLost (world : World) (state : State) (after : Kept) : Type 0 where
+pub record IsPowerLost (world : World) (state : State Kept) (after : Kept) : Type 0 where
   pub record_is : (rows : List Row) → KeepsRows state.kept.file.content rows → ShowsWhatIsLeft world state after rows
   pub mail : (id : List ℕ) → is_legal_id id ≡ true → (contents_of world after id ≡ contents_of world state.kept id)
       ⊎ ((contents_of world after id ≡ []) × ((has_id state.taken id ≡ true) ⊎ IsLastStored world state id))
 
-abbrev pub after_event : State → Event → State
+abbrev pub after_event : State Kept → Event → State Kept
 after_event state (Fetched occasion) = record state { kept = occasion.after; gone = state.gone ++ occasion.vanished }
 after_event state (Between after) = record state { kept = after }
 after_event state (Expired ids) = record state { gone = state.gone ++ ids }
@@ -196,7 +171,7 @@ abbrev pub world_after : World → Event → World
 world_after world (Withdrawn ids) = record world { all = without ids world.all }
 world_after world _ = world
 
-abbrev pub Follows : World → State → Event → Type 0
+abbrev pub Follows : World → State Kept → Event → Type 0
 Follows world state (Fetched occasion) = IsSession world state occasion
 Follows world state (Between after) = IsBetween world state.kept after
 Follows world state (Expired ids) = AllByRecursion (IsFetched world state) ids
@@ -206,41 +181,38 @@ Follows world state (BroughtBack id after) = IsBroughtBack world state id after
 Follows world state (Forgotten after) = IsForgotten world state.kept after
 Follows world state (PowerLost after) = IsPowerLost world state after
 
-abbrev pub IsRun : World → State → List Event → Type 0
+abbrev pub IsRun : World → State Kept → List Event → Type 0
 IsRun world state [] = Unit {0}
 IsRun world state (event ∷ events) = Follows world state event × IsRun (world_after world event) (after_event state event) events
 
 -- ---- what is promised
 
-abbrev pub frame_of : World → Frame
-frame_of world = record { account = account_of world; max_size = world.max_size; all = world.all }
-
 -- an account whose record has these rows, and which of its messages are gone or were taken away
-abbrev pub situation : List Row → State → Situation
-situation rows state = record { account = holds rows state.kept.maildir; gone = state.gone; taken = state.taken }
+abbrev pub by_rows : List Row → State Kept → State Account
+by_rows rows state = record { kept = holds rows state.kept.maildir; gone = state.gone; taken = state.taken }
 
 -- the Maildir holds exactly the first of the selected messages, each in one file with its text, except for
 -- those that were taken away, and no others
-abbrev pub HoldsAPrefix : World → State → Type 0
-HoldsAPrefix world state = HoldsWhatIsLeft (frame_of world) (situation [] state)
+abbrev pub HoldsAPrefix : World → State Kept → Type 0
+HoldsAPrefix world state = HoldsWhatIsLeft world (by_rows [] state)
 
 -- a message is held when a session returns, or was taken away before it began
-abbrev pub IsHeldAfter : World → State → Occasion → List ℕ → Type 0
-IsHeldAfter world state occasion id = (is_held (account_of world) occasion.after.maildir id ≡ true) ⊎ (has_id state.taken id ≡ true)
+abbrev pub IsHeldAfter : World → State Kept → Occasion → List ℕ → Type 0
+IsHeldAfter world state occasion id = (is_held world.account occasion.after.maildir id ≡ true) ⊎ (has_id state.taken id ≡ true)
 
 -- the message could be fetched, but comes after the first `max_count` that could; 0 is no limit
-abbrev pub IsPastCount : World → State → Occasion → Message → Type 0
+abbrev pub IsPastCount : World → State Kept → Occasion → Message → Type 0
 IsPastCount world state occasion message =
     let listing = listing_of (maildrop_at world state occasion) in
     (rows : List Row) × KeepsRows state.kept.file.content rows
     × (has_id (ids_wanted (past_limit occasion.settings.max_count
     (candidates occasion.settings
-    (merged rows listing (flags_of (account_of world) state.kept.maildir listing) occasion.now) listing)))
+    (merged rows listing (flags_of world.account state.kept.maildir listing) occasion.now) listing)))
     message.uid ≡ true)
 
 -- after an uncut session each message of the maildrop is held, or was taken away, or is larger than the
 -- limit, or is past the number that one session fetches
-abbrev pub LeavesOutOnlyBeyondLimits : World → State → Occasion → Type 0
+abbrev pub LeavesOutOnlyBeyondLimits : World → State Kept → Occasion → Type 0
 LeavesOutOnlyBeyondLimits world state occasion = occasion.report.outcome ≡ Ended → AllByRecursion (λ (message : Message).
     IsHeldAfter world state occasion message.uid
     ⊎ (is_selected world.max_size message ≡ false)
@@ -249,14 +221,14 @@ LeavesOutOnlyBeyondLimits world state occasion = occasion.report.outcome ≡ End
 
 -- a DELE gives the number, counted from 1, of a message of the maildrop that is held when the session
 -- returns, or was taken away
-abbrev pub IsForHeld : World → State → Occasion → Command → Type 0
+abbrev pub IsForHeld : World → State Kept → Occasion → Command → Type 0
 IsForHeld world state occasion (Dele number) = (0 < number) × (message : Message)
     × (slice_get (maildrop_at world state occasion) (number - 1) ≡ Some message)
     × IsHeldAfter world state occasion message.uid
 IsForHeld world state occasion _ = Unit {0}
 
 -- each DELE that was sent, the last perhaps in part, is for such a message
-pub record DeletesOnlyHeld (world : World) (state : State) (occasion : Occasion) : Type 0 where
+pub record DeletesOnlyHeld (world : World) (state : State Kept) (occasion : Occasion) : Type 0 where
   pub sent : List ℕ
   pub sent_is : occasion.link'.sent ≡ occasion.link.sent ++ sent
   pub commands : List Command
@@ -265,8 +237,8 @@ pub record DeletesOnlyHeld (world : World) (state : State) (occasion : Occasion)
   pub next : BeginsOne (IsForHeld world state occasion) asked.part
 
 -- files of other names stay
-abbrev pub OthersStay : World → State → State → Type 0
-OthersStay world before after = KeepsOthers (account_of world) (holds [] before.kept.maildir) (holds [] after.kept.maildir)
+abbrev pub OthersStay : World → State Kept → State Kept → Type 0
+OthersStay world before after = KeepsOthers world.account (holds [] before.kept.maildir) (holds [] after.kept.maildir)
 
 -- every file of `new` and `cur` is there as before, in whichever folder and with whatever marks, and what
 -- was added comes after them: so a session loses none
@@ -275,12 +247,12 @@ pub record FilesStay (before after : Maildir) : Type 0 where
   pub came : after.files ≡ before.files ++ gained
 
 -- if delivered messages aren't read again, none that is recorded as delivered is stored, and it stays recorded
-abbrev pub StoresOnlyNew : World → State → Occasion → Type 0
+abbrev pub StoresOnlyNew : World → State Kept → Occasion → Type 0
 StoresOnlyNew world state occasion = occasion.settings.read_all ≡ false → (id : List ℕ) → is_legal_id id ≡ true → IsRecorded state.kept id
     → (contents_of world occasion.after id ≡ contents_of world state.kept id) × IsRecorded occasion.after id
 
 -- nothing is promised of what others do
-abbrev pub Promised : World → State → Event → Type 0
+abbrev pub Promised : World → State Kept → Event → Type 0
 Promised world state (Fetched occasion) =
     LeavesOutOnlyBeyondLimits world state occasion × DeletesOnlyHeld world state occasion
     × OthersStay world state (after_event state (Fetched occasion))
@@ -288,7 +260,7 @@ Promised world state (Fetched occasion) =
 Promised world state _ = Unit {0}
 
 -- a prefix is held before and after each event, and each event keeps its promises
-abbrev pub Promises : World → State → List Event → Type 0
+abbrev pub Promises : World → State Kept → List Event → Type 0
 Promises world state [] = HoldsAPrefix world state
 Promises world state (event ∷ events) = HoldsAPrefix world state × Promised world state event
     × Promises (world_after world event) (after_event state event) events
@@ -297,10 +269,10 @@ Promises world state (event ∷ events) = HoldsAPrefix world state × Promised w
 
 -- the record's file stands for a record that shows as delivered only messages that are held or were taken
 -- away; the ids that are gone are of such messages too
-abbrev pub IsKept : World → State → Type 0
-IsKept world state = (rows : List Row) × KeepsRows state.kept.file.content rows × IsKeptIn (frame_of world) (situation rows state)
+abbrev pub IsKept : World → State Kept → Type 0
+IsKept world state = (rows : List Row) × KeepsRows state.kept.file.content rows × IsKeptIn world (by_rows rows state)
 
-abbrev pub state_after : State → List Event → State
+abbrev pub state_after : State Kept → List Event → State Kept
 state_after state [] = state
 state_after state (event ∷ events) = state_after (after_event state event) events
 
@@ -310,7 +282,7 @@ world_left world (event ∷ events) = world_left (world_after world event) event
 
 -- the sentence: from a kept state, over any list of sessions and of what happens between them
 abbrev pub Headline : Type 0
-Headline = (world : World) (start : State) (events : List Event) → IsSound world → IsKept world start → IsRun world start events
+Headline = (world : World) (start : State Kept) (events : List Event) → IsSound world → IsKept world start → IsRun world start events
     → Promises world start events × IsKept (world_left world events) (state_after start events)
 
 -- ---- what is taken away during a session
@@ -323,7 +295,7 @@ AreTakings (Between after ∷ events) = AreTakings events
 AreTakings (_ ∷ events) = ⊥
 
 -- these events take all files away but those that are left
-pub record AreTaken (world : World) (state : State) (left : List File) (events : List Event) : Type 0 where
+pub record AreTaken (world : World) (state : State Kept) (left : List File) (events : List Event) : Type 0 where
   pub each : AreTakings events
   pub run : IsRun world state events
   pub kept : (state_after state events).kept ≡ kept (with_files left state.kept.maildir) state.kept.file
@@ -332,14 +304,14 @@ pub record AreTaken (world : World) (state : State) (left : List File) (events :
 -- whichever files are taken away in a kept state, there are such events. What is taken away during a session is taken
 -- away before the names are told, and so before the session; or after that, and so after the session, which sees none of it
 abbrev pub TakingsAreEvents : Type 0
-TakingsAreEvents = (world : World) (state : State) (left : List File) → IsSound world → IsKept world state
+TakingsAreEvents = (world : World) (state : State Kept) (left : List File) → IsSound world → IsKept world state
     → IsPart state.kept.maildir.files left → (events : List Event) × AreTaken world state left events
 
 -- ---- from the first session on
 
 -- the record's file isn't there or holds an empty record, no file is the account's own, nothing is gone, and
 -- nothing was taken away
-pub record IsEmpty (world : World) (state : State) : Type 0 where
+pub record IsEmpty (world : World) (state : State Kept) : Type 0 where
   pub record_is : KeepsRows state.kept.file.content []
   pub no_file : (id : List ℕ) → is_legal_id id ≡ true → contents_of world state.kept id ≡ []
   pub none_gone : state.gone ≡ []
@@ -347,11 +319,11 @@ pub record IsEmpty (world : World) (state : State) : Type 0 where
 
 -- the empty account is kept
 abbrev pub EmptyIsKept : Type 0
-EmptyIsKept = (world : World) (start : State) → IsEmpty world start → IsKept world start
+EmptyIsKept = (world : World) (start : State Kept) → IsEmpty world start → IsKept world start
 
 -- so the sentence holds from the first session on
 abbrev pub HeadlineFromEmpty : Type 0
-HeadlineFromEmpty = (world : World) (start : State) (events : List Event) → IsSound world
+HeadlineFromEmpty = (world : World) (start : State Kept) (events : List Event) → IsSound world
     → IsEmpty world start → IsRun world start events → Promises world start events
 
 -- ---- if nothing is taken away or withdrawn
@@ -363,20 +335,20 @@ TakesNoneAway (Withdrawn ids ∷ events) = ⊥
 TakesNoneAway (_ ∷ events) = TakesNoneAway events
 
 -- the Maildir holds exactly the first of the selected messages, each in one file with its text, and no others
-abbrev pub HoldsExactlyAPrefix : World → State → Type 0
-HoldsExactlyAPrefix world state = HoldsExactly (frame_of world) (holds [] state.kept.maildir)
+abbrev pub HoldsExactlyAPrefix : World → State Kept → Type 0
+HoldsExactlyAPrefix world state = HoldsExactly world (holds [] state.kept.maildir)
 
 -- each DELE is for a message that is held when the session returns
-abbrev pub IsForOneHeld : World → State → Occasion → Command → Type 0
+abbrev pub IsForOneHeld : World → State Kept → Occasion → Command → Type 0
 IsForOneHeld world state occasion (Dele number) = (0 < number) × (message : Message)
     × (slice_get (maildrop_at world state occasion) (number - 1) ≡ Some message)
-    × (is_held (account_of world) occasion.after.maildir message.uid ≡ true)
+    × (is_held world.account occasion.after.maildir message.uid ≡ true)
 IsForOneHeld world state occasion _ = Unit {0}
 
 -- a session as the sentence has it, word for word
-pub record IsWordForWord (world : World) (state : State) (occasion : Occasion) : Type 0 where
+pub record IsWordForWord (world : World) (state : State Kept) (occasion : Occasion) : Type 0 where
   pub left_out : occasion.report.outcome ≡ Ended → AllByRecursion (λ (message : Message).
-      (is_held (account_of world) occasion.after.maildir message.uid ≡ true)
+      (is_held world.account occasion.after.maildir message.uid ≡ true)
       ⊎ (is_selected world.max_size message ≡ false) ⊎ IsPastCount world state occasion message)
       (maildrop_at world state occasion)
   pub sent : List ℕ
@@ -386,18 +358,18 @@ pub record IsWordForWord (world : World) (state : State) (occasion : Occasion) :
   pub each : AllByRecursion (IsForOneHeld world state occasion) commands
   pub next : BeginsOne (IsForOneHeld world state occasion) asked.part
 
-abbrev pub SaysTheSentence : World → State → Event → Type 0
+abbrev pub SaysTheSentence : World → State Kept → Event → Type 0
 SaysTheSentence world state (Fetched occasion) = IsWordForWord world state occasion
 SaysTheSentence world state _ = Unit {0}
 
-abbrev pub SayTheSentence : World → State → List Event → Type 0
+abbrev pub SayTheSentence : World → State Kept → List Event → Type 0
 SayTheSentence world state [] = HoldsExactlyAPrefix world state
 SayTheSentence world state (event ∷ events) = HoldsExactlyAPrefix world state
     × SaysTheSentence world state event × SayTheSentence world (after_event state event) events
 
 -- then the sentence holds word for word
 abbrev pub HeadlineWordForWord : Type 0
-HeadlineWordForWord = (world : World) (start : State) (events : List Event) → IsSound world → IsKept world start → IsRun world start events
+HeadlineWordForWord = (world : World) (start : State Kept) (events : List Event) → IsSound world → IsKept world start → IsRun world start events
     → start.taken ≡ [] → TakesNoneAway events → SayTheSentence world start events
 
 -- ---- what is taken away stays away
@@ -414,7 +386,7 @@ LeaveAway id (_ ∷ events) = LeaveAway id events
 
 -- then a message that is recorded as delivered and isn't held is never stored again
 abbrev pub StaysAway : Type 0
-StaysAway = (world : World) (start : State) (events : List Event) (id : List ℕ) → IsSound world
+StaysAway = (world : World) (start : State Kept) (events : List Event) (id : List ℕ) → IsSound world
     → IsKept world start → IsRun world start events
     → LeaveAway id events → is_legal_id id ≡ true → IsRecorded start.kept id → contents_of world start.kept id ≡ []
     → contents_of world (state_after start events).kept id ≡ []
@@ -444,12 +416,12 @@ NewProcessesAreBetween = (world : World) (before after : Kept) → HasTheSameFil
 
 -- a program was stopped in a session: the files are as that session leaves them if every call is refused from
 -- that moment on, the first of them with or without effect. That is a session that was cut
-pub record IsStopped (world : World) (state : State) (occasion : Occasion) (left : Kept) : Type 0 where
+pub record IsStopped (world : World) (state : State Kept) (occasion : Occasion) (left : Kept) : Type 0 where
   pub session : IsSession world state occasion
   pub cut : occasion.report.outcome ≢ Ended
   pub files : HasTheSameFiles occasion.after left
 
 -- so a stop is a run: the session, and then a new process
 abbrev pub StopsAreRuns : Type 0
-StopsAreRuns = (world : World) (state : State) (occasion : Occasion) (left : Kept) → IsStopped world state occasion left
+StopsAreRuns = (world : World) (state : State Kept) (occasion : Occasion) (left : Kept) → IsStopped world state occasion left
     → IsRun world state (Fetched occasion ∷ Between left ∷ [])

@@ -23,27 +23,22 @@ use Rattle.fetch_session.specs.Target.{mail_in}
 use Rattle.fetch_session.specs.declared.report.Outcome.TheVariants.{Ended}
 use Rattle.fetch_session.specs.declared.report.Report.{Report}
 use Rattle.run_law.specs.Mails.{ids_of, listing_of, is_selected, selected, without}
-use Rattle.run_law.specs.Mboxes.{settled, none_held}
-use Rattle.run_law.specs.MboxRuns.{MboxFrame, MboxSituation, MboxKept as IsKeptIn, MboxHolds, HasEntry, IsUnbegun, AreAllRecorded}
+use Rattle.run_law.specs.Mboxes.{MboxAccount, settled, none_held}
+use Rattle.run_law.specs.MboxRuns.{MboxWorld, MboxState, MboxKept as IsKeptIn, MboxHolds, HasEntry, IsUnbegun, AreAllRecorded}
 use Rattle.run_law.specs.Runs.{past_limit}
 use Rattle.run_law.specs.Sessions.{BeginsOne, Served}
 use Rattle.run_law.specs.Steps.{ids_wanted}
 use Rattle.fetch_runs.specs.MboxSteps.{mbox_holds}
 
--- What stays throughout, but where others write the file or messages are withdrawn, is an `MboxFrame`: the file before the
+-- What stays throughout, but where others write the file or messages are withdrawn, is an `MboxWorld`: the file before the
 -- first session, the messages that were recorded as delivered then, the limit on sizes, and all mail that ever comes, in
 -- order of arrival.
 
 -- settings that an rc file can give, with this limit on sizes, which ask only for what is new
-pub record AreSettings (frame : MboxFrame) (settings : Settings) : Type 0 where
+pub record AreSettings (world : MboxWorld) (settings : Settings) : Type 0 where
   pub valid : IsValid settings
-  pub max_size : settings.max_size ≡ frame.max_size
+  pub max_size : settings.max_size ≡ world.max_size
   pub only_new : settings.read_all ≡ false
-
--- the mboxrd file and the record's file, and which ids are gone from the server
-pub record MboxState : Type 0 where
-  pub kept : MboxKept
-  pub gone : List (List ℕ)
 
 -- ---- any list of sessions
 
@@ -70,15 +65,15 @@ pub data MboxEvent : Type 0 where
   Rewritten : List Message → MboxKept → MboxEvent
 
 -- the maildrop of an occasion
-abbrev pub maildrop_at : MboxFrame → MboxState → MboxOccasion → List Message
-maildrop_at frame state occasion = maildrop_of frame.all occasion.come state.gone
+abbrev pub maildrop_at : MboxWorld → MboxState MboxKept → MboxOccasion → List Message
+maildrop_at world state occasion = maildrop_of world.all occasion.come state.gone
 
 -- it was a session, whatever cut it, and all that its link gained came from an honest server with this maildrop
-pub record IsMboxSession (frame : MboxFrame) (state : MboxState) (occasion : MboxOccasion) : Type 0 where
-  pub settings : AreSettings frame occasion.settings
+pub record IsMboxSession (world : MboxWorld) (state : MboxState MboxKept) (occasion : MboxOccasion) : Type 0 where
+  pub settings : AreSettings world occasion.settings
   pub session : MboxSession occasion.settings occasion.now occasion.link state.kept occasion.report occasion.link' occasion.after
   pub served : (sent got : List ℕ) → occasion.link'.sent ≡ occasion.link.sent ++ sent → occasion.link'.got ≡ occasion.link.got ++ got
-      → Served (maildrop_at frame state occasion) sent got occasion.vanished
+      → Served (maildrop_at world state occasion) sent got occasion.vanished
 
 -- the record's file still stands for the record that it stood for, and the mboxrd file has the same bytes. The
 -- counts of refusals may have changed
@@ -91,18 +86,18 @@ abbrev pub AreRecorded : MboxKept → List (List ℕ) → Type 0
 AreRecorded state ids = (held : Held) × Keeps state.file.content held × AllByRecursion (λ id. is_delivered held.rows id ≡ true) ids
 
 -- the record's file stands for a record in which none of these is delivered or has an open intent
-abbrev pub AreUnbegun : MboxState → List (List ℕ) → Type 0
+abbrev pub AreUnbegun : MboxState MboxKept → List (List ℕ) → Type 0
 AreUnbegun state ids = (held : Held) × Keeps state.kept.file.content held × AllByRecursion (IsUnbegun (mbox_holds held state.kept.mbox)) ids
 
 -- the mboxrd file may hold anything now. The record's file still stands for its record, which has no open intent and shows
 -- exactly these messages as delivered
-pub record IsRewritten (frame : MboxFrame) (before : MboxKept) (had : List Message) (after : MboxKept) : Type 0 where
+pub record IsRewritten (world : MboxWorld) (before : MboxKept) (had : List Message) (after : MboxKept) : Type 0 where
   pub held : Held
   pub stood_for : Keeps before.file.content held
   pub stands_for : Keeps after.file.content held
-  pub recorded : AreAllRecorded frame (mbox_holds held before.mbox) had
+  pub recorded : AreAllRecorded world (mbox_holds held before.mbox) had
 
-abbrev pub after_event : MboxState → MboxEvent → MboxState
+abbrev pub after_event : MboxState MboxKept → MboxEvent → MboxState MboxKept
 after_event state (Fetched occasion) = record { kept = occasion.after; gone = state.gone ++ occasion.vanished }
 after_event state (Between after) = record state { kept = after }
 after_event state (Expired ids) = record state { gone = state.gone ++ ids }
@@ -110,50 +105,50 @@ after_event state (Withdrawn ids) = state
 after_event state (Rewritten had after) = record state { kept = after }
 
 -- all mail goes on without the messages that are withdrawn; what others write is what the file begins with
-abbrev pub frame_after : MboxFrame → MboxEvent → MboxFrame
-frame_after frame (Withdrawn ids) = record frame { all = without ids frame.all }
-frame_after frame (Rewritten had after) = record frame { start = mail_in after.mbox.content; had = had }
-frame_after frame _ = frame
+abbrev pub world_after : MboxWorld → MboxEvent → MboxWorld
+world_after world (Withdrawn ids) = record world { all = without ids world.all }
+world_after world (Rewritten had after) = record world { start = mail_in after.mbox.content; had = had }
+world_after world _ = world
 
-abbrev pub Follows : MboxFrame → MboxState → MboxEvent → Type 0
-Follows frame state (Fetched occasion) = IsMboxSession frame state occasion
-Follows frame state (Between after) = IsMboxBetween state.kept after
-Follows frame state (Expired ids) = AreRecorded state.kept ids
-Follows frame state (Withdrawn ids) = AreUnbegun state ids
-Follows frame state (Rewritten had after) = IsRewritten frame state.kept had after
+abbrev pub Follows : MboxWorld → MboxState MboxKept → MboxEvent → Type 0
+Follows world state (Fetched occasion) = IsMboxSession world state occasion
+Follows world state (Between after) = IsMboxBetween state.kept after
+Follows world state (Expired ids) = AreRecorded state.kept ids
+Follows world state (Withdrawn ids) = AreUnbegun state ids
+Follows world state (Rewritten had after) = IsRewritten world state.kept had after
 
-abbrev pub IsMboxRun : MboxFrame → MboxState → List MboxEvent → Type 0
-IsMboxRun frame state [] = Unit {0}
-IsMboxRun frame state (event ∷ events) = Follows frame state event × IsMboxRun (frame_after frame event) (after_event state event) events
+abbrev pub IsMboxRun : MboxWorld → MboxState MboxKept → List MboxEvent → Type 0
+IsMboxRun world state [] = Unit {0}
+IsMboxRun world state (event ∷ events) = Follows world state event × IsMboxRun (world_after world event) (after_event state event) events
 
-abbrev pub state_after : MboxState → List MboxEvent → MboxState
+abbrev pub state_after : MboxState MboxKept → List MboxEvent → MboxState MboxKept
 state_after state [] = state
 state_after state (event ∷ events) = state_after (after_event state event) events
 
-abbrev pub frame_left : MboxFrame → List MboxEvent → MboxFrame
-frame_left frame [] = frame
-frame_left frame (event ∷ events) = frame_left (frame_after frame event) events
+abbrev pub world_left : MboxWorld → List MboxEvent → MboxWorld
+world_left world [] = world
+world_left world (event ∷ events) = world_left (world_after world event) events
 
 -- ---- what is promised
 
 -- an account with this record, and which ids are gone
-abbrev pub situation : Held → MboxState → MboxSituation
-situation held state = record { account = mbox_holds held state.kept.mbox; gone = state.gone }
+abbrev pub by_record : Held → MboxState MboxKept → MboxState MboxAccount
+by_record held state = record { kept = mbox_holds held state.kept.mbox; gone = state.gone }
 
 -- the file is the one before the first session, followed by the entries of the first of the selected messages
 -- that weren't recorded then, in order, each once, and by at most a prefix of the next one's entry, whose intent is
 -- then open. The recorded messages are exactly these and those before
-abbrev pub HoldsEntries : MboxFrame → MboxState → Type 0
-HoldsEntries frame state = (held : Held) × Keeps state.kept.file.content held × MboxHolds frame (mbox_holds held state.kept.mbox)
+abbrev pub HoldsEntries : MboxWorld → MboxState MboxKept → Type 0
+HoldsEntries world state = (held : Held) × Keeps state.kept.file.content held × MboxHolds world (mbox_holds held state.kept.mbox)
 
 -- the whole entry of a message with this id is in the file, or the id was recorded before the first session
-abbrev pub IsEntered : MboxFrame → MboxKept → List ℕ → Type 0
-IsEntered frame state id = (has_id (ids_of frame.had) id ≡ true) ⊎ HasEntry frame (mail_in state.mbox.content) id
+abbrev pub IsEntered : MboxWorld → MboxKept → List ℕ → Type 0
+IsEntered world state id = (has_id (ids_of world.had) id ≡ true) ⊎ HasEntry world (mail_in state.mbox.content) id
 
 -- the message could be fetched, but comes after the first `max_count` that could; 0 is no limit
-abbrev pub IsPastCount : MboxFrame → MboxState → MboxOccasion → Message → Type 0
-IsPastCount frame state occasion message =
-    let listing = listing_of (maildrop_at frame state occasion) in
+abbrev pub IsPastCount : MboxWorld → MboxState MboxKept → MboxOccasion → Message → Type 0
+IsPastCount world state occasion message =
+    let listing = listing_of (maildrop_at world state occasion) in
     (held : Held) × Keeps state.kept.file.content held
     × (has_id (ids_wanted (past_limit occasion.settings.max_count
     (candidates occasion.settings
@@ -162,78 +157,78 @@ IsPastCount frame state occasion message =
 
 -- after an uncut session no intent is open and nothing of a next entry is left, and each message of the maildrop
 -- has its entry, or is larger than the limit, or is past the number that one session fetches
-pub record EndsWhole (frame : MboxFrame) (state : MboxState) (occasion : MboxOccasion) : Type 0 where
+pub record EndsWhole (world : MboxWorld) (state : MboxState MboxKept) (occasion : MboxOccasion) : Type 0 where
   pub held : Held
   pub stands_for : Keeps occasion.after.file.content held
   pub closed : held.intent ≡ None
-  pub holds : MboxHolds frame (mbox_holds held occasion.after.mbox)
+  pub holds : MboxHolds world (mbox_holds held occasion.after.mbox)
   pub no_rest : holds.rest ≡ []
-  pub left_out : AllByRecursion (λ (message : Message). IsEntered frame occasion.after message.uid
-      ⊎ (is_selected frame.max_size message ≡ false)
-      ⊎ IsPastCount frame state occasion message)
-      (maildrop_at frame state occasion)
+  pub left_out : AllByRecursion (λ (message : Message). IsEntered world occasion.after message.uid
+      ⊎ (is_selected world.max_size message ≡ false)
+      ⊎ IsPastCount world state occasion message)
+      (maildrop_at world state occasion)
 
 -- a DELE gives the number, counted from 1, of a message of the maildrop whose whole entry is in the file when the
 -- session returns, or that was recorded before the first session
-abbrev pub IsForEntered : MboxFrame → MboxState → MboxOccasion → Command → Type 0
-IsForEntered frame state occasion (Dele number) = (0 < number) × (message : Message)
-    × (slice_get (maildrop_at frame state occasion) (number - 1) ≡ Some message)
-    × IsEntered frame occasion.after message.uid
-IsForEntered frame state occasion _ = Unit {0}
+abbrev pub IsForEntered : MboxWorld → MboxState MboxKept → MboxOccasion → Command → Type 0
+IsForEntered world state occasion (Dele number) = (0 < number) × (message : Message)
+    × (slice_get (maildrop_at world state occasion) (number - 1) ≡ Some message)
+    × IsEntered world occasion.after message.uid
+IsForEntered world state occasion _ = Unit {0}
 
 -- each DELE that was sent, the last perhaps in part, is for such a message
-pub record DeletesOnlyEntered (frame : MboxFrame) (state : MboxState) (occasion : MboxOccasion) : Type 0 where
+pub record DeletesOnlyEntered (world : MboxWorld) (state : MboxState MboxKept) (occasion : MboxOccasion) : Type 0 where
   pub sent : List ℕ
   pub sent_is : occasion.link'.sent ≡ occasion.link.sent ++ sent
   pub commands : List Command
   pub asked : Asked commands sent
-  pub each : AllByRecursion (IsForEntered frame state occasion) commands
-  pub next : BeginsOne (IsForEntered frame state occasion) asked.part
+  pub each : AllByRecursion (IsForEntered world state occasion) commands
+  pub next : BeginsOne (IsForEntered world state occasion) asked.part
 
 -- nothing is promised of what others do
-abbrev pub MboxPromised : MboxFrame → MboxState → MboxEvent → Type 0
-MboxPromised frame state (Fetched occasion) =
-    (occasion.report.outcome ≡ Ended → EndsWhole frame state occasion) × DeletesOnlyEntered frame state occasion
-MboxPromised frame state _ = Unit {0}
+abbrev pub MboxPromised : MboxWorld → MboxState MboxKept → MboxEvent → Type 0
+MboxPromised world state (Fetched occasion) =
+    (occasion.report.outcome ≡ Ended → EndsWhole world state occasion) × DeletesOnlyEntered world state occasion
+MboxPromised world state _ = Unit {0}
 
 -- the file holds these entries before and after each event, and each event keeps its promises
-abbrev pub MboxPromises : MboxFrame → MboxState → List MboxEvent → Type 0
-MboxPromises frame state [] = HoldsEntries frame state
-MboxPromises frame state (event ∷ events) = HoldsEntries frame state × MboxPromised frame state event
-    × MboxPromises (frame_after frame event) (after_event state event) events
+abbrev pub MboxPromises : MboxWorld → MboxState MboxKept → List MboxEvent → Type 0
+MboxPromises world state [] = HoldsEntries world state
+MboxPromises world state (event ∷ events) = HoldsEntries world state × MboxPromised world state event
+    × MboxPromises (world_after world event) (after_event state event) events
 
 -- ---- the states in which it can begin and go on
 
-abbrev pub IsMboxKept : MboxFrame → MboxState → Type 0
-IsMboxKept frame state = (held : Held) × Keeps state.kept.file.content held × IsKeptIn frame (situation held state)
+abbrev pub IsMboxKept : MboxWorld → MboxState MboxKept → Type 0
+IsMboxKept world state = (held : Held) × Keeps state.kept.file.content held × IsKeptIn world (by_record held state)
 
 -- the second sentence: from a kept state, over any list of sessions and of what happens between them
 abbrev pub MboxHeadline : Type 0
-MboxHeadline = (frame : MboxFrame) (start : MboxState) (events : List MboxEvent) → IsWorld frame.all
-    → IsMboxKept frame start → IsMboxRun frame start events
-    → MboxPromises frame start events × IsMboxKept (frame_left frame events) (state_after start events)
+MboxHeadline = (world : MboxWorld) (start : MboxState MboxKept) (events : List MboxEvent) → IsWorld world.all
+    → IsMboxKept world start → IsMboxRun world start events
+    → MboxPromises world start events × IsMboxKept (world_left world events) (state_after start events)
 
 -- the record has no open intent, and what it shows as delivered is exactly a prefix of the selected messages, as it
 -- is with an empty record; only messages of this prefix may be gone. The mboxrd file may hold anything
-pub record IsMboxStart (frame : MboxFrame) (state : MboxState) : Type 0 where
+pub record IsMboxStart (world : MboxWorld) (state : MboxState MboxKept) : Type 0 where
   pub held : Held
   pub stands_for : Keeps state.kept.file.content held
   pub closed : held.intent ≡ None
   pub ahead : List Message
-  pub prefix : selected frame.max_size frame.all ≡ frame.had ++ ahead
-  pub recorded : (id : List ℕ) → is_delivered held.rows id ≡ has_id (ids_of frame.had) id
-  pub gone : AllByRecursion (λ id. has_id (ids_of frame.had) id ≡ true) state.gone
-  pub file : mail_in state.kept.mbox.content ≡ frame.start
+  pub prefix : selected world.max_size world.all ≡ world.had ++ ahead
+  pub recorded : (id : List ℕ) → is_delivered held.rows id ≡ has_id (ids_of world.had) id
+  pub gone : AllByRecursion (λ id. has_id (ids_of world.had) id ≡ true) state.gone
+  pub file : mail_in state.kept.mbox.content ≡ world.start
 
 -- such an account is kept
 abbrev pub MboxStartIsKept : Type 0
-MboxStartIsKept = (frame : MboxFrame) (start : MboxState) → IsMboxStart frame start → IsMboxKept frame start
+MboxStartIsKept = (world : MboxWorld) (start : MboxState MboxKept) → IsMboxStart world start → IsMboxKept world start
 
 -- so the sentence holds from the first session on
 abbrev pub MboxHeadlineFromStart : Type 0
-MboxHeadlineFromStart = (frame : MboxFrame) (start : MboxState) (events : List MboxEvent) → IsWorld frame.all
-    → IsMboxStart frame start → IsMboxRun frame start events
-    → MboxPromises frame start events
+MboxHeadlineFromStart = (world : MboxWorld) (start : MboxState MboxKept) (events : List MboxEvent) → IsWorld world.all
+    → IsMboxStart world start → IsMboxRun world start events
+    → MboxPromises world start events
 
 -- ---- what others write
 
@@ -246,8 +241,8 @@ pub record AreOthers (before after : MboxKept) : Type 0 where
 
 -- then whatever others did to the mboxrd file of a kept state is an event
 abbrev pub WritingsAreEvents : Type 0
-WritingsAreEvents = (frame : MboxFrame) (state : MboxState) (after : MboxKept) → IsMboxKept frame state → AreOthers state.kept after
-    → (had : List Message) × IsRewritten frame state.kept had after
+WritingsAreEvents = (world : MboxWorld) (state : MboxState MboxKept) (after : MboxKept) → IsMboxKept world state → AreOthers state.kept after
+    → (had : List Message) × IsRewritten world state.kept had after
 
 -- ---- a program that starts anew, and one that is stopped
 
@@ -258,13 +253,13 @@ pub record HasTheSameBytes (before after : MboxKept) : Type 0 where
 
 -- a program was stopped in a session: the files are as that session leaves them if every call is refused from
 -- that moment on, the first of them with or without effect. That is a session that was cut
-pub record IsMboxStopped (frame : MboxFrame) (state : MboxState) (occasion : MboxOccasion) (left : MboxKept) : Type 0 where
-  pub session : IsMboxSession frame state occasion
+pub record IsMboxStopped (world : MboxWorld) (state : MboxState MboxKept) (occasion : MboxOccasion) (left : MboxKept) : Type 0 where
+  pub session : IsMboxSession world state occasion
   pub cut : occasion.report.outcome ≢ Ended
   pub files : HasTheSameBytes occasion.after left
 
 -- so a stop is a run: the session, and then a new process
 abbrev pub MboxStopsAreRuns : Type 0
-MboxStopsAreRuns = (frame : MboxFrame) (state : MboxState) (occasion : MboxOccasion) (left : MboxKept)
-    → IsMboxStopped frame state occasion left
-    → IsMboxRun frame state (Fetched occasion ∷ Between left ∷ [])
+MboxStopsAreRuns = (world : MboxWorld) (state : MboxState MboxKept) (occasion : MboxOccasion) (left : MboxKept)
+    → IsMboxStopped world state occasion left
+    → IsMboxRun world state (Fetched occasion ∷ Between left ∷ [])

@@ -5,9 +5,9 @@ use Rattle.rc_file.specs.declared.settings.Settings.{Settings}
 use Rattle.fetch_session.specs.declared.report.Report.{Report}
 use Rattle.fetch_session.specs.Session.{MboxKept, MboxSession}
 use Rattle.run_law.specs.Sessions.{Fact}
-use Rattle.run_law.specs.MboxRuns.{MboxFrame}
+use Rattle.run_law.specs.MboxRuns.{MboxState, MboxWorld}
 use Rattle.fetch_runs.specs.declared.run.Visit.{Visit}
-use Rattle.fetch_runs.specs.MboxHeadline.{MboxState, MboxOccasion, Fetched, after_event, HoldsEntries, MboxPromised, IsMboxKept}
+use Rattle.fetch_runs.specs.MboxHeadline.{MboxOccasion, Fetched, after_event, HoldsEntries, MboxPromised, IsMboxKept}
 use Rattle.fetch_runs.specs.Runs.{RunsBy}
 
 -- the visit was one session at its time
@@ -21,7 +21,7 @@ MboxRuns seen settings olds first reports news last = RunsBy (WasMadeInMbox seen
 
 -- ---- what is promised of them
 
-abbrev pub mbox_state : MboxKept → List (List ℕ) → MboxState
+abbrev pub mbox_state : MboxKept → List (List ℕ) → MboxState MboxKept
 mbox_state kept gone = record { kept = kept; gone = gone }
 
 -- a visit as an occasion of the headline
@@ -39,13 +39,13 @@ mbox_occasion seen settings old report new fact after = record {
 
 -- the mboxrd file is as the headline says before and after each visit, each visit keeps its promises, and the
 -- last state is kept
-abbrev pub AreMboxPromised : {W : Type 0} → (W → Link) → Settings → MboxFrame → MboxState → List (Visit W)
+abbrev pub AreMboxPromised : {W : Type 0} → (W → Link) → Settings → MboxWorld → MboxState MboxKept → List (Visit W)
     → List Report → List (Visit W) → List Fact → MboxKept → Type 0
-AreMboxPromised seen settings frame state [] [] [] [] last = HoldsEntries frame state × IsMboxKept frame state × (state.kept ≡ last)
-AreMboxPromised seen settings frame state (old ∷ olds) (report ∷ reports) (new ∷ news) (fact ∷ facts) last =
+AreMboxPromised seen settings world state [] [] [] [] last = HoldsEntries world state × IsMboxKept world state × (state.kept ≡ last)
+AreMboxPromised seen settings world state (old ∷ olds) (report ∷ reports) (new ∷ news) (fact ∷ facts) last =
     (between : MboxKept) × MboxSession settings old.now (seen old.wire) state.kept report (seen new.wire) between
-    × HoldsEntries frame state × MboxPromised frame state (Fetched (mbox_occasion seen settings old report new fact between))
-    × AreMboxPromised seen settings frame
+    × HoldsEntries world state × MboxPromised world state (Fetched (mbox_occasion seen settings old report new fact between))
+    × AreMboxPromised seen settings world
     (after_event state (Fetched (mbox_occasion seen settings old report new fact between)))
     olds reports news facts last
-AreMboxPromised seen settings frame state olds reports news facts last = ⊥
+AreMboxPromised seen settings world state olds reports news facts last = ⊥

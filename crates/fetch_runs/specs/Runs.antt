@@ -11,7 +11,8 @@ use Rattle.fetch_session.specs.Session.{Kept, Session, kept}
 use Rattle.mail_store.specs.Maildir.{AfterTaking, File, Maildir}
 use Rattle.run_law.specs.Sessions.{Fact, Served}
 use Rattle.fetch_runs.specs.declared.run.Visit.{Visit}
-use Rattle.fetch_runs.specs.Headline.{World, State, Event, Occasion, Fetched, AreTaken, after_event, state_after, HoldsAPrefix, Promised, IsKept}
+use Rattle.fetch_runs.specs.Headline.{Event, Occasion, Fetched, AreTaken, after_event, state_after, HoldsAPrefix, Promised, IsKept}
+use Rattle.run_law.specs.Runs.{State, World}
 
 -- the links of these visits do what is promised of links
 abbrev pub AreSound : {W : Type 0} → (W → Type 0) → List (Visit W) → Type 0
@@ -42,14 +43,12 @@ Runs seen settings account olds first reports news last = RunsBy (WasMade seen s
 
 abbrev pub world_of : Settings → List Message → World
 world_of settings all = record {
-  server = string_bytes settings.server;
-  port = settings.port;
-  username = string_bytes settings.username;
+  account = digits_of settings;
   max_size = settings.max_size;
   all = all;
 }
 
-abbrev pub state_of : Kept → List (List ℕ) → List (List ℕ) → State
+abbrev pub state_of : Kept → List (List ℕ) → List (List ℕ) → State Kept
 state_of kept gone taken = record { kept = kept; gone = gone; taken = taken }
 
 -- a visit as an occasion of the headline
@@ -76,7 +75,7 @@ AreServed seen all gone olds news facts = ⊥
 
 -- readers took files away, and then a session was one of what they left: a prefix is held before and after they did, and the
 -- session keeps its promises
-pub record IsPromised {W : Type 0} (seen : W → Link) (settings : Settings) (world : World) (state : State) (old : Visit W) (report : Report)
+pub record IsPromised {W : Type 0} (seen : W → Link) (settings : Settings) (world : World) (state : State Kept) (old : Visit W) (report : Report)
     (new : Visit W) (fact : Fact) : Type 0 where
   pub left : List File
   pub takings : List Event
@@ -88,7 +87,7 @@ pub record IsPromised {W : Type 0} (seen : W → Link) (settings : Settings) (wo
   pub promised : Promised world (state_after state takings) (Fetched (occasion_of seen settings old report new fact between))
 
 -- each visit is promised, from what the one before left, and a prefix is held in the last state, which is kept
-abbrev pub ArePromised : {W : Type 0} → (W → Link) → Settings → World → State → List (Visit W) → List Report
+abbrev pub ArePromised : {W : Type 0} → (W → Link) → Settings → World → State Kept → List (Visit W) → List Report
     → List (Visit W) → List Fact → Kept → Type 0
 ArePromised seen settings world state [] [] [] [] last = HoldsAPrefix world state × IsKept world state × (state.kept ≡ last)
 ArePromised seen settings world state (old ∷ olds) (report ∷ reports) (new ∷ news) (fact ∷ facts) last =

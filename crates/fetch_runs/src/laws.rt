@@ -24,7 +24,7 @@ use fetch_rules::{
 };
 use fetch_session::{steady_files_keep, unsaved_files_keep};
 use mail_store::{
-    FlatFile, MaildirDisk, account_texts_are_digits, entries_add_texts, flags_tell_what_is_held,
+    FlatFile, MaildirDisk, entries_add_texts, flags_tell_what_is_held,
     names_are_bases, names_have_stems, stems_differ,
 };
 use pop3_client::{conversations_are_paced, turns_join};
@@ -114,7 +114,6 @@ pub fn headline()
     links_are_visits();
     kept_states();
     holds_what_is_left();
-    account_texts_are_digits();
     files_stand_for_one_record();
 }
 
@@ -173,7 +172,6 @@ pub fn sessions_and_power<D: MaildirDisk, F: FlatFile>()
     links_are_visits();
     kept_states();
     holds_what_is_left();
-    account_texts_are_digits();
     files_stand_for_one_record();
     bytes_have_one_meaning();
     appended_counts();

@@ -9,11 +9,11 @@ ghost use Rattle.fetch_runs.specs.MboxRuns.{AreMboxPromised, MboxRuns, mbox_stat
 ghost use Rattle.fetch_runs.specs.Runs.{ArePromised, AreServed, AreSound, Runs, state_of, world_of};
 ghost use Rattle.pop3_wire.specs.World.{IsWorld, Message};
 ghost use Rattle.run_law.specs.Sessions.{Fact};
-ghost use Rattle.run_law.specs.MboxRuns.{MboxFrame};
+ghost use Rattle.run_law.specs.MboxRuns.{MboxWorld};
 
 use crate::laws::{headline, mbox_headline, takings_are_events};
 use fetch_session::{Account, Report, session, sessions_by_store};
-use mail_store::{FlatFile, MaildirDisk};
+use mail_store::{FlatFile, MaildirDisk, account_texts_are_digits};
 use pop3_wire::Wire;
 use std::alloc::{AllocError, Global};
 use std::hash::BuildHasher;
@@ -63,10 +63,10 @@ pub fn run_sessions<W: Wire, D: MaildirDisk, F: FlatFile, H: BuildHasher>(
         reports.items visits.new (mbox_kept (mbox_of F.FlatFile account.new.store) (F.stored account.new.file))) }
     ensures mbox_promised { IfOk result (λ reports. AreSound W.sound visits.new
         → IsSoundMbox F.FlatFile account.new.store → F.sound account.new.file
-        → (frame : MboxFrame) (gone : List (List ℕ)) (facts : List Fact) → IsWorld frame.all → AreSettings frame account.old.settings
-        → IsMboxKept frame (mbox_state (mbox_kept (mbox_of F.FlatFile account.old.store) (F.stored account.old.file)) gone)
-        → AreServed W.history frame.all gone visits.old visits.new facts
-        → AreMboxPromised W.history account.old.settings frame
+        → (world : MboxWorld) (gone : List (List ℕ)) (facts : List Fact) → IsWorld world.all → AreSettings world account.old.settings
+        → IsMboxKept world (mbox_state (mbox_kept (mbox_of F.FlatFile account.old.store) (F.stored account.old.file)) gone)
+        → AreServed W.history world.all gone visits.old visits.new facts
+        → AreMboxPromised W.history account.old.settings world
         (mbox_state (mbox_kept (mbox_of F.FlatFile account.old.store) (F.stored account.old.file)) gone)
         visits.old reports.items visits.new facts (mbox_kept (mbox_of F.FlatFile account.new.store) (F.stored account.new.file))) }
 {
@@ -74,6 +74,7 @@ pub fn run_sessions<W: Wire, D: MaildirDisk, F: FlatFile, H: BuildHasher>(
     takings_are_events();
     mbox_headline();
     sessions_by_store::<W, D, F>();
+    account_texts_are_digits();
     let _ = account.settings();
     let mut reports = Vec::with_capacity(alloc, visits.len())?;
     for i in 0..visits.len() {

@@ -209,8 +209,8 @@ are_sessions mail world state settings now come old new link report after are lo
 }
 
 pub are_mbox_sessions : {M : Type 0} (mail : M → Mail) → AreMboxSessions mail
-are_mbox_sessions mail frame state settings now come old new link report after are local drop = record {
+are_mbox_sessions mail world state settings now come old new link report after are local drop = record {
   settings = are;
   session = local.session;
-  served = served mail (MboxSession settings now unused state.kept report link after) (maildrop_of frame.all come state.gone) old new link local drop;
+  served = served mail (MboxSession settings now unused state.kept report link after) (maildrop_of world.all come state.gone) old new link local drop;
 }

@@ -10,9 +10,10 @@ use Rattle.pop3_server.specs.LoopLink.{Loop}
 use Rattle.fetch_session.specs.Account.{digits_of}
 use Rattle.fetch_session.specs.declared.report.Report.{Report}
 use Rattle.fetch_session.specs.Session.{Kept, MboxKept, Session, MboxSession}
-use Rattle.fetch_runs.specs.Headline.{World, State, AreSettings, IsSession}
-use Rattle.fetch_runs.specs.MboxHeadline.{MboxState, AreSettings as AreMboxSettings, IsMboxSession}
-use Rattle.run_law.specs.MboxRuns.{MboxFrame}
+use Rattle.fetch_runs.specs.Headline.{AreSettings, IsSession}
+use Rattle.fetch_runs.specs.MboxHeadline.{AreSettings as AreMboxSettings, IsMboxSession}
+use Rattle.run_law.specs.MboxRuns.{MboxState, MboxWorld}
+use Rattle.run_law.specs.Runs.{State, World}
 
 -- a link that wasn't used yet
 abbrev pub unused : Link
@@ -48,7 +49,7 @@ MboxFetchesFrom mail settings now old new link before report after =
 
 -- a law: over the maildrop of a world, such a session is one that the headline is about
 abbrev pub AreSessions : {M : Type 0} → (M → Mail) → Type 0
-AreSessions {M} mail = (world : World) (state : State) (settings : Settings) (now come : ℕ)
+AreSessions {M} mail = (world : World) (state : State Kept) (settings : Settings) (now come : ℕ)
     (old new : Machine M) (link : Link) (report : Report) (after : Kept)
     → AreSettings world settings
     → (local : FetchesFrom mail settings (digits_of settings) now old new link state.kept report after)
@@ -66,12 +67,12 @@ AreSessions {M} mail = (world : World) (state : State) (settings : Settings) (no
 
 -- a law: with an mboxrd file, such a session is one that the second headline is about
 abbrev pub AreMboxSessions : {M : Type 0} → (M → Mail) → Type 0
-AreMboxSessions {M} mail = (frame : MboxFrame) (state : MboxState) (settings : Settings) (now come : ℕ)
+AreMboxSessions {M} mail = (world : MboxWorld) (state : MboxState MboxKept) (settings : Settings) (now come : ℕ)
     (old new : Machine M) (link : Link) (report : Report) (after : MboxKept)
-    → AreMboxSettings frame settings
+    → AreMboxSettings world settings
     → (local : MboxFetchesFrom mail settings now old new link state.kept report after)
-    → there (mail old.drop).slots ≡ maildrop_of frame.all come state.gone
-    → IsMboxSession frame state (record {
+    → there (mail old.drop).slots ≡ maildrop_of world.all come state.gone
+    → IsMboxSession world state (record {
       settings = settings;
       now = now;
       report = report;

@@ -55,7 +55,7 @@ is_done s id = has_id (ids_of s.done) id
 
 -- what is done is a prefix of the selected messages; what is gone, or is recorded in the maildrop, is done
 pub record IsScene (s : Scene) : Type 0 where
-  pub world : IsWorld s.all
+  pub mail : IsWorld s.all
   pub prefix : selected s.settings.max_size s.all ≡ s.done ++ s.rest
   pub gone : AllByRecursion (λ id. is_done s id ≡ true) s.gone
   pub known : (id : List ℕ) → is_legal_id id ≡ true → has_id (ids_of (here s)) id ≡ true → is_delivered s.rows id ≡ true → is_done s id ≡ true
@@ -91,10 +91,10 @@ module _ (s : Scene) (is : IsScene s) where
   is_gone id = has_id s.gone id
 
   distinct_all : Distinct (ids_of s.all)
-  distinct_all = distinct_is s.all is.world.distinct
+  distinct_all = distinct_is s.all is.mail.distinct
 
   legal_all : AllByRecursion IsLegal s.all
-  legal_all = all_map IsMessage IsLegal (λ m h. h.legal) s.all is.world.messages
+  legal_all = all_map IsMessage IsLegal (λ m h. h.legal) s.all is.mail.messages
 
   legal_come : AllByRecursion IsLegal come
   legal_come = all_take IsLegal s.come s.all legal_all

@@ -35,7 +35,7 @@ record CanFetch (wanted : List (ℕ × Item)) (drop : List Message) (effect : Ef
 
 can_fetch : DistinctAreFiltered → (all : List Message) → IsWorld all → (come : ℕ) (gone : List (List ℕ)) (now : ℕ) (settings : Settings) (rows : List Row)
     → CanFetch (wanted settings rows (listing_of (maildrop_of all come gone))) (maildrop_of all come gone) (all_fetched now settings rows (maildrop_of all come gone))
-can_fetch filtered all world come gone now settings rows = record {
+can_fetch filtered all sound come gone now settings rows = record {
   count = ap length is ∙ length-map qs num_item ∙ sym (length-map qs (λ (q : ℕ × Message). q.1.text));
   honest = record { listing = refl; texts = subst (λ w. AreTexts drop w (map (λ (q : ℕ × Message). q.1.text) qs)) (sym is) (are_texts drop qs (wants_placed settings rows drop)) };
 }
@@ -47,22 +47,22 @@ can_fetch filtered all world come gone now settings rows = record {
     qs = wants_by_number settings rows drop
 
     is : wanted settings rows (listing_of drop) ≡ map num_item qs
-    is = wanted_are filtered settings rows drop (distinct_filter (λ (m : Message). not (has_id gone m.uid)) (take come all) (distinct_take come all (distinct_is all world.distinct)))
+    is = wanted_are filtered settings rows drop (distinct_filter (λ (m : Message). not (has_id gone m.uid)) (take come all) (distinct_take come all (distinct_is all sound.distinct)))
 
 pub can_end : DistinctAreFiltered → CanEnd
-can_end filtered frame before settings come now is same =
-    let here : List Message = maildrop_of frame.all come before.gone in
-    let rows : List Row = merged before.account.rows (listing_of here) (flags_of frame.account before.account.maildir (listing_of here)) now in
+can_end filtered world before settings come now is same =
+    let here : List Message = maildrop_of world.all come before.gone in
+    let rows : List Row = merged before.kept.rows (listing_of here) (flags_of world.account before.kept.maildir (listing_of here)) now in
     let wants : List (ℕ × Item) = wanted settings rows (listing_of here) in
     let effect : Effect = all_fetched now settings rows here in
     let n : ℕ = length effect.texts in
-    let can = can_fetch filtered frame.all is.world come before.gone now settings rows in
-    let new : List File = map (file_for frame.account) (filter (is_unheld frame.account before.account.maildir) (zip (take n wants) effect.texts)) in
+    let can = can_fetch filtered world.all is.mail come before.gone now settings rows in
+    let new : List File = map (file_for world.account) (filter (is_unheld world.account before.kept.maildir) (zip (take n wants) effect.texts)) in
     let after : Account = record {
       rows = marked_all rows (ids_wanted (take n wants));
-      maildir = record before.account.maildir { files = before.account.maildir.files ++ new };
+      maildir = record before.kept.maildir { files = before.kept.maildir.files ++ new };
     } in
-    let stores : Stores settings frame.account before.account effect after = record {
+    let stores : Stores settings world.account before.kept effect after = record {
       stored = n;
       recorded = n;
       order = omega arith;
@@ -79,18 +79,18 @@ can_end filtered frame before settings come now is same =
     )
 
 pub mbox_can_end : DistinctAreFiltered → MboxCanEnd
-mbox_can_end filtered frame before settings come now world same only_new =
-    let here : List Message = maildrop_of frame.all come before.gone in
-    let rows : List Row = merged (settled (listing_of here) before.account).rows (listing_of here) (none_held (listing_of here)) now in
+mbox_can_end filtered world before settings come now sound same only_new =
+    let here : List Message = maildrop_of world.all come before.gone in
+    let rows : List Row = merged (settled (listing_of here) before.kept).rows (listing_of here) (none_held (listing_of here)) now in
     let effect : Effect = all_fetched now settings rows here in
     let n : ℕ = length effect.texts in
-    let can = can_fetch filtered frame.all world come before.gone now settings rows in
+    let can = can_fetch filtered world.all sound come before.gone now settings rows in
     let after : MboxAccount = record {
       rows = marked_all rows (ids_wanted (take n (wanted settings rows (listing_of here))));
       intent = None;
-      file = (settled (listing_of here) before.account).file ++ entries (take n effect.texts);
+      file = (settled (listing_of here) before.kept).file ++ entries (take n effect.texts);
     } in
-    let stores : MboxStores settings before.account effect after = record {
+    let stores : MboxStores settings before.kept effect after = record {
       stored = n;
       fetched = omega arith;
       rows = refl;

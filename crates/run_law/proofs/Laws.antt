@@ -10,12 +10,12 @@ use Rattle.mail_store.specs.FileName.{is_held, stem_of}
 use Rattle.run_law.specs.Mails.{ids_of, selected, texts_of}
 use Rattle.run_law.specs.Accounts.{Account, files, copies, count_files}
 use Rattle.run_law.specs.Steps.{Effect, Leaves}
-use Rattle.run_law.specs.Runs.{Frame, IsFrame, Situation, Visit, Event, Visited, Between, Expired, Withdrawn, TakenAway, BroughtBack, Forgotten, PowerLost, Visits, Run, HoldsOf, Kept, LeavesMail, after_event, frame_after, Promises, KeptStaysKept, KeptHoldsWhatIsLeft, NothingTakenHoldsExactly}
+use Rattle.run_law.specs.Runs.{World, IsSound, State, Visit, Event, Visited, Between, Expired, Withdrawn, TakenAway, BroughtBack, Forgotten, PowerLost, Visits, Run, HoldsOf, Kept, LeavesMail, after_event, world_after, Promises, KeptStaysKept, KeptHoldsWhatIsLeft, NothingTakenHoldsExactly}
 use Rattle.run_law.proofs.Below.{Below}
 use Rattle.run_law.proofs.Lists.{front_is}
 use Rattle.run_law.proofs.Holds.{held_is_done, one_file}
 use Rattle.run_law.proofs.Ids.{none_vanish}
-use Rattle.run_law.proofs.Others.{between_kept, expired_kept, withdrawn_kept, taken_kept, brought_kept, forgotten_kept, frame_stays, done_distinct}
+use Rattle.run_law.proofs.Others.{between_kept, expired_kept, withdrawn_kept, taken_kept, brought_kept, forgotten_kept, world_stays, done_distinct}
 use Rattle.run_law.proofs.Files.{held_done}
 use Rattle.run_law.proofs.Power.{power_kept}
 use Rattle.run_law.proofs.VisitKept.{visit_kept, deletes_held, keeps_others, leaves_out, stores_only_new}
@@ -28,80 +28,80 @@ same_files before effect after h = h.same
 left_leaves : (account : List ℕ) (before : Account) (effect : Effect) (after : Account) → Leaves before effect after → LeavesMail account before after
 left_leaves account before effect after h = record { rows = h.rows; same = λ id l. ap (λ f. copies f (stem_of account id)) (same_files before effect after h) }
 
-left_kept : (frame : Frame) (before : Situation) (v : Visit) → Kept frame before → Leaves before.account v.effect v.after
-    → AllByRecursion (λ id. has_id v.effect.begun id ≡ true) v.vanished → Kept frame (after_event before (Visited v))
-left_kept frame before v kept h vanished =
-    subst (λ (gone : List (List ℕ)). Kept frame (record { account = v.after; gone = gone; taken = before.taken }))
+left_kept : (world : World) (before : State Account) (v : Visit) → Kept world before → Leaves before.kept v.effect v.after
+    → AllByRecursion (λ id. has_id v.effect.begun id ≡ true) v.vanished → Kept world (after_event before (Visited v))
+left_kept world before v kept h vanished =
+    subst (λ (gone : List (List ℕ)). Kept world (record { kept = v.after; gone = gone; taken = before.taken }))
     (sym (append-nil before.gone) ∙ ap (λ l. before.gone ++ l) (sym (none_vanish v.vanished v.effect.begun h.begun vanished)))
-    (between_kept frame before v.after kept (left_leaves frame.account before.account v.effect v.after h))
+    (between_kept world before v.after kept (left_leaves world.account before.kept v.effect v.after h))
 
-left_promises : (frame : Frame) (before : Situation) (v : Visit) → Leaves before.account v.effect v.after → Promises frame before (Visited v)
-left_promises frame before v h = (
+left_promises : (world : World) (before : State Account) (v : Visit) → Leaves before.kept v.effect v.after → Promises world before (Visited v)
+left_promises world before v h = (
   (λ ended. absurd (both_ways v.effect.ended h.ended ended)),
-  subst (AllByRecursion (λ id. (is_held frame.account v.after.maildir id ≡ true) ⊎ (has_id before.taken id ≡ true))) (sym h.begun) tt,
-  (λ name content other. ap (λ fs. count_files fs name content) (same_files before.account v.effect v.after h)),
-  λ only_new id l recorded. ((left_leaves frame.account before.account v.effect v.after h).same id l, ap (λ r. is_delivered r id) h.rows ∙ recorded),
+  subst (AllByRecursion (λ id. (is_held world.account v.after.maildir id ≡ true) ⊎ (has_id before.taken id ≡ true))) (sym h.begun) tt,
+  (λ name content other. ap (λ fs. count_files fs name content) (same_files before.kept v.effect v.after h)),
+  λ only_new id l recorded. ((left_leaves world.account before.kept v.effect v.after h).same id l, ap (λ r. is_delivered r id) h.rows ∙ recorded),
 )
 
 -- ---- each id has one copy at most
 
-one_copy : (frame : Frame) (state : Situation) → IsFrame frame → (kept : Kept frame state) → (id : List ℕ) → is_legal_id id ≡ true → length (copies (files state.account) (stem_of frame.account id)) ≤ 1
-one_copy frame state is kept id l = one_file frame state kept.done id (done_distinct frame is kept.done kept.rest kept.prefix) (kept.holds id l)
+one_copy : (world : World) (state : State Account) → IsSound world → (kept : Kept world state) → (id : List ℕ) → is_legal_id id ≡ true → length (copies (files state.kept) (stem_of world.account id)) ≤ 1
+one_copy world state is kept id l = one_file world state kept.done id (done_distinct world is kept.done kept.rest kept.prefix) (kept.holds id l)
 
 -- ---- one event
 
-visited : Below → (frame : Frame) (before : Situation) (v : Visit) → IsFrame frame → Kept frame before → Visits frame before v
-    → Kept frame (after_event before (Visited v)) × Promises frame before (Visited v)
-visited laws frame before v is kept h = elim h.step [
-  | inl left ↦ (left_kept frame before v kept left h.vanished, left_promises frame before v left)
+visited : Below → (world : World) (before : State Account) (v : Visit) → IsSound world → Kept world before → Visits world before v
+    → Kept world (after_event before (Visited v)) × Promises world before (Visited v)
+visited laws world before v is kept h = elim h.step [
+  | inl left ↦ (left_kept world before v kept left h.vanished, left_promises world before v left)
   | inr (stores, honest) ↦ (
-    visit_kept laws frame is before v kept h.same stores honest h.vanished,
+    visit_kept laws world is before v kept h.same stores honest h.vanished,
     (
-      leaves_out laws frame is before v kept h.same stores honest,
-      deletes_held laws frame is before v kept h.same stores honest,
-      keeps_others laws frame is before v kept h.same stores honest,
-      stores_only_new laws frame is before v kept h.same stores honest,
+      leaves_out laws world is before v kept h.same stores honest,
+      deletes_held laws world is before v kept h.same stores honest,
+      keeps_others laws world is before v kept h.same stores honest,
+      stores_only_new laws world is before v kept h.same stores honest,
     ),
   )
 ]
 
-happened : Below → (frame : Frame) (before : Situation) (event : Event) → IsFrame frame → Kept frame before → Run frame before (event ∷ [])
-    → Kept (frame_after frame event) (after_event before event) × Promises frame before event
-happened laws frame before (Visited v) is kept h = visited laws frame before v is kept h.0
-happened laws frame before (Between after) is kept h = (between_kept frame before after kept h.0, tt)
-happened laws frame before (Expired ids) is kept h = (expired_kept frame before ids kept h.0, tt)
-happened laws frame before (Withdrawn ids) is kept h = (withdrawn_kept frame is before ids kept h.0, tt)
-happened laws frame before (BroughtBack id after) is kept h = (brought_kept frame is before id after kept h.0, tt)
-happened laws frame before (Forgotten after) is kept h = (forgotten_kept frame before after kept h.0, tt)
-happened laws frame before (PowerLost after) is kept h = (power_kept frame is before after kept h.0, tt)
-happened laws frame before (TakenAway id after) is kept h = (taken_kept frame before id after kept h.0, tt)
+happened : Below → (world : World) (before : State Account) (event : Event) → IsSound world → Kept world before → Run world before (event ∷ [])
+    → Kept (world_after world event) (after_event before event) × Promises world before event
+happened laws world before (Visited v) is kept h = visited laws world before v is kept h.0
+happened laws world before (Between after) is kept h = (between_kept world before after kept h.0, tt)
+happened laws world before (Expired ids) is kept h = (expired_kept world before ids kept h.0, tt)
+happened laws world before (Withdrawn ids) is kept h = (withdrawn_kept world is before ids kept h.0, tt)
+happened laws world before (BroughtBack id after) is kept h = (brought_kept world is before id after kept h.0, tt)
+happened laws world before (Forgotten after) is kept h = (forgotten_kept world before after kept h.0, tt)
+happened laws world before (PowerLost after) is kept h = (power_kept world is before after kept h.0, tt)
+happened laws world before (TakenAway id after) is kept h = (taken_kept world before id after kept h.0, tt)
 
 pub kept_states : Below → KeptStaysKept
-kept_states laws frame start [] is kept run = (kept, tt)
-kept_states laws frame start (event ∷ events) is kept run =
-    let one = happened laws frame start event is kept (run.0, tt) in
-    let more = kept_states laws (frame_after frame event) (after_event start event) events (frame_stays frame is event) one.0 run.1 in
+kept_states laws world start [] is kept run = (kept, tt)
+kept_states laws world start (event ∷ events) is kept run =
+    let one = happened laws world start event is kept (run.0, tt) in
+    let more = kept_states laws (world_after world event) (after_event start event) events (world_stays world is event) one.0 run.1 in
     (more.0, (one.1, one.0, more.1))
 
 -- ---- the headline's words
 
 pub holds_what_is_left : KeptHoldsWhatIsLeft
-holds_what_is_left frame state is kept = record {
+holds_what_is_left world state is kept = record {
   j = length kept.done;
   below = let e = ap length kept.prefix in omega (arith, e, length-append kept.done kept.rest);
-  contents = λ id l. subst (λ (ms : List Message). HoldsOf frame state ms id) (sym (front_is kept.done kept.rest kept.prefix)) (kept.holds id l);
-  ids = λ id l h. ap (λ (ms : List Message). has_id (ids_of ms) id) (front_is kept.done kept.rest kept.prefix) ∙ held_is_done frame state kept.done id (kept.holds id l) h;
-  once = λ id l. one_copy frame state is kept id l;
+  contents = λ id l. subst (λ (ms : List Message). HoldsOf world state ms id) (sym (front_is kept.done kept.rest kept.prefix)) (kept.holds id l);
+  ids = λ id l h. ap (λ (ms : List Message). has_id (ids_of ms) id) (front_is kept.done kept.rest kept.prefix) ∙ held_is_done world state kept.done id (kept.holds id l) h;
+  once = λ id l. one_copy world state is kept id l;
 }
 
 pub holds_exactly : NothingTakenHoldsExactly
-holds_exactly frame state holds none = record {
+holds_exactly world state holds none = record {
   j = holds.j;
   below = holds.below;
   contents = texts;
-  ids = λ id l. held_done frame.account state.account (take holds.j (selected frame.max_size frame.all)) id (texts id l);
+  ids = λ id l. held_done world.account state.kept (take holds.j (selected world.max_size world.all)) id (texts id l);
   once = holds.once;
 }
   where
-    texts : (id : List ℕ) → is_legal_id id ≡ true → copies (files state.account) (stem_of frame.account id) ≡ texts_of (take holds.j (selected frame.max_size frame.all)) id
+    texts : (id : List ℕ) → is_legal_id id ≡ true → copies (files state.kept) (stem_of world.account id) ≡ texts_of (take holds.j (selected world.max_size world.all)) id
     texts id l = grind (arith, holds.contents id l, ap (λ ids. has_id ids id) none)

@@ -20,7 +20,7 @@ use Rattle.run_law.specs.Mails.{ids_of, is_selected, selected}
 use Rattle.run_law.specs.Steps.{IsHonest, AreTexts, ids_wanted}
 use Rattle.run_law.specs.Runs.{past_limit}
 use Rattle.run_law.specs.Mboxes.{MboxAccount, is_stored, closed_file, settled, mbox_rows, mbox_wanted, none_held, entries, intent_of, IsClosed, IsOpen, IsBroken, MboxLeaves, MboxStores}
-use Rattle.run_law.specs.MboxRuns.{MboxSituation, MboxVisit, MboxFrame, MboxVisits, MboxKept, MboxEnds, MboxPromises, HasEntry, IsNextOpen, after_visit, mbox_shown, entries_of, MboxEvent, MboxVisited, MboxExpired, MboxWithdrawn, MboxRewritten, MboxHappens, MboxPromised, after_mbox_event, mbox_frame_after, MboxKeptStaysKept, MboxKeptHolds}
+use Rattle.run_law.specs.MboxRuns.{MboxState, MboxVisit, MboxWorld, MboxVisits, MboxKept, MboxEnds, MboxPromises, HasEntry, IsNextOpen, after_visit, mbox_shown, entries_of, MboxEvent, MboxVisited, MboxExpired, MboxWithdrawn, MboxRewritten, MboxHappens, MboxPromised, after_mbox_event, mbox_world_after, MboxKeptStaysKept, MboxKeptHolds}
 use Rattle.run_law.proofs.Core as core
 use Rattle.run_law.proofs.Core.{Scene, IsScene, fetched}
 use Rattle.run_law.proofs.Lists.{all_map, all_front, all_back, all_mapped, all_take, all_filter}
@@ -38,28 +38,28 @@ entries-append ms ns = ap entries (map-append (λ (m : Message). m.text) ms ns) 
 -- ---- a state that is settled
 
 -- no intent is open: the file ends after the entries of what is recorded
-pub record IsSettled (frame : MboxFrame) (listing : List Item) (account : MboxAccount) (old : List Message) : Type 0 where
+pub record IsSettled (world : MboxWorld) (listing : List Item) (account : MboxAccount) (old : List Message) : Type 0 where
   pub done : List Message
   pub rest : List Message
-  pub prefix : selected frame.max_size frame.all ≡ (frame.had ++ done) ++ rest
-  pub recorded : (id : List ℕ) → is_delivered (settled listing account).rows id ≡ has_id (ids_of (frame.had ++ done)) id
-  pub more : (id : List ℕ) → has_id (ids_of (frame.had ++ old)) id ≡ true → has_id (ids_of (frame.had ++ done)) id ≡ true
-  pub file : (settled listing account).file ≡ frame.start ++ entries_of done
+  pub prefix : selected world.max_size world.all ≡ (world.had ++ done) ++ rest
+  pub recorded : (id : List ℕ) → is_delivered (settled listing account).rows id ≡ has_id (ids_of (world.had ++ done)) id
+  pub more : (id : List ℕ) → has_id (ids_of (world.had ++ old)) id ≡ true → has_id (ids_of (world.had ++ done)) id ≡ true
+  pub file : (settled listing account).file ≡ world.start ++ entries_of done
 
-with_next : (frame : MboxFrame) (done : List Message) (m : Message) (id : List ℕ)
-    → has_id (ids_of (frame.had ++ (done ++ m ∷ []))) id ≡ (has_id (ids_of (frame.had ++ done)) id || bytes_eq id m.uid)
-with_next frame done m id = ap (λ (ms : List Message). has_id (ids_of ms) id) (sym (append_assoc frame.had done (m ∷ []))) ∙ ids_both (frame.had ++ done) (m ∷ []) id
-    ∙ ap (λ b. has_id (ids_of (frame.had ++ done)) id || b) (or-false (bytes_eq id m.uid))
+with_next : (world : MboxWorld) (done : List Message) (m : Message) (id : List ℕ)
+    → has_id (ids_of (world.had ++ (done ++ m ∷ []))) id ≡ (has_id (ids_of (world.had ++ done)) id || bytes_eq id m.uid)
+with_next world done m id = ap (λ (ms : List Message). has_id (ids_of ms) id) (sym (append_assoc world.had done (m ∷ []))) ∙ ids_both (world.had ++ done) (m ∷ []) id
+    ∙ ap (λ b. has_id (ids_of (world.had ++ done)) id || b) (or-false (bytes_eq id m.uid))
 
-selected_whole : (frame : MboxFrame) → IsWorld frame.all → AllByRecursion (λ (m : Message). IsWhole m.text) (selected frame.max_size frame.all)
-selected_whole frame world = all_filter (λ (m : Message). IsWhole m.text) (is_selected frame.max_size) frame.all
-    (all_map IsMessage (λ (m : Message). IsWhole m.text) (λ m h. h.whole) frame.all world.messages)
+selected_whole : (world : MboxWorld) → IsWorld world.all → AllByRecursion (λ (m : Message). IsWhole m.text) (selected world.max_size world.all)
+selected_whole world sound = all_filter (λ (m : Message). IsWhole m.text) (is_selected world.max_size) world.all
+    (all_map IsMessage (λ (m : Message). IsWhole m.text) (λ m h. h.whole) world.all sound.messages)
 
 -- the text of the next message is whole
-next_whole : (frame : MboxFrame) (state : MboxSituation) → IsWorld frame.all → (kept : MboxKept frame state) → (next : Message) (more : List Message) → kept.rest ≡ next ∷ more → IsWhole next.text
-next_whole frame state world kept next more is =
-    (all_back (λ (m : Message). IsWhole m.text) (frame.had ++ kept.done) (next ∷ more)
-    (subst (AllByRecursion (λ (m : Message). IsWhole m.text)) (kept.prefix ∙ ap (λ l. (frame.had ++ kept.done) ++ l) is) (selected_whole frame world))).0
+next_whole : (world : MboxWorld) (state : MboxState MboxAccount) → IsWorld world.all → (kept : MboxKept world state) → (next : Message) (more : List Message) → kept.rest ≡ next ∷ more → IsWhole next.text
+next_whole world state sound kept next more is =
+    (all_back (λ (m : Message). IsWhole m.text) (world.had ++ kept.done) (next ∷ more)
+    (subst (AllByRecursion (λ (m : Message). IsWhole m.text)) (kept.prefix ∙ ap (λ l. (world.had ++ kept.done) ++ l) is) (selected_whole world sound))).0
 
 -- what settling makes of an account with this open intent
 settled_is : (bytes uid text : List ℕ) (listing : List Item) (account : MboxAccount) → (o : IsOpen bytes uid text account)
@@ -71,33 +71,33 @@ settled_is bytes uid text listing account o = (
   ap (λ i. closed_file i listing account.file) o.intent ∙ ap (closed_file (Some (intent_of bytes uid text)) listing) o.file,
 )
 
-pub settle : FrontsAreSettled → RowLaws → (frame : MboxFrame) (listing : List Item) (state : MboxSituation) → IsWorld frame.all → (kept : MboxKept frame state) → IsSettled frame listing state.account kept.done
-settle fronts laws frame listing state world kept = elim kept.stands [
-  | inl closed ↦ no_more (ap (λ i. closed_rows (is_stored i listing state.account.file) state.account.rows i) closed.intent) (ap (λ i. closed_file i listing state.account.file) closed.intent ∙ closed.file)
+pub settle : FrontsAreSettled → RowLaws → (world : MboxWorld) (listing : List Item) (state : MboxState MboxAccount) → IsWorld world.all → (kept : MboxKept world state) → IsSettled world listing state.kept kept.done
+settle fronts laws world listing state sound kept = elim kept.stands [
+  | inl closed ↦ no_more (ap (λ i. closed_rows (is_stored i listing state.kept.file) state.kept.rows i) closed.intent) (ap (λ i. closed_file i listing state.kept.file) closed.intent ∙ closed.file)
   | inr o ↦
-      let bytes : List ℕ = frame.start ++ entries_of kept.done in
-      let is = settled_is bytes o.next.uid o.next.text listing state.account o.opened in
-      let rows = λ (b : Bool). cond b (marked state.account.rows o.next.uid) state.account.rows in
-      elim (fronts bytes o.next.text o.opened.front o.opened.behind (listed_size listing o.next.uid) (next_whole frame state world kept o.next o.more o.is_next) o.opened.entry) [
+      let bytes : List ℕ = world.start ++ entries_of kept.done in
+      let is = settled_is bytes o.next.uid o.next.text listing state.kept o.opened in
+      let rows = λ (b : Bool). cond b (marked state.kept.rows o.next.uid) state.kept.rows in
+      elim (fronts bytes o.next.text o.opened.front o.opened.behind (listed_size listing o.next.uid) (next_whole world state sound kept o.next o.more o.is_next) o.opened.entry) [
         | inl whole ↦ record {
           done = kept.done ++ o.next ∷ [];
           rest = o.more;
-          prefix = kept.prefix ∙ ap (λ l. (frame.had ++ kept.done) ++ l) o.is_next ∙ simp append_assoc;
+          prefix = kept.prefix ∙ ap (λ l. (world.had ++ kept.done) ++ l) o.is_next ∙ simp append_assoc;
           recorded = λ id. ap (λ r. is_delivered r id) (is.0 ∙ ap rows whole.0)
-              ∙ delivered_one laws state.account.rows o.next.uid id o.row
+              ∙ delivered_one laws state.kept.rows o.next.uid id o.row
               ∙ ap (λ b. b || bytes_eq id o.next.uid) (kept.recorded id)
-              ∙ sym (with_next frame kept.done o.next id);
-          more = λ id e. with_next frame kept.done o.next id ∙ or_left _ _ e;
+              ∙ sym (with_next world kept.done o.next id);
+          more = λ id e. with_next world kept.done o.next id ∙ or_left _ _ e;
           file = is.1 ∙ whole.1
               ∙ ap (λ l. bytes ++ l) (whole.2 ∙ sym (append-nil (entry_of o.next.text)))
-              ∙ append_assoc frame.start (entries_of kept.done) (entries_of (o.next ∷ []))
-              ∙ ap (λ l. frame.start ++ l) (sym (entries-append kept.done (o.next ∷ [])));
+              ∙ append_assoc world.start (entries_of kept.done) (entries_of (o.next ∷ []))
+              ∙ ap (λ l. world.start ++ l) (sym (entries-append kept.done (o.next ∷ [])));
         }
         | inr part ↦ no_more (is.0 ∙ ap rows part.0) (is.1 ∙ part.1)
       ]
 ]
   where
-    no_more : (settled listing state.account).rows ≡ state.account.rows → (settled listing state.account).file ≡ frame.start ++ entries_of kept.done → IsSettled frame listing state.account kept.done
+    no_more : (settled listing state.kept).rows ≡ state.kept.rows → (settled listing state.kept).file ≡ world.start ++ entries_of kept.done → IsSettled world listing state.kept kept.done
     no_more rows file = record { done = kept.done; rest = kept.rest; prefix = kept.prefix; recorded = λ id. ap (λ r. is_delivered r id) rows ∙ kept.recorded id; more = λ id e. e; file = file }
 
 -- ---- an account that is left, its file perhaps cut back
@@ -112,18 +112,18 @@ reopened fronts bytes uid text listing before after whole-text o i f = elim (fro
     cut : after.file ≡ settled_file (length bytes) (length (entry_of text)) (listed_size listing uid) (bytes ++ o.front)
     cut = f ∙ (settled_is bytes uid text listing before o).1
 
-left_kept : FrontsAreSettled → (frame : MboxFrame) (before : MboxSituation) (v : MboxVisit) → IsWorld frame.all → MboxKept frame before → MboxLeaves before.account v.effect v.after
-    → AllByRecursion (λ id. has_id v.effect.begun id ≡ true) v.vanished → MboxKept frame (after_visit before v)
-left_kept fronts frame before v world kept h vanished = record {
+left_kept : FrontsAreSettled → (world : MboxWorld) (before : MboxState MboxAccount) (v : MboxVisit) → IsWorld world.all → MboxKept world before → MboxLeaves before.kept v.effect v.after
+    → AllByRecursion (λ id. has_id v.effect.begun id ≡ true) v.vanished → MboxKept world (after_visit before v)
+left_kept fronts world before v sound kept h vanished = record {
   done = kept.done;
   rest = kept.rest;
   prefix = kept.prefix;
   recorded = λ id. ap (λ r. is_delivered r id) h.rows ∙ kept.recorded id;
-  gone = subst (AllByRecursion (λ id. has_id (ids_of (frame.had ++ kept.done)) id ≡ true)) (sym (append-nil before.gone) ∙ ap (λ l. before.gone ++ l) (sym (none_vanish v.vanished v.effect.begun h.begun vanished))) kept.gone;
+  gone = subst (AllByRecursion (λ id. has_id (ids_of (world.had ++ kept.done)) id ≡ true)) (sym (append-nil before.gone) ∙ ap (λ l. before.gone ++ l) (sym (none_vanish v.vanished v.effect.begun h.begun vanished))) kept.gone;
   stands = elim kept.stands [
     | inl closed ↦ inl (record {
       intent = h.intent ∙ closed.intent;
-      file = grind (arith, h.file, closed.file, ap (λ i. closed_file i v.effect.listing before.account.file) closed.intent);
+      file = grind (arith, h.file, closed.file, ap (λ i. closed_file i v.effect.listing before.kept.file) closed.intent);
     })
     | inr o ↦ inr (record {
       next = o.next;
@@ -131,7 +131,7 @@ left_kept fronts frame before v world kept h vanished = record {
       is_next = o.is_next;
       opened = elim h.file [
         | inl same ↦ record { intent = h.intent ∙ o.opened.intent; front = o.opened.front; behind = o.opened.behind; entry = o.opened.entry; file = same ∙ o.opened.file }
-        | inr cut ↦ reopened fronts (frame.start ++ entries_of kept.done) o.next.uid o.next.text v.effect.listing before.account v.after (next_whole frame before world kept o.next o.more o.is_next) o.opened h.intent cut
+        | inr cut ↦ reopened fronts (world.start ++ entries_of kept.done) o.next.uid o.next.text v.effect.listing before.kept v.after (next_whole world before sound kept o.next o.more o.is_next) o.opened h.intent cut
       ];
       row = ap (λ r. has_row r o.next.uid) h.rows ∙ o.row;
     })
@@ -148,29 +148,29 @@ split_at (m ∷ ms) id e = elim (or_cases (bytes_eq id m.uid) (has_id (ids_of ms
 ]
 
 -- what comes after the entries of what is done
-pub rest_of : (frame : MboxFrame) (state : MboxSituation) → (kept : MboxKept frame state) → (rest : List ℕ) × (state.account.file ≡ (frame.start ++ entries_of kept.done) ++ rest)
-    × (((state.account.intent ≡ None) × (rest ≡ [])) ⊎ ((next : Message) × (behind : List ℕ) × (more : List Message) × (kept.rest ≡ next ∷ more) × (entry_of next.text ≡ rest ++ behind)
-    × (state.account.intent ≡ Some (intent_of (frame.start ++ entries_of kept.done) next.uid next.text))))
-rest_of frame state kept = elim kept.stands [
-  | inl closed ↦ ([], closed.file ∙ sym (append-nil (frame.start ++ entries_of kept.done)), inl (closed.intent, refl))
+pub rest_of : (world : MboxWorld) (state : MboxState MboxAccount) → (kept : MboxKept world state) → (rest : List ℕ) × (state.kept.file ≡ (world.start ++ entries_of kept.done) ++ rest)
+    × (((state.kept.intent ≡ None) × (rest ≡ [])) ⊎ ((next : Message) × (behind : List ℕ) × (more : List Message) × (kept.rest ≡ next ∷ more) × (entry_of next.text ≡ rest ++ behind)
+    × (state.kept.intent ≡ Some (intent_of (world.start ++ entries_of kept.done) next.uid next.text))))
+rest_of world state kept = elim kept.stands [
+  | inl closed ↦ ([], closed.file ∙ sym (append-nil (world.start ++ entries_of kept.done)), inl (closed.intent, refl))
   | inr o ↦ (o.opened.front, o.opened.file, inr (o.next, o.opened.behind, o.more, o.is_next, o.opened.entry, o.opened.intent))
 ]
 
-pub has_entry : (frame : MboxFrame) (state : MboxSituation) → MboxKept frame state → (id : List ℕ) → is_delivered state.account.rows id ≡ true
-    → (has_id (ids_of frame.had) id ≡ true) ⊎ HasEntry frame state.account.file id
-has_entry frame state kept id e = elim (or_cases (has_id (ids_of frame.had) id) (has_id (ids_of kept.done) id) (sym (ids_both frame.had kept.done id) ∙ sym (kept.recorded id) ∙ e)) [
+pub has_entry : (world : MboxWorld) (state : MboxState MboxAccount) → MboxKept world state → (id : List ℕ) → is_delivered state.kept.rows id ≡ true
+    → (has_id (ids_of world.had) id ≡ true) ⊎ HasEntry world state.kept.file id
+has_entry world state kept id e = elim (or_cases (has_id (ids_of world.had) id) (has_id (ids_of kept.done) id) (sym (ids_both world.had kept.done id) ∙ sym (kept.recorded id) ∙ e)) [
   | inl before ↦ inl before
   | inr new ↦
       let at = split_at kept.done id new in
-      let tail = rest_of frame state kept in
+      let tail = rest_of world state kept in
       inr (record {
         message = at.1;
         id_is = at.4;
         before = at.0;
         after = at.2 ++ kept.rest;
-        selected_is = kept.prefix ∙ ap (λ l. (frame.had ++ l) ++ kept.rest) at.3 ∙ simp append_assoc;
+        selected_is = kept.prefix ∙ ap (λ l. (world.had ++ l) ++ kept.rest) at.3 ∙ simp append_assoc;
         behind = entries_of at.2 ++ tail.0;
-        file_is = tail.1 ∙ ap (λ l. (frame.start ++ l) ++ tail.0) (ap entries_of at.3 ∙ entries-append at.0 (at.1 ∷ at.2)) ∙ simp append_assoc;
+        file_is = tail.1 ∙ ap (λ l. (world.start ++ l) ++ tail.0) (ap entries_of at.3 ∙ entries-append at.0 (at.1 ∷ at.2)) ∙ simp append_assoc;
       })
 ]
 
@@ -200,29 +200,29 @@ at_place drop' (q ∷ qs) (x ∷ texts) (suc n) message text h t w g =
 
 -- ---- one session that stored something
 
-module _ (fronts : FrontsAreSettled) (laws : RowLaws) (filtered : DistinctAreFiltered) (frame : MboxFrame) (world : IsWorld frame.all) (before : MboxSituation) (v : MboxVisit) (kept : MboxKept frame before)
-    (same : v.settings.max_size ≡ frame.max_size) (only_new : v.settings.read_all ≡ false) (s : MboxStores v.settings before.account v.effect v.after)
-    (honest : IsHonest (mbox_wanted v.settings before.account v.effect) (mbox_shown frame before v) v.effect) where
+module _ (fronts : FrontsAreSettled) (laws : RowLaws) (filtered : DistinctAreFiltered) (world : MboxWorld) (sound : IsWorld world.all) (before : MboxState MboxAccount) (v : MboxVisit) (kept : MboxKept world before)
+    (same : v.settings.max_size ≡ world.max_size) (only_new : v.settings.read_all ≡ false) (s : MboxStores v.settings before.kept v.effect v.after)
+    (honest : IsHonest (mbox_wanted v.settings before.kept v.effect) (mbox_shown world before v) v.effect) where
   abbrev rows : List Row
-  rows = mbox_rows before.account v.effect
+  rows = mbox_rows before.kept v.effect
 
   abbrev here : List Message
-  here = mbox_shown frame before v
+  here = mbox_shown world before v
 
-  origin : IsSettled frame v.effect.listing before.account kept.done
-  origin = settle fronts laws frame v.effect.listing before world kept
+  origin : IsSettled world v.effect.listing before.kept kept.done
+  origin = settle fronts laws world v.effect.listing before sound kept
 
   abbrev scene : Scene
-  scene = record { all = frame.all; gone = before.gone; come = v.come; settings = v.settings; rows = rows; done = frame.had ++ origin.done; rest = origin.rest }
+  scene = record { all = world.all; gone = before.gone; come = v.come; settings = v.settings; rows = rows; done = world.had ++ origin.done; rest = origin.rest }
 
   known : (id : List ℕ) → is_delivered rows id ≡ core.is_done scene id
-  known id = delivered_unheld laws (settled v.effect.listing before.account).rows v.effect.listing v.effect.now id ∙ origin.recorded id
+  known id = delivered_unheld laws (settled v.effect.listing before.kept).rows v.effect.listing v.effect.now id ∙ origin.recorded id
 
   is_scene : IsScene scene
   is_scene = record {
-    world = world;
-    prefix = ap (λ k. selected k frame.all) same ∙ origin.prefix;
-    gone = all_map (λ id. has_id (ids_of (frame.had ++ kept.done)) id ≡ true) (λ id. core.is_done scene id ≡ true) origin.more before.gone kept.gone;
+    mail = sound;
+    prefix = ap (λ k. selected k world.all) same ∙ origin.prefix;
+    gone = all_map (λ id. has_id (ids_of (world.had ++ kept.done)) id ≡ true) (λ id. core.is_done scene id ≡ true) origin.more before.gone kept.gone;
     known = λ id l e d. sym (known id) ∙ d;
   }
 
@@ -232,34 +232,34 @@ module _ (fronts : FrontsAreSettled) (laws : RowLaws) (filtered : DistinctAreFil
   abbrev qs : List (ℕ × Message)
   qs = wants_by_number v.settings rows here
 
-  wanted_is : mbox_wanted v.settings before.account v.effect ≡ map num_item qs
+  wanted_is : mbox_wanted v.settings before.kept v.effect ≡ map num_item qs
   wanted_is = ap (λ l. wanted v.settings rows l) honest.listing ∙ core.wanted_is scene is_scene filtered
 
   texts_are : AreTexts here (map num_item qs) v.effect.texts
   texts_are = subst (λ w. AreTexts here w v.effect.texts) wanted_is honest.texts
 
   -- the first of the wanted messages are the next of the selected ones
-  prefix_of : (n : ℕ) → selected frame.max_size frame.all ≡ (frame.had ++ (origin.done ++ take n ws)) ++ (core.added_begins scene is_scene n).0
-  prefix_of n = ap (λ k. selected k frame.all) (sym same) ∙ core.prefix_after scene is_scene n
-      ∙ ap (λ l. ((frame.had ++ origin.done) ++ l) ++ (core.added_begins scene is_scene n).0) (core.all_added scene is_scene (λ id l h d. known id ∙ d) only_new n)
-      ∙ ap (λ l. l ++ (core.added_begins scene is_scene n).0) (append_assoc frame.had origin.done (take n ws))
+  prefix_of : (n : ℕ) → selected world.max_size world.all ≡ (world.had ++ (origin.done ++ take n ws)) ++ (core.added_begins scene is_scene n).0
+  prefix_of n = ap (λ k. selected k world.all) (sym same) ∙ core.prefix_after scene is_scene n
+      ∙ ap (λ l. ((world.had ++ origin.done) ++ l) ++ (core.added_begins scene is_scene n).0) (core.all_added scene is_scene (λ id l h d. known id ∙ d) only_new n)
+      ∙ ap (λ l. l ++ (core.added_begins scene is_scene n).0) (append_assoc world.had origin.done (take n ws))
 
-  ids_after : (id : List ℕ) → has_id (ids_of (frame.had ++ (origin.done ++ take s.stored ws))) id ≡ (core.is_done scene id || has_id (ids_of (take s.stored ws)) id)
-  ids_after id = ap (λ (ms : List Message). has_id (ids_of ms) id) (sym (append_assoc frame.had origin.done (take s.stored ws))) ∙ ids_both (frame.had ++ origin.done) (take s.stored ws) id
+  ids_after : (id : List ℕ) → has_id (ids_of (world.had ++ (origin.done ++ take s.stored ws))) id ≡ (core.is_done scene id || has_id (ids_of (take s.stored ws)) id)
+  ids_after id = ap (λ (ms : List Message). has_id (ids_of ms) id) (sym (append_assoc world.had origin.done (take s.stored ws))) ∙ ids_both (world.had ++ origin.done) (take s.stored ws) id
 
   -- ---- rows
 
   has_rows : (n : ℕ) → AllByRecursion (λ (m : Message). has_row rows m.uid ≡ true) (take n ws)
   has_rows n = all_take (λ (m : Message). has_row rows m.uid ≡ true) n ws
       (all_map (λ (m : Message). has_id (ids_of here) m.uid ≡ true) (λ (m : Message). has_row rows m.uid ≡ true)
-      (λ m e. laws.listed (settled v.effect.listing before.account).rows v.effect.listing (none_held v.effect.listing) v.effect.now m.uid
+      (λ m e. laws.listed (settled v.effect.listing before.kept).rows v.effect.listing (none_held v.effect.listing) v.effect.now m.uid
       ∙ or_right _ _ (ap (λ l. has_item l m.uid) honest.listing ∙ has_listed here m.uid ∙ e))
       ws (core.fetched_here scene is_scene))
 
   rows_are : v.after.rows ≡ marked_all rows (ids_of (take s.stored ws))
   rows_are = s.rows ∙ ap (marked_all rows) (ap (λ w. ids_wanted (take s.stored w)) wanted_is ∙ core.wanted_ids scene is_scene s.stored)
 
-  recorded_after : (id : List ℕ) → is_delivered v.after.rows id ≡ has_id (ids_of (frame.had ++ (origin.done ++ take s.stored ws))) id
+  recorded_after : (id : List ℕ) → is_delivered v.after.rows id ≡ has_id (ids_of (world.had ++ (origin.done ++ take s.stored ws))) id
   recorded_after id = ap (λ r. is_delivered r id) rows_are
       ∙ delivered_all laws rows (ids_of (take s.stored ws)) id (all_mapped (λ id. has_row rows id ≡ true) (λ (m : Message). m.uid) (take s.stored ws) (has_rows s.stored)) ∙ rw (known id, ids_after id)
 
@@ -269,28 +269,28 @@ module _ (fronts : FrontsAreSettled) (laws : RowLaws) (filtered : DistinctAreFil
   appended = ap entries (texts_taken here qs v.effect.texts s.stored (wants_placed v.settings rows here) texts_are s.fetched
       ∙ ap (map (λ (m : Message). m.text)) (core.taken_is scene is_scene s.stored))
 
-  bytes_are : (settled v.effect.listing before.account).file ++ entries (take s.stored v.effect.texts) ≡ frame.start ++ entries_of (origin.done ++ take s.stored ws)
-  bytes_are = rw (origin.file, appended, entries-append origin.done (take s.stored ws)) (append_assoc frame.start (entries_of origin.done) (entries_of (take s.stored ws)))
+  bytes_are : (settled v.effect.listing before.kept).file ++ entries (take s.stored v.effect.texts) ≡ world.start ++ entries_of (origin.done ++ take s.stored ws)
+  bytes_are = rw (origin.file, appended, entries-append origin.done (take s.stored ws)) (append_assoc world.start (entries_of origin.done) (entries_of (take s.stored ws)))
 
   -- ---- the next state
 
   -- what isn't done then, and what the file ends with
   abbrev Next : Type 0
-  Next = (rest : List Message) × (selected frame.max_size frame.all ≡ (frame.had ++ (origin.done ++ take s.stored ws)) ++ rest)
-      × (IsClosed (frame.start ++ entries_of (origin.done ++ take s.stored ws)) v.after ⊎ IsNextOpen (frame.start ++ entries_of (origin.done ++ take s.stored ws)) rest v.after)
+  Next = (rest : List Message) × (selected world.max_size world.all ≡ (world.had ++ (origin.done ++ take s.stored ws)) ++ rest)
+      × (IsClosed (world.start ++ entries_of (origin.done ++ take s.stored ws)) v.after ⊎ IsNextOpen (world.start ++ entries_of (origin.done ++ take s.stored ws)) rest v.after)
 
-  broken_next : IsBroken v.settings before.account v.effect s.stored v.after → Next
+  broken_next : IsBroken v.settings before.kept v.effect s.stored v.after → Next
   broken_next b = (
     place.0.1 ∷ later,
-    prefix_of (suc s.stored) ∙ ap (λ l. (frame.had ++ (origin.done ++ l)) ++ later) taken ∙ simp append_assoc,
+    prefix_of (suc s.stored) ∙ ap (λ l. (world.had ++ (origin.done ++ l)) ++ later) taken ∙ simp append_assoc,
     inr (record {
       next = place.0.1;
       more = later;
       is_next = refl;
       opened = record {
         intent = b.opened.intent ∙ ap (λ l. Some (intent_of l b.message.1.uid b.text)) bytes_are
-            ∙ ap (λ (x : ℕ × Item). Some (intent_of (frame.start ++ entries_of (origin.done ++ take s.stored ws)) x.1.uid b.text)) place.1
-            ∙ ap (λ t. Some (intent_of (frame.start ++ entries_of (origin.done ++ take s.stored ws)) place.0.1.uid t)) place.2;
+            ∙ ap (λ (x : ℕ × Item). Some (intent_of (world.start ++ entries_of (origin.done ++ take s.stored ws)) x.1.uid b.text)) place.1
+            ∙ ap (λ t. Some (intent_of (world.start ++ entries_of (origin.done ++ take s.stored ws)) place.0.1.uid t)) place.2;
         front = b.opened.front;
         behind = b.opened.behind;
         entry = sym (ap entry_of place.2) ∙ b.opened.entry;
@@ -321,63 +321,63 @@ module _ (fronts : FrontsAreSettled) (laws : RowLaws) (filtered : DistinctAreFil
     | inr b ↦ broken_next b
   ]
 
-  pub stored_kept : AllByRecursion (λ id. has_id v.effect.begun id ≡ true) v.vanished → MboxKept frame (after_visit before v)
+  pub stored_kept : AllByRecursion (λ id. has_id v.effect.begun id ≡ true) v.vanished → MboxKept world (after_visit before v)
   stored_kept vanished = record {
     done = origin.done ++ take s.stored ws;
     rest = next.0;
     prefix = next.1;
     recorded = recorded_after;
-    gone = gone_is_done (λ id. has_id (ids_of (frame.had ++ kept.done)) id) (λ id. has_id (ids_of (frame.had ++ (origin.done ++ take s.stored ws))) id) v.effect.begun before.gone v.vanished
+    gone = gone_is_done (λ id. has_id (ids_of (world.had ++ kept.done)) id) (λ id. has_id (ids_of (world.had ++ (origin.done ++ take s.stored ws))) id) v.effect.begun before.gone v.vanished
         (λ id e. ids_after id ∙ or_left _ _ (origin.more id e))
-        (all_map (λ id. is_delivered v.after.rows id ≡ true) (λ id. has_id (ids_of (frame.had ++ (origin.done ++ take s.stored ws))) id ≡ true) (λ id e. sym (recorded_after id) ∙ e) v.effect.begun s.begun)
+        (all_map (λ id. is_delivered v.after.rows id ≡ true) (λ id. has_id (ids_of (world.had ++ (origin.done ++ take s.stored ws))) id ≡ true) (λ id e. sym (recorded_after id) ∙ e) v.effect.begun s.begun)
         kept.gone vanished;
     stands = next.2;
   }
 
-  pub ends : v.effect.ended ≡ true → MboxEnds frame before v
+  pub ends : v.effect.ended ≡ true → MboxEnds world before v
   ends ended = record {
     closed = (s.ended ended).1;
-    leaves_out = all_map (core.IsOut scene is_scene s.stored) (λ (m : Message). (is_delivered v.after.rows m.uid ≡ true) ⊎ (is_selected frame.max_size m ≡ false)
+    leaves_out = all_map (core.IsOut scene is_scene s.stored) (λ (m : Message). (is_delivered v.after.rows m.uid ≡ true) ⊎ (is_selected world.max_size m ≡ false)
         ⊎ (has_id (ids_wanted (past_limit v.settings.max_count (candidates v.settings rows v.effect.listing))) m.uid ≡ true))
         (λ m o.
         let whole = core.all_added scene is_scene (λ id l h d. known id ∙ d) only_new s.stored in
         let large = ap (λ k. is_selected k m) same in
         let past = ap (λ l. has_id l m.uid) (core.past_ids scene is_scene filtered v.effect.listing honest.listing) in
-        grind (arith, o, recorded_after m.uid, append_assoc frame.had origin.done (take s.stored ws), whole, large, past)
+        grind (arith, o, recorded_after m.uid, append_assoc world.had origin.done (take s.stored ws), whole, large, past)
         ) here (core.left_out scene is_scene s.stored (let l = (s.ended ended).0 in omega (arith, l, ap length wanted_is, core.wanted_length scene is_scene)));
   }
 
 -- ---- one session
 
-visited : FrontsAreSettled → RowLaws → DistinctAreFiltered → (frame : MboxFrame) (before : MboxSituation) (v : MboxVisit) → IsWorld frame.all → MboxKept frame before → MboxVisits frame before v
-    → MboxKept frame (after_visit before v) × MboxPromises frame before v
-visited fronts laws filtered frame before v world kept h = elim h.step [
+visited : FrontsAreSettled → RowLaws → DistinctAreFiltered → (world : MboxWorld) (before : MboxState MboxAccount) (v : MboxVisit) → IsWorld world.all → MboxKept world before → MboxVisits world before v
+    → MboxKept world (after_visit before v) × MboxPromises world before v
+visited fronts laws filtered world before v sound kept h = elim h.step [
   | inl left ↦ (
-    left_kept fronts frame before v world kept left h.vanished,
-    record { ends = λ ended. absurd (both_ways v.effect.ended left.ended ended); begun = subst (AllByRecursion (λ id. (has_id (ids_of frame.had) id ≡ true) ⊎ HasEntry frame v.after.file id)) (sym left.begun) tt },
+    left_kept fronts world before v sound kept left h.vanished,
+    record { ends = λ ended. absurd (both_ways v.effect.ended left.ended ended); begun = subst (AllByRecursion (λ id. (has_id (ids_of world.had) id ≡ true) ⊎ HasEntry world v.after.file id)) (sym left.begun) tt },
   )
   | inr (stores, honest) ↦
-      let next = stored_kept fronts laws filtered frame world before v kept h.same h.only_new stores honest h.vanished in (
+      let next = stored_kept fronts laws filtered world sound before v kept h.same h.only_new stores honest h.vanished in (
         next,
         record {
-          ends = ends fronts laws filtered frame world before v kept h.same h.only_new stores honest;
-          begun = all_map (λ id. is_delivered v.after.rows id ≡ true) (λ id. (has_id (ids_of frame.had) id ≡ true) ⊎ HasEntry frame v.after.file id) (has_entry frame (after_visit before v) next) v.effect.begun stores.begun;
+          ends = ends fronts laws filtered world sound before v kept h.same h.only_new stores honest;
+          begun = all_map (λ id. is_delivered v.after.rows id ≡ true) (λ id. (has_id (ids_of world.had) id ≡ true) ⊎ HasEntry world v.after.file id) (has_entry world (after_visit before v) next) v.effect.begun stores.begun;
         },
       )
 ]
 
-happened : FrontsAreSettled → RowLaws → DistinctAreFiltered → (frame : MboxFrame) (before : MboxSituation) (event : MboxEvent) → IsWorld frame.all → MboxKept frame before → MboxHappens frame before event
-    → MboxKept (mbox_frame_after frame event) (after_mbox_event before event) × MboxPromised frame before event
-happened fronts laws filtered frame before (MboxVisited v) world kept h = visited fronts laws filtered frame before v world kept h
-happened fronts laws filtered frame before (MboxExpired ids) world kept h = (expired_kept frame before ids kept h, tt)
-happened fronts laws filtered frame before (MboxWithdrawn ids) world kept h = (withdrawn_kept frame before ids kept h, tt)
-happened fronts laws filtered frame before (MboxRewritten had file) world kept h = (rewritten_kept frame before had file kept h, tt)
+happened : FrontsAreSettled → RowLaws → DistinctAreFiltered → (world : MboxWorld) (before : MboxState MboxAccount) (event : MboxEvent) → IsWorld world.all → MboxKept world before → MboxHappens world before event
+    → MboxKept (mbox_world_after world event) (after_mbox_event before event) × MboxPromised world before event
+happened fronts laws filtered world before (MboxVisited v) sound kept h = visited fronts laws filtered world before v sound kept h
+happened fronts laws filtered world before (MboxExpired ids) sound kept h = (expired_kept world before ids kept h, tt)
+happened fronts laws filtered world before (MboxWithdrawn ids) sound kept h = (withdrawn_kept world before ids kept h, tt)
+happened fronts laws filtered world before (MboxRewritten had file) sound kept h = (rewritten_kept world before had file kept h, tt)
 
 pub mbox_kept_states : FrontsAreSettled → RowLaws → DistinctAreFiltered → MboxKeptStaysKept
-mbox_kept_states fronts laws filtered frame start [] world kept run = (kept, tt)
-mbox_kept_states fronts laws filtered frame start (event ∷ events) world kept run =
-    let one = happened fronts laws filtered frame start event world kept run.0 in
-    let more = mbox_kept_states fronts laws filtered (mbox_frame_after frame event) (after_mbox_event start event) events (mbox_world_stays frame world event) one.0 run.1 in
+mbox_kept_states fronts laws filtered world start [] sound kept run = (kept, tt)
+mbox_kept_states fronts laws filtered world start (event ∷ events) sound kept run =
+    let one = happened fronts laws filtered world start event sound kept run.0 in
+    let more = mbox_kept_states fronts laws filtered (mbox_world_after world event) (after_mbox_event start event) events (mbox_world_stays world sound event) one.0 run.1 in
     (more.0, (one.1, one.0, more.1))
 
 -- ---- what a kept state holds
@@ -395,19 +395,19 @@ at_length [] y ys = refl
 at_length (x ∷ xs) y ys = at_length xs y ys
 
 pub mbox_holds : EntryAddsText → MboxKeptHolds
-mbox_holds adds frame state world kept =
-    let tail = rest_of frame state kept in
-    let whole : selected frame.max_size frame.all ≡ frame.had ++ (kept.done ++ kept.rest) = kept.prefix ∙ append_assoc frame.had kept.done kept.rest in
+mbox_holds adds world state sound kept =
+    let tail = rest_of world state kept in
+    let whole : selected world.max_size world.all ≡ world.had ++ (kept.done ++ kept.rest) = kept.prefix ∙ append_assoc world.had kept.done kept.rest in
     let front : take (length kept.done) (kept.done ++ kept.rest) ≡ kept.done = take_at kept.done kept.rest (length kept.done) refl in
-    let whole_done = all_front (λ (m : Message). IsWhole m.text) kept.done kept.rest (all_back (λ (m : Message). IsWhole m.text) frame.had (kept.done ++ kept.rest)
-    (subst (AllByRecursion (λ (m : Message). IsWhole m.text)) whole (selected_whole frame world))) in
+    let whole_done = all_front (λ (m : Message). IsWhole m.text) kept.done kept.rest (all_back (λ (m : Message). IsWhole m.text) world.had (kept.done ++ kept.rest)
+    (subst (AllByRecursion (λ (m : Message). IsWhole m.text)) whole (selected_whole world sound))) in
     record {
       j = length kept.done;
       later = kept.done ++ kept.rest;
       later_is = whole;
       below = omega (arith, length-append kept.done kept.rest);
       rest = tail.0;
-      file = tail.1 ∙ ap (λ (ms : List Message). (frame.start ++ entries_of ms) ++ tail.0) (sym front);
+      file = tail.1 ∙ ap (λ (ms : List Message). (world.start ++ entries_of ms) ++ tail.0) (sym front);
       at_most = elim tail.2 [
         | inl none ↦ inl none
         | inr (next, behind, more, is, entry, opened) ↦ inr (
@@ -415,14 +415,14 @@ mbox_holds adds frame state world kept =
           behind,
           ap (λ (l : List Message). slice_get (kept.done ++ l) (length kept.done)) is ∙ at_length kept.done next more,
           entry,
-          opened ∙ ap (λ (ms : List Message). Some (intent_of (frame.start ++ entries_of ms) next.uid next.text)) (sym front),
+          opened ∙ ap (λ (ms : List Message). Some (intent_of (world.start ++ entries_of ms) next.uid next.text)) (sym front),
         )
       ];
-      ids = λ id. kept.recorded id ∙ ap (λ (ms : List Message). has_id (ids_of (frame.had ++ ms)) id) (sym front);
-      entered = has_entry frame state kept;
+      ids = λ id. kept.recorded id ∙ ap (λ (ms : List Message). has_id (ids_of (world.had ++ ms)) id) (sym front);
+      entered = has_entry world state kept;
       texts = λ none first stands.
-          subst (λ (ms : List Message). MboxFile state.account.file (first ++ map (λ (m : Message). m.text) ms)) (sym front)
+          subst (λ (ms : List Message). MboxFile state.kept.file (first ++ map (λ (m : Message). m.text) ms)) (sym front)
           (subst (λ f. MboxFile f (first ++ map (λ (m : Message). m.text) kept.done))
-          (sym (tail.1 ∙ ap (λ l. (frame.start ++ entries_of kept.done) ++ l) none ∙ append-nil (frame.start ++ entries_of kept.done)))
-          (texts_stand adds frame.start first kept.done whole_done stands));
+          (sym (tail.1 ∙ ap (λ l. (world.start ++ entries_of kept.done) ++ l) none ∙ append-nil (world.start ++ entries_of kept.done)))
+          (texts_stand adds world.start first kept.done whole_done stands));
     }

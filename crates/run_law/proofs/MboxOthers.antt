@@ -9,50 +9,51 @@ use Rattle.mail_terms.specs.UniqueId.{has_id}
 use Rattle.pop3_wire.specs.World.{Message, IsWorld}
 use Rattle.fetch_rules.specs.Record.{is_delivered}
 use Rattle.run_law.specs.Mails.{ids_of, is_selected, without}
-use Rattle.run_law.specs.MboxRuns.{MboxSituation, MboxFrame, MboxKept, MboxEvent, MboxExpired, MboxWithdrawn, MboxRewritten, MboxStartsKept, SomeAreRecorded, AreAllRecorded, IsUnbegun, IsNextOpen, after_mbox_event, entries_of, mbox_frame_after}
+use Rattle.run_law.specs.MboxRuns.{MboxState, MboxWorld, MboxKept, MboxEvent, MboxExpired, MboxWithdrawn, MboxRewritten, MboxStartsKept, SomeAreRecorded, AreAllRecorded, IsUnbegun, IsNextOpen, after_mbox_event, entries_of, mbox_world_after}
 use Rattle.run_law.proofs.Core.{members}
 use Rattle.run_law.proofs.Ids.{all_ids_at, bytes_self}
 use Rattle.run_law.proofs.Lists.{all_append, all_map, filter-swap, filter_all}
 use Rattle.run_law.proofs.Others.{worlds_shrink}
+use Rattle.run_law.specs.Mboxes.{MboxAccount}
 
-pub mbox_world_stays : (frame : MboxFrame) → IsWorld frame.all → (event : MboxEvent) → IsWorld (mbox_frame_after frame event).all
-mbox_world_stays frame world (MboxWithdrawn ids) = worlds_shrink frame.all ids world
-mbox_world_stays frame world (MboxRewritten had file) = world
-mbox_world_stays frame world event = world
+pub mbox_world_stays : (world : MboxWorld) → IsWorld world.all → (event : MboxEvent) → IsWorld (mbox_world_after world event).all
+mbox_world_stays world sound (MboxWithdrawn ids) = worlds_shrink world.all ids sound
+mbox_world_stays world sound (MboxRewritten had file) = sound
+mbox_world_stays world sound event = sound
 
-pub expired_kept : (frame : MboxFrame) (before : MboxSituation) (ids : List (List ℕ)) → MboxKept frame before → AllByRecursion (λ id. is_delivered before.account.rows id ≡ true) ids
-    → MboxKept frame (after_mbox_event before (MboxExpired ids))
-expired_kept frame before ids kept all = record {
+pub expired_kept : (world : MboxWorld) (before : MboxState MboxAccount) (ids : List (List ℕ)) → MboxKept world before → AllByRecursion (λ id. is_delivered before.kept.rows id ≡ true) ids
+    → MboxKept world (after_mbox_event before (MboxExpired ids))
+expired_kept world before ids kept all = record {
   done = kept.done;
   rest = kept.rest;
   prefix = kept.prefix;
   recorded = kept.recorded;
-  gone = all_append (λ id. has_id (ids_of (frame.had ++ kept.done)) id ≡ true) before.gone ids kept.gone
-      (all_map (λ id. is_delivered before.account.rows id ≡ true) (λ id. has_id (ids_of (frame.had ++ kept.done)) id ≡ true) (λ id e. sym (kept.recorded id) ∙ e) ids all);
+  gone = all_append (λ id. has_id (ids_of (world.had ++ kept.done)) id ≡ true) before.gone ids kept.gone
+      (all_map (λ id. is_delivered before.kept.rows id ≡ true) (λ id. has_id (ids_of (world.had ++ kept.done)) id ≡ true) (λ id e. sym (kept.recorded id) ∙ e) ids all);
   stands = kept.stands;
 }
 
-module _ (frame : MboxFrame) (before : MboxSituation) (ids : List (List ℕ)) (kept : MboxKept frame before) (all : AllByRecursion (IsUnbegun before.account) ids) where
+module _ (world : MboxWorld) (before : MboxState MboxAccount) (ids : List (List ℕ)) (kept : MboxKept world before) (all : AllByRecursion (IsUnbegun before.kept) ids) where
   abbrev stays : Message → Bool
   stays m = not (has_id ids m.uid)
 
   abbrev done : List Message
-  done = frame.had ++ kept.done
+  done = world.had ++ kept.done
 
   -- what is done is recorded, so it isn't withdrawn
   done_stays : (m : Message) → has_id (ids_of done) m.uid ≡ true → stays m ≡ true
   done_stays m is = ap not (false_from_ne_true (has_id ids m.uid) (λ withdrawn.
-      both_ways (is_delivered before.account.rows m.uid) (all_ids_at (IsUnbegun before.account) ids m.uid all withdrawn).0 (kept.recorded m.uid ∙ is)))
+      both_ways (is_delivered before.kept.rows m.uid) (all_ids_at (IsUnbegun before.kept) ids m.uid all withdrawn).0 (kept.recorded m.uid ∙ is)))
 
   all_stay : AllByRecursion (λ (m : Message). stays m ≡ true) done
   all_stay = all_map (λ (m : Message). has_id (ids_of done) m.uid ≡ true) (λ (m : Message). stays m ≡ true) done_stays done (members done)
 
   -- nor is the next message, if its intent is open
-  next_stays : (bytes : List ℕ) → (o : IsNextOpen bytes kept.rest before.account) → stays o.next ≡ true
+  next_stays : (bytes : List ℕ) → (o : IsNextOpen bytes kept.rest before.kept) → stays o.next ≡ true
   next_stays bytes o = ap not (false_from_ne_true (has_id ids o.next.uid) (λ withdrawn.
-      both_ways (bytes_eq o.next.uid o.next.uid) ((all_ids_at (IsUnbegun before.account) ids o.next.uid all withdrawn).1 _ o.opened.intent) (bytes_self o.next.uid)))
+      both_ways (bytes_eq o.next.uid o.next.uid) ((all_ids_at (IsUnbegun before.kept) ids o.next.uid all withdrawn).1 _ o.opened.intent) (bytes_self o.next.uid)))
 
-  still_next : (bytes : List ℕ) → IsNextOpen bytes kept.rest before.account → IsNextOpen bytes (without ids kept.rest) before.account
+  still_next : (bytes : List ℕ) → IsNextOpen bytes kept.rest before.kept → IsNextOpen bytes (without ids kept.rest) before.kept
   still_next bytes o = record {
     next = o.next;
     more = without ids o.more;
@@ -61,46 +62,46 @@ module _ (frame : MboxFrame) (before : MboxSituation) (ids : List (List ℕ)) (k
     row = o.row;
   }
 
-  pub withdrawn_kept : MboxKept (mbox_frame_after frame (MboxWithdrawn ids)) (after_mbox_event before (MboxWithdrawn ids))
+  pub withdrawn_kept : MboxKept (mbox_world_after world (MboxWithdrawn ids)) (after_mbox_event before (MboxWithdrawn ids))
   withdrawn_kept = record {
     done = kept.done;
     rest = without ids kept.rest;
-    prefix = filter-swap (is_selected frame.max_size) stays frame.all ∙ ap (filter stays) kept.prefix ∙ filter-append stays done kept.rest
+    prefix = filter-swap (is_selected world.max_size) stays world.all ∙ ap (filter stays) kept.prefix ∙ filter-append stays done kept.rest
         ∙ ap (λ l. l ++ without ids kept.rest) (filter_all stays done all_stay);
     recorded = kept.recorded;
     gone = kept.gone;
     stands = elim kept.stands [
       | inl closed ↦ inl closed
-      | inr opened ↦ inr (still_next (frame.start ++ entries_of kept.done) opened)
+      | inr opened ↦ inr (still_next (world.start ++ entries_of kept.done) opened)
     ];
   }
 
 pub mbox_starts : MboxStartsKept
-mbox_starts frame found rest gone prefix recorded recorded_gone = record {
+mbox_starts world found rest gone prefix recorded recorded_gone = record {
   done = [];
   rest = rest;
-  prefix = prefix ∙ ap (λ l. l ++ rest) (sym (append-nil frame.had));
-  recorded = λ id. recorded id ∙ ap (λ (ms : List Message). has_id (ids_of ms) id) (sym (append-nil frame.had));
-  gone = subst (λ (ms : List Message). AllByRecursion (λ id. has_id (ids_of ms) id ≡ true) gone) (sym (append-nil frame.had)) recorded_gone;
-  stands = inl (record { intent = refl; file = sym (append-nil frame.start) });
+  prefix = prefix ∙ ap (λ l. l ++ rest) (sym (append-nil world.had));
+  recorded = λ id. recorded id ∙ ap (λ (ms : List Message). has_id (ids_of ms) id) (sym (append-nil world.had));
+  gone = subst (λ (ms : List Message). AllByRecursion (λ id. has_id (ids_of ms) id ≡ true) gone) (sym (append-nil world.had)) recorded_gone;
+  stands = inl (record { intent = refl; file = sym (append-nil world.start) });
 }
 
 -- ---- others write the file
 
-pub rewritten_kept : (frame : MboxFrame) (before : MboxSituation) (had : List Message) (file : List ℕ) → MboxKept frame before → AreAllRecorded frame before.account had
-    → MboxKept (mbox_frame_after frame (MboxRewritten had file)) (after_mbox_event before (MboxRewritten had file))
-rewritten_kept frame before had file kept is = record {
+pub rewritten_kept : (world : MboxWorld) (before : MboxState MboxAccount) (had : List Message) (file : List ℕ) → MboxKept world before → AreAllRecorded world before.kept had
+    → MboxKept (mbox_world_after world (MboxRewritten had file)) (after_mbox_event before (MboxRewritten had file))
+rewritten_kept world before had file kept is = record {
   done = [];
   rest = is.ahead;
   prefix = is.prefix ∙ ap (λ l. l ++ is.ahead) (sym (append-nil had));
   recorded = λ id. is.recorded id ∙ ap (λ (ms : List Message). has_id (ids_of ms) id) (sym (append-nil had));
-  gone = all_map (λ id. has_id (ids_of (frame.had ++ kept.done)) id ≡ true) (λ id. has_id (ids_of (had ++ [])) id ≡ true)
+  gone = all_map (λ id. has_id (ids_of (world.had ++ kept.done)) id ≡ true) (λ id. has_id (ids_of (had ++ [])) id ≡ true)
       (λ id e. ap (λ (ms : List Message). has_id (ids_of ms) id) (append-nil had) ∙ sym (is.recorded id) ∙ kept.recorded id ∙ e) before.gone kept.gone;
   stands = inl (record { intent = is.closed; file = sym (append-nil file) });
 }
 
 pub some_are_recorded : SomeAreRecorded
-some_are_recorded frame state kept closed = (
-  frame.had ++ kept.done,
+some_are_recorded world state kept closed = (
+  world.had ++ kept.done,
   record { closed = closed; ahead = kept.rest; prefix = kept.prefix; recorded = kept.recorded },
 )

@@ -12,7 +12,7 @@ use Rattle.mail_store.specs.FileName.{is_held, stem_of}
 use Rattle.fetch_rules.specs.Record.{is_delivered}
 use Rattle.run_law.specs.Mails.{ids_of, item_of, is_selected, selected, texts_of, without, WorldsShrink}
 use Rattle.run_law.specs.Accounts.{Account, files, copies}
-use Rattle.run_law.specs.Runs.{Frame, IsFrame, Situation, Event, HoldsOf, IsHeldOrTaken, IsNeither, Kept, LeavesMail, TakesAway, BringsBack, Forgets, Between, Expired, Withdrawn, TakenAway, BroughtBack, Forgotten, after_event, frame_after}
+use Rattle.run_law.specs.Runs.{World, IsSound, State, Event, HoldsOf, IsHeldOrTaken, IsNeither, Kept, LeavesMail, TakesAway, BringsBack, Forgets, Between, Expired, Withdrawn, TakenAway, BroughtBack, Forgotten, after_event, world_after}
 use Rattle.run_law.proofs.Lists.{all_map, all_both, all_append, all_filter, all_front, filter_all, filter-swap, front_is, map-map}
 use Rattle.run_law.proofs.Ids.{Distinct, HasTextsOf, all_ids_at, bytes_same, distinct_filter, distinct_is, distinct_take, has_filtered, through, whole_filter, whole_take}
 use Rattle.run_law.proofs.Core.{IsLegal, members}
@@ -21,9 +21,9 @@ use Rattle.run_law.proofs.Wants.{listing_distinct}
 
 -- ---- the record and the server
 
-pub forgotten_kept : (frame : Frame) (before : Situation) (after : Account) → Kept frame before → Forgets frame.account before.account after
-    → Kept frame (after_event before (Forgotten after))
-forgotten_kept frame before after kept forgets = record {
+pub forgotten_kept : (world : World) (before : State Account) (after : Account) → Kept world before → Forgets world.account before.kept after
+    → Kept world (after_event before (Forgotten after))
+forgotten_kept world before after kept forgets = record {
   done = kept.done;
   rest = kept.rest;
   prefix = kept.prefix;
@@ -33,23 +33,23 @@ forgotten_kept frame before after kept forgets = record {
   taken = kept.taken;
 }
 
-pub between_kept : (frame : Frame) (before : Situation) (after : Account) → Kept frame before → LeavesMail frame.account before.account after
-    → Kept frame (after_event before (Between after))
-between_kept frame before after kept same =
-    forgotten_kept frame before after kept (record { delivered = λ id e. ap (λ r. is_delivered r id) (sym same.rows) ∙ e; same = same.same })
+pub between_kept : (world : World) (before : State Account) (after : Account) → Kept world before → LeavesMail world.account before.kept after
+    → Kept world (after_event before (Between after))
+between_kept world before after kept same =
+    forgotten_kept world before after kept (record { delivered = λ id e. ap (λ r. is_delivered r id) (sym same.rows) ∙ e; same = same.same })
 
-pub expired_kept : (frame : Frame) (before : Situation) (ids : List (List ℕ)) → Kept frame before → AllByRecursion (IsHeldOrTaken frame.account before) ids
-    → Kept frame (after_event before (Expired ids))
-expired_kept frame before ids kept all = record {
+pub expired_kept : (world : World) (before : State Account) (ids : List (List ℕ)) → Kept world before → AllByRecursion (IsHeldOrTaken world.account before) ids
+    → Kept world (after_event before (Expired ids))
+expired_kept world before ids kept all = record {
   done = kept.done;
   rest = kept.rest;
   prefix = kept.prefix;
   holds = kept.holds;
   recorded = kept.recorded;
   gone = all_append (λ id. has_id (ids_of kept.done) id ≡ true) before.gone ids kept.gone
-      (all_map (IsHeldOrTaken frame.account before) (λ id. has_id (ids_of kept.done) id ≡ true)
+      (all_map (IsHeldOrTaken world.account before) (λ id. has_id (ids_of kept.done) id ≡ true)
       (λ id h.
-      let held = held_is_done frame before kept.done id (kept.holds id h.0) in
+      let held = held_is_done world before kept.done id (kept.holds id h.0) in
       let taken = all_ids_at (λ x. has_id (ids_of kept.done) x ≡ true) before.taken id kept.taken in
       grind (arith, h.1, held, taken)) ids all);
   taken = kept.taken;
@@ -57,45 +57,45 @@ expired_kept frame before ids kept all = record {
 
 -- ---- what a reader takes away and puts back
 
-pub taken_kept : (frame : Frame) (before : Situation) (id : List ℕ) (after : Account) → Kept frame before → TakesAway frame.account before.account id after
-    → Kept frame (after_event before (TakenAway id after))
-taken_kept frame before id after kept takes = record {
+pub taken_kept : (world : World) (before : State Account) (id : List ℕ) (after : Account) → Kept world before → TakesAway world.account before.kept id after
+    → Kept world (after_event before (TakenAway id after))
+taken_kept world before id after kept takes = record {
   done = kept.done;
   rest = kept.rest;
   prefix = kept.prefix;
   holds = λ other l.
-      let same = λ (e : bytes_eq other id ≡ true). ap (λ (x : List ℕ). copies (files after) (stem_of frame.account x)) (bytes_same other id e) ∙ takes.none in
+      let same = λ (e : bytes_eq other id ≡ true). ap (λ (x : List ℕ). copies (files after) (stem_of world.account x)) (bytes_same other id e) ∙ takes.none in
       let others = takes.others other l in
       let was = kept.holds other l in
       grind (arith, same, others, was);
   recorded = λ other e. kept.recorded other (ap (λ r. is_delivered r other) (sym takes.rows) ∙ e);
   gone = kept.gone;
-  taken = (held_is_done frame before kept.done id (kept.holds id takes.legal) takes.held, kept.taken);
+  taken = (held_is_done world before kept.done id (kept.holds id takes.legal) takes.held, kept.taken);
 }
 
 -- what is done has distinct ids
-pub done_distinct : (frame : Frame) → IsFrame frame → (done rest : List Message) → selected frame.max_size frame.all ≡ done ++ rest → Distinct (ids_of done)
-done_distinct frame is done rest e =
+pub done_distinct : (world : World) → IsSound world → (done rest : List Message) → selected world.max_size world.all ≡ done ++ rest → Distinct (ids_of done)
+done_distinct world is done rest e =
     subst (λ (l : List Message). Distinct (ids_of l)) (front_is done rest e)
-    (distinct_take (length done) (selected frame.max_size frame.all) (distinct_filter (is_selected frame.max_size) frame.all (distinct_is frame.all is.world.distinct)))
+    (distinct_take (length done) (selected world.max_size world.all) (distinct_filter (is_selected world.max_size) world.all (distinct_is world.all is.mail.distinct)))
 
 -- and legal ids
-pub done_legal : (frame : Frame) → IsFrame frame → (done rest : List Message) → selected frame.max_size frame.all ≡ done ++ rest → AllByRecursion IsLegal done
-done_legal frame is done rest e = all_front IsLegal done rest (subst (AllByRecursion IsLegal) e
-    (all_filter IsLegal (is_selected frame.max_size) frame.all (all_map IsMessage IsLegal (λ m h. h.legal) frame.all is.world.messages)))
+pub done_legal : (world : World) → IsSound world → (done rest : List Message) → selected world.max_size world.all ≡ done ++ rest → AllByRecursion IsLegal done
+done_legal world is done rest e = all_front IsLegal done rest (subst (AllByRecursion IsLegal) e
+    (all_filter IsLegal (is_selected world.max_size) world.all (all_map IsMessage IsLegal (λ m h. h.legal) world.all is.mail.messages)))
 
 -- an id that is done has all its texts there
-done_texts : (frame : Frame) → IsFrame frame → (done rest : List Message) → selected frame.max_size frame.all ≡ done ++ rest → (id : List ℕ) → HasTextsOf done frame.all id
-done_texts frame is done rest e id =
-    let distinct = distinct_is frame.all is.world.distinct in
-    let chosen = selected frame.max_size frame.all in
-    through done chosen frame.all id
-    (subst (λ (ms : List Message). HasTextsOf ms chosen id) (front_is done rest e) (whole_take (length done) chosen id (distinct_filter (is_selected frame.max_size) frame.all distinct)))
-    (whole_filter (is_selected frame.max_size) frame.all id distinct)
+done_texts : (world : World) → IsSound world → (done rest : List Message) → selected world.max_size world.all ≡ done ++ rest → (id : List ℕ) → HasTextsOf done world.all id
+done_texts world is done rest e id =
+    let distinct = distinct_is world.all is.mail.distinct in
+    let chosen = selected world.max_size world.all in
+    through done chosen world.all id
+    (subst (λ (ms : List Message). HasTextsOf ms chosen id) (front_is done rest e) (whole_take (length done) chosen id (distinct_filter (is_selected world.max_size) world.all distinct)))
+    (whole_filter (is_selected world.max_size) world.all id distinct)
 
-pub brought_kept : (frame : Frame) → IsFrame frame → (before : Situation) (id : List ℕ) (after : Account) → Kept frame before → BringsBack frame before id after
-    → Kept frame (after_event before (BroughtBack id after))
-brought_kept frame is before id after kept brings = record {
+pub brought_kept : (world : World) → IsSound world → (before : State Account) (id : List ℕ) (after : Account) → Kept world before → BringsBack world before id after
+    → Kept world (after_event before (BroughtBack id after))
+brought_kept world is before id after kept brings = record {
   done = kept.done;
   rest = kept.rest;
   prefix = kept.prefix;
@@ -109,13 +109,13 @@ brought_kept frame is before id after kept brings = record {
 }
   where
     Holds : List ℕ → Type 0
-    Holds other = copies (files after) (stem_of frame.account other) ≡ texts_of kept.done other
+    Holds other = copies (files after) (stem_of world.account other) ≡ texts_of kept.done other
 
     there : Holds id
-    there = brings.text ∙ sym (done_texts frame is kept.done kept.rest kept.prefix id (all_ids_at (λ x. has_id (ids_of kept.done) x ≡ true) before.taken id kept.taken brings.taken))
+    there = brings.text ∙ sym (done_texts world is kept.done kept.rest kept.prefix id (all_ids_at (λ x. has_id (ids_of kept.done) x ≡ true) before.taken id kept.taken brings.taken))
 
-    by : (other : List ℕ) → bytes_eq other id ≡ false → copies (files after) (stem_of frame.account other) ≡ copies (files before.account) (stem_of frame.account other)
-        → HoldsOf frame before kept.done other → HoldsOf frame (after_event before (BroughtBack id after)) kept.done other
+    by : (other : List ℕ) → bytes_eq other id ≡ false → copies (files after) (stem_of world.account other) ≡ copies (files before.kept) (stem_of world.account other)
+        → HoldsOf world before kept.done other → HoldsOf world (after_event before (BroughtBack id after)) kept.done other
     by other apart same (inl e) = inl (same ∙ e)
     by other apart same (inr (taken, none)) =
         inr (has_filtered (λ x. not (bytes_eq x id)) before.taken other ∙ and_from _ _ taken (ap not apart), same ∙ none)
@@ -129,31 +129,31 @@ worlds_shrink all ids is = record {
       (listing_distinct (without ids all) (distinct_filter (λ (m : Message). not (has_id ids m.uid)) all (distinct_is all is.distinct)));
 }
 
-pub frame_stays : (frame : Frame) → IsFrame frame → (event : Event) → IsFrame (frame_after frame event)
-frame_stays frame is (Withdrawn ids) = record { account = is.account; world = worlds_shrink frame.all ids is.world }
-frame_stays frame is event = is
+pub world_stays : (world : World) → IsSound world → (event : Event) → IsSound (world_after world event)
+world_stays world is (Withdrawn ids) = record { account = is.account; mail = worlds_shrink world.all ids is.mail }
+world_stays world is event = is
 
-module _ (frame : Frame) (is : IsFrame frame) (before : Situation) (ids : List (List ℕ)) (kept : Kept frame before) (all : AllByRecursion (IsNeither frame.account before) ids) where
+module _ (world : World) (is : IsSound world) (before : State Account) (ids : List (List ℕ)) (kept : Kept world before) (all : AllByRecursion (IsNeither world.account before) ids) where
   abbrev stays : Message → Bool
   stays m = not (has_id ids m.uid)
 
   -- what is done is held or was taken away, so it isn't withdrawn
   done_stays : (m : Message) → IsLegal m → has_id (ids_of kept.done) m.uid ≡ true → stays m ≡ true
   done_stays m legal done = ap not (false_from_ne_true (has_id ids m.uid) (λ withdrawn.
-      let neither = all_ids_at (IsNeither frame.account before) ids m.uid all withdrawn in
-      elim (done_is_held frame before kept.done m.uid (kept.holds m.uid legal) done) [
-        | inl held ↦ both_ways (is_held frame.account before.account.maildir m.uid) neither.0 held
+      let neither = all_ids_at (IsNeither world.account before) ids m.uid all withdrawn in
+      elim (done_is_held world before kept.done m.uid (kept.holds m.uid legal) done) [
+        | inl held ↦ both_ways (is_held world.account before.kept.maildir m.uid) neither.0 held
         | inr taken ↦ both_ways (has_id before.taken m.uid) neither.1 taken
       ]))
 
   all_stay : AllByRecursion (λ (m : Message). stays m ≡ true) kept.done
-  all_stay = all_both IsLegal (λ (m : Message). has_id (ids_of kept.done) m.uid ≡ true) (λ (m : Message). stays m ≡ true) done_stays kept.done (done_legal frame is kept.done kept.rest kept.prefix) (members kept.done)
+  all_stay = all_both IsLegal (λ (m : Message). has_id (ids_of kept.done) m.uid ≡ true) (λ (m : Message). stays m ≡ true) done_stays kept.done (done_legal world is kept.done kept.rest kept.prefix) (members kept.done)
 
-  pub withdrawn_kept : Kept (frame_after frame (Withdrawn ids)) (after_event before (Withdrawn ids))
+  pub withdrawn_kept : Kept (world_after world (Withdrawn ids)) (after_event before (Withdrawn ids))
   withdrawn_kept = record {
     done = kept.done;
     rest = without ids kept.rest;
-    prefix = filter-swap (is_selected frame.max_size) stays frame.all ∙ ap (filter stays) kept.prefix ∙ filter-append stays kept.done kept.rest
+    prefix = filter-swap (is_selected world.max_size) stays world.all ∙ ap (filter stays) kept.prefix ∙ filter-append stays kept.done kept.rest
         ∙ ap (λ l. l ++ without ids kept.rest) (filter_all stays kept.done all_stay);
     holds = kept.holds;
     recorded = kept.recorded;

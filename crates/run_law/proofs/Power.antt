@@ -11,7 +11,7 @@ use Rattle.mail_store.specs.FileName.{is_held, stem_of}
 use Rattle.run_law.specs.Mails.{ids_of, selected, texts_of, messages_after}
 use Rattle.run_law.specs.Accounts.{Account, files, copies}
 use Rattle.run_law.specs.Power.{AllMayBeLeft}
-use Rattle.run_law.specs.Runs.{Frame, IsFrame, Situation, HoldsOf, IsNeither, IsLastStored, Kept, LosesPower, PowerLost, after_event}
+use Rattle.run_law.specs.Runs.{World, IsSound, State, HoldsOf, IsNeither, IsLastStored, Kept, LosesPower, PowerLost, after_event}
 use Rattle.run_law.proofs.Lists.{all_back}
 use Rattle.run_law.proofs.Ids.{all_at, all_ids_at, bytes_same, bytes_self, bytes_swap, ids_both, no_texts, texts-append}
 use Rattle.run_law.proofs.Holds.{done_is_held, held_is_done}
@@ -61,28 +61,28 @@ all_apart P Q x f (id ∷ ids) none all =
 
 -- ---- a kept state
 
-module _ (frame : Frame) (is : IsFrame frame) (before : Situation) (after : Account) (kept : Kept frame before) (loses : LosesPower frame before after) where
-  abbrev left : Situation
+module _ (world : World) (is : IsSound world) (before : State Account) (after : Account) (kept : Kept world before) (loses : LosesPower world before after) where
+  abbrev left : State Account
   left = after_event before (PowerLost after)
 
   abbrev AreNone : List ℕ → Type 0
-  AreNone id = copies (files after) (stem_of frame.account id) ≡ []
+  AreNone id = copies (files after) (stem_of world.account id) ≡ []
 
   abbrev MayGo : List ℕ → Type 0
-  MayGo id = (has_id before.taken id ≡ true) ⊎ IsLastStored frame before id
+  MayGo id = (has_id before.taken id ≡ true) ⊎ IsLastStored world before id
 
   abbrev StayOrGo : List ℕ → Type 0
-  StayOrGo id = (copies (files after) (stem_of frame.account id) ≡ copies (files before.account) (stem_of frame.account id)) ⊎ (AreNone id × MayGo id)
+  StayOrGo id = (copies (files after) (stem_of world.account id) ≡ copies (files before.kept) (stem_of world.account id)) ⊎ (AreNone id × MayGo id)
 
   -- the files of these messages, of which none is the last that was stored
-  still_holds : (ms : List Message) (id : List ℕ) → (IsLastStored frame before id → has_id (ids_of ms) id ≡ false) → HoldsOf frame before ms id → StayOrGo id → HoldsOf frame left ms id
+  still_holds : (ms : List Message) (id : List ℕ) → (IsLastStored world before id → has_id (ids_of ms) id ≡ false) → HoldsOf world before ms id → StayOrGo id → HoldsOf world left ms id
   still_holds ms id absent (inl e) (inl same) = inl (same ∙ e)
   still_holds ms id absent (inr (taken, none)) (inl same) = inr (taken, same ∙ none)
   still_holds ms id absent was (inr (none, inl taken)) = inr (taken, none)
   still_holds ms id absent was (inr (none, inr lastly)) = inl (none ∙ sym (no_texts ms id (absent lastly)))
 
   -- nothing of what is done is gone
-  all_done : ((id : List ℕ) → is_legal_id id ≡ true → HoldsOf frame left kept.done id) → Kept frame left
+  all_done : ((id : List ℕ) → is_legal_id id ≡ true → HoldsOf world left kept.done id) → Kept world left
   all_done holds = record {
     done = kept.done;
     rest = kept.rest;
@@ -90,7 +90,7 @@ module _ (frame : Frame) (is : IsFrame frame) (before : Situation) (after : Acco
     holds = holds;
     recorded = λ id e. elim (loses.delivered id e) [
       | inl was ↦ kept.recorded id was
-      | inr (legal, inl held) ↦ held_is_done frame left kept.done id (holds id legal) held
+      | inr (legal, inl held) ↦ held_is_done world left kept.done id (holds id legal) held
       | inr (legal, inr taken) ↦ all_ids_at (λ x. has_id (ids_of kept.done) x ≡ true) before.taken id kept.taken taken
     ];
     gone = kept.gone;
@@ -101,51 +101,51 @@ module _ (frame : Frame) (is : IsFrame frame) (before : Situation) (after : Acco
     abbrev is_done : List ℕ → Bool
     is_done id = has_id (ids_of kept.done) id
 
-    chosen : selected frame.max_size frame.all ≡ front ++ last ∷ kept.rest
+    chosen : selected world.max_size world.all ≡ front ++ last ∷ kept.rest
     chosen = kept.prefix ∙ ap (λ l. l ++ kept.rest) are ∙ append_assoc front (last ∷ []) kept.rest
 
     last_done : is_done last.uid ≡ true
     last_done = ap (λ l. has_id (ids_of l) last.uid) are ∙ ids_both front (last ∷ []) last.uid ∙ or_right _ _ (or_left _ _ (bytes_self last.uid))
 
     last_legal : is_legal_id last.uid ≡ true
-    last_legal = all_at (λ x. is_legal_id x ≡ true) kept.done last.uid (done_legal frame is kept.done kept.rest kept.prefix) last_done
+    last_legal = all_at (λ x. is_legal_id x ≡ true) kept.done last.uid (done_legal world is kept.done kept.rest kept.prefix) last_done
 
-    last_there : IsNeither frame.account before last.uid → ⊥
-    last_there neither = elim (done_is_held frame before kept.done last.uid (kept.holds last.uid last_legal) last_done) [
-      | inl held ↦ both_ways (is_held frame.account before.account.maildir last.uid) neither.0 held
+    last_there : IsNeither world.account before last.uid → ⊥
+    last_there neither = elim (done_is_held world before kept.done last.uid (kept.holds last.uid last_legal) last_done) [
+      | inl held ↦ both_ways (is_held world.account before.kept.maildir last.uid) neither.0 held
       | inr taken ↦ both_ways (has_id before.taken last.uid) neither.1 taken
     ]
 
     -- an earlier one isn't the last that was stored
-    not_earlier : (id : List ℕ) → IsLastStored frame before id → has_id (ids_of front) id ≡ false
+    not_earlier : (id : List ℕ) → IsLastStored world before id → has_id (ids_of front) id ≡ false
     not_earlier id lastly = false_from_ne_true (has_id (ids_of front) id) (λ has.
-        last_there (comes_after (λ (m : Message). IsNeither frame.account before m.uid) front last kept.rest id has
-        (subst (λ l. AllByRecursion (λ (m : Message). IsNeither frame.account before m.uid) (messages_after id l)) chosen lastly.last)))
+        last_there (comes_after (λ (m : Message). IsNeither world.account before m.uid) front last kept.rest id has
+        (subst (λ l. AllByRecursion (λ (m : Message). IsNeither world.account before m.uid) (messages_after id l)) chosen lastly.last)))
 
     earlier : (id : List ℕ) → bytes_eq id last.uid ≡ false → is_done id ≡ true → has_id (ids_of front) id ≡ true
     earlier id apart done = in_front front last id apart (ap (λ l. has_id (ids_of l) id) (sym are) ∙ done)
 
     -- the last one stays, or was taken away before
-    keeps_last : HoldsOf frame left kept.done last.uid → Kept frame left
+    keeps_last : HoldsOf world left kept.done last.uid → Kept world left
     keeps_last holds = all_done (λ id legal. elim (cases_Bool (bytes_eq id last.uid)) [
-      | inl same ↦ subst (HoldsOf frame left kept.done) (sym (bytes_same id last.uid same)) holds
+      | inl same ↦ subst (HoldsOf world left kept.done) (sym (bytes_same id last.uid same)) holds
       | inr apart ↦ still_holds kept.done id (λ lastly. false_from_ne_true (is_done id) (λ done. both_ways (has_id (ids_of front) id) (not_earlier id lastly) (earlier id apart done)))
           (kept.holds id legal) (loses.mail id legal)
     ])
 
     -- the last one is gone, and wasn't taken away
-    module _ (none : AreNone last.uid) (lastly : IsLastStored frame before last.uid) (untaken : has_id before.taken last.uid ≡ false) where
+    module _ (none : AreNone last.uid) (lastly : IsLastStored world before last.uid) (untaken : has_id before.taken last.uid ≡ false) where
       texts_apart : (id : List ℕ) → bytes_eq id last.uid ≡ false → texts_of kept.done id ≡ texts_of front id
       texts_apart id apart = ap (λ l. texts_of l id) are ∙ texts-append front (last ∷ []) id
           ∙ ap (λ t. texts_of front id ++ t) (no_texts (last ∷ []) id (or_from (bytes_eq id last.uid) false apart refl)) ∙ append-nil (texts_of front id)
 
-      held_before : (id : List ℕ) → bytes_eq id last.uid ≡ false → HoldsOf frame before kept.done id → HoldsOf frame before front id
+      held_before : (id : List ℕ) → bytes_eq id last.uid ≡ false → HoldsOf world before kept.done id → HoldsOf world before front id
       held_before id apart (inl e) = inl (e ∙ texts_apart id apart)
       held_before id apart (inr taken) = inr taken
 
-      holds_front : (id : List ℕ) → is_legal_id id ≡ true → HoldsOf frame left front id
+      holds_front : (id : List ℕ) → is_legal_id id ≡ true → HoldsOf world left front id
       holds_front id legal = elim (cases_Bool (bytes_eq id last.uid)) [
-        | inl same ↦ subst (HoldsOf frame left front) (sym (bytes_same id last.uid same)) (inl (none ∙ sym (no_texts front last.uid (not_earlier last.uid lastly))))
+        | inl same ↦ subst (HoldsOf world left front) (sym (bytes_same id last.uid same)) (inl (none ∙ sym (no_texts front last.uid (not_earlier last.uid lastly))))
         | inr apart ↦ still_holds front id (not_earlier id) (held_before id apart (kept.holds id legal)) (loses.mail id legal)
       ]
 
@@ -153,27 +153,27 @@ module _ (frame : Frame) (is : IsFrame frame) (before : Situation) (after : Acco
       not_last : (p : List ℕ → Bool) (id : List ℕ) → p last.uid ≡ false → p id ≡ true → bytes_eq id last.uid ≡ false
       not_last p id absent there = false_from_ne_true (bytes_eq id last.uid) (λ same. both_ways (p last.uid) absent (ap p (sym (bytes_same id last.uid same)) ∙ there))
 
-      drops_last : Kept frame left
+      drops_last : Kept world left
       drops_last = record {
         done = front;
         rest = last ∷ kept.rest;
         prefix = chosen;
         holds = holds_front;
         recorded = λ id e. elim (loses.delivered id e) [
-          | inl was ↦ earlier id (not_last (is_delivered before.account.rows) id lastly.unrecorded was) (kept.recorded id was)
-          | inr (legal, inl held) ↦ held_is_done frame left front id (holds_front id legal) held
+          | inl was ↦ earlier id (not_last (is_delivered before.kept.rows) id lastly.unrecorded was) (kept.recorded id was)
+          | inr (legal, inl held) ↦ held_is_done world left front id (holds_front id legal) held
           | inr (legal, inr taken) ↦ earlier id (not_last (has_id before.taken) id untaken taken) (all_ids_at (λ x. is_done x ≡ true) before.taken id kept.taken taken)
         ];
         gone = all_apart (λ x. is_done x ≡ true) (λ x. has_id (ids_of front) x ≡ true) last.uid earlier before.gone lastly.on_server kept.gone;
         taken = all_apart (λ x. is_done x ≡ true) (λ x. has_id (ids_of front) x ≡ true) last.uid earlier before.taken untaken kept.taken;
       }
 
-    same_holds : copies (files after) (stem_of frame.account last.uid) ≡ copies (files before.account) (stem_of frame.account last.uid)
-        → HoldsOf frame before kept.done last.uid → HoldsOf frame left kept.done last.uid
+    same_holds : copies (files after) (stem_of world.account last.uid) ≡ copies (files before.kept) (stem_of world.account last.uid)
+        → HoldsOf world before kept.done last.uid → HoldsOf world left kept.done last.uid
     same_holds same (inl e) = inl (same ∙ e)
     same_holds same (inr (taken, none)) = inr (taken, same ∙ none)
 
-    by_last : StayOrGo last.uid → Kept frame left
+    by_last : StayOrGo last.uid → Kept world left
     by_last (inl same) = keeps_last (same_holds same (kept.holds last.uid last_legal))
     by_last (inr (none, inl taken)) = keeps_last (inr (taken, none))
     by_last (inr (none, inr lastly)) = elim (cases_Bool (has_id before.taken last.uid)) [
@@ -181,7 +181,7 @@ module _ (frame : Frame) (is : IsFrame frame) (before : Situation) (after : Acco
       | inr untaken ↦ drops_last none lastly untaken
     ]
 
-  pub power_kept : Kept frame left
+  pub power_kept : Kept world left
   power_kept = elim (last_of kept.done) [
     | inl empty ↦ all_done (λ id legal. still_holds kept.done id (λ lastly. ap (λ l. has_id (ids_of l) id) empty) (kept.holds id legal) (loses.mail id legal))
     | inr some ↦ by_last some.0 some.1 some.2 (loses.mail some.1.uid (last_legal some.0 some.1 some.2))
@@ -190,4 +190,4 @@ module _ (frame : Frame) (is : IsFrame frame) (before : Situation) (after : Acco
 -- ---- all may be left
 
 pub all_may_be_left : AllMayBeLeft
-all_may_be_left frame before after forgets = record { mail = λ id legal. inl (forgets.same id legal); delivered = λ id e. inl (forgets.delivered id e) }
+all_may_be_left world before after forgets = record { mail = λ id legal. inl (forgets.same id legal); delivered = λ id e. inl (forgets.delivered id e) }

@@ -9,10 +9,10 @@ use Rattle.mail_store.specs.Maildir.{Maildir}
 use Rattle.mail_terms.specs.UniqueId.{is_legal_id, has_id}
 use Rattle.pop3_wire.specs.World.{Message}
 use Rattle.fetch_rules.specs.Record.{is_delivered}
-use Rattle.run_law.specs.Accounts.{files, copies}
+use Rattle.run_law.specs.Accounts.{Account, files, copies}
 use Rattle.run_law.specs.Mails.{ids_of, messages_after}
 use Rattle.run_law.specs.Power.{OneMoreIsLast, with_maildir}
-use Rattle.run_law.specs.Runs.{Frame, IsFrame, Situation, IsNeither, IsLastStored, Kept}
+use Rattle.run_law.specs.Runs.{World, IsSound, State, IsNeither, IsLastStored, Kept}
 use Rattle.run_law.proofs.Holds.{done_is_held, unheld_if}
 use Rattle.run_law.proofs.Ids.{Distinct, all_ids_at, bytes_same, bytes_swap, distinct_filter, distinct_is, ids_both, no_texts}
 use Rattle.run_law.proofs.Lists.{all_back, all_both}
@@ -76,19 +76,19 @@ none_before (f ∷ front) rest d =
 
 -- ---- a kept state, and one more file
 
-module _ (frame : Frame) (is : IsFrame frame) (state : Situation) (kept : Kept frame state) (maildir : Maildir) (id : List ℕ) (legal : is_legal_id id ≡ true)
-    (none : copies (files state.account) (stem_of frame.account id) ≡ [])
-    (others : (other : List ℕ) → is_legal_id other ≡ true → bytes_eq other id ≡ false → copies maildir.files (stem_of frame.account other) ≡ copies (files state.account) (stem_of frame.account other))
+module _ (world : World) (is : IsSound world) (state : State Account) (kept : Kept world state) (maildir : Maildir) (id : List ℕ) (legal : is_legal_id id ≡ true)
+    (none : copies (files state.kept) (stem_of world.account id) ≡ [])
+    (others : (other : List ℕ) → is_legal_id other ≡ true → bytes_eq other id ≡ false → copies maildir.files (stem_of world.account other) ≡ copies (files state.kept) (stem_of world.account other))
     (untaken : has_id state.taken id ≡ false) where
   abbrev is_done : List ℕ → Bool
   is_done x = has_id (ids_of kept.done) x
 
-  abbrev now : Situation
+  abbrev now : State Account
   now = with_maildir maildir state
 
   undone : is_done id ≡ false
-  undone = false_from_ne_true (is_done id) (λ done. elim (done_is_held frame state kept.done id (kept.holds id legal) done) [
-    | inl held ↦ both_ways (is_held frame.account state.account.maildir id) (unheld_if frame state id none) held
+  undone = false_from_ne_true (is_done id) (λ done. elim (done_is_held world state kept.done id (kept.holds id legal) done) [
+    | inl held ↦ both_ways (is_held world.account state.kept.maildir id) (unheld_if world state id none) held
     | inr taken ↦ both_ways (has_id state.taken id) untaken taken
   ])
 
@@ -100,42 +100,42 @@ module _ (frame : Frame) (is : IsFrame frame) (state : Situation) (kept : Kept f
   among ids all x not = never (has_id ids) x not (λ e. all_ids_at (λ y. is_done y ≡ true) ids x all e)
 
   -- no file of a message that isn't done
-  no_copies : (x : List ℕ) → is_legal_id x ≡ true → is_done x ≡ false → copies (files state.account) (stem_of frame.account x) ≡ []
+  no_copies : (x : List ℕ) → is_legal_id x ≡ true → is_done x ≡ false → copies (files state.kept) (stem_of world.account x) ≡ []
   no_copies x l not = elim (kept.holds x l) [
     | inl e ↦ e ∙ no_texts kept.done x not
     | inr taken ↦ taken.1
   ]
 
-  neither : (m : Message) → is_legal_id m.uid ≡ true → (is_done m.uid ≡ false) × IsApart id m → IsNeither frame.account now m.uid
+  neither : (m : Message) → is_legal_id m.uid ≡ true → (is_done m.uid ≡ false) × IsApart id m → IsNeither world.account now m.uid
   neither m l (not, apart) = (
-    unheld_if frame now m.uid (others m.uid l apart ∙ no_copies m.uid l not),
+    unheld_if world now m.uid (others m.uid l apart ∙ no_copies m.uid l not),
     among state.taken kept.taken m.uid not,
   )
 
   abbrev Neither : Message → Type 0
-  Neither m = IsNeither frame.account now m.uid
+  Neither m = IsNeither world.account now m.uid
 
   distinct : Distinct (ids_of (kept.done ++ kept.rest))
-  distinct = subst (λ (l : List Message). Distinct (ids_of l)) kept.prefix (distinct_filter _ frame.all (distinct_is frame.all is.world.distinct))
+  distinct = subst (λ (l : List Message). Distinct (ids_of l)) kept.prefix (distinct_filter _ world.all (distinct_is world.all is.mail.distinct))
 
   later : AllByRecursion Neither (messages_after id kept.rest)
   later = all_both (λ (m : Message). is_legal_id m.uid ≡ true) (λ (m : Message). (is_done m.uid ≡ false) × IsApart id m) Neither neither (messages_after id kept.rest)
       (all_after (λ (m : Message). is_legal_id m.uid ≡ true) id kept.rest
-      (all_back (λ (m : Message). is_legal_id m.uid ≡ true) kept.done kept.rest (done_legal frame is (kept.done ++ kept.rest) [] (kept.prefix ∙ sym (append-nil (kept.done ++ kept.rest))))))
+      (all_back (λ (m : Message). is_legal_id m.uid ≡ true) kept.done kept.rest (done_legal world is (kept.done ++ kept.rest) [] (kept.prefix ∙ sym (append-nil (kept.done ++ kept.rest))))))
       (all_both (λ (m : Message). is_done m.uid ≡ false) (IsApart id) (λ (m : Message). (is_done m.uid ≡ false) × IsApart id m) (λ m not apart. (not, apart)) (messages_after id kept.rest)
       (all_after (λ (m : Message). is_done m.uid ≡ false) id kept.rest (none_before kept.done kept.rest distinct))
       (apart_after id kept.rest (distinct_back kept.done kept.rest distinct)))
 
-  pub lastly : IsLastStored frame now id
+  pub lastly : IsLastStored world now id
   lastly = record {
-    unrecorded = never (is_delivered state.account.rows) id undone (λ e. kept.recorded id e);
+    unrecorded = never (is_delivered state.kept.rows) id undone (λ e. kept.recorded id e);
     on_server = among state.gone kept.gone id undone;
     last = subst (λ (l : List Message). AllByRecursion Neither (messages_after id l)) (sym kept.prefix)
         (subst (AllByRecursion Neither) (sym (after_later id kept.done kept.rest undone)) later);
   }
 
 pub one_more_is_last : OneMoreIsLast
-one_more_is_last frame state maildir id is kept legal none others = elim (cases_Bool (has_id state.taken id)) [
+one_more_is_last world state maildir id is kept legal none others = elim (cases_Bool (has_id state.taken id)) [
   | inl taken ↦ inl taken
-  | inr untaken ↦ inr (lastly frame is state kept maildir id legal none others untaken)
+  | inr untaken ↦ inr (lastly world is state kept maildir id legal none others untaken)
 ]

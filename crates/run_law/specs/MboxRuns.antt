@@ -11,10 +11,11 @@ use Rattle.run_law.specs.Mails.{ids_of, is_selected, selected, without}
 use Rattle.run_law.specs.Steps.{Effect, IsHonest, ids_wanted}
 use Rattle.run_law.specs.Runs.{past_limit}
 use Rattle.run_law.specs.Mboxes.{MboxAccount, mbox_rows, mbox_wanted, entries, intent_of, IsClosed, IsOpen, MboxLeaves, MboxStores}
+use Rattle.run_law.specs.Accounts.{Account}
 
 -- an account, and the ids that are gone from the server
-pub record MboxSituation : Type 0 where
-  pub account : MboxAccount
+pub record MboxState (Account : Type 0) : Type 0 where
+  pub kept : Account
   pub gone : List (List ℕ)
 
 -- one session: its settings, how much mail had come, what it did, which ids its QUIT removed from the server,
@@ -26,26 +27,26 @@ pub record MboxVisit : Type 0 where
   pub vanished : List (List ℕ)
   pub after : MboxAccount
 
-abbrev pub after_visit : MboxSituation → MboxVisit → MboxSituation
-after_visit before visit = record { account = visit.after; gone = before.gone ++ visit.vanished }
+abbrev pub after_visit : MboxState MboxAccount → MboxVisit → MboxState MboxAccount
+after_visit before visit = record { kept = visit.after; gone = before.gone ++ visit.vanished }
 
 -- what stays throughout, but where others write the file or messages are withdrawn: the file before the first session, the
 -- messages that were recorded as delivered then, whose entries aren't looked for, the limit on sizes, and all mail
-pub record MboxFrame : Type 0 where
+pub record MboxWorld : Type 0 where
   pub start : List ℕ
   pub had : List Message
   pub max_size : ℕ
   pub all : List Message
 
-abbrev pub mbox_shown : MboxFrame → MboxSituation → MboxVisit → List Message
-mbox_shown frame before visit = maildrop_of frame.all visit.come before.gone
+abbrev pub mbox_shown : MboxWorld → MboxState MboxAccount → MboxVisit → List Message
+mbox_shown world before visit = maildrop_of world.all visit.come before.gone
 
-pub record MboxVisits (frame : MboxFrame) (before : MboxSituation) (visit : MboxVisit) : Type 0 where
-  pub same : visit.settings.max_size ≡ frame.max_size
+pub record MboxVisits (world : MboxWorld) (before : MboxState MboxAccount) (visit : MboxVisit) : Type 0 where
+  pub same : visit.settings.max_size ≡ world.max_size
   pub only_new : visit.settings.read_all ≡ false
-  pub step : MboxLeaves before.account visit.effect visit.after
-      ⊎ (MboxStores visit.settings before.account visit.effect visit.after
-      × IsHonest (mbox_wanted visit.settings before.account visit.effect) (mbox_shown frame before visit) visit.effect)
+  pub step : MboxLeaves before.kept visit.effect visit.after
+      ⊎ (MboxStores visit.settings before.kept visit.effect visit.after
+      × IsHonest (mbox_wanted visit.settings before.kept visit.effect) (mbox_shown world before visit) visit.effect)
   pub vanished : AllByRecursion (λ id. has_id visit.effect.begun id ≡ true) visit.vanished
 
 -- a session; messages that are gone from the server after they were recorded as delivered, or before; and others who write
@@ -56,17 +57,17 @@ pub data MboxEvent : Type 0 where
   MboxWithdrawn : List (List ℕ) → MboxEvent
   MboxRewritten : List Message → List ℕ → MboxEvent
 
-abbrev pub after_mbox_event : MboxSituation → MboxEvent → MboxSituation
+abbrev pub after_mbox_event : MboxState MboxAccount → MboxEvent → MboxState MboxAccount
 after_mbox_event before (MboxVisited visit) = after_visit before visit
 after_mbox_event before (MboxExpired ids) = record before { gone = before.gone ++ ids }
 after_mbox_event before (MboxWithdrawn ids) = before
-after_mbox_event before (MboxRewritten had file) = record before { account = record before.account { file = file } }
+after_mbox_event before (MboxRewritten had file) = record before { kept = record before.kept { file = file } }
 
 -- all mail goes on without the messages that are withdrawn; what others write is what the file begins with
-abbrev pub mbox_frame_after : MboxFrame → MboxEvent → MboxFrame
-mbox_frame_after frame (MboxWithdrawn ids) = record frame { all = without ids frame.all }
-mbox_frame_after frame (MboxRewritten had file) = record frame { start = file; had = had }
-mbox_frame_after frame _ = frame
+abbrev pub mbox_world_after : MboxWorld → MboxEvent → MboxWorld
+mbox_world_after world (MboxWithdrawn ids) = record world { all = without ids world.all }
+mbox_world_after world (MboxRewritten had file) = record world { start = file; had = had }
+mbox_world_after world _ = world
 
 -- the message isn't recorded as delivered, and no intent is open for it
 abbrev pub IsUnbegun : MboxAccount → List ℕ → Type 0
@@ -74,31 +75,31 @@ IsUnbegun account id = (is_delivered account.rows id ≡ false)
     × ((intent : Intent) → account.intent ≡ Some intent → bytes_eq intent.uid id ≡ false)
 
 -- no intent is open, and exactly these messages are recorded as delivered, which are the first of the selected ones
-pub record AreAllRecorded (frame : MboxFrame) (account : MboxAccount) (had : List Message) : Type 0 where
+pub record AreAllRecorded (world : MboxWorld) (account : MboxAccount) (had : List Message) : Type 0 where
   pub closed : account.intent ≡ None
   pub ahead : List Message
-  pub prefix : selected frame.max_size frame.all ≡ had ++ ahead
+  pub prefix : selected world.max_size world.all ≡ had ++ ahead
   pub recorded : (id : List ℕ) → is_delivered account.rows id ≡ has_id (ids_of had) id
 
 -- nothing else happens to the record between two sessions
-abbrev pub MboxHappens : MboxFrame → MboxSituation → MboxEvent → Type 0
-MboxHappens frame before (MboxVisited visit) = MboxVisits frame before visit
-MboxHappens frame before (MboxExpired ids) = AllByRecursion (λ id. is_delivered before.account.rows id ≡ true) ids
-MboxHappens frame before (MboxWithdrawn ids) = AllByRecursion (IsUnbegun before.account) ids
-MboxHappens frame before (MboxRewritten had file) = AreAllRecorded frame before.account had
+abbrev pub MboxHappens : MboxWorld → MboxState MboxAccount → MboxEvent → Type 0
+MboxHappens world before (MboxVisited visit) = MboxVisits world before visit
+MboxHappens world before (MboxExpired ids) = AllByRecursion (λ id. is_delivered before.kept.rows id ≡ true) ids
+MboxHappens world before (MboxWithdrawn ids) = AllByRecursion (IsUnbegun before.kept) ids
+MboxHappens world before (MboxRewritten had file) = AreAllRecorded world before.kept had
 
-abbrev pub MboxRun : MboxFrame → MboxSituation → List MboxEvent → Type 0
-MboxRun frame before [] = Unit {0}
-MboxRun frame before (event ∷ events) = MboxHappens frame before event
-    × MboxRun (mbox_frame_after frame event) (after_mbox_event before event) events
+abbrev pub MboxRun : MboxWorld → MboxState MboxAccount → List MboxEvent → Type 0
+MboxRun world before [] = Unit {0}
+MboxRun world before (event ∷ events) = MboxHappens world before event
+    × MboxRun (mbox_world_after world event) (after_mbox_event before event) events
 
-abbrev pub after_mbox_events : MboxSituation → List MboxEvent → MboxSituation
+abbrev pub after_mbox_events : MboxState MboxAccount → List MboxEvent → MboxState MboxAccount
 after_mbox_events before [] = before
 after_mbox_events before (event ∷ events) = after_mbox_events (after_mbox_event before event) events
 
-abbrev pub mbox_frame_after_all : MboxFrame → List MboxEvent → MboxFrame
-mbox_frame_after_all frame [] = frame
-mbox_frame_after_all frame (event ∷ events) = mbox_frame_after_all (mbox_frame_after frame event) events
+abbrev pub mbox_world_after_all : MboxWorld → List MboxEvent → MboxWorld
+mbox_world_after_all world [] = world
+mbox_world_after_all world (event ∷ events) = mbox_world_after_all (mbox_world_after world event) events
 
 -- the entries of these messages
 abbrev pub entries_of : List Message → List ℕ
@@ -115,94 +116,94 @@ pub record IsNextOpen (bytes : List ℕ) (rest : List Message) (account : MboxAc
 -- the recorded messages are exactly a prefix of the selected ones: those that were recorded before the first
 -- session, and some more. The file is the one before the first session, followed by the entries of these
 -- others, and by a prefix of the next entry only if its intent is open. What is gone is recorded
-pub record MboxKept (frame : MboxFrame) (state : MboxSituation) : Type 0 where
+pub record MboxKept (world : MboxWorld) (state : MboxState MboxAccount) : Type 0 where
   pub done : List Message
   pub rest : List Message
-  pub prefix : selected frame.max_size frame.all ≡ (frame.had ++ done) ++ rest
-  pub recorded : (id : List ℕ) → is_delivered state.account.rows id ≡ has_id (ids_of (frame.had ++ done)) id
-  pub gone : AllByRecursion (λ id. has_id (ids_of (frame.had ++ done)) id ≡ true) state.gone
-  pub stands : IsClosed (frame.start ++ entries_of done) state.account ⊎ IsNextOpen (frame.start ++ entries_of done) rest state.account
+  pub prefix : selected world.max_size world.all ≡ (world.had ++ done) ++ rest
+  pub recorded : (id : List ℕ) → is_delivered state.kept.rows id ≡ has_id (ids_of (world.had ++ done)) id
+  pub gone : AllByRecursion (λ id. has_id (ids_of (world.had ++ done)) id ≡ true) state.gone
+  pub stands : IsClosed (world.start ++ entries_of done) state.kept ⊎ IsNextOpen (world.start ++ entries_of done) rest state.kept
 
 -- an uncut session leaves out only what its limits exclude, and leaves no intent open
-pub record MboxEnds (frame : MboxFrame) (before : MboxSituation) (visit : MboxVisit) : Type 0 where
+pub record MboxEnds (world : MboxWorld) (before : MboxState MboxAccount) (visit : MboxVisit) : Type 0 where
   pub closed : visit.after.intent ≡ None
-  pub leaves_out : AllByRecursion (λ (m : Message). (is_delivered visit.after.rows m.uid ≡ true) ⊎ (is_selected frame.max_size m ≡ false)
+  pub leaves_out : AllByRecursion (λ (m : Message). (is_delivered visit.after.rows m.uid ≡ true) ⊎ (is_selected world.max_size m ≡ false)
       ⊎ (has_id (ids_wanted (past_limit visit.settings.max_count
-      (candidates visit.settings (mbox_rows before.account visit.effect) visit.effect.listing))) m.uid ≡ true))
-      (mbox_shown frame before visit)
+      (candidates visit.settings (mbox_rows before.kept visit.effect) visit.effect.listing))) m.uid ≡ true))
+      (mbox_shown world before visit)
 
 -- the file has the whole entry of a message with this id
-pub record HasEntry (frame : MboxFrame) (file id : List ℕ) : Type 0 where
+pub record HasEntry (world : MboxWorld) (file id : List ℕ) : Type 0 where
   pub message : Message
   pub id_is : message.uid ≡ id
   pub before : List Message
   pub after : List Message
-  pub selected_is : selected frame.max_size frame.all ≡ (frame.had ++ before) ++ message ∷ after
+  pub selected_is : selected world.max_size world.all ≡ (world.had ++ before) ++ message ∷ after
   pub behind : List ℕ
-  pub file_is : file ≡ frame.start ++ (entries_of before ++ (entry_of message.text ++ behind))
+  pub file_is : file ≡ world.start ++ (entries_of before ++ (entry_of message.text ++ behind))
 
 -- what a session promises: an uncut one ends in this way; each DELE begun is for a message whose whole entry
 -- is in the file, or that was recorded before the first session
-pub record MboxPromises (frame : MboxFrame) (before : MboxSituation) (visit : MboxVisit) : Type 0 where
-  pub ends : visit.effect.ended ≡ true → MboxEnds frame before visit
-  pub begun : AllByRecursion (λ id. (has_id (ids_of frame.had) id ≡ true) ⊎ HasEntry frame visit.after.file id) visit.effect.begun
+pub record MboxPromises (world : MboxWorld) (before : MboxState MboxAccount) (visit : MboxVisit) : Type 0 where
+  pub ends : visit.effect.ended ≡ true → MboxEnds world before visit
+  pub begun : AllByRecursion (λ id. (has_id (ids_of world.had) id ≡ true) ⊎ HasEntry world visit.after.file id) visit.effect.begun
 
 -- nothing is promised of what others do
-abbrev pub MboxPromised : MboxFrame → MboxSituation → MboxEvent → Type 0
-MboxPromised frame before (MboxVisited visit) = MboxPromises frame before visit
-MboxPromised frame before _ = Unit {0}
+abbrev pub MboxPromised : MboxWorld → MboxState MboxAccount → MboxEvent → Type 0
+MboxPromised world before (MboxVisited visit) = MboxPromises world before visit
+MboxPromised world before _ = Unit {0}
 
-abbrev pub AllMboxPromised : MboxFrame → MboxSituation → List MboxEvent → Type 0
-AllMboxPromised frame before [] = Unit {0}
-AllMboxPromised frame before (event ∷ events) = MboxPromised frame before event
-    × MboxKept (mbox_frame_after frame event) (after_mbox_event before event)
-    × AllMboxPromised (mbox_frame_after frame event) (after_mbox_event before event) events
+abbrev pub AllMboxPromised : MboxWorld → MboxState MboxAccount → List MboxEvent → Type 0
+AllMboxPromised world before [] = Unit {0}
+AllMboxPromised world before (event ∷ events) = MboxPromised world before event
+    × MboxKept (mbox_world_after world event) (after_mbox_event before event)
+    × AllMboxPromised (mbox_world_after world event) (after_mbox_event before event) events
 
 -- the law: from a kept state any events lead to a kept state, and each keeps its promises
 abbrev pub MboxKeptStaysKept : Type 0
-MboxKeptStaysKept = (frame : MboxFrame) (start : MboxSituation) (events : List MboxEvent) → IsWorld frame.all
-    → MboxKept frame start → MboxRun frame start events
-    → MboxKept (mbox_frame_after_all frame events) (after_mbox_events start events) × AllMboxPromised frame start events
+MboxKeptStaysKept = (world : MboxWorld) (start : MboxState MboxAccount) (events : List MboxEvent) → IsWorld world.all
+    → MboxKept world start → MboxRun world start events
+    → MboxKept (mbox_world_after_all world events) (after_mbox_events start events) × AllMboxPromised world start events
 
 -- the file is the one before the first session, followed by the entries of the next j of the selected messages
 -- after those that were recorded before the first session, in order, each once, and by at most a prefix of the
 -- next entry, which may be all of it and whose intent is then open. The recorded messages are exactly these
-pub record MboxHolds (frame : MboxFrame) (account : MboxAccount) : Type 0 where
+pub record MboxHolds (world : MboxWorld) (account : MboxAccount) : Type 0 where
   pub j : ℕ
   pub later : List Message
-  pub later_is : selected frame.max_size frame.all ≡ frame.had ++ later
+  pub later_is : selected world.max_size world.all ≡ world.had ++ later
   pub below : j ≤ length later
   pub rest : List ℕ
-  pub file : account.file ≡ (frame.start ++ entries_of (take j later)) ++ rest
+  pub file : account.file ≡ (world.start ++ entries_of (take j later)) ++ rest
   pub at_most : ((account.intent ≡ None) × (rest ≡ []))
       ⊎ ((next : Message) × (behind : List ℕ) × (slice_get later j ≡ Some next) × (entry_of next.text ≡ rest ++ behind)
-      × (account.intent ≡ Some (intent_of (frame.start ++ entries_of (take j later)) next.uid next.text)))
-  pub ids : (id : List ℕ) → is_delivered account.rows id ≡ has_id (ids_of (frame.had ++ take j later)) id
-  pub entered : (id : List ℕ) → is_delivered account.rows id ≡ true → (has_id (ids_of frame.had) id ≡ true) ⊎ HasEntry frame account.file id
+      × (account.intent ≡ Some (intent_of (world.start ++ entries_of (take j later)) next.uid next.text)))
+  pub ids : (id : List ℕ) → is_delivered account.rows id ≡ has_id (ids_of (world.had ++ take j later)) id
+  pub entered : (id : List ℕ) → is_delivered account.rows id ≡ true → (has_id (ids_of world.had) id ≡ true) ⊎ HasEntry world account.file id
   -- if nothing of a next entry is left, and the first file holds texts, this file holds the same and then
   -- those of these messages
-  pub texts : rest ≡ [] → (first : List (List ℕ)) → MboxFile frame.start first
+  pub texts : rest ≡ [] → (first : List (List ℕ)) → MboxFile world.start first
       → MboxFile account.file (first ++ map (λ (m : Message). m.text) (take j later))
 
 abbrev pub MboxKeptHolds : Type 0
-MboxKeptHolds = (frame : MboxFrame) (state : MboxSituation) → IsWorld frame.all → MboxKept frame state → MboxHolds frame state.account
+MboxKeptHolds = (world : MboxWorld) (state : MboxState MboxAccount) → IsWorld world.all → MboxKept world state → MboxHolds world state.kept
 
 -- an account without an open intent that records exactly a prefix of the selected messages as delivered is
 -- kept with any file. An empty record is such a record, and a record of version 1 has no open intent
 abbrev pub MboxStartsKept : Type 0
-MboxStartsKept = (frame : MboxFrame) (rows : List Row) (rest : List Message) (gone : List (List ℕ))
-    → selected frame.max_size frame.all ≡ frame.had ++ rest
-    → ((id : List ℕ) → is_delivered rows id ≡ has_id (ids_of frame.had) id)
-    → AllByRecursion (λ id. has_id (ids_of frame.had) id ≡ true) gone
-    → MboxKept frame (record { account = record { rows = rows; intent = None; file = frame.start }; gone = gone })
+MboxStartsKept = (world : MboxWorld) (rows : List Row) (rest : List Message) (gone : List (List ℕ))
+    → selected world.max_size world.all ≡ world.had ++ rest
+    → ((id : List ℕ) → is_delivered rows id ≡ has_id (ids_of world.had) id)
+    → AllByRecursion (λ id. has_id (ids_of world.had) id ≡ true) gone
+    → MboxKept world (record { kept = record { rows = rows; intent = None; file = world.start }; gone = gone })
 
 -- a law: in a kept state without an open intent some messages are exactly the recorded ones, so others may write the file
 abbrev pub SomeAreRecorded : Type 0
-SomeAreRecorded = (frame : MboxFrame) (state : MboxSituation) → MboxKept frame state → state.account.intent ≡ None
-    → (had : List Message) × AreAllRecorded frame state.account had
+SomeAreRecorded = (world : MboxWorld) (state : MboxState MboxAccount) → MboxKept world state → state.kept.intent ≡ None
+    → (had : List Message) × AreAllRecorded world state.kept had
 
 -- in every situation there is a session that ends
 abbrev pub MboxCanEnd : Type 0
-MboxCanEnd = (frame : MboxFrame) (before : MboxSituation) (settings : Settings) (come now : ℕ)
-    → IsWorld frame.all → settings.max_size ≡ frame.max_size → settings.read_all ≡ false
-    → (visit : MboxVisit) × MboxVisits frame before visit × (visit.effect.ended ≡ true) × (visit.come ≡ come)
+MboxCanEnd = (world : MboxWorld) (before : MboxState MboxAccount) (settings : Settings) (come now : ℕ)
+    → IsWorld world.all → settings.max_size ≡ world.max_size → settings.read_all ≡ false
+    → (visit : MboxVisit) × MboxVisits world before visit × (visit.effect.ended ≡ true) × (visit.come ≡ come)

@@ -9,7 +9,7 @@ use Rattle.rc_file.specs.declared.settings.Settings.{Settings}
 use Rattle.run_law.specs.Steps.{Effect}
 use Rattle.run_law.specs.Sessions.{IsBegun, Reads, BeginsOne, Served}
 use Rattle.run_law.specs.Mboxes.{MboxAccount, mbox_wanted, MboxLeaves, MboxStores}
-use Rattle.run_law.specs.MboxRuns.{MboxFrame, MboxSituation, MboxVisit, MboxVisits}
+use Rattle.run_law.specs.MboxRuns.{MboxWorld, MboxState, MboxVisit, MboxVisits}
 
 -- neither RETR nor DELE
 abbrev pub AsksForNoMessage : Command → Type 0
@@ -43,12 +43,12 @@ pub record MboxLink : Type 0 where
   pub after : MboxAccount
 
 -- a session of the code, over an honest link
-pub record MboxLinks (frame : MboxFrame) (before : MboxSituation) (link : MboxLink) : Type 0 where
-  pub same : link.settings.max_size ≡ frame.max_size
+pub record MboxLinks (world : MboxWorld) (before : MboxState MboxAccount) (link : MboxLink) : Type 0 where
+  pub same : link.settings.max_size ≡ world.max_size
   pub only_new : link.settings.read_all ≡ false
   pub effect : Effect
-  pub session : MboxSession link.settings before.account link.sent link.got effect link.after
-  pub served : Served (maildrop_of frame.all link.come before.gone) link.sent link.got link.vanished
+  pub session : MboxSession link.settings before.kept link.sent link.got effect link.after
+  pub served : Served (maildrop_of world.all link.come before.gone) link.sent link.got link.vanished
 
 abbrev pub mbox_visit_of : MboxLink → Effect → MboxVisit
 mbox_visit_of link effect = record {
@@ -61,5 +61,5 @@ mbox_visit_of link effect = record {
 
 -- a law: a session over an honest link is a visit of the law over runs
 abbrev pub MboxLinksAreVisits : Type 0
-MboxLinksAreVisits = (frame : MboxFrame) (before : MboxSituation) (link : MboxLink)
-    → (l : MboxLinks frame before link) → MboxVisits frame before (mbox_visit_of link l.effect)
+MboxLinksAreVisits = (world : MboxWorld) (before : MboxState MboxAccount) (link : MboxLink)
+    → (l : MboxLinks world before link) → MboxVisits world before (mbox_visit_of link l.effect)

@@ -4,21 +4,21 @@ use Rattle.mail_store.specs.FileName.{stem_of}
 use Rattle.mail_store.specs.Maildir.{Maildir}
 use Rattle.mail_terms.specs.UniqueId.{has_id, is_legal_id}
 use Rattle.run_law.specs.Accounts.{Account, copies, files}
-use Rattle.run_law.specs.Runs.{Frame, IsFrame, Situation, Kept, Forgets, IsLastStored, LosesPower}
+use Rattle.run_law.specs.Runs.{World, IsSound, State, Kept, Forgets, IsLastStored, LosesPower}
 
 -- a law: a loss of power may leave all files, with a record that shows the same or less
 abbrev pub AllMayBeLeft : Type 0
-AllMayBeLeft = (frame : Frame) (before : Situation) (after : Account) → Forgets frame.account before.account after
-    → LosesPower frame before after
+AllMayBeLeft = (world : World) (before : State Account) (after : Account) → Forgets world.account before.kept after
+    → LosesPower world before after
 
 -- the situation with this Maildir
-abbrev pub with_maildir : Maildir → Situation → Situation
-with_maildir maildir state = record state { account = record state.account { maildir = maildir } }
+abbrev pub with_maildir : Maildir → State Account → State Account
+with_maildir maildir state = record state { kept = record state.kept { maildir = maildir } }
 
 -- a law: if one more message is held than in a kept state, it was taken away before, or a loss of power may take its file
 abbrev pub OneMoreIsLast : Type 0
-OneMoreIsLast = (frame : Frame) (state : Situation) (maildir : Maildir) (id : List ℕ) → IsFrame frame → Kept frame state → is_legal_id id ≡ true
-    → copies (files state.account) (stem_of frame.account id) ≡ []
+OneMoreIsLast = (world : World) (state : State Account) (maildir : Maildir) (id : List ℕ) → IsSound world → Kept world state → is_legal_id id ≡ true
+    → copies (files state.kept) (stem_of world.account id) ≡ []
     → ((other : List ℕ) → is_legal_id other ≡ true → bytes_eq other id ≡ false
-    → copies maildir.files (stem_of frame.account other) ≡ copies (files state.account) (stem_of frame.account other))
-    → (has_id state.taken id ≡ true) ⊎ IsLastStored frame (with_maildir maildir state) id
+    → copies maildir.files (stem_of world.account other) ≡ copies (files state.kept) (stem_of world.account other))
+    → (has_id state.taken id ≡ true) ⊎ IsLastStored world (with_maildir maildir state) id

@@ -14,7 +14,7 @@ use Rattle.run_law.specs.Accounts.{Account}
 use Rattle.run_law.specs.Steps.{Effect, Leaves, Stores, wanted_at}
 use Rattle.pop3_wire.specs.Reading.{WholeReply}
 use Rattle.run_law.specs.Readings.{Talked, Retrieves, IsListed}
-use Rattle.run_law.specs.Runs.{Frame, Situation, Visits}
+use Rattle.run_law.specs.Runs.{World, State, Visits}
 
 -- a DELE's number counts from 1, the id of its message is among those begun, and no other message of the
 -- listing has that id
@@ -79,16 +79,16 @@ pub record Link : Type 0 where
   pub after : Account
 
 -- a session of the code, over an honest link
-pub record Links (frame : Frame) (before : Situation) (link : Link) : Type 0 where
-  pub same : link.settings.max_size ≡ frame.max_size
+pub record Links (world : World) (before : State Account) (link : Link) : Type 0 where
+  pub same : link.settings.max_size ≡ world.max_size
   pub effect : Effect
-  pub session : Session link.settings frame.account before.account link.sent link.got effect link.after
-  pub served : Served (maildrop_of frame.all link.come before.gone) link.sent link.got link.vanished
+  pub session : Session link.settings world.account before.kept link.sent link.got effect link.after
+  pub served : Served (maildrop_of world.all link.come before.gone) link.sent link.got link.vanished
 
 -- a law: a session over an honest link is a visit of the law over runs
 abbrev pub LinksAreVisits : Type 0
-LinksAreVisits = (frame : Frame) (before : Situation) (link : Link) → (l : Links frame before link)
-    → Visits frame before (record {
+LinksAreVisits = (world : World) (before : State Account) (link : Link) → (l : Links world before link)
+    → Visits world before (record {
       settings = link.settings;
       come = link.come;
       effect = l.effect;

@@ -14,7 +14,6 @@ returns g c = lemmas.sessions_and_power (record {
   last = c.one_more_is_last.ensures;
   differ = c.stems_differ.ensures;
   named = lemmas.named_file c.names_have_stems.ensures c.names_are_bases.ensures;
-  digits = c.account_texts_are_digits.ensures;
   steady = c.steady_files_keep.ensures;
   unsaved = c.unsaved_files_keep.ensures;
   flagged = c.held_is_delivered.ensures;
@@ -23,7 +22,6 @@ returns g c = lemmas.sessions_and_power (record {
     visits = c.links_are_visits.ensures;
     stays = c.kept_states.ensures;
     holds_what_is_left = c.holds_what_is_left.ensures;
-    digits = c.account_texts_are_digits.ensures;
     one = c.files_stand_for_one_record.ensures;
     shrink = c.worlds_shrink.ensures;
   };
