@@ -38,18 +38,18 @@ use Rattle.fetch_runs.specs.Conversations.{tail_behind}
 use Rattle.fetch_runs.specs.Steps.{holds, SaysOnly, StopsAtList, IsStep, SessionIsAStep}
 use Rattle.fetch_runs.proofs.TalkConversation.{tail_for, Gained, talks}
 use Rattle.pop3_client.specs.Turns.{Turn}
-use Rattle.fetch_runs.proofs.Courses.{Course, course, Way, Idle, Deals, way_of, begun_of, found_of, IsOfTask}
+use Rattle.fetch_runs.proofs.Courses.{Course, course, SessionCourse, Idle, Deals, session_course_of, begun_of, found_of, IsOfTask}
 use Rattle.fetch_runs.proofs.StatePlan.{IsRight, deleted_in, deleted_by}
 use Rattle.fetch_runs.proofs.StateDone.{number_found, number_of, text_found, Laws, effect_of}
 use Rattle.fetch_runs.proofs.StateCases.{is_ended, UnsavedIn}
-use Rattle.fetch_runs.proofs.StateLaw.{RefusedIn, WayLeads, way_leads}
+use Rattle.fetch_runs.proofs.StateLaw.{RefusedIn, CourseLeads, way_leads}
 use Rattle.fetch_runs.proofs.TalkCommands.{all_back, all_weaker, begins_of}
 use Rattle.fetch_runs.proofs.TalkSpeech.{Speaks}
 use Rattle.run_law.specs.Mboxes.{MboxLeaves, mbox_wanted, MboxAccount, MboxStores, settled, entries}
 use Rattle.run_law.specs.MboxSessions.{AsksForNoMessage, AsksForNone, MboxSession as Stepped}
 use Rattle.run_law.specs.MboxTold.{MboxToldStores}
 use Rattle.fetch_runs.specs.MboxSteps.{mbox_holds, IsMboxStep, MboxSessionIsAStep}
-use Rattle.fetch_runs.proofs.MboxState.{WayLeaves, way_leaves}
+use Rattle.fetch_runs.proofs.MboxState.{CourseLeaves, way_leaves}
 use Rattle.pop3_wire.specs.Body.{kept, text_of, unstuffed}
 use Rattle.pop3_wire.specs.Reading.{WholeReply}
 use Rattle.mail_terms.specs.Text.{IsWhole}
@@ -125,7 +125,7 @@ unsaved_is (Err cut) outcome is (inr fault) = inr (is ∙ ap WasCut fault)
 
 module _ (stores : ToldStores) (settings : Settings) (account : List ℕ) (now : ℕ) (link : Link) (before : Kept) (rows : List Row) (report : Report) (link' : Link) (after : Kept) (result : Result (Unit {0}) Cut)
     (outcome_is : report.outcome ≡ outcome_of result) (lines : List ReportLine) (counts : report.retrieved ≡ retrieved_in lines) (keeps : KeepsRows before.file.content rows) where
-  joined : (way : Way) → WayLeads settings account now result way rows before after lines → Gained way (tail_for result) link link' → IsStep settings account now link before rows report link' after
+  joined : (session_course : SessionCourse) → CourseLeads settings account now result session_course rows before after lines → Gained session_course (tail_for result) link link' → IsStep settings account now link before rows report link' after
   joined Idle left said = record {
     sent = said.sent;
     got = said.got;
@@ -192,7 +192,7 @@ module _ (stores : ToldStores) (settings : Settings) (account : List ℕ) (now :
 pub session_is_a_step : Laws → ToldStores → TurnsJoin → ConversationsArePaced → FrontsAreAsked → SessionIsAStep
 session_is_a_step laws stores joining paced fronts settings account now link before rows report link' after valid keeps is =
     joined stores settings account now link before rows report link' after is.result is.reports.outcome_is is.notes.lines is.reports.retrieved_is keeps
-    (way_of settings (AsFiles account) now link (keeps_files before) report link' (keeps_files after) is) (way_leads laws settings account now (at link []) before is.result is.mid after is.notes rows keeps is.proceeds)
+    (session_course_of settings (AsFiles account) now link (keeps_files before) report link' (keeps_files after) is) (way_leads laws settings account now (at link []) before is.result is.mid after is.notes rows keeps is.proceeds)
     (talks joining paced fronts settings (AsFiles account) now link (keeps_files before) report link' (keeps_files after) valid is)
 
 -- ---- without a task no message is asked for
@@ -220,7 +220,7 @@ asks_none tasks commands part none all next = (
 module _ (stores : MboxToldStores) (settings : Settings) (now : ℕ) (link : Link) (before : MboxKept) (held : Held) (report : Report) (link' : Link) (after : MboxKept) (result : Result (Unit {0}) Cut)
     (outcome_is : report.outcome ≡ outcome_of result) (lines : List ReportLine) (counts : report.retrieved ≡ retrieved_in lines) (keeps : Keeps before.file.content held) where
   -- no task was begun
-  quiet : {way : Way} (c : Course) → begun_of c ≡ [] → (said : Gained way (tail_for result) link link') (commands : List Command) (asked : Asked commands said.sent)
+  quiet : {session_course : SessionCourse} (c : Course) → begun_of c ≡ [] → (said : Gained session_course (tail_for result) link link') (commands : List Command) (asked : Asked commands said.sent)
       → AllByRecursion (IsOfTask (begun_of c)) commands → BeginsOne (IsOfTask (begun_of c)) asked.part
       → MboxLeaves (mbox_holds held before.mbox) (effect_of now (is_ended result) c) (mbox_holds held after.mbox) → retrieved_in lines ≡ 0 → Keeps after.file.content held
       → IsMboxStep settings now link before held report link' after
@@ -247,7 +247,7 @@ module _ (stores : MboxToldStores) (settings : Settings) (now : ℕ) (link : Lin
       begun : (command : Command) → IsOfTask (begun_of c) command → IsBegun c.items (deleted_by c.items (begun_of c)) command
       begun = begun_one [] no_maildir c.items (begun_of c) (subst (AllByRecursion (IsRight [] no_maildir c.items)) (sym none) tt)
 
-  mbox_joined : (way : Way) → WayLeaves settings now result way held (keeps_entries before) (keeps_entries after) lines → Gained way (tail_for result) link link' → IsMboxStep settings now link before held report link' after
+  mbox_joined : (session_course : SessionCourse) → CourseLeaves settings now result session_course held (keeps_entries before) (keeps_entries after) lines → Gained session_course (tail_for result) link link' → IsMboxStep settings now link before held report link' after
   mbox_joined Idle left said =
       quiet (course [] [] [] []) refl said said.exchanges.0 said.exchanges.1 said.exchanges.2 said.exchanges.3
       (record { rows = refl; intent = refl; file = inl (ap (λ (k : Keeping). mail_in k.store.mbox.content) left.1); begun = refl; ended = left.0 })
@@ -282,7 +282,7 @@ module _ (stores : MboxToldStores) (settings : Settings) (now : ℕ) (link : Lin
 pub mbox_session_is_a_step : Laws → MboxToldStores → TurnsJoin → ConversationsArePaced → FrontsAreAsked → MboxSessionIsAStep
 mbox_session_is_a_step laws stores joining paced fronts settings now link before held report link' after valid keeps is =
     mbox_joined stores settings now link before held report link' after is.result is.reports.outcome_is is.notes.lines is.reports.retrieved_is keeps
-    (way_of settings AsEntries now link (keeps_entries before) report link' (keeps_entries after) is) (way_leaves laws settings now (at link []) (keeps_entries before) is.result is.mid (keeps_entries after) is.notes held keeps is.proceeds)
+    (session_course_of settings AsEntries now link (keeps_entries before) report link' (keeps_entries after) is) (way_leaves laws settings now (at link []) (keeps_entries before) is.result is.mid (keeps_entries after) is.notes held keeps is.proceeds)
     (talks joining paced fronts settings AsEntries now link (keeps_entries before) report link' (keeps_entries after) valid is)
 
 -- ---- after a session that ended, the mboxrd file also stands for the texts that came: these are whole

@@ -39,9 +39,9 @@ abbrev pub course : List Item → List Done → List WholeReply → List Task �
 course items taken spare under = record { items = items; taken = taken; spare = spare; under = under }
 
 -- a session that never dealt with a listing, or one that did
-pub data Way : Type 0 where
-  Idle : Way
-  Deals : Course → Way
+pub data SessionCourse : Type 0 where
+  Idle : SessionCourse
+  Deals : Course → SessionCourse
 
 -- a text that was stored, though its id may not be recorded
 abbrev pub stored_done : ℕ → List ℕ → WholeReply → Done
@@ -91,16 +91,16 @@ course_dealt settings target now old before result new after notes dealt =
     course_carries settings target dealt.items now dealt.mid before.store before.file [] result new after.store after.file notes.lines notes.skipped dealt.carries
 
 abbrev pub way_proceeded : (settings : Settings) (target : Target) (now : ℕ) (old : Place) (before : Keeping) (result : Result (Unit {0}) Cut) (new : Place) (after : Keeping) (notes : Noted)
-    → Proceeds settings target now old before result new after notes → Way
+    → Proceeds settings target now old before result new after notes → SessionCourse
 way_proceeded settings target now old before (Ok done) new after notes dealt = Deals (course_dealt settings target now old before (Ok done) new after notes dealt)
 way_proceeded settings target now old before (Err cut) new after notes (inl stopped) = Idle
 way_proceeded settings target now old before (Err cut) new after notes (inr (inl wanting)) = Idle
 way_proceeded settings target now old before (Err cut) new after notes (inr (inr dealt)) = Deals (course_dealt settings target now old before (Err cut) new after notes dealt)
 
 -- how far a session came
-abbrev pub way_of : (settings : Settings) (target : Target) (now : ℕ) (link : Link) (before : Keeping) (report : Report) (link' : Link) (after : Keeping)
-    → SessionIn settings target now link before report link' after → Way
-way_of settings target now link before report link' after is = way_proceeded settings target now (at link []) before is.result is.mid after is.notes is.proceeds
+abbrev pub session_course_of : (settings : Settings) (target : Target) (now : ℕ) (link : Link) (before : Keeping) (report : Report) (link' : Link) (after : Keeping)
+    → SessionIn settings target now link before report link' after → SessionCourse
+session_course_of settings target now link before report link' after is = way_proceeded settings target now (at link []) before is.result is.mid after is.notes is.proceeds
 
 -- ---- what was retrieved
 

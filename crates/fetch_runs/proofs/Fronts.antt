@@ -168,7 +168,7 @@ module _ (joins : TurnsJoin) (settings : Settings) (account : List ℕ) (now : �
   here = scene there (in_maildir (maildir (files_of account front))) (file u.ready.file.failures) rows (lines_of front)
 
   brought : Gained before.maildir (maildir (files_of account front)) (files_of account front)
-  brought = record { came = refl; there = refl; calm = λ none. none; failures = omega arith }
+  brought = record { came = refl; there = refl; none_begun = λ none. none; failures = omega arith }
 
   went_first : Steady left.file.content (none_open rows) → Went (AsFiles account) front ready here
   went_first steady = record {
@@ -303,7 +303,7 @@ module _ (joins : TurnsJoin) (settings : Settings) (account : List ℕ) (now : �
       stored = record {
         came = sym (append_assoc before.maildir.files (files_of account front) (file_from account is.uid reply ∷ []));
         there = refl;
-        calm = λ none. none;
+        none_begun = λ none. none;
         failures = omega arith;
       };
       saves = (refl, λ steady. inl (keeps left.file.content (none_open rows) steady));

@@ -18,9 +18,9 @@ use Rattle.fetch_session.specs.Target.{no_maildir, AsEntries, Stores, mail_in, i
 use Rattle.run_law.specs.Steps.{Effect}
 use Rattle.run_law.specs.Mboxes.{MboxAccount, settled, mbox_wanted, entries, intent_of as law_intent}
 use Rattle.run_law.specs.MboxTold.{bytes_at, OpensAt, AllRecorded, LastUnrecorded, MboxTold}
-use Rattle.fetch_runs.proofs.Courses.{found_in, found_by, Course, course, stored_done, course_stopped, course_does, found_of, begun_of, Way, Idle, Deals, course_carried, course_carries, way_proceeded}
+use Rattle.fetch_runs.proofs.Courses.{found_in, found_by, Course, course, stored_done, course_stopped, course_does, found_of, begun_of, SessionCourse, Idle, Deals, course_carried, course_carries, way_proceeded}
 use Rattle.fetch_runs.proofs.StatePlan.{key, fetched_in, fetched, IsRight}
-use Rattle.fetch_runs.proofs.StateDone.{text_found, texts_by, same_length, number_found, number_of, Laws, Ground, rows_on, messages_on, tasks_on, rows_after, Part, effect_of, right_part, records_part, wanted_are}
+use Rattle.fetch_runs.proofs.StateDone.{text_found, texts_by, same_length, number_found, number_of, Laws, Inputs, rows_on, messages_on, tasks_on, rows_after, Part, effect_of, right_part, records_part, wanted_are}
 use Rattle.std.proofs.lemmas.Option.{same_Some}
 use Rattle.fetch_rules.specs.Record.{Row, Intent, Held, none_open, marked, merged}
 use Rattle.mail_store.specs.FlatFile.{Stored}
@@ -37,7 +37,7 @@ use Rattle.fetch_session.specs.Record.{Keeps, Steady, with_open}
 use Rattle.fetch_session.specs.Mbox.{IsIntended, IsTakenBack, MarksEntry, RefusesEntry, intent_of}
 use Rattle.fetch_session.specs.Scene.{Scene, EntryNotSaved, Went, Fell, Stops, Does, scene}
 use Rattle.fetch_runs.specs.MboxSteps.{mbox_holds}
-use Rattle.fetch_runs.proofs.StateCases.{is_ended, UnsavedIn, unsaved_why, Starts, Tally, tally_right, tally_numbers, tally_number, mid_rows, mid_keeps, part_all, tally_all, part_done, tally_bare, tally_before, full_found, one_found, tally_spare, tally_old, tally_new, full_rows, tally_none}
+use Rattle.fetch_runs.proofs.StateCases.{is_ended, UnsavedIn, unsaved_why, Starts, Tally, tally_right, tally_numbers, tally_number, mid_rows, mid_keeps, part_all, tally_all, part_done, tally_no_line, tally_before, full_found, one_found, tally_spare, tally_old, tally_new, full_rows, tally_none}
 use Rattle.fetch_rules.specs.Intents.{closed_rows}
 use Rattle.mail_store.specs.Held.{flags_of}
 use Rattle.pop3_wire.specs.Place.{Place}
@@ -224,12 +224,12 @@ pub record MboxLeads (settings : Settings) (now : ℕ) (ended : Bool) (c : Cours
   pub one_less : told.j + 1 ≡ told.k → unsaved
 
 -- the tasks are those of an account with an empty Maildir: no message counts as held
-abbrev pub ground : Settings → List Item → ℕ → Held → Stored → Ground
-ground settings items now held mbox = record { settings = settings; account = []; items = items; now = now; maildir = no_maildir; rows = rows_settled items held mbox }
+abbrev pub inputs : Settings → List Item → ℕ → Held → Stored → Inputs
+inputs settings items now held mbox = record { settings = settings; account = []; items = items; now = now; maildir = no_maildir; rows = rows_settled items held mbox }
 
 module _ (laws : Laws) (settings : Settings) (items : List Item) (now : ℕ) (held : Held) (mbox : Stored) where
-  abbrev p : Ground
-  p = ground settings items now held mbox
+  abbrev p : Inputs
+  p = inputs settings items now held mbox
 
   -- after these were done, with this intent open
   abbrev held_after : List Done → Option Intent → Held
@@ -292,7 +292,7 @@ module _ (laws : Laws) (settings : Settings) (items : List Item) (now : ℕ) (he
       -- the next task left the files and the report as they were
       bare : new.store.mbox.content ≡ fell.mid.store.mbox.content → new.file ≡ fell.mid.file → new.lines ≡ fell.mid.lines → Stopped (course items fell.dones [] (fell.next ∷ []))
       bare same file told =
-          lead_closed (tally_bare laws p starts fell told) new.store.mbox new.file.content [] (sym (append-nil (texts_by fell.dones)))
+          lead_closed (tally_no_line laws p starts fell told) new.store.mbox new.file.content [] (sym (append-nil (texts_by fell.dones)))
           (subst (λ (s : Stored). Keeps s.content (held_after fell.dones None)) (sym file) (mid_keeps laws p starts fell.dones fell.mid fell.went)) (ap mail_in (same ∙ mid_content))
 
       -- the next task retrieved a text
@@ -459,7 +459,7 @@ module _ (laws : Laws) (settings : Settings) (items : List Item) (now : ℕ) (pl
         by (inr (was, stood, settled, inl stays)) =
             inl (rests is.lines_are (subst (λ (h : Held). Keeps new.file.content h) (was_held was stood) stays) (inr (ap mail_in (settled_content was new.store stood settled))))
         by (inr (was, stood, settled, inr merges)) =
-            inr (lead_closed laws settings items now held store.mbox (tally_none laws (ground settings items now held store.mbox) new.lines (ap retrieved_in (is.lines_are ∙ no_lines))) new.store.mbox new.file.content [] refl
+            inr (lead_closed laws settings items now held store.mbox (tally_none laws (inputs settings items now held store.mbox) new.lines (ap retrieved_in (is.lines_are ∙ no_lines))) new.store.mbox new.file.content [] refl
             (subst (λ (r : List Row). Keeps new.file.content (held_with (merged r items (flags_of [] no_maildir items) now) None)) (rows_are was stood) merges)
             (ap mail_in (settled_content was new.store stood settled) ∙ sym (append-nil (bytes_settled items held store.mbox))))
 
@@ -468,10 +468,10 @@ module _ (laws : Laws) (settings : Settings) (items : List Item) (now : ℕ) (pl
   carried_leads result new skipped is =
       does_leads laws settings items now held store.mbox starts (settled_content is.prepared.was is.mid.store is.prepared.stood is.prepared.settles) result new is.does
     where
-      rows : is.mid.rows ≡ rows_on (ground settings items now held store.mbox)
+      rows : is.mid.rows ≡ rows_on (inputs settings items now held store.mbox)
       rows = is.prepared.rows ∙ ap (λ (r : List Row). merged r items (flags_of [] no_maildir items) now) (rows_are is.prepared.was is.prepared.stood)
 
-      starts : Starts (ground settings items now held store.mbox) (tasks_ahead settings AsEntries items now store is.mid.rows) is.mid
+      starts : Starts (inputs settings items now held store.mbox) (tasks_ahead settings AsEntries items now store is.mid.rows) is.mid
       starts = record { tasks_are = ap (tasks_ahead settings AsEntries items now store) rows; rows = rows; lines = is.prepared.lines_are ∙ no_lines; steady = is.prepared.saved }
 
   carries_leads : (result : Result (Unit {0}) Cut) (place' : Place) (store' : Stores) (file' : Stored) (lines' : List ReportLine) (skipped : Skips)
@@ -482,14 +482,14 @@ module _ (laws : Laws) (settings : Settings) (items : List Item) (now : ℕ) (pl
   carries_leads (Err cut) place' store' file' lines' skipped (rows, inr is) = inr (carried_leads (Err cut) (scene place' store' file' rows lines') skipped is)
 
 -- the account is as it was, or as the course leaves it
-abbrev pub WayLeaves : Settings → ℕ → Result (Unit {0}) Cut → Way → Held → Keeping → Keeping → List ReportLine → Type 0
-WayLeaves settings now result Idle held before after lines = (is_ended result ≡ false) × (after ≡ before) × (lines ≡ [])
-WayLeaves settings now result (Deals course) held before after lines =
+abbrev pub CourseLeaves : Settings → ℕ → Result (Unit {0}) Cut → SessionCourse → Held → Keeping → Keeping → List ReportLine → Type 0
+CourseLeaves settings now result Idle held before after lines = (is_ended result ≡ false) × (after ≡ before) × (lines ≡ [])
+CourseLeaves settings now result (Deals course) held before after lines =
     Left settings now (is_ended result) course held before.store.mbox after.store.mbox after.file.content lines (UnsavedIn result)
 
 pub way_leaves : (laws : Laws) (settings : Settings) (now : ℕ) (old : Place) (before : Keeping) (result : Result (Unit {0}) Cut) (new : Place) (after : Keeping) (notes : Noted) (held : Held)
     → Keeps before.file.content held → (is : Proceeds settings AsEntries now old before result new after notes)
-    → WayLeaves settings now result (way_proceeded settings AsEntries now old before result new after notes is) held before after notes.lines
+    → CourseLeaves settings now result (way_proceeded settings AsEntries now old before result new after notes is) held before after notes.lines
 way_leaves laws settings now old before (Ok done) new after notes held keeps dealt =
     carries_leads laws settings dealt.items now dealt.mid before.store before.file [] held keeps refl (Ok done) new after.store after.file notes.lines notes.skipped dealt.carries
 way_leaves laws settings now old before (Err cut) new after notes held keeps (inl stopped) = (refl, stopped.same, ap (λ (n : Noted). n.lines) stopped.nothing)

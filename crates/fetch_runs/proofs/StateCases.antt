@@ -20,7 +20,7 @@ use Rattle.fetch_session.specs.Scene.{Scene, Went, Fell}
 use Rattle.fetch_session.specs.Target.{Target}
 use Rattle.fetch_runs.proofs.Courses.{course, stored_done, found_in, found_by, found_of}
 use Rattle.fetch_runs.proofs.StatePlan.{Safe, deleted_by}
-use Rattle.fetch_runs.proofs.StateDone.{number_found, number_of, text_found, counted_by, safe_next, safe_done, Laws, Ground, rows_on, tasks_on, messages_on, rows_after, IsRecorded, IsRightOn, Part, safe_tasks, right_front, recorded_all, numbers_part, wanted_all}
+use Rattle.fetch_runs.proofs.StateDone.{number_found, number_of, text_found, counted_by, safe_next, safe_done, Laws, Inputs, rows_on, tasks_on, messages_on, rows_after, IsRecorded, IsRightOn, Part, safe_tasks, right_front, recorded_all, numbers_part, wanted_all}
 use Rattle.fetch_runs.proofs.TalkCommands.{all_append, all_front, nothing_found}
 
 abbrev pub is_ended : Result (Unit {0}) Cut → Bool
@@ -38,14 +38,14 @@ unsaved_why old was now NoMemory new is = inr refl
 unsaved_why old was now other new never = absurd never
 
 -- the tasks of the plan begin with its rows, and with nothing reported
-pub record Starts (p : Ground) (tasks : List Task) (old : Scene) : Type 0 where
+pub record Starts (p : Inputs) (tasks : List Task) (old : Scene) : Type 0 where
   pub tasks_are : tasks ≡ tasks_on p
   pub rows : old.rows ≡ rows_on p
   pub lines : old.lines ≡ []
   pub steady : Steady old.file.content (none_open old.rows)
 
 -- of a course: `full` was retrieved, `taken` is in the report, and `noted` was recorded
-pub record Tally (p : Ground) (ended : Bool) (taken : List Done) (spare : List WholeReply) (under : List Task) (full noted : List Done)
+pub record Tally (p : Inputs) (ended : Bool) (taken : List Done) (spare : List WholeReply) (under : List Task) (full noted : List Done)
     (lines : List ReportLine) (refused unsaved : Type 0) : Type 0 where
   pub found : found_of (course p.items taken spare under) ≡ found_by full
   pub whole : Part (tasks_on p) full
@@ -60,7 +60,7 @@ pub record Tally (p : Ground) (ended : Bool) (taken : List Done) (spare : List W
   pub one_more : length (found_by taken) + 1 ≡ length (found_by full) → refused
   pub one_less : length (found_by noted) + 1 ≡ length (found_by taken) → unsaved
 
-module _ (laws : Laws) (p : Ground) where
+module _ (laws : Laws) (p : Inputs) where
   module _ {ended : Bool} {taken full noted : List Done} {spare : List WholeReply} {under : List Task} {lines : List ReportLine} {refused unsaved : Type 0}
       (t : Tally p ended taken spare under full noted lines refused unsaved) where
     pub tally_right : AllByRecursion (IsRightOn p) (tasks_of taken ++ under)
@@ -171,8 +171,8 @@ module _ (laws : Laws) (p : Ground) where
       }
 
       -- the next task retrieved no text
-      pub tally_bare : {refused unsaved : Type 0} → new.lines ≡ fell.mid.lines → Tally p false fell.dones [] (fell.next ∷ []) fell.dones fell.dones new.lines refused unsaved
-      tally_bare = tally_next (ap (λ (l : List (ℕ × List ℕ)). found_by fell.dones ++ (l ++ [])) (nothing_found fell.next) ∙ append-nil (found_by fell.dones)) part_done (inl refl) (λ is. absurd (omega (arith, is)))
+      pub tally_no_line : {refused unsaved : Type 0} → new.lines ≡ fell.mid.lines → Tally p false fell.dones [] (fell.next ∷ []) fell.dones fell.dones new.lines refused unsaved
+      tally_no_line = tally_next (ap (λ (l : List (ℕ × List ℕ)). found_by fell.dones ++ (l ++ [])) (nothing_found fell.next) ∙ append-nil (found_by fell.dones)) part_done (inl refl) (λ is. absurd (omega (arith, is)))
 
       -- the next task wasn't begun
       pub tally_before : {refused unsaved : Type 0} → new.lines ≡ fell.mid.lines → Tally p false fell.dones [] [] fell.dones fell.dones new.lines refused unsaved

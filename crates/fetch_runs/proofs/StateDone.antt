@@ -286,7 +286,7 @@ effect_of now ended course = record {
 }
 
 -- what a plan is made from; with an mboxrd file the Maildir is an empty one
-pub record Ground : Type 0 where
+pub record Inputs : Type 0 where
   pub settings : Settings
   pub account : List ℕ
   pub items : List Item
@@ -295,24 +295,24 @@ pub record Ground : Type 0 where
   pub rows : List Row
 
 -- the rows after the merge, the planned tasks, and the messages that are wanted
-abbrev pub rows_on : Ground → List Row
+abbrev pub rows_on : Inputs → List Row
 rows_on p = merged p.rows p.items (flags_of p.account p.maildir p.items) p.now
 
-abbrev pub tasks_on : Ground → List Task
+abbrev pub tasks_on : Inputs → List Task
 tasks_on p = tasks_ahead p.settings p.account p.items p.now p.maildir (rows_on p)
 
-abbrev pub messages_on : Ground → List (ℕ × Item)
+abbrev pub messages_on : Inputs → List (ℕ × Item)
 messages_on p = wanted p.settings (rows_on p) p.items
 
 -- the rows once these were done
-abbrev pub rows_after : Ground → List Done → List Row
+abbrev pub rows_after : Inputs → List Done → List Row
 rows_after p dones = marked_all (rows_on p) (ids_of dones)
 
 -- an id is recorded once these were done
-abbrev pub IsRecorded : Ground → List Done → List ℕ → Type 0
+abbrev pub IsRecorded : Inputs → List Done → List ℕ → Type 0
 IsRecorded p dones uid = is_delivered (rows_after p dones) uid ≡ true
 
-abbrev pub IsRightOn : Ground → Task → Type 0
+abbrev pub IsRightOn : Inputs → Task → Type 0
 IsRightOn p task = IsRight p.account p.maildir p.items task
 
 -- a list of done tasks, and those after it
@@ -325,7 +325,7 @@ ids_of_keys : (qs : List (ℕ × Item)) → map (λ (p : ℕ × List ℕ). p.1) 
 ids_of_keys [] = refl
 ids_of_keys (q ∷ qs) = ap (λ l. q.1.uid ∷ l) (ids_of_keys qs)
 
-module _ (laws : Laws) (p : Ground) where
+module _ (laws : Laws) (p : Inputs) where
   pub safe_tasks : (dones : List Done) → Safe (IsRecorded p dones) p.items (tasks_on p)
   safe_tasks dones =
       safe_ahead (IsRecorded p dones) p.settings p.account p.items p.now p.maildir (rows_on p) (λ uid known. still_delivered laws (rows_on p) (ids_of dones) uid known)

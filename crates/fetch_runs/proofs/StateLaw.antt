@@ -31,10 +31,10 @@ use Rattle.fetch_session.specs.Task.{Task, Done, stores, files_in, files_of, fil
 use Rattle.run_law.specs.Steps.{file_for, is_unheld, wanted_at}
 use Rattle.run_law.specs.Told.{Told, Records}
 use Rattle.fetch_runs.specs.Steps.{holds}
-use Rattle.fetch_runs.proofs.Courses.{Course, Way, Idle, Deals, course, spare_in, spare_of, course_stopped, course_does, course_carried, course_carries, way_proceeded, stored_done, found_by, found_of, begun_of}
+use Rattle.fetch_runs.proofs.Courses.{Course, SessionCourse, Idle, Deals, course, spare_in, spare_of, course_stopped, course_does, course_carried, course_carries, way_proceeded, stored_done, found_by, found_of, begun_of}
 use Rattle.fetch_runs.proofs.StatePlan.{tasks_ahead, IsRight, right_ahead}
-use Rattle.fetch_runs.proofs.StateDone.{number_found, text_found, number_of, files_first, Laws, Ground, rows_on, tasks_on, messages_on, rows_after, Part, effect_of, records_part, wanted_are}
-use Rattle.fetch_runs.proofs.StateCases.{is_ended, UnsavedIn, unsaved_why, Starts, Tally, tally_right, tally_numbers, tally_number, tally_none, mid_rows, mid_keeps, tally_all, tally_bare, tally_spare, tally_old, tally_new, full_rows}
+use Rattle.fetch_runs.proofs.StateDone.{number_found, text_found, number_of, files_first, Laws, Inputs, rows_on, tasks_on, messages_on, rows_after, Part, effect_of, records_part, wanted_are}
+use Rattle.fetch_runs.proofs.StateCases.{is_ended, UnsavedIn, unsaved_why, Starts, Tally, tally_right, tally_numbers, tally_number, tally_none, mid_rows, mid_keeps, tally_all, tally_no_line, tally_spare, tally_old, tally_new, full_rows}
 
 -- the account that a session left, and what it found
 pub record Leads (settings : Settings) (account : List ℕ) (now : ℕ) (ended : Bool) (course : Course) (rows : List Row) (maildir maildir' : Maildir) (content' : Option (List ℕ)) (lines : List ReportLine) (refused unsaved : Type 0) : Type 0 where
@@ -55,7 +55,7 @@ RefusedIn (Ok done) = ⊥
 RefusedIn (Err cut) = cut.fault ≡ StoreRefused why.Refused
 
 -- what a course leads to from a plan
-abbrev Leading : Ground → Bool → Course → Maildir → Option (List ℕ) → List ReportLine → Type 0 → Type 0 → Type 0
+abbrev Leading : Inputs → Bool → Course → Maildir → Option (List ℕ) → List ReportLine → Type 0 → Type 0 → Type 0
 Leading p ended c maildir' content' lines refused unsaved = Leads p.settings p.account p.now ended c p.rows p.maildir maildir' content' lines refused unsaved
 
 -- ---- of tasks that were done
@@ -64,7 +64,7 @@ Leading p ended c maildir' content' lines refused unsaved = Leads p.settings p.a
 abbrev AddsFiles : List ℕ → Maildir → List Done → Maildir → Type 0
 AddsFiles account maildir dones maildir' = maildir'.files ≡ maildir.files ++ files_of account dones
 
-module _ (laws : Laws) (p : Ground) where
+module _ (laws : Laws) (p : Inputs) where
   -- the files of the texts found
   adds_part : (whole : List Done) → Part (tasks_on p) whole → (found : List (ℕ × List ℕ)) → found ≡ found_by whole → (n : ℕ) → n ≡ length (found_by whole)
       → files_of p.account whole ≡ map (file_for p.account) (filter (is_unheld p.account p.maildir) (zip (take n (messages_on p)) (map text_found found)))
@@ -123,7 +123,7 @@ module _ (laws : Laws) (p : Ground) where
           → Stopped (course p.items fell.dones [] (fell.next ∷ []))
       bare same file told =
           let files = mid_files fell.dones fell.mid fell.went in
-          lead (tally_bare laws p starts fell told) new.store.maildir new.file.content (same ∙ files)
+          lead (tally_no_line laws p starts fell told) new.store.maildir new.file.content (same ∙ files)
           (subst (λ (s : Stored). KeepsRows s.content (rows_after p fell.dones)) (sym file) (mid_holds fell.dones fell.mid fell.went))
 
       -- the file of the next task's text is there
@@ -193,7 +193,7 @@ unready_files : (fault : Fault) (old : Maildir) (file : Stored) (new : Maildir) 
 unready_files (StoreRefused why.Refused) old file new file' is = subst (SameFiles old) (sym is) refl
 unready_files fault old file new file' is = grind arith
 
-module _ (laws : Laws) (p : Ground) (place : Place) (file : Stored) (lines : List ReportLine) (keeps : KeepsRows file.content p.rows) (no_lines : lines ≡ []) where
+module _ (laws : Laws) (p : Inputs) (place : Place) (file : Stored) (lines : List ReportLine) (keeps : KeepsRows file.content p.rows) (no_lines : lines ≡ []) where
   -- the record that was read has these rows
   same_rows : (was : Held) → Keeps file.content was → was.rows ≡ p.rows
   same_rows was stood = (laws.one file.content was.rows p.rows was.intent keeps.0 stood keeps.1).0
@@ -258,14 +258,14 @@ module _ (laws : Laws) (p : Ground) (place : Place) (file : Stored) (lines : Lis
   carries_leads (Err cut) place' maildir' file' lines' skipped (rows, inr is) = carried_leads (Err cut) (scene place' (in_maildir maildir') file' rows lines') skipped is
 
 -- the account is as it was, or as the course leaves it
-abbrev pub WayLeads : Settings → List ℕ → ℕ → Result (Unit {0}) Cut → Way → List Row → Kept → Kept → List ReportLine → Type 0
-WayLeads settings account now result Idle rows before after lines = (is_ended result ≡ false) × (after ≡ before) × (lines ≡ [])
-WayLeads settings account now result (Deals course) rows before after lines =
+abbrev pub CourseLeads : Settings → List ℕ → ℕ → Result (Unit {0}) Cut → SessionCourse → List Row → Kept → Kept → List ReportLine → Type 0
+CourseLeads settings account now result Idle rows before after lines = (is_ended result ≡ false) × (after ≡ before) × (lines ≡ [])
+CourseLeads settings account now result (Deals course) rows before after lines =
     Leads settings account now (is_ended result) course rows before.maildir after.maildir after.file.content lines (RefusedIn result) (UnsavedIn result)
 
 pub way_leads : (laws : Laws) (settings : Settings) (account : List ℕ) (now : ℕ) (old : Place) (before : Kept) (result : Result (Unit {0}) Cut) (new : Place) (after : Kept) (notes : Noted) (rows : List Row)
     → KeepsRows before.file.content rows → (is : Proceeds settings (AsFiles account) now old (keeps_files before) result new (keeps_files after) notes)
-    → WayLeads settings account now result (way_proceeded settings (AsFiles account) now old (keeps_files before) result new (keeps_files after) notes is) rows before after notes.lines
+    → CourseLeads settings account now result (way_proceeded settings (AsFiles account) now old (keeps_files before) result new (keeps_files after) notes is) rows before after notes.lines
 way_leads laws settings account now old before (Ok done) new after notes rows keeps dealt =
     carries_leads laws (record { settings = settings; account = account; items = dealt.items; now = now; maildir = before.maildir; rows = rows }) dealt.mid before.file [] keeps refl (Ok done) new after.maildir after.file notes.lines notes.skipped dealt.carries
 way_leads laws settings account now old before (Err cut) new after notes rows keeps (inl stopped) = (refl, ap (λ (k : Keeping). kept k.store.maildir k.file) stopped.same, ap (λ (n : Noted). n.lines) stopped.nothing)

@@ -34,7 +34,7 @@ use Rattle.fetch_session.specs.Target.{Target, AsFiles, AsEntries, Stores}
 use Rattle.fetch_session.specs.Session.{LeavesLink, outcome_of, Keeping, Noted, NotEntered, NoRoom, Dealt, Proceeds, SessionIn, keeps_entries, Kept, keeps_files}
 use Rattle.fetch_session.specs.Store.{RefusesText}
 use Rattle.fetch_runs.specs.Conversations.{AreFound, tail_behind, is_retrieval, retrieved_by, Conversation, plan_turns, FollowsPlan, MboxSessionsFollowPlans, Converses, CountsTexts, Opens, SpeaksByPlan, SessionsAreConversations}
-use Rattle.fetch_runs.proofs.Courses.{Course, course, stored_done, spare_in, spare_of, course_stopped, course_does, course_carried, course_carries, begun_of, Way, Idle, Deals, course_dealt, way_proceeded, way_of, IsOfTask}
+use Rattle.fetch_runs.proofs.Courses.{Course, course, stored_done, spare_in, spare_of, course_stopped, course_does, course_carried, course_carries, begun_of, SessionCourse, Idle, Deals, course_dealt, way_proceeded, session_course_of, IsOfTask}
 use Rattle.fetch_runs.proofs.TalkCommands.{all_front, IsPlain, plain_ahead, one_reply, commands_in, CanBeSaid, Commanded, said_tasks, both_none}
 use Rattle.fetch_runs.proofs.TalkCourses.{Took, took_stopped, took_nothing, all_done, goes_nothing}
 use Rattle.fetch_runs.proofs.TalkSpeech.{IsTail, is_tail, silent, front_of_plan, OpensAlone, opens_all, opens_cut, commanded_opening, replied, few_items, Speaks, spoken, commanded_after, idle_said, Replied, listed}
@@ -293,7 +293,7 @@ pub record Planned (settings : Settings) (target : Target) (now : ℕ) (before :
   pub follows : Follows settings (planned settings by.rows items now) sent
 
 -- what a session said: with no listing, the opening alone
-abbrev pub Spoke : Settings → Target → ℕ → Keeping → Link → Link → Result (Unit {0}) Cut → List ReportLine → Way → Type 0
+abbrev pub Spoke : Settings → Target → ℕ → Keeping → Link → Link → Result (Unit {0}) Cut → List ReportLine → SessionCourse → Type 0
 Spoke settings target now before link link' result lines Idle = OpensAlone (name_of settings) (word_of settings) (tail_for result) link link'
 Spoke settings target now before link link' result lines (Deals c) = Planned settings target now before link link' result lines c
 
@@ -393,7 +393,7 @@ module _ (joining : TurnsJoin) (paced : ConversationsArePaced) (law : FrontsAreA
 
 pub session_spoke : TurnsJoin → ConversationsArePaced → FrontsAreAsked → (settings : Settings) → IsValid settings → (target : Target) (now : ℕ) (link : Link) (before : Keeping) (report : Report) (link' : Link) (after : Keeping)
     → (session : SessionIn settings target now link before report link' after)
-    → Spoke settings target now before link link' session.result session.notes.lines (way_of settings target now link before report link' after session)
+    → Spoke settings target now before link link' session.result session.notes.lines (session_course_of settings target now link before report link' after session)
 session_spoke joining paced law settings valid target now link before report link' after session =
     spoke joining paced law settings valid target now link link' before after session.mid session.notes session.result session.proceeds session.leaves
 
@@ -416,24 +416,24 @@ follows_none law settings valid turns kind link link' it = record {
 -- ---- Each session is one conversation, which the law over runs takes.
 
 -- what the law over runs takes of what was sent and read
-abbrev pub Exchanges : Way → List Turn → List ℕ → List ℕ → Type 0
+abbrev pub Exchanges : SessionCourse → List Turn → List ℕ → List ℕ → Type 0
 Exchanges Idle turns sent got = (commands : List Command) × (asked : Asked commands sent) × AllByRecursion (IsOfTask []) commands × BeginsOne (IsOfTask []) asked.part
 Exchanges (Deals c) turns sent got = Speaks c turns sent got
 
-pub record Gained (way : Way) (turns : List Turn) (old new : Link) : Type 0 where
+pub record Gained (session_course : SessionCourse) (turns : List Turn) (old new : Link) : Type 0 where
   pub sent : List ℕ
   pub got : List ℕ
   pub sent_is : new.sent ≡ old.sent ++ sent
   pub got_is : new.got ≡ old.got ++ got
-  pub exchanges : Exchanges way turns sent got
+  pub exchanges : Exchanges session_course turns sent got
 
 -- what each session sent and read
 pub talks : TurnsJoin → ConversationsArePaced → FrontsAreAsked → (settings : Settings) (target : Target) (now : ℕ) (link : Link) (before : Keeping) (report : Report) (link' : Link) (after : Keeping)
-    → IsValid settings → (session : SessionIn settings target now link before report link' after) → Gained (way_of settings target now link before report link' after session) (tail_for session.result) link link'
+    → IsValid settings → (session : SessionIn settings target now link before report link' after) → Gained (session_course_of settings target now link before report link' after session) (tail_for session.result) link link'
 talks joining paced law settings target now link before report link' after valid session =
-    by (way_of settings target now link before report link' after session) (session_spoke joining paced law settings valid target now link before report link' after session)
+    by (session_course_of settings target now link before report link' after session) (session_spoke joining paced law settings valid target now link before report link' after session)
   where
-    by : (way : Way) → Spoke settings target now before link link' session.result session.notes.lines way → Gained way (tail_for session.result) link link'
+    by : (session_course : SessionCourse) → Spoke settings target now before link link' session.result session.notes.lines session_course → Gained session_course (tail_for session.result) link link'
     by Idle it = record {
       sent = it.sent;
       got = it.got;
@@ -450,10 +450,10 @@ plan_of settings steps sent follows = record { steps = steps; commands = follows
 
 pub mbox_sessions_follow_plans : TurnsJoin → ConversationsArePaced → FrontsAreAsked → MboxSessionsFollowPlans
 mbox_sessions_follow_plans joining paced law settings now link before report link' after valid session =
-    by (way_of settings AsEntries now link (keeps_entries before) report link' (keeps_entries after) session)
+    by (session_course_of settings AsEntries now link (keeps_entries before) report link' (keeps_entries after) session)
     (session_spoke joining paced law settings valid AsEntries now link (keeps_entries before) report link' (keeps_entries after) session)
   where
-    by : (way : Way) → Spoke settings AsEntries now (keeps_entries before) link link' session.result session.notes.lines way → (sent : List ℕ) × (link'.sent ≡ link.sent ++ sent) × FollowsPlan settings sent
+    by : (session_course : SessionCourse) → Spoke settings AsEntries now (keeps_entries before) link link' session.result session.notes.lines session_course → (sent : List ℕ) × (link'.sent ≡ link.sent ++ sent) × FollowsPlan settings sent
     by Idle it = (it.sent, it.sent_is, plan_of settings [] it.sent (follows_none law settings valid (tail_for session.result) (is_tail_for session.result) link link' it))
     by (Deals c) p = (p.sent, p.sent_is, plan_of settings (planned settings p.by.rows p.items now) p.sent p.follows)
 
@@ -541,10 +541,10 @@ module _ (settings : Settings) (account : List ℕ) (now : ℕ) (link link' : Li
 
 pub sessions_are_conversations : TurnsJoin → ConversationsArePaced → FrontsAreAsked → SessionsAreConversations
 sessions_are_conversations joining paced law settings account now link before report link' after valid session =
-    by (way_of settings (AsFiles account) now link (keeps_files before) report link' (keeps_files after) session)
+    by (session_course_of settings (AsFiles account) now link (keeps_files before) report link' (keeps_files after) session)
     (session_spoke joining paced law settings valid (AsFiles account) now link (keeps_files before) report link' (keeps_files after) session)
   where
-    by : (way : Way) → Spoke settings (AsFiles account) now (keeps_files before) link link' session.result session.notes.lines way
+    by : (session_course : SessionCourse) → Spoke settings (AsFiles account) now (keeps_files before) link link' session.result session.notes.lines session_course
         → (sent got : List ℕ) × (link'.sent ≡ link.sent ++ sent) × (link'.got ≡ link.got ++ got) × (Opens settings report sent got ⊎ SpeaksByPlan settings account now before report sent got)
     by Idle it =
         let follows = follows_none law settings valid (tail_for session.result) (is_tail_for session.result) link link' it in (

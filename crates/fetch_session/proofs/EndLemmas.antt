@@ -90,7 +90,7 @@ module _ {D F H Z : Type 0} {disk : DiskGhosts D} {file : FileGhosts F} (work : 
   quitting_store kind same = record {
     lines = (omega arith, omega arith);
     kind = kind;
-    calm = λ d. ((same d).0, ap (λ (m : Maildir). m.begun) (same d).1 ∙ ready.calm (same d).0);
+    none_begun = λ d. ((same d).0, ap (λ (m : Maildir). m.begun) (same d).1 ∙ ready.none_begun (same d).0);
   }
 
   pub kept_quitting : {W : Type 0} {link : WireGhosts W} {account : List ℕ} {c c' : Client W} {r : Result (Unit {0}) Cut} → KeepsLink link (TookTillCut line_limit) c r c' → kind_of store ≡ kind_of work.store
@@ -102,14 +102,14 @@ module _ {D F H Z : Type 0} {disk : DiskGhosts D} {file : FileGhosts F} (work : 
     store = record {
       lines = (omega arith, omega arith);
       kind = kind;
-      calm = λ d. ((same d).0, ap (λ (m : Maildir). m.begun) (same d).1 ∙ ready.calm (same d).0);
+      none_begun = λ d. ((same d).0, ap (λ (m : Maildir). m.begun) (same d).1 ∙ ready.none_begun (same d).0);
     };
     lasts = λ d f. (f, mail d, λ sure. on_map r (λ s. (sure.0, s)) (safe d sure.1));
     idle = λ none. refl;
     next = on_any r (λ later before. record {
       digits = before.digits;
       room = omega (arith, before.room);
-      ready = record { calm = λ d. ap (λ (m : Maildir). m.begun) (same d).1 ∙ ready.calm (same d).0; written = ready.written };
+      ready = record { none_begun = λ d. ap (λ (m : Maildir). m.begun) (same d).1 ∙ ready.none_begun (same d).0; written = ready.written };
       legal = before.legal;
       rows = before.rows;
       free = λ d. subst (λ (m : Maildir). AreFresh account m (ids_ahead later)) (sym (same d).1) (before.free (same d).0);

@@ -11,7 +11,7 @@ mod OpeningLemmas
 mod PartLemmas
 mod PlanLemmas
 mod PretendLemmas
-mod ProspectLemmas
+mod MessagePreviewLemmas
 mod ReadLemmas
 mod ReadyLemmas
 mod RecordLemmas

@@ -196,11 +196,11 @@ module _ {D F H Z : Type 0} {disk : DiskGhosts D} {file : FileGhosts F} where
   store_on less first then = record {
     lines = (omega (arith, first.lines.0, then.lines.0, less), omega (arith, first.lines.1, then.lines.1));
     kind = then.kind ∙ first.kind;
-    calm = λ d. ((first.calm (then.calm d).0).0, (then.calm d).1);
+    none_begun = λ d. ((first.none_begun (then.none_begun d).0).0, (then.none_begun d).1);
   }
 
   pub store_less : {m limit : ℕ} {a b : Work D F H Z} → m ≤ limit → KeepsStore disk file m a b → KeepsStore disk file limit a b
-  store_less less kept = record { lines = (omega (arith, kept.lines.0, less), kept.lines.1); kind = kept.kind; calm = kept.calm }
+  store_less less kept = record { lines = (omega (arith, kept.lines.0, less), kept.lines.1); kind = kept.kind; none_begun = kept.none_begun }
 
 -- ---- parts one after the other
 
@@ -212,7 +212,7 @@ module _ {W D F H Z : Type 0} {link : WireGhosts W} {disk : DiskGhosts D} {file 
   pub kept_nothing : {c : Client W} {w : Work D F H Z} → IsReady disk file w → KeepsSession link disk file account [] c w (Ok tt) c w
   kept_nothing ready = record {
     talk = link_still;
-    store = record { lines = (omega arith, omega arith); kind = refl; calm = λ d. (d, ready.calm d) };
+    store = record { lines = (omega arith, omega arith); kind = refl; none_begun = λ d. (d, ready.none_begun d) };
     lasts = λ d f. (f, (λ name is. is, λ g is. is), λ safe. safe);
     idle = λ none. refl;
     next = λ later ready. ready;
@@ -225,7 +225,7 @@ module _ {W D F H Z : Type 0} {link : WireGhosts W} {disk : DiskGhosts D} {file 
     store = store_on (omega (arith, length-append xs ys)) first.store then.store;
     lasts = λ d f.
         let later = then.lasts d f in
-        let before = first.lasts (then.store.calm d).0 later.0 in
+        let before = first.lasts (then.store.none_begun d).0 later.0 in
         (before.0, keeps_mail_on before.1 later.1, λ safe. later.2 (before.2 safe));
     idle = λ none. let both = none_both (ids_ahead xs) (ids_ahead ys) (sym (flat_map-append ids_in xs ys) ∙ none) in then.idle both.1 ∙ first.idle both.0;
     next = on_map r (λ next later ready. next later (first.next (ys ++ later) (subst (λ (tasks : List Task). IsReadyFor disk file account tasks w) (append_assoc xs ys later) ready))) then.next;
@@ -285,13 +285,13 @@ module _ {W D F H Z : Type 0} {link : WireGhosts W} {disk : DiskGhosts D} {file 
       → KeepsSession link disk file account (stores number uid ∷ []) c w r c' w'
   kept_taking law number uid {c} {c'} {w} {w'} r talk ledger kind grows mail safe = record {
     talk = talk;
-    store = record { lines = ledger.lines; kind = kind; calm = λ d. ((grows d).0, (grows d).1.calm) };
+    store = record { lines = ledger.lines; kind = kind; none_begun = λ d. ((grows d).0, (grows d).1.none_begun) };
     lasts = λ d f. (ledger.sound f, mail d f, safe d f);
     idle = λ none. absurd cc;
     next = on_both r (λ written rows later before. record {
       digits = before.digits;
       room = omega (arith, before.room, ledger.lines.0, ledger.lines.1);
-      ready = record { calm = λ d. (grows d).1.calm; written = written };
+      ready = record { none_begun = λ d. (grows d).1.none_begun; written = written };
       legal = before.legal.1;
       rows = all_weaker (λ (id : List ℕ). has_row w.ledger.seen.rows id ≡ true) (λ (id : List ℕ). has_row w'.ledger.seen.rows id ≡ true) (ids_ahead later) rows before.rows.1;
       free = λ d.

@@ -13,13 +13,13 @@ use Rattle.fetch_rules.specs.declared.steps.Step.{Step}
 use Rattle.mail_store.specs.FlatFile.{Stored}
 use Rattle.fetch_session.specs.declared.fault.Cut.{Cut}
 use Rattle.pop3_client.specs.declared.fault.ClientFault.{ClientFault}
-use Rattle.fetch_session.specs.declared.preview.Foreseen.{Foreseen}
+use Rattle.fetch_session.specs.declared.preview.WorkPreview.{WorkPreview}
 use Rattle.fetch_session.specs.declared.preview.Looked.{Looked}
 use Rattle.fetch_session.specs.declared.preview.Preview.{Preview}
-use Rattle.fetch_session.specs.declared.prospect.Prospect.{Prospect}
+use Rattle.fetch_session.specs.declared.message_preview.MessagePreview.{MessagePreview}
 use Rattle.fetch_session.specs.Fault.{cut_of, fault_of}
-use Rattle.fetch_session.specs.Pretend.{Foresees, Foretells, HoldsTheSame, IsUntouched, LooksIn, MayBeFollowed, Pretends, Surveys, counted_as, foretold, is_unsettled, told_in}
-use Rattle.fetch_session.specs.Prospect.{prospects}
+use Rattle.fetch_session.specs.Pretend.{PreviewsWork, PreviewsMerged, HoldsTheSame, IsUntouched, LooksIn, MayBeFollowed, Pretends, PreviewsSession, counted_as, foretold, is_unsettled, told_in}
+use Rattle.fetch_session.specs.MessagePreview.{message_previews}
 use Rattle.fetch_session.specs.Record.{ReadAs, held_in}
 use Rattle.fetch_session.specs.Session.{Keeping, LeavesLink, Enters_with, keeping, outcome_of}
 use Rattle.fetch_session.specs.Target.{Target, AsFiles, AsEntries, Stores, flags_in}
@@ -29,9 +29,9 @@ use Rattle.fetch_session.proofs.RecordLemmas.{not_whole, read_keeps}
 
 pub foretold_is : (settings : Settings) (rows rows' : List Row) (intent : Option Intent) (items : List Item) (held : List Bool) (now : ℕ) (steps : List Step)
     → rows' ≡ merged (closed_rows false rows intent) items held now → steps ≡ planned settings rows' items now
-    → prospects settings rows' now 0 steps items held ≡ foretold settings (merged rows items held now) items held now
+    → message_previews settings rows' now 0 steps items held ≡ foretold settings (merged rows items held now) items held now
 foretold_is settings rows rows' intent items held now steps rows_are steps_are =
-    ap (λ (ss : List Step). prospects settings rows' now 0 ss items held) steps_are
+    ap (λ (ss : List Step). message_previews settings rows' now 0 ss items held) steps_are
     ∙ ap (λ (r : List Row). foretold settings r items held now) (rows_are ∙ ap (λ (r : List Row). merged r items held now) (not_whole rows intent))
 
 -- ---- nothing changes
@@ -41,11 +41,11 @@ looks_same : (target : Target) (intent : Option Intent) (store store' : Stores) 
 looks_same (AsFiles account) intent store store' items looked is = (is.0, is.1, tt, ap (λ (s : Stores). counted_as store.maildir.failures s.maildir) is.2)
 looks_same AsEntries intent store store' items looked is = (is.0, is.1, is.2, ap (λ (s : Stored). s.content) is.3)
 
-pub foreseen : (settings : Settings) (target : Target) (items : List Item) (now : ℕ) (store : Stores) (file read : Stored) (loaded : Loaded) (store' : Stores) (looked : Looked) (told : List Prospect)
+pub work_preview : (settings : Settings) (target : Target) (items : List Item) (now : ℕ) (store : Stores) (file read : Stored) (loaded : Loaded) (store' : Stores) (looked : Looked) (told : List MessagePreview)
     → ReadAs file.content loaded → read ≡ file → LooksIn target loaded.intent store items (Ok looked) store'
     → told ≡ foretold settings (merged loaded.rows items looked.held.items now) items looked.held.items now
-    → Foretells settings target items now (keeping store file) looked.unsettled told × IsUntouched target (keeping store file) (keeping store' read)
-foreseen settings target items now store file read loaded store' looked told stood same looks is =
+    → PreviewsMerged settings target items now (keeping store file) looked.unsettled told × IsUntouched target (keeping store file) (keeping store' read)
+work_preview settings target items now store file read loaded store' looked told stood same looks is =
     let found = looks_same target loaded.intent store store' items looked looks in (
       record {
         was = held_in loaded;
@@ -60,17 +60,17 @@ foreseen settings target items now store file read loaded store' looked told sto
 -- ---- the session
 
 module _ (settings : Settings) (target : Target) (now : ℕ) (old : Place) (before : Keeping) where
-  pub not_ended : (items : List Item) (mid new : Place) (after : Keeping) (ahead : Foreseen) (n : ℕ) (fault : ClientFault) (cut : Cut) → Enters_with settings old (Ok items) mid
-      → Foresees settings target items now before (Ok ahead) after → n ≡ length items → Talks (quit ∷ []) mid (Err fault) new → cut ≡ cut_of (fault_of fault) None
-      → Surveys settings target now old before (Err cut) new after (record { total = n; unsettled = ahead.unsettled; prospects = ahead.prospects.items })
+  pub not_ended : (items : List Item) (mid new : Place) (after : Keeping) (ahead : WorkPreview) (n : ℕ) (fault : ClientFault) (cut : Cut) → Enters_with settings old (Ok items) mid
+      → PreviewsWork settings target items now before (Ok ahead) after → n ≡ length items → Talks (quit ∷ []) mid (Err fault) new → cut ≡ cut_of (fault_of fault) None
+      → PreviewsSession settings target now old before (Err cut) new after (record { total = n; unsettled = ahead.unsettled; message_previews = ahead.message_previews.items })
   not_ended items mid new after ahead n fault cut enters says count quits plain = (
-    inr (inr (fault, plain, record { items = items; mid = mid; enters = enters; total = count; foretells = says.0; quits = quits })),
+    inr (inr (fault, plain, record { items = items; mid = mid; enters = enters; total = count; previews = says.0; quits = quits })),
     says.1,
   )
 
 pub left_preview : {settings : Settings} {target : Target} {now : ℕ} {link link' : Link} {before after : Keeping} {preview : Preview} (id : Target) (reader : List ℕ) (result : Result (Unit {0}) Cut) (mid : Place)
-    → id ≡ target → reader ≡ [] → Surveys settings id now (at link reader) before result mid after (told_in preview) → LeavesLink result mid link' → preview.outcome ≡ outcome_of result
+    → id ≡ target → reader ≡ [] → PreviewsSession settings id now (at link reader) before result mid after (told_in preview) → LeavesLink result mid link' → preview.outcome ≡ outcome_of result
     → Pretends settings target now link before preview link' after
-left_preview {settings} {target} {now} {link} {link'} {before} {after} {preview} id reader result mid same none surveys leaves is =
-    let there = rw (same, none) at surveys in
+left_preview {settings} {target} {now} {link} {link'} {before} {after} {preview} id reader result mid same none previews leaves is =
+    let there = rw (same, none) at previews in
     record { result = result; mid = mid; ends = there.0; leaves = leaves; outcome = is; untouched = there.1 }

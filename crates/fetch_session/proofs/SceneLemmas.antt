@@ -17,13 +17,13 @@ use Rattle.fetch_session.specs.Scene.{Scene, Went, AllWent, Fell, Stops}
 use Rattle.fetch_session.proofs.TalkLemmas.{talked_none}
 
 pub gained_none : (m : Maildir) → Gained m m []
-gained_none m = record { came = sym (append-nil m.files); there = refl; calm = λ calm. calm; failures = omega arith }
+gained_none m = record { came = sym (append-nil m.files); there = refl; none_begun = λ none_begun. none_begun; failures = omega arith }
 
 pub gained_on : (a b c : Maildir) (xs ys : List File) → Gained a b xs → Gained b c ys → Gained a c (xs ++ ys)
 gained_on a b c xs ys first then = record {
   came = simp (then.came, first.came, append_assoc);
   there = then.there ∙ first.there;
-  calm = λ calm. then.calm (first.calm calm);
+  none_begun = λ none_begun. then.none_begun (first.none_begun none_begun);
   failures = omega (arith, first.failures, then.failures);
 }
 

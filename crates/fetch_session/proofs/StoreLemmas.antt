@@ -15,24 +15,24 @@ use Rattle.pop3_client.specs.Turns.{retr}
 use Rattle.fetch_session.specs.Store.{Gained, Grows, begun_with, Starts, Puts, Ends, RefusesText, StopsStoring, StoresText, StopsReading}
 
 pub gained_file : (old new : Maildir) (f : File) → new ≡ with_file old f → Gained old new (f ∷ [])
-gained_file old new f is = rw is (record { came = refl; there = refl; calm = λ calm. refl; failures = omega arith })
+gained_file old new f is = rw is (record { came = refl; there = refl; none_begun = λ none_begun. refl; failures = omega arith })
 
 pub not_grown : (old new : Maildir) (name : List ℕ) → old.begun ≡ None → new ≡ old → Grows name old new
-not_grown old new name calm is = rw is (record { calm = calm; came = inl refl })
+not_grown old new name none_begun is = rw is (record { none_begun = none_begun; came = inl refl })
 
 -- ---- a text, piece by piece
 
-dropped_calm : (old : Maildir) → old.begun ≡ None → dropped old ≡ old
-dropped_calm old calm = ap (λ (b : Option File). let m : Maildir = record old { begun = b } in m) (sym calm)
+dropped_none_begun : (old : Maildir) → old.begun ≡ None → dropped old ≡ old
+dropped_none_begun old none_begun = ap (λ (b : Option File). let m : Maildir = record old { begun = b } in m) (sym none_begun)
 
 pub refused_start : (old new : Maildir) (name : List ℕ) (rest : Rest) (fault : Fault) → old.begun ≡ None → Starts old name (Err fault) new → RefusesText old name rest [] fault new
-refused_start old new name rest fault calm (inl missing) = inl missing
-refused_start old new name rest fault calm (inr same) = inr (same.0, inl (same.1 ∙ ap counted (sym (dropped_calm old calm))))
+refused_start old new name rest fault none_begun (inl missing) = inl missing
+refused_start old new name rest fault none_begun (inr same) = inr (same.0, inl (same.1 ∙ ap counted (sym (dropped_none_begun old none_begun))))
 
 pub stopped_store : (old now new : Maildir) (name text : List ℕ) (cut : Cut) (fault : ClientFault) → old.begun ≡ None → now ≡ begun_with old (file name text) → new ≡ dropped now → cut ≡ cut_of (fault_of fault) None
     → StopsStoring name old text cut.fault cut.rest new
-stopped_store old now new name text cut fault calm was is plain =
-    rw plain (is ∙ ap dropped was ∙ dropped_calm old calm)
+stopped_store old now new name text cut fault none_begun was is plain =
+    rw plain (is ∙ ap dropped was ∙ dropped_none_begun old none_begun)
 
 pub stopped_read : (n : ℕ) (start new : Place) (text : List ℕ) (cut : Cut) (fault : ClientFault) → cut ≡ cut_of (fault_of fault) None → Broke (retr n) start new fault
     → StopsReading n start text cut.fault cut.rest new
@@ -68,14 +68,14 @@ refused_end old now new stem text octets rest fault was counts done ends =
     )
 
 stops_grows : (old new : Maildir) (name text : List ℕ) (fault : Fault) (rest : Option Rest) → old.begun ≡ None → StopsStoring name old text fault rest new → Grows name old new
-stops_grows old new name text fault None calm is = not_grown old new name calm is
-stops_grows old new name text fault (Some rest) calm (inl missing) = not_grown old new name calm missing.2
-stops_grows old new name text fault (Some rest) calm (inr (why, inl is)) = rw is (record { calm = refl; came = inl refl })
-stops_grows old new name text fault (Some rest) calm (inr (why, inr there)) = rw there.1 (record { calm = refl; came = inr (text, refl) })
+stops_grows old new name text fault None none_begun is = not_grown old new name none_begun is
+stops_grows old new name text fault (Some rest) none_begun (inl missing) = not_grown old new name none_begun missing.2
+stops_grows old new name text fault (Some rest) none_begun (inr (why, inl is)) = rw is (record { none_begun = refl; came = inl refl })
+stops_grows old new name text fault (Some rest) none_begun (inr (why, inr there)) = rw there.1 (record { none_begun = refl; came = inr (text, refl) })
 
 pub stores_grows : (old new : Maildir) (name text : List ℕ) (r : Result ℕ Cut) → old.begun ≡ None → StoresText name old text r new → Grows name old new
-stores_grows old new name text (Ok octets) calm is = rw is.0 (record { calm = refl; came = inr (text, refl) })
-stores_grows old new name text (Err cut) calm is = stops_grows old new name text cut.fault cut.rest calm is
+stores_grows old new name text (Ok octets) none_begun is = rw is.0 (record { none_begun = refl; came = inr (text, refl) })
+stores_grows old new name text (Err cut) none_begun is = stops_grows old new name text cut.fault cut.rest none_begun is
 
 -- no file came for a text that isn't under way any more
 pub stopped_same : (old new : Maildir) (name text : List ℕ) (cut : Cut) → StoresText name old text (Err cut) new → cut.rest ≡ None → new.files ≡ old.files

@@ -20,7 +20,7 @@ pub mod Intake
 pub mod Refusal
 pub mod Work
 pub mod Parts
-pub mod Prospect
+pub mod MessagePreview
 pub mod Pretend
 pub mod Telling
 pub mod Reasons

@@ -79,7 +79,7 @@ pub record KeepsRecord {F H Z : Type 0} (file : FileGhosts F) (uid : List ℕ) (
 pub record KeepsStore {D F H Z : Type 0} (disk : DiskGhosts D) (file : FileGhosts F) (most : ℕ) (old new : Work D F H Z) : Type 0 where
   pub lines : Adds old.ledger.lines most new.ledger.lines
   pub kind : kind_of new.store ≡ kind_of old.store
-  pub calm : is_sound disk file new.store → is_sound disk file old.store × ((stores_of disk file new.store).maildir.begun ≡ None)
+  pub none_begun : is_sound disk file new.store → is_sound disk file old.store × ((stores_of disk file new.store).maildir.begun ≡ None)
 
 -- no line was noted, the store is of the same kind, and the same file is begun in it
 pub record KeepsBegun {D F H Z : Type 0} (disk : DiskGhosts D) (file : FileGhosts F) (old new : Work D F H Z) : Type 0 where

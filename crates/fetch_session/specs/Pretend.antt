@@ -15,13 +15,13 @@ use Rattle.mail_store.specs.MboxCalls.{GoesOn}
 use Rattle.fetch_session.specs.declared.fault.Cut.{Cut}
 use Rattle.pop3_client.specs.declared.fault.ClientFault.{ClientFault}
 use Rattle.fetch_session.specs.declared.fault.Fault.{Fault}
-use Rattle.fetch_session.specs.declared.preview.Foreseen.{Foreseen}
+use Rattle.fetch_session.specs.declared.preview.WorkPreview.{WorkPreview}
 use Rattle.fetch_session.specs.declared.preview.Looked.{Looked}
 use Rattle.fetch_session.specs.declared.preview.Preview.{Preview}
-use Rattle.fetch_session.specs.declared.prospect.Prospect.{Prospect}
+use Rattle.fetch_session.specs.declared.message_preview.MessagePreview.{MessagePreview}
 use Rattle.fetch_session.specs.Fault.{cut_of, fault_of}
 use Rattle.fetch_session.specs.Mbox.{AsksMbox}
-use Rattle.fetch_session.specs.Prospect.{prospects}
+use Rattle.fetch_session.specs.MessagePreview.{message_previews}
 use Rattle.fetch_session.specs.Readiness.{CausesUnready, FindsRefused}
 use Rattle.fetch_session.specs.Record.{Keeps}
 use Rattle.fetch_session.specs.Session.{Keeping, Enters_with, LeavesLink, outcome_of}
@@ -64,8 +64,8 @@ LooksIn AsEntries intent old items result new = LooksAtMbox intent old.mbox item
 -- ---- what a preview says
 
 -- what a preview says of a listing once the record has these rows
-abbrev pub foretold : Settings → List Row → List Item → List Bool → ℕ → List Prospect
-foretold settings rows items flags now = prospects settings rows now 0 (planned settings rows items now) items flags
+abbrev pub foretold : Settings → List Row → List Item → List Bool → ℕ → List MessagePreview
+foretold settings rows items flags now = message_previews settings rows now 0 (planned settings rows items now) items flags
 
 -- whether a run would first settle its store
 abbrev pub is_unsettled : Target → Option Intent → Bool
@@ -79,8 +79,8 @@ MayBeFollowed AsEntries intent store = intent ≡ None → (was : List ℕ) × G
 
 -- the record's file stands for a record; with what the store holds it gives this preview of the listing. An open intent counts as one
 -- whose entry isn't whole
-pub record Foretells (settings : Settings) (target : Target) (items : List Item) (now : ℕ) (old : Keeping) (unsettled : Bool)
-    (told : List Prospect) : Type 0 where
+pub record PreviewsMerged (settings : Settings) (target : Target) (items : List Item) (now : ℕ) (old : Keeping) (unsettled : Bool)
+    (told : List MessagePreview) : Type 0 where
   pub was : Held
   pub stood : Keeps old.file.content was
   pub followed : MayBeFollowed target was.intent old.store
@@ -89,10 +89,10 @@ pub record Foretells (settings : Settings) (target : Target) (items : List Item)
       (flags_in target old.store items) now
 
 -- this is the preview; or a session with this listing wouldn't be ready either, for this reason; and nothing changed
-abbrev pub Foresees : Settings → Target → List Item → ℕ → Keeping → Result Foreseen Fault → Keeping → Type 0
-Foresees settings target items now old (Ok foreseen) new =
-    Foretells settings target items now old foreseen.unsettled foreseen.prospects.items × IsUntouched target old new
-Foresees settings target items now old (Err fault) new = CausesUnready target items fault old.store old.file new.store new.file
+abbrev pub PreviewsWork : Settings → Target → List Item → ℕ → Keeping → Result WorkPreview Fault → Keeping → Type 0
+PreviewsWork settings target items now old (Ok work_preview) new =
+    PreviewsMerged settings target items now old work_preview.unsettled work_preview.message_previews.items × IsUntouched target old new
+PreviewsWork settings target items now old (Err fault) new = CausesUnready target items fault old.store old.file new.store new.file
     × IsUntouched target old new
 
 -- ---- the session
@@ -101,13 +101,13 @@ Foresees settings target items now old (Err fault) new = CausesUnready target it
 pub record Told : Type 0 where
   pub total : ℕ
   pub unsettled : Bool
-  pub prospects : List Prospect
+  pub message_previews : List MessagePreview
 
 abbrev pub told_in : Preview → Told
-told_in preview = record { total = preview.total; unsettled = preview.unsettled; prospects = preview.prospects.items }
+told_in preview = record { total = preview.total; unsettled = preview.unsettled; message_previews = preview.message_previews.items }
 
 abbrev pub told_nothing : ℕ → Told
-told_nothing total = record { total = total; unsettled = false; prospects = [] }
+told_nothing total = record { total = total; unsettled = false; message_previews = [] }
 
 -- logging in or asking for the listings stopped
 pub record NotListed (settings : Settings) (old : Place) (cut : Cut) (new : Place) (told : Told) : Type 0 where
@@ -133,7 +133,7 @@ pub record Listed (settings : Settings) (target : Target) (now : ℕ) (old : Pla
   pub mid : Place
   pub enters : Enters_with settings old (Ok items) mid
   pub total : told.total ≡ length items
-  pub foretells : Foretells settings target items now before told.unsettled told.prospects
+  pub previews : PreviewsMerged settings target items now before told.unsettled told.message_previews
   pub quits : Talks (quit ∷ []) mid result new
 
 -- the session came to its end, or stopped
@@ -143,8 +143,8 @@ EndsOrStops settings target now old before (Err cut) new after told = NotListed 
     ⊎ (NotReady settings target old before cut new after told
     ⊎ ((why : ClientFault) × (cut ≡ cut_of (fault_of why) None) × Listed settings target now old before (Err why) new told))
 
-abbrev pub Surveys : Settings → Target → ℕ → Place → Keeping → Result (Unit {0}) Cut → Place → Keeping → Told → Type 0
-Surveys settings target now old before result new after told =
+abbrev pub PreviewsSession : Settings → Target → ℕ → Place → Keeping → Result (Unit {0}) Cut → Place → Keeping → Told → Type 0
+PreviewsSession settings target now old before result new after told =
     EndsOrStops settings target now old before result new after told × IsUntouched target before after
 
 -- a whole session, from a link with nothing waiting to be used: it sends the beginning of a session, then QUIT, or after a fault what a

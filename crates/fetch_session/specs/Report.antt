@@ -9,9 +9,9 @@ use Rattle.fetch_rules.specs.Plan.{planned}
 use Rattle.fetch_rules.specs.Record.{Row}
 use Rattle.fetch_rules.specs.declared.steps.Step.{Step}
 use Rattle.fetch_session.specs.declared.fault.Fault.TheVariants.{StoreRefused, SeenRefused, BadSeen}
-use Rattle.fetch_session.specs.declared.prospect.Fate.{Fate}
-use Rattle.fetch_session.specs.declared.prospect.Fate.TheVariants.{TooLarge, PastLimit, SameId}
-use Rattle.fetch_session.specs.declared.prospect.Prospect.{Prospect}
+use Rattle.fetch_session.specs.declared.message_preview.Fate.{Fate}
+use Rattle.fetch_session.specs.declared.message_preview.Fate.TheVariants.{TooLarge, PastLimit, SameId}
+use Rattle.fetch_session.specs.declared.message_preview.MessagePreview.{MessagePreview}
 use Rattle.fetch_session.specs.declared.report.LeftOut.{LeftOut}
 use Rattle.fetch_session.specs.declared.report.Skips.{Skips}
 use Rattle.fetch_session.specs.declared.report.Report.{Report}
@@ -19,7 +19,7 @@ use Rattle.fetch_session.specs.declared.report.Outcome.{Outcome}
 use Rattle.fetch_session.specs.declared.report.Outcome.TheVariants.{Cut}
 use Rattle.fetch_session.specs.declared.report.ReportLine.{ReportLine}
 use Rattle.fetch_session.specs.declared.report.ReportLine.TheVariants.{Delivered, Held, Deleted}
-use Rattle.fetch_session.specs.Prospect.{prospects}
+use Rattle.fetch_session.specs.MessagePreview.{message_previews}
 use Rattle.fetch_session.specs.Target.{none_held}
 
 -- there is room for `n` more lines
@@ -77,11 +77,11 @@ is_for_id SameId = true
 is_for_id _ = false
 
 -- how many of these messages have such a fate
-abbrev pub count_fates : (Fate → Bool) → List Prospect → ℕ
-count_fates test told = count_by (λ (prospect : Prospect). test prospect.fate) told
+abbrev pub count_fates : (Fate → Bool) → List MessagePreview → ℕ
+count_fates test told = count_by (λ (message_preview : MessagePreview). test message_preview.fate) told
 
 -- how many of these messages are left out, by their reasons
-abbrev pub left_out_of : List Prospect → LeftOut
+abbrev pub left_out_of : List MessagePreview → LeftOut
 left_out_of told = record {
   too_large = count_fates is_for_size told;
   past_limit = count_fates is_for_limit told;
@@ -99,7 +99,7 @@ with_fate left _ = left
 abbrev pub skips_of : Settings → List Row → List Item → ℕ → List Step → Skips
 skips_of settings rows items now steps = record {
   all = skipped_in steps;
-  left_out = left_out_of (prospects settings rows now 0 steps items (none_held items));
+  left_out = left_out_of (message_previews settings rows now 0 steps items (none_held items));
 }
 
 -- what the plan passes over

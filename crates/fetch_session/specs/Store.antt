@@ -25,7 +25,7 @@ use Rattle.fetch_session.specs.declared.fault.Why.TheVariants.{Missing, Refused}
 pub record Gained (old new : Maildir) (files : List File) : Type 0 where
   pub came : new.files ≡ old.files ++ files
   pub there : new.there ≡ old.there
-  pub calm : old.begun ≡ None → new.begun ≡ None
+  pub none_begun : old.begun ≡ None → new.begun ≡ None
   pub failures : old.failures ≤ new.failures
 
 -- these texts were appended, each as an entry, and nothing else changed
@@ -40,7 +40,7 @@ Brings AsEntries dones old new = Appended old.mbox new.mbox (texts_of dones)
 
 -- at most a file with this stem and its length in its name came, and none is begun
 pub record Grows (stem : List ℕ) (old new : Maildir) : Type 0 where
-  pub calm : new.begun ≡ None
+  pub none_begun : new.begun ≡ None
   pub came : (new.files ≡ old.files) ⊎ ((content : List ℕ) × (new.files ≡ old.files ++ sized_file stem content ∷ []))
 
 -- ---- a text, piece by piece

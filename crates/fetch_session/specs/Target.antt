@@ -89,8 +89,8 @@ mbox_of file (InMaildir device) = no_mbox
 mbox_of file (InMbox device) = file.stored device
 
 -- no file is being written
-abbrev pub IsCalm : {D F : Type 0} → DiskGhosts D → FileGhosts F → Store D F → Type 0
-IsCalm disk file store = is_sound disk file store → (stores_of disk file store).maildir.begun ≡ None
+abbrev pub NoneBegun : {D F : Type 0} → DiskGhosts D → FileGhosts F → Store D F → Type 0
+NoneBegun disk file store = is_sound disk file store → (stores_of disk file store).maildir.begun ≡ None
 
 -- ---- what is found in it
 

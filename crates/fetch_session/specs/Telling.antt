@@ -6,10 +6,10 @@ use Rattle.std.specs.Fmt.{decimal}
 use Rattle.rc_file.specs.declared.settings.Settings.{Settings}
 use Rattle.fetch_rules.specs.Due.{seconds_per_day}
 use Rattle.fetch_session.specs.declared.preview.Preview.{Preview}
-use Rattle.fetch_session.specs.declared.prospect.Fate.{Fate}
-use Rattle.fetch_session.specs.declared.prospect.Fate.TheVariants.{Fetched, FetchedAndDeleted, Deleted, Held}
-use Rattle.fetch_session.specs.declared.prospect.Fate.TheVariants.{DeliveredBefore, TooLarge, PastLimit, SameId}
-use Rattle.fetch_session.specs.declared.prospect.Prospect.{Prospect}
+use Rattle.fetch_session.specs.declared.message_preview.Fate.{Fate}
+use Rattle.fetch_session.specs.declared.message_preview.Fate.TheVariants.{Fetched, FetchedAndDeleted, Deleted, Held}
+use Rattle.fetch_session.specs.declared.message_preview.Fate.TheVariants.{DeliveredBefore, TooLarge, PastLimit, SameId}
+use Rattle.fetch_session.specs.declared.message_preview.MessagePreview.{MessagePreview}
 use Rattle.fetch_session.specs.declared.telling.Date.{Date}
 use Rattle.fetch_session.specs.Text.{heading, message_text}
 
@@ -72,9 +72,9 @@ due_text None = []
 due_text (Some second) = codes ", not due before " ++ date_text second
 
 -- the line of one message
-abbrev pub prospect_text : ℕ → Prospect → List ℕ
-prospect_text total prospect = message_text total prospect.number
-    (codes "(" ++ (decimal prospect.size ++ (codes " octets) " ++ (fate_text prospect.fate ++ (due_text prospect.due ++ codes "\n")))))
+abbrev pub message_preview_text : ℕ → MessagePreview → List ℕ
+message_preview_text total message_preview = message_text total message_preview.number
+    (codes "(" ++ (decimal message_preview.size ++ (codes " octets) " ++ (fate_text message_preview.fate ++ (due_text message_preview.due ++ codes "\n")))))
 
 -- whether a message would be fetched, and whether deleted
 abbrev pub is_fetch : Fate → Bool
@@ -87,11 +87,11 @@ is_deletion Deleted = true
 is_deletion FetchedAndDeleted = true
 is_deletion _ = false
 
-abbrev pub fetched_in : List Prospect → ℕ
-fetched_in prospects = count_by (λ (prospect : Prospect). is_fetch prospect.fate) prospects
+abbrev pub fetched_in : List MessagePreview → ℕ
+fetched_in message_previews = count_by (λ (message_preview : MessagePreview). is_fetch message_preview.fate) message_previews
 
-abbrev pub deleted_in : List Prospect → ℕ
-deleted_in prospects = count_by (λ (prospect : Prospect). is_deletion prospect.fate) prospects
+abbrev pub deleted_in : List MessagePreview → ℕ
+deleted_in message_previews = count_by (λ (message_preview : MessagePreview). is_deletion message_preview.fate) message_previews
 
 -- the last line
 abbrev pub counts_text : ℕ → ℕ → ℕ → List ℕ
@@ -99,7 +99,7 @@ counts_text total fetched deleted = decimal fetched ++ (codes " of " ++ (decimal
     ++ (codes " messages would be fetched, " ++ (decimal deleted ++ codes " deleted\n"))))
 
 abbrev pub counts : Preview → List ℕ
-counts preview = counts_text preview.total (fetched_in preview.prospects.items) (deleted_in preview.prospects.items)
+counts preview = counts_text preview.total (fetched_in preview.message_previews.items) (deleted_in preview.message_previews.items)
 
 -- what is said before the messages
 abbrev pub notice : Bool → List ℕ
@@ -109,4 +109,4 @@ notice unsettled =
 -- what a run would do, each line ended by LF
 abbrev pub preview_text : Preview → Settings → List ℕ
 preview_text preview settings =
-    ((heading settings ++ notice preview.unsettled) ++ flat_map (prospect_text preview.total) preview.prospects.items) ++ counts preview
+    ((heading settings ++ notice preview.unsettled) ++ flat_map (message_preview_text preview.total) preview.message_previews.items) ++ counts preview

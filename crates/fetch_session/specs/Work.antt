@@ -8,7 +8,7 @@ use Rattle.pop3_client.specs.Client.{place_of}
 use Rattle.pop3_client.specs.declared.client.Client.{Client}
 use Rattle.fetch_session.specs.declared.work.Ledger.{Ledger}
 use Rattle.fetch_session.specs.declared.work.Work.{Work}
-use Rattle.fetch_session.specs.Target.{IsCalm, is_sound, stores_of}
+use Rattle.fetch_session.specs.Target.{NoneBegun, is_sound, stores_of}
 use Rattle.fetch_session.specs.Record.{Steady}
 use Rattle.fetch_session.specs.Scene.{Scene, scene, WhereAllSound}
 
@@ -24,7 +24,7 @@ pub record IsWritten {F H Z : Type 0} (file : FileGhosts F) (ledger : Ledger F H
 
 -- ready for the next task: no file is begun, and all is written down
 pub record IsReady {D F H Z : Type 0} (disk : DiskGhosts D) (file : FileGhosts F) (work : Work D F H Z) : Type 0 where
-  pub calm : IsCalm disk file work.store
+  pub none_begun : NoneBegun disk file work.store
   pub written : IsWritten file work.ledger
 
 -- ids that have a row keep one

@@ -1,7 +1,7 @@
 //! The account that sessions are for.
 ghost use Rattle.std.specs.Prelude.{◌≡◌};
 ghost use Rattle.rc_file.specs.Settings.{IsValid};
-ghost use Rattle.fetch_session.specs.Target.{IsCalm};
+ghost use Rattle.fetch_session.specs.Target.{NoneBegun};
 
 use crate::work::{Ledger, Work};
 use fetch_rules::{Seen, Settings};
@@ -36,7 +36,7 @@ impl<D: MaildirDisk, F: FlatFile, H: BuildHasher> Model for Account<D, F, H> {
     ghost use Rattle.mail_store.specs.FileName.{IsAccountText, account_text};
     ghost use Rattle.std.specs.String.{string_bytes};
     ghost use Rattle.fetch_session.specs.Account.{Holding};
-    ghost use Rattle.fetch_session.specs.Target.{IsCalm};
+    ghost use Rattle.fetch_session.specs.Target.{NoneBegun};
 
     ghost Value = { Holding D F };
 
@@ -44,7 +44,7 @@ impl<D: MaildirDisk, F: FlatFile, H: BuildHasher> Model for Account<D, F, H> {
 
     ghost invariant = { λ a. IsValid a.settings
         × (a.id ≡ account_text (string_bytes a.settings.server) a.settings.port (string_bytes a.settings.username))
-        × IsCalm D.MaildirDisk F.FlatFile a.work.store };
+        × NoneBegun D.MaildirDisk F.FlatFile a.work.store };
 }
 
 impl<D: MaildirDisk, F: FlatFile, H: BuildHasher> Account<D, F, H> {
@@ -58,7 +58,7 @@ impl<D: MaildirDisk, F: FlatFile, H: BuildHasher> Account<D, F, H> {
         hasher: H,
     ) -> Account<D, F, H>
         requires valid { IsValid settings }
-        requires calm { IsCalm D.MaildirDisk F.FlatFile store }
+        requires none_begun { NoneBegun D.MaildirDisk F.FlatFile store }
         ensures { result ≡ record { settings = settings; store = store; file = seen_file } }
     {
         let id = account_id(
@@ -95,7 +95,7 @@ impl<D: MaildirDisk, F: FlatFile, H: BuildHasher> Account<D, F, H> {
         H: Drop,
         ensures parts { (result.0 ≡ self.settings) × (result.1 ≡ self.store) × (result.2 ≡ self.file) }
         ensures valid { IsValid result.0 }
-        ensures calm { IsCalm D.MaildirDisk F.FlatFile result.1 }
+        ensures none_begun { NoneBegun D.MaildirDisk F.FlatFile result.1 }
     {
         let Account {
             settings,

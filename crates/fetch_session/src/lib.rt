@@ -11,7 +11,7 @@ mod one_session;
 mod opening;
 mod plan;
 mod preview;
-mod prospect;
+mod message_preview;
 mod readiness;
 mod reasons;
 mod record;
@@ -32,7 +32,7 @@ pub use laws::{
 pub use listener::{Listener, Silent};
 pub use one_session::{session, session_told};
 pub use preview::{Preview, pretend};
-pub use prospect::{Fate, Prospect};
+pub use message_preview::{Fate, MessagePreview};
 pub use reasons::{explained_line, told_report};
 pub use report::{LeftOut, Outcome, Report, ReportLine};
 pub use telling::preview_text;

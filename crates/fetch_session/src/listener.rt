@@ -1,5 +1,5 @@
 //! Who is told of a session's lines while it runs.
-use crate::prospect::Prospect;
+use crate::message_preview::MessagePreview;
 use crate::report::ReportLine;
 use std::vec::Vec;
 
@@ -13,7 +13,7 @@ pub trait Listener {
 
     /// Takes what is planned for each message, before there are lines. The record is asked for it, and not the
     /// store.
-    fn expect(&mut self, plan: Vec<Prospect>)
+    fn expect(&mut self, plan: Vec<MessagePreview>)
         ensures { goes_on self.old self.new };
 
     /// Takes the lines that a session with this many messages has noted so far.
@@ -37,7 +37,7 @@ impl Listener for Silent {
         false
     }
 
-    fn expect(&mut self, _plan: Vec<Prospect>) {}
+    fn expect(&mut self, _plan: Vec<MessagePreview>) {}
 
     fn hear(&mut self, _total: u32, _lines: &[ReportLine]) {}
 

@@ -12,7 +12,7 @@ ghost use Rattle.fetch_session.specs.Lasting.{ProceedsLast, RunsSession};
 ghost use Rattle.fetch_session.specs.Parts.{KeepsLink, KeepsStore};
 ghost use Rattle.fetch_session.specs.Report.{Reports, most_lines, none_skipped};
 ghost use Rattle.fetch_session.specs.Session.{Proceeds, keeping, noted};
-ghost use Rattle.fetch_session.specs.Target.{AfterTakingIn, IsCalm, target_of};
+ghost use Rattle.fetch_session.specs.Target.{AfterTakingIn, NoneBegun, target_of};
 
 use crate::account::Account;
 use crate::fault::{Cut, Fault, broken, plain};
@@ -56,7 +56,7 @@ fn proceed<W: Wire, D: MaildirDisk, F: FlatFile, H: BuildHasher, L: Listener>(
 ) -> Result<(), Cut>
     requires valid { IsValid terms.settings.now }
     requires digits { IsAccountText terms.account.now }
-    requires calm { IsCalm D.MaildirDisk F.FlatFile work.old.store }
+    requires none_begun { NoneBegun D.MaildirDisk F.FlatFile work.old.store }
     requires nothing { (counts.old.total ≡ 0) × (counts.old.skipped ≡ none_skipped)
         × (work.old.ledger.lines.items ≡ []) × (vec_len work.old.ledger.lines ≡ 0) }
     ensures link { KeepsLink W.Wire (TookWithTail (opening_limit + (counts.new.total * step_limit + tail_limit))) client.old result

@@ -4,7 +4,7 @@ ghost use Rattle.std.specs.List.{AllByRecursion};
 ghost use Rattle.mail_terms.specs.Listing.{message_limit};
 ghost use Rattle.mail_terms.specs.UniqueId.{IsLegalId};
 ghost use Rattle.mail_store.specs.FileName.{IsAccountText};
-ghost use Rattle.fetch_session.specs.Target.{AfterTakingIn, IsCalm, target_of};
+ghost use Rattle.fetch_session.specs.Target.{AfterTakingIn, NoneBegun, target_of};
 ghost use Rattle.fetch_session.specs.Work.{WhereWorkSound};
 ghost use Rattle.fetch_session.specs.Intake.{TookWithTail, step_limit, tail_limit};
 ghost use Rattle.fetch_session.specs.Lasting.{CarriesLast};
@@ -15,7 +15,7 @@ ghost use Rattle.fetch_session.specs.Report.{HasRoom, none_skipped};
 use crate::ending::end;
 use crate::fault::{Cut, plain};
 use crate::listener::Listener;
-use crate::prospect::skips_of;
+use crate::message_preview::skips_of;
 use crate::readiness::{Ready, prepare};
 use crate::reasons::tell_plan;
 use crate::report::Skips;
@@ -40,7 +40,7 @@ pub fn carry_out<W: Wire, D: MaildirDisk, F: FlatFile, H: BuildHasher, L: Listen
 ) -> Result<(), Cut>
     requires digits { IsAccountText terms.account.now }
     requires room { HasRoom work.old.ledger.lines (2 * length listing.now) }
-    requires calm { IsCalm D.MaildirDisk F.FlatFile work.old.store }
+    requires none_begun { NoneBegun D.MaildirDisk F.FlatFile work.old.store }
     requires legal { AllByRecursion (λ item. IsLegalId item.uid) listing.now }
     requires none_skipped { skipped.old ≡ none_skipped }
     requires few { length listing.now ≤ message_limit }

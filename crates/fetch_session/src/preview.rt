@@ -5,16 +5,16 @@ ghost use Rattle.rc_file.specs.Settings.{IsValid};
 ghost use Rattle.mail_store.specs.FileName.{IsAccountText};
 ghost use Rattle.fetch_rules.specs.Record.{merged};
 ghost use Rattle.fetch_session.specs.Account.{digits_of};
-ghost use Rattle.fetch_session.specs.Pretend.{Foresees, LooksAtMbox, LooksIn, Pretends, Surveys, foretold, told_in, told_nothing};
+ghost use Rattle.fetch_session.specs.Pretend.{PreviewsWork, LooksAtMbox, LooksIn, Pretends, PreviewsSession, foretold, told_in, told_nothing};
 ghost use Rattle.fetch_session.specs.Scene.{WhereAllSound};
 ghost use Rattle.fetch_session.specs.Session.{keeping};
-ghost use Rattle.fetch_session.specs.Target.{AfterTakingIn, IsCalm, is_sound, kind_of, none_held, stores_of, target_of};
+ghost use Rattle.fetch_session.specs.Target.{AfterTakingIn, NoneBegun, is_sound, kind_of, none_held, stores_of, target_of};
 
 use crate::account::{Account, Store};
 use crate::appending::refused;
 use crate::fault::{Cut, Fault, broken, plain};
 use crate::opening::enter;
-use crate::prospect::{Prospect, prospects};
+use crate::message_preview::{MessagePreview, message_previews};
 use crate::readiness::{ask_held, read};
 use crate::report::Outcome;
 use crate::tail::leave;
@@ -36,11 +36,11 @@ pub struct Preview {
     /// How many messages the server listed; 0 if the listings weren't joined.
     pub total: u32,
     /// Whether a run would first check whether the last entry of its mboxrd file is whole. If it
-    /// is, its message isn't fetched again; the prospects are those of a run that finds that it
+    /// is, its message isn't fetched again; these are the previews of a run that finds that it
     /// isn't.
     pub unsettled: bool,
     /// What would be done with each message, in order; none if that isn't known.
-    pub prospects: Vec<Prospect>,
+    pub message_previews: Vec<MessagePreview>,
 }
 
 /// What was found in a store, which stays as it was.
@@ -116,13 +116,13 @@ fn look<D: MaildirDisk, F: FlatFile, H: BuildHasher>(
 
 /// What a preview says of a listing, once it was merged into the record, only in memory. An open
 /// intent counts as one whose entry isn't whole.
-fn foretell<H: BuildHasher>(
+fn preview_merged<H: BuildHasher>(
     alloc: Global,
     terms: Terms<'_>,
     seen: &mut Seen<H>,
     listing: &Listing,
     held: &[bool],
-) -> Result<Vec<Prospect>, AllocError>
+) -> Result<Vec<MessagePreview>, AllocError>
     requires { length held.now ≡ length listing.now }
     ensures { IfOk result (λ told. told.items
         ≡ foretold terms.entry.settings.now
@@ -131,32 +131,32 @@ fn foretell<H: BuildHasher>(
     seen.close(false);
     seen.merge(listing, held, terms.now)?;
     let steps = plan(alloc, terms.settings, seen, listing, terms.now)?;
-    prospects(alloc, terms, seen, listing, held, &steps)
+    message_previews(alloc, terms, seen, listing, held, &steps)
 }
 
 /// Whether a run would first settle its store, and what it would do with each message.
 #[derive(Drop)]
-struct Foreseen {
+struct WorkPreview {
     unsettled: bool,
-    prospects: Vec<Prospect>,
+    message_previews: Vec<MessagePreview>,
 }
 
 /// Reads the record, asks what the store holds of the listing, and tells what would be done. Nothing
 /// is saved.
-fn foresee<D: MaildirDisk, F: FlatFile, H: BuildHasher>(
+fn preview_work<D: MaildirDisk, F: FlatFile, H: BuildHasher>(
     alloc: Global,
     terms: Terms<'_>,
     store: &mut Store<D, F>,
     file: &mut F,
     seen: &mut Seen<H>,
     listing: &Listing,
-) -> Result<Foreseen, Fault>
+) -> Result<WorkPreview, Fault>
     ensures kind { kind_of store.new ≡ kind_of store.old }
     ensures stays { is_sound D.MaildirDisk F.FlatFile store.new → is_sound D.MaildirDisk F.FlatFile store.old
         × ((stores_of D.MaildirDisk F.FlatFile store.new).maildir.begun ≡ (stores_of D.MaildirDisk F.FlatFile store.old).maildir.begun) }
-    ensures foresees { is_sound D.MaildirDisk F.FlatFile store.new → F.sound file.new
+    ensures previews { is_sound D.MaildirDisk F.FlatFile store.new → F.sound file.new
         → is_sound D.MaildirDisk F.FlatFile store.old × F.sound file.old
-        × AfterTakingIn (stores_of D.MaildirDisk F.FlatFile store.old) (λ left. Foresees terms.entry.settings.now
+        × AfterTakingIn (stores_of D.MaildirDisk F.FlatFile store.old) (λ left. PreviewsWork terms.entry.settings.now
         (target_of store.old terms.entry.account.now) listing.now terms.entry.now (keeping left (F.stored file.old)) result
         (keeping (stores_of D.MaildirDisk F.FlatFile store.new) (F.stored file.new))) }
 {
@@ -167,33 +167,33 @@ fn foresee<D: MaildirDisk, F: FlatFile, H: BuildHasher>(
         Ok(looked) => looked,
         Err(fault) => return Err(fault),
     };
-    match foretell(alloc, terms, seen, listing, &looked.held) {
-        Ok(prospects) => Ok(Foreseen {
+    match preview_merged(alloc, terms, seen, listing, &looked.held) {
+        Ok(message_previews) => Ok(WorkPreview {
             unsettled: looked.unsettled,
-            prospects,
+            message_previews,
         }),
         Err(_) => Err(Fault::NoMemory),
     }
 }
 
 /// Logs in, tells what would be done with the listed messages, and quits, up to the first fault.
-fn survey<W: Wire, D: MaildirDisk, F: FlatFile, H: BuildHasher>(
+fn preview_session<W: Wire, D: MaildirDisk, F: FlatFile, H: BuildHasher>(
     client: &mut Client<'_, W>,
     work: &mut Work<D, F, H>,
     terms: Terms<'_>,
     preview: &mut Preview,
 ) -> Result<(), Cut>
     requires valid { IsValid terms.settings.now }
-    requires calm { IsCalm D.MaildirDisk F.FlatFile work.old.store }
+    requires none_begun { NoneBegun D.MaildirDisk F.FlatFile work.old.store }
     requires nothing { told_in preview.old ≡ told_nothing 0 }
     ensures link { HasSameLink client.old client.new }
     ensures kind { kind_of work.new.store ≡ kind_of work.old.store }
     ensures outcome { preview.new.outcome ≡ preview.old.outcome }
-    ensures calm { is_sound D.MaildirDisk F.FlatFile work.new.store → is_sound D.MaildirDisk F.FlatFile work.old.store
+    ensures none_begun { is_sound D.MaildirDisk F.FlatFile work.new.store → is_sound D.MaildirDisk F.FlatFile work.old.store
         × ((stores_of D.MaildirDisk F.FlatFile work.new.store).maildir.begun ≡ None) }
-    ensures surveys { WhereAllSound W.sound W.leads_to (is_sound D.MaildirDisk F.FlatFile) F.sound client.old.wire.now client.new.wire.now
+    ensures previews { WhereAllSound W.sound W.leads_to (is_sound D.MaildirDisk F.FlatFile) F.sound client.old.wire.now client.new.wire.now
         work.old.store work.new.store work.old.ledger.file work.new.ledger.file
-        (AfterTakingIn (stores_of D.MaildirDisk F.FlatFile work.old.store) (λ left. Surveys terms.entry.settings.now
+        (AfterTakingIn (stores_of D.MaildirDisk F.FlatFile work.old.store) (λ left. PreviewsSession terms.entry.settings.now
         (target_of work.old.store terms.entry.account.now) terms.entry.now (place_of W.Wire client.old)
         (keeping left (F.stored work.old.ledger.file)) result (place_of W.Wire client.new)
         (keeping (stores_of D.MaildirDisk F.FlatFile work.new.store) (F.stored work.new.ledger.file)) (told_in preview.new))) }
@@ -203,7 +203,7 @@ fn survey<W: Wire, D: MaildirDisk, F: FlatFile, H: BuildHasher>(
         Err(fault) => return Err(broken(fault)),
     };
     preview.total = listing.len();
-    let foreseen = match foresee(
+    let work_preview = match preview_work(
         work.ledger.alloc,
         terms,
         &mut work.store,
@@ -211,15 +211,15 @@ fn survey<W: Wire, D: MaildirDisk, F: FlatFile, H: BuildHasher>(
         &mut work.ledger.seen,
         &listing,
     ) {
-        Ok(foreseen) => foreseen,
+        Ok(work_preview) => work_preview,
         Err(fault) => return Err(plain(fault)),
     };
-    let Foreseen {
+    let WorkPreview {
         unsettled,
-        prospects,
-    } = foreseen;
+        message_previews,
+    } = work_preview;
     preview.unsettled = unsettled;
-    preview.prospects = prospects;
+    preview.message_previews = message_previews;
     match client.quit() {
         Ok(()) => Ok(()),
         Err(fault) => Err(broken(fault)),
@@ -247,14 +247,14 @@ fn pretend_over<W: Wire, D: MaildirDisk, F: FlatFile, H: BuildHasher>(
         outcome: Outcome::Ended,
         total: 0,
         unsettled: false,
-        prospects: Vec::new(account.work.ledger.alloc),
+        message_previews: Vec::new(account.work.ledger.alloc),
     };
     let terms = Terms {
         settings: &account.settings,
         account: &account.id,
         now,
     };
-    if let Err(cut) = survey(client, &mut account.work, terms, &mut preview) {
+    if let Err(cut) = preview_session(client, &mut account.work, terms, &mut preview) {
         preview.outcome = Outcome::Cut(cut.fault);
         leave(client, cut);
         return preview;

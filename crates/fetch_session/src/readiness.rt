@@ -18,7 +18,7 @@ ghost use Rattle.fetch_session.specs.Record.{Gets, Reads, ReadAs, Merges, IsLine
 
 use crate::account::Store;
 use crate::appending::refused;
-use crate::fault::{Fault, Why};
+use crate::fault::Fault;
 use crate::record::{grow, save};
 use crate::terms::Terms;
 use crate::work::{Ledger, Work};
@@ -128,10 +128,7 @@ pub(crate) fn ask_held<D: MaildirDisk>(
 {
     match held(alloc, disk, account, listing) {
         Ok(flags) => Ok(flags),
-        Err(StoreFault::Missing) => Err(Fault::StoreRefused(Why::Missing)),
-        Err(StoreFault::Refused) => Err(Fault::StoreRefused(Why::Refused)),
-        Err(StoreFault::NotMbox) => Err(Fault::StoreRefused(Why::NotMbox)),
-        Err(StoreFault::NoMemory) => Err(Fault::NoMemory),
+        Err(fault) => Err(refused(fault)),
     }
 }
 
@@ -172,10 +169,7 @@ fn find_held<D: MaildirDisk, H: BuildHasher>(
     };
     match flush_held(alloc, disk, account, listing, &flags) {
         Ok(flags) => Ok(flags),
-        Err(StoreFault::Missing) => Err(Fault::StoreRefused(Why::Missing)),
-        Err(StoreFault::Refused) => Err(Fault::StoreRefused(Why::Refused)),
-        Err(StoreFault::NotMbox) => Err(Fault::StoreRefused(Why::NotMbox)),
-        Err(StoreFault::NoMemory) => Err(Fault::NoMemory),
+        Err(fault) => Err(refused(fault)),
     }
 }
 

@@ -4,7 +4,7 @@ ghost use Rattle.std.specs.String.{string_bytes};
 ghost use Rattle.fetch_session.specs.Reasons.{explained_line, explained_report, fate_at, skip_text, skipped_text, told_report};
 
 use crate::listener::Listener;
-use crate::prospect::{Fate, Prospect, prospects};
+use crate::message_preview::{Fate, MessagePreview, message_previews};
 use crate::report::{Report, ReportLine};
 use crate::step::Planned;
 use crate::terms::Terms;
@@ -33,17 +33,17 @@ pub(crate) fn tell_plan<H: BuildHasher, L: Listener>(
     let Ok(held) = vec![in alloc; false; listing.len() as usize] else {
         return;
     };
-    if let Ok(told) = prospects(alloc, terms, seen, listing, &held, steps) {
+    if let Ok(told) = message_previews(alloc, terms, seen, listing, &held, steps) {
         listener.expect(told);
     }
 }
 
 /// What was planned for message `number`, if that is known.
-fn fate_at(plan: &[Prospect], number: u32) -> Option<Fate>
+fn fate_at(plan: &[MessagePreview], number: u32) -> Option<Fate>
     ensures { result ≡ fate_at plan.now number }
 {
     match plan.get(number.saturating_sub(1) as usize) {
-        Some(prospect) => Some(prospect.fate),
+        Some(message_preview) => Some(message_preview.fate),
         None => None,
     }
 }
@@ -80,7 +80,7 @@ pub fn explained_line(
     alloc: Global,
     verbose: u8,
     total: u32,
-    plan: &[Prospect],
+    plan: &[MessagePreview],
     line: &ReportLine,
 ) -> Result<String, AllocError>
     ensures { IfOk result (λ text. string_bytes text ≡ explained_line verbose total plan.now line.now) }
@@ -98,7 +98,7 @@ fn explained_report(
     alloc: Global,
     report: &Report,
     settings: &Settings,
-    plan: &[Prospect],
+    plan: &[MessagePreview],
 ) -> Result<String, AllocError>
     ensures { IfOk result (λ text. string_bytes text ≡ explained_report report.now settings.now plan.now) }
 {
@@ -119,7 +119,7 @@ pub fn told_report(
     alloc: Global,
     report: &Report,
     settings: &Settings,
-    plan: &[Prospect],
+    plan: &[MessagePreview],
 ) -> Result<String, AllocError>
     ensures { IfOk result (λ text. string_bytes text ≡ told_report plan.now report.now settings.now) }
 {

@@ -103,7 +103,7 @@ pub(crate) fn store_text<W: Wire, D: MaildirDisk>(
     requires room { HasRoomForSize stem }
     requires open { body.spot ≢ Done }
     requires within { body.left ≤ text_limit }
-    requires calm { D.sound disk.old → (D.maildir disk.old).begun ≡ None }
+    requires none_begun { D.sound disk.old → (D.maildir disk.old).begun ≡ None }
     requires not_there { D.sound disk.old → (size : ℕ) → IsThere (D.maildir disk.old) (sized (string_bytes stem) size) → ⊥ }
     ensures link { HasSameLink client.old client.new }
     ensures counted { RefusesTillCut (link_of W.Wire client.old) result (link_of W.Wire client.new) }
@@ -223,7 +223,7 @@ pub(crate) fn take_into_maildir<W: Wire, D: MaildirDisk, F: FlatFile, H: BuildHa
     requires digits { IsAccountText account.now }
     requires legal { IsLegalId uid.now }
     requires room { HasRoom ledger.old.lines 1 }
-    requires calm { D.sound disk.old → (D.maildir disk.old).begun ≡ None }
+    requires none_begun { D.sound disk.old → (D.maildir disk.old).begun ≡ None }
     requires ready { IsWritten F.FlatFile ledger.old }
     requires free { D.sound disk.old → is_held account.now (D.maildir disk.old) uid.now ≡ false }
     ensures link { KeepsLink W.Wire (TookTillCut (most (retr number))) client.old result client.new }

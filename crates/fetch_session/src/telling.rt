@@ -3,10 +3,10 @@ ghost use Rattle.std.specs.Prelude.{◌≡◌, ◌++◌, IfOk, codes, if◌then�
 ghost use Rattle.std.specs.String.{string_bytes};
 ghost use Rattle.fetch_session.specs.Telling.{counts, date_of, date_text, due_text, deleted_in, fate_text};
 ghost use Rattle.fetch_session.specs.Telling.{fetched_in, is_deletion, is_fetch, notice, preview_text};
-ghost use Rattle.fetch_session.specs.Telling.{prospect_text};
+ghost use Rattle.fetch_session.specs.Telling.{message_preview_text};
 
 use crate::preview::Preview;
-use crate::prospect::{Fate, Prospect};
+use crate::message_preview::{Fate, MessagePreview};
 use crate::text::heading;
 use fetch_rules::{SECONDS_PER_DAY, Settings};
 use std::alloc::{AllocError, Global};
@@ -99,27 +99,27 @@ impl Fate {
 }
 
 /// The line of one message.
-fn prospect_text(alloc: Global, total: u32, prospect: &Prospect) -> Result<String, AllocError>
-    ensures { IfOk result (λ text. string_bytes text ≡ prospect_text total prospect.now) }
+fn message_preview_text(alloc: Global, total: u32, message_preview: &MessagePreview) -> Result<String, AllocError>
+    ensures { IfOk result (λ text. string_bytes text ≡ message_preview_text total message_preview.now) }
 {
-    let Prospect {
+    let MessagePreview {
         number,
         size,
         fate,
         due,
-    } = *prospect;
+    } = *message_preview;
     let what = fate.text();
     let when = due_text(alloc, due)?;
     format!(in alloc; "msg {number}/{total} ({size} octets) {what}{when}\n")
 }
 
 /// How many messages would be fetched.
-fn fetched_in(prospects: &[Prospect]) -> usize
-    ensures { result ≡ fetched_in prospects.now }
+fn fetched_in(message_previews: &[MessagePreview]) -> usize
+    ensures { result ≡ fetched_in message_previews.now }
 {
     let mut count = 0usize;
-    for prospect in prospects {
-        if prospect.fate.is_fetch() {
+    for message_preview in message_previews {
+        if message_preview.fate.is_fetch() {
             count += 1;
         }
     }
@@ -127,12 +127,12 @@ fn fetched_in(prospects: &[Prospect]) -> usize
 }
 
 /// How many messages would be deleted.
-fn deleted_in(prospects: &[Prospect]) -> usize
-    ensures { result ≡ deleted_in prospects.now }
+fn deleted_in(message_previews: &[MessagePreview]) -> usize
+    ensures { result ≡ deleted_in message_previews.now }
 {
     let mut count = 0usize;
-    for prospect in prospects {
-        if prospect.fate.is_deletion() {
+    for message_preview in message_previews {
+        if message_preview.fate.is_deletion() {
             count += 1;
         }
     }
@@ -144,8 +144,8 @@ fn counts(alloc: Global, preview: &Preview) -> Result<String, AllocError>
     ensures { IfOk result (λ text. string_bytes text ≡ counts preview.now) }
 {
     let total = preview.total;
-    let fetched = fetched_in(&preview.prospects);
-    let deleted = deleted_in(&preview.prospects);
+    let fetched = fetched_in(&preview.message_previews);
+    let deleted = deleted_in(&preview.message_previews);
     format!(in alloc; "{fetched} of {total} messages would be fetched, {deleted} deleted\n")
 }
 
@@ -171,8 +171,8 @@ pub fn preview_text(
 {
     let mut text = heading(alloc, settings)?;
     text.push_str(notice(preview.unsettled))?;
-    for prospect in &preview.prospects {
-        text.push_str(prospect_text(alloc, preview.total, prospect)?.as_str())?;
+    for message_preview in &preview.message_previews {
+        text.push_str(message_preview_text(alloc, preview.total, message_preview)?.as_str())?;
     }
     text.push_str(counts(alloc, preview)?.as_str())?;
     Ok(text)

@@ -17,9 +17,9 @@ use Rattle.getmail_program.specs.declared.told.Told.{Told}
 use Rattle.getmail_program.specs.declared.told.Told.TheVariants.{Done, Ahead}
 
 -- a session that changes nothing was run: the preview says what a run would do
-abbrev pub PreviewsSession : {W D F : Type 0} → WireGhosts W → DiskGhosts D → FileGhosts F → ℕ → Holding D F → W → Preview → Holding D F
+abbrev pub PreviewsAccount : {W D F : Type 0} → WireGhosts W → DiskGhosts D → FileGhosts F → ℕ → Holding D F → W → Preview → Holding D F
     → W → Type 0
-PreviewsSession link disk file now old wire preview new wire' =
+PreviewsAccount link disk file now old wire preview new wire' =
     link.sound wire' → is_sound disk file new.store → file.sound new.file
     → AfterTakingIn (stores_of disk file old.store) (λ left. Pretends old.settings (target_of old.store (digits_of old.settings)) now
     (link.history wire) (keeping left (file.stored old.file)) preview (link.history wire')
@@ -41,4 +41,4 @@ abbrev pub HoldsSession : {W D F : Type 0} → WireGhosts W → DiskGhosts D →
 HoldsSession link disk file pretends now old wire (Done report) new wire' =
     (pretends ≡ false) × IsWithinLimits link wire report wire' × RunsSession link disk file now old wire report new wire'
 HoldsSession link disk file pretends now old wire (Ahead said) new wire' =
-    (pretends ≡ true) × ((preview : Preview) × PreviewsSession link disk file now old wire preview new wire' × SaysAhead preview said)
+    (pretends ≡ true) × ((preview : Preview) × PreviewsAccount link disk file now old wire preview new wire' × SaysAhead preview said)

@@ -7,7 +7,7 @@ use Rattle.fetch_session.specs.declared.fault.Fault.{Fault}
 use Rattle.fetch_session.specs.declared.report.LeftOut.{LeftOut}
 use Rattle.fetch_session.specs.declared.report.Outcome.{Outcome}
 use Rattle.fetch_session.specs.declared.report.Outcome.TheVariants.{Ended, Cut}
-use Rattle.fetch_session.specs.declared.prospect.Prospect.{Prospect}
+use Rattle.fetch_session.specs.declared.message_preview.MessagePreview.{MessagePreview}
 use Rattle.fetch_session.specs.Reasons.{told_report}
 use Rattle.fetch_session.specs.Telling.{preview_text}
 use Rattle.fetch_session.specs.Text.{fault_text, outcome_number}
@@ -27,14 +27,14 @@ outcome_of (Done report) = report.outcome
 outcome_of (Ahead preview) = preview.outcome
 
 -- a report has the reasons why messages were passed over, if a plan is known
-abbrev pub text_of : Settings → List Prospect → Told → List ℕ
+abbrev pub text_of : Settings → List MessagePreview → Told → List ℕ
 text_of settings plan (Done report) = told_report plan report settings
 text_of settings plan (Ahead preview) = preview_text preview settings
 
 -- what a session said was written to `out`, and nothing else; there are reasons only if they are asked for
 pub record Reported {O : Type 0} (contents : O → Option (List ℕ)) (explains : Bool) (settings : Settings) (told : Told) (out out' : Output O)
     : Type 0 where
-  pub plan : List Prospect
+  pub plan : List MessagePreview
   pub asked : explains ≡ false → plan ≡ []
   pub puts : Puts contents out (text_of settings plan told) out'
 

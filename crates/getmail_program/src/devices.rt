@@ -1,7 +1,7 @@
 //! The account of a run on a machine's files, and the time there.
 ghost use Rattle.std.specs.Prelude.{◌≡◌, ◌≤◌};
 ghost use Rattle.rc_file.specs.Settings.{IsValid};
-ghost use Rattle.fetch_session.specs.Target.{IsCalm, kind_of};
+ghost use Rattle.fetch_session.specs.Target.{NoneBegun, kind_of};
 ghost use Rattle.getmail_program.specs.Places.{kind_in};
 
 use crate::output::Output;
@@ -47,7 +47,7 @@ fn store_at<'a, R: Files + Clock + AllocGlobal + Clone + Drop>(
     mark: ProcessMark,
 ) -> Store<HostMaildir<'a, R>, HostRecord<'a, R>>
     ensures kind { kind_of result ≡ kind_in dest.now }
-    ensures calm { IsCalm ⟦<HostMaildir<'a, R> as MaildirDisk>⟧ ⟦<HostRecord<'a, R> as FlatFile>⟧ result }
+    ensures none_begun { NoneBegun ⟦<HostMaildir<'a, R> as MaildirDisk>⟧ ⟦<HostRecord<'a, R> as FlatFile>⟧ result }
 {
     let path = paths.destination.as_str();
     match dest {

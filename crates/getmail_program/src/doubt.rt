@@ -61,8 +61,8 @@ fn doubt_of_mbox<R: Files + AllocGlobal>(system: &System<'_, R>, path: &str) -> 
 
 /// Whether a run would fetch a message.
 fn would_fetch(preview: &Preview) -> bool {
-    preview.prospects.iter().any(|prospect| matches!(
-        prospect.fate,
+    preview.message_previews.iter().any(|message_preview| matches!(
+        message_preview.fate,
         Fate::Fetched | Fate::FetchedAndDeleted
     ))
 }
@@ -99,7 +99,7 @@ pub fn said_ahead<R: Files + AllocGlobal>(
             outcome: Outcome::Cut(fault),
             total: preview.total,
             unsettled: false,
-            prospects: Vec::new(system.alloc()),
+            message_previews: Vec::new(system.alloc()),
         },
         None => preview,
     }

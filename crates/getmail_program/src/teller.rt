@@ -4,7 +4,7 @@ ghost use Rattle.std.proofs.Common.{refl, ◌∙◌};
 ghost use Rattle.getmail_program.specs.Teller.{HasSameLinks, WroteMore, wrote_nothing, wrote_both};
 
 use crate::output::Output;
-use fetch_session::{Listener, Prospect, ReportLine, explained_line};
+use fetch_session::{Listener, MessagePreview, ReportLine, explained_line};
 use std::alloc::{AllocError, Global};
 use std::io::Write;
 use std::vec::Vec;
@@ -15,7 +15,7 @@ pub struct Notes {
     /// What it wrote.
     pub written: Vec<u8>,
     /// What is planned for each message, if it asks for it.
-    pub plan: Vec<Prospect>,
+    pub plan: Vec<MessagePreview>,
 }
 
 impl Notes {
@@ -91,7 +91,7 @@ impl<'a, O: Write> Listener for Teller<'a, O> {
         self.explains && self.verbose == 2
     }
 
-    fn expect(&mut self, plan: Vec<Prospect>) {
+    fn expect(&mut self, plan: Vec<MessagePreview>) {
         self.notes.plan = plan;
     }
 

@@ -16,7 +16,7 @@ use crate::shown_wire::ShownWire;
 use crate::teller::{Notes, Teller};
 use fetch_rules::Settings;
 use fetch_session::{
-    Account, Outcome, Preview, Prospect, Report, heading, pretend, preview_text, session_told,
+    Account, Outcome, Preview, MessagePreview, Report, heading, pretend, preview_text, session_told,
     told_report,
 };
 use mail_store::{FlatFile, MaildirDisk};
@@ -86,7 +86,7 @@ fn put_report<O: Write>(
     alloc: Global,
     report: &Report,
     settings: &Settings,
-    plan: &[Prospect],
+    plan: &[MessagePreview],
     written: &[u8],
     out: &mut Output<O>,
 )
@@ -140,7 +140,7 @@ fn hold_telling<W: Wire, S: Write, D: MaildirDisk, F: FlatFile, H: BuildHasher, 
 }
 
 /// The plan, if reasons are asked for.
-fn asked_for(explains: bool, plan: &[Prospect]) -> &[Prospect]
+fn asked_for(explains: bool, plan: &[MessagePreview]) -> &[MessagePreview]
     ensures { explains ≡ false → result.now ≡ [] }
 {
     if explains { plan } else { &[] }

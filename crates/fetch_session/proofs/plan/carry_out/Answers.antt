@@ -37,7 +37,7 @@ ready_to_do g c =
           let room = subst (λ lines. HasRoom lines (2 * length items)) (sym c.in-Ok.ensures.store.lines) c.requires.room in
           omega (arith, room, (most_planned steps items held).1);
       ready = record {
-        calm = λ d. let begun = c.in-Ok.ensures.store.begun d in begun.1 ∙ c.requires.calm begun.0;
+        none_begun = λ d. let begun = c.in-Ok.ensures.store.begun d in begun.1 ∙ c.requires.none_begun begun.0;
         written = record { closed = c.in-Ok.ensures.plans.closed; steady = λ f. (c.in-Ok.ensures.steady f).1 };
       };
       legal = planned_all IsLegalId steps items held c.requires.legal;
@@ -139,7 +139,7 @@ stood g c =
     record {
       lines = subst (λ lines. Adds lines (2 * length c.args.listing.now) c.do_steps.new.work.ledger.lines) c.prepare.ensures.store.lines kept.lines;
       kind = kept.kind ∙ c.prepare.ensures.store.kind;
-      calm = λ d. ((c.prepare.ensures.store.begun (kept.calm d).0).0, (kept.calm d).1);
+      none_begun = λ d. ((c.prepare.ensures.store.begun (kept.none_begun d).0).0, (kept.none_begun d).1);
     }
 
 pub returns-in-Err-do_steps-clause-store : goal.returns-in-Err-do_steps-clause-store

@@ -10,12 +10,12 @@ use Rattle.fetch_session.proofs.preview.pretend_over.Goals as goal
 pub returns-in-Err-clause-pretends : goal.returns-in-Err-clause-pretends
 returns-in-Err-clause-pretends g c = λ w d f.
     let says = c.leave.ensures.leaves w in
-    let went = c.in-Err.ensures.surveys says.0 d f in
-    let done = c.survey.new in
+    let went = c.in-Err.ensures.previews says.0 d f in
+    let done = c.preview_session.new in
     let inside = c.account.inside in
     let after = keeping (stores_of g.D.MaildirDisk g.F.FlatFile done.work.store) (g.F.FlatFile.stored done.work.ledger.file) in
     let new = place_of g.W.Wire c.leave.new.client in
-    let preview : Preview = record { outcome = WasCut c.in-Err.cut.fault; total = done.preview.total; unsettled = done.preview.unsettled; prospects = done.preview.prospects } in
+    let preview : Preview = record { outcome = WasCut c.in-Err.cut.fault; total = done.preview.total; unsettled = done.preview.unsettled; message_previews = done.preview.message_previews } in
     rw (← c.account.view_is) (
       went.0,
       went.1,
@@ -31,8 +31,8 @@ returns-in-Err-clause-pretends g c = λ w d f.
 
 pub returns-clause-pretends : goal.returns-clause-pretends
 returns-clause-pretends g c = λ w d f.
-    let went = c.in_default.ensures.surveys w d f in
-    let done = c.survey.new in
+    let went = c.in_default.ensures.previews w d f in
+    let done = c.preview_session.new in
     let inside = c.account.inside in
     let after = keeping (stores_of g.D.MaildirDisk g.F.FlatFile done.work.store) (g.F.FlatFile.stored done.work.ledger.file) in
     let mid = place_of g.W.Wire done.client in

@@ -21,7 +21,7 @@ returns-in-Mboxrd-clause-keeps g c =
     let took = c.take_into_mbox in
     subst (λ store. KeepsSession g.W.Wire g.D.MaildirDisk g.F.FlatFile c.args.account.now (stores c.args.number c.args.uid.now ∷ []) c.args.client.now (record { store = store; ledger = c.args.work.now.ledger })
     took.result took.new.client (record { store = Mboxrd took.new.mbox; ledger = took.new.ledger })) (sym c.in-Mboxrd.is)
-    (kept_taking c.one_more_is_held.ensures c.args.number c.args.uid.now took.result took.ensures.link took.ensures.ledger refl (λ d. (took.ensures.before d, record { calm = refl; came = inl refl })) (λ d f. (λ name is. is, λ g is. is))
+    (kept_taking c.one_more_is_held.ensures c.args.number c.args.uid.now took.result took.ensures.link took.ensures.ledger refl (λ d. (took.ensures.before d, record { none_begun = refl; came = inl refl })) (λ d f. (λ name is. is, λ g is. is))
     (λ d f safe. on_map took.result (λ lasts. (lasts.1, safe_store g.F.FlatFile took.new.mbox lasts.0)) (took.ensures.lasts d f safe.1.0 safe.0)))
 
 pub returns-in-Maildir-clause-does : goal.returns-in-Maildir-clause-does

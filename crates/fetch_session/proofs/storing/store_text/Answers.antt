@@ -35,7 +35,7 @@ returns-in-Err-clause-stores g c = (
   [],
   λ d.
       let starts = c.in-Err.ensures.starts d in
-      (starts.0, refused_start (g.D.MaildirDisk.maildir c.args.disk.now) (g.D.MaildirDisk.maildir c.begin_file.new.disk) (string_bytes c.args.stem) c.args.body c.in-Err.fault (c.requires.calm starts.0) starts.1),
+      (starts.0, refused_start (g.D.MaildirDisk.maildir c.args.disk.now) (g.D.MaildirDisk.maildir c.begin_file.new.disk) (string_bytes c.args.stem) c.args.body c.in-Err.fault (c.requires.none_begun starts.0) starts.1),
   λ w. (w, g.met.W.Wire.leads_same c.args.client.now.wire.now, λ number start now. (now, λ done. absurd (c.requires.open done))),
 )
 
@@ -48,7 +48,7 @@ returns-in-Err-next_piece-clause-stores g c =
           let was = inv.2 drops.0 in (
             was.0,
             stopped_store (g.D.MaildirDisk.maildir c.args.disk.now) (g.D.MaildirDisk.maildir c.pieces.disk) (g.D.MaildirDisk.maildir c.abandon.new.self) (string_bytes c.args.stem) inv.0
-                c.broken.result c.in-Err-next_piece.fault (c.requires.calm was.0) was.1 drops.1 c.broken.ensures,
+                c.broken.result c.in-Err-next_piece.fault (c.requires.none_begun was.0) was.1 drops.1 c.broken.ensures,
           ),
       and_then g.W.Wire g.met.W.Wire.leads_on inv.3 c.in-Err-next_piece.ensures.takes (λ before took number start now. stopped_read number start (place_of g.W.Wire c.next_piece.new.self) inv.0 c.broken.result c.in-Err-next_piece.fault c.broken.ensures (inr (inl (took number start inv.0 (before number start now))))),
     )

@@ -65,7 +65,7 @@ grown g c d =
     let stored = c.store_text.ensures.stores.1 d in
     let maildir = g.D.MaildirDisk.maildir c.args.disk.now in
     let maildir' = g.D.MaildirDisk.maildir c.store_text.new.disk in
-    (stored.0, subst (λ (stem : List ℕ). Grows stem maildir maildir') c.in-Ok.ensures.stem (stores_grows maildir maildir' (string_bytes c.in-Ok.stem) c.store_text.ensures.stores.0 c.store_text.result (c.requires.calm stored.0) stored.1))
+    (stored.0, subst (λ (stem : List ℕ). Grows stem maildir maildir') c.in-Ok.ensures.stem (stores_grows maildir maildir' (string_bytes c.in-Ok.stem) c.store_text.ensures.stores.0 c.store_text.result (c.requires.none_begun stored.0) stored.1))
 
 pub returns-in-Err-store_text-clause-grows : goal.returns-in-Err-store_text-clause-grows
 returns-in-Err-store_text-clause-grows g c = grown g (goal.at.returns-in-Err-store_text-clause-grows g c).After-store_text

@@ -1,8 +1,8 @@
 use Rattle.std.proofs.Common.{◌≡◌, ◌≤◌, take}
 use Rattle.std.specs.List.{count_by}
-use Rattle.fetch_session.specs.declared.prospect.Prospect.{Prospect}
+use Rattle.fetch_session.specs.declared.message_preview.MessagePreview.{MessagePreview}
 use Rattle.fetch_session.specs.Telling.{is_deletion}
 use Rattle.fetch_session.proofs.telling.deleted_in.Given as goal
 
-abbrev pub invariant-loop-prospect : goal.invariant-loop-prospect
-invariant-loop-prospect l = (l.count ≤ l.prospect-index) × (l.count ≡ count_by (λ (prospect : Prospect). is_deletion prospect.fate) (take l.prospect-index l.prospects))
+abbrev pub invariant-loop-message_preview : goal.invariant-loop-message_preview
+invariant-loop-message_preview l = (l.count ≤ l.message_preview-index) × (l.count ≡ count_by (λ (message_preview : MessagePreview). is_deletion message_preview.fate) (take l.message_preview-index l.message_previews))

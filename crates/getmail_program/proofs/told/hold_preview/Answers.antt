@@ -1,6 +1,6 @@
 use Rattle.std.proofs.Common.{◌∙◌, [], refl, subst, sym}
 use Rattle.fetch_session.specs.Telling.{preview_text}
-use Rattle.getmail_program.specs.Holding.{PreviewsSession}
+use Rattle.getmail_program.specs.Holding.{PreviewsAccount}
 use Rattle.getmail_program.specs.Output.{Puts}
 use Rattle.getmail_program.proofs.told.hold_preview.Goals as goal
 
@@ -9,7 +9,7 @@ returns-clause-held g c = (
   refl,
   (
     c.pretend-preview.result,
-    subst (λ w. PreviewsSession g.W.Wire g.D.MaildirDisk g.F.FlatFile c.args.manner.now c.args.account.now c.args.wire.now.wire c.pretend-preview.result
+    subst (λ w. PreviewsAccount g.W.Wire g.D.MaildirDisk g.F.FlatFile c.args.manner.now c.args.account.now c.args.wire.now.wire c.pretend-preview.result
         c.pretend-preview.new.account w) (sym c.wipe.ensures) (λ w d f. (c.pretend-preview.ensures.pretends w d f).4),
     c.said_ahead-said.ensures,
   ),

@@ -2,7 +2,7 @@
 ghost use Rattle.std.specs.Prelude.{◌≡◌, ◌<◌, ◌≤◌, ◌&&◌, ◌||◌, ◌==◌, false, not, nat_le, length, HoldsAt, IfOk};
 ghost use Rattle.mail_terms.specs.Listing.{message_limit};
 ghost use Rattle.fetch_rules.specs.Wanted.{is_within};
-ghost use Rattle.fetch_session.specs.Prospect.{due_of, due_second, fate_of, is_past_limit, known_of, prospect_of, prospects, reason, waits};
+ghost use Rattle.fetch_session.specs.MessagePreview.{due_of, due_second, fate_of, is_past_limit, known_of, message_preview_of, message_previews, reason, waits};
 ghost use Rattle.fetch_session.specs.Report.{left_out_of, skips_of, with_fate};
 ghost use Rattle.fetch_session.specs.Target.{none_held};
 
@@ -36,7 +36,7 @@ pub enum Fate {
 
 /// What a run would do with one message.
 #[derive(Clone, Copy, Debug, PartialEq, Eq)]
-pub struct Prospect {
+pub struct MessagePreview {
     /// The message's number in the listing, from 1.
     pub number: u32,
     /// The listed size, in octets.
@@ -155,10 +155,10 @@ fn due_of(settings: &Settings, step: Step, known: Known, now: u64) -> Option<u64
 }
 
 /// What a preview says of one message, if `fetched` before it are fetched.
-fn prospect_of(terms: Terms<'_>, step: Step, known: Known, fetched: u64) -> Prospect
-    ensures { result ≡ prospect_of terms.entry.settings.now terms.entry.now fetched step known }
+fn message_preview_of(terms: Terms<'_>, step: Step, known: Known, fetched: u64) -> MessagePreview
+    ensures { result ≡ message_preview_of terms.entry.settings.now terms.entry.now fetched step known }
 {
-    Prospect {
+    MessagePreview {
         number: step.number,
         size: known.size,
         fate: fate_of(terms.settings, step, known, fetched),
@@ -167,25 +167,25 @@ fn prospect_of(terms: Terms<'_>, step: Step, known: Known, fetched: u64) -> Pros
 }
 
 /// What a preview says of each message of a listing, by its step.
-pub(crate) fn prospects<H: BuildHasher>(
+pub(crate) fn message_previews<H: BuildHasher>(
     alloc: Global,
     terms: Terms<'_>,
     seen: &Seen<H>,
     listing: &Listing,
     held: &[bool],
     steps: &[Step],
-) -> Result<Vec<Prospect>, AllocError>
+) -> Result<Vec<MessagePreview>, AllocError>
     requires all_flags { length held.now ≡ length listing.now }
     requires all_steps { length steps.now ≡ length listing.now }
     ensures { IfOk result
-        (λ told. told.items ≡ prospects terms.entry.settings.now seen.now.rows terms.entry.now 0 steps.now listing.now held.now) }
+        (λ told. told.items ≡ message_previews terms.entry.settings.now seen.now.rows terms.entry.now 0 steps.now listing.now held.now) }
 {
     let mut told = Vec::with_capacity(alloc, steps.len())?;
     let mut fetched: u64 = 0;
     for i in 0..listing.len() {
         let step = steps[i as usize];
         let known = known_of(seen, listing, held[i as usize], terms.now, i);
-        told.push(prospect_of(terms, step, known, fetched))?;
+        told.push(message_preview_of(terms, step, known, fetched))?;
         fetched += u64::from(step.retrieve);
     }
     Ok(told)
@@ -237,7 +237,7 @@ fn count_left_out<H: BuildHasher>(
     steps: &[Step],
 ) -> LeftOut
     requires { length steps.now ≡ length listing.now }
-    ensures { result ≡ left_out_of (prospects terms.entry.settings.now seen.now.rows terms.entry.now 0 steps.now listing.now
+    ensures { result ≡ left_out_of (message_previews terms.entry.settings.now seen.now.rows terms.entry.now 0 steps.now listing.now
         (none_held listing.now)) }
 {
     let mut left = none_skipped().left_out;
@@ -259,7 +259,7 @@ fn left_out<H: BuildHasher>(
     steps: &[Step],
 ) -> LeftOut
     requires { length steps.now ≡ length listing.now }
-    ensures { result ≡ left_out_of (prospects terms.entry.settings.now seen.now.rows terms.entry.now 0 steps.now listing.now
+    ensures { result ≡ left_out_of (message_previews terms.entry.settings.now seen.now.rows terms.entry.now 0 steps.now listing.now
         (none_held listing.now)) }
 {
     if terms.settings.read_all || !seen.knows(listing) {

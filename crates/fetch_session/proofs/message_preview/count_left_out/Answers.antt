@@ -1,8 +1,8 @@
 use Rattle.std.proofs.Common.{◌<◌, length, ap, arith}
 use Rattle.fetch_session.proofs.FreshLemmas.{no_item}
 use Rattle.fetch_session.specs.declared.report.Skips.{Skips}
-use Rattle.fetch_session.proofs.ProspectLemmas.{counted_none, counted_more, counted_all}
-use Rattle.fetch_session.proofs.prospect.count_left_out.Goals as goal
+use Rattle.fetch_session.proofs.MessagePreviewLemmas.{counted_none, counted_more, counted_all}
+use Rattle.fetch_session.proofs.message_preview.count_left_out.Goals as goal
 
 pub loop-i-init : goal.loop-i-init
 loop-i-init g c =

@@ -1,7 +1,7 @@
 use Rattle.std.proofs.Common.{ap, sym, ◌∙◌}
 use Rattle.fetch_session.specs.declared.report.Skips.{Skips}
-use Rattle.fetch_session.proofs.ProspectLemmas.{none_left}
-use Rattle.fetch_session.proofs.prospect.left_out.Goals as goal
+use Rattle.fetch_session.proofs.MessagePreviewLemmas.{none_left}
+use Rattle.fetch_session.proofs.message_preview.left_out.Goals as goal
 
 pub returns : goal.returns
 returns g c =

@@ -3,15 +3,15 @@ use Rattle.std.proofs.lemmas.Result.{IfOk-weaker}
 use Rattle.fetch_rules.specs.Record.{Row, merged}
 use Rattle.fetch_session.proofs.CarryLemmas.{planned_length}
 use Rattle.fetch_session.proofs.PretendLemmas.{foretold_is}
-use Rattle.fetch_session.proofs.preview.foretell.Goals as goal
+use Rattle.fetch_session.proofs.preview.preview_merged.Goals as goal
 
-pub prospects-requires-clause-all_steps : goal.prospects-requires-clause-all_steps
-prospects-requires-clause-all_steps g c =
+pub message_previews-requires-clause-all_steps : goal.message_previews-requires-clause-all_steps
+message_previews-requires-clause-all_steps g c =
     ap length (c.deref.ensures.value ∙ c.in_ok-steps.ensures.steps) ∙ planned_length c.args.terms.settings.now c.merge.new.self.rows c.args.listing.now c.args.terms.now
 
 pub returns : goal.returns
 returns g c =
     let rows = c.in_ok-merge.ensures.rows ∙ ap (λ (r : List Row). merged r c.args.listing.now c.args.held.now c.args.terms.now) c.close.ensures.rows in
-    IfOk-weaker c.prospects.result _ _
+    IfOk-weaker c.message_previews.result _ _
     (λ told is. is ∙ foretold_is c.args.terms.settings.now c.args.seen.now.rows c.merge.new.self.rows c.args.seen.now.intent c.args.listing.now c.args.held.now c.args.terms.now c.deref.result.now rows (c.deref.ensures.value ∙ c.in_ok-steps.ensures.steps))
-    c.prospects.ensures
+    c.message_previews.ensures

@@ -9,11 +9,11 @@ use Rattle.fetch_rules.specs.Record.{Row, is_delivered}
 use Rattle.fetch_rules.specs.Plan.{seen_since}
 use Rattle.fetch_rules.specs.Wanted.{is_within}
 use Rattle.fetch_rules.specs.declared.steps.Step.{Step}
-use Rattle.fetch_session.specs.declared.prospect.Fate.{Fate}
-use Rattle.fetch_session.specs.declared.prospect.Fate.TheVariants.{Fetched, FetchedAndDeleted, Deleted, Held}
-use Rattle.fetch_session.specs.declared.prospect.Fate.TheVariants.{DeliveredBefore, TooLarge, PastLimit, SameId}
-use Rattle.fetch_session.specs.declared.prospect.Known.{Known}
-use Rattle.fetch_session.specs.declared.prospect.Prospect.{Prospect}
+use Rattle.fetch_session.specs.declared.message_preview.Fate.{Fate}
+use Rattle.fetch_session.specs.declared.message_preview.Fate.TheVariants.{Fetched, FetchedAndDeleted, Deleted, Held}
+use Rattle.fetch_session.specs.declared.message_preview.Fate.TheVariants.{DeliveredBefore, TooLarge, PastLimit, SameId}
+use Rattle.fetch_session.specs.declared.message_preview.Known.{Known}
+use Rattle.fetch_session.specs.declared.message_preview.MessagePreview.{MessagePreview}
 
 -- what is known of a message before a run
 abbrev pub known_of : List Row → ℕ → Bool → Item → Known
@@ -63,8 +63,8 @@ due_of settings step known now =
     if waits settings step known && nat_lt now (due_second settings known.since) then Some (due_second settings known.since) else None
 
 -- what a preview says of one message, if `fetched` before it are fetched
-abbrev pub prospect_of : Settings → ℕ → ℕ → Step → Known → Prospect
-prospect_of settings now fetched step known = record {
+abbrev pub message_preview_of : Settings → ℕ → ℕ → Step → Known → MessagePreview
+message_preview_of settings now fetched step known = record {
   number = step.number;
   size = known.size;
   fate = fate_of settings step known fetched;
@@ -76,10 +76,10 @@ abbrev pub fetched_by : Step → ℕ
 fetched_by step = if step.retrieve then 1 else 0
 
 -- what a preview says of each message, by its step, if `fetched` before them are fetched
-abbrev pub prospects : Settings → List Row → ℕ → ℕ → List Step → List Item → List Bool → List Prospect
-prospects settings rows now fetched [] items flags = []
-prospects settings rows now fetched (step ∷ steps) [] flags = []
-prospects settings rows now fetched (step ∷ steps) (item ∷ items) [] = []
-prospects settings rows now fetched (step ∷ steps) (item ∷ items) (held ∷ flags) =
-    prospect_of settings now fetched step (known_of rows now held item) ∷ prospects settings rows now
+abbrev pub message_previews : Settings → List Row → ℕ → ℕ → List Step → List Item → List Bool → List MessagePreview
+message_previews settings rows now fetched [] items flags = []
+message_previews settings rows now fetched (step ∷ steps) [] flags = []
+message_previews settings rows now fetched (step ∷ steps) (item ∷ items) [] = []
+message_previews settings rows now fetched (step ∷ steps) (item ∷ items) (held ∷ flags) =
+    message_preview_of settings now fetched step (known_of rows now held item) ∷ message_previews settings rows now
     (fetched + fetched_by step) steps items flags

@@ -8,14 +8,14 @@ use Rattle.mail_terms.specs.Listing.{Item}
 use Rattle.rc_file.specs.declared.settings.Settings.{Settings}
 use Rattle.fetch_rules.specs.Record.{Row, is_delivered}
 use Rattle.fetch_rules.specs.declared.steps.Step.{Step}
-use Rattle.fetch_session.specs.declared.prospect.Known.{Known}
-use Rattle.fetch_session.specs.declared.prospect.Prospect.{Prospect}
+use Rattle.fetch_session.specs.declared.message_preview.Known.{Known}
+use Rattle.fetch_session.specs.declared.message_preview.MessagePreview.{MessagePreview}
 use mir.Val.{bool_byte}
 use Rattle.fetch_session.proofs.FreshLemmas.{no_item, step_at}
-use Rattle.fetch_session.specs.declared.prospect.Fate.{Fate}
-use Rattle.fetch_session.specs.declared.prospect.Fate.TheVariants.{Fetched, FetchedAndDeleted, Deleted, Held, DeliveredBefore, TooLarge, PastLimit, SameId}
+use Rattle.fetch_session.specs.declared.message_preview.Fate.{Fate}
+use Rattle.fetch_session.specs.declared.message_preview.Fate.TheVariants.{Fetched, FetchedAndDeleted, Deleted, Held, DeliveredBefore, TooLarge, PastLimit, SameId}
 use Rattle.fetch_session.specs.declared.report.LeftOut.{LeftOut}
-use Rattle.fetch_session.specs.Prospect.{fate_of, fetched_by, known_of, prospect_of, prospects}
+use Rattle.fetch_session.specs.MessagePreview.{fate_of, fetched_by, known_of, message_preview_of, message_previews}
 use Rattle.fetch_session.specs.Report.{count_fates, is_for_id, is_for_limit, is_for_size, left_out_of, with_fate}
 use Rattle.fetch_session.specs.Target.{none_held}
 
@@ -53,45 +53,45 @@ plus_fate left SameId = grind arith
 from_zero : (n : ℕ) → 0 + n ≡ n
 from_zero n = omega arith
 
-count_one : (test : Fate → Bool) (told : List Prospect) (p : Prospect) → count_fates test (told ++ p ∷ []) ≡ count_fates test told + cond (test p.fate) 1 0
-count_one test told p = sum_by-append (λ (q : Prospect). cond (test q.fate) 1 0) told (p ∷ []) ∙ ap (λ n. count_fates test told + n) (from_zero (cond (test p.fate) 1 0))
+count_one : (test : Fate → Bool) (told : List MessagePreview) (p : MessagePreview) → count_fates test (told ++ p ∷ []) ≡ count_fates test told + cond (test p.fate) 1 0
+count_one test told p = sum_by-append (λ (q : MessagePreview). cond (test q.fate) 1 0) told (p ∷ []) ∙ ap (λ n. count_fates test told + n) (from_zero (cond (test p.fate) 1 0))
 
-one_more : (told : List Prospect) (p : Prospect) → with_fate (left_out_of told) p.fate ≡ left_out_of (told ++ p ∷ [])
+one_more : (told : List MessagePreview) (p : MessagePreview) → with_fate (left_out_of told) p.fate ≡ left_out_of (told ++ p ∷ [])
 one_more told p = rw (count_one is_for_size told p, count_one is_for_limit told p, count_one is_for_id told p) (plus_fate (left_out_of told) p.fate)
 
 module _ (settings : Settings) (rows : List Row) (now : ℕ) where
   -- the preview has the first i messages, and `fetched` of them are fetched
-  pub record IsTold (steps : List Step) (items : List Item) (flags : List Bool) (i : ℕ) (told : List Prospect) (fetched : ℕ) : Type 0 where
-    pub so_far : told ++ prospects settings rows now fetched (drop i steps) (drop i items) (drop i flags) ≡ prospects settings rows now 0 steps items flags
+  pub record IsTold (steps : List Step) (items : List Item) (flags : List Bool) (i : ℕ) (told : List MessagePreview) (fetched : ℕ) : Type 0 where
+    pub so_far : told ++ message_previews settings rows now fetched (drop i steps) (drop i items) (drop i flags) ≡ message_previews settings rows now 0 steps items flags
     pub few : fetched ≤ i
 
-  pub told_more : (steps : List Step) (items : List Item) (flags : List Bool) (i : ℕ) (told : List Prospect) (fetched more : ℕ) (known : Known) (p : Prospect) → IsTold steps items flags i told fetched
+  pub told_more : (steps : List Step) (items : List Item) (flags : List Bool) (i : ℕ) (told : List MessagePreview) (fetched more : ℕ) (known : Known) (p : MessagePreview) → IsTold steps items flags i told fetched
       → i < length items → length steps ≡ length items → length flags ≡ length items → known ≡ known_of rows now (get_or flags i false) (get_or items i no_item)
-      → p ≡ prospect_of settings now fetched (step_at steps i) known → more ≡ bool_byte (step_at steps i).retrieve → IsTold steps items flags (i + 1) (told ++ p ∷ []) (fetched + more)
+      → p ≡ message_preview_of settings now fetched (step_at steps i) known → more ≡ bool_byte (step_at steps i).retrieve → IsTold steps items flags (i + 1) (told ++ p ∷ []) (fetched + more)
   told_more steps items flags i told fetched more known p was within all_steps all_flags known_is p_is more_is = record {
-    so_far = append_assoc told (p ∷ []) _ ∙ ap (λ (l : List Prospect). told ++ l) (sym split) ∙ was.so_far;
+    so_far = append_assoc told (p ∷ []) _ ∙ ap (λ (l : List MessagePreview). told ++ l) (sym split) ∙ was.so_far;
     few = omega (arith, was.few, more_as, one_at_most (step_at steps i).retrieve);
   }
     where
       more_as : more ≡ cond (step_at steps i).retrieve 1 0
       more_as = more_is ∙ byte_of (step_at steps i).retrieve
 
-      split : prospects settings rows now fetched (drop i steps) (drop i items) (drop i flags)
-          ≡ p ∷ prospects settings rows now (fetched + more) (drop (i + 1) steps) (drop (i + 1) items) (drop (i + 1) flags)
+      split : message_previews settings rows now fetched (drop i steps) (drop i items) (drop i flags)
+          ≡ p ∷ message_previews settings rows now (fetched + more) (drop (i + 1) steps) (drop (i + 1) items) (drop (i + 1) flags)
       split =
           let of_steps = drop-cons steps i (record { number = 0; retrieve = false; delete = false }) (omega (arith, within, all_steps)) in
           let of_items = drop-cons items i no_item within in
           let of_flags = drop-cons flags i false (omega (arith, within, all_flags)) in
           rw (of_steps, of_items, of_flags, p_is, known_is, more_as, add-one)
 
-  pub told_all : (steps : List Step) (items : List Item) (flags : List Bool) (i : ℕ) (told : List Prospect) (fetched : ℕ) → IsTold steps items flags i told fetched → length steps ≤ i
-      → told ≡ prospects settings rows now 0 steps items flags
+  pub told_all : (steps : List Step) (items : List Item) (flags : List Bool) (i : ℕ) (told : List MessagePreview) (fetched : ℕ) → IsTold steps items flags i told fetched → length steps ≤ i
+      → told ≡ message_previews settings rows now 0 steps items flags
   told_all steps items flags i told fetched was past =
-      sym (append-nil told) ∙ ap (λ (ss : List Step). told ++ prospects settings rows now fetched ss (drop i items) (drop i flags)) (sym (drop_all i steps past)) ∙ was.so_far
+      sym (append-nil told) ∙ ap (λ (ss : List Step). told ++ message_previews settings rows now fetched ss (drop i items) (drop i flags)) (sym (drop_all i steps past)) ∙ was.so_far
 
   -- `left` counts the first i messages, and `fetched` of them are fetched
   pub record IsCounted (steps : List Step) (items : List Item) (i : ℕ) (left : LeftOut) (fetched : ℕ) : Type 0 where
-    pub told : List Prospect
+    pub told : List MessagePreview
     pub is_told : IsTold steps items (none_held items) i told fetched
     pub counts : left ≡ left_out_of told
     pub few : fetched ≤ i
@@ -126,8 +126,8 @@ module _ (settings : Settings) (rows : List Row) (now : ℕ) where
       known : Known
       known = known_of rows now false (get_or items i no_item)
 
-      p : Prospect
-      p = prospect_of settings now fetched (step_at steps i) known
+      p : MessagePreview
+      p = message_preview_of settings now fetched (step_at steps i) known
 
       unheld : known ≡ known_of rows now (get_or (none_held items) i false) (get_or items i no_item)
       unheld = ap (λ held. known_of rows now held (get_or items i no_item)) (sym (get_or-map (λ (item : Item). false) items i no_item false within))
@@ -136,11 +136,11 @@ module _ (settings : Settings) (rows : List Row) (now : ℕ) where
       is_told = told_more steps items (none_held items) i was.told fetched more known p was.is_told within all_steps (length-map items (λ (item : Item). false)) unheld refl more_is
 
   pub counted_all : (steps : List Step) (items : List Item) (i : ℕ) (left : LeftOut) (fetched : ℕ) → IsCounted steps items i left fetched → length steps ≤ i
-      → left ≡ left_out_of (prospects settings rows now 0 steps items (none_held items))
+      → left ≡ left_out_of (message_previews settings rows now 0 steps items (none_held items))
   counted_all steps items i left fetched was past = was.counts ∙ ap left_out_of (told_all steps items (none_held items) i was.told fetched was.is_told past)
 
 -- what is known is counted nowhere
-uncounted : (told : List Prospect) (p : Prospect) (retrieve delete : Bool)
+uncounted : (told : List MessagePreview) (p : MessagePreview) (retrieve delete : Bool)
     → p.fate ≡ (if retrieve && delete then FetchedAndDeleted else if retrieve then Fetched else if delete then Deleted else DeliveredBefore)
     → left_out_of (p ∷ told) ≡ left_out_of told
 uncounted told p true true is = rw is refl
@@ -154,9 +154,9 @@ known_fate : (settings : Settings) (step : Step) (known : Known) (fetched : ℕ)
 known_fate settings step known fetched new unheld is = rw (new, unheld, is) refl
 
 pub none_left : (settings : Settings) (rows : List Row) (now fetched : ℕ) (steps : List Step) (items : List Item) → settings.read_all ≡ false
-    → All (λ (item : Item). is_delivered rows item.uid ≡ true) items → left_out_of (prospects settings rows now fetched steps items (none_held items)) ≡ left_out_of []
+    → All (λ (item : Item). is_delivered rows item.uid ≡ true) items → left_out_of (message_previews settings rows now fetched steps items (none_held items)) ≡ left_out_of []
 none_left settings rows now fetched [] items new all = refl
 none_left settings rows now fetched (s ∷ ss) [] new all = refl
 none_left settings rows now fetched (s ∷ ss) (i ∷ is) new all =
-    uncounted (prospects settings rows now (fetched + fetched_by s) ss is (none_held is)) (prospect_of settings now fetched s (known_of rows now false i)) s.retrieve s.delete (known_fate settings s (known_of rows now false i) fetched new refl (all 0 i (omega arith)))
+    uncounted (message_previews settings rows now (fetched + fetched_by s) ss is (none_held is)) (message_preview_of settings now fetched s (known_of rows now false i)) s.retrieve s.delete (known_fate settings s (known_of rows now false i) fetched new refl (all 0 i (omega arith)))
     ∙ none_left settings rows now (fetched + fetched_by s) ss is new (λ k d inside. all (suc k) d (omega (arith, inside)))

@@ -6,13 +6,13 @@ use Rattle.fetch_session.proofs.TalkLemmas.{completes_talks}
 use Rattle.fetch_session.specs.Session.{keeping}
 use Rattle.fetch_session.specs.Target.{left_in, stores_of, target_of}
 use Rattle.fetch_session.proofs.PretendLemmas.{not_ended}
-use Rattle.fetch_session.proofs.preview.survey.Goals as goal
+use Rattle.fetch_session.proofs.preview.preview_session.Goals as goal
 
-pub returns-clause-surveys : goal.returns-clause-surveys
-returns-clause-surveys g c = λ w d f.
+pub returns-clause-previews : goal.returns-clause-previews
+returns-clause-previews g c = λ w d f.
     let completes = c.in-Err-quit.ensures.completes w in
     let entered = c.in-Ok.ensures.enters completes.0 in
-    let ahead = c.in-Ok-foresee.ensures.foresees d f in
+    let ahead = c.in-Ok-preview_work.ensures.previews d f in
     let mid = place_of g.W.Wire c.enter.new.client in
     let new = place_of g.W.Wire c.quit.new.self in (
       entered.0,
@@ -24,13 +24,13 @@ returns-clause-surveys g c = λ w d f.
         ahead.2.1,
         not_ended c.args.terms.settings.now (target_of c.args.work.now.store c.args.terms.account.now) c.args.terms.now (place_of g.W.Wire c.args.client.now)
             (keeping (left_in (stores_of g.D.MaildirDisk g.F.FlatFile c.args.work.now.store) ahead.2.0) (g.F.FlatFile.stored c.args.work.now.ledger.file)) c.in-Ok.listing mid new
-            (keeping (stores_of g.D.MaildirDisk g.F.FlatFile c.foresee.new.store) (g.F.FlatFile.stored c.foresee.new.file)) c.in-Ok-foresee.foreseen c.len-preview.result c.in-Err-quit.fault c.broken-in-Err-quit.result
+            (keeping (stores_of g.D.MaildirDisk g.F.FlatFile c.preview_work.new.store) (g.F.FlatFile.stored c.preview_work.new.file)) c.in-Ok-preview_work.work_preview c.len-preview.result c.in-Err-quit.fault c.broken-in-Err-quit.result
             entered.2 ahead.2.2 c.len-preview.ensures.count (completes_talks quit mid new (Err c.in-Err-quit.fault) completes.2) c.broken-in-Err-quit.ensures,
       ),
     )
 
-pub returns-in-Err-clause-surveys : goal.returns-in-Err-clause-surveys
-returns-in-Err-clause-surveys g c = λ w d f.
+pub returns-in-Err-clause-previews : goal.returns-in-Err-clause-previews
+returns-in-Err-clause-previews g c = λ w d f.
     let entered = c.in-Err.ensures.enters w in
     let files = (stores_of g.D.MaildirDisk g.F.FlatFile c.args.work.now.store).maildir.files in (
       entered.0,
@@ -40,9 +40,9 @@ returns-in-Err-clause-surveys g c = λ w d f.
       (files, part_same files, (inl (record { why = c.in-Err.fault; is = c.broken.ensures; enters = entered.2; nothing = search rules }), search rules)),
     )
 
-pub returns-in-Ok-quit-clause-surveys : goal.returns-in-Ok-quit-clause-surveys
-returns-in-Ok-quit-clause-surveys g c = λ w d f.
+pub returns-in-Ok-quit-clause-previews : goal.returns-in-Ok-quit-clause-previews
+returns-in-Ok-quit-clause-previews g c = λ w d f.
     let completes = c.in-Ok-quit.ensures.completes w in
     let entered = c.in-Ok.ensures.enters completes.0 in
-    let ahead = c.in-Ok-foresee.ensures.foresees d f in
+    let ahead = c.in-Ok-preview_work.ensures.previews d f in
     (entered.0, ahead.0, ahead.1, g.met.W.Wire.leads_on _ _ _ entered.1 completes.1, (ahead.2.0, ahead.2.1, search rules))
