@@ -121,23 +121,9 @@ fn sweep<R: Files + Clock + AllocGlobal + Clone + Drop>(
     record.sweep();
 }
 
-/// Closes the account of a run, and removes what killed runs of it left, unless the run had nothing
-/// to fetch. Where is kept what it cut off from an mboxrd file goes to standard error.
-fn close<R: Files + Clock + AllocGlobal + Clone + Drop, H: BuildHasher + Drop, E: Write>(
-    account: HostAccount<'_, R, H>,
-    is_idle: bool,
-    rests: &str,
-    err: &mut Output<E>,
-) {
-    let (settings, store, record) = account.into_parts();
-    tell_kept(&store, rests, err);
-    if !is_idle {
-        sweep(&settings, &store, &record);
-    }
-}
-
-/// Runs one session on a machine's files, or only previews it, and returns the exit status. The caller has
-/// drawn the hasher's keys and the mark of the files.
+/// Runs one session on a machine's files, or only previews it, and returns the exit status. Then it removes what
+/// killed runs left, unless the run had nothing to fetch. The caller has drawn the hasher's keys and the mark of
+/// the files.
 pub fn fetch_at<
     R: Files + Clock + AllocGlobal + Clone + Drop,
     E: Write + Copy + Drop,
@@ -174,7 +160,9 @@ pub fn fetch_at<
         explains: errors.explains,
     };
     let fetched = fetch_over(rt, &mut account, &mut wire, manner, out, &mut errors);
-    let rests = paths.rests.as_str();
-    close(account, fetched.is_idle, rests, &mut errors.err);
+    tell_kept(account.store(), paths.rests.as_str(), &mut errors.err);
+    if !fetched.is_idle {
+        sweep(account.settings(), account.store(), account.record());
+    }
     fetched.status
 }
