@@ -24,7 +24,6 @@ pub enum Store<D, F> {
 ///
 /// No file is begun in the store between sessions, and the settings hold only values that an rc file
 /// may give.
-#[derive(Drop)]
 pub struct Account<D: MaildirDisk, F: FlatFile, H: BuildHasher> {
     pub(crate) settings: Settings,
     pub(crate) id: AccountId,
@@ -88,20 +87,6 @@ impl<D: MaildirDisk, F: FlatFile, H: BuildHasher> Account<D, F, H> {
         ensures valid { IsValid result.now }
     {
         &self.settings
-    }
-
-    /// The store.
-    pub fn store(&self) -> &Store<D, F>
-        ensures { result.now ≡ self.now.store }
-    {
-        &self.work.store
-    }
-
-    /// The record's file.
-    pub fn record(&self) -> &F
-        ensures { result.now ≡ self.now.file }
-    {
-        &self.work.ledger.file
     }
 
     /// Takes the account apart.

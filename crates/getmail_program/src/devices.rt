@@ -4,6 +4,7 @@ ghost use Rattle.rc_file.specs.Settings.{IsValid};
 ghost use Rattle.fetch_session.specs.Target.{NoneBegun, kind_of};
 ghost use Rattle.getmail_program.specs.Places.{kind_in};
 
+use crate::ending::Fetched;
 use crate::output::Output;
 use crate::run::fetch_over;
 use crate::setup::{Paths, Setup, account_of};
@@ -59,27 +60,6 @@ fn store_at<'a, R: Files + Clock + AllocGlobal + Clone + Drop>(
     }
 }
 
-/// The account of a run.
-type HostAccount<'a, R, H> = Account<HostMaildir<'a, R>, HostRecord<'a, R>, H>;
-
-/// The account of a run, with its store and its record.
-fn account_at<'a, R: Files + Clock + AllocGlobal + Clone + Drop, H: BuildHasher>(
-    systems: &'a (System<'a, R>, System<'a, R>),
-    settings: Settings,
-    paths: &'a Paths,
-    drawn: (H, ProcessMark),
-) -> HostAccount<'a, R, H>
-    requires { IsValid settings }
-    ensures settings { result.settings ≡ settings }
-    ensures kind { kind_of result.store ≡ kind_in settings.dest }
-{
-    let (hasher, mark) = drawn;
-    let (for_store, for_record) = systems;
-    let store = store_at(for_store, &settings.dest, paths, mark);
-    let record = HostFile::by_blocks(for_record, paths.record.as_str(), mark);
-    Account::new(for_store.alloc(), settings, store, record, hasher)
-}
-
 /// Writes where is kept what was cut off from an mboxrd file, if it isn't known to have been a part of
 /// an entry that was appended since; else it is removed.
 fn tell_rests<R: Files + Clock + AllocGlobal + Clone + Drop, E: Write>(
@@ -121,6 +101,71 @@ fn sweep<R: Files + Clock + AllocGlobal + Clone + Drop>(
     record.sweep();
 }
 
+/// What an account is made of.
+struct Parts<D, F, H> {
+    settings: Settings,
+    store: Store<D, F>,
+    record: F,
+    hasher: H,
+}
+
+/// What a run leaves, and how it came out.
+#[derive(Drop)]
+struct Left<D, F> {
+    settings: Settings,
+    store: Store<D, F>,
+    record: F,
+    fetched: Fetched,
+}
+
+impl<D: Drop, F: Drop> Left<D, F> {
+    /// The exit status.
+    fn into_status(self) -> u8
+        ensures { result ≡ self.fetched.status }
+    {
+        self.fetched.status
+    }
+}
+
+/// Runs one session of an account that is made of these parts, or only previews it.
+fn fetch_with<
+    R: Files + AllocGlobal,
+    W: Wire,
+    S: Write,
+    D: MaildirDisk,
+    F: FlatFile,
+    H: BuildHasher + Drop,
+    O: Write,
+    E: Write,
+>(
+    rt: &R,
+    parts: Parts<D, F, H>,
+    wire: &mut ShownWire<W, S>,
+    manner: Manner<'_>,
+    out: &mut Output<O>,
+    errors: &mut Errors<'_, E>,
+) -> Left<D, F>
+    requires valid { IsValid parts.settings }
+    requires none_begun { NoneBegun D.MaildirDisk F.FlatFile parts.store }
+    ensures { result.fetched.status ≤ 1 }
+{
+    let Parts {
+        settings,
+        store,
+        record,
+        hasher,
+    } = parts;
+    let mut account = Account::new(rt.alloc(), settings, store, record, hasher);
+    let fetched = fetch_over(rt, &mut account, wire, manner, out, errors);
+    let (settings, store, record) = account.into_parts();
+    Left {
+        settings,
+        store,
+        record,
+        fetched,
+    }
+}
+
 /// Runs one session on a machine's files, or only previews it, and returns the exit status. Then it removes what
 /// killed runs left, unless the run had nothing to fetch. The caller has drawn the hasher's keys and the mark of
 /// the files.
@@ -146,23 +191,27 @@ pub fn fetch_at<
         paths,
         pretends,
     } = setup;
+    let (hasher, mark) = drawn;
     let mut wire = ShownWire::new(rt.alloc(), wire, errors.screen(&settings));
     let reasons = errors.reasons;
-    let systems = (
-        System::new(rt, &reasons.store),
-        System::new(rt, &reasons.record),
-    );
-    let mut account = account_at(&systems, settings, &paths, drawn);
+    let for_store = System::new(rt, &reasons.store);
+    let for_record = System::new(rt, &reasons.record);
+    let parts = Parts {
+        store: store_at(&for_store, &settings.dest, &paths, mark),
+        record: HostFile::by_blocks(&for_record, paths.record.as_str(), mark),
+        settings,
+        hasher,
+    };
     let manner = Manner {
         now: seconds_now(rt),
         destination: paths.destination.as_str(),
         pretends,
         explains: errors.explains,
     };
-    let fetched = fetch_over(rt, &mut account, &mut wire, manner, out, &mut errors);
-    tell_kept(account.store(), paths.rests.as_str(), &mut errors.err);
-    if !fetched.is_idle {
-        sweep(account.settings(), account.store(), account.record());
+    let left = fetch_with(rt, parts, &mut wire, manner, out, &mut errors);
+    tell_kept(&left.store, paths.rests.as_str(), &mut errors.err);
+    if !left.fetched.is_idle {
+        sweep(&left.settings, &left.store, &left.record);
     }
-    fetched.status
+    left.into_status()
 }
