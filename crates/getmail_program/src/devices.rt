@@ -4,15 +4,14 @@ ghost use Rattle.rc_file.specs.Settings.{IsValid};
 ghost use Rattle.fetch_session.specs.Target.{NoneBegun, kind_of};
 ghost use Rattle.getmail_program.specs.Places.{kind_in};
 
-use crate::ending::Fetched;
 use crate::output::Output;
-use crate::run::fetch_over;
+use crate::run::{Parts, fetch_with};
 use crate::setup::{Paths, Setup, account_of};
 use crate::shown_wire::ShownWire;
 use crate::told::Manner;
 use crate::why::Errors;
 use fetch_rules::{Dest, Settings};
-use fetch_session::{Account, Store};
+use fetch_session::Store;
 use folder_store::{FolderMaildir, HostFile, HostFolder, HostFolders, ProcessMark};
 use mail_store::{FlatFile, MaildirDisk};
 use pop3_wire::Wire;
@@ -99,71 +98,6 @@ fn sweep<R: Files + Clock + AllocGlobal + Clone + Drop>(
         maildir.sweep(&account_of(settings));
     }
     record.sweep();
-}
-
-/// What an account is made of.
-struct Parts<D, F, H> {
-    settings: Settings,
-    store: Store<D, F>,
-    record: F,
-    hasher: H,
-}
-
-/// What a run leaves, and how it came out.
-#[derive(Drop)]
-struct Left<D, F> {
-    settings: Settings,
-    store: Store<D, F>,
-    record: F,
-    fetched: Fetched,
-}
-
-impl<D: Drop, F: Drop> Left<D, F> {
-    /// The exit status.
-    fn into_status(self) -> u8
-        ensures { result ≡ self.fetched.status }
-    {
-        self.fetched.status
-    }
-}
-
-/// Runs one session of an account that is made of these parts, or only previews it.
-fn fetch_with<
-    R: Files + AllocGlobal,
-    W: Wire,
-    S: Write,
-    D: MaildirDisk,
-    F: FlatFile,
-    H: BuildHasher + Drop,
-    O: Write,
-    E: Write,
->(
-    rt: &R,
-    parts: Parts<D, F, H>,
-    wire: &mut ShownWire<W, S>,
-    manner: Manner<'_>,
-    out: &mut Output<O>,
-    errors: &mut Errors<'_, E>,
-) -> Left<D, F>
-    requires valid { IsValid parts.settings }
-    requires none_begun { NoneBegun D.MaildirDisk F.FlatFile parts.store }
-    ensures { result.fetched.status ≤ 1 }
-{
-    let Parts {
-        settings,
-        store,
-        record,
-        hasher,
-    } = parts;
-    let mut account = Account::new(rt.alloc(), settings, store, record, hasher);
-    let fetched = fetch_over(rt, &mut account, wire, manner, out, errors);
-    let (settings, store, record) = account.into_parts();
-    Left {
-        settings,
-        store,
-        record,
-        fetched,
-    }
 }
 
 /// Runs one session on a machine's files, or only previews it, and returns the exit status. Then it removes what

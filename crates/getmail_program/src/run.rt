@@ -1,6 +1,7 @@
 //! A run: one session over a link, or only what it would do.
 ghost use Rattle.std.specs.Prelude.{◌≡◌, ◌≤◌};
-ghost use Rattle.fetch_session.specs.Target.{kind_of};
+ghost use Rattle.fetch_session.specs.Target.{NoneBegun, kind_of};
+ghost use Rattle.rc_file.specs.Settings.{IsValid};
 ghost use Rattle.getmail_program.specs.Holding.{HoldsSession};
 ghost use Rattle.getmail_program.specs.Telling.{TellsAll};
 ghost use Rattle.getmail_program.specs.declared.told.Told.{Told};
@@ -10,7 +11,8 @@ use crate::output::Output;
 use crate::shown_wire::ShownWire;
 use crate::told::{Manner, hold};
 use crate::why::Errors;
-use fetch_session::Account;
+use fetch_rules::Settings;
+use fetch_session::{Account, Store};
 use mail_store::{FlatFile, MaildirDisk};
 use pop3_wire::Wire;
 use std::hash::BuildHasher;
@@ -50,4 +52,69 @@ pub fn fetch_over<
     let system = System::new(rt, &reasons.store);
     let told = hold(&system, account, wire, manner, out);
     tell_all(rt.alloc(), account.settings(), &told, out.refusal(), errors)
+}
+
+/// What an account is made of.
+pub struct Parts<D, F, H> {
+    pub settings: Settings,
+    pub store: Store<D, F>,
+    pub record: F,
+    pub hasher: H,
+}
+
+/// What a run leaves, and how it came out.
+#[derive(Drop)]
+pub struct Left<D, F> {
+    pub settings: Settings,
+    pub store: Store<D, F>,
+    pub record: F,
+    pub fetched: Fetched,
+}
+
+impl<D: Drop, F: Drop> Left<D, F> {
+    /// The exit status.
+    pub fn into_status(self) -> u8
+        ensures { result ≡ self.fetched.status }
+    {
+        self.fetched.status
+    }
+}
+
+/// Runs one session of an account that is made of these parts, or only previews it.
+pub fn fetch_with<
+    R: Files + AllocGlobal,
+    W: Wire,
+    S: Write,
+    D: MaildirDisk,
+    F: FlatFile,
+    H: BuildHasher + Drop,
+    O: Write,
+    E: Write,
+>(
+    rt: &R,
+    parts: Parts<D, F, H>,
+    wire: &mut ShownWire<W, S>,
+    manner: Manner<'_>,
+    out: &mut Output<O>,
+    errors: &mut Errors<'_, E>,
+) -> Left<D, F>
+    requires valid { IsValid parts.settings }
+    requires none_begun { NoneBegun D.MaildirDisk F.FlatFile parts.store }
+    ensures { result.fetched.status ≤ 1 }
+{
+    let Parts {
+        settings,
+        store,
+        record,
+        hasher,
+    } = parts;
+    let mut account = Account::new(rt.alloc(), settings, store, record, hasher);
+    let fetched = fetch_over(rt, &mut account, wire, manner, out, errors);
+    let (settings, store, record) = account.into_parts();
+    Left {
+        settings,
+        store,
+        record,
+        fetched,
+    }
 }
