@@ -7,6 +7,8 @@ use folder_store::{FolderMaildir, HostFile, HostFolder, HostFolders, ProcessMark
 use mail_store::{FlatFile, MaildirDisk, account_id, deliver, file_stem, held};
 use mail_terms::{Listing, ScanRow, UidRow, have_legal_ids, is_legal_id};
 use std::alloc::Global;
+use std::rt::Files;
+use std::time::Clock;
 use trace::{Refusals, System};
 
 /// The id of message `number`, as the driver names its files.
@@ -34,14 +36,28 @@ fn listing_of(alloc: Global, count: u32) -> Result<Listing> {
     Ok(Listing::join(alloc, count, &uids, &sizes)?)
 }
 
-/// A Maildir in a folder.
-type HostMaildir<'a> = FolderMaildir<HostFolders<'a, HostRuntime>>;
+/// A store beside which killed runs leave files.
+trait Tidy {
+    /// Removes what killed runs left there.
+    fn tidy(&self);
+}
 
-/// A file in a folder.
-type RealFile<'a> = HostFile<'a, HostFolder<'a, HostRuntime>>;
+impl<'a, R: Files + Clock + AllocGlobal + Clone + Drop> Tidy
+    for FolderMaildir<HostFolders<'a, R>>
+{
+    fn tidy(&self) {
+        self.sweep(&account_id("bench", 110, "bench"));
+    }
+}
 
-// These types are large, and each way out of a function that has a value of one is proved to give it back. So
-// one function makes it, and those that it calls borrow it.
+impl<'a, R: Files + Clock + AllocGlobal + Clone + Drop> Tidy for HostFile<'a, HostFolder<'a, R>> {
+    fn tidy(&self) {
+        self.sweep();
+    }
+}
+
+// The types of real stores are large: they are made, and then moved into functions over any store, where they
+// are lent to the calls.
 
 /// Asks once which of `count` messages the Maildir holds. Prints how many, and the time.
 fn time_held<D: MaildirDisk>(rt: &HostRuntime, disk: &mut D, count: u32) -> Result<()> {
@@ -57,7 +73,15 @@ fn time_held<D: MaildirDisk>(rt: &HostRuntime, disk: &mut D, count: u32) -> Resu
 }
 
 /// Delivers a text as message `number`.
-fn deliver_one(alloc: Global, disk: &mut HostMaildir<'_>, number: u32, text: &[u8]) -> Result<()> {
+fn deliver_one<D: MaildirDisk>(
+    alloc: Global,
+    disk: &mut D,
+    number: u32,
+    text: &[u8],
+) -> Result<()>
+    requires { D.sound disk.old → ⊥ }
+    ensures { D.sound disk.new → ⊥ }
+{
     let id = id_of(alloc, number)?;
     if !is_legal_id(id.as_bytes()) {
         return Err(Trouble::Other);
@@ -67,7 +91,9 @@ fn deliver_one(alloc: Global, disk: &mut HostMaildir<'_>, number: u32, text: &[u
 }
 
 /// Delivers `count` texts of 2,048 bytes. Prints how many, and the time.
-fn time_deliver(rt: &HostRuntime, disk: &mut HostMaildir<'_>, count: u32) -> Result<()> {
+fn time_deliver<D: MaildirDisk>(rt: &HostRuntime, disk: &mut D, count: u32) -> Result<()>
+    requires { D.sound disk.old → ⊥ }
+{
     let text = Vec::from_elem(rt.alloc(), b'x', 2048)?;
     let watch = Stopwatch::new(rt)?;
     for number in 1..=count {
@@ -76,11 +102,22 @@ fn time_deliver(rt: &HostRuntime, disk: &mut HostMaildir<'_>, count: u32) -> Res
     watch.tell(rt, count as usize)
 }
 
-/// Makes the calls of this name on a Maildir.
-fn use_maildir(rt: &HostRuntime, call: &str, disk: &mut HostMaildir<'_>, count: u32) -> Result<()> {
+/// Makes the calls of this name on a Maildir of which nothing is known.
+fn use_maildir<D: MaildirDisk + Tidy + Drop>(
+    rt: &HostRuntime,
+    call: &str,
+    mut disk: D,
+    count: u32,
+) -> Result<()>
+    requires { D.sound disk → ⊥ }
+{
     match call {
-        "held" => time_held(rt, disk, count),
-        _ => time_deliver(rt, disk, count),
+        "held" => time_held(rt, &mut disk, count),
+        "deliver" => time_deliver(rt, &mut disk, count),
+        _ => {
+            disk.tidy();
+            Ok(())
+        }
     }
 }
 
@@ -89,18 +126,18 @@ pub fn use_maildir_at(rt: &HostRuntime, call: &str, path: &str, count: u32) -> R
     let mark = mark_of(rt)?;
     let refusals = Refusals::new(rt.alloc(), None);
     let system = System::new(rt, &refusals);
-    use_maildir(rt, call, &mut FolderMaildir::at(&system, path, mark), count)
+    use_maildir(rt, call, FolderMaildir::at(&system, path, mark), count)
 }
 
 /// Replaces a file by a text, appends it and cuts that off again.
-fn rewrite_once(file: &mut RealFile<'_>, text: &[u8]) -> Result<()> {
+fn rewrite_once<F: FlatFile>(file: &mut F, text: &[u8]) -> Result<()> {
     file.replace(text)?;
     file.append(text)?;
     Ok(file.cut_to(text.len() as u64)?)
 }
 
 /// Rewrites a file `count` times with a text of 2,048 bytes.
-fn rewrite(rt: &HostRuntime, file: &mut RealFile<'_>, count: u32) -> Result<()> {
+fn rewrite<F: FlatFile>(rt: &HostRuntime, file: &mut F, count: u32) -> Result<()> {
     let text = Vec::from_elem(rt.alloc(), b'x', 2048)?;
     for _ in 0..count {
         rewrite_once(file, &text)?;
@@ -118,33 +155,24 @@ fn append_once<F: FlatFile>(rt: &HostRuntime, file: &mut F, count: u32) -> Resul
     Ok(())
 }
 
-/// Makes the calls of this name on a file of any kind.
-fn use_any_file<F: FlatFile>(
+/// Makes the calls of this name on a file.
+fn use_file<F: FlatFile + Tidy + Drop>(
     rt: &HostRuntime,
     call: &str,
     path: &str,
-    file: &mut F,
+    mut file: F,
     count: u32,
 ) -> Result<()> {
     match call {
-        "append" => mbox::append(rt, path, file, count),
-        "blocks" => append_once(rt, file, count),
-        _ => mbox::time_texts(rt, file),
+        "rewrite" => rewrite(rt, &mut file, count),
+        "append" => mbox::append(rt, path, &mut file, count),
+        "blocks" => append_once(rt, &mut file, count),
+        "texts" => mbox::time_texts(rt, &mut file),
+        _ => {
+            file.tidy();
+            Ok(())
+        }
     }
-}
-
-/// Makes the calls of this name on a file.
-fn use_file(
-    rt: &HostRuntime,
-    call: &str,
-    path: &str,
-    file: &mut RealFile<'_>,
-    count: u32,
-) -> Result<()> {
-    if call == "rewrite" {
-        return rewrite(rt, file, count);
-    }
-    use_any_file(rt, call, path, file, count)
 }
 
 /// The file at a path, whose texts are appended block by block if the call is `blocks`, as to a record.
@@ -153,7 +181,7 @@ fn file_at<'a>(
     call: &str,
     path: &'a str,
     mark: ProcessMark,
-) -> RealFile<'a> {
+) -> HostFile<'a, HostFolder<'a, HostRuntime>> {
     if call == "blocks" {
         HostFile::by_blocks(system, path, mark)
     } else {
@@ -166,42 +194,13 @@ pub fn use_file_at(rt: &HostRuntime, call: &str, path: &str, count: u32) -> Resu
     let mark = mark_of(rt)?;
     let refusals = Refusals::new(rt.alloc(), None);
     let system = System::new(rt, &refusals);
-    use_file(
-        rt,
-        call,
-        path,
-        &mut file_at(&system, call, path, mark),
-        count,
-    )
-}
-
-/// Removes what killed runs left beside a record.
-fn sweep_file(system: &System<'_, HostRuntime>, path: &str, mark: ProcessMark) {
-    HostFile::by_blocks(system, path, mark).sweep();
-}
-
-/// Removes what killed runs left beside the record of a Maildir.
-fn sweep_record(system: &System<'_, HostRuntime>, path: &str, mark: ProcessMark) -> Result<()> {
-    let record = format!(in system.alloc(); "{path}/seen")?;
-    sweep_file(system, record.as_str(), mark);
-    Ok(())
-}
-
-/// Removes what killed runs left in a Maildir.
-fn sweep_maildir(system: &System<'_, HostRuntime>, path: &str, mark: ProcessMark) {
-    FolderMaildir::at(system, path, mark).sweep(&account_id("bench", 110, "bench"));
-}
-
-/// Removes what killed runs left in a Maildir and beside the record in it.
-fn sweep_both(system: &System<'_, HostRuntime>, path: &str, mark: ProcessMark) -> Result<()> {
-    sweep_record(system, path, mark)?;
-    sweep_maildir(system, path, mark);
-    Ok(())
+    let file = file_at(&system, call, path, mark);
+    use_file(rt, call, path, file, count)
 }
 
 /// Removes what killed runs left in the Maildir at a path and beside the record in it.
 pub fn sweep(rt: &HostRuntime, path: &str) -> Result<()> {
-    let mark = mark_of(rt)?;
-    let refusals = Refusals::new(rt.alloc(), None);
-    sweep_both(&System::new(rt, &refusals), path, mark)
+    let record = format!(in rt.alloc(); "{path}/seen")?;
+    use_file_at(rt, "sweep", record.as_str(), 0)?;
+    use_maildir_at(rt, "sweep", path, 0)
 }
