@@ -2,7 +2,6 @@
 
 use crate::trouble::Result;
 use fetch_rules::Seen;
-use std::alloc::Global;
 use std::fs;
 use std::hash::RandomState;
 use std::io::Write;
@@ -32,25 +31,19 @@ fn answer(seen: &mut Seen<RandomState>, record: &[u8], answers: &mut Vec<u8>) ->
     Ok(())
 }
 
-/// The answer for each record of a file's bytes.
-fn answer_each(seen: &mut Seen<RandomState>, bytes: &[u8], answers: &mut Vec<u8>) -> Result<()> {
+/// Prints the answer for each record of a file's bytes.
+fn answer_each(rt: &HostRuntime, seen: &mut Seen<RandomState>, bytes: &[u8]) -> Result<()> {
+    let mut answers = Vec::new(rt.alloc());
     for record in bytes.split(|byte| *byte == END) {
-        answer(seen, record, answers)?;
+        answer(seen, record, &mut answers)?;
     }
+    rt.stdout().write_all(&answers)?;
     Ok(())
-}
-
-/// The answers for a file's bytes.
-fn answers(alloc: Global, hasher: RandomState, bytes: &[u8]) -> Result<Vec<u8>> {
-    let mut answers = Vec::new(alloc);
-    answer_each(&mut Seen::new(alloc, hasher), bytes, &mut answers)?;
-    Ok(answers)
 }
 
 /// Prints the answer for each record of a file.
 pub fn judge(rt: &HostRuntime, path: &str) -> Result<()> {
     let records = fs::read(rt, path)?;
-    let answers = answers(rt.alloc(), RandomState::new(rt)?, &records)?;
-    rt.stdout().write_all(&answers)?;
-    Ok(())
+    let hasher = RandomState::new(rt)?;
+    answer_each(rt, &mut Seen::new(rt.alloc(), hasher), &records)
 }

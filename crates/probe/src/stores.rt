@@ -42,9 +42,7 @@ trait Tidy {
     fn tidy(&self);
 }
 
-impl<'a, R: Files + Clock + AllocGlobal + Clone + Drop> Tidy
-    for FolderMaildir<HostFolders<'a, R>>
-{
+impl<'a, R: Files + Clock + AllocGlobal + Clone + Drop> Tidy for FolderMaildir<HostFolders<'a, R>> {
     fn tidy(&self) {
         self.sweep(&account_id("bench", 110, "bench"));
     }
@@ -73,12 +71,7 @@ fn time_held<D: MaildirDisk>(rt: &HostRuntime, disk: &mut D, count: u32) -> Resu
 }
 
 /// Delivers a text as message `number`.
-fn deliver_one<D: MaildirDisk>(
-    alloc: Global,
-    disk: &mut D,
-    number: u32,
-    text: &[u8],
-) -> Result<()>
+fn deliver_one<D: MaildirDisk>(alloc: Global, disk: &mut D, number: u32, text: &[u8]) -> Result<()>
     requires { D.sound disk.old → ⊥ }
     ensures { D.sound disk.new → ⊥ }
 {
