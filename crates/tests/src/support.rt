@@ -6,7 +6,9 @@ mod maildirs;
 mod maildrops;
 mod records;
 
-pub use accounts::{Fred, Fuse, Kept, Link, SOUND, account, kept_by, link, login, nothing_kept};
+pub use accounts::{
+    Fred, Fuse, Kept, Link, SOUND, account, fetch, kept_by, link, login, nothing_kept,
+};
 pub use listings::listing_of;
 pub use maildirs::make_maildir;
 pub use maildrops::{MESSAGES, maildrop_of};

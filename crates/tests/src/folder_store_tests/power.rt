@@ -66,17 +66,32 @@ fn names_are_told_until_their_files_are_taken_away(rt: HostRuntime) -> Result<()
     Ok(())
 }
 
+/// The folder of a file that was replaced and appended to.
+fn folder_of_one<F: FileFolder + Drop>(folder: F, appending: Appending) -> Result<F, Fail> {
+    let mut file = HostFile::over(folder, "kept", appending);
+    file.replace(b"abc")?;
+    file.append(b"defgh")?;
+    Ok(file.into_folder())
+}
+
+/// Whether a folder has all of that file, and no other one.
+fn has_one<F: FileFolder + Drop>(mut folder: F) -> Result<bool, Fail> {
+    let whole = folder.read("kept")?.as_slice() == b"abcdefgh".as_slice();
+    Ok(whole && folder.read("other") == Err(StoreFault::Missing))
+}
+
+/// Whether a loss of power leaves all of that file.
+fn outlives_power(alloc: Global, appending: Appending, left: Left) -> Result<bool, Fail> {
+    let mut folder = folder_of_one(MemoryFolder::new(alloc), appending)?;
+    folder.lose_power(&[left])?;
+    has_one(folder)
+}
+
 #[test]
 fn a_file_outlives_a_loss_of_power(rt: HostRuntime) -> Result<(), Fail> {
     for appending in [Appending::AtOnce, Appending::ByBlocks] {
         for left in WAYS {
-            let mut file = HostFile::over(MemoryFolder::new(rt.alloc()), "kept", appending);
-            file.replace(b"abc")?;
-            file.append(b"defgh")?;
-            let mut folder = file.into_folder();
-            folder.lose_power(&[left])?;
-            assert!(rt; folder.read("kept")?.as_slice() == b"abcdefgh".as_slice());
-            assert_eq!(rt; folder.read("other"), Err(StoreFault::Missing));
+            assert!(rt; outlives_power(rt.alloc(), appending, left)?);
         }
     }
     Ok(())

@@ -1,13 +1,12 @@
 //! Sessions that are cut, each at another place, and a whole session after each.
 
 use crate::support::{
-    Fred, Fuse, Kept, Link, MESSAGES, SOUND, account, kept_by, link, login, maildrop_of,
+    Fred, Fuse, Kept, Link, MESSAGES, SOUND, account, fetch, kept_by, link, login, maildrop_of,
     nothing_kept,
 };
 use fetch_session::session;
-use local_fetch::fetch_local;
 use mail_store::{Folder, MemoryMaildir};
-use pop3_server::{MemoryDrop, Server};
+use pop3_server::MemoryDrop;
 use std::alloc::Global;
 use std::process::Abort;
 use std::test::Fail;
@@ -58,23 +57,11 @@ fn cut(alloc: Global, options: &[u8], fuses: Fuses) -> Result<Ends, Fail> {
     })
 }
 
-/// Runs a session over a server with this maildrop, and returns what is left in it.
-fn fetch(
-    alloc: Global,
-    account: &mut Fred,
-    maildrop: MemoryDrop,
-    (user, pass): (Vec<u8>, Vec<u8>),
-) -> MemoryDrop {
-    let server = Server::new(alloc, maildrop, user, pass);
-    let (_, wire) = fetch_local(alloc, account, server, 0);
-    wire.into_inner().into_drop()
-}
-
 /// Runs a whole session.
 fn complete(alloc: Global, options: &[u8], ends: Ends) -> Result<Ends, Fail> {
     let login = login(alloc)?;
     let mut account = account(alloc, options, ends.kept, SOUND, SOUND)?;
-    let maildrop = fetch(alloc, &mut account, ends.maildrop, login);
+    let (_, maildrop) = fetch(alloc, &mut account, ends.maildrop, login);
     Ok(Ends {
         kept: kept_by(alloc, account),
         maildrop,
@@ -91,12 +78,16 @@ fn holds_each_once(maildir: &MemoryMaildir) -> bool {
         && maildir.files(Folder::Cur).is_empty()
 }
 
-/// Runs a session that is cut, and a whole one. Then each message is held once, and the maildrop is
-/// empty if the sessions delete.
+/// Each message is held once, and the maildrop is empty if the sessions delete.
+fn expect_whole(rt: &impl Abort, ends: &Ends, delete: bool) {
+    assert!(rt; holds_each_once(&ends.kept.maildir));
+    assert_eq!(rt; ends.maildrop.is_empty(), delete);
+}
+
+/// Runs a session that is cut, and a whole one after it.
 fn expect(rt: &(impl Abort + AllocGlobal), options: &[u8], fuses: Fuses) -> Result<(), Fail> {
     let ends = complete(rt.alloc(), options, cut(rt.alloc(), options, fuses)?)?;
-    assert!(rt; holds_each_once(&ends.kept.maildir));
-    assert_eq!(rt; ends.maildrop.is_empty(), options == DELETING);
+    expect_whole(rt, &ends, options == DELETING);
     Ok(())
 }
 

@@ -2,13 +2,12 @@
 
 use crate::no_memory_tests::watched::{begin, end, tell, tell_bytes, tell_no_memory, tell_text};
 use crate::support::{
-    Fred, Link, MESSAGES, SOUND, account, kept_by, link, login, maildrop_of, nothing_kept,
+    Fred, Link, MESSAGES, SOUND, account, fetch, kept_by, link, login, maildrop_of, nothing_kept,
 };
 use fetch_runs::{Visit, run_sessions};
 use fetch_session::{Outcome, Report, fault_text};
-use local_fetch::fetch_local;
 use mail_store::Folder;
-use pop3_server::{MemoryDrop, Server};
+use pop3_server::MemoryDrop;
 use std::alloc::Global;
 use std::test::Fail;
 
@@ -28,24 +27,14 @@ fn tell_held(rt: &HostRuntime, account: Fred) {
 }
 
 /// Runs a session over a server with these messages.
-fn fetch_as(
-    rt: &HostRuntime,
-    account: &mut Fred,
-    maildrop: MemoryDrop,
-    (user, pass): (Vec<u8>, Vec<u8>),
-) {
-    let server = Server::new(rt.alloc(), maildrop, user, pass);
+fn fetch_all(rt: &HostRuntime, account: &mut Fred, maildrop: MemoryDrop) {
+    let Ok(login) = login(rt.alloc()) else {
+        return;
+    };
     begin(rt);
-    let (report, _wire) = fetch_local(rt.alloc(), account, server, 0);
+    let (report, _) = fetch(rt.alloc(), account, maildrop, login);
     end(rt);
     tell_outcome(rt, &report);
-}
-
-/// Runs a session over a server with these messages.
-fn fetch(rt: &HostRuntime, account: &mut Fred, maildrop: MemoryDrop) {
-    if let Ok(login) = login(rt.alloc()) {
-        fetch_as(rt, account, maildrop, login);
-    }
 }
 
 #[test]
@@ -54,8 +43,8 @@ fn fetch_local_row(rt: HostRuntime) -> Result<(), Fail> {
     let first = maildrop_of(alloc, &MESSAGES)?;
     let second = maildrop_of(alloc, &MESSAGES)?;
     let mut account = account(alloc, b"", nothing_kept(alloc), SOUND, SOUND)?;
-    fetch(&rt, &mut account, first);
-    fetch(&rt, &mut account, second);
+    fetch_all(&rt, &mut account, first);
+    fetch_all(&rt, &mut account, second);
     tell_held(&rt, account);
     Ok(())
 }
@@ -91,7 +80,7 @@ fn run_sessions_row(rt: HostRuntime) -> Result<(), Fail> {
     let mut visits = [visit(alloc)?, visit(alloc)?];
     let mut account = account(alloc, b"", nothing_kept(alloc), SOUND, SOUND)?;
     run_both(&rt, &mut account, &mut visits);
-    fetch(&rt, &mut account, whole);
+    fetch_all(&rt, &mut account, whole);
     tell_held(&rt, account);
     Ok(())
 }

@@ -3,7 +3,8 @@ ghost use Rattle.std.specs.Prelude.{IfOk};
 ghost use Rattle.rc_file.specs.Settings.{IsValid};
 
 use fetch_rules::{Settings, read_rc};
-use fetch_session::{Account, Store};
+use fetch_session::{Account, Report, Store};
+use local_fetch::fetch_local;
 use mail_store::{Fused, MaildirDisk, MemoryFile, MemoryMaildir};
 use pop3_server::{LoopWire, MemoryDrop, Server};
 use pop3_wire::FusedWire;
@@ -103,6 +104,18 @@ pub fn login(alloc: Global) -> Result<(Vec<u8>, Vec<u8>), AllocError> {
         Vec::from_slice(alloc, b"fred")?,
         Vec::from_slice(alloc, b"secret")?,
     ))
+}
+
+/// Runs a session over a new server with this maildrop, and returns what is left in it too.
+pub fn fetch(
+    alloc: Global,
+    account: &mut Fred,
+    maildrop: MemoryDrop,
+    (user, pass): (Vec<u8>, Vec<u8>),
+) -> (Report, MemoryDrop) {
+    let server = Server::new(alloc, maildrop, user, pass);
+    let (report, wire) = fetch_local(alloc, account, server, 0);
+    (report, wire.into_inner().into_drop())
 }
 
 /// A link to a new server over this maildrop, which passes `passes` calls.
