@@ -18,7 +18,7 @@ mod reading;
 mod row_map;
 
 pub use crate::seen::line::Intent;
-use crate::seen::line::{HEADER, row_group, write_intent, write_line};
+use crate::seen::line::{row_group, write_intent};
 use crate::seen::row_map::{RowMap, State};
 use mail_terms::Listing;
 use std::alloc::{AllocError, AllocFailed, Global};
@@ -195,11 +195,7 @@ impl<H: BuildHasher> Seen<H> {
         ensures file { IfOk result (λ bytes. bytes.items ≡ file_of self.now.rows self.now.intent) }
         ensures is_record { IsRecord self.now.rows }
     {
-        let mut bytes = Vec::from_slice(self.alloc, HEADER)?;
-        for place in 0..self.rows.len() {
-            let (uid, state) = self.rows.at(place);
-            write_line(self.alloc, &mut bytes, uid, state)?;
-        }
+        let mut bytes = self.rows.bytes()?;
         if let Some(intent) = &self.intent {
             let line = write_intent(self.alloc, intent.as_intent())?;
             bytes.extend_from_slice(&line)?;
@@ -359,7 +355,7 @@ impl<H: BuildHasher> Seen<H> {
         self.rows.add_listed(listing, now)?;
         let added = count < self.rows.len();
         let marked = self.rows.mark_held(listing, held);
-        Ok(added || marked)
+        Ok(added | marked)
     }
 
     /// As `merge`, but gives the group of the rows that were added or changed, in the record's

@@ -181,7 +181,6 @@ impl<H: BuildHasher> RowMap<H> {
             write_line(alloc, &mut lines, uid, state)?;
             changes += 1;
         }
-        let bytes = group(alloc, changes, &lines)?;
-        Ok(bytes)
+        group(alloc, changes, &lines)
     }
 }

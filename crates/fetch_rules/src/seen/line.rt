@@ -179,14 +179,13 @@ pub(crate) fn row_group(alloc: Global, uid: &[u8], state: State) -> Result<Vec<u
 {
     let mut line = Vec::new(alloc);
     write_line(alloc, &mut line, uid, state)?;
-    let bytes = group(alloc, 1, &line)?;
-    Ok(bytes)
+    group(alloc, 1, &line)
 }
 
 /// The group of `count` lines; empty if there are none.
 pub(crate) fn group(alloc: Global, count: usize, lines: &[u8]) -> Result<Vec<u8>, AllocError>
-    ensures { IfOk result (λ bytes. (rows : List Row) → length rows ≡ count
-        → flat_map line_of rows ≡ lines.now → bytes.items ≡ written rows) }
+    ensures { (rows : List Row) → length rows ≡ count → flat_map line_of rows ≡ lines.now
+        → IfOk result (λ bytes. bytes.items ≡ written rows) }
 {
     if count == 0 {
         return Ok(Vec::new(alloc));

@@ -103,9 +103,9 @@ impl Part {
     }
 }
 
-/// What a file holds besides its rows.
+/// What a file's lines hold besides its rows.
 #[derive(Clone, Copy)]
-pub(crate) struct Shape<'a> {
+pub(crate) struct ReadLines<'a> {
     /// Whether it is of version 1.
     pub(crate) older: bool,
     /// The intent that is open.
@@ -213,17 +213,17 @@ impl<H: BuildHasher> RowMap<H> {
     }
 
     /// Reads the lines of a file into the rows, which must be empty.
-    fn read_lines<'a>(&mut self, bytes: &'a [u8]) -> Result<Shape<'a>, SeenFault>
+    fn read_lines<'a>(&mut self, bytes: &'a [u8]) -> Result<ReadLines<'a>, SeenFault>
         requires empty { self.old ≡ [] }
         requires is_record { IsRecord self.old }
-        ensures ok { IfOk result (λ shape. EndsAt bytes.now shape.older shape.end (open_seen shape.intent) self.new) }
-        ensures grown { IfOk result (λ shape. IsOutgrown bytes.now shape.outgrown) }
+        ensures ok { IfOk result (λ lines. EndsAt bytes.now lines.older lines.end (open_seen lines.intent) self.new) }
+        ensures grown { IfOk result (λ lines. IsOutgrown bytes.now lines.outgrown) }
         ensures err { IfErr result (λ fault. fault ≢ SeenFault.NoMemory → Means bytes.now (Fault fault)) }
         ensures is_record { IsRecord self.new }
     {
         let Some((older, lines)) = behind_header(bytes) else {
             let end = end_without_header(bytes)?;
-            return Ok(Shape {
+            return Ok(ReadLines {
                 older: false,
                 intent: None,
                 end,
@@ -261,7 +261,7 @@ impl<H: BuildHasher> RowMap<H> {
         }
         let end = part.end(front, rest);
         let outgrown = is_outgrown(bytes, lines, appended);
-        Ok(Shape {
+        Ok(ReadLines {
             older,
             intent,
             end,
@@ -271,7 +271,7 @@ impl<H: BuildHasher> RowMap<H> {
 
     /// Replaces the rows by those that a file's bytes stand for, and gives what else was read.
     /// There may be some rows after a fault.
-    pub(crate) fn read<'a>(&mut self, bytes: &'a [u8]) -> Result<Found<'a>, SeenFault>
+    pub(crate) fn read<'a>(&mut self, bytes: &'a [u8]) -> Result<ReadFile<'a>, SeenFault>
         ensures ok { IfOk result (λ found. Means bytes.now (Rows (version_of found.older) self.new (open_seen found.intent) found.torn)) }
         ensures grown { IfOk result (λ found. IsOutgrown bytes.now found.outgrown) }
         ensures err { IfErr result (λ fault. fault ≢ SeenFault.NoMemory → Means bytes.now (Fault fault)) }
@@ -279,15 +279,15 @@ impl<H: BuildHasher> RowMap<H> {
     {
         self.clear();
         self.reserve(likely_count(bytes))?;
-        let shape = self.read_lines(bytes)?;
-        let Shape {
+        let lines = self.read_lines(bytes)?;
+        let ReadLines {
             older,
             intent,
             end,
             outgrown,
-        } = shape;
+        } = lines;
         match end {
-            End::Counted { torn } => Ok(Found {
+            End::Counted { torn } => Ok(ReadFile {
                 older,
                 intent,
                 torn,
@@ -297,7 +297,7 @@ impl<H: BuildHasher> RowMap<H> {
                 // The group's rows don't count: what comes before it is read again.
                 self.clear();
                 self.read_lines(&bytes[..front])?;
-                Ok(Found {
+                Ok(ReadFile {
                     older,
                     intent,
                     torn: true,
@@ -310,7 +310,7 @@ impl<H: BuildHasher> RowMap<H> {
 
 /// What was read of a file besides its rows.
 #[derive(Clone, Copy)]
-pub(crate) struct Found<'a> {
+pub(crate) struct ReadFile<'a> {
     /// Whether it is of version 1.
     pub(crate) older: bool,
     /// The intent that is open.
