@@ -115,17 +115,22 @@ pub(crate) struct ReadLines<'a> {
     pub(crate) outgrown: bool,
 }
 
-/// The end of a file that doesn't begin with a header's line.
-fn end_without_header(bytes: &[u8]) -> Result<End, SeenFault>
+/// What is read of a file that doesn't begin with a header's line: only an empty one has no fault.
+fn read_without_header<'a>(bytes: &'a [u8]) -> Result<ReadLines<'a>, SeenFault>
     requires { (version : Version) (rest : List ℕ) → bytes.now ≢ header version ++ rest }
-    ensures ok { IfOk result (λ end. (bytes.now ≡ []) × (end ≡ End.Counted false)) }
-    ensures err { IfErr result (λ fault. (bytes.now ≢ []) × (fault ≡ SeenFault.BadHeader)) }
+    ensures ok { IfOk result (λ lines. EndsAt bytes.now lines.older lines.end (open_seen lines.intent) []) }
+    ensures grown { IfOk result (λ lines. IsOutgrown bytes.now lines.outgrown) }
+    ensures err { IfErr result (λ fault. Means bytes.now (Fault fault)) }
 {
-    if bytes.is_empty() {
-        Ok(End::Counted { torn: false })
-    } else {
-        Err(SeenFault::BadHeader)
+    if !bytes.is_empty() {
+        return Err(SeenFault::BadHeader);
     }
+    Ok(ReadLines {
+        older: false,
+        intent: None,
+        end: End::Counted { torn: false },
+        outgrown: false,
+    })
 }
 
 /// Whether a group's row may repeat the id of an earlier row: it is delivered and has the same
@@ -222,13 +227,7 @@ impl<H: BuildHasher> RowMap<H> {
         ensures is_record { IsRecord self.new }
     {
         let Some((older, lines)) = behind_header(bytes) else {
-            let end = end_without_header(bytes)?;
-            return Ok(ReadLines {
-                older: false,
-                intent: None,
-                end,
-                outgrown: false,
-            });
+            return read_without_header(bytes);
         };
         let mut rest = lines;
         let mut appended = lines;
