@@ -165,18 +165,18 @@ impl<H: BuildHasher> Seen<H> {
     {
         self.intent = None;
         self.stale = false;
-        let found = match self.rows.read(bytes) {
-            Ok(found) => found,
+        let (file, torn) = match self.rows.read(bytes) {
+            Ok(read) => read,
             Err(fault) => {
                 self.rows.clear();
                 return Err(fault);
             }
         };
-        let Ok(kept) = keep(self.alloc, found.intent) else {
+        let Ok(kept) = keep(self.alloc, file.intent) else {
             self.rows.clear();
             return Err(SeenFault::NoMemory);
         };
-        self.stale = is_stale(found.older, found.torn, &kept, found.outgrown);
+        self.stale = is_stale(file.older, torn, &kept, file.outgrown);
         self.intent = kept;
         Ok(())
     }
