@@ -49,19 +49,6 @@ fn add_digits<'a>(
     Ok(())
 }
 
-/// The digits of the ids in the stems of the account's names among these.
-fn digits_of<'a>(
-    alloc: Global,
-    account: &str,
-    names: &'a [String],
-) -> Result<BTreeSet<&'a str>, AllocError>
-    ensures { IfOk result (λ found. (q : List ℕ) → has_text found q ≡ any_name account.now q names.now) }
-{
-    let mut found = BTreeSet::new(alloc);
-    add_digits(&mut found, account, names)?;
-    Ok(found)
-}
-
 /// Whether the digits of each item's id are among these, in order.
 fn flags_of(
     alloc: Global,
@@ -91,7 +78,8 @@ fn held_in(
     ensures length { IfOk result (λ flags. vec_len flags ≡ length listing.now) }
 {
     // All of the account's names begin alike, so only what follows is compared.
-    let found = digits_of(alloc, account.as_str(), names)?;
+    let mut found = BTreeSet::new(alloc);
+    add_digits(&mut found, account.as_str(), names)?;
     flags_of(alloc, &found, listing)
 }
 
