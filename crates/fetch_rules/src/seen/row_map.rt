@@ -1,7 +1,8 @@
 //! The rows of a record as a map from id to what is known of its message, in order of first
 //! appearance.
 
-ghost use Rattle.std.specs.Prelude.{◌≡◌, ◌<◌, ◌++◌, [], ◌∷◌, true, false, length, take, flat_map, OnOk, OnErr, IfOk, IsTrue, HoldsAt, IfSome, IfNone};
+ghost use Rattle.std.specs.Prelude.{◌≡◌, ◌<◌, ◌++◌, [], ◌∷◌, true, false, length, take, OnOk, OnErr, IfOk, IsTrue, HoldsAt, IfSome, IfNone};
+ghost use Rattle.std.specs.Prelude.{flat_map};
 ghost use Rattle.mail_terms.specs.UniqueId.{IsLegalId};
 ghost use Rattle.fetch_rules.specs.Record.{IsRecord, has_row, is_delivered, marked};
 ghost use Rattle.fetch_rules.specs.RecordFile.{Two, header, line_of};
