@@ -194,58 +194,38 @@ uncut s a y xs none e = go a (subst (HasNo s) e none)
 pub no_line : (rest : List ℕ) → HasNo 10 rest → (line : Line) (behind : List ℕ) → IsLine line → rest ≡ text_of line ++ behind → ⊥
 no_line rest none line behind is e = let b = body_of line is in uncut 10 b.body behind rest none (e ∙ b.text_is behind)
 
--- the fields of a row's line
-pub uid_of_line : (bytes uid rest : List ℕ) (row : Row) (behind : List ℕ) → bytes ≡ uid ++ 32 ∷ rest → All (λ byte. byte ≢ 32) uid → IsRow row → bytes ≡ line_of row ++ behind
-    → (uid ≡ row.uid) × (rest ≡ decimal row.first_seen ++ 32 ∷ (state_of row.delivered ++ behind))
-uid_of_line bytes uid rest row behind cut none is line =
-    cut_unique 32 uid row.uid rest _ (recursion_from_All _ uid none) (HasNo-uid 32 (omega arith) row is) (sym cut ∙ line ∙ line_split row behind)
+-- what follows a legal id and a space
+pub behind_id : (line uid rest expected tail : List ℕ) → IsLegalId uid → IsLegalId expected → line ≡ uid ++ 32 ∷ rest → line ≡ expected ++ 32 ∷ tail → rest ≡ tail
+behind_id line uid rest expected tail legal legal' cut e = (cut_unique 32 uid expected rest tail (HasNo-id 32 (omega arith) uid legal) (HasNo-id 32 (omega arith) expected legal') (sym cut ∙ e)).1
 
-pub number_of_line : (rest number rest' : List ℕ) (row : Row) (behind : List ℕ) → rest ≡ number ++ 32 ∷ rest' → All (λ byte. byte ≢ 32) number → IsRow row
-    → rest ≡ decimal row.first_seen ++ 32 ∷ (state_of row.delivered ++ behind) → (number ≡ decimal row.first_seen) × (rest' ≡ state_of row.delivered ++ behind)
-number_of_line rest number rest' row behind cut none is line =
-    cut_unique 32 number (decimal row.first_seen) rest' _ (recursion_from_All _ number none) (HasNo-decimal 32 (omega arith) row.first_seen is.fits) (sym cut ∙ line)
+-- a number and what follows its separator
+pub number_behind : (s : ℕ) (line : List ℕ) (number : ℕ) (rest : List ℕ) (expected : ℕ) (tail : List ℕ) → s < 48 → number < 2 ^ 64 → expected < 2 ^ 64
+    → line ≡ decimal number ++ s ∷ rest → line ≡ decimal expected ++ s ∷ tail → (number ≡ expected) × (rest ≡ tail)
+number_behind s line number rest expected tail small fits fits' cut e =
+    let parts = cut_unique s (decimal number) (decimal expected) rest tail (HasNo-decimal s small number fits) (HasNo-decimal s small expected fits') (sym cut ∙ e) in
+    (decimal_injective number expected fits fits' parts.0, parts.1)
 
-pub not_line-no_uid : (bytes : List ℕ) (row : Row) (behind : List ℕ) → All (λ byte. byte ≢ 32) bytes → bytes ≡ line_of row ++ behind → ⊥
-not_line-no_uid bytes row behind none line = uncut 32 row.uid _ bytes (recursion_from_All _ bytes none) (line ∙ line_split row behind)
-
-pub not_line-no_number : (rest : List ℕ) (row : Row) (behind : List ℕ) → All (λ byte. byte ≢ 32) rest → rest ≡ decimal row.first_seen ++ 32 ∷ (state_of row.delivered ++ behind) → ⊥
-not_line-no_number rest row behind none line = uncut 32 (decimal row.first_seen) _ rest (recursion_from_All _ rest none) line
-
--- the number of a group's line
+-- what follows the sign of a group's line
 pub behind_sign : (bytes line : List ℕ) (count : ℕ) (behind : List ℕ) → bytes ≡ 43 ∷ 32 ∷ line → bytes ≡ group_line count ++ behind → line ≡ decimal count ++ 10 ∷ behind
 behind_sign bytes line count behind bytes_are is =
     (same_cons 32 32 _ _ (same_cons 43 43 _ _ (sym bytes_are ∙ is ∙ group_split count behind)).1).1
-
-pub count_of_line : (bytes line number rest : List ℕ) (count : ℕ) (behind : List ℕ) → bytes ≡ 43 ∷ 32 ∷ line → line ≡ number ++ 10 ∷ rest → All (λ byte. byte ≢ 10) number → count ≤ 100000 → bytes ≡ group_line count ++ behind
-    → number ≡ decimal count
-count_of_line bytes line number rest count behind bytes_are cut none small is =
-    (cut_unique 10 number (decimal count) rest behind (recursion_from_All _ number none) (HasNo-decimal 10 (omega arith) count (fits_of count small)) (sym cut ∙ behind_sign bytes line count behind bytes_are is)).0
-
-pub not_group-no_end : (bytes line : List ℕ) (count : ℕ) (behind : List ℕ) → bytes ≡ 43 ∷ 32 ∷ line → All (λ byte. byte ≢ 10) line → bytes ≡ group_line count ++ behind → ⊥
-not_group-no_end bytes line count behind bytes_are none is = uncut 10 (decimal count) behind line (recursion_from_All _ line none) (behind_sign bytes line count behind bytes_are is)
-
-pub same_count : (number : List ℕ) (m count : ℕ) → number ≡ decimal m → m < 2 ^ 64 → count ≤ 100000 → number ≡ decimal count → m ≡ count
-same_count number m count is fits small other = decimal_injective m count fits (fits_of count small) (sym is ∙ other)
-
-pub group_whole_line : (bytes line number rest : List ℕ) (count : ℕ) → bytes ≡ 43 ∷ 32 ∷ line → line ≡ number ++ 10 ∷ rest → number ≡ decimal count → bytes ≡ group_line count ++ rest
-group_whole_line bytes line number rest count bytes_are cut is =
-    bytes_are ∙ ap (λ (xs : List ℕ). 43 ∷ 32 ∷ xs) (cut ∙ ap (λ (xs : List ℕ). xs ++ 10 ∷ rest) is) ∙ sym (group_split count rest)
 
 -- what was stripped
 pub stripped : (prefix bytes : List ℕ) (rest : Bor (List ℕ)) → MatchOption (Some rest) (pointwise nat_eq (take (length prefix) bytes) prefix ≡ false) (λ x. (pointwise nat_eq (take (length prefix) bytes) prefix ≡ true) × (x.now ≡ drop (length prefix) bytes) × (length x.now + length prefix ≡ length bytes)) → bytes ≡ prefix ++ rest.now
 stripped prefix bytes rest cases = strip_prefix_is Decides-eqb bytes prefix (Some rest) cases
 
--- the fields of an intent's line
+-- what follows the sign of an intent's line
 pub behind_intent_sign : (bytes line : List ℕ) (intent : Intent) (behind : List ℕ) → bytes ≡ 33 ∷ 32 ∷ line → bytes ≡ intent_line intent ++ behind
     → line ≡ intent.uid ++ 32 ∷ (decimal intent.start ++ 32 ∷ (decimal intent.len ++ 10 ∷ behind))
 behind_intent_sign bytes line intent behind bytes_are is =
     (same_cons 32 32 _ _ (same_cons 33 33 _ _ (sym bytes_are ∙ is ∙ intent_split intent behind)).1).1
 
-pub field_uid : (line uid rest : List ℕ) (intent : Intent) (tail : List ℕ) → line ≡ uid ++ 32 ∷ rest → All (λ byte. byte ≢ 32) uid → IsIntent intent → line ≡ intent.uid ++ 32 ∷ tail → (uid ≡ intent.uid) × (rest ≡ tail)
-field_uid line uid rest intent tail cut none is e = cut_unique 32 uid intent.uid rest tail (recursion_from_All _ uid none) (HasNo-id 32 (omega arith) intent.uid is.legal) (sym cut ∙ e)
+-- the fields that are cut at a separator
+pub field_id : (line uid rest expected tail : List ℕ) → line ≡ uid ++ 32 ∷ rest → All (λ byte. byte ≢ 32) uid → IsLegalId expected → line ≡ expected ++ 32 ∷ tail → uid ≡ expected
+field_id line uid rest expected tail cut none legal e = (cut_unique 32 uid expected rest tail (recursion_from_All _ uid none) (HasNo-id 32 (omega arith) expected legal) (sym cut ∙ e)).0
 
-pub field_number : (s : ℕ) (line number rest : List ℕ) (n : ℕ) (tail : List ℕ) → s < 48 → n < 2 ^ 64 → line ≡ number ++ s ∷ rest → All (λ byte. byte ≢ s) number → line ≡ decimal n ++ s ∷ tail → (number ≡ decimal n) × (rest ≡ tail)
-field_number s line number rest n tail small fits cut none e = cut_unique s number (decimal n) rest tail (recursion_from_All _ number none) (HasNo-decimal s small n fits) (sym cut ∙ e)
+pub field_number : (s : ℕ) (line number rest : List ℕ) (n : ℕ) (tail : List ℕ) → s < 48 → n < 2 ^ 64 → line ≡ number ++ s ∷ rest → All (λ byte. byte ≢ s) number → line ≡ decimal n ++ s ∷ tail → number ≡ decimal n
+field_number s line number rest n tail small fits cut none e = (cut_unique s number (decimal n) rest tail (recursion_from_All _ number none) (HasNo-decimal s small n fits) (sym cut ∙ e)).0
 
 pub no_field : (s : ℕ) (line expected tail : List ℕ) → All (λ byte. byte ≢ s) line → line ≡ expected ++ s ∷ tail → ⊥
 no_field s line expected tail none e = uncut s expected tail line (recursion_from_All _ line none) e

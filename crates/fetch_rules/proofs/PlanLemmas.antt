@@ -205,18 +205,6 @@ pub HasPlanned-all : (settings : Settings) (rows : List Row) (listing : List Ite
 HasPlanned-all settings rows listing now i steps count has past =
     has.steps_are ∙ take_all i (planned settings rows listing now) (omega (arith, length-map (numbered listing) (step_of settings rows listing now), length-enumerate_from 1 listing))
 
--- what the test for a fetch answers in its three cases
-pub fetched-no_limit : (candidate fetched below : Bool) (limit : ℕ) → candidate ≡ true → limit ≡ 0 → fetched ≡ true → fetched ≡ candidate && (limit == 0 || below)
-fetched-no_limit candidate fetched below limit is none yes_is =
-    yes_is ∙ sym (ap (λ (b : Bool). b && (limit == 0 || below)) is ∙ or_left _ _ (eq-eqb limit 0 none))
-
-pub fetched-limit : (candidate fetched below : Bool) (limit : ℕ) → candidate ≡ true → (limit ≡ 0 → ⊥) → fetched ≡ below → fetched ≡ candidate && (limit == 0 || below)
-fetched-limit candidate fetched below limit is some below_is =
-    below_is ∙ sym (ap (λ (b : Bool). b && (limit == 0 || below)) is ∙ ap (λ (b : Bool). b || below) (ne_eqb limit 0 some))
-
-pub fetched-other : (candidate fetched below : Bool) (limit : ℕ) → candidate ≡ false → fetched ≡ false → fetched ≡ candidate && (limit == 0 || below)
-fetched-other candidate fetched below limit is none = none ∙ sym (ap (λ (b : Bool). b && (limit == 0 || below)) is)
-
 -- nothing is due if the settings let nothing be deleted
 pub never_due : (settings : Settings) (now since : ℕ) → may_delete settings ≡ false → is_due settings now since ≡ false
 never_due settings now since never = by settings.delete (settings.delete_after == 0) never

@@ -18,7 +18,7 @@ mod reading;
 mod row_map;
 
 pub use crate::seen::line::Intent;
-use crate::seen::line::{HEADER, row_group, write_intent, write_line};
+use crate::seen::line::{row_group, write_intent};
 use crate::seen::row_map::{RowMap, State};
 use mail_terms::Listing;
 use std::alloc::{AllocError, AllocFailed, Global};
@@ -165,18 +165,18 @@ impl<H: BuildHasher> Seen<H> {
     {
         self.intent = None;
         self.stale = false;
-        let found = match self.rows.read(bytes) {
-            Ok(found) => found,
+        let (file, torn) = match self.rows.read(bytes) {
+            Ok(read) => read,
             Err(fault) => {
                 self.rows.clear();
                 return Err(fault);
             }
         };
-        let Ok(kept) = keep(self.alloc, found.intent) else {
+        let Ok(kept) = keep(self.alloc, file.intent) else {
             self.rows.clear();
             return Err(SeenFault::NoMemory);
         };
-        self.stale = is_stale(found.older, found.torn, &kept, found.outgrown);
+        self.stale = is_stale(file.older, torn, &kept, file.outgrown);
         self.intent = kept;
         Ok(())
     }
@@ -195,11 +195,7 @@ impl<H: BuildHasher> Seen<H> {
         ensures file { IfOk result (λ bytes. bytes.items ≡ file_of self.now.rows self.now.intent) }
         ensures is_record { IsRecord self.now.rows }
     {
-        let mut bytes = Vec::from_slice(self.alloc, HEADER)?;
-        for place in 0..self.rows.len() {
-            let (uid, state) = self.rows.at(place);
-            write_line(self.alloc, &mut bytes, uid, state)?;
-        }
+        let mut bytes = self.rows.bytes()?;
         if let Some(intent) = &self.intent {
             let line = write_intent(self.alloc, intent.as_intent())?;
             bytes.extend_from_slice(&line)?;
@@ -359,7 +355,7 @@ impl<H: BuildHasher> Seen<H> {
         self.rows.add_listed(listing, now)?;
         let added = count < self.rows.len();
         let marked = self.rows.mark_held(listing, held);
-        Ok(added || marked)
+        Ok(added | marked)
     }
 
     /// As `merge`, but gives the group of the rows that were added or changed, in the record's

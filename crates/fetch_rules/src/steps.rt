@@ -1,6 +1,6 @@
 //! Which messages of a listing are fetched, and which are deleted.
 
-ghost use Rattle.std.specs.Prelude.{◌≡◌, false, ◌+◌, ◌<◌, ◌&&◌, ◌||◌, ◌↔◌, true, length, map, All, IsTrue, HoldsAt, IfOk};
+ghost use Rattle.std.specs.Prelude.{◌≡◌, ◌==◌, false, nat_lt, ◌+◌, ◌<◌, ◌&&◌, ◌||◌, ◌↔◌, true, length, map, All, IsTrue, HoldsAt, IfOk};
 ghost use Rattle.mail_terms.specs.Listing.{numbered, is_last};
 ghost use Rattle.fetch_rules.specs.Record.{is_delivered};
 ghost use Rattle.fetch_rules.specs.Wanted.{is_asked_for, wanted, DistinctAreFiltered};
@@ -94,6 +94,13 @@ fn is_done_with<H: BuildHasher>(
     is_due(settings, now, since) && (seen.is_delivered(uid) || fetched)
 }
 
+/// Whether one more message may be fetched after this many.
+fn is_below_limit(settings: &Settings, count: u64) -> bool
+    ensures { result ≡ (settings.now.max_count == 0 || nat_lt count settings.now.max_count) }
+{
+    settings.max_count == 0 || count < settings.max_count
+}
+
 /// One step for each message of the listing, in order.
 ///
 /// A message is fetched if it is the first with its id, its size is at most `max_size`, and
@@ -120,9 +127,9 @@ pub fn plan<H: BuildHasher>(
     let mut candidates: u64 = 0;
     for i in 0..listing.len() {
         let first = firsts[i as usize];
-        let alone = first && lasts[i as usize];
+        let alone = first & lasts[i as usize];
         let candidate = first && is_asked_for(settings, seen, listing, i);
-        let retrieve = candidate && (settings.max_count == 0 || candidates < settings.max_count);
+        let retrieve = candidate && is_below_limit(settings, candidates);
         let delete = alone && is_done_with(settings, seen, listing, now, retrieve, i);
         steps.push(Step {
             number: i + 1,

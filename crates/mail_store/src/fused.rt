@@ -19,8 +19,8 @@ pub struct Fused<D> {
 }
 
 impl<D> Fused<D> {
-    ghost use Rattle.std.specs.Prelude.{◌≡◌, ◌+◌, ◌-◌, ◌<◌, false, IfErr, OnErr, OnOk};
-    ghost use Rattle.mail_terms.specs.FailureCount.{Tallies, refuses, greatest_count};
+    ghost use Rattle.std.specs.Prelude.{◌≡◌, ◌↔◌, ◌+◌, ◌-◌, ◌<◌, true, false, IfErr, IsTrue, OnErr, OnOk};
+    ghost use Rattle.mail_terms.specs.FailureCount.{Tallies, refuses, greatest_count, counted_up};
     ghost use Rattle.mail_store.specs.Fuse.{device_of, passes_left, effect_is_due, refusals};
 
     /// Passes `passes` calls that return a `Result` on to the device, and refuses every later one.
@@ -61,15 +61,26 @@ impl<D> Fused<D> {
         device
     }
 
+    // Whether a call that the fuse refuses now takes effect.
+    fn is_last_effect(&self) -> bool
+        ensures { IsTrue result ↔ ((self.now.failures < greatest_count) × (self.now.passes_left ≡ 0) × (self.now.takes_effect ≡ true)) }
+    {
+        !self.failures.is_full() && self.passes_left == 0 && self.takes_effect
+    }
+
     // Uses up a pass, or refuses if none is left.
     fn pass(&mut self) -> Result<(), StoreFault>
-        requires { self.old.failures < greatest_count }
-        ensures passed { OnOk result ((0 < self.old.passes_left)
+        ensures passed { OnOk result ((self.old.failures < greatest_count) × (0 < self.old.passes_left)
             × (self.new ≡ record self.old { passes_left = self.old.passes_left - 1 })) }
         ensures fault { IfErr result (λ fault. fault ≡ StoreFault.Refused) }
-        ensures blown { OnErr result ((self.old.passes_left ≡ 0)
+        ensures behind { OnErr result (self.new.device ≡ self.old.device) }
+        ensures counted { OnErr result (self.new.failures ≡ counted_up self.old.failures) }
+        ensures blown { OnErr result (self.old.failures < greatest_count → (self.old.passes_left ≡ 0)
+            × (self.new ≡ record self.old { failures = self.old.failures + 1; takes_effect = false })) }
+        ensures sound { OnErr result (self.new.failures < greatest_count → (self.old.failures < greatest_count)
             × (self.new ≡ record self.old { failures = self.old.failures + 1; takes_effect = false })) }
     {
+        admit(&self.failures)?;
         if self.passes_left == 0 {
             return Err(self.blow());
         }
@@ -128,7 +139,6 @@ impl<D: MaildirDisk> MaildirDisk for Fused<D> {
         ensures count { Tallies (refuses is_refusal result) (refusals self.old) (refusals self.new) }
         ensures fuse { Fuses (λ d. (D.maildir d).failures) self.old result self.new }
     {
-        admit(&self.failures)?;
         self.pass()?;
         let answer = self.device.names(folder);
         self.tally(answer)
@@ -145,7 +155,6 @@ impl<D: MaildirDisk> MaildirDisk for Fused<D> {
         ensures count { Tallies (refuses is_refusal result) (refusals self.old) (refusals self.new) }
         ensures fuse { Fuses (λ d. (D.maildir d).failures) self.old result self.new }
     {
-        admit(&self.failures)?;
         self.pass()?;
         let answer = self.device.all_names();
         self.tally(answer)
@@ -160,7 +169,6 @@ impl<D: MaildirDisk> MaildirDisk for Fused<D> {
         ensures count { Tallies (refuses is_refusal result) (refusals self.old) (refusals self.new) }
         ensures fuse { Fuses (λ d. (D.maildir d).failures) self.old result self.new }
     {
-        admit(&self.failures)?;
         self.pass()?;
         let answer = self.device.check(folder);
         self.tally(answer)
@@ -176,7 +184,6 @@ impl<D: MaildirDisk> MaildirDisk for Fused<D> {
         ensures count { Tallies (refuses is_refusal result) (refusals self.old) (refusals self.new) }
         ensures fuse { Fuses (λ d. (D.maildir d).failures) self.old result self.new }
     {
-        admit(&self.failures)?;
         self.pass()?;
         let answer = self.device.flush(stems);
         self.tally(answer)
@@ -194,7 +201,6 @@ impl<D: MaildirDisk> MaildirDisk for Fused<D> {
         ensures count { Tallies (refuses is_refusal result) (refusals self.old) (refusals self.new) }
         ensures fuse { Fuses (λ d. (D.maildir d).failures) self.old result self.new }
     {
-        admit(&self.failures)?;
         self.pass()?;
         let answer = self.device.begin(name);
         self.tally(answer)
@@ -211,7 +217,6 @@ impl<D: MaildirDisk> MaildirDisk for Fused<D> {
         ensures count { Tallies (refuses is_refusal result) (refusals self.old) (refusals self.new) }
         ensures fuse { Fuses (λ d. (D.maildir d).failures) self.old result self.new }
     {
-        admit(&self.failures)?;
         self.pass()?;
         let answer = self.device.add(bytes);
         self.tally(answer)
@@ -232,11 +237,7 @@ impl<D: MaildirDisk> MaildirDisk for Fused<D> {
             × (passes_left self.old ≡ 0 → FusedIsSound D.sound self.new
             → SettlesBehind (effect_is_due self.old) (D.maildir (device_of self.old)) name.now (D.maildir (device_of self.new))) }
     {
-        if let Err(fault) = admit(&self.failures) {
-            self.abandon();
-            return Err(fault);
-        }
-        if self.passes_left == 0 && self.takes_effect {
+        if self.is_last_effect() {
             let _ = self.device.settle(name);
             return Err(self.blow());
         }
@@ -295,7 +296,6 @@ impl<D: FlatFile> FlatFile for Fused<D> {
         ensures count { Tallies (refuses is_refusal result) (refusals self.old) (refusals self.new) }
         ensures fuse { Fuses (λ d. (D.stored d).failures) self.old result self.new }
     {
-        admit(&self.failures)?;
         self.pass()?;
         let answer = self.device.load();
         self.tally(answer)
@@ -310,7 +310,6 @@ impl<D: FlatFile> FlatFile for Fused<D> {
         ensures count { Tallies (refuses is_refusal result) (refusals self.old) (refusals self.new) }
         ensures fuse { Fuses (λ d. (D.stored d).failures) self.old result self.new }
     {
-        admit(&self.failures)?;
         self.pass()?;
         let answer = self.device.peek();
         self.tally(answer)
@@ -327,7 +326,6 @@ impl<D: FlatFile> FlatFile for Fused<D> {
         ensures count { Tallies (refuses is_refusal result) (refusals self.old) (refusals self.new) }
         ensures fuse { Fuses (λ d. (D.stored d).failures) self.old result self.new }
     {
-        admit(&self.failures)?;
         self.pass()?;
         let answer = self.device.edges();
         self.tally(answer)
@@ -342,7 +340,6 @@ impl<D: FlatFile> FlatFile for Fused<D> {
         ensures count { Tallies (refuses is_refusal result) (refusals self.old) (refusals self.new) }
         ensures fuse { Fuses (λ d. (D.stored d).failures) self.old result self.new }
     {
-        admit(&self.failures)?;
         self.pass()?;
         let answer = self.device.peek_edges();
         self.tally(answer)
@@ -359,7 +356,6 @@ impl<D: FlatFile> FlatFile for Fused<D> {
         ensures count { Tallies (refuses is_refusal result) (refusals self.old) (refusals self.new) }
         ensures fuse { Fuses (λ d. (D.stored d).failures) self.old result self.new }
     {
-        admit(&self.failures)?;
         self.pass()?;
         let answer = self.device.read_at(start, buf);
         self.tally(answer)
@@ -381,8 +377,7 @@ impl<D: FlatFile> FlatFile for Fused<D> {
             × (passes_left self.old ≡ 0 → FusedIsSound D.sound self.new
             → AppendsBehind (effect_is_due self.old) (D.stored (device_of self.old)) bytes.now (D.stored (device_of self.new))) }
     {
-        admit(&self.failures)?;
-        if self.passes_left == 0 && self.takes_effect {
+        if self.is_last_effect() {
             let _ = self.device.append(&bytes[..bytes.len() / 2]);
             return Err(self.blow());
         }
@@ -404,7 +399,6 @@ impl<D: FlatFile> FlatFile for Fused<D> {
         ensures count { Tallies (refuses is_refusal result) (refusals self.old) (refusals self.new) }
         ensures fuse { Fuses (λ d. (D.stored d).failures) self.old result self.new }
     {
-        admit(&self.failures)?;
         self.pass()?;
         let answer = self.device.cut_to(len);
         self.tally(answer)
@@ -423,8 +417,7 @@ impl<D: FlatFile> FlatFile for Fused<D> {
             × (passes_left self.old ≡ 0 → FusedIsSound D.sound self.new
             → ReplacesBehind (effect_is_due self.old) (D.stored (device_of self.old)) bytes.now (D.stored (device_of self.new))) }
     {
-        admit(&self.failures)?;
-        if self.passes_left == 0 && self.takes_effect {
+        if self.is_last_effect() {
             let _ = self.device.replace(bytes);
             return Err(self.blow());
         }

@@ -19,10 +19,7 @@ fn is_marked(state: State, ids: &IdSet<'_>, uid: &[u8]) -> bool
     requires { IsLegalId uid.now }
     ensures { result ≡ (state.delivered || has_id ids.now uid.now) }
 {
-    if state.delivered {
-        return true;
-    }
-    ids.has(uid)
+    state.delivered || ids.has(uid)
 }
 
 /// Whether a row at a place is one of the first `count`, and its state stays.
@@ -30,10 +27,7 @@ fn is_as_before(place: usize, count: usize, old: bool, new: bool) -> bool
     ensures same { IsTrue result → (place < count) × (new ≡ old) }
     ensures other { result ≡ false → (count ≤ place) ⊎ (new ≢ old) }
 {
-    if place >= count {
-        return false;
-    }
-    new == old
+    place < count && new == old
 }
 
 impl<H: BuildHasher> RowMap<H> {
@@ -181,7 +175,6 @@ impl<H: BuildHasher> RowMap<H> {
             write_line(alloc, &mut lines, uid, state)?;
             changes += 1;
         }
-        let bytes = group(alloc, changes, &lines)?;
-        Ok(bytes)
+        group(alloc, changes, &lines)
     }
 }

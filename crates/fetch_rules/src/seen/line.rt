@@ -14,9 +14,9 @@ ghost use Rattle.fetch_rules.specs.RecordMeaning.{BeginsWithNoLine};
 ghost use Rattle.fetch_rules.specs.Rows.{row_from};
 ghost use Rattle.fetch_rules.specs.Lines.{line_seen, intent_seen};
 
-use crate::seen::field::{cut_at, read_number};
+use crate::seen::field::{id_before, number_before};
 use crate::seen::row_map::State;
-use mail_terms::{MESSAGE_LIMIT, is_legal_id};
+use mail_terms::MESSAGE_LIMIT;
 use std::alloc::{AllocError, Global};
 
 /// The line of the header.
@@ -77,12 +77,8 @@ fn read_row(bytes: &[u8]) -> Option<(ReadRow<'_>, &[u8])>
     ensures found { IfSome result (λ parts. bytes.now ≡ line_of (row_from parts.0.uid.now parts.0.state) ++ parts.1.now) }
     ensures none { IfNone result ((row : Row) (behind : List ℕ) → IsRow row → bytes.now ≢ line_of row ++ behind) }
 {
-    let (uid, rest) = cut_at(bytes, b' ')?;
-    if !is_legal_id(uid) {
-        return None;
-    }
-    let (number, rest) = cut_at(rest, b' ')?;
-    let first_seen = read_number(number)?;
+    let (uid, rest) = id_before(bytes)?;
+    let (first_seen, rest) = number_before(rest, b' ')?;
     let (delivered, rest) = read_state(rest)?;
     let state = State {
         first_seen,
@@ -102,8 +98,7 @@ fn read_group_line(bytes: &[u8]) -> Option<(u64, &[u8])>
     let Some(line) = bytes.strip_prefix(SIGN) else {
         return None;
     };
-    let (number, rest) = cut_at(line, b'\n')?;
-    let count = read_number(number)?;
+    let (count, rest) = number_before(line, b'\n')?;
     if count == 0 || count > u64::from(MESSAGE_LIMIT) {
         return None;
     }
@@ -119,14 +114,9 @@ fn read_intent_line(bytes: &[u8]) -> Option<(Intent<'_>, &[u8])>
     let Some(line) = bytes.strip_prefix(INTENT_SIGN) else {
         return None;
     };
-    let (uid, rest) = cut_at(line, b' ')?;
-    if !is_legal_id(uid) {
-        return None;
-    }
-    let (first, rest) = cut_at(rest, b' ')?;
-    let start = read_number(first)?;
-    let (second, rest) = cut_at(rest, b'\n')?;
-    let len = read_number(second)?;
+    let (uid, rest) = id_before(line)?;
+    let (start, rest) = number_before(rest, b' ')?;
+    let (len, rest) = number_before(rest, b'\n')?;
     Some((Intent { uid, start, len }, rest))
 }
 
@@ -179,14 +169,13 @@ pub(crate) fn row_group(alloc: Global, uid: &[u8], state: State) -> Result<Vec<u
 {
     let mut line = Vec::new(alloc);
     write_line(alloc, &mut line, uid, state)?;
-    let bytes = group(alloc, 1, &line)?;
-    Ok(bytes)
+    group(alloc, 1, &line)
 }
 
 /// The group of `count` lines; empty if there are none.
 pub(crate) fn group(alloc: Global, count: usize, lines: &[u8]) -> Result<Vec<u8>, AllocError>
-    ensures { IfOk result (λ bytes. (rows : List Row) → length rows ≡ count
-        → flat_map line_of rows ≡ lines.now → bytes.items ≡ written rows) }
+    ensures { (rows : List Row) → length rows ≡ count → flat_map line_of rows ≡ lines.now
+        → IfOk result (λ bytes. bytes.items ≡ written rows) }
 {
     if count == 0 {
         return Ok(Vec::new(alloc));

@@ -103,29 +103,33 @@ impl Part {
     }
 }
 
-/// What a file holds besides its rows.
+/// What is read of a file besides its rows and its end.
 #[derive(Clone, Copy)]
-pub(crate) struct Shape<'a> {
+pub(crate) struct ReadFile<'a> {
     /// Whether it is of version 1.
     pub(crate) older: bool,
     /// The intent that is open.
     pub(crate) intent: Option<Intent<'a>>,
-    pub(crate) end: End,
     /// Whether it is outgrown, as `is_outgrown` says.
     pub(crate) outgrown: bool,
 }
 
-/// The end of a file that doesn't begin with a header's line.
-fn end_without_header(bytes: &[u8]) -> Result<End, SeenFault>
+/// What is read of a file that doesn't begin with a header's line: only an empty one has no fault.
+fn read_without_header<'a>(bytes: &'a [u8]) -> Result<(ReadFile<'a>, End), SeenFault>
     requires { (version : Version) (rest : List ℕ) → bytes.now ≢ header version ++ rest }
-    ensures ok { IfOk result (λ end. (bytes.now ≡ []) × (end ≡ End.Counted false)) }
-    ensures err { IfErr result (λ fault. (bytes.now ≢ []) × (fault ≡ SeenFault.BadHeader)) }
+    ensures ok { IfOk result (λ read. EndsAt bytes.now read.0.older read.1 (open_seen read.0.intent) []) }
+    ensures grown { IfOk result (λ read. IsOutgrown bytes.now read.0.outgrown) }
+    ensures err { IfErr result (λ fault. Means bytes.now (Fault fault)) }
 {
-    if bytes.is_empty() {
-        Ok(End::Counted { torn: false })
-    } else {
-        Err(SeenFault::BadHeader)
+    if !bytes.is_empty() {
+        return Err(SeenFault::BadHeader);
     }
+    let file = ReadFile {
+        older: false,
+        intent: None,
+        outgrown: false,
+    };
+    Ok((file, End::Counted { torn: false }))
 }
 
 /// Whether a group's row may repeat the id of an earlier row: it is delivered and has the same
@@ -213,22 +217,16 @@ impl<H: BuildHasher> RowMap<H> {
     }
 
     /// Reads the lines of a file into the rows, which must be empty.
-    fn read_lines<'a>(&mut self, bytes: &'a [u8]) -> Result<Shape<'a>, SeenFault>
+    fn read_lines<'a>(&mut self, bytes: &'a [u8]) -> Result<(ReadFile<'a>, End), SeenFault>
         requires empty { self.old ≡ [] }
         requires is_record { IsRecord self.old }
-        ensures ok { IfOk result (λ shape. EndsAt bytes.now shape.older shape.end (open_seen shape.intent) self.new) }
-        ensures grown { IfOk result (λ shape. IsOutgrown bytes.now shape.outgrown) }
+        ensures ok { IfOk result (λ read. EndsAt bytes.now read.0.older read.1 (open_seen read.0.intent) self.new) }
+        ensures grown { IfOk result (λ read. IsOutgrown bytes.now read.0.outgrown) }
         ensures err { IfErr result (λ fault. fault ≢ SeenFault.NoMemory → Means bytes.now (Fault fault)) }
         ensures is_record { IsRecord self.new }
     {
         let Some((older, lines)) = behind_header(bytes) else {
-            let end = end_without_header(bytes)?;
-            return Ok(Shape {
-                older: false,
-                intent: None,
-                end,
-                outgrown: false,
-            });
+            return read_without_header(bytes);
         };
         let mut rest = lines;
         let mut appended = lines;
@@ -261,62 +259,35 @@ impl<H: BuildHasher> RowMap<H> {
         }
         let end = part.end(front, rest);
         let outgrown = is_outgrown(bytes, lines, appended);
-        Ok(Shape {
+        let file = ReadFile {
             older,
             intent,
-            end,
             outgrown,
-        })
+        };
+        Ok((file, end))
     }
 
-    /// Replaces the rows by those that a file's bytes stand for, and gives what else was read.
+    /// Replaces the rows by those that a file's bytes stand for, and gives what else was read, and
+    /// whether the file has a torn end.
     /// There may be some rows after a fault.
-    pub(crate) fn read<'a>(&mut self, bytes: &'a [u8]) -> Result<Found<'a>, SeenFault>
-        ensures ok { IfOk result (λ found. Means bytes.now (Rows (version_of found.older) self.new (open_seen found.intent) found.torn)) }
-        ensures grown { IfOk result (λ found. IsOutgrown bytes.now found.outgrown) }
+    pub(crate) fn read<'a>(&mut self, bytes: &'a [u8]) -> Result<(ReadFile<'a>, bool), SeenFault>
+        ensures ok { IfOk result (λ read. Means bytes.now (Rows (version_of read.0.older) self.new (open_seen read.0.intent) read.1)) }
+        ensures grown { IfOk result (λ read. IsOutgrown bytes.now read.0.outgrown) }
         ensures err { IfErr result (λ fault. fault ≢ SeenFault.NoMemory → Means bytes.now (Fault fault)) }
         ensures is_record { IsRecord self.new }
     {
         self.clear();
         self.reserve(likely_count(bytes))?;
-        let shape = self.read_lines(bytes)?;
-        let Shape {
-            older,
-            intent,
-            end,
-            outgrown,
-        } = shape;
+        let lines = self.read_lines(bytes)?;
+        let (file, end) = lines;
         match end {
-            End::Counted { torn } => Ok(Found {
-                older,
-                intent,
-                torn,
-                outgrown,
-            }),
+            End::Counted { torn } => Ok((file, torn)),
             End::Open { front } => {
                 // The group's rows don't count: what comes before it is read again.
                 self.clear();
                 self.read_lines(&bytes[..front])?;
-                Ok(Found {
-                    older,
-                    intent,
-                    torn: true,
-                    outgrown,
-                })
+                Ok((file, true))
             }
         }
     }
-}
-
-/// What was read of a file besides its rows.
-#[derive(Clone, Copy)]
-pub(crate) struct Found<'a> {
-    /// Whether it is of version 1.
-    pub(crate) older: bool,
-    /// The intent that is open.
-    pub(crate) intent: Option<Intent<'a>>,
-    /// Whether it has a torn end.
-    pub(crate) torn: bool,
-    /// Whether it is outgrown, as `is_outgrown` says.
-    pub(crate) outgrown: bool,
 }

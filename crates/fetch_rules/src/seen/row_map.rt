@@ -2,11 +2,14 @@
 //! appearance.
 
 ghost use Rattle.std.specs.Prelude.{◌≡◌, ◌<◌, ◌++◌, [], ◌∷◌, true, false, length, take, OnOk, OnErr, IfOk, IsTrue, HoldsAt, IfSome, IfNone};
+ghost use Rattle.std.specs.Prelude.{flat_map};
 ghost use Rattle.mail_terms.specs.UniqueId.{IsLegalId};
 ghost use Rattle.fetch_rules.specs.Record.{IsRecord, has_row, is_delivered, marked};
+ghost use Rattle.fetch_rules.specs.RecordFile.{Two, header, line_of};
 ghost use Rattle.fetch_rules.specs.Rows.{row_from, state_in};
 
 use crate::id_text::{owned_id, text_of};
+use crate::seen::line::{HEADER, write_line};
 use indexmap::IndexMap;
 use std::alloc::{AllocError, Global};
 use std::hash::BuildHasher;
@@ -93,13 +96,7 @@ impl<H: BuildHasher> RowMap<H> {
         ensures there { IsTrue result → (place < length self.now) × HoldsAt (λ row. row.uid ≡ uid.now) self.now place }
         ensures is_record { IsRecord self.now }
     {
-        if place >= self.len() {
-            return false;
-        }
-        if self.at(place).0 == uid {
-            return true;
-        }
-        false
+        place < self.len() && self.at(place).0 == uid
     }
 
     /// The place of an id's row, if it has one. The row at the place `likely` is compared first, and the
@@ -166,6 +163,19 @@ impl<H: BuildHasher> RowMap<H> {
     {
         self.put(uid, state)?;
         Ok(())
+    }
+
+    /// The rows as a file of version 2.
+    pub(crate) fn bytes(&self) -> Result<Vec<u8>, AllocError>
+        ensures file { IfOk result (λ bytes. bytes.items ≡ header Two ++ flat_map line_of self.now) }
+        ensures is_record { IsRecord self.now }
+    {
+        let mut bytes = Vec::from_slice(self.alloc, HEADER)?;
+        for place in 0..self.len() {
+            let (uid, state) = self.at(place);
+            write_line(self.alloc, &mut bytes, uid, state)?;
+        }
+        Ok(bytes)
     }
 
     /// Keeps only the first `count` rows.

@@ -1,12 +1,12 @@
 //! Which messages of a listing a Maildir holds already.
 
-ghost use Rattle.std.specs.Prelude.{◌≡◌, List, ℕ, ◌∷◌, ◌++◌, ◌||◌, ◌&&◌, map, length, vec_len, bytes_eq, IfOk, OnOk, ◌≢◌};
+ghost use Rattle.std.specs.Prelude.{◌≡◌, List, ℕ, ◌∷◌, ◌++◌, ◌||◌, ◌&&◌, map, length, vec_len, bytes_eq, IfOk, OnOk, ◌≢◌, IsPermutation};
 ghost use Rattle.hex.specs.Hex.{encode_lower};
 ghost use Rattle.mail_terms.specs.FailureCount.{Tallies, refuses};
 ghost use Rattle.mail_store.specs.Fault.{is_refusal};
 ghost use Rattle.mail_store.specs.FileName.{stem, is_held};
 ghost use Rattle.mail_terms.specs.Listing.{Item, has_item, is_flagged};
-ghost use Rattle.mail_store.specs.Maildir.{AfterTaking, Maildir};
+ghost use Rattle.mail_store.specs.Maildir.{AfterTaking, Maildir, names_of, bases_told};
 ghost use Rattle.mail_store.specs.Held.{Finds, FoundOutlive, HasStems, any_name, flags_of, has_text};
 ghost use Rattle.mail_store.specs.Power.{AllStay, KeepsLeft};
 
@@ -49,26 +49,14 @@ fn add_digits<'a>(
     Ok(())
 }
 
-/// The digits of the ids in the stems of the account's names among these.
-fn digits_of<'a>(
-    alloc: Global,
-    account: &str,
-    names: &'a [String],
-) -> Result<BTreeSet<&'a str>, AllocError>
-    ensures { IfOk result (λ found. (q : List ℕ) → has_text found q ≡ any_name account.now q names.now) }
-{
-    let mut found = BTreeSet::new(alloc);
-    add_digits(&mut found, account, names)?;
-    Ok(found)
-}
-
 /// Whether the digits of each item's id are among these, in order.
 fn flags_of(
     alloc: Global,
     found: &BTreeSet<&str>,
     listing: &Listing,
 ) -> Result<Vec<bool>, AllocError>
-    ensures { IfOk result (λ flags. flags.items ≡ map (λ item. has_text found.now (encode_lower item.uid)) listing.now) }
+    ensures flags { IfOk result (λ flags. flags.items ≡ map (λ item. has_text found.now (encode_lower item.uid)) listing.now) }
+    ensures length { IfOk result (λ flags. vec_len flags ≡ length listing.now) }
 {
     let mut flags = Vec::new(alloc);
     for i in 0..listing.len() {
@@ -76,6 +64,23 @@ fn flags_of(
         flags.push(found.contains(digits.as_str()))?;
     }
     Ok(flags)
+}
+
+/// Whether each item's id is held by a Maildir whose files have these names, in order.
+fn held_in(
+    alloc: Global,
+    account: &AccountId,
+    names: &[String],
+    listing: &Listing,
+) -> Result<Vec<bool>, AllocError>
+    ensures flags { (maildir : Maildir) → IsPermutation (names_of maildir.files) (bases_told names.now)
+        → IfOk result (λ flags. flags.items ≡ flags_of account.now maildir listing.now) }
+    ensures length { IfOk result (λ flags. vec_len flags ≡ length listing.now) }
+{
+    // All of the account's names begin alike, so only what follows is compared.
+    let mut found = BTreeSet::new(alloc);
+    add_digits(&mut found, account.as_str(), names)?;
+    flags_of(alloc, &found, listing)
 }
 
 /// The stems of the files of the items for which both flags are set, the flags in the listing's order.
@@ -132,9 +137,7 @@ pub fn held<D: MaildirDisk>(
     ensures fault { result ≢ Err StoreFault.NotMbox }
 {
     let names = disk.all_names()?;
-    // All of the account's names begin alike, so only what follows is compared.
-    let found = digits_of(alloc, account.as_str(), &names)?;
-    Ok(flags_of(alloc, &found, listing)?)
+    Ok(held_in(alloc, account, &names, listing)?)
 }
 
 /// As `held`, and flushes the file of each item that is held and for which a flag is set, one for each

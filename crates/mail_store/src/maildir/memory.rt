@@ -119,8 +119,7 @@ impl MemoryMaildir {
         ensures same { self.new.maildir ≡ self.old.maildir }
         ensures moves { Moves self.old.in_new self.old.in_cur name.now (name.now ++ suffix.now) result self.new.in_new self.new.in_cur }
     {
-        let mut moved = String::from_str(self.alloc, name)?;
-        moved.push_str(suffix)?;
+        let moved = with_suffix(self.alloc, name, suffix)?;
         if has_name(&self.in_cur, moved.as_str()) {
             return Ok(false);
         }
@@ -134,6 +133,15 @@ impl MemoryMaildir {
         self.are_new[place] = false;
         Ok(true)
     }
+}
+
+/// A name and a suffix behind it.
+fn with_suffix(alloc: Global, name: &str, suffix: &str) -> Result<String, AllocError>
+    ensures { IfOk result (λ text. string_bytes text ≡ name.now ++ suffix.now) }
+{
+    let mut text = String::from_str(alloc, name)?;
+    text.push_str(suffix)?;
+    Ok(text)
 }
 
 /// The place of a file of this name, if there is one.

@@ -162,7 +162,6 @@ fn read_behind<F: FlatFile>(
 }
 
 /// What stands at the place where an entry was about to be appended.
-#[derive(Clone, Copy, PartialEq, Eq)]
 enum Behind {
     /// Nothing, or octets that aren't ours.
     Others,

@@ -7,10 +7,10 @@ use Rattle.fetch_rules.proofs.seen.Seen.reread.Goals as goal
 
 pub returns-clause-rows : goal.returns-clause-rows
 returns-clause-rows g c = record {
-  version = version_of c.in-Ok.found.older;
-  torn = c.in-Ok.found.torn;
-  means = subst (λ i. Means c.args.bytes.now (Rows (version_of c.in-Ok.found.older) c.read.new.self i c.in-Ok.found.torn)) (sym (c.in-Ok-keep.ensures)) c.in-Ok.ensures.ok;
-  outgrown = c.in-Ok.found.outgrown;
+  version = version_of c.in-Ok.read.0.older;
+  torn = c.in-Ok.read.1;
+  means = subst (λ i. Means c.args.bytes.now (Rows (version_of c.in-Ok.read.0.older) c.read.new.self i c.in-Ok.read.1)) (sym (c.in-Ok-keep.ensures)) c.in-Ok.ensures.ok;
+  outgrown = c.in-Ok.read.0.outgrown;
   grown = c.in-Ok.ensures.grown;
   stale = c.is_stale-self-inside.ensures;
 }
@@ -19,5 +19,5 @@ pub invariant_of-self-2 : goal.invariant_of-self-2
 invariant_of-self-2 g c = (
   c.in-Ok.ensures.is_record,
   subst (IntentHasRow c.read.new.self) (sym (c.in-Ok-keep.ensures))
-      (open_has_row c.args.bytes.now (version_of c.in-Ok.found.older) c.read.new.self (open_seen c.in-Ok.found.intent) c.in-Ok.found.torn c.in-Ok.ensures.ok),
+      (open_has_row c.args.bytes.now (version_of c.in-Ok.read.0.older) c.read.new.self (open_seen c.in-Ok.read.0.intent) c.in-Ok.read.1 c.in-Ok.ensures.ok),
 )

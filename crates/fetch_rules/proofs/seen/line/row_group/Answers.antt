@@ -7,5 +7,5 @@ use Rattle.fetch_rules.proofs.seen.line.row_group.Goals as goal
 pub returns : goal.returns
 returns c =
     let row : Row = row_from c.args.uid.now c.args.state in
-    c.in_ok-bytes.ensures (row ∷ []) refl
+    c.group.ensures (row ∷ []) refl
     (append-nil (line_of row) ∙ sym (c.deref.ensures.value ∙ c.in_ok-write_line.ensures ∙ ap (λ (xs : List ℕ). xs ++ line_of row) c.new-line.ensures.items))

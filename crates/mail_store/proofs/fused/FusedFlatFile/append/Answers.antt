@@ -4,8 +4,8 @@ use Rattle.mail_store.proofs.FusedCalls.{front_appended}
 use Rattle.mail_store.proofs.Leavings.{part_extends}
 use Rattle.mail_store.proofs.fused.FusedFlatFile.append.Goals as goal
 
-pub returns-then-self-clause-appends : goal.returns-then-self-clause-appends
-returns-then-self-clause-appends g c = λ k.
+pub returns-then-is_last_effect-clause-appends : goal.returns-then-is_last_effect-clause-appends
+returns-then-is_last_effect-clause-appends g c = λ k.
     let keeps = subst (λ (f : Fused (g.row.D).Denot). g.D.FlatFile.sound f.device) c.blow.ensures.counted k.0 in
     let inner = c.append.ensures.appends keeps in
     let count : c.blow.new.self.failures ≡ c.args.self.now.failures + 1 = ap (λ (f : Fused (g.row.D).Denot). f.failures) c.blow.ensures.counted in
@@ -17,8 +17,8 @@ returns-then-self-clause-appends g c = λ k.
           (sym (take-append-drop half c.args.bytes.now)) inner.1,
     )
 
-pub returns-then-self-clause-keeps : goal.returns-then-self-clause-keeps
-returns-then-self-clause-keeps g c = λ k.
+pub returns-then-is_last_effect-clause-keeps : goal.returns-then-is_last_effect-clause-keeps
+returns-then-is_last_effect-clause-keeps g c = λ k.
     let sound = subst (λ (f : Fused (g.row.D).Denot). g.D.FlatFile.sound f.device) c.blow.ensures.counted k.0 in
     let old = c.args.self.now.device in
     let half = length c.args.bytes.now / 2 in

@@ -1,7 +1,6 @@
-use Rattle.std.proofs.Common.{◌∙◌, List, ℕ, ap, String, Global}
-use Rattle.mail_store.specs.Maildir.{with_files}
-use Rattle.mail_store.proofs.HeldLemmas.{all_stay, flags_found}
-use Rattle.mail_store.specs.Held.{any_name, has_text}
+use Rattle.std.proofs.Common.{List, IsPermutation, String, Global, subst, sym}
+use Rattle.mail_store.specs.Maildir.{bases_told, names_of, with_files}
+use Rattle.mail_store.proofs.HeldLemmas.{all_stay}
 use Rattle.mail_store.proofs.maildir.held.held.Goals as goal
 
 pub returns-clause-finds : goal.returns-clause-finds
@@ -14,11 +13,9 @@ returns-clause-finds g c = λ k.
         left,
         told.1.1,
         (
-          flags_found c.args.account.now (with_files left (g.D.MaildirDisk.maildir c.args.disk.now)) c.args.listing.now c.in_ok-flags_of.field-0.items (has_text c.in_ok-found.found) names
-              (λ q. c.in_ok-found.ensures q
-              ∙ ap (λ (account : List ℕ). any_name account q c.deref.result.now) c.as_str.ensures.text
-              ∙ ap (λ (names : List (String Global)). any_name c.args.account.now q names) c.deref.ensures.value)
-              told.1.2.2 c.in_ok-flags_of.ensures,
+          c.in_ok-held_in.ensures.flags (with_files left (g.D.MaildirDisk.maildir c.args.disk.now))
+              (subst (λ (names : List (String Global)). IsPermutation (names_of (with_files left (g.D.MaildirDisk.maildir c.args.disk.now)).files) (bases_told names))
+              (sym c.deref.ensures.value) told.1.2.2),
           told.1.2.3,
           told.1.2.0,
           told.1.2.1,

@@ -1,8 +1,9 @@
 use Rattle.std.proofs.Common.{◌≡◌, ℕ, length, sym, ap, subst, ◌∙◌}
 use Rattle.std.proofs.lemmas.Option.{same_Some}
 use Rattle.mail_store.specs.declared.file.flat_file.Edges.{Edges}
+use Rattle.mail_store.specs.FlatFile.{Stored}
 use Rattle.mail_store.specs.Power.{KeepsWhole, LeavesFronts}
-use Rattle.mail_store.proofs.Leavings.{cut_keeps}
+use Rattle.mail_store.proofs.Leavings.{cut_keeps, longer_keeps}
 use Rattle.mail_store.proofs.MboxAppends.{may_cut, appended, cut_back, front_left}
 use Rattle.mail_store.proofs.mboxrd.entry.append_entry.Given.{Over}
 use Rattle.mail_store.proofs.mboxrd.entry.append_entry.Goals.{After-cut_to}
@@ -22,6 +23,19 @@ returns-in-Ok-clause-appends g c = λ sound.
       appended (g.F.FlatFile.stored c.args.file.now) (g.F.FlatFile.stored c.look_at.new.file) (g.F.FlatFile.stored c.append.new.self)
           c.args.text.items c.deref.result.now c.in_ok-edges.edges looks.1 (c.deref.ensures.value ∙ c.in_ok-make_entry.ensures) appends.1,
     )
+
+pub returns-in-Ok-clause-keeps : goal.returns-in-Ok-clause-keeps
+returns-in-Ok-clause-keeps g c = λ sound bytes is outlives.
+    let appends = c.in-Ok.ensures.appends sound in
+    longer_keeps (g.F.FlatFile.may_leave c.look_at.new.file) (g.F.FlatFile.may_leave c.append.new.self) (c.in-Ok.ensures.keeps sound).0 bytes
+    (λ left may. outlives left (c.in_ok-edges.ensures.keeps appends.0 left may))
+
+pub returns-in-Ok-clause-lasts : goal.returns-in-Ok-clause-lasts
+returns-in-Ok-clause-lasts g c = λ sound sure.
+    let appends = c.in-Ok.ensures.appends sound in
+    let looks = (c.in_ok-edges.ensures.looks appends.0).1 in
+    let lasts = c.in_ok-edges.ensures.lasts appends.0 sure in
+    c.in-Ok.ensures.lasts sound lasts.0 (lasts.1 looks.0.0 (ap (λ (s : Stored). s.content) looks.1 ∙ looks.0.1.0)).0
 
 pub returns-in-Ok-cut_to-clause-appends : goal.returns-in-Ok-cut_to-clause-appends
 returns-in-Ok-cut_to-clause-appends g c = λ sound.

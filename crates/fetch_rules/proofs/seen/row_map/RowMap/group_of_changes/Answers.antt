@@ -53,7 +53,7 @@ loop-place-preserved g c =
 pub returns : goal.returns
 returns g c =
     let all = HasWritten-all c.args.count (λ (row : Row). is_flagged c.args.listing.now c.args.held.now row.uid) c.args.self.now c.loop-place.place c.loop-place.changes c.loop-place.lines.items c.loop-place.invariant.0 (omega arith) in
-    c.in_ok-bytes.ensures _ all.0 (all.1 ∙ sym c.deref.ensures.value)
+    c.group.ensures _ all.0 (all.1 ∙ sym c.deref.ensures.value)
 
 pub returns-then-are_delivered : goal.returns-then-are_delivered
 returns-then-are_delivered g c =

@@ -14,7 +14,7 @@ loop-line-init g c = (Reads-none c.in-Some.older c.args.bytes.now c.in-Some.line
 
 pub returns-in_err-part-in-Row-clause-err : goal.returns-in_err-part-in-Row-clause-err
 returns-in_err-part-in-Row-clause-err g c =
-    let p = err_from_is_err_and c.from_residual-in_err-part-in-Row.result c.from_residual-in_err-part-in-Row.ensures.1 in
+    let p = err_from_is_err_and c.from_residual.result c.from_residual.ensures.1 in
     rw (p.1, p.2) (λ differs.
     Reads-fails c.args.bytes.now c.in-Some.older c.loop-line.part (open_seen c.loop-line.intent) c.loop-line.self c.loop-line.rest.now c.loop-line.number c.loop-line.front (row_from c.in-Row.row.uid.now c.in-Row.row.state) c.in-Some-read_line.behind.now c.in_err-part-in-Row.field-0.0
     c.loop-line.invariant.0 (subst (λ line. IsLine (line_seen line)) c.in-Row.is c.in-Some-read_line.ensures.is_line)

@@ -54,9 +54,9 @@ moves_of : (c : goal.After-self-1)
 moves_of c =
     let flags = c.self.inside.are_new.items in
     let place = c.place_in_order-place.result in
-    let made : Pair = (c.push_str.new.self, c.remove-content.result.1) in
+    let made : Pair = (c.in_ok-moved.moved, c.remove-content.result.1) in
     let room = c.reserve.new.self.items in
-    let titled : string_bytes made.0 ≡ (c.args.name.now ++ c.args.suffix.now) = c.in_ok-push_str.ensures.bytes ∙ ap (λ (xs : List ℕ). xs ++ c.args.suffix.now) c.in_ok-moved.ensures.ok in
+    let titled : string_bytes made.0 ≡ (c.args.name.now ++ c.args.suffix.now) = c.in_ok-moved.ensures in
     let inserted : c.insert.new.self.items ≡ insert c.self.inside.in_cur.items (place - c.in-Some.at) made =
     c.insert.ensures.items ∙ ap (λ r. cond (is_ok r) (insert room (place - c.in-Some.at) made) room) c.unwrap.ensures
     ∙ ap (λ (xs : List Pair). insert xs (place - c.in-Some.at) made) c.in_ok-reserve.ensures.items in
