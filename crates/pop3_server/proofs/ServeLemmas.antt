@@ -1,8 +1,8 @@
 -- How far a server that serves a link has come, and why it ends.
-use Rattle.std.proofs.Common.{◌≡◌, ◌⊎◌, inl, inr, ◌<◌, ◌≤◌, ◌+◌, ◌*◌, ℕ, true, false, List, [], ◌∷◌, ◌++◌, length, take, drop, refl, sym, ap, subst, ◌∙◌, arith, append_assoc, length-append, length-drop, Option, Some, Result, Ok, Err, codes}
+use Rattle.std.proofs.Common.{◌≡◌, ◌⊎◌, inl, inr, ◌<◌, ◌+◌, ℕ, true, false, List, [], ◌∷◌, ◌++◌, length, take, drop, refl, sym, ap, subst, ◌∙◌, arith, append_assoc, length-append, Option, Some, Result, Ok, Err, codes}
 use Rattle.std.specs.List.{flat_map, AllByRecursion}
 use Rattle.std.proofs.lemmas.Bool.{cond-true, lt-ltb}
-use Rattle.std.proofs.lemmas.List.{append-nil, flat_map_more, length-take}
+use Rattle.std.proofs.lemmas.List.{append-nil, flat_map_more}
 use Rattle.pop3_wire.specs.declared.fault.WireFault.TheVariants.{BadCommand}
 use Rattle.pop3_wire.specs.CommandLine.{command_of}
 use Rattle.pop3_wire.specs.Line.{crlf, IsLine, ended}
@@ -281,17 +281,3 @@ line_octets before mid after g seen n takes has same is = (
   ap (λ (w : Waiting). length g + w.left) is ∙ takes.left,
   subst (λ (l : List ℕ). IsLine (take n l)) (sym same) has.line,
 )
-
--- a line that waits, with its CR LF, is among what waits
-pub line_inside : (octets : List ℕ) (n : ℕ) → HasLine 512 octets n → n + 2 ≤ length octets
-line_inside octets n has =
-    let long = ap length has.whole in
-    omega (arith, long, length-append (take n octets) (crlf ++ drop (n + 2) octets), length-take n octets, length-drop (n + 2) octets)
-
--- less waits or may be taken after a line was used
-pub line_less : (mid after : Waiting) (n : ℕ) → HasLine 512 mid.octets n → after ≡ record { octets = drop (n + 2) mid.octets; left = mid.left }
-    → length after.octets + 2 * after.left < length mid.octets + 2 * mid.left
-line_less mid after n has is =
-    let few = line_inside mid.octets n has in
-    let less : length (drop (n + 2) mid.octets) + 2 * mid.left < length mid.octets + 2 * mid.left = omega (arith, few, length-drop (n + 2) mid.octets) in
-    subst (λ (w : Waiting). length w.octets + 2 * w.left < length mid.octets + 2 * mid.left) (sym is) less

@@ -4,7 +4,8 @@ use Rattle.mail_terms.specs.FailureCount.{Tallies, counted_up}
 use Rattle.pop3_server.specs.ServerMachine.{Machine, is_open}
 use Rattle.pop3_server.specs.Serving.{is_refusal}
 use Rattle.pop3_server.specs.Got.{Waiting}
-use Rattle.pop3_server.proofs.ServeLemmas.{greeted, served_unmade, served_ungreeted, served_unsent, served_stopped, served_closed, served_unread, served_ended, progress_line, long_turn, line_octets, line_inside, line_less}
+use Rattle.pop3_server.proofs.ServeLemmas.{greeted, served_unmade, served_ungreeted, served_unsent, served_stopped, served_closed, served_unread, served_ended, progress_line, long_turn, line_octets}
+use Rattle.pop3_server.proofs.ServeIntakeLemmas.{line_inside, line_less}
 use Rattle.pop3_server.proofs.serving.serve_and_note.Goals as goal
 
 pub returns-in-Err-clause-served : goal.returns-in-Err-clause-served
