@@ -1,10 +1,10 @@
 //! The command that a line asks for (RFC 1939, sections 3 and 5 to 7).
 
-ghost use Rattle.std.specs.Prelude.{◌≡◌, ◌⊎◌, [], ◌∷◌, Ok, Err, IfOk, IfErr, IsOk, MatchOption};
+ghost use Rattle.std.specs.Prelude.{◌≡◌, ◌≢◌, ◌⊎◌, [], ◌∷◌, Some, Ok, Err, IfOk, IfErr, IsOk, MatchOption};
 ghost use Rattle.std.specs.List.{before_first, after_first, slice_split};
 ghost use Rattle.pop3_wire.specs.Fields.{is_space};
 ghost use Rattle.pop3_wire.specs.CommandLine.{trimmed, arguments, rest_of, text_argument, argument_number};
-ghost use Rattle.pop3_wire.specs.CommandLine.{no_argument, one_number, number_or_none, two_numbers, command_by};
+ghost use Rattle.pop3_wire.specs.CommandLine.{Alone, command_in, no_argument, one_number, number_or_none, two_numbers, command_by};
 ghost use Rattle.pop3_wire.specs.CommandLine.{command_of, CarriesBytes, ReadAsWritten, CommandsAreLines};
 ghost use Rattle.pop3_wire.specs.Honest.{OneListOfCommands, FrontsAreAsked};
 
@@ -138,6 +138,44 @@ fn two_numbers(line: &[u8]) -> Result<(u32, u32), WireFault>
     }
 }
 
+/// A command without arguments, if the line has none.
+fn alone(command: Command, line: &[u8]) -> Result<Command, WireFault>
+    ensures { result ≡ command_in (Alone command) (rest_of line.now) (arguments line.now) }
+{
+    no_argument(line)?;
+    Ok(command)
+}
+
+/// The command of a keyword that takes no text, and a line.
+#[tactic(auto, unfolding(crate::specs::CommandLine::command_by))]
+fn read_words(keyword: Keyword, line: &[u8]) -> Result<Command, WireFault>
+    requires user { keyword ≢ Keyword.User }
+    requires pass { keyword ≢ Keyword.Pass }
+    ensures { result ≡ command_by (Some keyword) (rest_of line.now) (arguments line.now) }
+{
+    match keyword {
+        Keyword::User | Keyword::Pass => unreachable!(),
+        Keyword::Stat => alone(Command::Stat, line),
+        Keyword::Uidl => match number_or_none(line)? {
+            None => Ok(Command::UidlAll),
+            Some(number) => Ok(Command::UidlOne(number)),
+        },
+        Keyword::List => match number_or_none(line)? {
+            None => Ok(Command::ListAll),
+            Some(number) => Ok(Command::ListOne(number)),
+        },
+        Keyword::Retr => Ok(Command::Retr(one_number(line)?)),
+        Keyword::Dele => Ok(Command::Dele(one_number(line)?)),
+        Keyword::Rset => alone(Command::Rset, line),
+        Keyword::Noop => alone(Command::Noop, line),
+        Keyword::Top => {
+            let (number, lines) = two_numbers(line)?;
+            Ok(Command::Top(number, lines))
+        }
+        Keyword::Quit => alone(Command::Quit, line),
+    }
+}
+
 /// The command of a keyword and a line.
 #[tactic(auto, unfolding(crate::specs::CommandLine::command_by))]
 fn read_by(alloc: Global, keyword: Option<Keyword>, line: &[u8]) -> Result<Command, WireFault>
@@ -153,36 +191,7 @@ fn read_by(alloc: Global, keyword: Option<Keyword>, line: &[u8]) -> Result<Comma
     match keyword {
         Keyword::User => Ok(Command::User(text_argument(alloc, line)?)),
         Keyword::Pass => Ok(Command::Pass(text_argument(alloc, line)?)),
-        Keyword::Stat => {
-            no_argument(line)?;
-            Ok(Command::Stat)
-        }
-        Keyword::Uidl => match number_or_none(line)? {
-            None => Ok(Command::UidlAll),
-            Some(number) => Ok(Command::UidlOne(number)),
-        },
-        Keyword::List => match number_or_none(line)? {
-            None => Ok(Command::ListAll),
-            Some(number) => Ok(Command::ListOne(number)),
-        },
-        Keyword::Retr => Ok(Command::Retr(one_number(line)?)),
-        Keyword::Dele => Ok(Command::Dele(one_number(line)?)),
-        Keyword::Rset => {
-            no_argument(line)?;
-            Ok(Command::Rset)
-        }
-        Keyword::Noop => {
-            no_argument(line)?;
-            Ok(Command::Noop)
-        }
-        Keyword::Top => {
-            let (number, lines) = two_numbers(line)?;
-            Ok(Command::Top(number, lines))
-        }
-        Keyword::Quit => {
-            no_argument(line)?;
-            Ok(Command::Quit)
-        }
+        _ => read_words(keyword, line),
     }
 }
 
