@@ -1,6 +1,6 @@
-use Rattle.std.proofs.Common.{◌≡◌, ◌≤◌, ◌<◌, ◌+◌, ◌++◌, ◌∷◌, [], ℕ, List, length, take, sym, ap, subst, ◌∙◌, arith, append_assoc}
+use Rattle.std.proofs.Common.{◌≡◌, ◌++◌, ◌∷◌, [], ℕ, List, take, sym, ap, subst, ◌∙◌, arith, append_assoc}
 use Rattle.pop3_wire.specs.declared.unstuffer.Spot.{Spot}
-use Rattle.pop3_wire.specs.Unstuffing.{Reaches, bytes_given, held_back}
+use Rattle.pop3_wire.specs.Unstuffing.{Reaches}
 use Rattle.pop3_wire.proofs.unstuffer.go_on.Goals as goal
 
 -- what is put after the text so far belongs to it
