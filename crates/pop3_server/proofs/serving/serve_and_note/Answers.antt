@@ -1,4 +1,4 @@
-use Rattle.std.proofs.Common.{◌≡◌, ◌≤◌, ◌<◌, ◌+◌, ◌*◌, length, true, take, drop, None, Ok, refl, sym, ap, subst, ◌∙◌, arith, ℕ}
+use Rattle.std.proofs.Common.{◌≡◌, ◌+◌, true, take, drop, None, Ok, refl, sym, ap, subst, ◌∙◌, arith, ℕ}
 use Rattle.std.proofs.lemmas.Bool.{not-true, not-false}
 use Rattle.mail_terms.specs.FailureCount.{Tallies, counted_up}
 use Rattle.pop3_server.specs.ServerMachine.{Machine, is_open}

@@ -1,4 +1,4 @@
-use Rattle.std.proofs.Common.{◌≡◌, ◌+◌, [], ◌++◌, append-nil, length, Bool, true, false, if◌then◌else◌, refl, sym, ap, subst, ◌∙◌, ◌<◌, drop, take, length-append, arith}
+use Rattle.std.proofs.Common.{◌≡◌, ◌+◌, [], ◌++◌, append-nil, length, Bool, true, false, if◌then◌else◌, refl, sym, ap, subst, ◌∙◌, ◌<◌, drop, length-append, arith}
 use Rattle.pop3_wire.specs.Place.{HasLine}
 use Rattle.pop3_server.specs.LoopLink.{Loop, Serves}
 use Rattle.pop3_server.specs.LoopLaws.{same_refl}
