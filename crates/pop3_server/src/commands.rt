@@ -133,7 +133,8 @@ fn text<D: Maildrop>(
     limit: usize,
 ) -> Result<Outcome, ServerFault>
     requires { Tied (D.sound drop.old) (D.mail drop.old) (Transaction rows.now) }
-    ensures ok { IfOk result (λ outcome. AnswersOrBegins D.sound D.mail (give rows.now number (row_at rows.now number) (text_line count) count)
+    ensures ok { IfOk result (λ outcome. AnswersOrBegins D.sound D.mail
+        (give rows.now number (row_at rows.now number) (text_line count) count)
         drop.old outcome.bytes.items outcome.rest (Transaction rows.now) drop.new) }
     ensures stays { IfOk result (λ outcome. (outcome.next ≡ None) × IfSome outcome.rest (Follows limit)) }
     ensures tied { Tied (D.sound drop.new) (D.mail drop.new) (Transaction rows.now) }
