@@ -1,5 +1,5 @@
 -- A link to a server: what its calls do to what it keeps.
-use Rattle.std.proofs.Common.{◌≡◌, inl, inr, ◌≤◌, ◌<◌, ◌+◌, ◌-◌, ◌==◌, ◌||◌, ℕ, Bool, true, false, List, [], ◌∷◌, ◌++◌, length, take, drop, refl, sym, ap, subst, ◌∙◌, arith, append_assoc, take-append-drop, length-append, if◌then◌else◌}
+use Rattle.std.proofs.Common.{◌≡◌, inl, inr, ◌≤◌, ◌<◌, ◌+◌, ◌-◌, ◌==◌, ◌||◌, ℕ, Bool, true, false, List, [], ◌∷◌, ◌++◌, length, take, drop, refl, sym, ap, subst, ◌∙◌, arith, append_assoc, take-append-drop, length-append, length-drop, if◌then◌else◌}
 use Rattle.std.proofs.lemmas.List.{append-nil, drop-append-le, take-append-le, take_all}
 use Rattle.std.proofs.lemmas.Bool.{cases_Bool}
 use Rattle.std.proofs.lemmas.Bool.Decides.{nat_tests}
@@ -41,6 +41,13 @@ line_cut sent used octets has = (
   where
     drop_more : (a b : ℕ) (l : List ℕ) → drop b (drop a l) ≡ drop (a + b) l
     drop_more a b l = grind (arith, common_steps)
+
+-- a line that waits is among the octets sent, and fewer wait after it
+pub line_fits : (sent : List ℕ) (used octets : ℕ) → used ≤ length sent → HasLine (length (drop used sent)) (drop used sent) octets
+    → (used + (octets + 2) ≤ length sent) × (length (drop (used + (octets + 2)) sent) < length (drop used sent))
+line_fits sent used octets within has =
+    let few : octets + 2 ≤ length (drop used sent) = has.within in
+    (omega (arith, length-drop used sent), omega (arith, length-drop used sent, length-drop (used + (octets + 2)) sent))
 
 -- no line was answered: the server is the same, if the link is still up, and some of what is left may have been given
 pub serves_none : {D : Type 0} (sound : D → Type 0) (mail : D → Mail) (m n : Machine D) (sent : List ℕ) (used : ℕ) (answers : List ℕ) (given more : ℕ) (over later down then_down : Bool) (failures : ℕ)

@@ -1,5 +1,5 @@
 -- Octets that are dropped in pieces and make one line.
-use Rattle.std.proofs.Common.{◌≡◌, ◌<◌, ◌≤◌, ◌+◌, ◌*◌, ℕ, zero, suc, List, [], ◌∷◌, ◌++◌, length, take, drop, refl, sym, ap, subst, ◌∙◌, arith, append_assoc, length-append, length-take-le, take-append-drop, take_all, append-nil, length-drop, Result, Ok, Err}
+use Rattle.std.proofs.Common.{◌≡◌, ◌<◌, ◌≤◌, ◌+◌, ◌*◌, ℕ, zero, suc, List, [], ◌∷◌, ◌++◌, length, take, drop, refl, sym, ap, subst, ◌∙◌, arith, append_assoc, length-append, length-take-le, length-take, take-append-drop, take_all, append-nil, length-drop, Result, Ok, Err}
 use Rattle.pop3_wire.specs.Line.{crlf, IsLine, ended}
 use Rattle.pop3_wire.specs.Link.{Link}
 use Rattle.pop3_wire.specs.Place.{HasLine, HasNoLine}
@@ -166,3 +166,17 @@ still_short now after piece is none short = omega (arith, ap length is, length-a
 
 pub all_waits : (octets : List ℕ) → HasNoLine 512 octets → length octets < 512 → IsLine octets
 all_waits octets none short = subst IsLine (take_all 512 octets (omega arith)) none.none
+
+-- a line that waits, with its CR LF, is among what waits
+pub line_inside : (octets : List ℕ) (n : ℕ) → HasLine 512 octets n → n + 2 ≤ length octets
+line_inside octets n has =
+    let long = ap length has.whole in
+    omega (arith, long, length-append (take n octets) (crlf ++ drop (n + 2) octets), length-take n octets, length-drop (n + 2) octets)
+
+-- less waits or may be taken after a line was used
+pub line_less : (mid after : Waiting) (n : ℕ) → HasLine 512 mid.octets n → after ≡ record { octets = drop (n + 2) mid.octets; left = mid.left }
+    → length after.octets + 2 * after.left < length mid.octets + 2 * mid.left
+line_less mid after n has is =
+    let few = line_inside mid.octets n has in
+    let less : length (drop (n + 2) mid.octets) + 2 * mid.left < length mid.octets + 2 * mid.left = omega (arith, few, length-drop (n + 2) mid.octets) in
+    subst (λ (w : Waiting). length w.octets + 2 * w.left < length mid.octets + 2 * mid.left) (sym is) less

@@ -9,13 +9,13 @@ ghost use Rattle.mail_terms.specs.FailureCount.{counted_up};
 ghost use Rattle.pop3_server.specs.Maildrop.{HasPlace};
 ghost use Rattle.pop3_server.specs.ServerMachine.{Say, Open, Give, Leave, Answers, SamePlaces, Unanswered, Tied};
 ghost use Rattle.pop3_server.specs.ServerMachine.{Tries, Empties, with_marked, in_authorization, in_transaction};
-ghost use Rattle.pop3_server.specs.ServerMachine.{is_about_rows, next_of, said, of_row, row_at, scan_line, uid_line, text_body};
+ghost use Rattle.pop3_server.specs.ServerMachine.{give, is_about_rows, next_of, said, of_row, row_at, row_line, text_body, text_line};
 ghost use Rattle.pop3_server.specs.TextAnswer.{AnswersOrBegins, Follows};
 ghost use Rattle.pop3_server.specs.TextBody.{still};
 
 use crate::fault::ServerFault;
 use crate::maildrop::{DropFault, Maildrop};
-use crate::reply::{begin_text, say, say_count, say_left, say_size, say_sizes, say_uid, say_uids};
+use crate::reply::{Column, begin_text, say, say_count, say_left, say_row, say_rows};
 use crate::rows::{MessageRow, Rows};
 use crate::state::State;
 use crate::text_part::TextBody;
@@ -107,39 +107,34 @@ fn give<D: Maildrop>(
     }
 }
 
-/// RETR: the text of a message.
-fn retr<D: Maildrop>(
+/// The first line of the reply with the text of a message, or with its top if a count of lines is given.
+fn first_line(
     alloc: Global,
-    drop: &mut D,
-    rows: &Rows,
-    number: u32,
+    row: &MessageRow,
+    count: Option<u32>,
     limit: usize,
-) -> Result<Outcome, ServerFault>
-    requires { Tied (D.sound drop.old) (D.mail drop.old) (Transaction rows.now) }
-    ensures ok { IfOk result (λ outcome. AnswersOrBegins D.sound D.mail (in_transaction rows.now (Retr number))
-        drop.old outcome.bytes.items outcome.rest (Transaction rows.now) drop.new) }
-    ensures stays { IfOk result (λ outcome. (outcome.next ≡ None) × IfSome outcome.rest (Follows limit)) }
-    ensures tied { Tied (D.sound drop.new) (D.mail drop.new) (Transaction rows.now) }
-    ensures err { IfErr result (λ e. (e ≡ ServerFault.NoMemory) × Unanswered D.sound D.mail drop.old drop.new) }
+) -> Result<Vec<u8>, ServerFault>
+    ensures ok { IfOk result (λ reply. reply.items ≡ said (text_line count row.now)) }
+    ensures err { IfErr result (λ e. e ≡ ServerFault.NoMemory) }
 {
-    let Some(i) = rows.place(number) else {
-        return Ok(Outcome::stay(say(alloc, b"-ERR no such message")?));
-    };
-    let reply = begin_text(alloc, rows.row(i), limit)?;
-    give(alloc, drop, reply, TextBody::new(i, None), limit)
+    match count {
+        None => begin_text(alloc, row, limit),
+        Some(_) => say(alloc, b"+OK"),
+    }
 }
 
-/// TOP: the head of a message, and `count` lines after it.
-fn top<D: Maildrop>(
+/// RETR: the text of a message; and TOP: its head, and `count` lines after it.
+fn text<D: Maildrop>(
     alloc: Global,
     drop: &mut D,
     rows: &Rows,
     number: u32,
-    count: u32,
+    count: Option<u32>,
     limit: usize,
 ) -> Result<Outcome, ServerFault>
     requires { Tied (D.sound drop.old) (D.mail drop.old) (Transaction rows.now) }
-    ensures ok { IfOk result (λ outcome. AnswersOrBegins D.sound D.mail (in_transaction rows.now (Top number count))
+    ensures ok { IfOk result (λ outcome. AnswersOrBegins D.sound D.mail
+        (give rows.now number (row_at rows.now number) (text_line count) count)
         drop.old outcome.bytes.items outcome.rest (Transaction rows.now) drop.new) }
     ensures stays { IfOk result (λ outcome. (outcome.next ≡ None) × IfSome outcome.rest (Follows limit)) }
     ensures tied { Tied (D.sound drop.new) (D.mail drop.new) (Transaction rows.now) }
@@ -148,8 +143,8 @@ fn top<D: Maildrop>(
     let Some(i) = rows.place(number) else {
         return Ok(Outcome::stay(say(alloc, b"-ERR no such message")?));
     };
-    let reply = say(alloc, b"+OK")?;
-    give(alloc, drop, reply, TextBody::new(i, Some(count)), limit)
+    let reply = first_line(alloc, rows.row(i), count, limit)?;
+    give(alloc, drop, reply, TextBody::new(i, count), limit)
 }
 
 /// Removes one message, and returns whether it was removed.
@@ -261,25 +256,15 @@ pub fn authorize<D: Maildrop>(
     }
 }
 
-/// LIST of one message.
-fn list_one(alloc: Global, rows: &Rows, number: u32) -> Result<Vec<u8>, ServerFault>
-    ensures ok { IfOk result (λ reply. reply.items ≡ of_row (λ row. said (codes "+OK " ++ scan_line number row)) (row_at rows.now number)) }
+/// LIST or UIDL of one message.
+fn list_one(alloc: Global, column: Column, rows: &Rows, number: u32) -> Result<Vec<u8>, ServerFault>
+    ensures ok { IfOk result (λ reply. reply.items
+        ≡ of_row (λ row. said (codes "+OK " ++ row_line column number row)) (row_at rows.now number)) }
     ensures err { IfErr result (λ e. e ≡ ServerFault.NoMemory) }
 {
     match rows.place(number) {
         None => say(alloc, b"-ERR no such message"),
-        Some(i) => say_size(alloc, number, rows.row(i)),
-    }
-}
-
-/// UIDL of one message.
-fn uidl_one(alloc: Global, rows: &Rows, number: u32) -> Result<Vec<u8>, ServerFault>
-    ensures ok { IfOk result (λ reply. reply.items ≡ of_row (λ row. said (codes "+OK " ++ uid_line number row)) (row_at rows.now number)) }
-    ensures err { IfErr result (λ e. e ≡ ServerFault.NoMemory) }
-{
-    match rows.place(number) {
-        None => say(alloc, b"-ERR no such message"),
-        Some(i) => say_uid(alloc, number, rows.row(i)),
+        Some(i) => say_row(alloc, column, number, rows.row(i)),
     }
 }
 
@@ -336,10 +321,10 @@ fn answer_by_rows(alloc: Global, rows: &mut Rows, command: &Command) -> Result<V
     match command {
         Command::User(_) | Command::Pass(_) => say(alloc, b"-ERR not now"),
         Command::Stat => say_left(alloc, rows.as_slice()),
-        Command::ListAll => say_sizes(alloc, rows.as_slice()),
-        Command::UidlAll => say_uids(alloc, rows.as_slice()),
-        Command::ListOne(number) => list_one(alloc, rows, *number),
-        Command::UidlOne(number) => uidl_one(alloc, rows, *number),
+        Command::ListAll => say_rows(alloc, Column::Size, rows.as_slice()),
+        Command::UidlAll => say_rows(alloc, Column::Uid, rows.as_slice()),
+        Command::ListOne(number) => list_one(alloc, Column::Size, rows, *number),
+        Command::UidlOne(number) => list_one(alloc, Column::Uid, rows, *number),
         Command::Dele(number) => dele(alloc, rows, *number),
         Command::Rset => rset(alloc, rows),
         Command::Noop => say(alloc, b"+OK"),
@@ -368,8 +353,8 @@ pub fn transact<D: Maildrop>(
     ensures err { IfErr result (λ e. (e ≡ ServerFault.NoMemory) × (rows.new ≡ rows.old) × Unanswered D.sound D.mail drop.old drop.new) }
 {
     match command {
-        Command::Retr(number) => retr(alloc, drop, rows, *number, limit),
-        Command::Top(number, count) => top(alloc, drop, rows, *number, *count, limit),
+        Command::Retr(number) => text(alloc, drop, rows, *number, None, limit),
+        Command::Top(number, count) => text(alloc, drop, rows, *number, Some(*count), limit),
         Command::Quit => Ok(Outcome::go(quit(alloc, drop, rows.as_slice())?, State::Closed)),
         Command::User(_)
         | Command::Pass(_)

@@ -1,6 +1,6 @@
 //! A maildrop in memory.
 ghost use Rattle.std.specs.Prelude.{◌≡◌, ◌≤◌, ◌<◌, ◌+◌, ◌^◌, ◌∷◌, [], ◌++◌, ◌↔◌, ◌==◌, IsTrue, IfOk};
-ghost use Rattle.std.specs.Prelude.{IfErr, OnErr, IsOk, map, length, take, drop, vec_len, Some};
+ghost use Rattle.std.specs.Prelude.{IfErr, OnErr, IsOk, map, length, take, drop, slice_get, vec_len, Some};
 ghost use Rattle.std.specs.List.{Contains};
 ghost use Rattle.mail_terms.specs.UniqueId.{is_legal_id};
 ghost use Rattle.pop3_wire.specs.World.{Message};
@@ -203,6 +203,17 @@ impl MemoryDrop {
         }
     }
 
+    /// The message at this place.
+    fn kept(&self, i: usize) -> &Kept
+        requires { HasPlace self.now i }
+        ensures { slice_get self.now.slots i ≡ Some (Some result.now) }
+    {
+        match &self.slots[i] {
+            Some(kept) => kept,
+            None => unreachable!(),
+        }
+    }
+
     /// Appends a message. Its id must be legal and new, its size at most `MAX_SIZE`, and there
     /// must be fewer than `MAX_COUNT` messages: `is_legal_id`, `contains`, `size_of` and `len`
     /// test this. A text whose last line has no LF is served with that line ended. If memory runs
@@ -235,17 +246,11 @@ impl Maildrop for MemoryDrop {
     }
 
     fn text(&mut self, i: usize) -> Result<Vec<u8>, DropFault> {
-        match self.slots.get(i) {
-            Some(Some(kept)) => Ok(kept.copied(self.alloc)?),
-            _ => unreachable!(),
-        }
+        Ok(self.kept(i).copied(self.alloc)?)
     }
 
     fn part(&mut self, i: usize, start: usize, piece: &mut [u8]) -> Result<usize, DropFault> {
-        match self.slots.get(i) {
-            Some(Some(kept)) => Ok(kept.put_part(start, piece)),
-            _ => unreachable!(),
-        }
+        Ok(self.kept(i).put_part(start, piece))
     }
 
     fn remove(&mut self, i: usize) -> Result<(), DropFault> {

@@ -1,7 +1,8 @@
 //! The replies of a server, each whole, with its CR LF (RFC 1939, sections 5 to 7).
 ghost use Rattle.std.specs.Prelude.{◌≡◌, ◌≤◌, ◌<◌, ◌++◌, length, IfOk, IfErr, codes, vec_len};
 ghost use Rattle.std.specs.Fmt.{decimal};
-ghost use Rattle.pop3_server.specs.ServerMachine.{said, scan_line, uid_line, listed, lines_from, left_count, left_total, octets_line};
+ghost use Rattle.pop3_server.specs.ServerMachine.{said, scan_line, uid_line, row_line, listed, lines_from};
+ghost use Rattle.pop3_server.specs.ServerMachine.{left_count, left_total, octets_line};
 
 use crate::fault::ServerFault;
 use crate::maildrop::MAX_COUNT;
@@ -38,24 +39,13 @@ pub fn say_left(alloc: Global, rows: &[MessageRow]) -> Result<Vec<u8>, ServerFau
     Ok(format!(in alloc; "+OK {count} {total}\r\n")?.into_bytes())
 }
 
-/// The reply to LIST of one message: its number and its size.
-pub fn say_size(alloc: Global, number: u32, row: &MessageRow) -> Result<Vec<u8>, ServerFault>
-    ensures ok { IfOk result (λ reply. reply.items ≡ said (codes "+OK " ++ scan_line number row.now)) }
-    ensures err { IfErr result (λ e. e ≡ ServerFault.NoMemory) }
-{
-    let size = row.entry.size();
-    Ok(format!(in alloc; "+OK {number} {size}\r\n")?.into_bytes())
-}
-
-/// The reply to UIDL of one message: its number and its unique-id.
-pub fn say_uid(alloc: Global, number: u32, row: &MessageRow) -> Result<Vec<u8>, ServerFault>
-    ensures ok { IfOk result (λ reply. reply.items ≡ said (codes "+OK " ++ uid_line number row.now)) }
-    ensures err { IfErr result (λ e. e ≡ ServerFault.NoMemory) }
-{
-    let mut reply = format!(in alloc; "+OK {number} ")?.into_bytes();
-    reply.extend_from_slice(row.entry.uid())?;
-    reply.extend_from_slice(b"\r\n")?;
-    Ok(reply)
+/// What a listing says of each message.
+#[derive(Clone, Copy)]
+pub enum Column {
+    /// Its size, for LIST.
+    Size,
+    /// Its unique-id, for UIDL.
+    Uid,
 }
 
 /// Appends a message's line of LIST.
@@ -91,27 +81,42 @@ fn put_uid(
     Ok(())
 }
 
-/// The reply to LIST: the sizes of the messages that aren't marked.
-pub fn say_sizes(alloc: Global, rows: &[MessageRow]) -> Result<Vec<u8>, ServerFault>
-    requires { length rows.now ≤ MAX_COUNT }
-    ensures ok { IfOk result (λ reply. reply.items ≡ listed scan_line rows.now) }
+/// Appends a message's line of a listing.
+fn put_row(
+    reply: &mut Vec<u8>,
+    alloc: Global,
+    column: Column,
+    number: usize,
+    row: &MessageRow,
+) -> Result<(), ServerFault>
+    ensures ok { IfOk result (λ _. reply.new.items ≡ reply.old.items ++ said (row_line column number row.now)) }
     ensures err { IfErr result (λ e. e ≡ ServerFault.NoMemory) }
 {
-    let mut reply = Vec::from_slice(alloc, b"+OK\r\n")?;
-    for (i, row) in rows.iter().enumerate() {
-        if row.marked {
-            continue;
-        }
-        put_size(&mut reply, alloc, i + 1, row)?;
+    match column {
+        Column::Size => put_size(reply, alloc, number, row),
+        Column::Uid => put_uid(reply, alloc, number, row),
     }
-    reply.extend_from_slice(b".\r\n")?;
+}
+
+/// The reply to LIST or UIDL of one message: its number, and its size or unique-id.
+pub fn say_row(
+    alloc: Global,
+    column: Column,
+    number: u32,
+    row: &MessageRow,
+) -> Result<Vec<u8>, ServerFault>
+    ensures ok { IfOk result (λ reply. reply.items ≡ said (codes "+OK " ++ row_line column number row.now)) }
+    ensures err { IfErr result (λ e. e ≡ ServerFault.NoMemory) }
+{
+    let mut reply = Vec::from_slice(alloc, b"+OK ")?;
+    put_row(&mut reply, alloc, column, number as usize, row)?;
     Ok(reply)
 }
 
-/// The reply to UIDL: the unique-ids of the messages that aren't marked.
-pub fn say_uids(alloc: Global, rows: &[MessageRow]) -> Result<Vec<u8>, ServerFault>
+/// The reply to LIST or UIDL: the sizes or the unique-ids of the messages that aren't marked.
+pub fn say_rows(alloc: Global, column: Column, rows: &[MessageRow]) -> Result<Vec<u8>, ServerFault>
     requires { length rows.now ≤ MAX_COUNT }
-    ensures ok { IfOk result (λ reply. reply.items ≡ listed uid_line rows.now) }
+    ensures ok { IfOk result (λ reply. reply.items ≡ listed (row_line column) rows.now) }
     ensures err { IfErr result (λ e. e ≡ ServerFault.NoMemory) }
 {
     let mut reply = Vec::from_slice(alloc, b"+OK\r\n")?;
@@ -119,7 +124,7 @@ pub fn say_uids(alloc: Global, rows: &[MessageRow]) -> Result<Vec<u8>, ServerFau
         if row.marked {
             continue;
         }
-        put_uid(&mut reply, alloc, i + 1, row)?;
+        put_row(&mut reply, alloc, column, i + 1, row)?;
     }
     reply.extend_from_slice(b".\r\n")?;
     Ok(reply)
