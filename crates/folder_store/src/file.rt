@@ -56,6 +56,36 @@ impl<'a, F: FileFolder + Drop> HostFile<'a, F> {
         }
     }
 
+    // The same, and what is cut off is kept in the file of another name, in another folder.
+    fn keeping_in(folder: F, name: &'a str, kept: F, rests: &'a str) -> HostFile<'a, F>
+        ensures { ⟦<HostFile<'a, F> as FlatFile>⟧.stored result ≡ stored_in (F.directory folder) name.now 0 }
+    {
+        HostFile {
+            folder,
+            name,
+            appending: Appending::AtOnce,
+            is_flushed: false,
+            rests: Some(Rests::over(kept, rests)),
+            failures: FailureCount::new(),
+        }
+    }
+
+    /// Whether this run kept what it cut off, and appended nothing since that begins with it.
+    pub fn keeps_others(&self) -> bool {
+        match &self.rests {
+            Some(rests) => rests.has_others(),
+            None => false,
+        }
+    }
+
+    // The file in which it is kept what was cut off, if bytes that were appended since begin with all of it.
+    fn ours(&self) -> Option<(&F, &str)> {
+        match &self.rests {
+            Some(rests) => rests.ours(),
+            None => None,
+        }
+    }
+
     /// Gives the folder back.
     pub fn into_folder(self) -> F
         ensures { result ≡ self.entry.folder }
@@ -101,7 +131,7 @@ impl<'a, F: FileFolder + Drop> HostFile<'a, F> {
     }
 }
 
-impl<'a, R: Files + Clock + AllocGlobal + Clone + Drop> HostFile<'a, HostFolder<'a, R>> {
+impl<'a, R: Files + AllocGlobal> HostFile<'a, HostFolder<'a, R>> {
     ghost use Rattle.folder_store.specs.HostFile.{unknown_file};
 
     /// The file at a path, absolute or taken from the working folder. There need be none. What is
@@ -151,36 +181,24 @@ impl<'a, R: Files + Clock + AllocGlobal + Clone + Drop> HostFile<'a, HostFolder<
     ) -> HostFile<'a, HostFolder<'a, R>>
         ensures { ⟦<HostFile<'a, HostFolder<'a, R>> as FlatFile>⟧.stored result ≡ unknown_file }
     {
-        let kept = HostFolder::around(system, rests, mark, false);
-        HostFile {
-            folder: HostFolder::around(system, path, mark, false),
-            name: name_in(path),
-            appending: Appending::AtOnce,
-            is_flushed: false,
-            rests: Some(Rests::over(kept, name_in(rests))),
-            failures: FailureCount::new(),
-        }
-    }
-
-    /// Whether this run kept what it cut off, and appended nothing since that begins with it.
-    pub fn keeps_others(&self) -> bool {
-        match &self.rests {
-            Some(rests) => rests.has_others(),
-            None => false,
-        }
+        HostFile::keeping_in(
+            HostFolder::around(system, path, mark, false),
+            name_in(path),
+            HostFolder::around(system, rests, mark, false),
+            name_in(rests),
+        )
     }
 
     /// Removes the file in which it is kept what was cut off, if bytes that were appended since begin
     /// with all of it.
     pub fn drop_ours(&self) {
-        if let Some(rests) = &self.rests {
-            if rests.are_ours() {
-                let (folder, name) = rests.place();
-                folder.remove(name);
-            }
+        if let Some((folder, name)) = self.ours() {
+            folder.remove(name);
         }
     }
+}
 
+impl<'a, R: Files + Clock + AllocGlobal + Clone + Drop> HostFile<'a, HostFolder<'a, R>> {
     /// Removes the files that `replace` of killed runs left beside this one: those that weren't changed
     /// for an hour. What can't be removed stays.
     pub fn sweep(&self) {

@@ -43,7 +43,7 @@ struct Changed<F: Drop> {
 /// mark until it is put into the folder, so that no other run writes it. The listing is exact although
 /// others rename files meanwhile.
 #[derive(Drop)]
-pub struct HostFolder<'a, R: Files + Clock + AllocGlobal + Clone + Drop> {
+pub struct HostFolder<'a, R: Files> {
     system: &'a System<'a, R>,
     /// The path that those of the next two folders begin with.
     base: &'a str,
@@ -67,7 +67,7 @@ pub struct HostFolder<'a, R: Files + Clock + AllocGlobal + Clone + Drop> {
     names: Option<Told<'a, R::File>>,
 }
 
-impl<'a, R: Files + Clock + AllocGlobal + Clone + Drop> HostFolder<'a, R> {
+impl<'a, R: Files + AllocGlobal> HostFolder<'a, R> {
     /// A folder of the Maildir at a path, absolute or taken from the working folder. Files are made in
     /// the Maildir's folder `tmp`.
     pub fn of_maildir(
@@ -123,14 +123,6 @@ impl<'a, R: Files + Clock + AllocGlobal + Clone + Drop> HostFolder<'a, R> {
         }
     }
 
-    /// Removes the files whose names begin with `front` that killed runs left behind: those that
-    /// weren't changed for an hour. What can't be removed stays.
-    pub fn sweep(&self, front: &str) {
-        if let Ok(path) = self.folder_path(self.scratch) {
-            let _ = sweep(self.system, path.as_str(), front);
-        }
-    }
-
     /// Removes a file, if it can be.
     pub fn remove(&self, name: &str) {
         if let Ok(path) = self.path_of(name) {
@@ -180,23 +172,17 @@ impl<'a, R: Files + Clock + AllocGlobal + Clone + Drop> HostFolder<'a, R> {
         Ok(path)
     }
 
+    // The regular file of a name, opened to be read.
+    fn open_regular(&self, name: &str) -> io::Result<Told<'a, R::File>> {
+        self.system.open(self.regular_path(name)?.as_str())
+    }
+
     // An error for a file that isn't as it has to be, with the reason.
     fn refuse(&self, name: &str, words: &str) -> io::Error {
         match self.path_of(name) {
             Ok(path) => self.system.refusals.refuse(path.as_str(), words),
             Err(error) => error,
         }
-    }
-
-    // The names of the folder's files. A name that begins with a full stop or isn't UTF-8 is skipped,
-    // and so is a folder. The system is asked what each name stands for only if a folder may be
-    // among them, since that takes longer than all else.
-    pub(crate) fn read_names(&self) -> io::Result<FolderNames> {
-        let mut found = list_names(self.system, self.folder_path(self.folder)?.as_str())?;
-        if may_hold_folders(&found.folder) {
-            found.names = self.files_among(found.names)?;
-        }
-        Ok(found)
     }
 
     // The folder's metadata.
@@ -264,7 +250,7 @@ impl<'a, R: Files + Clock + AllocGlobal + Clone + Drop> HostFolder<'a, R> {
     }
 
     fn read_all(&self, name: &str) -> io::Result<Vec<u8>> {
-        let mut file = self.system.open(self.regular_path(name)?.as_str())?;
+        let mut file = self.open_regular(name)?;
         // Room for all of it at once: a Vec that grows as it is read has up to twice the file's size.
         let size = file.metadata()?.len() as usize;
         let mut bytes = Vec::with_capacity(self.system.alloc(), size.saturating_add(1))?;
@@ -301,31 +287,18 @@ impl<'a, R: Files + Clock + AllocGlobal + Clone + Drop> HostFolder<'a, R> {
     }
 
     fn read_edges(&mut self, name: &str) -> io::Result<Edges> {
-        let mut file = self.system.open(self.regular_path(name)?.as_str())?;
+        let mut file = self.open_regular(name)?;
         let found = file.metadata()?;
         self.check_left(name, &found)?;
-        let size = found.len();
-        let mut head = [0u8; 5];
-        let mut tail = [0u8; 2];
-        let in_head = size.min(5) as usize;
-        let in_tail = size.min(2) as usize;
-        file.read_exact(&mut head[..in_head])?;
-        file.seek(SeekFrom::Start(size - in_tail as u64))?;
-        file.read_exact(&mut tail[2 - in_tail..])?;
-        Ok(Edges { size, head, tail })
+        edges_in(&mut file, found.len())
     }
 
     fn read_piece(&self, name: &str, start: u64, buf: &mut [u8]) -> io::Result<usize>
         ensures { IfOk result (λ count. count ≤ length buf.new) }
     {
-        let mut file = self.system.open(self.regular_path(name)?.as_str())?;
-        let there = file.metadata()?.len().saturating_sub(start);
-        let count = there.min(buf.len() as u64) as usize;
-        if count > 0 {
-            file.seek(SeekFrom::Start(start))?;
-            file.read_exact(&mut buf[..count])?;
-        }
-        Ok(count)
+        let mut file = self.open_regular(name)?;
+        let size = file.metadata()?.len();
+        piece_in(&mut file, size, start, buf)
     }
 
     // The handle kept from the file's last change, or a new one.
@@ -346,16 +319,18 @@ impl<'a, R: Files + Clock + AllocGlobal + Clone + Drop> HostFolder<'a, R> {
     // A handle that is kept tells the size too, and whether the file was removed meanwhile: nothing
     // is written to one that has no name any more.
     fn measure(&mut self, name: &str) -> io::Result<u64> {
-        if !self.keeps_handle {
-            return Ok(self.system.stat(self.path_of(name)?.as_str())?.len());
+        if self.keeps_handle {
+            self.measure_changed(name)
+        } else {
+            Ok(self.system.stat(self.path_of(name)?.as_str())?.len())
         }
+    }
+
+    fn measure_changed(&mut self, name: &str) -> io::Result<u64> {
         let changed = self.handle_of(name)?;
-        let found = changed.file.metadata()?;
-        if found.nlink() == 0 {
-            return Err(io::Error::from(ErrorKind::NotFound));
-        }
+        let size = size_in(&changed.file.metadata()?)?;
         self.changed = Some(changed);
-        Ok(found.len())
+        Ok(size)
     }
 
     // Appends to a watched file. What others append meanwhile isn't taken for a part of it.
@@ -382,16 +357,28 @@ impl<'a, R: Files + Clock + AllocGlobal + Clone + Drop> HostFolder<'a, R> {
         answer
     }
 
-    fn set_len(&mut self, name: &str, len: u64) -> io::Result<()> {
-        let changed = self.handle_of(name)?;
-        let found = changed.file.metadata()?;
-        self.check_left(name, &found)?;
+    // A file that is cut must be as it was left, and not shorter than what is to be left of it.
+    fn check_cut(&mut self, name: &str, found: &Metadata, len: u64) -> io::Result<()> {
+        self.check_left(name, found)?;
         if found.len() < len {
             return Err(self.refuse(name, CHANGED));
         }
+        Ok(())
+    }
+
+    fn note_cut(&mut self, file: &Told<'a, R::File>) -> io::Result<()> {
+        if self.watches {
+            self.left = Some(FileState::of(&file.metadata()?));
+        }
+        Ok(())
+    }
+
+    fn set_len(&mut self, name: &str, len: u64) -> io::Result<()> {
+        let changed = self.handle_of(name)?;
+        self.check_cut(name, &changed.file.metadata()?, len)?;
         let answer = changed.file.set_len(len);
-        if answer.is_ok() && self.watches {
-            self.left = Some(FileState::of(&changed.file.metadata()?));
+        if answer.is_ok() {
+            self.note_cut(&changed.file)?;
         }
         self.changed = Some(changed);
         answer
@@ -411,9 +398,7 @@ impl<'a, R: Files + Clock + AllocGlobal + Clone + Drop> HostFolder<'a, R> {
                 return Ok(());
             }
         }
-        self.system
-            .open(self.regular_path(name)?.as_str())?
-            .sync_all()
+        self.open_regular(name)?.sync_all()
     }
 
     // Flushes a file's bytes, and says whether there was such a file.
@@ -445,6 +430,66 @@ impl<'a, R: Files + Clock + AllocGlobal + Clone + Drop> HostFolder<'a, R> {
         flush_folder(&folder, self.system.refusals)?;
         self.names = Some(folder);
         Ok(())
+    }
+}
+
+impl<'a, R: Files + Clock + AllocGlobal + Clone + Drop> HostFolder<'a, R> {
+    /// Removes the files whose names begin with `front` that killed runs left behind: those that
+    /// weren't changed for an hour. What can't be removed stays.
+    pub fn sweep(&self, front: &str) {
+        if let Ok(path) = self.folder_path(self.scratch) {
+            let _ = sweep(self.system, path.as_str(), front);
+        }
+    }
+
+    // The names of the folder's files. A name that begins with a full stop or isn't UTF-8 is skipped,
+    // and so is a folder. The system is asked what each name stands for only if a folder may be
+    // among them, since that takes longer than all else.
+    pub(crate) fn read_names(&self) -> io::Result<FolderNames> {
+        let mut found = list_names(self.system, self.folder_path(self.folder)?.as_str())?;
+        if may_hold_folders(&found.folder) {
+            found.names = self.files_among(found.names)?;
+        }
+        Ok(found)
+    }
+}
+
+/// The size of a file and its ends.
+fn edges_in<F: Read + Seek>(file: &mut F, size: u64) -> io::Result<Edges> {
+    let mut head = [0u8; 5];
+    let mut tail = [0u8; 2];
+    let in_head = size.min(5) as usize;
+    let in_tail = size.min(2) as usize;
+    file.read_exact(&mut head[..in_head])?;
+    file.seek(SeekFrom::Start(size - in_tail as u64))?;
+    file.read_exact(&mut tail[2 - in_tail..])?;
+    Ok(Edges { size, head, tail })
+}
+
+/// Puts the bytes of a file of this size from `start` on at the front of a buffer, and returns how many.
+fn piece_in<F: Read + Seek>(
+    file: &mut F,
+    size: u64,
+    start: u64,
+    buf: &mut [u8],
+) -> io::Result<usize>
+    ensures { IfOk result (λ count. count ≤ length buf.new) }
+{
+    let there = size.saturating_sub(start);
+    let count = there.min(buf.len() as u64) as usize;
+    if count > 0 {
+        file.seek(SeekFrom::Start(start))?;
+        file.read_exact(&mut buf[..count])?;
+    }
+    Ok(count)
+}
+
+/// The size of an open file that has a name.
+fn size_in(found: &Metadata) -> io::Result<u64> {
+    if found.nlink() == 0 {
+        Err(io::Error::from(ErrorKind::NotFound))
+    } else {
+        Ok(found.len())
     }
 }
 
@@ -484,7 +529,7 @@ pub(crate) fn told<T>(refusals: &Refusals, answer: io::Result<T>) -> Result<T, S
     }
 }
 
-impl<'a, R: Files + Clock + AllocGlobal + Clone + Drop> FileFolder for HostFolder<'a, R> {
+impl<'a, R: Files + AllocGlobal> FileFolder for HostFolder<'a, R> {
     ghost use Rattle.folder_store.specs.FileFolder.{unknown_directory};
 
     ghost directory = { λ _. unknown_directory };
