@@ -10,7 +10,7 @@ use crate::file_state::{FileState, write_counted};
 use crate::process_mark::ProcessMark;
 use crate::system::{flush_folder, folder_of, make_file, sweep};
 use mail_store::{Edges, StoreFault};
-use std::alloc::Global;
+use std::alloc::{AllocError, Global};
 use std::fs::{Metadata, OpenFile, OpenOptions};
 use std::io;
 use std::io::{ErrorKind, Read, Seek, SeekFrom, Write};
@@ -137,14 +137,7 @@ impl<'a, R: Files + AllocGlobal> HostFolder<'a, R> {
 
     // The path of a folder.
     fn folder_path(&self, folder: &str) -> io::Result<String> {
-        let base = self.base;
-        Ok(if folder.is_empty() {
-            String::from_str(self.system.alloc(), base)?
-        } else if base.ends_with('/') {
-            format!(in self.system.alloc(); "{base}{folder}")?
-        } else {
-            format!(in self.system.alloc(); "{base}/{folder}")?
-        })
+        Ok(joined(self.system.alloc(), self.base, folder)?)
     }
 
     // The path of a file in a folder.
@@ -204,8 +197,7 @@ impl<'a, R: Files + AllocGlobal> HostFolder<'a, R> {
     fn files_among(&self, found: Vec<String>) -> io::Result<Vec<String>> {
         let mut names = Vec::with_capacity(self.system.alloc(), found.len())?;
         for name in found {
-            let path = self.path_of(name.as_str())?;
-            if !is_folder(self.system.lstat(path.as_str()))? {
+            if !is_folder(self.look_up(name.as_str()))? {
                 names.push(name)?;
             }
         }
@@ -251,11 +243,8 @@ impl<'a, R: Files + AllocGlobal> HostFolder<'a, R> {
 
     fn read_all(&self, name: &str) -> io::Result<Vec<u8>> {
         let mut file = self.open_regular(name)?;
-        // Room for all of it at once: a Vec that grows as it is read has up to twice the file's size.
         let size = file.metadata()?.len() as usize;
-        let mut bytes = Vec::with_capacity(self.system.alloc(), size.saturating_add(1))?;
-        file.read_to_end(&mut bytes)?;
-        Ok(bytes)
+        bytes_in(&mut file, size, self.system.alloc())
     }
 
     // A watched file must be as it was left.
@@ -319,18 +308,16 @@ impl<'a, R: Files + AllocGlobal> HostFolder<'a, R> {
     // A handle that is kept tells the size too, and whether the file was removed meanwhile: nothing
     // is written to one that has no name any more.
     fn measure(&mut self, name: &str) -> io::Result<u64> {
-        if self.keeps_handle {
-            self.measure_changed(name)
-        } else {
-            Ok(self.system.stat(self.path_of(name)?.as_str())?.len())
+        if !self.keeps_handle {
+            return Ok(self.system.stat(self.path_of(name)?.as_str())?.len());
         }
-    }
-
-    fn measure_changed(&mut self, name: &str) -> io::Result<u64> {
         let changed = self.handle_of(name)?;
-        let size = size_in(&changed.file.metadata()?)?;
+        let found = changed.file.metadata()?;
+        if found.nlink() == 0 {
+            return Err(io::Error::from(ErrorKind::NotFound));
+        }
         self.changed = Some(changed);
-        Ok(size)
+        Ok(found.len())
     }
 
     // Appends to a watched file. What others append meanwhile isn't taken for a part of it.
@@ -357,28 +344,16 @@ impl<'a, R: Files + AllocGlobal> HostFolder<'a, R> {
         answer
     }
 
-    // A file that is cut must be as it was left, and not shorter than what is to be left of it.
-    fn check_cut(&mut self, name: &str, found: &Metadata, len: u64) -> io::Result<()> {
-        self.check_left(name, found)?;
+    fn set_len(&mut self, name: &str, len: u64) -> io::Result<()> {
+        let changed = self.handle_of(name)?;
+        let found = changed.file.metadata()?;
+        self.check_left(name, &found)?;
         if found.len() < len {
             return Err(self.refuse(name, CHANGED));
         }
-        Ok(())
-    }
-
-    fn note_cut(&mut self, file: &Told<'a, R::File>) -> io::Result<()> {
-        if self.watches {
-            self.left = Some(FileState::of(&file.metadata()?));
-        }
-        Ok(())
-    }
-
-    fn set_len(&mut self, name: &str, len: u64) -> io::Result<()> {
-        let changed = self.handle_of(name)?;
-        self.check_cut(name, &changed.file.metadata()?, len)?;
         let answer = changed.file.set_len(len);
-        if answer.is_ok() {
-            self.note_cut(&changed.file)?;
+        if answer.is_ok() && self.watches {
+            self.left = Some(FileState::of(&changed.file.metadata()?));
         }
         self.changed = Some(changed);
         answer
@@ -454,6 +429,25 @@ impl<'a, R: Files + Clock + AllocGlobal + Clone + Drop> HostFolder<'a, R> {
     }
 }
 
+/// The path of a folder in another one, or of that one itself, if the name is empty.
+fn joined(alloc: Global, folder: &str, name: &str) -> Result<String, AllocError> {
+    if name.is_empty() {
+        String::from_str(alloc, folder)
+    } else if folder.ends_with('/') {
+        format!(in alloc; "{folder}{name}")
+    } else {
+        format!(in alloc; "{folder}/{name}")
+    }
+}
+
+/// The bytes of a file of this size. There is room for all of them at once: a Vec that grows as it is read
+/// has up to twice the file's size.
+fn bytes_in<F: Read>(file: &mut F, size: usize, alloc: Global) -> io::Result<Vec<u8>> {
+    let mut bytes = Vec::with_capacity(alloc, size.saturating_add(1))?;
+    file.read_to_end(&mut bytes)?;
+    Ok(bytes)
+}
+
 /// The size of a file and its ends.
 fn edges_in<F: Read + Seek>(file: &mut F, size: u64) -> io::Result<Edges> {
     let mut head = [0u8; 5];
@@ -482,15 +476,6 @@ fn piece_in<F: Read + Seek>(
         file.read_exact(&mut buf[..count])?;
     }
     Ok(count)
-}
-
-/// The size of an open file that has a name.
-fn size_in(found: &Metadata) -> io::Result<u64> {
-    if found.nlink() == 0 {
-        Err(io::Error::from(ErrorKind::NotFound))
-    } else {
-        Ok(found.len())
-    }
 }
 
 /// Whether a folder may hold others. Each of them links to it by its `..`, besides the folder's
