@@ -85,15 +85,6 @@ pub fn entry_in<T>(
     }
 }
 
-/// Removes a file that was left behind, if it can be.
-fn remove_left<R: Files + AllocGlobal>(system: &System<'_, R>, path: &str, now: SystemTime) {
-    if let Ok(file) = system.lstat(path) {
-        if is_left_behind(&file, now) {
-            let _ = system.unlink(path);
-        }
-    }
-}
-
 /// Removes the files of a folder whose names begin with `front` and end in the mark of a process, and
 /// that were left behind. One that can't be looked at or removed stays. No message that was delivered
 /// has such a name, so none is lost if the folder is a link to one of messages.
@@ -109,8 +100,13 @@ pub fn sweep<R: Files + Clock + AllocGlobal + Clone + Drop>(
             continue;
         };
         let name = entry.file_name();
-        if name.starts_with(front) && is_marked(name) {
-            remove_left(system, entry.path().as_str(), now);
+        if !name.starts_with(front) || !is_marked(name) {
+            continue;
+        }
+        if let Ok(file) = system.lstat(entry.path().as_str()) {
+            if is_left_behind(&file, now) {
+                let _ = system.unlink(entry.path().as_str());
+            }
         }
     }
     Ok(())
