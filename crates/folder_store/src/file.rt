@@ -24,7 +24,7 @@ use trace::System;
 /// and its name are flushed, so that no loss of power takes back what an earlier run wrote and this
 /// one relies on.
 #[derive(Drop)]
-pub struct HostFile<'a, F: FileFolder + Drop> {
+pub struct HostFile<'a, F> {
     folder: F,
     name: &'a str,
     appending: Appending,
@@ -33,6 +33,44 @@ pub struct HostFile<'a, F: FileFolder + Drop> {
     /// Where what is cut off is kept, if it is.
     rests: Option<Rests<'a, F>>,
     failures: FailureCount,
+}
+
+impl<'a, F> HostFile<'a, F> {
+    // The file of a name in a folder, and where is kept what is cut off from it.
+    fn made(
+        folder: F,
+        name: &'a str,
+        appending: Appending,
+        rests: Option<Rests<'a, F>>,
+    ) -> HostFile<'a, F>
+        ensures folder { result.folder ≡ folder }
+        ensures failures { result.failures ≡ 0 }
+    {
+        HostFile {
+            folder,
+            name,
+            appending,
+            is_flushed: false,
+            rests,
+            failures: FailureCount::new(),
+        }
+    }
+
+    /// Whether this run kept what it cut off, and appended nothing since that begins with it.
+    pub fn keeps_others(&self) -> bool {
+        match &self.rests {
+            Some(rests) => rests.has_others(),
+            None => false,
+        }
+    }
+
+    // The file in which it is kept what was cut off, if bytes that were appended since begin with all of it.
+    fn ours(&self) -> Option<(&F, &str)> {
+        match &self.rests {
+            Some(rests) => rests.ours(),
+            None => None,
+        }
+    }
 }
 
 impl<'a, F: FileFolder + Drop> HostFile<'a, F> {
@@ -53,36 +91,6 @@ impl<'a, F: FileFolder + Drop> HostFile<'a, F> {
             is_flushed: false,
             rests: None,
             failures: FailureCount::new(),
-        }
-    }
-
-    // The same, and what is cut off is kept in the file of another name, in another folder.
-    fn keeping_in(folder: F, name: &'a str, kept: F, rests: &'a str) -> HostFile<'a, F>
-        ensures { ⟦<HostFile<'a, F> as FlatFile>⟧.stored result ≡ stored_in (F.directory folder) name.now 0 }
-    {
-        HostFile {
-            folder,
-            name,
-            appending: Appending::AtOnce,
-            is_flushed: false,
-            rests: Some(Rests::over(kept, rests)),
-            failures: FailureCount::new(),
-        }
-    }
-
-    /// Whether this run kept what it cut off, and appended nothing since that begins with it.
-    pub fn keeps_others(&self) -> bool {
-        match &self.rests {
-            Some(rests) => rests.has_others(),
-            None => false,
-        }
-    }
-
-    // The file in which it is kept what was cut off, if bytes that were appended since begin with all of it.
-    fn ours(&self) -> Option<(&F, &str)> {
-        match &self.rests {
-            Some(rests) => rests.ours(),
-            None => None,
         }
     }
 
@@ -147,10 +155,11 @@ impl<'a, R: Files + AllocGlobal> HostFile<'a, HostFolder<'a, R>> {
     ) -> HostFile<'a, HostFolder<'a, R>>
         ensures { ⟦<HostFile<'a, HostFolder<'a, R>> as FlatFile>⟧.stored result ≡ unknown_file }
     {
-        HostFile::over(
+        HostFile::made(
             HostFolder::around(system, path, mark, false),
             name_in(path),
             Appending::AtOnce,
+            None,
         )
     }
 
@@ -164,10 +173,11 @@ impl<'a, R: Files + AllocGlobal> HostFile<'a, HostFolder<'a, R>> {
     ) -> HostFile<'a, HostFolder<'a, R>>
         ensures { ⟦<HostFile<'a, HostFolder<'a, R>> as FlatFile>⟧.stored result ≡ unknown_file }
     {
-        HostFile::over(
+        HostFile::made(
             HostFolder::around(system, path, mark, true),
             name_in(path),
             Appending::ByBlocks,
+            None,
         )
     }
 
@@ -181,11 +191,12 @@ impl<'a, R: Files + AllocGlobal> HostFile<'a, HostFolder<'a, R>> {
     ) -> HostFile<'a, HostFolder<'a, R>>
         ensures { ⟦<HostFile<'a, HostFolder<'a, R>> as FlatFile>⟧.stored result ≡ unknown_file }
     {
-        HostFile::keeping_in(
+        let kept = HostFolder::around(system, rests, mark, false);
+        HostFile::made(
             HostFolder::around(system, path, mark, false),
             name_in(path),
-            HostFolder::around(system, rests, mark, false),
-            name_in(rests),
+            Appending::AtOnce,
+            Some(Rests::over(kept, name_in(rests))),
         )
     }
 

@@ -25,7 +25,7 @@ fn begins_with(entry: &[u8], kept: &[u8]) -> bool
 /// need be none. It is never written over: what is kept comes after what is there, without what a
 /// refused or killed cut kept of the same octets.
 #[derive(Drop)]
-pub struct Rests<'a, F: FileFolder + Drop> {
+pub struct Rests<'a, F> {
     folder: F,
     name: &'a str,
     /// Whether the last bytes that were appended to the other file were refused: what is cut off next
@@ -39,7 +39,7 @@ pub struct Rests<'a, F: FileFolder + Drop> {
     are_ours: bool,
 }
 
-impl<'a, F: FileFolder + Drop> Rests<'a, F> {
+impl<'a, F> Rests<'a, F> {
     /// The file of a name in a folder.
     pub fn over(folder: F, name: &'a str) -> Rests<'a, F> {
         Rests {
@@ -65,7 +65,9 @@ impl<'a, F: FileFolder + Drop> Rests<'a, F> {
             None
         }
     }
+}
 
+impl<'a, F: FileFolder + Drop> Rests<'a, F> {
     // The size of the file, which is made unless it is there.
     fn make(&mut self) -> Result<u64, StoreFault> {
         match self.folder.edges(self.name) {
