@@ -5,7 +5,7 @@ use Rattle.std.proofs.Math.Bool.{or-true}
 use Rattle.mail_terms.specs.MaildirName.{base}
 use Rattle.mail_store.specs.declared.fault.StoreFault.{StoreFault}
 use Rattle.mail_store.specs.FileName.{stem}
-use Rattle.mail_store.specs.Maildir.{Maildir, File}
+use Rattle.mail_store.specs.Maildir.{File}
 use Rattle.mail_store.specs.Power.{FlushedOutlive, is_among}
 use Rattle.folder_store.specs.MailFolders.{MailFile, Directories, KeepsFile, Each, files_at, mail_at, maildir_in}
 use Rattle.folder_store.specs.MailPower.{OutlivesIn, StaysIn}

@@ -4,12 +4,13 @@ ghost use Rattle.std.specs.Prelude.{◌≡◌};
 ghost use Rattle.std.specs.Duration.{as_nanos};
 ghost use Rattle.folder_store.specs.ExactListing.{IsListing, left_of};
 
+use crate::system::entry_in;
+use std::alloc::{AllocError, Global};
 use std::fs::Metadata;
-use std::io::{self, ErrorKind};
 use std::os::unix::fs::MetadataExt;
 use std::rt::Files;
 use std::time::{Clock, Duration};
-use std::{fs, thread};
+use std::{fs, io, thread};
 use trace::System;
 
 /// How many milliseconds a folder must be unchanged before it is listed, so that each later change
@@ -142,6 +143,14 @@ fn listing_of(before: ChangeTime, after: ChangeTime, passed: Duration) -> Listin
     }
 }
 
+/// Appends a name, unless it begins with a full stop.
+fn add_name(names: &mut Vec<String>, name: &str, alloc: Global) -> Result<(), AllocError> {
+    if !name.starts_with('.') {
+        names.push(String::from_str(alloc, name)?)?;
+    }
+    Ok(())
+}
+
 /// The names that one pass through a folder finds. If names change meanwhile, the system may leave
 /// out a file that is there all the time; and on tmpfs it finds a renamed file again, so a pass
 /// ends early once the folder isn't as it was seen.
@@ -161,14 +170,8 @@ fn pass_through<R: Files + Clock + AllocGlobal + Clone + Drop>(
             }
             until_look = LOOK_EACH;
         }
-        let entry = match entry {
-            Ok(entry) => entry,
-            Err(fault) if fault.kind() == ErrorKind::InvalidFilename => continue,
-            Err(fault) => return system.refusals.told("read", path, Err(fault)),
-        };
-        let name = entry.file_name();
-        if !name.starts_with('.') {
-            names.push(String::from_str(system.alloc(), name)?)?;
+        if let Some(entry) = entry_in(system.refusals, path, entry)? {
+            add_name(&mut names, entry.file_name(), system.alloc())?;
         }
     }
     Ok(names)

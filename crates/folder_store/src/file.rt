@@ -24,7 +24,7 @@ use trace::System;
 /// and its name are flushed, so that no loss of power takes back what an earlier run wrote and this
 /// one relies on.
 #[derive(Drop)]
-pub struct HostFile<'a, F: FileFolder + Drop> {
+pub struct HostFile<'a, F> {
     folder: F,
     name: &'a str,
     appending: Appending,
@@ -33,6 +33,44 @@ pub struct HostFile<'a, F: FileFolder + Drop> {
     /// Where what is cut off is kept, if it is.
     rests: Option<Rests<'a, F>>,
     failures: FailureCount,
+}
+
+impl<'a, F> HostFile<'a, F> {
+    // The file of a name in a folder, and where is kept what is cut off from it.
+    fn made(
+        folder: F,
+        name: &'a str,
+        appending: Appending,
+        rests: Option<Rests<'a, F>>,
+    ) -> HostFile<'a, F>
+        ensures folder { result.folder ≡ folder }
+        ensures failures { result.failures ≡ 0 }
+    {
+        HostFile {
+            folder,
+            name,
+            appending,
+            is_flushed: false,
+            rests,
+            failures: FailureCount::new(),
+        }
+    }
+
+    /// Whether this run kept what it cut off, and appended nothing since that begins with it.
+    pub fn keeps_others(&self) -> bool {
+        match &self.rests {
+            Some(rests) => rests.has_others(),
+            None => false,
+        }
+    }
+
+    // The file in which it is kept what was cut off, if bytes that were appended since begin with all of it.
+    fn ours(&self) -> Option<(&F, &str)> {
+        match &self.rests {
+            Some(rests) => rests.ours(),
+            None => None,
+        }
+    }
 }
 
 impl<'a, F: FileFolder + Drop> HostFile<'a, F> {
@@ -101,7 +139,7 @@ impl<'a, F: FileFolder + Drop> HostFile<'a, F> {
     }
 }
 
-impl<'a, R: Files + Clock + AllocGlobal + Clone + Drop> HostFile<'a, HostFolder<'a, R>> {
+impl<'a, R: Files + AllocGlobal> HostFile<'a, HostFolder<'a, R>> {
     ghost use Rattle.folder_store.specs.HostFile.{unknown_file};
 
     /// The file at a path, absolute or taken from the working folder. There need be none. What is
@@ -117,10 +155,11 @@ impl<'a, R: Files + Clock + AllocGlobal + Clone + Drop> HostFile<'a, HostFolder<
     ) -> HostFile<'a, HostFolder<'a, R>>
         ensures { ⟦<HostFile<'a, HostFolder<'a, R>> as FlatFile>⟧.stored result ≡ unknown_file }
     {
-        HostFile::over(
+        HostFile::made(
             HostFolder::around(system, path, mark, false),
             name_in(path),
             Appending::AtOnce,
+            None,
         )
     }
 
@@ -134,10 +173,11 @@ impl<'a, R: Files + Clock + AllocGlobal + Clone + Drop> HostFile<'a, HostFolder<
     ) -> HostFile<'a, HostFolder<'a, R>>
         ensures { ⟦<HostFile<'a, HostFolder<'a, R>> as FlatFile>⟧.stored result ≡ unknown_file }
     {
-        HostFile::over(
+        HostFile::made(
             HostFolder::around(system, path, mark, true),
             name_in(path),
             Appending::ByBlocks,
+            None,
         )
     }
 
@@ -152,35 +192,24 @@ impl<'a, R: Files + Clock + AllocGlobal + Clone + Drop> HostFile<'a, HostFolder<
         ensures { ⟦<HostFile<'a, HostFolder<'a, R>> as FlatFile>⟧.stored result ≡ unknown_file }
     {
         let kept = HostFolder::around(system, rests, mark, false);
-        HostFile {
-            folder: HostFolder::around(system, path, mark, false),
-            name: name_in(path),
-            appending: Appending::AtOnce,
-            is_flushed: false,
-            rests: Some(Rests::over(kept, name_in(rests))),
-            failures: FailureCount::new(),
-        }
-    }
-
-    /// Whether this run kept what it cut off, and appended nothing since that begins with it.
-    pub fn keeps_others(&self) -> bool {
-        match &self.rests {
-            Some(rests) => rests.has_others(),
-            None => false,
-        }
+        HostFile::made(
+            HostFolder::around(system, path, mark, false),
+            name_in(path),
+            Appending::AtOnce,
+            Some(Rests::over(kept, name_in(rests))),
+        )
     }
 
     /// Removes the file in which it is kept what was cut off, if bytes that were appended since begin
     /// with all of it.
     pub fn drop_ours(&self) {
-        if let Some(rests) = &self.rests {
-            if rests.are_ours() {
-                let (folder, name) = rests.place();
-                folder.remove(name);
-            }
+        if let Some((folder, name)) = self.ours() {
+            folder.remove(name);
         }
     }
+}
 
+impl<'a, R: Files + Clock + AllocGlobal + Clone + Drop> HostFile<'a, HostFolder<'a, R>> {
     /// Removes the files that `replace` of killed runs left beside this one: those that weren't changed
     /// for an hour. What can't be removed stays.
     pub fn sweep(&self) {

@@ -6,35 +6,18 @@ ghost use Rattle.folder_store.specs.FileFolder.{unknown_directory};
 
 use crate::device::FileFolder;
 use crate::exact_listing::{FolderNames, list_names};
-use crate::file_state::{FileState, write_counted};
+use crate::handles::{Changed, Handles, bytes_in, piece_in};
+use crate::host_paths::HostPaths;
 use crate::process_mark::ProcessMark;
-use crate::system::{flush_folder, folder_of, make_file, sweep};
+use crate::system::{folder_of, make_file, sweep};
 use mail_store::{Edges, StoreFault};
 use std::alloc::Global;
 use std::fs::{Metadata, OpenFile, OpenOptions};
-use std::io;
-use std::io::{ErrorKind, Read, Seek, SeekFrom, Write};
+use std::io::{self, ErrorKind};
 use std::os::unix::fs::MetadataExt;
 use std::rt::Files;
 use std::time::Clock;
 use trace::{Refusals, System, Told};
-
-/// Why a watched file isn't used any more.
-const CHANGED: &str = "changed by another program";
-
-/// A file that was made, and its path.
-#[derive(Drop)]
-struct Made<F: Drop> {
-    file: F,
-    path: String,
-}
-
-/// The handle by which a file is changed, which appends, and the file's name.
-#[derive(Drop)]
-struct Changed<F: Drop> {
-    file: F,
-    name: String,
-}
 
 /// A folder of the machine's file system. Nothing is known of what the system does. Each call asks the
 /// system for one or two things, so that a reader can compare it with what the trait says.
@@ -43,31 +26,13 @@ struct Changed<F: Drop> {
 /// mark until it is put into the folder, so that no other run writes it. The listing is exact although
 /// others rename files meanwhile.
 #[derive(Drop)]
-pub struct HostFolder<'a, R: Files + Clock + AllocGlobal + Clone + Drop> {
+pub struct HostFolder<'a, R: Files> {
     system: &'a System<'a, R>,
-    /// The path that those of the next two folders begin with.
-    base: &'a str,
-    /// The folder, empty if it is that of the path.
-    folder: &'a str,
-    /// The folder in which files are made, likewise.
-    scratch: &'a str,
-    /// What comes after the name of a file that is made, before the mark.
-    suffix: &'a str,
-    mark: ProcessMark,
-    made: Option<Made<Told<'a, R::File>>>,
-    changed: Option<Changed<Told<'a, R::File>>>,
-    /// Whether the handle of the file that was changed last is kept for its next change.
-    keeps_handle: bool,
-    /// Whether the one file that is used here is watched: it is neither measured nor changed once another
-    /// program has changed it.
-    watches: bool,
-    /// How the watched file was seen first, or left by the last change here.
-    left: Option<FileState>,
-    /// The folder itself, from its first flush on.
-    names: Option<Told<'a, R::File>>,
+    paths: HostPaths<'a>,
+    handles: Handles<Told<'a, R::File>>,
 }
 
-impl<'a, R: Files + Clock + AllocGlobal + Clone + Drop> HostFolder<'a, R> {
+impl<'a, R: Files + AllocGlobal> HostFolder<'a, R> {
     /// A folder of the Maildir at a path, absolute or taken from the working folder. Files are made in
     /// the Maildir's folder `tmp`.
     pub fn of_maildir(
@@ -80,17 +45,16 @@ impl<'a, R: Files + Clock + AllocGlobal + Clone + Drop> HostFolder<'a, R> {
     {
         HostFolder {
             system,
-            base: path,
-            folder,
-            scratch: "tmp",
-            suffix: "",
-            mark,
-            made: None,
-            changed: None,
-            keeps_handle: false,
-            watches: false,
-            left: None,
-            names: None,
+            paths: HostPaths {
+                alloc: system.alloc(),
+                refusals: system.refusals,
+                base: path,
+                folder,
+                scratch: "tmp",
+                suffix: "",
+                mark,
+            },
+            handles: Handles::new(false, false),
         }
     }
 
@@ -109,31 +73,22 @@ impl<'a, R: Files + Clock + AllocGlobal + Clone + Drop> HostFolder<'a, R> {
     {
         HostFolder {
             system,
-            base: folder_of(path),
-            folder: "",
-            scratch: "",
-            suffix: ".tmp",
-            mark,
-            made: None,
-            changed: None,
-            keeps_handle,
-            watches: !keeps_handle,
-            left: None,
-            names: None,
-        }
-    }
-
-    /// Removes the files whose names begin with `front` that killed runs left behind: those that
-    /// weren't changed for an hour. What can't be removed stays.
-    pub fn sweep(&self, front: &str) {
-        if let Ok(path) = self.folder_path(self.scratch) {
-            let _ = sweep(self.system, path.as_str(), front);
+            paths: HostPaths {
+                alloc: system.alloc(),
+                refusals: system.refusals,
+                base: folder_of(path),
+                folder: "",
+                scratch: "",
+                suffix: ".tmp",
+                mark,
+            },
+            handles: Handles::new(keeps_handle, !keeps_handle),
         }
     }
 
     /// Removes a file, if it can be.
     pub fn remove(&self, name: &str) {
-        if let Ok(path) = self.path_of(name) {
+        if let Ok(path) = self.paths.path_of(name) {
             let _ = self.system.unlink(path.as_str());
         }
     }
@@ -143,65 +98,25 @@ impl<'a, R: Files + Clock + AllocGlobal + Clone + Drop> HostFolder<'a, R> {
         self.system.alloc()
     }
 
-    // The path of a folder.
-    fn folder_path(&self, folder: &str) -> io::Result<String> {
-        let base = self.base;
-        Ok(if folder.is_empty() {
-            String::from_str(self.system.alloc(), base)?
-        } else if base.ends_with('/') {
-            format!(in self.system.alloc(); "{base}{folder}")?
-        } else {
-            format!(in self.system.alloc(); "{base}/{folder}")?
-        })
-    }
-
-    // The path of a file in a folder.
-    fn file_path(&self, folder: &str, name: &str) -> io::Result<String> {
-        let mut path = self.folder_path(folder)?;
-        if !path.ends_with('/') {
-            path.push('/')?;
-        }
-        path.push_str(name)?;
-        Ok(path)
-    }
-
-    fn path_of(&self, name: &str) -> io::Result<String> {
-        self.file_path(self.folder, name)
-    }
-
     // The path of a regular file, or of a link to one. Nothing else is opened: a pipe that nobody
     // writes to would be waited for. The system itself refuses a folder, with its reason.
     fn regular_path(&self, name: &str) -> io::Result<String> {
-        let path = self.path_of(name)?;
+        let path = self.paths.path_of(name)?;
         let found = self.system.stat(path.as_str())?;
         if !found.is_file() && !found.is_dir() {
-            return Err(self.refuse(name, "not a regular file"));
+            return Err(self.paths.refuse(name, "not a regular file"));
         }
         Ok(path)
     }
 
-    // An error for a file that isn't as it has to be, with the reason.
-    fn refuse(&self, name: &str, words: &str) -> io::Error {
-        match self.path_of(name) {
-            Ok(path) => self.system.refusals.refuse(path.as_str(), words),
-            Err(error) => error,
-        }
-    }
-
-    // The names of the folder's files. A name that begins with a full stop or isn't UTF-8 is skipped,
-    // and so is a folder. The system is asked what each name stands for only if a folder may be
-    // among them, since that takes longer than all else.
-    pub(crate) fn read_names(&self) -> io::Result<FolderNames> {
-        let mut found = list_names(self.system, self.folder_path(self.folder)?.as_str())?;
-        if may_hold_folders(&found.folder) {
-            found.names = self.files_among(found.names)?;
-        }
-        Ok(found)
+    // The regular file of a name, opened to be read.
+    fn open_regular(&self, name: &str) -> io::Result<Told<'a, R::File>> {
+        self.system.open(self.regular_path(name)?.as_str())
     }
 
     // The folder's metadata.
     pub(crate) fn look_at_folder(&self) -> io::Result<Metadata> {
-        self.system.stat(self.folder_path(self.folder)?.as_str())
+        self.system.stat(self.paths.folder_path()?.as_str())
     }
 
     // Whether a name leads to a file.
@@ -218,8 +133,7 @@ impl<'a, R: Files + Clock + AllocGlobal + Clone + Drop> HostFolder<'a, R> {
     fn files_among(&self, found: Vec<String>) -> io::Result<Vec<String>> {
         let mut names = Vec::with_capacity(self.system.alloc(), found.len())?;
         for name in found {
-            let path = self.path_of(name.as_str())?;
-            if !is_folder(self.system.lstat(path.as_str()))? {
+            if !is_folder(self.look_up(name.as_str()))? {
                 names.push(name)?;
             }
         }
@@ -228,113 +142,58 @@ impl<'a, R: Files + Clock + AllocGlobal + Clone + Drop> HostFolder<'a, R> {
 
     // Notes why the folder isn't used.
     pub(crate) fn refuse_folder(&self, words: &str) {
-        match self.folder_path(self.folder) {
-            Ok(path) => {
-                let _ = self.system.refusals.refuse(path.as_str(), words);
-            }
-            Err(_) => self.system.refusals.forget(),
-        }
+        self.paths.refuse_folder(words)
     }
 
     fn look_up(&self, name: &str) -> io::Result<Metadata> {
-        self.system.lstat(self.path_of(name)?.as_str())
+        self.system.lstat(self.paths.path_of(name)?.as_str())
     }
 
     fn make_marked(&mut self, name: &str) -> io::Result<()> {
-        let alloc = self.system.alloc();
-        let suffix = self.suffix;
-        let title = format!(in alloc; "{name}{suffix}")?;
-        let title = self.mark.marked(alloc, title.as_str())?;
-        let path = self.file_path(self.scratch, title.as_str())?;
+        let path = self.paths.made_path(name)?;
         let file = make_file(self.system, path.as_str())?;
-        self.made = Some(Made { file, path });
+        self.handles.take_in(file, path);
         Ok(())
     }
 
     fn rename_made(&mut self, name: &str) -> io::Result<()> {
-        let to = self.path_of(name)?;
-        let Some(made) = &self.made else {
+        let to = self.paths.path_of(name)?;
+        if !self.handles.begin_put() {
             return Err(io::Error::from(ErrorKind::InvalidInput));
-        };
-        self.changed = None;
-        self.left = None;
-        self.system.rename(made.path.as_str(), to.as_str())?;
-        self.made = None;
+        }
+        if let Some(path) = self.handles.made_path() {
+            self.system.rename(path, to.as_str())?;
+        }
+        self.handles.close_made();
         Ok(())
     }
 
     fn read_all(&self, name: &str) -> io::Result<Vec<u8>> {
-        let mut file = self.system.open(self.regular_path(name)?.as_str())?;
-        // Room for all of it at once: a Vec that grows as it is read has up to twice the file's size.
-        let size = file.metadata()?.len() as usize;
-        let mut bytes = Vec::with_capacity(self.system.alloc(), size.saturating_add(1))?;
-        file.read_to_end(&mut bytes)?;
-        Ok(bytes)
-    }
-
-    // A watched file must be as it was left.
-    fn check_left(&mut self, name: &str, found: &Metadata) -> io::Result<()> {
-        if !self.watches {
-            return Ok(());
-        }
-        let state = FileState::of(found);
-        let left = self.left.unwrap_or(state);
-        if left != state {
-            return Err(self.refuse(name, CHANGED));
-        }
-        self.left = Some(state);
-        Ok(())
-    }
-
-    // Takes note of a watched file after a change that added `more` octets to it, or none. If its size
-    // isn't what that left, another program has changed it too.
-    fn note_change(&mut self, name: &str, file: &Told<'a, R::File>, more: u64) -> io::Result<()> {
-        let Some(left) = self.left else {
-            return Ok(());
-        };
-        let state = FileState::of(&file.metadata()?);
-        if !state.grew_by(left, more) {
-            return Err(self.refuse(name, CHANGED));
-        }
-        self.left = Some(state);
-        Ok(())
+        let mut file = self.open_regular(name)?;
+        bytes_in(&mut file, self.system.alloc())
     }
 
     fn read_edges(&mut self, name: &str) -> io::Result<Edges> {
-        let mut file = self.system.open(self.regular_path(name)?.as_str())?;
-        let found = file.metadata()?;
-        self.check_left(name, &found)?;
-        let size = found.len();
-        let mut head = [0u8; 5];
-        let mut tail = [0u8; 2];
-        let in_head = size.min(5) as usize;
-        let in_tail = size.min(2) as usize;
-        file.read_exact(&mut head[..in_head])?;
-        file.seek(SeekFrom::Start(size - in_tail as u64))?;
-        file.read_exact(&mut tail[2 - in_tail..])?;
-        Ok(Edges { size, head, tail })
+        let mut file = self.open_regular(name)?;
+        self.handles.edges(&self.paths, name, &mut file)
     }
 
     fn read_piece(&self, name: &str, start: u64, buf: &mut [u8]) -> io::Result<usize>
         ensures { IfOk result (λ count. count ≤ length buf.new) }
     {
-        let mut file = self.system.open(self.regular_path(name)?.as_str())?;
-        let there = file.metadata()?.len().saturating_sub(start);
-        let count = there.min(buf.len() as u64) as usize;
-        if count > 0 {
-            file.seek(SeekFrom::Start(start))?;
-            file.read_exact(&mut buf[..count])?;
-        }
-        Ok(count)
+        let mut file = self.open_regular(name)?;
+        piece_in(&mut file, start, buf)
     }
 
     // The handle kept from the file's last change, or a new one.
     fn handle_of(&mut self, name: &str) -> io::Result<Changed<Told<'a, R::File>>> {
-        if let Some(changed) = self.changed.take() {
-            if self.keeps_handle && changed.name.as_str() == name {
-                return Ok(changed);
-            }
+        match self.handles.take_kept(name) {
+            Some(changed) => Ok(changed),
+            None => self.open_changed(name),
         }
+    }
+
+    fn open_changed(&self, name: &str) -> io::Result<Changed<Told<'a, R::File>>> {
         let title = String::from_str(self.system.alloc(), name)?;
         let path = self.regular_path(name)?;
         let file = self
@@ -343,77 +202,31 @@ impl<'a, R: Files + Clock + AllocGlobal + Clone + Drop> HostFolder<'a, R> {
         Ok(Changed { file, name: title })
     }
 
-    // A handle that is kept tells the size too, and whether the file was removed meanwhile: nothing
-    // is written to one that has no name any more.
     fn measure(&mut self, name: &str) -> io::Result<u64> {
-        if !self.keeps_handle {
-            return Ok(self.system.stat(self.path_of(name)?.as_str())?.len());
+        if !self.handles.keeps_handle() {
+            return Ok(self.system.stat(self.paths.path_of(name)?.as_str())?.len());
         }
         let changed = self.handle_of(name)?;
-        let found = changed.file.metadata()?;
-        if found.nlink() == 0 {
-            return Err(io::Error::from(ErrorKind::NotFound));
-        }
-        self.changed = Some(changed);
-        Ok(found.len())
-    }
-
-    // Appends to a watched file. What others append meanwhile isn't taken for a part of it.
-    fn write_watched(
-        &mut self,
-        name: &str,
-        file: &mut Told<'a, R::File>,
-        bytes: &[u8],
-    ) -> io::Result<()> {
-        self.check_left(name, &file.metadata()?)?;
-        let (count, answer) = write_counted(file, bytes);
-        self.note_change(name, file, count)?;
-        answer
+        self.handles.measure(changed)
     }
 
     fn write_behind(&mut self, name: &str, bytes: &[u8]) -> io::Result<()> {
-        let mut changed = self.handle_of(name)?;
-        let answer = if self.watches {
-            self.write_watched(name, &mut changed.file, bytes)
-        } else {
-            changed.file.write_all(bytes)
-        };
-        self.changed = Some(changed);
-        answer
+        let changed = self.handle_of(name)?;
+        self.handles.append(&self.paths, name, changed, bytes)
     }
 
     fn set_len(&mut self, name: &str, len: u64) -> io::Result<()> {
         let changed = self.handle_of(name)?;
-        let found = changed.file.metadata()?;
-        self.check_left(name, &found)?;
-        if found.len() < len {
-            return Err(self.refuse(name, CHANGED));
-        }
-        let answer = changed.file.set_len(len);
-        if answer.is_ok() && self.watches {
-            self.left = Some(FileState::of(&changed.file.metadata()?));
-        }
-        self.changed = Some(changed);
-        answer
+        self.handles.set_len(&self.paths, name, changed, len)
     }
 
     // The file that was changed last is flushed by the handle that changed it: the system may
-    // report a fault to no other. After a fault that handle isn't used again.
+    // report a fault to no other.
     fn sync(&mut self, name: &str) -> io::Result<()> {
-        if let Some(changed) = self.changed.take() {
-            if changed.name.as_str() == name {
-                changed.file.sync_all()?;
-                // Some systems set the time of change only now.
-                self.note_change(name, &changed.file, 0)?;
-                if self.keeps_handle {
-                    self.changed = Some(changed);
-                }
-                return Ok(());
-            }
+        if self.handles.sync(&self.paths, name)? {
+            return Ok(());
         }
-        self.system
-            .open(self.regular_path(name)?.as_str())?
-            .sync_all()
+        self.open_regular(name)?.sync_all()
     }
 
     // Flushes a file's bytes, and says whether there was such a file.
@@ -438,13 +251,32 @@ impl<'a, R: Files + Clock + AllocGlobal + Clone + Drop> HostFolder<'a, R> {
 
     // The folder is opened once, and again after a fault.
     pub(crate) fn sync_names(&mut self) -> io::Result<()> {
-        let folder = match self.names.take() {
+        let folder = match self.handles.take_names() {
             Some(folder) => folder,
-            None => self.system.open(self.folder_path(self.folder)?.as_str())?,
+            None => self.system.open(self.paths.folder_path()?.as_str())?,
         };
-        flush_folder(&folder, self.system.refusals)?;
-        self.names = Some(folder);
-        Ok(())
+        self.handles.sync_names(folder, self.system.refusals)
+    }
+}
+
+impl<'a, R: Files + Clock + AllocGlobal + Clone + Drop> HostFolder<'a, R> {
+    /// Removes the files whose names begin with `front` that killed runs left behind: those that
+    /// weren't changed for an hour. What can't be removed stays.
+    pub fn sweep(&self, front: &str) {
+        if let Ok(path) = self.paths.scratch_path() {
+            let _ = sweep(self.system, path.as_str(), front);
+        }
+    }
+
+    // The names of the folder's files. A name that begins with a full stop or isn't UTF-8 is skipped,
+    // and so is a folder. The system is asked what each name stands for only if a folder may be
+    // among them, since that takes longer than all else.
+    pub(crate) fn read_names(&self) -> io::Result<FolderNames> {
+        let mut found = list_names(self.system, self.paths.folder_path()?.as_str())?;
+        if may_hold_folders(&found.folder) {
+            found.names = self.files_among(found.names)?;
+        }
+        Ok(found)
     }
 }
 
@@ -484,7 +316,7 @@ pub(crate) fn told<T>(refusals: &Refusals, answer: io::Result<T>) -> Result<T, S
     }
 }
 
-impl<'a, R: Files + Clock + AllocGlobal + Clone + Drop> FileFolder for HostFolder<'a, R> {
+impl<'a, R: Files + AllocGlobal> FileFolder for HostFolder<'a, R> {
     ghost use Rattle.folder_store.specs.FileFolder.{unknown_directory};
 
     ghost directory = { λ _. unknown_directory };
@@ -497,17 +329,17 @@ impl<'a, R: Files + Clock + AllocGlobal + Clone + Drop> FileFolder for HostFolde
     }
 
     fn write(&mut self, bytes: &[u8]) -> Result<(), StoreFault> {
-        match &mut self.made {
-            Some(made) => told(self.system.refusals, made.file.write_all(bytes)),
+        match self.handles.write_made(bytes) {
+            Some(answer) => told(self.system.refusals, answer),
             None => Err(StoreFault::Refused),
         }
     }
 
     fn flush_made(&mut self) -> Result<(), StoreFault> {
-        let Some(made) = &self.made else {
+        let Some(answer) = self.handles.sync_made() else {
             return Err(StoreFault::Refused);
         };
-        let answer = told(self.system.refusals, made.file.sync_all());
+        let answer = told(self.system.refusals, answer);
         if answer.is_err() {
             self.discard();
         }
@@ -519,9 +351,10 @@ impl<'a, R: Files + Clock + AllocGlobal + Clone + Drop> FileFolder for HostFolde
     }
 
     fn discard(&mut self) {
-        if let Some(made) = self.made.take() {
-            let _ = self.system.unlink(made.path.as_str());
+        if let Some(path) = self.handles.made_path() {
+            let _ = self.system.unlink(path);
         }
+        self.handles.close_made();
     }
 
     fn read(&mut self, name: &str) -> Result<Vec<u8>, StoreFault> {

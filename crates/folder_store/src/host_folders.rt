@@ -23,7 +23,7 @@ const MOST_PASSES: u32 = 8;
 
 /// A folder, and its time of change when it was last listed.
 #[derive(Drop)]
-struct ListedFolder<'a, R: Files + Clock + AllocGlobal + Clone + Drop> {
+struct ListedFolder<'a, R: Files> {
     host: HostFolder<'a, R>,
     change: Option<ChangeTime>,
 }
@@ -32,7 +32,7 @@ struct ListedFolder<'a, R: Files + Clock + AllocGlobal + Clone + Drop> {
 /// Nothing is known of what the system does. Each call asks the system for one or two things, so that
 /// a reader can compare it with what the trait says.
 #[derive(Drop)]
-pub struct HostFolders<'a, R: Files + Clock + AllocGlobal + Clone + Drop> {
+pub struct HostFolders<'a, R: Files> {
     system: &'a System<'a, R>,
     new_folder: ListedFolder<'a, R>,
     cur_folder: ListedFolder<'a, R>,
@@ -40,7 +40,7 @@ pub struct HostFolders<'a, R: Files + Clock + AllocGlobal + Clone + Drop> {
     start: Duration,
 }
 
-impl<'a, R: Files + Clock + AllocGlobal + Clone + Drop> ListedFolder<'a, R> {
+impl<'a, R: Files + AllocGlobal> ListedFolder<'a, R> {
     fn of_maildir(
         system: &'a System<'a, R>,
         path: &'a str,

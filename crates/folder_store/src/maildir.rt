@@ -23,11 +23,28 @@ use trace::System;
 /// delivered text outlives a loss of power. The names of both folders are flushed before they are
 /// returned, so that no loss of power takes one back.
 #[derive(Drop)]
-pub struct FolderMaildir<F: MailFolders + Drop> {
+pub struct FolderMaildir<F> {
     alloc: Global,
     folders: F,
     begun: Option<String>,
     failures: FailureCount,
+}
+
+impl<F> FolderMaildir<F> {
+    ghost use Rattle.std.specs.Prelude.{None};
+
+    fn made(alloc: Global, folders: F) -> FolderMaildir<F>
+        ensures folders { result.folders ≡ folders }
+        ensures begun { result.begun ≡ None }
+        ensures failures { result.failures ≡ 0 }
+    {
+        FolderMaildir {
+            alloc,
+            folders,
+            begun: None,
+            failures: FailureCount::new(),
+        }
+    }
 }
 
 impl<F: MailFolders + Drop> FolderMaildir<F> {
@@ -38,12 +55,7 @@ impl<F: MailFolders + Drop> FolderMaildir<F> {
     pub fn over(alloc: Global, folders: F) -> FolderMaildir<F>
         ensures { ⟦<FolderMaildir<F> as MaildirDisk>⟧.maildir result ≡ maildir_in (F.directories folders) None 0 }
     {
-        FolderMaildir {
-            alloc,
-            folders,
-            begun: None,
-            failures: FailureCount::new(),
-        }
+        FolderMaildir::made(alloc, folders)
     }
 
     /// Gives the folders back.
@@ -72,7 +84,7 @@ impl<'a, R: Files + Clock + AllocGlobal + Clone + Drop> FolderMaildir<HostFolder
     ) -> FolderMaildir<HostFolders<'a, R>>
         ensures { ⟦<FolderMaildir<HostFolders<'a, R>> as MaildirDisk>⟧.maildir result ≡ unknown_maildir }
     {
-        FolderMaildir::over(system.alloc(), HostFolders::of_maildir(system, path, mark))
+        FolderMaildir::made(system.alloc(), HostFolders::of_maildir(system, path, mark))
     }
 
     /// Removes from `tmp` the files of an account that killed runs left behind: those that weren't

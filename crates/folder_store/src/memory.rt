@@ -243,28 +243,31 @@ impl Kept {
         }
     }
 
-    fn appended(&self, bytes: &[u8]) -> Result<Kept, AllocError>
-        ensures { IfOk result (λ kept. blob_of kept ≡ appended (blob_of self.now) bytes.now) }
+    fn copy(&self) -> Result<Kept, AllocError>
+        ensures { IfOk result (λ kept. blob_of kept ≡ blob_of self.now) }
     {
-        let mut content = self.content.clone()?;
-        content.extend_from_slice(bytes)?;
         Ok(Kept {
-            content,
+            content: self.content.clone()?,
             flushed: self.flushed.clone()?,
             uncut: self.uncut,
         })
     }
 
+    fn appended(&self, bytes: &[u8]) -> Result<Kept, AllocError>
+        ensures { IfOk result (λ kept. blob_of kept ≡ appended (blob_of self.now) bytes.now) }
+    {
+        let mut kept = self.copy()?;
+        kept.content.extend_from_slice(bytes)?;
+        Ok(kept)
+    }
+
     fn cut(&self, len: usize) -> Result<Kept, AllocError>
         ensures { IfOk result (λ kept. blob_of kept ≡ cut (blob_of self.now) len) }
     {
-        let mut content = self.content.clone()?;
-        content.truncate(len);
-        Ok(Kept {
-            content,
-            flushed: self.flushed.clone()?,
-            uncut: len.min(self.uncut),
-        })
+        let mut kept = self.copy()?;
+        kept.content.truncate(len);
+        kept.uncut = len.min(self.uncut);
+        Ok(kept)
     }
 
     fn flushed(&self) -> Result<Kept, AllocError>

@@ -243,27 +243,32 @@ impl KeptMail {
         self.is_named || self.touches(folder)
     }
 
+    fn copy(&self) -> Result<KeptMail, AllocError>
+        ensures { IfOk result (λ kept. mail_file kept ≡ mail_file self.now) }
+    {
+        Ok(KeptMail {
+            is_new: self.is_new,
+            name: self.name.clone()?,
+            content: self.content.clone()?,
+            is_flushed: self.is_flushed,
+            is_named: self.is_named,
+            left_new: self.left_new,
+            left_cur: self.left_cur,
+            is_gone: self.is_gone,
+        })
+    }
+
     // The file once the names of a folder were flushed.
     fn named_by(&self, folder: Folder) -> Result<KeptMail, AllocError>
         ensures { IfOk result (λ kept. mail_file kept ≡ named_by folder (mail_file self.now)) }
     {
-        let name = self.name.clone()?;
-        let content = self.content.clone()?;
-        let is_named = self.is_named_by(folder);
-        let (left_new, left_cur) = match folder {
-            Folder::New => (false, self.left_cur),
-            Folder::Cur => (self.left_new, false),
-        };
-        Ok(KeptMail {
-            is_new: self.is_new,
-            name,
-            content,
-            is_flushed: self.is_flushed,
-            is_named,
-            left_new,
-            left_cur,
-            is_gone: self.is_gone,
-        })
+        let mut kept = self.copy()?;
+        kept.is_named = self.is_named_by(folder);
+        match folder {
+            Folder::New => kept.left_new = false,
+            Folder::Cur => kept.left_cur = false,
+        }
+        Ok(kept)
     }
 
     // Whether its bytes are on the disk once files with these stems were flushed.
@@ -277,19 +282,9 @@ impl KeptMail {
     fn flushed_by(&self, stems: &[String]) -> Result<KeptMail, AllocError>
         ensures { IfOk result (λ kept. mail_file kept ≡ flushed_by stems.now (mail_file self.now)) }
     {
-        let name = self.name.clone()?;
-        let content = self.content.clone()?;
-        let is_flushed = self.is_flushed_by(stems);
-        Ok(KeptMail {
-            is_new: self.is_new,
-            name,
-            content,
-            is_flushed,
-            is_named: self.is_named,
-            left_new: self.left_new,
-            left_cur: self.left_cur,
-            is_gone: self.is_gone,
-        })
+        let mut kept = self.copy()?;
+        kept.is_flushed = self.is_flushed_by(stems);
+        Ok(kept)
     }
 
     // The file once a reader moved it to `new`, or to `cur` with a mark.

@@ -25,7 +25,7 @@ fn begins_with(entry: &[u8], kept: &[u8]) -> bool
 /// need be none. It is never written over: what is kept comes after what is there, without what a
 /// refused or killed cut kept of the same octets.
 #[derive(Drop)]
-pub struct Rests<'a, F: FileFolder + Drop> {
+pub struct Rests<'a, F> {
     folder: F,
     name: &'a str,
     /// Whether the last bytes that were appended to the other file were refused: what is cut off next
@@ -39,7 +39,7 @@ pub struct Rests<'a, F: FileFolder + Drop> {
     are_ours: bool,
 }
 
-impl<'a, F: FileFolder + Drop> Rests<'a, F> {
+impl<'a, F> Rests<'a, F> {
     /// The file of a name in a folder.
     pub fn over(folder: F, name: &'a str) -> Rests<'a, F> {
         Rests {
@@ -57,16 +57,17 @@ impl<'a, F: FileFolder + Drop> Rests<'a, F> {
         self.has_kept && !self.are_ours
     }
 
-    /// Whether bytes that were appended since have all that is kept.
-    pub fn are_ours(&self) -> bool {
-        self.are_ours
+    /// The folder and the name, if bytes that were appended since have all that is kept.
+    pub fn ours(&self) -> Option<(&F, &str)> {
+        if self.are_ours {
+            Some((&self.folder, self.name))
+        } else {
+            None
+        }
     }
+}
 
-    /// The folder and the name.
-    pub fn place(&self) -> (&F, &str) {
-        (&self.folder, self.name)
-    }
-
+impl<'a, F: FileFolder + Drop> Rests<'a, F> {
     // The size of the file, which is made unless it is there.
     fn make(&mut self) -> Result<u64, StoreFault> {
         match self.folder.edges(self.name) {

@@ -72,6 +72,19 @@ fn is_left_behind(file: &Metadata, now: SystemTime) -> bool {
     }
 }
 
+/// An entry of a folder that is read. None if its name isn't UTF-8.
+pub fn entry_in<T>(
+    refusals: &Refusals,
+    folder: &str,
+    entry: io::Result<T>,
+) -> io::Result<Option<T>> {
+    match entry {
+        Ok(entry) => Ok(Some(entry)),
+        Err(fault) if fault.kind() == ErrorKind::InvalidFilename => Ok(None),
+        Err(fault) => refusals.told("read", folder, Err(fault)),
+    }
+}
+
 /// Removes the files of a folder whose names begin with `front` and end in the mark of a process, and
 /// that were left behind. One that can't be looked at or removed stays. No message that was delivered
 /// has such a name, so none is lost if the folder is a link to one of messages.
@@ -83,10 +96,8 @@ pub fn sweep<R: Files + Clock + AllocGlobal + Clone + Drop>(
     let now = SystemTime::now(system.rt)?;
     let entries = fs::read_dir(system.rt, folder);
     for entry in system.refusals.told("open", folder, entries)? {
-        let entry = match entry {
-            Ok(entry) => entry,
-            Err(fault) if fault.kind() == ErrorKind::InvalidFilename => continue,
-            Err(fault) => return system.refusals.told("read", folder, Err(fault)),
+        let Some(entry) = entry_in(system.refusals, folder, entry)? else {
+            continue;
         };
         let name = entry.file_name();
         if !name.starts_with(front) || !is_marked(name) {

@@ -1,0 +1,306 @@
+//! The files that a folder of the machine's file system has open.
+
+ghost use Rattle.std.specs.Prelude.{◌≤◌, length, IfOk};
+
+use crate::file_state::{FileState, write_counted};
+use crate::host_paths::HostPaths;
+use crate::system::flush_folder;
+use mail_store::Edges;
+use std::alloc::Global;
+use std::fs::{Metadata, OpenFile};
+use std::io::{self, ErrorKind, Read, Seek, SeekFrom, Write};
+use std::os::unix::fs::MetadataExt;
+use trace::Refusals;
+
+/// Why a watched file isn't used any more.
+const CHANGED: &str = "changed by another program";
+
+/// A file that was made, and its path.
+#[derive(Drop)]
+struct Made<F: Drop> {
+    file: F,
+    path: String,
+}
+
+/// The handle by which a file is changed, which appends, and the file's name.
+#[derive(Drop)]
+pub struct Changed<F: Drop> {
+    pub file: F,
+    pub name: String,
+}
+
+/// The files of a folder that are open, and how a watched one was left.
+#[derive(Drop)]
+pub struct Handles<F: Drop> {
+    made: Option<Made<F>>,
+    changed: Option<Changed<F>>,
+    /// Whether the handle of the file that was changed last is kept for its next change.
+    keeps_handle: bool,
+    /// Whether the one file that is used here is watched: it is neither measured nor changed once another
+    /// program has changed it.
+    watches: bool,
+    /// How the watched file was seen first, or left by the last change here.
+    left: Option<FileState>,
+    /// The folder itself, from its first flush on.
+    names: Option<F>,
+}
+
+impl<F: Drop> Handles<F> {
+    /// Nothing is open.
+    pub fn new(keeps_handle: bool, watches: bool) -> Handles<F> {
+        Handles {
+            made: None,
+            changed: None,
+            keeps_handle,
+            watches,
+            left: None,
+            names: None,
+        }
+    }
+
+    /// Whether the handle of the file that was changed last is kept for its next change.
+    pub fn keeps_handle(&self) -> bool {
+        self.keeps_handle
+    }
+
+    /// Takes a file that was made.
+    pub fn take_in(&mut self, file: F, path: String) {
+        self.made = Some(Made { file, path });
+    }
+
+    /// The path of the file made, if there is one.
+    pub fn made_path(&self) -> Option<&str> {
+        match &self.made {
+            Some(made) => Some(made.path.as_str()),
+            None => None,
+        }
+    }
+
+    /// Closes the file that was changed last, before the file made is put under a name, and forgets how it
+    /// was left. False if no file was made.
+    pub fn begin_put(&mut self) -> bool {
+        if self.made.is_none() {
+            return false;
+        }
+        self.changed = None;
+        self.left = None;
+        true
+    }
+
+    /// Closes the file made, if there is one.
+    pub fn close_made(&mut self) {
+        self.made = None;
+    }
+
+    /// The handle kept from the file's last change, if it is. Another is closed.
+    pub fn take_kept(&mut self, name: &str) -> Option<Changed<F>> {
+        let changed = self.changed.take()?;
+        if self.keeps_handle && changed.name.as_str() == name {
+            Some(changed)
+        } else {
+            None
+        }
+    }
+
+    /// The folder itself, if it is open. It is taken out.
+    pub fn take_names(&mut self) -> Option<F> {
+        self.names.take()
+    }
+}
+
+impl<F: OpenFile + Drop> Handles<F> {
+    /// Flushes the file made, if there is one.
+    pub fn sync_made(&self) -> Option<io::Result<()>> {
+        match &self.made {
+            Some(made) => Some(made.file.sync_all()),
+            None => None,
+        }
+    }
+
+    // A watched file must be as it was left.
+    fn check_left(
+        &mut self,
+        paths: &HostPaths<'_>,
+        name: &str,
+        found: &Metadata,
+    ) -> io::Result<()> {
+        if !self.watches {
+            return Ok(());
+        }
+        let state = FileState::of(found);
+        let left = self.left.unwrap_or(state);
+        if left != state {
+            return Err(paths.refuse(name, CHANGED));
+        }
+        self.left = Some(state);
+        Ok(())
+    }
+
+    // Takes note of a watched file after a change that added `more` octets to it, or none. If its size
+    // isn't what that left, another program has changed it too.
+    fn note_change(
+        &mut self,
+        paths: &HostPaths<'_>,
+        name: &str,
+        file: &F,
+        more: u64,
+    ) -> io::Result<()> {
+        let Some(left) = self.left else {
+            return Ok(());
+        };
+        let state = FileState::of(&file.metadata()?);
+        if !state.grew_by(left, more) {
+            return Err(paths.refuse(name, CHANGED));
+        }
+        self.left = Some(state);
+        Ok(())
+    }
+
+    /// The size of a file by the handle that is kept, which also tells whether the file was removed
+    /// meanwhile: nothing is written to one that has no name any more.
+    pub fn measure(&mut self, changed: Changed<F>) -> io::Result<u64> {
+        let found = changed.file.metadata()?;
+        if found.nlink() == 0 {
+            return Err(io::Error::from(ErrorKind::NotFound));
+        }
+        self.changed = Some(changed);
+        Ok(found.len())
+    }
+
+    /// Cuts a file to its first octets.
+    pub fn set_len(
+        &mut self,
+        paths: &HostPaths<'_>,
+        name: &str,
+        changed: Changed<F>,
+        len: u64,
+    ) -> io::Result<()> {
+        let found = changed.file.metadata()?;
+        self.check_left(paths, name, &found)?;
+        if found.len() < len {
+            return Err(paths.refuse(name, CHANGED));
+        }
+        let answer = changed.file.set_len(len);
+        if answer.is_ok() && self.watches {
+            self.left = Some(FileState::of(&changed.file.metadata()?));
+        }
+        self.changed = Some(changed);
+        answer
+    }
+
+    /// Flushes the file that was changed last by the handle that changed it, if it is this one, and says
+    /// whether it is. After a fault that handle isn't used again.
+    pub fn sync(&mut self, paths: &HostPaths<'_>, name: &str) -> io::Result<bool> {
+        let Some(changed) = self.changed.take() else {
+            return Ok(false);
+        };
+        if changed.name.as_str() != name {
+            return Ok(false);
+        }
+        changed.file.sync_all()?;
+        // Some systems set the time of change only now.
+        self.note_change(paths, name, &changed.file, 0)?;
+        if self.keeps_handle {
+            self.changed = Some(changed);
+        }
+        Ok(true)
+    }
+
+    /// Flushes the names of the folder, which stays open unless that is refused.
+    pub fn sync_names(&mut self, folder: F, refusals: &Refusals) -> io::Result<()> {
+        flush_folder(&folder, refusals)?;
+        self.names = Some(folder);
+        Ok(())
+    }
+}
+
+impl<F: Write + Drop> Handles<F> {
+    /// Writes to the file made, if there is one.
+    pub fn write_made(&mut self, bytes: &[u8]) -> Option<io::Result<()>> {
+        match &mut self.made {
+            Some(made) => Some(made.file.write_all(bytes)),
+            None => None,
+        }
+    }
+}
+
+impl<F: OpenFile + Write + Drop> Handles<F> {
+    // Appends to a watched file. What others append meanwhile isn't taken for a part of it.
+    fn write_watched(
+        &mut self,
+        paths: &HostPaths<'_>,
+        name: &str,
+        file: &mut F,
+        bytes: &[u8],
+    ) -> io::Result<()> {
+        self.check_left(paths, name, &file.metadata()?)?;
+        let (count, answer) = write_counted(file, bytes);
+        self.note_change(paths, name, file, count)?;
+        answer
+    }
+
+    /// Appends to a file.
+    pub fn append(
+        &mut self,
+        paths: &HostPaths<'_>,
+        name: &str,
+        changed: Changed<F>,
+        bytes: &[u8],
+    ) -> io::Result<()> {
+        let mut changed = changed;
+        let answer = if self.watches {
+            self.write_watched(paths, name, &mut changed.file, bytes)
+        } else {
+            changed.file.write_all(bytes)
+        };
+        self.changed = Some(changed);
+        answer
+    }
+}
+
+impl<F: OpenFile + Read + Seek + Drop> Handles<F> {
+    /// The size of an open file and its ends.
+    pub fn edges(&mut self, paths: &HostPaths<'_>, name: &str, file: &mut F) -> io::Result<Edges> {
+        let found = file.metadata()?;
+        self.check_left(paths, name, &found)?;
+        edges_in(file, found.len())
+    }
+}
+
+/// The bytes of an open file. There is room for all of them at once: a Vec that grows as it is read has up to
+/// twice the file's size.
+pub fn bytes_in<F: Read + OpenFile>(file: &mut F, alloc: Global) -> io::Result<Vec<u8>> {
+    let size = file.metadata()?.len() as usize;
+    let mut bytes = Vec::with_capacity(alloc, size.saturating_add(1))?;
+    file.read_to_end(&mut bytes)?;
+    Ok(bytes)
+}
+
+/// The ends of an open file of this size.
+fn edges_in<F: Read + Seek>(file: &mut F, size: u64) -> io::Result<Edges> {
+    let mut head = [0u8; 5];
+    let mut tail = [0u8; 2];
+    let in_head = size.min(5) as usize;
+    let in_tail = size.min(2) as usize;
+    file.read_exact(&mut head[..in_head])?;
+    file.seek(SeekFrom::Start(size - in_tail as u64))?;
+    file.read_exact(&mut tail[2 - in_tail..])?;
+    Ok(Edges { size, head, tail })
+}
+
+/// Puts the bytes of an open file from `start` on at the front of a buffer, and returns how many.
+pub fn piece_in<F: Read + Seek + OpenFile>(
+    file: &mut F,
+    start: u64,
+    buf: &mut [u8],
+) -> io::Result<usize>
+    ensures { IfOk result (λ count. count ≤ length buf.new) }
+{
+    let there = file.metadata()?.len().saturating_sub(start);
+    let count = there.min(buf.len() as u64) as usize;
+    if count > 0 {
+        file.seek(SeekFrom::Start(start))?;
+        file.read_exact(&mut buf[..count])?;
+    }
+    Ok(count)
+}
