@@ -61,10 +61,13 @@ fn doubt_of_mbox<R: Files + AllocGlobal>(system: &System<'_, R>, path: &str) -> 
 
 /// Whether a run would fetch a message.
 fn would_fetch(preview: &Preview) -> bool {
-    preview.message_previews.iter().any(|message_preview| matches!(
-        message_preview.fate,
-        Fate::Fetched | Fate::FetchedAndDeleted
-    ))
+    preview
+        .message_previews
+        .iter()
+        .any(|message_preview| matches!(
+            message_preview.fate,
+            Fate::Fetched | Fate::FetchedAndDeleted
+        ))
 }
 
 /// What would cut a run, whose destination has this path.

@@ -16,8 +16,8 @@ use crate::shown_wire::ShownWire;
 use crate::teller::{Notes, Teller};
 use fetch_rules::Settings;
 use fetch_session::{
-    Account, Outcome, Preview, MessagePreview, Report, heading, pretend, preview_text, session_told,
-    told_report,
+    Account, MessagePreview, Outcome, Preview, Report, heading, pretend, preview_text,
+    session_told, told_report,
 };
 use mail_store::{FlatFile, MaildirDisk};
 use pop3_wire::Wire;
