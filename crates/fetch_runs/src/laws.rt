@@ -24,8 +24,8 @@ use fetch_rules::{
 };
 use fetch_session::{steady_files_keep, unsaved_files_keep};
 use mail_store::{
-    FlatFile, MaildirDisk, entries_add_texts, flags_tell_what_is_held,
-    names_are_bases, names_have_stems, stems_differ,
+    FlatFile, MaildirDisk, entries_add_texts, flags_tell_what_is_held, names_are_bases,
+    names_have_stems, stems_differ,
 };
 use pop3_client::{conversations_are_paced, turns_join};
 use pop3_wire::fronts_are_asked;

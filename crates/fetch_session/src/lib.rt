@@ -7,11 +7,11 @@ mod ending;
 mod fault;
 mod laws;
 mod listener;
+mod message_preview;
 mod one_session;
 mod opening;
 mod plan;
 mod preview;
-mod message_preview;
 mod readiness;
 mod reasons;
 mod record;
@@ -26,13 +26,11 @@ mod work;
 
 pub use account::{Account, Store};
 pub use fault::{Cut, Fault, Why};
-pub use laws::{
-    sessions_by_store, steady_files_keep, stopping_cuts_short, unsaved_files_keep,
-};
+pub use laws::{sessions_by_store, steady_files_keep, stopping_cuts_short, unsaved_files_keep};
 pub use listener::{Listener, Silent};
+pub use message_preview::{Fate, MessagePreview};
 pub use one_session::{session, session_told};
 pub use preview::{Preview, pretend};
-pub use message_preview::{Fate, MessagePreview};
 pub use reasons::{explained_line, told_report};
 pub use report::{LeftOut, Outcome, Report, ReportLine};
 pub use telling::preview_text;

@@ -13,8 +13,8 @@ ghost use Rattle.fetch_session.specs.Target.{AfterTakingIn, NoneBegun, is_sound,
 use crate::account::{Account, Store};
 use crate::appending::refused;
 use crate::fault::{Cut, Fault, broken, plain};
-use crate::opening::enter;
 use crate::message_preview::{MessagePreview, message_previews};
+use crate::opening::enter;
 use crate::readiness::{ask_held, read};
 use crate::report::Outcome;
 use crate::tail::leave;

@@ -5,8 +5,8 @@ ghost use Rattle.fetch_session.specs.Telling.{counts, date_of, date_text, due_te
 ghost use Rattle.fetch_session.specs.Telling.{fetched_in, is_deletion, is_fetch, notice, preview_text};
 ghost use Rattle.fetch_session.specs.Telling.{message_preview_text};
 
-use crate::preview::Preview;
 use crate::message_preview::{Fate, MessagePreview};
+use crate::preview::Preview;
 use crate::text::heading;
 use fetch_rules::{SECONDS_PER_DAY, Settings};
 use std::alloc::{AllocError, Global};
@@ -99,7 +99,11 @@ impl Fate {
 }
 
 /// The line of one message.
-fn message_preview_text(alloc: Global, total: u32, message_preview: &MessagePreview) -> Result<String, AllocError>
+fn message_preview_text(
+    alloc: Global,
+    total: u32,
+    message_preview: &MessagePreview,
+) -> Result<String, AllocError>
     ensures { IfOk result (λ text. string_bytes text ≡ message_preview_text total message_preview.now) }
 {
     let MessagePreview {

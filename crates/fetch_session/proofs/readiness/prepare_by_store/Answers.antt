@@ -61,7 +61,7 @@ returns-in-Err-take_in-clause-readies g c = λ d f.
             rows = inr (merge_lasts c.args.terms.settings.now target c.args.listing.now c.args.terms.now store after file file new seen c.in-Ok.found (c.requires.stands merges.0) refl finds.1.2
                 g.D.MaildirDisk g.F.FlatFile c.ask_store.new.store c.args.work.now.ledger.file c.take_in.new.file (c.in-Ok.ensures.lasts d safe.0).1 (c.in-Err-take_in.ensures.lasts f safe.1).0
                 (news_found c.files_stand_for_one_record.ensures g.D.MaildirDisk g.F.FlatFile was c.ask_store.new.store c.args.terms.account.now file.content seen c.args.listing.now c.in-Ok.found finds.1.0
-                    (c.requires.stands merges.0) c.in-Ok.ensures.kind finds.1.2 (c.in-Ok.ensures.lasts d safe.0).2));
+                (c.requires.stands merges.0) c.in-Ok.ensures.kind finds.1.2 (c.in-Ok.ensures.lasts d safe.0).2));
           };
         },
       ),
@@ -120,7 +120,7 @@ returns-in-Err-plan-clause-readies g c = λ d f.
             rows = inr (merge_lasts c.args.terms.settings.now target c.args.listing.now c.args.terms.now store after file file new seen c.in-Ok.found (c.requires.stands merges.0) refl finds.1.2
                 g.D.MaildirDisk g.F.FlatFile c.ask_store.new.store c.args.work.now.ledger.file c.take_in.new.file (c.in-Ok.ensures.lasts d safe.0).1 (c.in_default.ensures.lasts f safe.1).0
                 (news_found c.files_stand_for_one_record.ensures g.D.MaildirDisk g.F.FlatFile was c.ask_store.new.store c.args.terms.account.now file.content seen c.args.listing.now c.in-Ok.found finds.1.0
-                    (c.requires.stands merges.0) c.in-Ok.ensures.kind finds.1.2 (c.in-Ok.ensures.lasts d safe.0).2));
+                (c.requires.stands merges.0) c.in-Ok.ensures.kind finds.1.2 (c.in-Ok.ensures.lasts d safe.0).2));
           };
         },
       ),
