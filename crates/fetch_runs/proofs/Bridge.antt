@@ -42,14 +42,14 @@ use Rattle.fetch_runs.proofs.Courses.{Course, course, SessionCourse, Idle, Deals
 use Rattle.fetch_runs.proofs.StatePlan.{IsRight, deleted_in, deleted_by}
 use Rattle.fetch_runs.proofs.StateDone.{number_found, number_of, text_found, Laws, effect_of}
 use Rattle.fetch_runs.proofs.StateCases.{is_ended, UnsavedIn}
-use Rattle.fetch_runs.proofs.StateLaw.{RefusedIn, CourseLeads, way_leads}
+use Rattle.fetch_runs.proofs.StateLaw.{RefusedIn, CourseLeads, course_leads}
 use Rattle.fetch_runs.proofs.TalkCommands.{all_back, all_weaker, begins_of}
 use Rattle.fetch_runs.proofs.TalkSpeech.{Speaks}
 use Rattle.run_law.specs.Mboxes.{MboxLeaves, mbox_wanted, MboxAccount, MboxStores, settled, entries}
 use Rattle.run_law.specs.MboxSessions.{AsksForNoMessage, AsksForNone, MboxSession as Stepped}
 use Rattle.run_law.specs.MboxTold.{MboxToldStores}
 use Rattle.fetch_runs.specs.MboxSteps.{mbox_holds, IsMboxStep, MboxSessionIsAStep}
-use Rattle.fetch_runs.proofs.MboxState.{CourseLeaves, way_leaves}
+use Rattle.fetch_runs.proofs.MboxState.{CourseLeaves, course_leaves}
 use Rattle.pop3_wire.specs.Body.{kept, text_of, unstuffed}
 use Rattle.pop3_wire.specs.Reading.{WholeReply}
 use Rattle.mail_terms.specs.Text.{IsWhole}
@@ -192,7 +192,7 @@ module _ (stores : ToldStores) (settings : Settings) (account : List ℕ) (now :
 pub session_is_a_step : Laws → ToldStores → TurnsJoin → ConversationsArePaced → FrontsAreAsked → SessionIsAStep
 session_is_a_step laws stores joining paced fronts settings account now link before rows report link' after valid keeps is =
     joined stores settings account now link before rows report link' after is.result is.reports.outcome_is is.notes.lines is.reports.retrieved_is keeps
-    (session_course_of settings (AsFiles account) now link (keeps_files before) report link' (keeps_files after) is) (way_leads laws settings account now (at link []) before is.result is.mid after is.notes rows keeps is.proceeds)
+    (session_course_of settings (AsFiles account) now link (keeps_files before) report link' (keeps_files after) is) (course_leads laws settings account now (at link []) before is.result is.mid after is.notes rows keeps is.proceeds)
     (talks joining paced fronts settings (AsFiles account) now link (keeps_files before) report link' (keeps_files after) valid is)
 
 -- ---- without a task no message is asked for
@@ -282,7 +282,7 @@ module _ (stores : MboxToldStores) (settings : Settings) (now : ℕ) (link : Lin
 pub mbox_session_is_a_step : Laws → MboxToldStores → TurnsJoin → ConversationsArePaced → FrontsAreAsked → MboxSessionIsAStep
 mbox_session_is_a_step laws stores joining paced fronts settings now link before held report link' after valid keeps is =
     mbox_joined stores settings now link before held report link' after is.result is.reports.outcome_is is.notes.lines is.reports.retrieved_is keeps
-    (session_course_of settings AsEntries now link (keeps_entries before) report link' (keeps_entries after) is) (way_leaves laws settings now (at link []) (keeps_entries before) is.result is.mid (keeps_entries after) is.notes held keeps is.proceeds)
+    (session_course_of settings AsEntries now link (keeps_entries before) report link' (keeps_entries after) is) (course_leaves laws settings now (at link []) (keeps_entries before) is.result is.mid (keeps_entries after) is.notes held keeps is.proceeds)
     (talks joining paced fronts settings AsEntries now link (keeps_entries before) report link' (keeps_entries after) valid is)
 
 -- ---- after a session that ended, the mboxrd file also stands for the texts that came: these are whole

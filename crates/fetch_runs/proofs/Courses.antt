@@ -90,17 +90,17 @@ abbrev pub course_dealt : (settings : Settings) (target : Target) (now : ℕ) (o
 course_dealt settings target now old before result new after notes dealt =
     course_carries settings target dealt.items now dealt.mid before.store before.file [] result new after.store after.file notes.lines notes.skipped dealt.carries
 
-abbrev pub way_proceeded : (settings : Settings) (target : Target) (now : ℕ) (old : Place) (before : Keeping) (result : Result (Unit {0}) Cut) (new : Place) (after : Keeping) (notes : Noted)
+abbrev pub course_proceeded : (settings : Settings) (target : Target) (now : ℕ) (old : Place) (before : Keeping) (result : Result (Unit {0}) Cut) (new : Place) (after : Keeping) (notes : Noted)
     → Proceeds settings target now old before result new after notes → SessionCourse
-way_proceeded settings target now old before (Ok done) new after notes dealt = Deals (course_dealt settings target now old before (Ok done) new after notes dealt)
-way_proceeded settings target now old before (Err cut) new after notes (inl stopped) = Idle
-way_proceeded settings target now old before (Err cut) new after notes (inr (inl wanting)) = Idle
-way_proceeded settings target now old before (Err cut) new after notes (inr (inr dealt)) = Deals (course_dealt settings target now old before (Err cut) new after notes dealt)
+course_proceeded settings target now old before (Ok done) new after notes dealt = Deals (course_dealt settings target now old before (Ok done) new after notes dealt)
+course_proceeded settings target now old before (Err cut) new after notes (inl stopped) = Idle
+course_proceeded settings target now old before (Err cut) new after notes (inr (inl wanting)) = Idle
+course_proceeded settings target now old before (Err cut) new after notes (inr (inr dealt)) = Deals (course_dealt settings target now old before (Err cut) new after notes dealt)
 
 -- how far a session came
 abbrev pub session_course_of : (settings : Settings) (target : Target) (now : ℕ) (link : Link) (before : Keeping) (report : Report) (link' : Link) (after : Keeping)
     → SessionIn settings target now link before report link' after → SessionCourse
-session_course_of settings target now link before report link' after is = way_proceeded settings target now (at link []) before is.result is.mid after is.notes is.proceeds
+session_course_of settings target now link before report link' after is = course_proceeded settings target now (at link []) before is.result is.mid after is.notes is.proceeds
 
 -- ---- what was retrieved
 

@@ -18,7 +18,7 @@ use Rattle.fetch_session.specs.Target.{no_maildir, AsEntries, Stores, mail_in, i
 use Rattle.run_law.specs.Steps.{Effect}
 use Rattle.run_law.specs.Mboxes.{MboxAccount, settled, mbox_wanted, entries, intent_of as law_intent}
 use Rattle.run_law.specs.MboxTold.{bytes_at, OpensAt, AllRecorded, LastUnrecorded, MboxTold}
-use Rattle.fetch_runs.proofs.Courses.{found_in, found_by, Course, course, stored_done, course_stopped, course_does, found_of, begun_of, SessionCourse, Idle, Deals, course_carried, course_carries, way_proceeded}
+use Rattle.fetch_runs.proofs.Courses.{found_in, found_by, Course, course, stored_done, course_stopped, course_does, found_of, begun_of, SessionCourse, Idle, Deals, course_carried, course_carries, course_proceeded}
 use Rattle.fetch_runs.proofs.StatePlan.{key, fetched_in, fetched, IsRight}
 use Rattle.fetch_runs.proofs.StateDone.{text_found, texts_by, same_length, number_found, number_of, Laws, Inputs, rows_on, messages_on, tasks_on, rows_after, Part, effect_of, right_part, records_part, wanted_are}
 use Rattle.std.proofs.lemmas.Option.{same_Some}
@@ -487,12 +487,12 @@ CourseLeaves settings now result Idle held before after lines = (is_ended result
 CourseLeaves settings now result (Deals course) held before after lines =
     Left settings now (is_ended result) course held before.store.mbox after.store.mbox after.file.content lines (UnsavedIn result)
 
-pub way_leaves : (laws : Laws) (settings : Settings) (now : ℕ) (old : Place) (before : Keeping) (result : Result (Unit {0}) Cut) (new : Place) (after : Keeping) (notes : Noted) (held : Held)
+pub course_leaves : (laws : Laws) (settings : Settings) (now : ℕ) (old : Place) (before : Keeping) (result : Result (Unit {0}) Cut) (new : Place) (after : Keeping) (notes : Noted) (held : Held)
     → Keeps before.file.content held → (is : Proceeds settings AsEntries now old before result new after notes)
-    → CourseLeaves settings now result (way_proceeded settings AsEntries now old before result new after notes is) held before after notes.lines
-way_leaves laws settings now old before (Ok done) new after notes held keeps dealt =
+    → CourseLeaves settings now result (course_proceeded settings AsEntries now old before result new after notes is) held before after notes.lines
+course_leaves laws settings now old before (Ok done) new after notes held keeps dealt =
     carries_leads laws settings dealt.items now dealt.mid before.store before.file [] held keeps refl (Ok done) new after.store after.file notes.lines notes.skipped dealt.carries
-way_leaves laws settings now old before (Err cut) new after notes held keeps (inl stopped) = (refl, stopped.same, ap (λ (n : Noted). n.lines) stopped.nothing)
-way_leaves laws settings now old before (Err cut) new after notes held keeps (inr (inl wanting)) = (refl, wanting.same, ap (λ (n : Noted). n.lines) wanting.nothing)
-way_leaves laws settings now old before (Err cut) new after notes held keeps (inr (inr dealt)) =
+course_leaves laws settings now old before (Err cut) new after notes held keeps (inl stopped) = (refl, stopped.same, ap (λ (n : Noted). n.lines) stopped.nothing)
+course_leaves laws settings now old before (Err cut) new after notes held keeps (inr (inl wanting)) = (refl, wanting.same, ap (λ (n : Noted). n.lines) wanting.nothing)
+course_leaves laws settings now old before (Err cut) new after notes held keeps (inr (inr dealt)) =
     carries_leads laws settings dealt.items now dealt.mid before.store before.file [] held keeps refl (Err cut) new after.store after.file notes.lines notes.skipped dealt.carries

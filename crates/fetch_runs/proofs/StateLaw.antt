@@ -31,7 +31,7 @@ use Rattle.fetch_session.specs.Task.{Task, Done, stores, files_in, files_of, fil
 use Rattle.run_law.specs.Steps.{file_for, is_unheld, wanted_at}
 use Rattle.run_law.specs.Told.{Told, Records}
 use Rattle.fetch_runs.specs.Steps.{holds}
-use Rattle.fetch_runs.proofs.Courses.{Course, SessionCourse, Idle, Deals, course, spare_in, spare_of, course_stopped, course_does, course_carried, course_carries, way_proceeded, stored_done, found_by, found_of, begun_of}
+use Rattle.fetch_runs.proofs.Courses.{Course, SessionCourse, Idle, Deals, course, spare_in, spare_of, course_stopped, course_does, course_carried, course_carries, course_proceeded, stored_done, found_by, found_of, begun_of}
 use Rattle.fetch_runs.proofs.StatePlan.{tasks_ahead, IsRight, right_ahead}
 use Rattle.fetch_runs.proofs.StateDone.{number_found, text_found, number_of, files_first, Laws, Inputs, rows_on, tasks_on, messages_on, rows_after, Part, effect_of, records_part, wanted_are}
 use Rattle.fetch_runs.proofs.StateCases.{is_ended, UnsavedIn, unsaved_why, Starts, Tally, tally_right, tally_numbers, tally_number, tally_none, mid_rows, mid_keeps, tally_all, tally_no_line, tally_spare, tally_old, tally_new, full_rows}
@@ -263,12 +263,12 @@ CourseLeads settings account now result Idle rows before after lines = (is_ended
 CourseLeads settings account now result (Deals course) rows before after lines =
     Leads settings account now (is_ended result) course rows before.maildir after.maildir after.file.content lines (RefusedIn result) (UnsavedIn result)
 
-pub way_leads : (laws : Laws) (settings : Settings) (account : List ℕ) (now : ℕ) (old : Place) (before : Kept) (result : Result (Unit {0}) Cut) (new : Place) (after : Kept) (notes : Noted) (rows : List Row)
+pub course_leads : (laws : Laws) (settings : Settings) (account : List ℕ) (now : ℕ) (old : Place) (before : Kept) (result : Result (Unit {0}) Cut) (new : Place) (after : Kept) (notes : Noted) (rows : List Row)
     → KeepsRows before.file.content rows → (is : Proceeds settings (AsFiles account) now old (keeps_files before) result new (keeps_files after) notes)
-    → CourseLeads settings account now result (way_proceeded settings (AsFiles account) now old (keeps_files before) result new (keeps_files after) notes is) rows before after notes.lines
-way_leads laws settings account now old before (Ok done) new after notes rows keeps dealt =
+    → CourseLeads settings account now result (course_proceeded settings (AsFiles account) now old (keeps_files before) result new (keeps_files after) notes is) rows before after notes.lines
+course_leads laws settings account now old before (Ok done) new after notes rows keeps dealt =
     carries_leads laws (record { settings = settings; account = account; items = dealt.items; now = now; maildir = before.maildir; rows = rows }) dealt.mid before.file [] keeps refl (Ok done) new after.maildir after.file notes.lines notes.skipped dealt.carries
-way_leads laws settings account now old before (Err cut) new after notes rows keeps (inl stopped) = (refl, ap (λ (k : Keeping). kept k.store.maildir k.file) stopped.same, ap (λ (n : Noted). n.lines) stopped.nothing)
-way_leads laws settings account now old before (Err cut) new after notes rows keeps (inr (inl wanting)) = (refl, ap (λ (k : Keeping). kept k.store.maildir k.file) wanting.same, ap (λ (n : Noted). n.lines) wanting.nothing)
-way_leads laws settings account now old before (Err cut) new after notes rows keeps (inr (inr dealt)) =
+course_leads laws settings account now old before (Err cut) new after notes rows keeps (inl stopped) = (refl, ap (λ (k : Keeping). kept k.store.maildir k.file) stopped.same, ap (λ (n : Noted). n.lines) stopped.nothing)
+course_leads laws settings account now old before (Err cut) new after notes rows keeps (inr (inl wanting)) = (refl, ap (λ (k : Keeping). kept k.store.maildir k.file) wanting.same, ap (λ (n : Noted). n.lines) wanting.nothing)
+course_leads laws settings account now old before (Err cut) new after notes rows keeps (inr (inr dealt)) =
     carries_leads laws (record { settings = settings; account = account; items = dealt.items; now = now; maildir = before.maildir; rows = rows }) dealt.mid before.file [] keeps refl (Err cut) new after.maildir after.file notes.lines notes.skipped dealt.carries

@@ -155,7 +155,7 @@ commanded_by law done begun tail behind d b t (inr (part, later, front, whole)) 
 pub commanded : FrontsAreAsked → (done : List Turn) (replies : List WholeReply) (begun tail : List Turn) (sent got : List ℕ) → AllByRecursion CanBeSaid done
     → AllByRecursion CanBeSaid begun → AllByRecursion CanBeSaid tail → Conversation done replies begun tail sent got → Commanded done begun tail sent
 commanded law done replies begun tail sent got d b t said =
-    subst (λ (l : List ℕ). Commanded done begun tail l) (sym said.said) (commanded_by law done begun tail said.behind d b t said.session_course)
+    subst (λ (l : List ℕ). Commanded done begun tail l) (sym said.said) (commanded_by law done begun tail said.behind d b t said.sent_behind)
 
 -- ---- The replies of a conversation, as the law over runs reads them.
 

@@ -34,7 +34,7 @@ use Rattle.fetch_session.specs.Target.{Target, AsFiles, AsEntries, Stores}
 use Rattle.fetch_session.specs.Session.{LeavesLink, outcome_of, Keeping, Noted, NotEntered, NoRoom, Dealt, Proceeds, SessionIn, keeps_entries, Kept, keeps_files}
 use Rattle.fetch_session.specs.Store.{RefusesText}
 use Rattle.fetch_runs.specs.Conversations.{AreFound, tail_behind, is_retrieval, retrieved_by, Conversation, plan_turns, FollowsPlan, MboxSessionsFollowPlans, Converses, CountsTexts, Opens, SpeaksByPlan, SessionsAreConversations}
-use Rattle.fetch_runs.proofs.Courses.{Course, course, stored_done, spare_in, spare_of, course_stopped, course_does, course_carried, course_carries, begun_of, SessionCourse, Idle, Deals, course_dealt, way_proceeded, session_course_of, IsOfTask}
+use Rattle.fetch_runs.proofs.Courses.{Course, course, stored_done, spare_in, spare_of, course_stopped, course_does, course_carried, course_carries, begun_of, SessionCourse, Idle, Deals, course_dealt, course_proceeded, session_course_of, IsOfTask}
 use Rattle.fetch_runs.proofs.TalkCommands.{all_front, IsPlain, plain_ahead, one_reply, commands_in, CanBeSaid, Commanded, said_tasks, both_none}
 use Rattle.fetch_runs.proofs.TalkCourses.{Took, took_stopped, took_nothing, all_done, goes_nothing}
 use Rattle.fetch_runs.proofs.TalkSpeech.{IsTail, is_tail, silent, front_of_plan, OpensAlone, opens_all, opens_cut, commanded_opening, replied, few_items, Speaks, spoken, commanded_after, idle_said, Replied, listed}
@@ -385,7 +385,7 @@ module _ (joining : TurnsJoin) (paced : ConversationsArePaced) (law : FrontsAreA
   -- ---- by how far it came
 
   spoke : (result : Result (Unit {0}) Cut) → (is : Proceeds settings target now (at link []) before result new after notes) → LeavesLink result new link'
-      → Spoke settings target now before link link' result notes.lines (way_proceeded settings target now (at link []) before result new after notes is)
+      → Spoke settings target now before link link' result notes.lines (course_proceeded settings target now (at link []) before result new after notes is)
   spoke (Ok done) is leaves = planned_talk (Ok done) is leaves
   spoke (Err cut) (inl is) leaves = opens cut (inl is) leaves
   spoke (Err cut) (inr (inl is)) leaves = opens cut (inr is) leaves

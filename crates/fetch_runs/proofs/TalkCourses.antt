@@ -55,15 +55,15 @@ pub record Goes (begun tail : List Turn) (old new : Link) : Type 0 where
   pub got : new.got ≡ old.got ++ gained
   pub behind : List ℕ
   pub sent : new.sent ≡ old.sent ++ behind
-  pub session_course : SentBehind begun tail behind
+  pub sent_behind : SentBehind begun tail behind
 
 -- the tail alone
 pub goes_tail : (tail : List Turn) (old new : Link) → Fronted tail old new → Goes [] tail old new
-goes_tail tail old new f = record { gained = f.gained; got = f.got; behind = f.part; sent = f.sent; session_course = inr (f.part, f.later, f.split, refl) }
+goes_tail tail old new f = record { gained = f.gained; got = f.got; behind = f.part; sent = f.sent; sent_behind = inr (f.part, f.later, f.split, refl) }
 
 -- nothing
 pub goes_nothing : (tail : List Turn) (link : Link) → Goes [] tail link link
-goes_nothing tail link = record { gained = []; got = sym (append-nil link.got); behind = []; sent = sym (append-nil link.sent); session_course = inl ([], refl) }
+goes_nothing tail link = record { gained = []; got = sym (append-nil link.got); behind = []; sent = sym (append-nil link.sent); sent_behind = inl ([], refl) }
 
 -- one turn, whole, and the tail
 pub goes_whole : (turn : Turn) (tail : List Turn) (old mid new : Link) (gained : List ℕ) → mid.sent ≡ old.sent ++ turn_bytes turn → mid.got ≡ old.got ++ gained → Fronted tail mid new
@@ -73,7 +73,7 @@ goes_whole turn tail old mid new gained sent got f = record {
   got = f.got ∙ ap (λ (l : List ℕ). l ++ f.gained) got ∙ append_assoc old.got gained f.gained;
   behind = asking (turn ∷ []) ++ f.part;
   sent = f.sent ∙ ap (λ (l : List ℕ). l ++ f.part) (sent ∙ ap (λ (l : List ℕ). old.sent ++ l) (sym (append-nil (turn_bytes turn)))) ∙ append_assoc old.sent (asking (turn ∷ [])) f.part;
-  session_course = inr (f.part, f.later, f.split, refl);
+  sent_behind = inr (f.part, f.later, f.split, refl);
 }
 
 -- a part of one turn
@@ -84,7 +84,7 @@ goes_part turn tail old mid new front rest split sent got f = record {
   got = f.got ∙ ap (λ (l : List ℕ). l ++ f.gained) got;
   behind = front;
   sent = f.sent ∙ ap (λ (l : List ℕ). mid.sent ++ l) (nothing_front f.part f.later f.split) ∙ append-nil mid.sent ∙ sent;
-  session_course = inl (rest, append-nil (turn_bytes turn) ∙ split);
+  sent_behind = inl (rest, append-nil (turn_bytes turn) ∙ split);
 }
 
 -- a turn that broke, and the tail for its fault
@@ -127,7 +127,7 @@ goes_under paced turn tail old new result talks =
       got = p.got;
       behind = asking p.done ++ p.part;
       sent = p.sent;
-      session_course = under_way turn tail p.done p.rest p.part p.split p.begun p.front.0 p.front.1;
+      sent_behind = under_way turn tail p.done p.rest p.part p.split p.begun p.front.0 p.front.1;
     }
 
 -- turns that were completed, and what came after them
@@ -145,7 +145,7 @@ conversation done replies begun tail start there link none talked goes = (
     heard = ap (λ (l : List ℕ). l ++ goes.gained) heard ∙ append_assoc (flat_map reply_bytes replies) there.waiting goes.gained;
     behind = goes.behind;
     said = refl;
-    session_course = goes.session_course;
+    sent_behind = goes.sent_behind;
   },
 )
   where

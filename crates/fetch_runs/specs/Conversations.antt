@@ -43,7 +43,7 @@ pub record Conversation (done : List Turn) (replies : List WholeReply) (begun ta
   pub heard : got ≡ flat_map reply_bytes replies ++ rest
   pub behind : List ℕ
   pub said : sent ≡ asking done ++ behind
-  pub session_course : SentBehind begun tail behind
+  pub sent_behind : SentBehind begun tail behind
 
 -- the conversation of a plan: its first turns were completed, at most the next one was begun, and then the tail
 pub record Converses (plan tail : List Turn) (sent got : List ℕ) : Type 0 where

@@ -4,19 +4,18 @@
 -- limits exclude; and DELE was sent only for messages held. What a reader took away counts as held here, and
 -- what was withdrawn from the server before it was fetched isn't part of its mail.
 use Rattle.std.specs.Prelude.{◌≡◌, ◌≢◌, ◌⊎◌, ◌<◌, ◌-◌, ℕ, true, false, not, List, [], ◌∷◌, ◌++◌, None, Some, slice_get, bytes_eq}
-use Rattle.std.specs.String.{string_bytes}
 use Rattle.std.specs.List.{AllByRecursion, filter}
 use Rattle.pop3_wire.specs.declared.command.Command.{Command}
 use Rattle.pop3_wire.specs.declared.command.Command.TheVariants.{Dele}
 use Rattle.pop3_wire.specs.Honest.{Asked}
 use Rattle.pop3_wire.specs.Link.{Link}
-use Rattle.pop3_wire.specs.World.{Message, IsWorld, maildrop_of}
+use Rattle.pop3_wire.specs.World.{Message, maildrop_of}
 use Rattle.mail_terms.specs.UniqueId.{is_legal_id, has_id}
 use Rattle.rc_file.specs.Settings.{IsValid}
 use Rattle.rc_file.specs.declared.settings.Settings.{Settings}
 use Rattle.fetch_rules.specs.Record.{Row, is_delivered, merged}
 use Rattle.fetch_rules.specs.Wanted.{candidates}
-use Rattle.mail_store.specs.FileName.{account_text, stem_of, is_held}
+use Rattle.mail_store.specs.FileName.{stem_of, is_held}
 use Rattle.mail_store.specs.Held.{flags_of}
 use Rattle.mail_store.specs.Maildir.{Maildir, File, IsPart, with_files}
 use Rattle.fetch_session.specs.Account.{digits_of}
@@ -32,7 +31,8 @@ use Rattle.run_law.specs.Sessions.{BeginsOne, Served}
 use Rattle.fetch_runs.specs.Steps.{holds}
 
 -- A `World` is whose mail it is, by the digits in the names of the account's files; the limit on sizes; and all mail that ever comes, in
--- order of arrival, without what was withdrawn. It is sound: unique-ids are legal and distinct, and texts are whole.
+-- order of arrival, without what was withdrawn. It is sound (`IsSound`) if these digits can be an account's, unique-ids are legal and
+-- distinct, and texts are whole.
 
 -- settings that an rc file can give, for this account and with this limit on sizes; the others are a session's own
 pub record AreSettings (world : World) (settings : Settings) : Type 0 where

@@ -1,7 +1,6 @@
 -- Sessions in a row, each over its own link.
 use Rattle.std.specs.Prelude.{◌≡◌, ℕ, List, [], ◌∷◌, ◌++◌}
 use Rattle.std.specs.List.{AllByRecursion}
-use Rattle.std.specs.String.{string_bytes}
 use Rattle.pop3_wire.specs.Link.{Link}
 use Rattle.pop3_wire.specs.World.{Message, maildrop_of}
 use Rattle.rc_file.specs.declared.settings.Settings.{Settings}

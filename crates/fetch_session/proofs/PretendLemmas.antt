@@ -18,7 +18,7 @@ use Rattle.fetch_session.specs.declared.preview.Looked.{Looked}
 use Rattle.fetch_session.specs.declared.preview.Preview.{Preview}
 use Rattle.fetch_session.specs.declared.message_preview.MessagePreview.{MessagePreview}
 use Rattle.fetch_session.specs.Fault.{cut_of, fault_of}
-use Rattle.fetch_session.specs.Pretend.{PreviewsWork, PreviewsMerged, HoldsTheSame, IsUntouched, LooksIn, MayBeFollowed, Pretends, PreviewsSession, counted_as, foretold, is_unsettled, told_in}
+use Rattle.fetch_session.specs.Pretend.{PreviewsWork, PreviewsMerged, HoldsTheSame, IsUntouched, LooksIn, MayBeFollowed, Pretends, PreviewsSession, counted_as, previews_of, is_unsettled, told_in}
 use Rattle.fetch_session.specs.MessagePreview.{message_previews}
 use Rattle.fetch_session.specs.Record.{ReadAs, held_in}
 use Rattle.fetch_session.specs.Session.{Keeping, LeavesLink, Enters_with, keeping, outcome_of}
@@ -27,12 +27,12 @@ use Rattle.fetch_session.proofs.RecordLemmas.{not_whole, read_keeps}
 
 -- ---- what a preview says
 
-pub foretold_is : (settings : Settings) (rows rows' : List Row) (intent : Option Intent) (items : List Item) (held : List Bool) (now : ℕ) (steps : List Step)
+pub previews_are : (settings : Settings) (rows rows' : List Row) (intent : Option Intent) (items : List Item) (held : List Bool) (now : ℕ) (steps : List Step)
     → rows' ≡ merged (closed_rows false rows intent) items held now → steps ≡ planned settings rows' items now
-    → message_previews settings rows' now 0 steps items held ≡ foretold settings (merged rows items held now) items held now
-foretold_is settings rows rows' intent items held now steps rows_are steps_are =
+    → message_previews settings rows' now 0 steps items held ≡ previews_of settings (merged rows items held now) items held now
+previews_are settings rows rows' intent items held now steps rows_are steps_are =
     ap (λ (ss : List Step). message_previews settings rows' now 0 ss items held) steps_are
-    ∙ ap (λ (r : List Row). foretold settings r items held now) (rows_are ∙ ap (λ (r : List Row). merged r items held now) (not_whole rows intent))
+    ∙ ap (λ (r : List Row). previews_of settings r items held now) (rows_are ∙ ap (λ (r : List Row). merged r items held now) (not_whole rows intent))
 
 -- ---- nothing changes
 
@@ -43,7 +43,7 @@ looks_same AsEntries intent store store' items looked is = (is.0, is.1, is.2, ap
 
 pub work_preview : (settings : Settings) (target : Target) (items : List Item) (now : ℕ) (store : Stores) (file read : Stored) (loaded : Loaded) (store' : Stores) (looked : Looked) (told : List MessagePreview)
     → ReadAs file.content loaded → read ≡ file → LooksIn target loaded.intent store items (Ok looked) store'
-    → told ≡ foretold settings (merged loaded.rows items looked.held.items now) items looked.held.items now
+    → told ≡ previews_of settings (merged loaded.rows items looked.held.items now) items looked.held.items now
     → PreviewsMerged settings target items now (keeping store file) looked.unsettled told × IsUntouched target (keeping store file) (keeping store' read)
 work_preview settings target items now store file read loaded store' looked told stood same looks is =
     let found = looks_same target loaded.intent store store' items looked looks in (

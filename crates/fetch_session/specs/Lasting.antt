@@ -218,7 +218,8 @@ LeavesMerged files rows others from f = (left : Option (List ℕ)) → files.may
 abbrev pub LeavesLeft : {F : Type 0} → FileGhosts F → Held → List ℕ → F → F → Type 0
 LeavesLeft files was added from f = (left : Option (List ℕ)) → files.may_leave f left → files.may_leave from left ⊎ IsLeft was added left
 
--- the record was merged, or was to be, after each name of a Maildir and the files that were found there were on the disk
+-- the record was merged, or was to be, after each name of a Maildir was on the disk, and a file of each message that was found there and
+-- wasn't recorded
 pub record MergeLasts {D F : Type 0} (disk : DiskGhosts D) (files : FileGhosts F) (target : Target) (items : List Item) (now : ℕ)
     (old : Stores) (file : Stored) (store : Store D F) (from f : F) : Type 0 where
   pub stay : AllStayIn disk store
@@ -276,7 +277,8 @@ abbrev pub CarriesLast : {D F : Type 0} → DiskGhosts D → FileGhosts F → St
     (items : List Item) (now : ℕ) (place : Place) (old : Stores) (file : Stored) (lines : List ReportLine) (result : Result (Unit {0}) Cut)
     (place' : Place) (new : Stores) (file' : Stored) (lines' : List ReportLine) (skipped : Skips)
     → Carries settings target items now place old file lines result place' new file' lines' skipped → Store D F → F → Type 0
-CarriesLast disk files was from _ _ _ _ _ _ _ _ (Ok done) _ _ _ _ _ (rows, carried) store f = CarriedLasts disk files was from carried store f
+CarriesLast disk files was from _ _ _ _ _ _ _ _ (Ok done) _ _ _ _ _ (rows, carried) store f =
+    CarriedLasts disk files was from carried store f
 CarriesLast disk files was from _ target items now _ old file _ (Err cut) _ _ _ _ _ (rows, inl unprepared) store f =
     AreSure files was from → UnreadyLasts disk files was from target items now old file store f
 CarriesLast disk files was from _ _ _ _ _ _ _ _ (Err cut) _ _ _ _ _ (rows, inr carried) store f =
@@ -295,8 +297,8 @@ ProceedsLast disk files was from settings target now old before (Err cut) new af
     CarriesLast disk files was from settings target dealt.items now dealt.mid before.store before.file [] (Err cut) new after.store after.file
     notes.lines notes.skipped dealt.carries store f
 
--- a whole session. Tasks are done in order, and a deletion comes after its message's other task, so a DELE is sent only for a message
--- whose text outlives a loss of power
+-- a whole session: if no flush was refused before, what was stored and marked for each task that was done outlives a loss of power. Tasks
+-- are done in order, and a deletion comes after its message's other task, so a DELE is sent only for a message whose text does
 abbrev pub SessionLasts : {D F : Type 0} → DiskGhosts D → FileGhosts F → Store D F → F → {settings : Settings} {target : Target} {now : ℕ}
     {link : Link} {before : Keeping} {report : Report} {link' : Link} {after : Keeping}
     → SessionIn settings target now link before report link' after → Store D F → F → Type 0
@@ -304,10 +306,11 @@ SessionLasts disk files was from session store f =
     ProceedsLast disk files was from _ _ _ _ _ _ _ _ _ session.proceeds store f
 
 -- a session of an account over these devices, if they are sound after it; and what of it outlives a loss of power
-abbrev pub RunsSession : {W D F : Type 0} → WireGhosts W → DiskGhosts D → FileGhosts F → ℕ → Holding D F → W → Report → Holding D F → W → Type 0
-RunsSession link disk files now old wire report new wire' = WhereAllSound link.sound link.leads_to (is_sound disk files) files.sound wire wire'
-    old.store new.store old.file new.file
-    (AfterTakingIn (stores_of disk files old.store) (λ left. (session : SessionIn old.settings (target_of old.store (digits_of old.settings)) now
-    (link.history wire) (keeping left (files.stored old.file)) report (link.history wire')
+abbrev pub RunsSession : {W D F : Type 0} → WireGhosts W → DiskGhosts D → FileGhosts F → ℕ → Holding D F → W → Report → Holding D F → W
+    → Type 0
+RunsSession link disk files now old wire report new wire' =
+    WhereAllSound link.sound link.leads_to (is_sound disk files) files.sound wire wire' old.store new.store old.file new.file
+    (AfterTakingIn (stores_of disk files old.store) (λ left. (session : SessionIn old.settings
+    (target_of old.store (digits_of old.settings)) now (link.history wire) (keeping left (files.stored old.file)) report (link.history wire')
     (keeping (stores_of disk files new.store) (files.stored new.file)))
     × SessionLasts disk files old.store old.file session new.store new.file))

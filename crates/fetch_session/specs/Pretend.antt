@@ -64,8 +64,8 @@ LooksIn AsEntries intent old items result new = LooksAtMbox intent old.mbox item
 -- ---- what a preview says
 
 -- what a preview says of a listing once the record has these rows
-abbrev pub foretold : Settings → List Row → List Item → List Bool → ℕ → List MessagePreview
-foretold settings rows items flags now = message_previews settings rows now 0 (planned settings rows items now) items flags
+abbrev pub previews_of : Settings → List Row → List Item → List Bool → ℕ → List MessagePreview
+previews_of settings rows items flags now = message_previews settings rows now 0 (planned settings rows items now) items flags
 
 -- whether a run would first settle its store
 abbrev pub is_unsettled : Target → Option Intent → Bool
@@ -85,7 +85,7 @@ pub record PreviewsMerged (settings : Settings) (target : Target) (items : List 
   pub stood : Keeps old.file.content was
   pub followed : MayBeFollowed target was.intent old.store
   pub unsettled_is : unsettled ≡ is_unsettled target was.intent
-  pub told_is : told ≡ foretold settings (merged was.rows items (flags_in target old.store items) now) items
+  pub told_is : told ≡ previews_of settings (merged was.rows items (flags_in target old.store items) now) items
       (flags_in target old.store items) now
 
 -- this is the preview; or a session with this listing wouldn't be ready either, for this reason; and nothing changed

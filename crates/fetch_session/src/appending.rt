@@ -36,7 +36,7 @@ use std::alloc::Global;
 use std::hash::BuildHasher;
 use std::vec::Vec;
 
-/// The fault of a session whose mboxrd file refused a call.
+/// The fault of a session whose store refused a call.
 pub(crate) fn refused(fault: StoreFault) -> Fault
     ensures { IsStoreFault fault result }
 {

@@ -2,7 +2,8 @@
 ghost use Rattle.std.specs.Prelude.{◌≡◌, ◌<◌, ◌≤◌, ◌&&◌, ◌||◌, ◌==◌, false, not, nat_le, length, HoldsAt, IfOk};
 ghost use Rattle.mail_terms.specs.Listing.{message_limit};
 ghost use Rattle.fetch_rules.specs.Wanted.{is_within};
-ghost use Rattle.fetch_session.specs.MessagePreview.{due_of, due_second, fate_of, is_past_limit, known_of, message_preview_of, message_previews, reason, waits};
+ghost use Rattle.fetch_session.specs.MessagePreview.{due_of, due_second, fate_of, is_past_limit};
+ghost use Rattle.fetch_session.specs.MessagePreview.{known_of, message_preview_of, message_previews, reason, waits};
 ghost use Rattle.fetch_session.specs.Report.{left_out_of, skips_of, with_fate};
 ghost use Rattle.fetch_session.specs.Target.{none_held};
 

@@ -66,7 +66,8 @@ fn proceed<W: Wire, D: MaildirDisk, F: FlatFile, H: BuildHasher, L: Listener>(
         (λ old new. AfterTakingIn old.store (λ left. (is : Proceeds terms.entry.settings.now
         (target_of work.old.store terms.entry.account.now) terms.entry.now old.place (keeping left old.file) result
         new.place (keeping new.store new.file) (noted counts.new.total counts.new.skipped new.lines))
-        × ProceedsLast D.MaildirDisk F.FlatFile work.old.store work.old.ledger.file _ _ _ _ _ _ _ _ _ is work.new.store work.new.ledger.file)) }
+        × ProceedsLast D.MaildirDisk F.FlatFile work.old.store work.old.ledger.file _ _ _ _ _ _ _ _ _ is
+        work.new.store work.new.ledger.file)) }
     ensures heard { L.goes_on listener.old listener.new }
 {
     conversations_are_paced();
@@ -92,7 +93,8 @@ fn session_over<W: Wire, D: MaildirDisk, F: FlatFile, H: BuildHasher, L: Listene
     ensures link { HasSameLink client.old client.new }
     ensures counted { RefusesByOutcome (link_of W.Wire client.old) result.outcome (link_of W.Wire client.new) }
     ensures same { IsSameAccount account.old account.new }
-    ensures session { RunsSession W.Wire D.MaildirDisk F.FlatFile now account.old client.old.wire.now result account.new client.new.wire.now }
+    ensures session { RunsSession W.Wire D.MaildirDisk F.FlatFile now account.old client.old.wire.now result
+        account.new client.new.wire.now }
     ensures bounded { W.sound client.new.wire.now
         → GotAtMost (session_limit result.total) (link_of W.Wire client.old) (link_of W.Wire client.new) }
     ensures heard { L.goes_on listener.old listener.new }

@@ -5,7 +5,8 @@ ghost use Rattle.rc_file.specs.Settings.{IsValid};
 ghost use Rattle.mail_store.specs.FileName.{IsAccountText};
 ghost use Rattle.fetch_rules.specs.Record.{merged};
 ghost use Rattle.fetch_session.specs.Account.{digits_of};
-ghost use Rattle.fetch_session.specs.Pretend.{PreviewsWork, LooksAtMbox, LooksIn, Pretends, PreviewsSession, foretold, told_in, told_nothing};
+ghost use Rattle.fetch_session.specs.Pretend.{PreviewsWork, LooksAtMbox, LooksIn, Pretends};
+ghost use Rattle.fetch_session.specs.Pretend.{PreviewsSession, previews_of, told_in, told_nothing};
 ghost use Rattle.fetch_session.specs.Scene.{WhereAllSound};
 ghost use Rattle.fetch_session.specs.Session.{keeping};
 ghost use Rattle.fetch_session.specs.Target.{AfterTakingIn, NoneBegun, is_sound, kind_of, none_held, stores_of, target_of};
@@ -36,8 +37,8 @@ pub struct Preview {
     /// How many messages the server listed; 0 if the listings weren't joined.
     pub total: u32,
     /// Whether a run would first check whether the last entry of its mboxrd file is whole. If it
-    /// is, its message isn't fetched again; these are the previews of a run that finds that it
-    /// isn't.
+    /// is, its message isn't fetched again; `message_previews` says what a run would do that finds that
+    /// it isn't.
     pub unsettled: bool,
     /// What would be done with each message, in order; none if that isn't known.
     pub message_previews: Vec<MessagePreview>,
@@ -125,7 +126,7 @@ fn preview_merged<H: BuildHasher>(
 ) -> Result<Vec<MessagePreview>, AllocError>
     requires { length held.now ≡ length listing.now }
     ensures { IfOk result (λ told. told.items
-        ≡ foretold terms.entry.settings.now
+        ≡ previews_of terms.entry.settings.now
         (merged seen.old.rows listing.now held.now terms.entry.now) listing.now held.now terms.entry.now) }
 {
     seen.close(false);

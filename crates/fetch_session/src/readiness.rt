@@ -1,5 +1,6 @@
 //! What a session knows before its plan is carried out: the record, and what the store holds.
-ghost use Rattle.std.specs.Prelude.{◌≡◌, ◌≢◌, ◌⊎◌, ℕ, Bool, List, [], false, true, not, map, All, None, Some, length, OnOk, IfOk, IfErr, IfSome};
+ghost use Rattle.std.specs.Prelude.{◌≡◌, ◌≢◌, ◌⊎◌, ℕ, Bool, List, [], false, true};
+ghost use Rattle.std.specs.Prelude.{not, map, All, None, Some, length, OnOk, IfOk, IfErr, IfSome};
 ghost use Rattle.std.specs.List.{AllByRecursion};
 ghost use Rattle.fetch_rules.specs.Intents.{closed_rows};
 ghost use Rattle.fetch_rules.specs.Record.{Loaded, has_row, is_delivered, none_open, merged};
@@ -9,7 +10,8 @@ ghost use Rattle.mail_store.specs.Fault.{IsDeviceFault};
 ghost use Rattle.fetch_session.specs.Mbox.{AsksMbox, SettlesIntent};
 ghost use Rattle.mail_store.specs.Maildir.{AfterTaking};
 ghost use Rattle.mail_store.specs.Power.{AllStay, KeepsLeft, KeepsMail, LeavesNoMore};
-ghost use Rattle.fetch_session.specs.Lasting.{AllStayIn, AreSure, FoundLast, FoundLastIn, IsSafe, IsSafeStore, KeepsLeftIn, KeepsMailIn, LeavesMerged};
+ghost use Rattle.fetch_session.specs.Lasting.{AllStayIn, AreSure, FoundLast, FoundLastIn};
+ghost use Rattle.fetch_session.specs.Lasting.{IsSafe, IsSafeStore, KeepsLeftIn, KeepsMailIn, LeavesMerged};
 ghost use Rattle.fetch_session.specs.Lasting.{ReadiesAndLasts, is_sure};
 ghost use Rattle.fetch_session.specs.Parts.{KeepsBegun};
 ghost use Rattle.fetch_session.specs.Target.{AfterTakingIn, flags_in, is_sound, kind_of, stores_of, target_of};

@@ -36,7 +36,7 @@ pub struct HostFile<'a, F> {
 }
 
 impl<'a, F> HostFile<'a, F> {
-    // The file of a name in a folder, and where is kept what is cut off from it.
+    // The file of a name in a folder, and the file that keeps what is cut off from it.
     fn made(
         folder: F,
         name: &'a str,
@@ -64,7 +64,7 @@ impl<'a, F> HostFile<'a, F> {
         }
     }
 
-    // The file in which it is kept what was cut off, if bytes that were appended since begin with all of it.
+    // The file that keeps what was cut off, if bytes that were appended since begin with all of it.
     fn ours(&self) -> Option<(&F, &str)> {
         match &self.rests {
             Some(rests) => rests.ours(),
@@ -200,7 +200,7 @@ impl<'a, R: Files + AllocGlobal> HostFile<'a, HostFolder<'a, R>> {
         )
     }
 
-    /// Removes the file in which it is kept what was cut off, if bytes that were appended since begin
+    /// Removes the file that keeps what was cut off, if bytes that were appended since begin
     /// with all of it.
     pub fn drop_ours(&self) {
         if let Some((folder, name)) = self.ours() {

@@ -5,7 +5,7 @@ use std::alloc::Global;
 use std::io;
 use trace::Refusals;
 
-/// Where a folder and its files are, and where is noted why they aren't used.
+/// Where a folder and its files are, and what notes why they can't be used.
 #[derive(Clone, Copy)]
 pub struct HostPaths<'a> {
     pub alloc: Global,

@@ -6,7 +6,6 @@ use Rattle.mail_store.specs.declared.file.flat_file.FlatFile.{Ghosts as FileGhos
 use Rattle.fetch_session.specs.declared.fault.Fault.{Fault}
 use Rattle.fetch_session.specs.declared.preview.Preview.{Preview}
 use Rattle.fetch_session.specs.declared.report.Outcome.TheVariants.{Ended, Cut}
-use Rattle.fetch_session.specs.declared.report.Report.{Report}
 use Rattle.fetch_session.specs.Account.{Holding, digits_of}
 use Rattle.fetch_session.specs.Lasting.{RunsSession}
 use Rattle.fetch_session.specs.Pretend.{Pretends, told_in, told_nothing}

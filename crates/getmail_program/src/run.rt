@@ -72,7 +72,7 @@ pub struct Left<D, F> {
 }
 
 impl<D: Drop, F: Drop> Left<D, F> {
-    /// The exit status.
+    /// The exit status. The devices are dropped here, where nothing is known of their types: that is proved at once.
     pub fn into_status(self) -> u8
         ensures { result ≡ self.fetched.status }
     {

@@ -128,7 +128,8 @@ fn hold_telling<W: Wire, S: Write, D: MaildirDisk, F: FlatFile, H: BuildHasher, 
     ensures settings { account.new.settings ≡ account.old.settings }
     ensures kind { kind_of account.new.store ≡ kind_of account.old.store }
     ensures limits { IsWithinLimits W.Wire wire.old.wire result.0 wire.new.wire }
-    ensures runs { RunsSession W.Wire D.MaildirDisk F.FlatFile manner.entry.now account.old wire.old.wire result.0 account.new wire.new.wire }
+    ensures runs { RunsSession W.Wire D.MaildirDisk F.FlatFile manner.entry.now account.old wire.old.wire result.0
+        account.new wire.new.wire }
     ensures told { Puts O.contents out.old result.1.written.items out.new }
 {
     let mut notes = Notes::new(alloc);

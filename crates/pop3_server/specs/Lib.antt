@@ -7,6 +7,7 @@ pub mod LoopLaws
 pub mod LoopLink
 pub mod Maildrop
 pub mod Removal
+pub mod ReplyLines
 pub mod ServerMachine
 pub mod Serving
 pub mod Size

@@ -10,8 +10,6 @@ use Rattle.mail_terms.specs.Text.{lines_of_text}
 use Rattle.pop3_wire.specs.Stuffed.{stuffed_lines}
 use Rattle.mail_terms.specs.FailureCount.{counted_up}
 use Rattle.pop3_wire.specs.World.{Message}
-use Rattle.pop3_server.specs.declared.reply.Column.{Column}
-use Rattle.pop3_server.specs.declared.reply.Column.TheVariants.{Size, Uid}
 use Rattle.pop3_server.specs.declared.rows.MessageRow.{MessageRow}
 use Rattle.pop3_server.specs.declared.state.State.{State}
 use Rattle.pop3_server.specs.declared.state.State.TheVariants.{Authorization, Transaction, Closed}
@@ -82,10 +80,6 @@ scan_line k row = scan_row k row.entry.size
 abbrev pub uid_line : ℕ → MessageRow → List ℕ
 uid_line k row = uid_row k row.entry.uid
 
-abbrev pub row_line : Column → ℕ → MessageRow → List ℕ
-row_line Size = scan_line
-row_line Uid = uid_line
-
 -- the lines of the rows that aren't marked, numbered from k on
 abbrev pub lines_from : (ℕ → MessageRow → List ℕ) → ℕ → List MessageRow → List ℕ
 lines_from line k [] = []
@@ -140,11 +134,6 @@ give rows k (Some row) line top = Give rows (k - 1) (said (line row)) top
 
 abbrev pub octets_line : MessageRow → List ℕ
 octets_line row = codes "+OK " ++ decimal row.entry.size ++ codes " octets"
-
--- the first line of a text, or of its top
-abbrev pub text_line : Option ℕ → MessageRow → List ℕ
-text_line None = octets_line
-text_line (Some n) = λ row. codes "+OK"
 
 abbrev pub dele : List MessageRow → ℕ → Option MessageRow → Action
 dele rows k None = Say (said (codes "-ERR no such message")) (Transaction rows)

@@ -9,7 +9,8 @@ ghost use Rattle.mail_terms.specs.FailureCount.{counted_up};
 ghost use Rattle.pop3_server.specs.Maildrop.{HasPlace};
 ghost use Rattle.pop3_server.specs.ServerMachine.{Say, Open, Give, Leave, Answers, SamePlaces, Unanswered, Tied};
 ghost use Rattle.pop3_server.specs.ServerMachine.{Tries, Empties, with_marked, in_authorization, in_transaction};
-ghost use Rattle.pop3_server.specs.ServerMachine.{give, is_about_rows, next_of, said, of_row, row_at, row_line, text_body, text_line};
+ghost use Rattle.pop3_server.specs.ServerMachine.{give, is_about_rows, next_of, said, of_row, row_at, text_body};
+ghost use Rattle.pop3_server.specs.ReplyLines.{row_line, text_line};
 ghost use Rattle.pop3_server.specs.TextAnswer.{AnswersOrBegins, Follows};
 ghost use Rattle.pop3_server.specs.TextBody.{still};
 

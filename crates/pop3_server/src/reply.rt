@@ -1,7 +1,8 @@
 //! The replies of a server, each whole, with its CR LF (RFC 1939, sections 5 to 7).
 ghost use Rattle.std.specs.Prelude.{◌≡◌, ◌≤◌, ◌<◌, ◌++◌, length, IfOk, IfErr, codes, vec_len};
 ghost use Rattle.std.specs.Fmt.{decimal};
-ghost use Rattle.pop3_server.specs.ServerMachine.{said, scan_line, uid_line, row_line, listed, lines_from};
+ghost use Rattle.pop3_server.specs.ServerMachine.{said, scan_line, uid_line, listed, lines_from};
+ghost use Rattle.pop3_server.specs.ReplyLines.{row_line};
 ghost use Rattle.pop3_server.specs.ServerMachine.{left_count, left_total, octets_line};
 
 use crate::fault::ServerFault;

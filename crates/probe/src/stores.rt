@@ -37,19 +37,20 @@ fn listing_of(alloc: Global, count: u32) -> Result<Listing> {
 }
 
 /// A store beside which killed runs leave files.
-trait Tidy {
+trait Sweep {
     /// Removes what killed runs left there.
-    fn tidy(&self);
+    fn sweep_all(&self);
 }
 
-impl<'a, R: Files + Clock + AllocGlobal + Clone + Drop> Tidy for FolderMaildir<HostFolders<'a, R>> {
-    fn tidy(&self) {
+impl<'a, R: Files + Clock + AllocGlobal + Clone + Drop> Sweep
+    for FolderMaildir<HostFolders<'a, R>> {
+    fn sweep_all(&self) {
         self.sweep(&account_id("bench", 110, "bench"));
     }
 }
 
-impl<'a, R: Files + Clock + AllocGlobal + Clone + Drop> Tidy for HostFile<'a, HostFolder<'a, R>> {
-    fn tidy(&self) {
+impl<'a, R: Files + Clock + AllocGlobal + Clone + Drop> Sweep for HostFile<'a, HostFolder<'a, R>> {
+    fn sweep_all(&self) {
         self.sweep();
     }
 }
@@ -96,7 +97,7 @@ fn time_deliver<D: MaildirDisk>(rt: &HostRuntime, disk: &mut D, count: u32) -> R
 }
 
 /// Makes the calls of this name on a Maildir of which nothing is known.
-fn use_maildir<D: MaildirDisk + Tidy + Drop>(
+fn use_maildir<D: MaildirDisk + Sweep + Drop>(
     rt: &HostRuntime,
     call: &str,
     mut disk: D,
@@ -107,10 +108,11 @@ fn use_maildir<D: MaildirDisk + Tidy + Drop>(
     match call {
         "held" => time_held(rt, &mut disk, count),
         "deliver" => time_deliver(rt, &mut disk, count),
-        _ => {
-            disk.tidy();
+        "sweep" => {
+            disk.sweep_all();
             Ok(())
         }
+        _ => Err(Trouble::Other),
     }
 }
 
@@ -149,7 +151,7 @@ fn append_once<F: FlatFile>(rt: &HostRuntime, file: &mut F, count: u32) -> Resul
 }
 
 /// Makes the calls of this name on a file.
-fn use_file<F: FlatFile + Tidy + Drop>(
+fn use_file<F: FlatFile + Sweep + Drop>(
     rt: &HostRuntime,
     call: &str,
     path: &str,
@@ -161,10 +163,11 @@ fn use_file<F: FlatFile + Tidy + Drop>(
         "append" => mbox::append(rt, path, &mut file, count),
         "blocks" => append_once(rt, &mut file, count),
         "texts" => mbox::time_texts(rt, &mut file),
-        _ => {
-            file.tidy();
+        "sweep" => {
+            file.sweep_all();
             Ok(())
         }
+        _ => Err(Trouble::Other),
     }
 }
 

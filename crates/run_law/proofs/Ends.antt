@@ -1,4 +1,4 @@
--- In every situation a session can end, so the laws over runs aren't empty.
+-- In every state a session can end, so the laws over runs aren't empty.
 use Rattle.std.proofs.Common.{◌≡◌, inl, inr, ℕ, List, [], ◌∷◌, ◌++◌, true, not, length, map, take, refl, sym, ◌∙◌, ap, subst, arith, None}
 use Rattle.std.specs.Prelude.{zip}
 use Rattle.std.specs.List.{AllByRecursion, filter}

@@ -11,11 +11,10 @@ use Rattle.run_law.specs.Mails.{ids_of, is_selected, selected, without}
 use Rattle.run_law.specs.Steps.{Effect, IsHonest, ids_wanted}
 use Rattle.run_law.specs.Runs.{past_limit}
 use Rattle.run_law.specs.Mboxes.{MboxAccount, mbox_rows, mbox_wanted, entries, intent_of, IsClosed, IsOpen, MboxLeaves, MboxStores}
-use Rattle.run_law.specs.Accounts.{Account}
 
--- an account, and the ids that are gone from the server
-pub record MboxState (Account : Type 0) : Type 0 where
-  pub kept : Account
+-- what is kept of an account, and the ids that are gone from the server
+pub record MboxState (K : Type 0) : Type 0 where
+  pub kept : K
   pub gone : List (List ℕ)
 
 -- one session: its settings, how much mail had come, what it did, which ids its QUIT removed from the server,
@@ -202,7 +201,7 @@ abbrev pub SomeAreRecorded : Type 0
 SomeAreRecorded = (world : MboxWorld) (state : MboxState MboxAccount) → MboxKept world state → state.kept.intent ≡ None
     → (had : List Message) × AreAllRecorded world state.kept had
 
--- in every situation there is a session that ends
+-- in every state there is a session that ends
 abbrev pub MboxCanEnd : Type 0
 MboxCanEnd = (world : MboxWorld) (before : MboxState MboxAccount) (settings : Settings) (come now : ℕ)
     → IsWorld world.all → settings.max_size ≡ world.max_size → settings.read_all ≡ false

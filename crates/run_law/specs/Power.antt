@@ -11,7 +11,7 @@ abbrev pub AllMayBeLeft : Type 0
 AllMayBeLeft = (world : World) (before : State Account) (after : Account) → Forgets world.account before.kept after
     → LosesPower world before after
 
--- the situation with this Maildir
+-- the state with this Maildir
 abbrev pub with_maildir : Maildir → State Account → State Account
 with_maildir maildir state = record state { kept = record state.kept { maildir = maildir } }
 

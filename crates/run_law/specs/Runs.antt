@@ -11,10 +11,10 @@ use Rattle.run_law.specs.Mails.{ids_of, is_selected, selected, texts_of, message
 use Rattle.run_law.specs.Accounts.{Account, files, copies, KeepsOthers}
 use Rattle.run_law.specs.Steps.{Effect, Leaves, Stores, IsHonest, merged_rows, wanted_at, ids_wanted}
 
--- an account, the ids that are gone from the server, and those of the messages that were taken away from the
+-- what is kept of an account, the ids that are gone from the server, and those of the messages that were taken away from the
 -- Maildir and weren't brought back
-pub record State (Account : Type 0) : Type 0 where
-  pub kept : Account
+pub record State (K : Type 0) : Type 0 where
+  pub kept : K
   pub gone : List (List ℕ)
   pub taken : List (List ℕ)
 
@@ -57,6 +57,7 @@ pub record World : Type 0 where
   pub max_size : ℕ
   pub all : List Message
 
+-- the account's text is one, unique-ids are legal and distinct, and texts are whole
 pub record IsSound (world : World) : Type 0 where
   pub account : IsAccountText world.account
   pub mail : IsWorld world.all
@@ -252,7 +253,7 @@ StartsKept = (world : World) (account : Account) → account.rows ≡ []
     → ((id : List ℕ) → is_legal_id id ≡ true → copies (files account) (stem_of world.account id) ≡ [])
     → Kept world (record { kept = account; gone = []; taken = [] })
 
--- in every situation there is a session that ends
+-- in every state there is a session that ends
 abbrev pub CanEnd : Type 0
 CanEnd = (world : World) (before : State Account) (settings : Settings) (come now : ℕ) → IsSound world → settings.max_size ≡ world.max_size
     → (visit : Visit) × Visits world before visit × (visit.effect.ended ≡ true) × (visit.come ≡ come)

@@ -135,7 +135,7 @@ pub fn honest_sessions_bring_messages()
     listing_is_maildrop();
 }
 
-/// In every situation there is a session that ends, so the laws over runs aren't about nothing.
+/// In every state there is a session that ends, so the laws over runs aren't about nothing.
 pub fn can_end()
     ensures { CanEnd }
 {
@@ -224,7 +224,7 @@ pub fn mbox_told_stores()
     ensures { MboxToldStores }
 {}
 
-/// With an mboxrd: in every situation there is a session that ends.
+/// With an mboxrd: in every state there is a session that ends.
 pub fn mbox_can_end()
     ensures { MboxCanEnd }
 {

@@ -2,7 +2,7 @@ use Rattle.std.proofs.Common.{List, ap, length, ◌∙◌}
 use Rattle.std.proofs.lemmas.Result.{IfOk-weaker}
 use Rattle.fetch_rules.specs.Record.{Row, merged}
 use Rattle.fetch_session.proofs.CarryLemmas.{planned_length}
-use Rattle.fetch_session.proofs.PretendLemmas.{foretold_is}
+use Rattle.fetch_session.proofs.PretendLemmas.{previews_are}
 use Rattle.fetch_session.proofs.preview.preview_merged.Goals as goal
 
 pub message_previews-requires-clause-all_steps : goal.message_previews-requires-clause-all_steps
@@ -13,5 +13,5 @@ pub returns : goal.returns
 returns g c =
     let rows = c.in_ok-merge.ensures.rows ∙ ap (λ (r : List Row). merged r c.args.listing.now c.args.held.now c.args.terms.now) c.close.ensures.rows in
     IfOk-weaker c.message_previews.result _ _
-    (λ told is. is ∙ foretold_is c.args.terms.settings.now c.args.seen.now.rows c.merge.new.self.rows c.args.seen.now.intent c.args.listing.now c.args.held.now c.args.terms.now c.deref.result.now rows (c.deref.ensures.value ∙ c.in_ok-steps.ensures.steps))
+    (λ told is. is ∙ previews_are c.args.terms.settings.now c.args.seen.now.rows c.merge.new.self.rows c.args.seen.now.intent c.args.listing.now c.args.held.now c.args.terms.now c.deref.result.now rows (c.deref.ensures.value ∙ c.in_ok-steps.ensures.steps))
     c.message_previews.ensures

@@ -1,7 +1,7 @@
 use Rattle.std.proofs.Common.{rules, List, Bool, ap, ◌∙◌}
 use Rattle.fetch_session.proofs.SessionLemmas.{part_same}
 use Rattle.fetch_rules.specs.Record.{merged}
-use Rattle.fetch_session.specs.Pretend.{foretold}
+use Rattle.fetch_session.specs.Pretend.{previews_of}
 use Rattle.fetch_session.specs.Target.{left_in, stores_of, target_of}
 use Rattle.fetch_session.proofs.PretendLemmas.{work_preview}
 use Rattle.fetch_session.proofs.preview.preview_work.Goals as goal
@@ -20,7 +20,7 @@ returns-in-Ok-preview_merged-clause-previews g c = λ d f.
         looks.1.1,
         work_preview settings (target_of c.args.store.now c.args.terms.account.now) items now (left_in (stores_of g.D.MaildirDisk g.F.FlatFile c.args.store.now) looks.1.0) (g.F.FlatFile.stored c.args.file.now) (g.F.FlatFile.stored c.read.new.file) c.read.new.seen
             (stores_of g.D.MaildirDisk g.F.FlatFile c.look.new.store) c.in-Ok.looked c.in-Ok-preview_merged.message_previews.items reads.1.0 reads.1.2 looks.1.2
-            (c.in-Ok-preview_merged.ensures ∙ ap (λ (flags : List Bool). foretold settings (merged c.read.new.seen.rows items flags now) items flags now) c.deref.ensures.value),
+            (c.in-Ok-preview_merged.ensures ∙ ap (λ (flags : List Bool). previews_of settings (merged c.read.new.seen.rows items flags now) items flags now) c.deref.ensures.value),
       ),
     )
 

@@ -1,5 +1,6 @@
 use Rattle.std.proofs.Common.{◌+◌, ◌++◌, true, false, List, ℕ, drop, sym, ap, ◌∙◌, append_assoc}
-use Rattle.pop3_server.specs.ServerMachine.{said, lines_from, row_line}
+use Rattle.pop3_server.specs.ServerMachine.{said, lines_from}
+use Rattle.pop3_server.specs.ReplyLines.{row_line}
 use Rattle.pop3_server.proofs.LeaveLemmas.{lines_cut}
 use Rattle.pop3_server.proofs.reply.say_rows.Goals as goal
 
