@@ -37,20 +37,20 @@ fn listing_of(alloc: Global, count: u32) -> Result<Listing> {
 }
 
 /// A store beside which killed runs leave files.
-trait Sweep {
+trait Leftovers {
     /// Removes what killed runs left there.
-    fn sweep_all(&self);
+    fn remove_leftovers(&self);
 }
 
-impl<'a, R: Files + Clock + AllocGlobal + Clone + Drop> Sweep
+impl<'a, R: Files + Clock + AllocGlobal + Clone + Drop> Leftovers
     for FolderMaildir<HostFolders<'a, R>> {
-    fn sweep_all(&self) {
+    fn remove_leftovers(&self) {
         self.sweep(&account_id("bench", 110, "bench"));
     }
 }
 
-impl<'a, R: Files + Clock + AllocGlobal + Clone + Drop> Sweep for HostFile<'a, HostFolder<'a, R>> {
-    fn sweep_all(&self) {
+impl<'a, R: Files + Clock + AllocGlobal + Clone + Drop> Leftovers for HostFile<'a, HostFolder<'a, R>> {
+    fn remove_leftovers(&self) {
         self.sweep();
     }
 }
@@ -97,7 +97,7 @@ fn time_deliver<D: MaildirDisk>(rt: &HostRuntime, disk: &mut D, count: u32) -> R
 }
 
 /// Makes the calls of this name on a Maildir of which nothing is known.
-fn use_maildir<D: MaildirDisk + Sweep + Drop>(
+fn use_maildir<D: MaildirDisk + Leftovers + Drop>(
     rt: &HostRuntime,
     call: &str,
     mut disk: D,
@@ -109,7 +109,7 @@ fn use_maildir<D: MaildirDisk + Sweep + Drop>(
         "held" => time_held(rt, &mut disk, count),
         "deliver" => time_deliver(rt, &mut disk, count),
         "sweep" => {
-            disk.sweep_all();
+            disk.remove_leftovers();
             Ok(())
         }
         _ => Err(Trouble::Other),
@@ -151,7 +151,7 @@ fn append_once<F: FlatFile>(rt: &HostRuntime, file: &mut F, count: u32) -> Resul
 }
 
 /// Makes the calls of this name on a file.
-fn use_file<F: FlatFile + Sweep + Drop>(
+fn use_file<F: FlatFile + Leftovers + Drop>(
     rt: &HostRuntime,
     call: &str,
     path: &str,
@@ -164,7 +164,7 @@ fn use_file<F: FlatFile + Sweep + Drop>(
         "blocks" => append_once(rt, &mut file, count),
         "texts" => mbox::time_texts(rt, &mut file),
         "sweep" => {
-            file.sweep_all();
+            file.remove_leftovers();
             Ok(())
         }
         _ => Err(Trouble::Other),
