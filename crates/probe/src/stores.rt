@@ -49,7 +49,8 @@ impl<'a, R: Files + Clock + AllocGlobal + Clone + Drop> Leftovers
     }
 }
 
-impl<'a, R: Files + Clock + AllocGlobal + Clone + Drop> Leftovers for HostFile<'a, HostFolder<'a, R>> {
+impl<'a, R: Files + Clock + AllocGlobal + Clone + Drop> Leftovers
+    for HostFile<'a, HostFolder<'a, R>> {
     fn remove_leftovers(&self) {
         self.sweep();
     }
