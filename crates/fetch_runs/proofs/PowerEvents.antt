@@ -76,16 +76,6 @@ none_filtered p (x ∷ ids) id none = by (none_filtered p ids id rest) (p x) ref
     by more true e = rw e (or_from (bytes_eq id x) (has_id (filter p ids) id) first more)
     by more false e = rw e more
 
-still_filtered : (id : List ℕ) (ids : List (List ℕ)) (other : List ℕ) → bytes_eq other id ≡ false → has_id ids other ≡ true → has_id (filter (λ x. not (bytes_eq x id)) ids) other ≡ true
-still_filtered id [] other apart never = absurd (both_ways false refl never)
-still_filtered id (x ∷ ids) other apart has = by (still_filtered id ids other apart) (bytes_eq x id) refl (or_cases (bytes_eq other x) (has_id ids other) has)
-  where
-    by : (has_id ids other ≡ true → has_id (filter (λ y. not (bytes_eq y id)) ids) other ≡ true) → (b : Bool) → bytes_eq x id ≡ b → (bytes_eq other x ≡ true) ⊎ (has_id ids other ≡ true) → has_id (filter (λ y. not (bytes_eq y id)) (x ∷ ids)) other ≡ true
-    by later true e (inl same) = absurd (both_ways (bytes_eq other id) apart (ap (λ (y : List ℕ). bytes_eq y id) ((bytes_eq-Decides other x).0 same) ∙ e))
-    by later true e (inr more) = rw e (later more)
-    by later false e (inl same) = rw e (ap (λ b. b || has_id (filter (λ y. not (bytes_eq y id)) ids) other) same)
-    by later false e (inr more) = rw e (or_second (bytes_eq other x) (has_id (filter (λ y. not (bytes_eq y id)) ids) other) (later more))
-
 -- what holds of all later messages holds of those that aren't withdrawn
 all_without : (P : Message → Type 0) (limit : ℕ) (ids : List (List ℕ)) (ms : List Message) → AllByRecursion P (selected limit ms) → AllByRecursion P (selected limit (without ids ms))
 all_without P limit ids [] all = tt
