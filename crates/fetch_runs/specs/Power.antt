@@ -65,8 +65,8 @@ AllMayBeOnDisk {D} {F} disk files = (device : D) (f : F) (world : World) (state 
 
 -- a session of a run, as `session` says it of its devices: no flush of the record's file was refused before it, its Maildir's device had
 -- seen at most one file of each message, and if there is no record's file after it, a loss of power leaves none
-pub record IsSessionOf {D F : Type 0} (disk : DiskGhosts D) (files : FileGhosts F) (world : World) (state : State Kept) (occasion : Occasion)
-    (was : D) (from : F) (device : D) (f : F) : Type 0 where
+pub record IsSessionOf {D F : Type 0} (disk : DiskGhosts D) (files : FileGhosts F) (world : World) (state : State Kept)
+    (occasion : Occasion) (was : D) (from : F) (device : D) (f : F) : Type 0 where
   pub settings : AreSettings world occasion.settings
   pub sure : files.is_sure from
   pub session : SessionIn occasion.settings (AsFiles (digits_of occasion.settings)) occasion.now

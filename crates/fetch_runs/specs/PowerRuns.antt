@@ -99,6 +99,6 @@ AsMuchIsSure {D} {F} disk files = (world : World) (state : State Kept) (was : D)
 -- a law: whichever files readers take away from a kept state, also during a session, such events lead over the same devices to the state
 -- without them
 abbrev pub TakingsRunOn : {D F : Type 0} → DiskGhosts D → FileGhosts F → Type 0
-TakingsRunOn {D} {F} disk files = (device : D) (f : F) (world : World) (state : State Kept) (left : List File) → IsSound world → IsKept world state
-    → IsPart state.kept.maildir.files left
+TakingsRunOn {D} {F} disk files = (device : D) (f : F) (world : World) (state : State Kept) (left : List File)
+    → IsSound world → IsKept world state → IsPart state.kept.maildir.files left
     → (ons : List (EventOn D F)) × AreTaken world state left (events_of ons) × IsRunOn disk files world state device f ons

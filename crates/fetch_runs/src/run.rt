@@ -45,30 +45,26 @@ pub fn run_sessions<W: Wire, D: MaildirDisk, F: FlatFile, H: BuildHasher>(
         → AreSound W.sound visits.old × IsSoundMaildir D.MaildirDisk account.old.store × F.sound account.old.file
         × Runs W.history account.old.settings (digits_of account.old.settings) visits.old
         (kept (maildir_of D.MaildirDisk account.old.store) (F.stored account.old.file))
-        reports.items visits.new (kept (maildir_of D.MaildirDisk account.new.store) (F.stored account.new.file))) }
-    ensures promised { IfOk result (λ reports. AreSound W.sound visits.new
-        → IsSoundMaildir D.MaildirDisk account.new.store → F.sound account.new.file
-        → (all : List Message) (gone taken : List (List ℕ)) (facts : List Fact) → IsWorld all
+        reports.items visits.new (kept (maildir_of D.MaildirDisk account.new.store) (F.stored account.new.file))
+        × ((all : List Message) (gone taken : List (List ℕ)) (facts : List Fact) → IsWorld all
         → IsKept (world_of account.old.settings all)
         (state_of (kept (maildir_of D.MaildirDisk account.old.store) (F.stored account.old.file)) gone taken)
         → AreServed W.history all gone visits.old visits.new facts
         → ArePromised W.history account.old.settings (world_of account.old.settings all)
         (state_of (kept (maildir_of D.MaildirDisk account.old.store) (F.stored account.old.file)) gone taken)
-        visits.old reports.items visits.new facts (kept (maildir_of D.MaildirDisk account.new.store) (F.stored account.new.file))) }
+        visits.old reports.items visits.new facts (kept (maildir_of D.MaildirDisk account.new.store) (F.stored account.new.file)))) }
     ensures mbox_runs { IfOk result (λ reports. AreSound W.sound visits.new
         → IsSoundMbox F.FlatFile account.new.store → F.sound account.new.file
         → AreSound W.sound visits.old × IsSoundMbox F.FlatFile account.old.store × F.sound account.old.file
         × MboxRuns W.history account.old.settings visits.old
         (mbox_kept (mbox_of F.FlatFile account.old.store) (F.stored account.old.file))
-        reports.items visits.new (mbox_kept (mbox_of F.FlatFile account.new.store) (F.stored account.new.file))) }
-    ensures mbox_promised { IfOk result (λ reports. AreSound W.sound visits.new
-        → IsSoundMbox F.FlatFile account.new.store → F.sound account.new.file
-        → (world : MboxWorld) (gone : List (List ℕ)) (facts : List Fact) → IsWorld world.all → AreSettings world account.old.settings
+        reports.items visits.new (mbox_kept (mbox_of F.FlatFile account.new.store) (F.stored account.new.file))
+        × ((world : MboxWorld) (gone : List (List ℕ)) (facts : List Fact) → IsWorld world.all → AreSettings world account.old.settings
         → IsMboxKept world (mbox_state (mbox_kept (mbox_of F.FlatFile account.old.store) (F.stored account.old.file)) gone)
         → AreServed W.history world.all gone visits.old visits.new facts
         → AreMboxPromised W.history account.old.settings world
         (mbox_state (mbox_kept (mbox_of F.FlatFile account.old.store) (F.stored account.old.file)) gone)
-        visits.old reports.items visits.new facts (mbox_kept (mbox_of F.FlatFile account.new.store) (F.stored account.new.file))) }
+        visits.old reports.items visits.new facts (mbox_kept (mbox_of F.FlatFile account.new.store) (F.stored account.new.file)))) }
 {
     headline();
     takings_are_events();

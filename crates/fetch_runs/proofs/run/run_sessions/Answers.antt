@@ -53,26 +53,32 @@ loop-i-preserved g c =
           )),
     )
 
-pub returns-clause-promised : goal.returns-clause-promised
-returns-clause-promised g c = λ sound disk file all gone taken facts mail is_kept served.
+pub returns-clause-runs : goal.returns-clause-runs
+returns-clause-runs g c = λ sound disk file.
     let inv = c.loop-i.invariant in
-    let made = made_all c.args.visits.now c.loop-i.visits c.loop-i.i inv.5 (omega (arith, c.loop-i-test.false)) inv.3 sound (disk, file) in
-    runs_promised c.headline.ensures c.takings_are_events.ensures g.W.Wire.history c.args.account.now.settings (world_of c.args.account.now.settings all) c.args.visits.now
-    (state_of (kept (maildir_of g.D.MaildirDisk c.args.account.now.store) (g.F.FlatFile.stored c.args.account.now.file)) gone taken) c.loop-i.reports.items c.loop-i.visits facts
-    (kept (maildir_of g.D.MaildirDisk c.loop-i.account.store) (g.F.FlatFile.stored c.loop-i.account.file))
-    (record { account = c.account_texts_are_digits.ensures _ _ _; mail = mail })
-    (record { valid = subst IsValid c.settings.ensures.value c.settings.ensures.valid; account = refl; max_size = refl }) is_kept served made.2
+    let made = made_all c.args.visits.now c.loop-i.visits c.loop-i.i inv.5 (omega (arith, c.loop-i-test.false)) inv.3 sound (disk, file) in (
+      made.0,
+      made.1.0,
+      made.1.1,
+      made.2,
+      λ all gone taken facts mail is_kept served.
+          runs_promised c.headline.ensures c.takings_are_events.ensures g.W.Wire.history c.args.account.now.settings (world_of c.args.account.now.settings all) c.args.visits.now
+          (state_of (kept (maildir_of g.D.MaildirDisk c.args.account.now.store) (g.F.FlatFile.stored c.args.account.now.file)) gone taken) c.loop-i.reports.items c.loop-i.visits facts
+          (kept (maildir_of g.D.MaildirDisk c.loop-i.account.store) (g.F.FlatFile.stored c.loop-i.account.file))
+          (record { account = c.account_texts_are_digits.ensures _ _ _; mail = mail })
+          (record { valid = subst IsValid c.settings.ensures.value c.settings.ensures.valid; account = refl; max_size = refl }) is_kept served made.2,
+    )
 
 pub returns-clause-mbox_runs : goal.returns-clause-mbox_runs
 returns-clause-mbox_runs g c = λ sound disk file.
     let inv = c.loop-i.invariant in
-    let made = made_all c.args.visits.now c.loop-i.visits c.loop-i.i inv.6 (omega (arith, c.loop-i-test.false)) inv.3 sound (disk, file) in
-    (made.0, made.1.0, made.1.1, made.2)
-
-pub returns-clause-mbox_promised : goal.returns-clause-mbox_promised
-returns-clause-mbox_promised g c = λ sound disk file world gone facts mail are is_kept served.
-    let inv = c.loop-i.invariant in
-    let made = made_all c.args.visits.now c.loop-i.visits c.loop-i.i inv.6 (omega (arith, c.loop-i-test.false)) inv.3 sound (disk, file) in
-    mbox_runs_promised c.mbox_headline.ensures g.W.Wire.history c.args.account.now.settings world c.args.visits.now
-    (mbox_state (mbox_kept (mbox_of g.F.FlatFile c.args.account.now.store) (g.F.FlatFile.stored c.args.account.now.file)) gone) c.loop-i.reports.items c.loop-i.visits facts
-    (mbox_kept (mbox_of g.F.FlatFile c.loop-i.account.store) (g.F.FlatFile.stored c.loop-i.account.file)) mail are is_kept served made.2
+    let made = made_all c.args.visits.now c.loop-i.visits c.loop-i.i inv.6 (omega (arith, c.loop-i-test.false)) inv.3 sound (disk, file) in (
+      made.0,
+      made.1.0,
+      made.1.1,
+      made.2,
+      λ world gone facts mail are is_kept served.
+          mbox_runs_promised c.mbox_headline.ensures g.W.Wire.history c.args.account.now.settings world c.args.visits.now
+          (mbox_state (mbox_kept (mbox_of g.F.FlatFile c.args.account.now.store) (g.F.FlatFile.stored c.args.account.now.file)) gone) c.loop-i.reports.items c.loop-i.visits facts
+          (mbox_kept (mbox_of g.F.FlatFile c.loop-i.account.store) (g.F.FlatFile.stored c.loop-i.account.file)) mail are is_kept served made.2,
+    )
