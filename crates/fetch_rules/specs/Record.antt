@@ -36,11 +36,11 @@ pub record IsIntent (intent : Intent) : Type 0 where
   pub len : intent.len < 2 ^ 64
 
 -- rows, and an intent that may be open
-pub record Held : Type 0 where
+pub record RecordState : Type 0 where
   pub rows : List Row
   pub intent : Option Intent
 
-abbrev pub none_open : List Row → Held
+abbrev pub none_open : List Row → RecordState
 none_open rows = record { rows = rows; intent = None }
 
 -- a record in memory: its rows, the intent that is open, and whether its file must be written anew before something may be

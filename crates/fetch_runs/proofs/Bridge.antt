@@ -14,14 +14,14 @@ use Rattle.pop3_wire.specs.declared.command.Command.TheVariants.{User, Pass, Sta
 use Rattle.pop3_wire.specs.Link.{Link}
 use Rattle.pop3_wire.specs.Place.{at}
 use Rattle.pop3_client.specs.Conversation.{ConversationsArePaced, TurnsJoin}
-use Rattle.fetch_rules.specs.Record.{Row, Held, Intent}
+use Rattle.fetch_rules.specs.Record.{Row, RecordState, Intent}
 use Rattle.mail_store.specs.Maildir.{Maildir}
 use Rattle.rc_file.specs.declared.settings.Settings.{Settings}
 use Rattle.mail_terms.specs.UniqueId.{has_id}
 use Rattle.pop3_wire.specs.Honest.{FrontsAreAsked, Asked}
 use Rattle.run_law.specs.Sessions.{IsBegun, Reads, BeginsOne}
 use Rattle.run_law.specs.Steps.{Leaves, wanted_at, Effect}
-use Rattle.run_law.specs.Told.{ToldStores}
+use Rattle.run_law.specs.Counted.{CountedStores}
 use Rattle.fetch_session.specs.declared.fault.Cut.{Cut}
 use Rattle.fetch_session.specs.declared.report.Outcome.{Outcome}
 use Rattle.fetch_session.specs.declared.report.Outcome.TheVariants.{Ended, Cut as WasCut}
@@ -32,7 +32,7 @@ use Rattle.fetch_session.specs.declared.report.ReportLine.{ReportLine}
 use Rattle.fetch_session.specs.Report.{retrieved_in}
 use Rattle.fetch_session.specs.Task.{Task, deletes}
 use Rattle.fetch_session.specs.Record.{KeepsRows, Keeps}
-use Rattle.fetch_session.specs.Session.{Kept, keeps_files, outcome_of, Keeping, MboxKept, keeps_entries}
+use Rattle.fetch_session.specs.Session.{AccountFiles, keeps_files, outcome_of, Keeping, MboxAccountFiles, keeps_entries}
 use Rattle.fetch_session.specs.Target.{AsFiles, AsEntries, mail_in, no_maildir}
 use Rattle.fetch_runs.specs.Conversations.{tail_behind}
 use Rattle.fetch_runs.specs.Steps.{holds, SaysOnly, StopsAtList, IsStep, SessionIsAStep}
@@ -45,9 +45,9 @@ use Rattle.fetch_runs.proofs.StateCases.{is_ended, UnsavedIn}
 use Rattle.fetch_runs.proofs.StateLaw.{RefusedIn, CourseLeads, course_leads}
 use Rattle.fetch_runs.proofs.TalkCommands.{all_back, all_weaker, begins_of}
 use Rattle.fetch_runs.proofs.TalkSpeech.{Speaks}
-use Rattle.run_law.specs.Mboxes.{MboxLeaves, mbox_wanted, MboxAccount, MboxStores, settled, entries}
+use Rattle.run_law.specs.Mboxes.{MboxLeaves, mbox_wanted, MboxMail, MboxStores, settled, entries}
 use Rattle.run_law.specs.MboxSessions.{AsksForNoMessage, AsksForNone, MboxSession as Stepped}
-use Rattle.run_law.specs.MboxTold.{MboxToldStores}
+use Rattle.run_law.specs.MboxCounted.{MboxCountedStores}
 use Rattle.fetch_runs.specs.MboxSteps.{mbox_holds, IsMboxStep, MboxSessionIsAStep}
 use Rattle.fetch_runs.proofs.MboxState.{CourseLeaves, course_leaves}
 use Rattle.pop3_wire.specs.Body.{kept, text_of, unstuffed}
@@ -123,7 +123,7 @@ unsaved_is (Ok done) outcome is never = absurd never
 unsaved_is (Err cut) outcome is (inl fault) = inl (is ∙ ap WasCut fault)
 unsaved_is (Err cut) outcome is (inr fault) = inr (is ∙ ap WasCut fault)
 
-module _ (stores : ToldStores) (settings : Settings) (account : List ℕ) (now : ℕ) (link : Link) (before : Kept) (rows : List Row) (report : Report) (link' : Link) (after : Kept) (result : Result (Unit {0}) Cut)
+module _ (stores : CountedStores) (settings : Settings) (account : List ℕ) (now : ℕ) (link : Link) (before : AccountFiles) (rows : List Row) (report : Report) (link' : Link) (after : AccountFiles) (result : Result (Unit {0}) Cut)
     (outcome_is : report.outcome ≡ outcome_of result) (lines : List ReportLine) (counts : report.retrieved ≡ retrieved_in lines) (keeps : KeepsRows before.file.content rows) where
   joined : (session_course : SessionCourse) → CourseLeads settings account now result session_course rows before after lines → Gained session_course (tail_for result) link link' → IsStep settings account now link before rows report link' after
   joined Idle left said = record {
@@ -135,7 +135,7 @@ module _ (stores : ToldStores) (settings : Settings) (account : List ℕ) (now :
     got_is = said.got_is;
     now_is = refl;
     ended_is = ended_if result report.outcome outcome_is;
-    keeps = subst (λ (k : Kept). KeepsRows k.file.content rows) (sym left.1) keeps;
+    keeps = subst (λ (k : AccountFiles). KeepsRows k.file.content rows) (sym left.1) keeps;
     left = inl (unchanged, counts ∙ ap retrieved_in left.2);
     stepped = record {
       commands = said.exchanges.0;
@@ -147,7 +147,7 @@ module _ (stores : ToldStores) (settings : Settings) (account : List ℕ) (now :
   }
     where
       unchanged : Leaves (holds rows before.maildir) (effect_of now (is_ended result) (course [] [] [] [])) (holds rows after.maildir)
-      unchanged = record { rows = refl; same = ap (λ (k : Kept). k.maildir.files) left.1; begun = refl; ended = left.0 }
+      unchanged = record { rows = refl; same = ap (λ (k : AccountFiles). k.maildir.files) left.1; begun = refl; ended = left.0 }
   joined (Deals c) left said = record {
     sent = said.sent;
     got = said.got;
@@ -159,7 +159,7 @@ module _ (stores : ToldStores) (settings : Settings) (account : List ℕ) (now :
     ended_is = ended_if result report.outcome outcome_is;
     keeps = left.keeps;
     left = inr (record {
-      told = left.told;
+      figures = left.figures;
       retrieved_is = counts ∙ left.counted;
       one_more = λ is. refused_is result report.outcome outcome_is (left.one_more (is ∙ length-map (found_of c) text_found));
       one_less = λ is. unsaved_is result report.outcome outcome_is (left.one_less is);
@@ -174,7 +174,7 @@ module _ (stores : ToldStores) (settings : Settings) (account : List ℕ) (now :
       begun = all_weaker (IsOfTask (begun_of c)) (IsBegun c.items (deleted_by c.items (begun_of c))) (commands_of said.exchanges) (begun_one account before.maildir c.items (begun_of c) left.right) said.exchanges.deletes;
       next = begins_of (IsOfTask (begun_of c)) (IsBegun c.items (deleted_by c.items (begun_of c))) (begun_one account before.maildir c.items (begun_of c) left.right) said.exchanges.talked.asked.part said.exchanges.next;
       step = inr (
-        stores settings account (holds rows before.maildir) (effect_of now (is_ended result) c) (holds left.rows' after.maildir) left.told,
+        stores settings account (holds rows before.maildir) (effect_of now (is_ended result) c) (holds left.rows' after.maildir) left.figures,
         reads said.exchanges now (is_ended result) (wanted_at settings account (holds rows before.maildir) (effect_of now (is_ended result) c)) left.numbers,
       );
     };
@@ -189,7 +189,7 @@ module _ (stores : ToldStores) (settings : Settings) (account : List ℕ) (now :
         only = subst (λ (turns : List Turn). SaysOnly turns said.exchanges.more said.exchanges.talked.asked.part) (ap tail_behind (sym outcome_is)) (said.exchanges.stops none);
       }
 
-pub session_is_a_step : Laws → ToldStores → TurnsJoin → ConversationsArePaced → FrontsAreAsked → SessionIsAStep
+pub session_is_a_step : Laws → CountedStores → TurnsJoin → ConversationsArePaced → FrontsAreAsked → SessionIsAStep
 session_is_a_step laws stores joining paced fronts settings account now link before rows report link' after valid keeps is =
     joined stores settings account now link before rows report link' after is.result is.reports.outcome_is is.notes.lines is.reports.retrieved_is keeps
     (session_course_of settings (AsFiles account) now link (keeps_files before) report link' (keeps_files after) is) (course_leads laws settings account now (at link []) before is.result is.mid after is.notes rows keeps is.proceeds)
@@ -217,7 +217,7 @@ asks_none tasks commands part none all next = (
 
 -- ---- both together
 
-module _ (stores : MboxToldStores) (settings : Settings) (now : ℕ) (link : Link) (before : MboxKept) (held : Held) (report : Report) (link' : Link) (after : MboxKept) (result : Result (Unit {0}) Cut)
+module _ (stores : MboxCountedStores) (settings : Settings) (now : ℕ) (link : Link) (before : MboxAccountFiles) (held : RecordState) (report : Report) (link' : Link) (after : MboxAccountFiles) (result : Result (Unit {0}) Cut)
     (outcome_is : report.outcome ≡ outcome_of result) (lines : List ReportLine) (counts : report.retrieved ≡ retrieved_in lines) (keeps : Keeps before.file.content held) where
   -- no task was begun
   quiet : {session_course : SessionCourse} (c : Course) → begun_of c ≡ [] → (said : Gained session_course (tail_for result) link link') (commands : List Command) (asked : Asked commands said.sent)
@@ -263,14 +263,14 @@ module _ (stores : MboxToldStores) (settings : Settings) (now : ℕ) (link : Lin
     now_is = refl;
     ended_is = ended_if result report.outcome outcome_is;
     keeps = left.keeps;
-    left = inr (record { told = left.told; retrieved_is = counts ∙ left.counted; one_less = λ is. unsaved_is result report.outcome outcome_is (left.one_less is) });
+    left = inr (record { figures = left.figures; retrieved_is = counts ∙ left.counted; one_less = λ is. unsaved_is result report.outcome outcome_is (left.one_less is) });
     stepped = record {
       commands = commands_of said.exchanges;
       asked = said.exchanges.talked.asked;
       begun = all_weaker (IsOfTask (begun_of c)) (IsBegun c.items (deleted_by c.items (begun_of c))) (commands_of said.exchanges) begun said.exchanges.deletes;
       next = begins_of (IsOfTask (begun_of c)) (IsBegun c.items (deleted_by c.items (begun_of c))) begun said.exchanges.talked.asked.part said.exchanges.next;
       step = inr (
-        stores settings (mbox_holds held before.mbox) (effect_of now (is_ended result) c) (mbox_holds left.held' after.mbox) left.told,
+        stores settings (mbox_holds held before.mbox) (effect_of now (is_ended result) c) (mbox_holds left.held' after.mbox) left.figures,
         reads said.exchanges now (is_ended result) (mbox_wanted settings (mbox_holds held before.mbox) (effect_of now (is_ended result) c)) left.numbers,
       );
     };
@@ -279,7 +279,7 @@ module _ (stores : MboxToldStores) (settings : Settings) (now : ℕ) (link : Lin
       begun : (command : Command) → IsOfTask (begun_of c) command → IsBegun c.items (deleted_by c.items (begun_of c)) command
       begun = begun_one [] no_maildir c.items (begun_of c) left.right
 
-pub mbox_session_is_a_step : Laws → MboxToldStores → TurnsJoin → ConversationsArePaced → FrontsAreAsked → MboxSessionIsAStep
+pub mbox_session_is_a_step : Laws → MboxCountedStores → TurnsJoin → ConversationsArePaced → FrontsAreAsked → MboxSessionIsAStep
 mbox_session_is_a_step laws stores joining paced fronts settings now link before held report link' after valid keeps is =
     mbox_joined stores settings now link before held report link' after is.result is.reports.outcome_is is.notes.lines is.reports.retrieved_is keeps
     (session_course_of settings AsEntries now link (keeps_entries before) report link' (keeps_entries after) is) (course_leaves laws settings now (at link []) (keeps_entries before) is.result is.mid (keeps_entries after) is.notes held keeps is.proceeds)
@@ -324,7 +324,7 @@ few_found found wanted numbers =
 some_none : (i : Intent) → Some i ≡ None → ⊥
 some_none i e = cc
 
-module _ (adds : EntryAddsText) (settings : Settings) (before : MboxAccount) (effect : Effect) (after : MboxAccount) (ended : effect.ended ≡ true) where
+module _ (adds : EntryAddsText) (settings : Settings) (before : MboxMail) (effect : Effect) (after : MboxMail) (ended : effect.ended ≡ true) where
   added : (commands : List Command) (sent got : List ℕ) → MboxStores settings before effect after → Reads (mbox_wanted settings before effect) commands sent got effect → AddsTexts settings before effect after
   added commands sent got stores reads = record {
     all = omega (arith, same, few, least, stores.fetched);

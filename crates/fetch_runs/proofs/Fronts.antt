@@ -22,7 +22,7 @@ use Rattle.fetch_session.specs.Plan.{Carried, Prepared}
 use Rattle.fetch_session.specs.Report.{Reports, skips_planned}
 use Rattle.fetch_session.specs.Record.{Steady}
 use Rattle.fetch_session.specs.Scene.{Fell, FileNotSaved, Scene, Stops, Went, scene}
-use Rattle.fetch_session.specs.Session.{Dealt, Enters_with, Kept, LeavesLink, Noted, Proceeds, Session, kept, keeping, keeps_files, noted, outcome_of}
+use Rattle.fetch_session.specs.Session.{Dealt, Enters_with, AccountFiles, LeavesLink, Noted, Proceeds, Session, account_files, keeping, keeps_files, noted, outcome_of}
 use Rattle.fetch_session.specs.Store.{Gained}
 use Rattle.fetch_session.specs.Target.{AsFiles, Stores, in_maildir}
 use Rattle.fetch_session.specs.Task.{Done, IsAnswered, Task, delivered, file_from, files_in, files_of, ids_of, lines_of, replies_of, task_in, tasks_of, turns_in, turns_of}
@@ -46,7 +46,7 @@ use Rattle.fetch_runs.proofs.TalkSpeech.{few_items, replied}
 
 -- ---- the tasks of an uncut session
 
-uncut_by : (settings : Settings) (account : List ℕ) (now : ℕ) (link : Link) (before : Kept) (link' : Link) (after : Kept) (result : Result (Unit {0}) Cut) (mid : Place) (notes : Noted)
+uncut_by : (settings : Settings) (account : List ℕ) (now : ℕ) (link : Link) (before : AccountFiles) (link' : Link) (after : AccountFiles) (result : Result (Unit {0}) Cut) (mid : Place) (notes : Noted)
     → Proceeds settings (AsFiles account) now (at link []) (keeps_files before) result mid (keeps_files after) notes → LeavesLink result mid link' → outcome_of result ≡ Ended
     → Uncut settings account now link before link' after
 uncut_by settings account now link before link' after (Ok done) mid notes dealt leaves ended = record {
@@ -105,8 +105,8 @@ refused_at place = at (record place.link { failures = place.link.failures + 1 })
 refuses : (turn : Turn) (place : Place) → SentInPart turn place (refused_at place)
 refuses turn place = record { front = []; rest = turn_bytes turn; split = refl; sent = sym (append-nil place.link.sent); got = refl; waiting = refl; risen = omega arith }
 
-module _ (joins : TurnsJoin) (settings : Settings) (account : List ℕ) (now : ℕ) (link : Link) (before : Kept) (link' : Link) (after : Kept) (u : Uncut settings account now link before link' after)
-    (front back : List Done) (next : Done) (left : Kept) (split : u.dones ≡ front ++ next ∷ back) where
+module _ (joins : TurnsJoin) (settings : Settings) (account : List ℕ) (now : ℕ) (link : Link) (before : AccountFiles) (link' : Link) (after : AccountFiles) (u : Uncut settings account now link before link' after)
+    (front back : List Done) (next : Done) (left : AccountFiles) (split : u.dones ≡ front ++ next ∷ back) where
   abbrev first : List WholeReply
   first = u.enters.3.welcome ++ u.enters.3.counted ∷ u.enters.3.named ∷ u.enters.3.sized ∷ []
 
@@ -212,7 +212,7 @@ module _ (joins : TurnsJoin) (settings : Settings) (account : List ℕ) (now : �
     dealt : left_with stopped.store
     dealt = record { items = u.items; mid = entered; enters = entered_is; total = refl; carries = (stopped.rows, inr carried) }
 
-    session : (report : Report) → Reports (WasCut cut.fault) (length u.items) skipped stopped.lines report → Session settings account now link before report cut_link (kept stopped.store.maildir stopped.file)
+    session : (report : Report) → Reports (WasCut cut.fault) (length u.items) skipped stopped.lines report → Session settings account now link before report cut_link (account_files stopped.store.maildir stopped.file)
     session report told = record {
       result = Err cut;
       mid = stopped.place;
@@ -254,7 +254,7 @@ module _ (joins : TurnsJoin) (settings : Settings) (account : List ℕ) (now : �
     fault = WriteFailed;
     lines = lines_of front;
     cut = (refused_at there).link;
-    after = kept (maildir (files_of account front)) (file u.ready.file.failures);
+    after = account_files (maildir (files_of account front)) (file u.ready.file.failures);
     files = record { files = is.files; content = refl };
     sent = (asking (turns_of (next ∷ back)), sent_is);
     got = (flat_map reply_bytes (replies_of (next ∷ back)) ++ waits, got_is);
@@ -315,7 +315,7 @@ module _ (joins : TurnsJoin) (settings : Settings) (account : List ℕ) (now : �
       fault = SeenRefused;
       lines = lines_of front ++ delivered is.number reply ∷ [];
       cut = (refused_at place).link;
-      after = kept (maildir (files_of account front ++ file_from account is.uid reply ∷ [])) (file (u.ready.file.failures + 1));
+      after = account_files (maildir (files_of account front ++ file_from account is.uid reply ∷ [])) (file (u.ready.file.failures + 1));
       files = record { files = is.files ∙ ap (λ l. before.maildir.files ++ l) files_are; content = refl };
       sent = (
         asking (turns_of back),
@@ -413,13 +413,13 @@ was_cut fault outcome is ended = absurd cc
 
 pub fronts_are_sessions : SteadyFilesKeep → TurnsJoin → HonestIsGranted → FrontsAreSessions
 fronts_are_sessions keeps joins granted world state occasion is u front back next left split (inl here) =
-    let there = between joins occasion.settings (digits_of occasion.settings) occasion.now occasion.link state.kept occasion.link' occasion.after u front back next left split here in (
+    let there = between joins occasion.settings (digits_of occasion.settings) occasion.now occasion.link state.account occasion.link' occasion.after u front back next left split here in (
       there,
       λ report told. record {
         session = record {
           settings = is.settings;
           session = there.session report told;
-          served = served_between joins occasion.settings (digits_of occasion.settings) occasion.now occasion.link state.kept occasion.link' occasion.after u front back next left split granted
+          served = served_between joins occasion.settings (digits_of occasion.settings) occasion.now occasion.link state.account occasion.link' occasion.after u front back next left split granted
               is.settings.valid (maildrop_at world state occasion) occasion.vanished is.served;
         };
         cut = was_cut there.fault report.outcome told.outcome_is;
@@ -427,13 +427,13 @@ fronts_are_sessions keeps joins granted world state occasion is u front back nex
       },
     )
 fronts_are_sessions keeps joins granted world state occasion is u front back next left split (inr here) =
-    let there = within joins occasion.settings (digits_of occasion.settings) occasion.now occasion.link state.kept occasion.link' occasion.after u front back next left split keeps here in (
+    let there = within joins occasion.settings (digits_of occasion.settings) occasion.now occasion.link state.account occasion.link' occasion.after u front back next left split keeps here in (
       there,
       λ report told. record {
         session = record {
           settings = is.settings;
           session = there.session report told;
-          served = served_within joins occasion.settings (digits_of occasion.settings) occasion.now occasion.link state.kept occasion.link' occasion.after u front back next left split granted
+          served = served_within joins occasion.settings (digits_of occasion.settings) occasion.now occasion.link state.account occasion.link' occasion.after u front back next left split granted
               is.settings.valid (maildrop_at world state occasion) occasion.vanished is.served keeps here;
         };
         cut = was_cut there.fault report.outcome told.outcome_is;

@@ -19,14 +19,14 @@ use Rattle.fetch_session.specs.Account.{digits_of}
 use Rattle.fetch_session.specs.Record.{KeepsRows}
 use Rattle.mail_terms.specs.UniqueId.{has_id, is_legal_id}
 use Rattle.run_law.specs.Mails.{item_of, listing_of, is_selected, WorldsShrink}
-use Rattle.run_law.specs.Accounts.{Account, KeepsOthers, copies, files}
+use Rattle.run_law.specs.Accounts.{AccountMail, KeepsOthers, copies, files}
 use Rattle.run_law.specs.Steps.{Effect, Leaves, Stores, IsHonest, ids_wanted, merged_rows, wanted_at}
 use Rattle.run_law.specs.Runs.{IsSound, World, State, Visit, Event as EventIn, Visited, Between as BetweenIn, Expired as ExpiredIn, Withdrawn as WithdrawnIn, TakenAway as TakenIn, BroughtBack as BroughtIn, Forgotten as ForgottenIn, PowerLost as PowerLostIn, Visits, IsLastStored as LastIn, Happens, after_event as after_in, world_after as world_in, Promises as PromisesIn, Kept as IsKeptIn, KeptStaysKept, KeptHoldsWhatIsLeft, StartsKept, LeavesOut, DeletesHeld, StoresOnlyNew as StoresNew, past_limit, NothingTakenHoldsExactly}
 use Rattle.run_law.specs.Sessions.{IsBegun, Link as LinkIn, LinksAreVisits}
 use Rattle.fetch_runs.specs.Steps.{holds, IsStep, SessionIsAStep}
 use Rattle.fetch_runs.specs.Headline.{Occasion, Event, Fetched, Between, Expired, Withdrawn, TakenAway, BroughtBack, Forgotten, PowerLost, maildrop_at, IsSession, after_event, world_after, world_left, Follows, IsLastStored, by_rows, HoldsAPrefix, IsHeldAfter, IsPastCount, LeavesOutOnlyBeyondLimits, IsForHeld, FilesStay, StoresOnlyNew, Promised, IsKept, Headline, EmptyIsKept, HeadlineFromEmpty, state_after, IsRun, contents_of, IsRecorded, HoldsExactlyAPrefix, IsForOneHeld, IsWordForWord, LeaveAway, HeadlineWordForWord, StaysAway, LostRecordsAreForgotten, NewProcessesAreBetween, StopsAreRuns}
 use Rattle.fetch_runs.proofs.TalkCommands.{all_weaker, begins_of}
-use Rattle.fetch_session.specs.Session.{Kept, Kept as Kept}
+use Rattle.fetch_session.specs.Session.{AccountFiles}
 
 -- the laws that are used
 pub record Laws : Type 0 where
@@ -38,7 +38,7 @@ pub record Laws : Type 0 where
   pub shrink : WorldsShrink
 
 -- a prefix is held, whatever the record says
-holds_prefix : Laws → (world : World) (state : State Kept) → IsSound world → IsKept world state → HoldsAPrefix world state
+holds_prefix : Laws → (world : World) (state : State AccountFiles) → IsSound world → IsKept world state → HoldsAPrefix world state
 holds_prefix laws world state sound is =
     let left = laws.holds_what_is_left world (by_rows is.0 state) sound is.2 in
     record { j = left.j; below = left.below; contents = left.contents; ids = left.ids; once = left.once }
@@ -67,14 +67,14 @@ for_message P drop effect (inl listed) all number begun =
     (begun.3, at.0, at.1, subst (λ (i : Item). P i.uid) (sym at.2) (held_in P effect.begun begun.0.uid all begun.2))
 for_message P drop effect (inr none) all number begun = absurd (true≢false (sym begun.2 ∙ ap (λ (ids : List (List ℕ)). has_id ids begun.0.uid) none.0))
 
-module _ (laws : Laws) (world : World) (state : State Kept) (occasion : Occasion) (sound : IsSound world) (rows : List Row) (keeps : KeepsRows state.kept.file.content rows)
+module _ (laws : Laws) (world : World) (state : State AccountFiles) (occasion : Occasion) (sound : IsSound world) (rows : List Row) (keeps : KeepsRows state.account.file.content rows)
     (is_kept : IsKeptIn world (by_rows rows state)) (is : IsSession world state occasion) where
   abbrev IsStepFor : List ℕ → Type 0
-  IsStepFor account = IsStep occasion.settings account occasion.now occasion.link state.kept rows occasion.report occasion.link' occasion.after
+  IsStepFor account = IsStep occasion.settings account occasion.now occasion.link state.account rows occasion.report occasion.link' occasion.after
 
   step : IsStepFor world.account
   step = subst IsStepFor is.settings.account
-      (laws.steps occasion.settings (digits_of occasion.settings) occasion.now occasion.link state.kept rows occasion.report occasion.link' occasion.after is.settings.valid keeps is.session)
+      (laws.steps occasion.settings (digits_of occasion.settings) occasion.now occasion.link state.account rows occasion.report occasion.link' occasion.after is.settings.valid keeps is.session)
 
   abbrev link_of : IsStepFor world.account → LinkIn
   link_of s = record { settings = occasion.settings; come = occasion.come; sent = s.sent; got = s.got; vanished = occasion.vanished; after = holds s.rows' occasion.after.maildir }
@@ -91,7 +91,7 @@ module _ (laws : Laws) (world : World) (state : State Kept) (occasion : Occasion
     abbrev promised : Type 0
     promised = IsKeptIn world (by_rows s.rows' (after_event state (Fetched occasion)))
         × LeavesOut world (by_rows rows state) (visit_of s) × DeletesHeld world (by_rows rows state) (visit_of s)
-        × KeepsOthers world.account (holds rows state.kept.maildir) (holds s.rows' occasion.after.maildir) × StoresNew world (by_rows rows state) (visit_of s)
+        × KeepsOthers world.account (holds rows state.account.maildir) (holds s.rows' occasion.after.maildir) × StoresNew world (by_rows rows state) (visit_of s)
 
     happened : promised
     happened =
@@ -100,9 +100,9 @@ module _ (laws : Laws) (world : World) (state : State Kept) (occasion : Occasion
 
     -- the listing was the maildrop's, or nothing was begun and the session was cut
     abbrev AreStored : Type 0
-    AreStored = Leaves (holds rows state.kept.maildir) s.effect (holds s.rows' occasion.after.maildir)
-        ⊎ (Stores occasion.settings world.account (holds rows state.kept.maildir) s.effect (holds s.rows' occasion.after.maildir)
-        × IsHonest (wanted_at occasion.settings world.account (holds rows state.kept.maildir) s.effect) (maildrop_at world state occasion) s.effect)
+    AreStored = Leaves (holds rows state.account.maildir) s.effect (holds s.rows' occasion.after.maildir)
+        ⊎ (Stores occasion.settings world.account (holds rows state.account.maildir) s.effect (holds s.rows' occasion.after.maildir)
+        × IsHonest (wanted_at occasion.settings world.account (holds rows state.account.maildir) s.effect) (maildrop_at world state occasion) s.effect)
 
     listing_or_nothing : (s.effect.listing ≡ listing_of (maildrop_at world state occasion)) ⊎ ((s.effect.begun ≡ []) × (s.effect.ended ≡ false))
     listing_or_nothing = elim visits.step [
@@ -112,13 +112,13 @@ module _ (laws : Laws) (world : World) (state : State Kept) (occasion : Occasion
 
     -- an uncut session
     past_count : (message : Message) → s.effect.listing ≡ listing_of (maildrop_at world state occasion)
-        → has_id (ids_wanted (past_limit occasion.settings.max_count (candidates occasion.settings (merged_rows world.account (holds rows state.kept.maildir) s.effect) s.effect.listing))) message.uid ≡ true
+        → has_id (ids_wanted (past_limit occasion.settings.max_count (candidates occasion.settings (merged_rows world.account (holds rows state.account.maildir) s.effect) s.effect.listing))) message.uid ≡ true
         → IsPastCount world state occasion message
     past_count message listed is_past = (rows, keeps, rw (← s.now_is, ← listed) is_past)
 
     abbrev LeftOut : Message → Type 0
     LeftOut m = (is_held world.account occasion.after.maildir m.uid ≡ true) ⊎ (has_id state.taken m.uid ≡ true) ⊎ (is_selected world.max_size m ≡ false)
-        ⊎ (has_id (ids_wanted (past_limit occasion.settings.max_count (candidates occasion.settings (merged_rows world.account (holds rows state.kept.maildir) s.effect) s.effect.listing))) m.uid ≡ true)
+        ⊎ (has_id (ids_wanted (past_limit occasion.settings.max_count (candidates occasion.settings (merged_rows world.account (holds rows state.account.maildir) s.effect) s.effect.listing))) m.uid ≡ true)
 
     abbrev Excluded : Message → Type 0
     Excluded m = IsHeldAfter world state occasion m.uid ⊎ (is_selected world.max_size m ≡ false) ⊎ IsPastCount world state occasion m
@@ -141,13 +141,13 @@ module _ (laws : Laws) (world : World) (state : State Kept) (occasion : Occasion
     for_held held (Dele number) begun = for_message (IsHeldAfter world state occasion) (maildrop_at world state occasion) s.effect listing_or_nothing held number begun
     for_held held other begun = tt
 
-    files_stay : AreStored → FilesStay state.kept.maildir occasion.after.maildir
-    files_stay (inl left) = record { gained = []; came = left.same ∙ sym (append-nil state.kept.maildir.files) }
+    files_stay : AreStored → FilesStay state.account.maildir occasion.after.maildir
+    files_stay (inl left) = record { gained = []; came = left.same ∙ sym (append-nil state.account.maildir.files) }
     files_stay (inr (stores, honest)) = record { gained = _; came = stores.came }
 
     stores_only_new : StoresNew world (by_rows rows state) (visit_of s) → StoresOnlyNew world state occasion
     stores_only_new new only_new id legal recorded =
-        let same : rows ≡ recorded.0 = (laws.one state.kept.file.content rows recorded.0 keeps.0 recorded.1.0 keeps.1 recorded.1.1).0 in
+        let same : rows ≡ recorded.0 = (laws.one state.account.file.content rows recorded.0 keeps.0 recorded.1.0 keeps.1 recorded.1.1).0 in
         let now = new only_new id legal (ap (λ (rs : List Row). is_delivered rs id) same ∙ recorded.2) in
         (now.0, (s.rows', s.keeps, now.1))
 
@@ -185,15 +185,15 @@ module _ (laws : Laws) (world : World) (state : State Kept) (occasion : Occasion
 -- ---- what happens between sessions
 
 -- what the law over runs says of one event
-one_event : Laws → (world : World) (state : State Kept) (event : EventIn) (rows : List Row) → IsSound world → IsKeptIn world (by_rows rows state) → Happens world (by_rows rows state) event
+one_event : Laws → (world : World) (state : State AccountFiles) (event : EventIn) (rows : List Row) → IsSound world → IsKeptIn world (by_rows rows state) → Happens world (by_rows rows state) event
     → IsKeptIn (world_in world event) (after_in (by_rows rows state) event) × PromisesIn world (by_rows rows state) event
 one_event laws world state event rows sound kept happens =
     let all = laws.stays world (by_rows rows state) (event ∷ []) sound kept (happens, tt) in (all.0, all.1.0)
 
 -- what a loss of power left of a message's files, over the rows for which the record's file stood
-power_mail : Laws → (world : World) (state : State Kept) (after : Kept) (rows : List Row) → KeepsRows state.kept.file.content rows → (id : List ℕ)
-    → (contents_of world after id ≡ contents_of world state.kept id) ⊎ ((contents_of world after id ≡ []) × ((has_id state.taken id ≡ true) ⊎ IsLastStored world state id))
-    → (contents_of world after id ≡ contents_of world state.kept id) ⊎ ((contents_of world after id ≡ []) × ((has_id state.taken id ≡ true) ⊎ LastIn world (by_rows rows state) id))
+power_mail : Laws → (world : World) (state : State AccountFiles) (after : AccountFiles) (rows : List Row) → KeepsRows state.account.file.content rows → (id : List ℕ)
+    → (contents_of world after id ≡ contents_of world state.account id) ⊎ ((contents_of world after id ≡ []) × ((has_id state.taken id ≡ true) ⊎ IsLastStored world state id))
+    → (contents_of world after id ≡ contents_of world state.account id) ⊎ ((contents_of world after id ≡ []) × ((has_id state.taken id ≡ true) ⊎ LastIn world (by_rows rows state) id))
 power_mail laws world state after rows keeps id (inl same) = inl same
 power_mail laws world state after rows keeps id (inr (none, inl taken)) = inr (none, inl taken)
 power_mail laws world state after rows keeps id (inr (none, inr lastly)) = inr (
@@ -205,7 +205,7 @@ power_mail laws world state after rows keeps id (inr (none, inr lastly)) = inr (
   }),
 )
 
-event_promised : Laws → (world : World) (state : State Kept) (event : Event) → IsSound world → IsKept world state → Follows world state event
+event_promised : Laws → (world : World) (state : State AccountFiles) (event : Event) → IsSound world → IsKept world state → Follows world state event
     → Promised world state event × IsKept (world_after world event) (after_event state event)
 event_promised laws world state (Fetched occasion) sound is follows = fetched_promised laws world state occasion sound is.0 is.1 is.2 follows
 event_promised laws world state (Between after) sound is between =
@@ -252,9 +252,9 @@ pub empty_is_kept : StartsKept → EmptyIsKept
 empty_is_kept starts world start empty = (
   [],
   empty.record_is,
-  subst (λ (ids : List (List ℕ)). IsKeptIn world (let s : State Account = record { kept = holds [] start.kept.maildir; gone = ids; taken = start.taken } in s)) (sym empty.none_gone)
-      (subst (λ (ids : List (List ℕ)). IsKeptIn world (let s : State Account = record { kept = holds [] start.kept.maildir; gone = []; taken = ids } in s)) (sym empty.none_taken)
-      (starts world (holds [] start.kept.maildir) refl empty.no_file)),
+  subst (λ (ids : List (List ℕ)). IsKeptIn world (let s : State AccountMail = record { account = holds [] start.account.maildir; gone = ids; taken = start.taken } in s)) (sym empty.none_gone)
+      (subst (λ (ids : List (List ℕ)). IsKeptIn world (let s : State AccountMail = record { account = holds [] start.account.maildir; gone = []; taken = ids } in s)) (sym empty.none_taken)
+      (starts world (holds [] start.account.maildir) refl empty.no_file)),
 )
 
 pub from_empty : Headline → EmptyIsKept → HeadlineFromEmpty
@@ -262,15 +262,15 @@ from_empty law empty_kept world start events sound empty run = (law world start 
 
 -- ---- one event
 
-abbrev OneEvent : World → State Kept → Event → Type 0
+abbrev OneEvent : World → State AccountFiles → Event → Type 0
 OneEvent world state event = HoldsAPrefix world state × Promised world state event × IsKept (world_after world event) (after_event state event)
 
-event_kept : Headline → (world : World) (state : State Kept) (event : Event) → IsSound world → IsKept world state → Follows world state event → OneEvent world state event
+event_kept : Headline → (world : World) (state : State AccountFiles) (event : Event) → IsSound world → IsKept world state → Follows world state event → OneEvent world state event
 event_kept law world state event sound is follows = let all = law world state (event ∷ []) sound is (follows, tt) in (all.0.0, all.0.1, all.1)
 
 -- ---- nothing taken away
 
-module _ (world : World) (state : State Kept) (occasion : Occasion) (none : state.taken ≡ []) where
+module _ (world : World) (state : State AccountFiles) (occasion : Occasion) (none : state.taken ≡ []) where
   held_after : (id : List ℕ) → IsHeldAfter world state occasion id → is_held world.account occasion.after.maildir id ≡ true
   held_after id (inl held) = held
   held_after id (inr taken) = absurd (true≢false (sym taken ∙ ap (λ (ids : List (List ℕ)). has_id ids id) none))
@@ -300,7 +300,7 @@ module _ (world : World) (state : State Kept) (occasion : Occasion) (none : stat
     next = begins_of (IsForHeld world state occasion) (IsForOneHeld world state occasion) for_one promised.1.asked.part promised.1.next;
   }
 
-holds_exactly : NothingTakenHoldsExactly → (world : World) (state : State Kept) → state.taken ≡ [] → HoldsAPrefix world state → HoldsExactlyAPrefix world state
+holds_exactly : NothingTakenHoldsExactly → (world : World) (state : State AccountFiles) → state.taken ≡ [] → HoldsAPrefix world state → HoldsExactlyAPrefix world state
 holds_exactly nothing world state none holds' = nothing world (by_rows [] state) holds' none
 
 pub headline_word_for_word : Headline → NothingTakenHoldsExactly → HeadlineWordForWord
@@ -322,32 +322,32 @@ headline_word_for_word law nothing world start (event ∷ events) sound is run n
 -- ---- what is taken away stays away
 
 -- what is recorded and not held
-abbrev IsAway : World → Kept → List ℕ → Type 0
+abbrev IsAway : World → AccountFiles → List ℕ → Type 0
 IsAway world state id = IsRecorded state id × (contents_of world state id ≡ [])
 
-recorded_in : (before after : Kept) (id : List ℕ) → ((rows : List Row) → KeepsRows before.file.content rows → KeepsRows after.file.content rows) → IsRecorded before id → IsRecorded after id
+recorded_in : (before after : AccountFiles) (id : List ℕ) → ((rows : List Row) → KeepsRows before.file.content rows → KeepsRows after.file.content rows) → IsRecorded before id → IsRecorded after id
 recorded_in before after id same recorded = (recorded.0, same recorded.0 recorded.1, recorded.2)
 
-still_away : Headline → (world : World) (state : State Kept) (event : Event) (id : List ℕ) → IsSound world → IsKept world state → Follows world state event
-    → LeaveAway id (event ∷ []) → is_legal_id id ≡ true → IsAway world state.kept id → IsAway (world_after world event) (after_event state event).kept id
+still_away : Headline → (world : World) (state : State AccountFiles) (event : Event) (id : List ℕ) → IsSound world → IsKept world state → Follows world state event
+    → LeaveAway id (event ∷ []) → is_legal_id id ≡ true → IsAway world state.account id → IsAway (world_after world event) (after_event state event).account id
 still_away laws world state (Fetched occasion) id sound is follows leave legal away =
     let now = (event_kept laws world state (Fetched occasion) sound is follows).1.4 leave.0 id legal away.0 in (now.1, now.0 ∙ away.1)
-still_away laws world state (Between after) id sound is between leave legal away = (recorded_in state.kept after id between.record_is away.0, between.mail id legal ∙ away.1)
+still_away laws world state (Between after) id sound is between leave legal away = (recorded_in state.account after id between.record_is away.0, between.mail id legal ∙ away.1)
 still_away laws world state (Expired ids) id sound is expired leave legal away = away
 still_away laws world state (Withdrawn ids) id sound is withdrawn leave legal away = away
 still_away laws world state (TakenAway other after) id sound is taken leave legal away = (
-  recorded_in state.kept after id taken.record_is away.0,
+  recorded_in state.account after id taken.record_is away.0,
   elim (cases_Bool (bytes_eq id other)) [
     | inl same ↦ ap (λ (x : List ℕ). contents_of world after x) ((bytes_eq-Decides id other).0 same) ∙ taken.none
     | inr apart ↦ taken.others id legal apart ∙ away.1
   ],
 )
 still_away laws world state (BroughtBack other after) id sound is brought leave legal away =
-    (recorded_in state.kept after id brought.record_is away.0, brought.others id legal leave.0 ∙ away.1)
+    (recorded_in state.account after id brought.record_is away.0, brought.others id legal leave.0 ∙ away.1)
 still_away laws world state (Forgotten after) id sound is forgotten leave legal away = (leave.0, forgotten.mail id legal ∙ away.1)
 still_away laws world state (PowerLost after) id sound is lost leave legal away = (leave.0, none_left (lost.mail id legal))
   where
-    none_left : (contents_of world after id ≡ contents_of world state.kept id) ⊎ ((contents_of world after id ≡ []) × ((has_id state.taken id ≡ true) ⊎ IsLastStored world state id))
+    none_left : (contents_of world after id ≡ contents_of world state.account id) ⊎ ((contents_of world after id ≡ []) × ((has_id state.taken id ≡ true) ⊎ IsLastStored world state id))
         → contents_of world after id ≡ []
     none_left (inl same) = same ∙ away.1
     none_left (inr gone) = gone.0
@@ -359,8 +359,8 @@ one_left id (Forgotten after) events h = ((h.0, tt), h.1)
 one_left id (PowerLost after) events h = ((h.0, tt), h.1)
 one_left id other events h = (tt, h)
 
-stay_all : WorldsShrink → Headline → (world : World) (start : State Kept) (events : List Event) (id : List ℕ) → IsSound world → IsKept world start → IsRun world start events
-    → LeaveAway id events → is_legal_id id ≡ true → IsAway world start.kept id → IsAway (world_left world events) (state_after start events).kept id
+stay_all : WorldsShrink → Headline → (world : World) (start : State AccountFiles) (events : List Event) (id : List ℕ) → IsSound world → IsKept world start → IsRun world start events
+    → LeaveAway id events → is_legal_id id ≡ true → IsAway world start.account id → IsAway (world_left world events) (state_after start events).account id
 stay_all shrink laws world start [] id sound is run leave legal away = away
 stay_all shrink laws world start (event ∷ events) id sound is run leave legal away =
     let split = one_left id event events leave in
@@ -377,7 +377,7 @@ same_account world (event ∷ events) = same_account (world_after world event) e
 
 pub stays_away : WorldsShrink → Headline → StaysAway
 stays_away shrink laws world start events id sound is run leave legal recorded none =
-    subst (λ (account : List ℕ). copies (files (holds [] (state_after start events).kept.maildir)) (stem_of account id) ≡ []) (same_account world events)
+    subst (λ (account : List ℕ). copies (files (holds [] (state_after start events).account.maildir)) (stem_of account id) ≡ []) (same_account world events)
     (stay_all shrink laws world start events id sound is run leave legal (recorded, none)).1
 
 -- ---- a record that is lost

@@ -6,14 +6,14 @@ use Rattle.pop3_wire.specs.declared.command.Command.{Command}
 use Rattle.pop3_wire.specs.declared.command.Command.TheVariants.{Dele}
 use Rattle.pop3_wire.specs.World.{Message, IsWorld}
 use Rattle.mail_terms.specs.UniqueId.{has_id}
-use Rattle.fetch_rules.specs.Record.{Row, Intent, Held, is_delivered}
+use Rattle.fetch_rules.specs.Record.{Row, Intent, RecordState, is_delivered}
 use Rattle.fetch_rules.specs.RecordGrowth.{OneRecord}
 use Rattle.fetch_rules.specs.Wanted.{candidates}
 use Rattle.fetch_session.specs.Record.{Keeps}
 use Rattle.fetch_session.specs.Target.{mail_in}
 use Rattle.fetch_session.specs.declared.report.Outcome.TheVariants.{Ended}
 use Rattle.run_law.specs.Mails.{listing_of, is_selected, WorldsShrink}
-use Rattle.run_law.specs.Mboxes.{MboxAccount, mbox_rows}
+use Rattle.run_law.specs.Mboxes.{MboxMail, mbox_rows}
 use Rattle.run_law.specs.MboxRuns.{MboxWorld, MboxState, MboxKept as IsKeptIn, MboxVisits, MboxVisited, MboxExpired, MboxWithdrawn, MboxRewritten, IsUnbegun, AreAllRecorded, SomeAreRecorded, MboxPromises as PromisesIn, MboxEnds, MboxHolds, MboxKeptStaysKept, MboxKeptHolds, MboxStartsKept}
 use Rattle.run_law.specs.MboxSessions.{MboxLink, MboxLinksAreVisits, mbox_visit_of}
 use Rattle.run_law.specs.Runs.{past_limit}
@@ -23,7 +23,7 @@ use Rattle.fetch_runs.specs.MboxSteps.{mbox_holds, IsMboxStep, MboxSessionIsASte
 use Rattle.fetch_runs.specs.MboxHeadline.{MboxOccasion, MboxEvent, Fetched, Between, Expired, Withdrawn, Rewritten, WritingsAreEvents, maildrop_at, IsMboxSession, after_event, world_after, Follows, by_record, HoldsEntries, IsEntered, IsPastCount, EndsWhole, IsForEntered, MboxPromised, IsMboxKept, MboxHeadline, MboxStartIsKept, MboxHeadlineFromStart, MboxStopsAreRuns}
 use Rattle.fetch_runs.proofs.HeadlineLemmas.{for_message}
 use Rattle.fetch_runs.proofs.TalkCommands.{all_weaker, begins_of}
-use Rattle.fetch_session.specs.Session.{MboxKept}
+use Rattle.fetch_session.specs.Session.{MboxAccountFiles}
 
 -- the laws that are used
 pub record Laws : Type 0 where
@@ -34,7 +34,7 @@ pub record Laws : Type 0 where
   pub one : OneRecord
   pub shrink : WorldsShrink
 
-holds_entries : Laws → (world : MboxWorld) (state : MboxState MboxKept) → IsWorld world.all → IsMboxKept world state → HoldsEntries world state
+holds_entries : Laws → (world : MboxWorld) (state : MboxState MboxAccountFiles) → IsWorld world.all → IsMboxKept world state → HoldsEntries world state
 holds_entries laws world state sound is = (is.0, is.1, laws.holds world (by_record is.0 state) sound is.2)
 
 -- ---- one session
@@ -42,9 +42,9 @@ holds_entries laws world state sound is = (is.0, is.1, laws.holds world (by_reco
 some_none : (i : Intent) → Some i ≡ None → ⊥
 some_none i e = cc
 
-module _ (laws : Laws) (world : MboxWorld) (state : MboxState MboxKept) (occasion : MboxOccasion) (sound : IsWorld world.all) (held : Held) (keeps : Keeps state.kept.file.content held)
+module _ (laws : Laws) (world : MboxWorld) (state : MboxState MboxAccountFiles) (occasion : MboxOccasion) (sound : IsWorld world.all) (held : RecordState) (keeps : Keeps state.account.file.content held)
     (is_kept : IsKeptIn world (by_record held state)) (is : IsMboxSession world state occasion)
-    (s : IsMboxStep occasion.settings occasion.now occasion.link state.kept held occasion.report occasion.link' occasion.after) where
+    (s : IsMboxStep occasion.settings occasion.now occasion.link state.account held occasion.report occasion.link' occasion.after) where
   abbrev link_in : MboxLink
   link_in = record { settings = occasion.settings; come = occasion.come; sent = s.sent; got = s.got; vanished = occasion.vanished; after = mbox_holds s.held' occasion.after.mbox }
 
@@ -70,13 +70,13 @@ module _ (laws : Laws) (world : MboxWorld) (state : MboxState MboxKept) (occasio
 
   -- an uncut session
   past_count : (message : Message) → s.effect.listing ≡ listing_of (maildrop_at world state occasion)
-      → has_id (ids_wanted (past_limit occasion.settings.max_count (candidates occasion.settings (mbox_rows (mbox_holds held state.kept.mbox) s.effect) s.effect.listing))) message.uid ≡ true
+      → has_id (ids_wanted (past_limit occasion.settings.max_count (candidates occasion.settings (mbox_rows (mbox_holds held state.account.mbox) s.effect) s.effect.listing))) message.uid ≡ true
       → IsPastCount world state occasion message
   past_count message listed is_past = (held, keeps, rw (← s.now_is, ← listed) is_past)
 
   abbrev LeftOut : Message → Type 0
   LeftOut m = (is_delivered s.held'.rows m.uid ≡ true) ⊎ (is_selected world.max_size m ≡ false)
-      ⊎ (has_id (ids_wanted (past_limit occasion.settings.max_count (candidates occasion.settings (mbox_rows (mbox_holds held state.kept.mbox) s.effect) s.effect.listing))) m.uid ≡ true)
+      ⊎ (has_id (ids_wanted (past_limit occasion.settings.max_count (candidates occasion.settings (mbox_rows (mbox_holds held state.account.mbox) s.effect) s.effect.listing))) m.uid ≡ true)
 
   abbrev Excluded : Message → Type 0
   Excluded m = IsEntered world occasion.after m.uid ⊎ (is_selected world.max_size m ≡ false) ⊎ IsPastCount world state occasion m
@@ -129,35 +129,35 @@ module _ (laws : Laws) (world : MboxWorld) (state : MboxState MboxKept) (occasio
 -- ---- what happens between sessions
 
 -- a file stands for one record
-same_held : OneRecord → (content : Option (List ℕ)) (a b : Held) → Keeps content a → Keeps content b → a ≡ b
+same_held : OneRecord → (content : Option (List ℕ)) (a b : RecordState) → Keeps content a → Keeps content b → a ≡ b
 same_held one content a b x y = let same = one content a.rows b.rows a.intent b.intent x y in rw (same.0, same.1)
 
-event_promised : Laws → (world : MboxWorld) (state : MboxState MboxKept) (event : MboxEvent) → IsWorld world.all → IsMboxKept world state → Follows world state event
+event_promised : Laws → (world : MboxWorld) (state : MboxState MboxAccountFiles) (event : MboxEvent) → IsWorld world.all → IsMboxKept world state → Follows world state event
     → MboxPromised world state event × IsMboxKept (world_after world event) (after_event state event)
 event_promised laws world state (Fetched occasion) sound (held, keeps, kept) is =
     session_promised laws world state occasion sound held keeps kept is
-    (laws.steps occasion.settings occasion.now occasion.link state.kept held occasion.report occasion.link' occasion.after is.settings.valid keeps is.session)
+    (laws.steps occasion.settings occasion.now occasion.link state.account held occasion.report occasion.link' occasion.after is.settings.valid keeps is.session)
 event_promised laws world state (Between after) sound (held, keeps, kept) between = (
   tt,
   (
     held,
     between.record_is held keeps,
-    subst (λ (bytes : List ℕ). IsKeptIn world (let s : MboxState MboxAccount = record { kept = record { rows = held.rows; intent = held.intent; file = bytes }; gone = state.gone } in s)) (sym between.mail) kept,
+    subst (λ (bytes : List ℕ). IsKeptIn world (let s : MboxState MboxMail = record { account = record { rows = held.rows; intent = held.intent; file = bytes }; gone = state.gone } in s)) (sym between.mail) kept,
   ),
 )
 event_promised laws world state (Expired ids) sound (held, keeps, kept) (other, stood, all) =
-    let same = laws.one state.kept.file.content other.rows held.rows other.intent held.intent stood keeps in
+    let same = laws.one state.account.file.content other.rows held.rows other.intent held.intent stood keeps in
     let after = laws.stays world (by_record held state) (MboxExpired ids ∷ []) sound kept (subst (λ (rows : List Row). AllByRecursion (λ (id : List ℕ). is_delivered rows id ≡ true) ids) same.0 all, tt) in
     (tt, (held, keeps, after.0))
 event_promised laws world state (Withdrawn ids) sound (held, keeps, kept) (other, stood, all) =
-    let same = same_held laws.one state.kept.file.content other held stood keeps in
+    let same = same_held laws.one state.account.file.content other held stood keeps in
     let after = laws.stays world (by_record held state) (MboxWithdrawn ids ∷ []) sound kept
-    (subst (λ (h : Held). AllByRecursion (IsUnbegun (mbox_holds h state.kept.mbox)) ids) same all, tt) in
+    (subst (λ (h : RecordState). AllByRecursion (IsUnbegun (mbox_holds h state.account.mbox)) ids) same all, tt) in
     (tt, (held, keeps, after.0))
 event_promised laws world state (Rewritten had after) sound (held, keeps, kept) is =
-    let same = same_held laws.one state.kept.file.content is.held held is.stood_for keeps in
+    let same = same_held laws.one state.account.file.content is.held held is.stood_for keeps in
     let next = laws.stays world (by_record held state) (MboxRewritten had (mail_in after.mbox.content) ∷ []) sound kept
-    (subst (λ (h : Held). AreAllRecorded world (mbox_holds h state.kept.mbox) had) same is.recorded, tt) in
+    (subst (λ (h : RecordState). AreAllRecorded world (mbox_holds h state.account.mbox) had) same is.recorded, tt) in
     (tt, (held, subst (Keeps after.file.content) same is.stands_for, next.0))
 
 -- ---- any list of them
@@ -178,8 +178,8 @@ pub start_is_kept : MboxStartsKept → MboxStartIsKept
 start_is_kept starts world start is = (
   is.held,
   is.stands_for,
-  subst (λ (i : Option Intent). IsKeptIn world (let s : MboxState MboxAccount = record { kept = record { rows = is.held.rows; intent = i; file = mail_in start.kept.mbox.content }; gone = start.gone } in s)) (sym is.closed)
-      (subst (λ (bytes : List ℕ). IsKeptIn world (let s : MboxState MboxAccount = record { kept = record { rows = is.held.rows; intent = None; file = bytes }; gone = start.gone } in s)) (sym is.file)
+  subst (λ (i : Option Intent). IsKeptIn world (let s : MboxState MboxMail = record { account = record { rows = is.held.rows; intent = i; file = mail_in start.account.mbox.content }; gone = start.gone } in s)) (sym is.closed)
+      (subst (λ (bytes : List ℕ). IsKeptIn world (let s : MboxState MboxMail = record { account = record { rows = is.held.rows; intent = None; file = bytes }; gone = start.gone } in s)) (sym is.file)
       (starts world is.held.rows is.ahead start.gone is.prefix is.recorded is.gone)),
 )
 
@@ -190,8 +190,8 @@ from_start law kept world start events sound is run = (law world start events so
 
 pub writings_are_events : SomeAreRecorded → OneRecord → WritingsAreEvents
 writings_are_events some one world state after (held, keeps, kept) others =
-    let same = same_held one state.kept.file.content others.held held others.stood_for keeps in
-    let all = some world (by_record held state) kept (subst (λ (h : Held). h.intent ≡ None) same others.closed) in
+    let same = same_held one state.account.file.content others.held held others.stood_for keeps in
+    let all = some world (by_record held state) kept (subst (λ (h : RecordState). h.intent ≡ None) same others.closed) in
     (all.0, record { held = held; stood_for = keeps; stands_for = subst (Keeps after.file.content) same others.stands_for; recorded = all.1 })
 
 pub stops_are_runs : MboxStopsAreRuns

@@ -16,13 +16,13 @@ use Rattle.pop3_client.specs.Texts.{body_text}
 use Rattle.fetch_session.specs.Task.{Task, stores, rereads, Done, IsAnswered, tasks_of, texts_in, texts_of}
 use Rattle.fetch_session.specs.Target.{no_maildir, AsEntries, Stores, mail_in, is_stored, closed_file, rows_in}
 use Rattle.run_law.specs.Steps.{Effect}
-use Rattle.run_law.specs.Mboxes.{MboxAccount, settled, mbox_wanted, entries, intent_of as law_intent}
-use Rattle.run_law.specs.MboxTold.{bytes_at, OpensAt, AllRecorded, LastUnrecorded, MboxTold}
+use Rattle.run_law.specs.Mboxes.{MboxMail, settled, mbox_wanted, entries, intent_of as law_intent}
+use Rattle.run_law.specs.MboxCounted.{bytes_at, OpensAt, AllRecorded, LastUnrecorded, MboxCounted}
 use Rattle.fetch_runs.proofs.Courses.{found_in, found_by, Course, course, stored_done, course_stopped, course_does, found_of, begun_of, SessionCourse, Idle, Deals, course_carried, course_carries, course_proceeded}
 use Rattle.fetch_runs.proofs.StatePlan.{key, fetched_in, fetched, IsRight}
 use Rattle.fetch_runs.proofs.StateDone.{text_found, texts_by, same_length, number_found, number_of, Laws, Inputs, rows_on, messages_on, tasks_on, rows_after, Part, effect_of, right_part, records_part, wanted_are}
 use Rattle.std.proofs.lemmas.Option.{same_Some}
-use Rattle.fetch_rules.specs.Record.{Row, Intent, Held, none_open, marked, merged}
+use Rattle.fetch_rules.specs.Record.{Row, Intent, RecordState, none_open, marked, merged}
 use Rattle.mail_store.specs.FlatFile.{Stored}
 use Rattle.pop3_client.specs.Turns.{IsGood, retr}
 use Rattle.fetch_session.specs.declared.fault.Cut.{Cut}
@@ -98,7 +98,7 @@ front_texts texts more dones are =
     ap (λ (l : List (List ℕ)). take (length (found_by dones)) l) are ∙ take_at (texts_by dones) more (length (found_by dones)) (length-map (found_by dones) text_found)
 
 -- no intent is open, and nothing follows the entries
-pub closed_at : {settings : Settings} {before : MboxAccount} {effect : Effect} {after : MboxAccount} (dones : List Done) (more : List (List ℕ)) → effect.texts ≡ texts_by dones ++ more
+pub closed_at : {settings : Settings} {before : MboxMail} {effect : Effect} {after : MboxMail} (dones : List Done) (more : List (List ℕ)) → effect.texts ≡ texts_by dones ++ more
     → after.intent ≡ None → after.file ≡ (settled effect.listing before).file ++ entries (texts_by dones) → AllRecorded settings before effect (length (found_by dones)) after
 closed_at {before = before} {effect = effect} dones more are none file = record {
   text = [];
@@ -109,7 +109,7 @@ closed_at {before = before} {effect = effect} dones more are none file = record 
 }
 
 -- the intent of the next entry is open
-pub opens_at : {settings : Settings} {before : MboxAccount} {effect : Effect} {after : MboxAccount} (dones : List Done) (text : List ℕ) (message : ℕ × Item)
+pub opens_at : {settings : Settings} {before : MboxMail} {effect : Effect} {after : MboxMail} (dones : List Done) (text : List ℕ) (message : ℕ × Item)
     → effect.texts ≡ texts_by dones ++ text ∷ [] → slice_get (mbox_wanted settings before effect) (length (found_by dones)) ≡ Some message
     → after.intent ≡ Some (law_intent ((settled effect.listing before).file ++ entries (texts_by dones)) message.1.uid text) → OpensAt settings before effect (length (found_by dones)) text after
 opens_at {before = before} {effect = effect} dones text message are wanted intent = record {
@@ -121,7 +121,7 @@ opens_at {before = before} {effect = effect} dones text message are wanted inten
 }
 
 -- and a prefix of it follows
-pub open_at : {settings : Settings} {before : MboxAccount} {effect : Effect} {after : MboxAccount} (dones : List Done) (text front behind : List ℕ) → effect.texts ≡ texts_by dones ++ text ∷ []
+pub open_at : {settings : Settings} {before : MboxMail} {effect : Effect} {after : MboxMail} (dones : List Done) (text front behind : List ℕ) → effect.texts ≡ texts_by dones ++ text ∷ []
     → OpensAt settings before effect (length (found_by dones)) text after → entry_of text ≡ front ++ behind → after.file ≡ ((settled effect.listing before).file ++ entries (texts_by dones)) ++ front
     → AllRecorded settings before effect (length (found_by dones)) after
 open_at {before = before} {effect = effect} dones text front behind are opens entry file = record {
@@ -133,7 +133,7 @@ open_at {before = before} {effect = effect} dones text front behind are opens en
 }
 
 -- and it is whole
-pub unrecorded_at : {settings : Settings} {before : MboxAccount} {effect : Effect} {after : MboxAccount} (dones full : List Done) (text : List ℕ) → effect.texts ≡ texts_by full
+pub unrecorded_at : {settings : Settings} {before : MboxMail} {effect : Effect} {after : MboxMail} (dones full : List Done) (text : List ℕ) → effect.texts ≡ texts_by full
     → length (found_by dones) + 1 ≡ length (found_by full) → OpensAt settings before effect (length (found_by dones)) text after → after.file ≡ (settled effect.listing before).file ++ entries (texts_by full)
     → LastUnrecorded settings before effect (length (found_by full)) (length (found_by dones)) after
 unrecorded_at {before = before} {effect = effect} dones full text are less opens file = record {
@@ -205,34 +205,34 @@ look_content looked.NoMemory old new never = absurd never
 
 -- ---- the account that a session left, and what it found
 
-abbrev pub rows_settled : List Item → Held → Stored → List Row
+abbrev pub rows_settled : List Item → RecordState → Stored → List Row
 rows_settled items held mbox = (settled items (mbox_holds held mbox)).rows
 
-abbrev pub bytes_settled : List Item → Held → Stored → List ℕ
+abbrev pub bytes_settled : List Item → RecordState → Stored → List ℕ
 bytes_settled items held mbox = (settled items (mbox_holds held mbox)).file
 
-abbrev pub held_with : List Row → Option Intent → Held
+abbrev pub held_with : List Row → Option Intent → RecordState
 held_with rows intent = record { rows = rows; intent = intent }
 
-pub record MboxLeads (settings : Settings) (now : ℕ) (ended : Bool) (c : Course) (held : Held) (mbox mbox' : Stored) (content' : Option (List ℕ)) (lines : List ReportLine) (unsaved : Type 0) : Type 0 where
-  pub held' : Held
+pub record MboxLeads (settings : Settings) (now : ℕ) (ended : Bool) (c : Course) (held : RecordState) (mbox mbox' : Stored) (content' : Option (List ℕ)) (lines : List ReportLine) (unsaved : Type 0) : Type 0 where
+  pub held' : RecordState
   pub keeps : Keeps content' held'
-  pub told : MboxTold settings (mbox_holds held mbox) (effect_of now ended c) (mbox_holds held' mbox')
+  pub figures : MboxCounted settings (mbox_holds held mbox) (effect_of now ended c) (mbox_holds held' mbox')
   pub numbers : map number_found (found_of c) ≡ map number_of (take (length (found_of c)) (mbox_wanted settings (mbox_holds held mbox) (effect_of now ended c)))
   pub right : AllByRecursion (IsRight [] no_maildir c.items) (begun_of c)
-  pub counted : retrieved_in lines ≡ told.k
-  pub one_less : told.j + 1 ≡ told.k → unsaved
+  pub counted : retrieved_in lines ≡ figures.k
+  pub one_less : figures.j + 1 ≡ figures.k → unsaved
 
 -- the tasks are those of an account with an empty Maildir: no message counts as held
-abbrev pub inputs : Settings → List Item → ℕ → Held → Stored → Inputs
+abbrev pub inputs : Settings → List Item → ℕ → RecordState → Stored → Inputs
 inputs settings items now held mbox = record { settings = settings; account = []; items = items; now = now; maildir = no_maildir; rows = rows_settled items held mbox }
 
-module _ (laws : Laws) (settings : Settings) (items : List Item) (now : ℕ) (held : Held) (mbox : Stored) where
+module _ (laws : Laws) (settings : Settings) (items : List Item) (now : ℕ) (held : RecordState) (mbox : Stored) where
   abbrev p : Inputs
   p = inputs settings items now held mbox
 
   -- after these were done, with this intent open
-  abbrev held_after : List Done → Option Intent → Held
+  abbrev held_after : List Done → Option Intent → RecordState
   held_after dones intent = held_with (rows_after p dones) intent
 
   abbrev bytes_after : List Done → List ℕ
@@ -250,7 +250,7 @@ module _ (laws : Laws) (settings : Settings) (items : List Item) (now : ℕ) (he
     lead intent' keeps marks closed = record {
       held' = held_after noted intent';
       keeps = keeps;
-      told = record {
+      figures = record {
         k = length (found_by taken);
         j = length (found_by noted);
         number = rw (tally_number laws p t) t.number;
@@ -399,7 +399,7 @@ same_closed : (intent : Option Intent) (items : List Item) (bytes : List ℕ) �
 same_closed None items bytes = refl
 same_closed (Some intent) items bytes = refl
 
-held_same : (a b : Held) → a.rows ≡ b.rows → a.intent ≡ b.intent → a ≡ b
+held_same : (a b : RecordState) → a.rows ≡ b.rows → a.intent ≡ b.intent → a ≡ b
 held_same a b rows intent = ap (λ (r : List Row). held_with r a.intent) rows ∙ ap (λ (i : Option Intent). held_with b.rows i) intent
 
 -- a cause leaves the mboxrd file as it was, or settled
@@ -409,34 +409,34 @@ settled_by items (StoreRefused why.Missing) mbox file mbox' file' is = inl (ap (
 settled_by items fault mbox file mbox' file' is = search rules
 
 -- nothing was asked for: the record is as it was, and the file is as it was, or settled
-pub record Rests (settings : Settings) (now : ℕ) (ended : Bool) (c : Course) (held : Held) (mbox mbox' : Stored) (content' : Option (List ℕ)) (lines : List ReportLine) : Type 0 where
+pub record Rests (settings : Settings) (now : ℕ) (ended : Bool) (c : Course) (held : RecordState) (mbox mbox' : Stored) (content' : Option (List ℕ)) (lines : List ReportLine) : Type 0 where
   pub none : begun_of c ≡ []
   pub told : retrieved_in lines ≡ 0
   pub keeps : Keeps content' held
   pub leaves : Law.MboxLeaves (mbox_holds held mbox) (effect_of now ended c) (mbox_holds held mbox')
 
-abbrev pub Left : Settings → ℕ → Bool → Course → Held → Stored → Stored → Option (List ℕ) → List ReportLine → Type 0 → Type 0
+abbrev pub Left : Settings → ℕ → Bool → Course → RecordState → Stored → Stored → Option (List ℕ) → List ReportLine → Type 0 → Type 0
 Left settings now ended c held mbox mbox' content' lines unsaved =
     Rests settings now ended c held mbox mbox' content' lines ⊎ MboxLeads settings now ended c held mbox mbox' content' lines unsaved
 
-module _ (laws : Laws) (settings : Settings) (items : List Item) (now : ℕ) (place : Place) (store : Stores) (file : Stored) (lines : List ReportLine) (held : Held) (keeps : Keeps file.content held) (no_lines : lines ≡ []) where
+module _ (laws : Laws) (settings : Settings) (items : List Item) (now : ℕ) (place : Place) (store : Stores) (file : Stored) (lines : List ReportLine) (held : RecordState) (keeps : Keeps file.content held) (no_lines : lines ≡ []) where
   -- the record that was read is this one
-  was_held : (was : Held) → Keeps file.content was → was ≡ held
+  was_held : (was : RecordState) → Keeps file.content was → was ≡ held
   was_held was stood =
       let one = laws.one file.content was.rows held.rows was.intent held.intent stood keeps in
       held_same was held one.0 one.1
 
-  closed_is : (was : Held) (bytes : List ℕ) → Keeps file.content was → store.mbox.content ≡ Some bytes → closed_file was.intent items bytes ≡ bytes_settled items held store.mbox
+  closed_is : (was : RecordState) (bytes : List ℕ) → Keeps file.content was → store.mbox.content ≡ Some bytes → closed_file was.intent items bytes ≡ bytes_settled items held store.mbox
   closed_is was bytes stood is =
-      ap (λ (h : Held). closed_file h.intent items bytes) (was_held was stood) ∙ same_closed held.intent items bytes
+      ap (λ (h : RecordState). closed_file h.intent items bytes) (was_held was stood) ∙ same_closed held.intent items bytes
       ∙ ap (λ (o : Option (List ℕ)). Law.closed_file held.intent items (mail_in o)) (sym is)
 
-  rows_are : (was : Held) → Keeps file.content was → rows_in AsEntries store was items ≡ rows_settled items held store.mbox
+  rows_are : (was : RecordState) → Keeps file.content was → rows_in AsEntries store was items ≡ rows_settled items held store.mbox
   rows_are was stood =
-      ap (λ (h : Held). rows_in AsEntries store h items) (was_held was stood)
+      ap (λ (h : RecordState). rows_in AsEntries store h items) (was_held was stood)
       ∙ ap (λ (b : Bool). closed_rows b held.rows held.intent) (same_stored held.intent items (mail_in store.mbox.content))
 
-  settled_content : (was : Held) (new : Stores) → Keeps file.content was → Settles AsEntries was items store new → new.mbox.content ≡ Some (bytes_settled items held store.mbox)
+  settled_content : (was : RecordState) (new : Stores) → Keeps file.content was → Settles AsEntries was items store new → new.mbox.content ≡ Some (bytes_settled items held store.mbox)
   settled_content was new stood (bytes, is, settled, goes_on) = ap (λ (s : Stored). s.content) settled ∙ ap Some (closed_is was bytes stood is)
 
   -- nothing was planned
@@ -457,7 +457,7 @@ module _ (laws : Laws) (settings : Settings) (items : List Item) (now : ℕ) (pl
         by (inl content) =
             inl (rests is.lines_are (subst (λ (c : Option (List ℕ)). Keeps c held) (sym content) keeps) (mail_left (settled_by items cut.fault store.mbox file new.store.mbox new.file is.unready.cause)))
         by (inr (was, stood, settled, inl stays)) =
-            inl (rests is.lines_are (subst (λ (h : Held). Keeps new.file.content h) (was_held was stood) stays) (inr (ap mail_in (settled_content was new.store stood settled))))
+            inl (rests is.lines_are (subst (λ (h : RecordState). Keeps new.file.content h) (was_held was stood) stays) (inr (ap mail_in (settled_content was new.store stood settled))))
         by (inr (was, stood, settled, inr merges)) =
             inr (lead_closed laws settings items now held store.mbox (tally_none laws (inputs settings items now held store.mbox) new.lines (ap retrieved_in (is.lines_are ∙ no_lines))) new.store.mbox new.file.content [] refl
             (subst (λ (r : List Row). Keeps new.file.content (held_with (merged r items (flags_of [] no_maildir items) now) None)) (rows_are was stood) merges)
@@ -482,12 +482,12 @@ module _ (laws : Laws) (settings : Settings) (items : List Item) (now : ℕ) (pl
   carries_leads (Err cut) place' store' file' lines' skipped (rows, inr is) = inr (carried_leads (Err cut) (scene place' store' file' rows lines') skipped is)
 
 -- the account is as it was, or as the course leaves it
-abbrev pub CourseLeaves : Settings → ℕ → Result (Unit {0}) Cut → SessionCourse → Held → Keeping → Keeping → List ReportLine → Type 0
+abbrev pub CourseLeaves : Settings → ℕ → Result (Unit {0}) Cut → SessionCourse → RecordState → Keeping → Keeping → List ReportLine → Type 0
 CourseLeaves settings now result Idle held before after lines = (is_ended result ≡ false) × (after ≡ before) × (lines ≡ [])
 CourseLeaves settings now result (Deals course) held before after lines =
     Left settings now (is_ended result) course held before.store.mbox after.store.mbox after.file.content lines (UnsavedIn result)
 
-pub course_leaves : (laws : Laws) (settings : Settings) (now : ℕ) (old : Place) (before : Keeping) (result : Result (Unit {0}) Cut) (new : Place) (after : Keeping) (notes : Noted) (held : Held)
+pub course_leaves : (laws : Laws) (settings : Settings) (now : ℕ) (old : Place) (before : Keeping) (result : Result (Unit {0}) Cut) (new : Place) (after : Keeping) (notes : Noted) (held : RecordState)
     → Keeps before.file.content held → (is : Proceeds settings AsEntries now old before result new after notes)
     → CourseLeaves settings now result (course_proceeded settings AsEntries now old before result new after notes is) held before after notes.lines
 course_leaves laws settings now old before (Ok done) new after notes held keeps dealt =

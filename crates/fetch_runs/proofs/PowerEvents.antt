@@ -16,7 +16,7 @@ use Rattle.pop3_wire.specs.World.{Message, IsMessage}
 use Rattle.run_law.specs.Accounts.{copies}
 use Rattle.run_law.specs.Mails.{WorldsShrink, ids_of, is_selected, messages_after, selected, texts_of, without}
 use Rattle.run_law.specs.Runs.{State, IsSound, World, HoldsOf}
-use Rattle.fetch_session.specs.Session.{Kept}
+use Rattle.fetch_session.specs.Session.{AccountFiles}
 use Rattle.fetch_runs.specs.Headline.{AreTaken, AreTakings, Event, Fetched, Between, Expired, Withdrawn, TakenAway, BroughtBack, Forgotten, PowerLost, Follows, Headline, IsKept, IsLastStored, IsNeither, IsRecorded, IsRun, KeepsRecord, after_event, contents_of, by_rows, world_after}
 use Rattle.fetch_runs.specs.Power.{AllMayBeOnDisk, CanLosePower, IsSure, IsSureOrTaken, LossesAreEvents, SessionsAndPower}
 use Rattle.fetch_runs.specs.PowerRuns.{AsMuchIsSure, CanAlwaysLosePower, EventOn, EventsKeepPower, HeadlineOn, IsRunOn, KeepsSure, TakingsRunOn, events_of}
@@ -96,7 +96,7 @@ all_without P limit ids (m ∷ ms) all = by (all_without P limit ids ms) (is_sel
 
 -- ---- one event
 
-module _ (one : OneRecord) {D F : Type 0} (disk : DiskGhosts D) (files : FileGhosts F) (world : World) (sound : IsSound world) (state : State Kept) (is : IsKept world state)
+module _ (one : OneRecord) {D F : Type 0} (disk : DiskGhosts D) (files : FileGhosts F) (world : World) (sound : IsSound world) (state : State AccountFiles) (is : IsKept world state)
     (was : D) (from : F) (can : CanLosePower disk files was from world state) where
   abbrev account : List ℕ
   account = world.account
@@ -117,35 +117,35 @@ module _ (one : OneRecord) {D F : Type 0} (disk : DiskGhosts D) (files : FileGho
 
       by : HoldsOf world (by_rows is.0 state) is.2.done id → IsSureOrTaken disk was world state id
       by (inr taken) = inr taken.0
-      by (inl same) = elim (can.stay id legal (some_held account id state.kept.maildir.files (λ none. texts_some is.2.done id has (sym same ∙ none)))) [
+      by (inl same) = elim (can.stay id legal (some_held account id state.account.maildir.files (λ none. texts_some is.2.done id has (sym same ∙ none)))) [
         | inl sure ↦ inl sure
         | inr (inl taken) ↦ inr taken
         | inr (inr lastly) ↦ absurd (lastly.unrecorded (is.0, is.1, delivered))
       ]
 
   -- a message is held where its files hold what they held
-  held_back : (after : Kept) (id : List ℕ) → contents_of world after id ≡ contents_of world state.kept id → is_held account after.maildir id ≡ true → is_held account state.kept.maildir id ≡ true
-  held_back after id same held = some_held account id state.kept.maildir.files (λ none. held_some account id after.maildir.files held (same ∙ none))
+  held_back : (after : AccountFiles) (id : List ℕ) → contents_of world after id ≡ contents_of world state.account id → is_held account after.maildir id ≡ true → is_held account state.account.maildir id ≡ true
+  held_back after id same held = some_held account id state.account.maildir.files (λ none. held_some account id after.maildir.files held (same ∙ none))
 
-  not_held : (after : Kept) (id : List ℕ) → contents_of world after id ≡ contents_of world state.kept id → is_held account state.kept.maildir id ≡ false → is_held account after.maildir id ≡ false
-  not_held after id same not = false_from_ne_true (is_held account after.maildir id) (λ held. both_ways (is_held account state.kept.maildir id) not (held_back after id same held))
+  not_held : (after : AccountFiles) (id : List ℕ) → contents_of world after id ≡ contents_of world state.account id → is_held account state.account.maildir id ≡ false → is_held account after.maildir id ≡ false
+  not_held after id same not = false_from_ne_true (is_held account after.maildir id) (λ held. both_ways (is_held account state.account.maildir id) not (held_back after id same held))
 
-  same_recorded : (after : Kept) → KeepsRecord state.kept after → (id : List ℕ) → IsRecorded after id → IsRecorded state.kept id
+  same_recorded : (after : AccountFiles) → KeepsRecord state.account after → (id : List ℕ) → IsRecorded after id → IsRecorded state.account id
   same_recorded after keeps id recorded =
       (is.0, is.1, ap (λ (r : List Row). is_delivered r id) (one after.file.content is.0 recorded.0 (keeps is.0 is.1).0 recorded.1.0 (keeps is.0 is.1).1 recorded.1.1).0 ∙ recorded.2)
 
-  module _ (device : D) (after : State Kept) where
+  module _ (device : D) (after : State AccountFiles) where
     abbrev Shown : Type 0
-    Shown = (rows : List Row) → KeepsRows after.kept.file.content rows → (id : List ℕ) → is_delivered is.0 id ≡ true
+    Shown = (rows : List Row) → KeepsRows after.account.file.content rows → (id : List ℕ) → is_delivered is.0 id ≡ true
         → (is_delivered rows id ≡ true) ⊎ ((is_legal_id id ≡ true) × IsSureOrTaken disk device world after id)
 
-    same_shown : KeepsRecord state.kept after.kept → Shown
+    same_shown : KeepsRecord state.account after.account → Shown
     same_shown same rows keeps_rows id delivered =
-        inl (ap (λ (r : List Row). is_delivered r id) (one after.kept.file.content rows is.0 keeps_rows.0 (same is.0 is.1).0 keeps_rows.1 (same is.0 is.1).1).0 ∙ delivered)
+        inl (ap (λ (r : List Row). is_delivered r id) (one after.account.file.content rows is.0 keeps_rows.0 (same is.0 is.1).0 keeps_rows.1 (same is.0 is.1).1).0 ∙ delivered)
 
-  module _ (device : D) (f : F) (after : State Kept) (keeps : KeepsSure disk files world was from state device f after) where
+  module _ (device : D) (f : F) (after : State AccountFiles) (keeps : KeepsSure disk files world was from state device f after) where
     -- the last that was stored still is
-    still_last : ((id : List ℕ) → IsRecorded after.kept id → IsRecorded state.kept id) → ((m : Message) → is_legal_id m.uid ≡ true → IsNeither world state m.uid → IsNeither world after m.uid)
+    still_last : ((id : List ℕ) → IsRecorded after.account id → IsRecorded state.account id) → ((m : Message) → is_legal_id m.uid ≡ true → IsNeither world state m.uid → IsNeither world after m.uid)
         → (id : List ℕ) → (has_id state.gone id ≡ false → has_id after.gone id ≡ false) → IsLastStored world state id → IsLastStored world after id
     still_last back neither id on_server lastly = record {
       unrecorded = λ recorded. lastly.unrecorded (back id recorded);
@@ -154,7 +154,7 @@ module _ (one : OneRecord) {D F : Type 0} (disk : DiskGhosts D) (files : FileGho
           (messages_after id (selected world.max_size world.all)) (all_after (λ (m : Message). is_legal_id m.uid ≡ true) id (selected world.max_size world.all) all_legal) lastly.last;
     }
 
-    can_after : ((id : List ℕ) → is_legal_id id ≡ true → is_held account after.kept.maildir id ≡ true → IsSureOrTaken disk device world after id ⊎ (is_held account state.kept.maildir id ≡ true))
+    can_after : ((id : List ℕ) → is_legal_id id ≡ true → is_held account after.account.maildir id ≡ true → IsSureOrTaken disk device world after id ⊎ (is_held account state.account.maildir id ≡ true))
         → ((id : List ℕ) → is_legal_id id ≡ true → IsLastStored world state id → IsSureOrTaken disk device world after id ⊎ IsLastStored world after id)
         → Shown device after → CanLosePower disk files device f world after
     can_after held last shown = record {
@@ -169,7 +169,7 @@ module _ (one : OneRecord) {D F : Type 0} (disk : DiskGhosts D) (files : FileGho
       shows = λ left now rows may keeps_now keeps_rows id delivered. elim (keeps.record_is left may) [
         | inl same ↦
             let there = subst (λ (c : Option (List ℕ)). KeepsRows c now) same keeps_now in
-            inl (ap (λ (r : List Row). is_delivered r id) (one after.kept.file.content rows now keeps_rows.0 there.0 keeps_rows.1 there.1).0 ∙ delivered)
+            inl (ap (λ (r : List Row). is_delivered r id) (one after.account.file.content rows now keeps_rows.0 there.0 keeps_rows.1 there.1).0 ∙ delivered)
         | inr before ↦ elim (can.shows left now is.0 before keeps_now is.1 id delivered) [
           | inl shown_before ↦ shown rows keeps_rows id shown_before
           | inr (legal, safe) ↦ inr (legal, keeps.mail id legal safe)
@@ -178,7 +178,7 @@ module _ (one : OneRecord) {D F : Type 0} (disk : DiskGhosts D) (files : FileGho
     }
       where
         placed : (id : List ℕ) → IsSureOrTaken disk device world after id ⊎ IsLastStored world after id
-            → IsSure disk device world after.kept.maildir.files id ⊎ (has_id after.taken id ≡ true) ⊎ IsLastStored world after id
+            → IsSure disk device world after.account.maildir.files id ⊎ (has_id after.taken id ≡ true) ⊎ IsLastStored world after id
         placed id (inl (inl sure)) = inl sure
         placed id (inl (inr taken)) = inr (inl taken)
         placed id (inr lastly) = inr (inr lastly)
@@ -210,15 +210,15 @@ module _ (one : OneRecord) {D F : Type 0} (disk : DiskGhosts D) (files : FileGho
       by next true s false w false same = rw (w, s, same) (next (later s same))
 
   module _ (device : D) (f : F) where
-    abbrev Keeps : State Kept → Type 0
+    abbrev Keeps : State AccountFiles → Type 0
     Keeps after = KeepsSure disk files world was from state device f after
 
     -- of each message the files hold what they held, and nothing more was taken away
-    after_same : (after : Kept) → Keeps (record state { kept = after }) → ((id : List ℕ) → is_legal_id id ≡ true → contents_of world after id ≡ contents_of world state.kept id)
-        → ((id : List ℕ) → IsRecorded after id → IsRecorded state.kept id) → Shown device (record state { kept = after }) → CanLosePower disk files device f world (record state { kept = after })
-    after_same after keeps same back shown = can_after device f (record state { kept = after }) keeps
+    after_same : (after : AccountFiles) → Keeps (record state { account = after }) → ((id : List ℕ) → is_legal_id id ≡ true → contents_of world after id ≡ contents_of world state.account id)
+        → ((id : List ℕ) → IsRecorded after id → IsRecorded state.account id) → Shown device (record state { account = after }) → CanLosePower disk files device f world (record state { account = after })
+    after_same after keeps same back shown = can_after device f (record state { account = after }) keeps
         (λ id legal held. inr (held_back after id (same id legal) held))
-        (λ id legal lastly. inr (still_last device f (record state { kept = after }) keeps back (λ m l neither. (not_held after m.uid (same m.uid l) neither.0, neither.1)) id (λ on. on) lastly))
+        (λ id legal lastly. inr (still_last device f (record state { account = after }) keeps back (λ m l neither. (not_held after m.uid (same m.uid l) neither.0, neither.1)) id (λ on. on) lastly))
         shown
 
     after_expired : (ids : List (List ℕ)) → Keeps (record state { gone = state.gone ++ ids }) → AllByRecursion (λ id. IsLastStored world state id → IsSureOrTaken disk was world state id) ids
@@ -228,7 +228,7 @@ module _ (one : OneRecord) {D F : Type 0} (disk : DiskGhosts D) (files : FileGho
         (λ id legal lastly. by id legal lastly (cases_Bool (has_id ids id)))
         (same_shown device after (λ rows keeps_rows. keeps_rows))
       where
-        after : State Kept
+        after : State AccountFiles
         after = record state { gone = state.gone ++ ids }
 
         by : (id : List ℕ) → is_legal_id id ≡ true → IsLastStored world state id → (has_id ids id ≡ true) ⊎ (has_id ids id ≡ false)
@@ -258,10 +258,10 @@ module _ (one : OneRecord) {D F : Type 0} (disk : DiskGhosts D) (files : FileGho
         same : CanLosePower disk files device f world state
         same = can_after device f state keeps (λ id legal held. inr held) (λ id legal lastly. inr lastly) (same_shown device state (λ rows keeps_rows. keeps_rows))
 
-        kept_id : (id : List ℕ) → is_held account state.kept.maildir id ≡ true → has_id ids id ≡ false
-        kept_id id held = false_from_ne_true (has_id ids id) (λ has. both_ways (is_held account state.kept.maildir id) (held_in (IsNeither world state) ids id neither has).0 held)
+        kept_id : (id : List ℕ) → is_held account state.account.maildir id ≡ true → has_id ids id ≡ false
+        kept_id id held = false_from_ne_true (has_id ids id) (λ has. both_ways (is_held account state.account.maildir id) (held_in (IsNeither world state) ids id neither has).0 held)
 
-    after_taking : (id : List ℕ) (after : Kept) → Keeps (after_event state (TakenAway id after)) → Follows world state (TakenAway id after) → CanLosePower disk files device f world (after_event state (TakenAway id after))
+    after_taking : (id : List ℕ) (after : AccountFiles) → Keeps (after_event state (TakenAway id after)) → Follows world state (TakenAway id after) → CanLosePower disk files device f world (after_event state (TakenAway id after))
     after_taking id after keeps taken = can_after device f next keeps
         (λ other legal held. by other legal held (cases_Bool (bytes_eq other id)))
         (λ other legal lastly. inr (still_last device f next keeps (same_recorded after taken.record_is) (λ m l neither.
@@ -269,26 +269,26 @@ module _ (one : OneRecord) {D F : Type 0} (disk : DiskGhosts D) (files : FileGho
         (not_held after m.uid (taken.others m.uid l apart) neither.0, or_from (bytes_eq m.uid id) (has_id state.taken m.uid) apart neither.1)) other (λ on. on) lastly))
         (same_shown device next taken.record_is)
       where
-        next : State Kept
+        next : State AccountFiles
         next = after_event state (TakenAway id after)
 
         others : (m : Message) → IsNeither world state m.uid → bytes_eq m.uid id ≡ false
-        others m neither = false_from_ne_true (bytes_eq m.uid id) (λ same. both_ways (is_held account state.kept.maildir m.uid) neither.0
-            (subst (λ (x : List ℕ). is_held account state.kept.maildir x ≡ true) (sym ((bytes_eq-Decides m.uid id).0 same)) taken.held))
+        others m neither = false_from_ne_true (bytes_eq m.uid id) (λ same. both_ways (is_held account state.account.maildir m.uid) neither.0
+            (subst (λ (x : List ℕ). is_held account state.account.maildir x ≡ true) (sym ((bytes_eq-Decides m.uid id).0 same)) taken.held))
 
         by : (other : List ℕ) → is_legal_id other ≡ true → is_held account after.maildir other ≡ true → (bytes_eq other id ≡ true) ⊎ (bytes_eq other id ≡ false)
-            → IsSureOrTaken disk device world next other ⊎ (is_held account state.kept.maildir other ≡ true)
+            → IsSureOrTaken disk device world next other ⊎ (is_held account state.account.maildir other ≡ true)
         by other legal held (inl same) = inl (inr (ap (λ b. b || has_id state.taken other) same))
         by other legal held (inr apart) = inr (held_back after other (taken.others other legal apart) held)
 
-    after_bringing : (id : List ℕ) (after : Kept) → Keeps (after_event state (BroughtBack id after)) → Follows world state (BroughtBack id after) → CanLosePower disk files device f world (after_event state (BroughtBack id after))
+    after_bringing : (id : List ℕ) (after : AccountFiles) → Keeps (after_event state (BroughtBack id after)) → Follows world state (BroughtBack id after) → CanLosePower disk files device f world (after_event state (BroughtBack id after))
     after_bringing id after keeps brought = can_after device f next keeps
         (λ other legal held. by other legal held (cases_Bool (bytes_eq other id)))
         (λ other legal lastly. inr (still_last device f next keeps (same_recorded after brought.record_is) (λ m l neither.
         (not_held after m.uid (brought.others m.uid l (others m neither)) neither.0, none_filtered (λ x. not (bytes_eq x id)) state.taken m.uid neither.1)) other (λ on. on) lastly))
         (same_shown device next brought.record_is)
       where
-        next : State Kept
+        next : State AccountFiles
         next = after_event state (BroughtBack id after)
 
         others : (m : Message) → IsNeither world state m.uid → bytes_eq m.uid id ≡ false
@@ -296,15 +296,15 @@ module _ (one : OneRecord) {D F : Type 0} (disk : DiskGhosts D) (files : FileGho
             (subst (λ (x : List ℕ). has_id state.taken x ≡ true) (sym ((bytes_eq-Decides m.uid id).0 same)) brought.taken))
 
         by : (other : List ℕ) → is_legal_id other ≡ true → is_held account after.maildir other ≡ true → (bytes_eq other id ≡ true) ⊎ (bytes_eq other id ≡ false)
-            → IsSureOrTaken disk device world next other ⊎ (is_held account state.kept.maildir other ≡ true)
+            → IsSureOrTaken disk device world next other ⊎ (is_held account state.account.maildir other ≡ true)
         by other legal held (inl same) = inl (keeps.mail other legal (inr (subst (λ (x : List ℕ). has_id state.taken x ≡ true) (sym ((bytes_eq-Decides other id).0 same)) brought.taken)))
         by other legal held (inr apart) = inr (held_back after other (brought.others other legal apart) held)
 
-    after_forgetting : (after : Kept) → Keeps (record state { kept = after }) → Follows world state (Forgotten after) → CanLosePower disk files device f world (record state { kept = after })
+    after_forgetting : (after : AccountFiles) → Keeps (record state { account = after }) → Follows world state (Forgotten after) → CanLosePower disk files device f world (record state { account = after })
     after_forgetting after keeps forgets = after_same after keeps forgets.mail back
         (λ rows keeps_rows id delivered. let safe = recorded_sure id delivered in inr (safe.0, keeps.mail id safe.0 safe.1))
       where
-        back : (id : List ℕ) → IsRecorded after id → IsRecorded state.kept id
+        back : (id : List ℕ) → IsRecorded after id → IsRecorded state.account id
         back id recorded =
             let fewer = forgets.record_is is.0 is.1 in
             (is.0, is.1, fewer.2 id (ap (λ (r : List Row). is_delivered r id) (one after.file.content fewer.0 recorded.0 fewer.1.0 recorded.1.0 fewer.1.1 recorded.1.1).0 ∙ recorded.2))
@@ -315,7 +315,7 @@ events_keep_power disk files laws world state was from (Between after) device f 
   follows.0,
   after_same laws.one disk files world sound state is was from can device f after follows.2 follows.0.mail
       (same_recorded laws.one disk files world sound state is was from can after follows.0.record_is)
-      (same_shown laws.one disk files world sound state is was from can device (record state { kept = after }) follows.0.record_is),
+      (same_shown laws.one disk files world sound state is was from can device (record state { account = after }) follows.0.record_is),
 )
 events_keep_power disk files laws world state was from (Expired ids) device f sound is can follows =
     (follows.0, after_expired laws.one disk files world sound state is was from can device f ids follows.2 follows.1)
@@ -329,12 +329,12 @@ events_keep_power disk files laws world state was from (Forgotten after) device 
     (follows.0, after_forgetting laws.one disk files world sound state is was from can device f after follows.2 follows.0)
 events_keep_power disk files laws world state was from (PowerLost after) device f sound is can left = (
   laws.losses was from world state after left.readable.0 sound is can left.mail left.record_is left.readable.1,
-  laws.begins device f world (record state { kept = after }) left.stay left.same,
+  laws.begins device f world (record state { account = after }) left.stay left.same,
 )
 
 -- ---- a run
 
-run_on : {D F : Type 0} (disk : DiskGhosts D) (files : FileGhosts F) → Headline → WorldsShrink → EventsKeepPower disk files → (world : World) (state : State Kept) (was : D) (from : F) (ons : List (EventOn D F))
+run_on : {D F : Type 0} (disk : DiskGhosts D) (files : FileGhosts F) → Headline → WorldsShrink → EventsKeepPower disk files → (world : World) (state : State AccountFiles) (was : D) (from : F) (ons : List (EventOn D F))
     → IsSound world → IsKept world state → CanLosePower disk files was from world state → IsRunOn disk files world state was from ons
     → IsRun world state (events_of ons) × CanAlwaysLosePower disk files world state was from ons
 run_on disk files law shrink keep world state was from [] sound is can run = (tt, can)
@@ -358,20 +358,20 @@ as_much_is_sure law disk files world state was from event device f sound is take
   record_is = λ left may. inr (much.record_is left may);
 }
   where
-    next : State Kept
+    next : State AccountFiles
     next = after_event state event
 
     front : List ℕ → List ℕ
     front id = stem_of world.account id
 
-    by : (id : List ℕ) → is_legal_id id ≡ true → IsSureOrTaken disk was world state id → (contents_of world next.kept id ≡ contents_of world state.kept id) ⊎ (has_id next.taken id ≡ true)
+    by : (id : List ℕ) → is_legal_id id ≡ true → IsSureOrTaken disk was world state id → (contents_of world next.account id ≡ contents_of world state.account id) ⊎ (has_id next.taken id ≡ true)
         → IsSureOrTaken disk device world next id
     by id legal safe (inr taken) = inr taken
     by id legal (inr taken) (inl same) = inr (stay_taken state (event ∷ []) id takes taken)
     by id legal (inl sure) (inl same) =
-        let some : copies next.kept.maildir.files (front id) ≢ [] = λ none. named_some (front id) state.kept.maildir.files sure.one.name sure.named (named_in state.kept.maildir.files sure.one sure.there) (sym same ∙ none) in
-        let g = held_file world.account id next.kept.maildir.files (some_held world.account id next.kept.maildir.files some) in
-        let e = two_in (front id) state.kept.maildir.files g.0 sure.one (contains_part state.kept.maildir.files next.kept.maildir.files g.0 part g.1) g.2 sure.there sure.named ((law world state [] sound is tt).0.once id legal) in
+        let some : copies next.account.maildir.files (front id) ≢ [] = λ none. named_some (front id) state.account.maildir.files sure.one.name sure.named (named_in state.account.maildir.files sure.one sure.there) (sym same ∙ none) in
+        let g = held_file world.account id next.account.maildir.files (some_held world.account id next.account.maildir.files some) in
+        let e = two_in (front id) state.account.maildir.files g.0 sure.one (contains_part state.account.maildir.files next.account.maildir.files g.0 part g.1) g.2 sure.there sure.named ((law world state [] sound is tt).0.once id legal) in
         inl (record {
           one = g.0;
           there = g.1;
@@ -390,7 +390,7 @@ same_events : {D F : Type 0} (device : D) (f : F) (events : List Event) → even
 same_events device f [] = refl
 same_events device f (event ∷ events) = ap (λ (es : List Event). event ∷ es) (same_events device f events)
 
-taking_on : Headline → {D F : Type 0} (disk : DiskGhosts D) (files : FileGhosts F) (device : D) (f : F) (world : World) (state : State Kept) (events : List Event) → IsSound world → IsKept world state
+taking_on : Headline → {D F : Type 0} (disk : DiskGhosts D) (files : FileGhosts F) (device : D) (f : F) (world : World) (state : State AccountFiles) (events : List Event) → IsSound world → IsKept world state
     → AreTakings events → IsRun world state events → LeaveParts state events → IsRunOn disk files world state device f (on_same device f events)
 taking_on law disk files device f world state [] sound is each run parts = tt
 taking_on law disk files device f world state (TakenAway id after ∷ events) sound is each run parts = (

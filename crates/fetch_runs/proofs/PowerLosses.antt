@@ -74,33 +74,33 @@ losses_are_events law disk files device f world state after now sound is can may
       | inr (legal, inr taken) ↦ inr (legal, inr taken)
     ],
   );
-  mail = λ id legal. by id legal ((law world state [] sound is tt).0.once id legal) (part_copies (stem_of world.account id) state.kept.maildir.files after.maildir.files may.part);
+  mail = λ id legal. by id legal ((law world state [] sound is tt).0.once id legal) (part_copies (stem_of world.account id) state.account.maildir.files after.maildir.files may.part);
 }
   where
-    named_left : (id : List ℕ) → (one : IsSure disk device world state.kept.maildir.files id) → disk.stays device one.one.name ⊎ disk.outlives device one.one → Contains (names_of after.maildir.files) one.one.name
-    named_left id one (inl stays) = may.named one.one.name (named_in state.kept.maildir.files one.one one.there) stays
+    named_left : (id : List ℕ) → (one : IsSure disk device world state.account.maildir.files id) → disk.stays device one.one.name ⊎ disk.outlives device one.one → Contains (names_of after.maildir.files) one.one.name
+    named_left id one (inl stays) = may.named one.one.name (named_in state.account.maildir.files one.one one.there) stays
     named_left id one (inr outlives) = named_in after.maildir.files one.one (may.whole one.one one.there outlives)
 
-    may_go : (id : List ℕ) → copies after.maildir.files (stem_of world.account id) ≡ [] → IsSure disk device world state.kept.maildir.files id ⊎ (has_id state.taken id ≡ true) ⊎ IsLastStored world state id
+    may_go : (id : List ℕ) → copies after.maildir.files (stem_of world.account id) ≡ [] → IsSure disk device world state.account.maildir.files id ⊎ (has_id state.taken id ≡ true) ⊎ IsLastStored world state id
         → (has_id state.taken id ≡ true) ⊎ IsLastStored world state id
     may_go id none (inl one) = absurd (named_some (stem_of world.account id) after.maildir.files one.one.name one.named (named_left id one one.sure) none)
     may_go id none (inr may') = may'
 
-    by : (id : List ℕ) → is_legal_id id ≡ true → length (contents_of world state.kept id) ≤ 1
-        → (copies after.maildir.files (stem_of world.account id) ≡ contents_of world state.kept id) ⊎ (length (copies after.maildir.files (stem_of world.account id)) < length (contents_of world state.kept id))
-        → (copies after.maildir.files (stem_of world.account id) ≡ contents_of world state.kept id)
+    by : (id : List ℕ) → is_legal_id id ≡ true → length (contents_of world state.account id) ≤ 1
+        → (copies after.maildir.files (stem_of world.account id) ≡ contents_of world state.account id) ⊎ (length (copies after.maildir.files (stem_of world.account id)) < length (contents_of world state.account id))
+        → (copies after.maildir.files (stem_of world.account id) ≡ contents_of world state.account id)
         ⊎ ((copies after.maildir.files (stem_of world.account id) ≡ []) × ((has_id state.taken id ≡ true) ⊎ IsLastStored world state id))
     by id legal once (inl same) = inl same
     by id legal once (inr less) =
-        let parts = less_than_one (copies after.maildir.files (stem_of world.account id)) (contents_of world state.kept id) less once in
-        inr (parts.0, may_go id parts.0 (can.stay id legal (some_held world.account id state.kept.maildir.files parts.1)))
+        let parts = less_than_one (copies after.maildir.files (stem_of world.account id)) (contents_of world state.account id) less once in
+        inr (parts.0, may_go id parts.0 (can.stay id legal (some_held world.account id state.account.maildir.files parts.1)))
 
 pub all_on_disk : OneRecord → {D F : Type 0} (disk : DiskGhosts D) (files : FileGhosts F) → AllMayBeOnDisk disk files
 all_on_disk one disk files device f world state stays same = record {
   stay = λ id legal held.
-      let file = held_file world.account id state.kept.maildir.files held in
-      inl (record { one = file.0; there = file.1; named = file.2; sure = inl (stays file.0.name (named_in state.kept.maildir.files file.0 file.1)) });
+      let file = held_file world.account id state.account.maildir.files held in
+      inl (record { one = file.0; there = file.1; named = file.2; sure = inl (stays file.0.name (named_in state.account.maildir.files file.0 file.1)) });
   shows = λ left now rows may keeps_now keeps id d.
       let there = subst (λ (c : Option (List ℕ)). KeepsRows c now) (same left may) keeps_now in
-      inl (ap (λ (r : List Row). is_delivered r id) (one state.kept.file.content rows now keeps.0 there.0 keeps.1 there.1).0 ∙ d);
+      inl (ap (λ (r : List Row). is_delivered r id) (one state.account.file.content rows now keeps.0 there.0 keeps.1 there.1).0 ∙ d);
 }

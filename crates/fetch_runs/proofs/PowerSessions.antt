@@ -18,7 +18,7 @@ use Rattle.fetch_session.specs.Plan.{Carried, Carries, Unprepared, tasks_ahead}
 use Rattle.fetch_session.specs.Readiness.{UnreadyCause}
 use Rattle.fetch_session.specs.Record.{KeepsRows}
 use Rattle.fetch_session.specs.Scene.{FileNotSaved, NoFile, Scene, Stops, scene}
-use Rattle.fetch_session.specs.Session.{Keeping, Kept, LeavesLink, Proceeds, Session, keeps_files, kept, outcome_of}
+use Rattle.fetch_session.specs.Session.{Keeping, AccountFiles, LeavesLink, Proceeds, Session, keeps_files, account_files, outcome_of}
 use Rattle.fetch_session.specs.Report.{Reports}
 use Rattle.fetch_session.specs.Store.{RefusesText}
 use Rattle.fetch_session.specs.Target.{AsFiles, Stores, flags_in, in_maildir}
@@ -185,10 +185,10 @@ quiet_ids (s ∷ ss) (i ∷ is) (h ∷ hs) quiet =
     by false true fetches deletes = absurd (cc deletes)
     by false false fetches deletes = refl
 
-module _ (laws : PowerLaws) {D F : Type 0} (disk : DiskGhosts D) (files : FileGhosts F) (world : World) (sound : IsSound world) (before : Kept) (gone taken : List (List ℕ))
+module _ (laws : PowerLaws) {D F : Type 0} (disk : DiskGhosts D) (files : FileGhosts F) (world : World) (sound : IsSound world) (before : AccountFiles) (gone taken : List (List ℕ))
     (file : Stored) (device : D) (f : F) (file_is : file ≡ files.stored f) (none_left : file.content ≡ None → (left : Option (List ℕ)) → files.may_leave f left → left ≡ None) where
-  abbrev pub state_with : Maildir → State Kept
-  state_with maildir = record { kept = kept maildir file; gone = gone; taken = taken }
+  abbrev pub state_with : Maildir → State AccountFiles
+  state_with maildir = record { account = account_files maildir file; gone = gone; taken = taken }
 
   abbrev account : List ℕ
   account = world.account
@@ -523,7 +523,7 @@ module _ (laws : PowerLaws) {D F : Type 0} (disk : DiskGhosts D) (files : FileGh
 
 -- ---- the session as a whole
 
-module _ (laws : PowerLaws) {D F : Type 0} (disk : DiskGhosts D) (files : FileGhosts F) (world : World) (state : State Kept) (occasion : Occasion) (was : D) (from : F) (device : D) (f : F)
+module _ (laws : PowerLaws) {D F : Type 0} (disk : DiskGhosts D) (files : FileGhosts F) (world : World) (state : State AccountFiles) (occasion : Occasion) (was : D) (from : F) (device : D) (f : F)
     (sound : IsSound world) (is_kept : IsKept world state) (is : IsSessionOf disk files world state occasion was from device f) (can : CanLosePower disk files was from world state) where
   abbrev gone_after : List (List ℕ)
   gone_after = state.gone ++ occasion.vanished
@@ -532,15 +532,15 @@ module _ (laws : PowerLaws) {D F : Type 0} (disk : DiskGhosts D) (files : FileGh
   digits_here = digits_of occasion.settings
 
   abbrev with_maildir : Maildir → Occasion
-  with_maildir m = record occasion { after = kept m occasion.after.file }
+  with_maildir m = record occasion { after = account_files m occasion.after.file }
 
   abbrev SessionTo : Maildir → Type 0
-  SessionTo m = Session occasion.settings digits_here occasion.now occasion.link state.kept occasion.report occasion.link' (kept m occasion.after.file)
+  SessionTo m = Session occasion.settings digits_here occasion.now occasion.link state.account occasion.report occasion.link' (account_files m occasion.after.file)
 
   is_session : (m : Maildir) → SessionTo m → IsSession world state (with_maildir m)
   is_session m s = record { settings = is.settings; session = s; served = is.served }
 
-  kept_after : (m : Maildir) → SessionTo m → IsKept world (state_with laws disk files world sound state.kept gone_after state.taken occasion.after.file device f is.file_is is.none m)
+  kept_after : (m : Maildir) → SessionTo m → IsKept world (state_with laws disk files world sound state.account gone_after state.taken occasion.after.file device f is.file_is is.none m)
   kept_after m s = (laws.headline world state (Fetched (with_maildir m) ∷ []) sound is_kept (is_session m s, tt)).1
 
   pub this_session : IsSession world state occasion
@@ -550,13 +550,13 @@ module _ (laws : PowerLaws) {D F : Type 0} (disk : DiskGhosts D) (files : FileGh
   Answered = CanLosePower disk files device f world (after_event state (Fetched occasion))
 
   -- the files and the record are as they were, and no more may be left
-  module _ (same : occasion.after.maildir.files ≡ state.kept.maildir.files) (same_content : occasion.after.file.content ≡ state.kept.file.content)
+  module _ (same : occasion.after.maildir.files ≡ state.account.maildir.files) (same_content : occasion.after.file.content ≡ state.account.file.content)
       (no_more : LeavesNoMore (files.may_leave from) (files.may_leave f))
-      (sure_on : (id : List ℕ) → is_legal_id id ≡ true → IsSure disk was world state.kept.maildir.files id → IsSure disk device world occasion.after.maildir.files id) where
-    same_held : (id : List ℕ) → is_held world.account occasion.after.maildir id ≡ is_held world.account state.kept.maildir id
+      (sure_on : (id : List ℕ) → is_legal_id id ≡ true → IsSure disk was world state.account.maildir.files id → IsSure disk device world occasion.after.maildir.files id) where
+    same_held : (id : List ℕ) → is_held world.account occasion.after.maildir id ≡ is_held world.account state.account.maildir id
     same_held id = ap (λ (l : List File). list_any (λ (g : File). names_id world.account id g.name) l) same
 
-    recorded_back : (id : List ℕ) → IsRecorded occasion.after id → IsRecorded state.kept id
+    recorded_back : (id : List ℕ) → IsRecorded occasion.after id → IsRecorded state.account id
     recorded_back id r = (r.0, subst (λ (c : Option (List ℕ)). KeepsRows c r.0) same_content r.1, r.2)
 
     go_on : (id : List ℕ) → (has_id state.taken id ≡ true) ⊎ IsLastStored world state id → (has_id state.taken id ≡ true) ⊎ IsLastStored world (after_event state (Fetched occasion)) id
@@ -585,7 +585,7 @@ module _ (laws : PowerLaws) {D F : Type 0} (disk : DiskGhosts D) (files : FileGh
     }
 
   -- nothing was written
-  still : occasion.after.maildir.files ≡ state.kept.maildir.files → IsUntouched disk files (InMaildir was) (InMaildir device) from f → Answered
+  still : occasion.after.maildir.files ≡ state.account.maildir.files → IsUntouched disk files (InMaildir was) (InMaildir device) from f → Answered
   still same un = as_it_was same (ap (λ (s : Stored). s.content) (is.file_is ∙ un.same ∙ sym is.from_is)) un.no_more (λ id legal one. record {
     one = one.one;
     there = subst (λ (l : List File). Contains l one.one) (sym same) one.there;
@@ -601,13 +601,13 @@ module _ (laws : PowerLaws) {D F : Type 0} (disk : DiskGhosts D) (files : FileGh
 
   -- it was cut while it prepared the record
   module _ (items : List Item) (place place' : Place) (cut : Cut) (rows' : List Row) (lines : List ReportLine)
-      (unprepared : Unprepared (AsFiles digits_here) items occasion.now place (in_maildir state.kept.maildir) state.kept.file [] cut
+      (unprepared : Unprepared (AsFiles digits_here) items occasion.now place (in_maildir state.account.maildir) state.account.file [] cut
       (scene place' (in_maildir occasion.after.maildir) occasion.after.file rows' lines))
-      (lasts : UnreadyLasts disk files (InMaildir was) from (AsFiles digits_here) items occasion.now (in_maildir state.kept.maildir) state.kept.file (InMaildir device) f) where
-    same_files : occasion.after.maildir.files ≡ state.kept.maildir.files
+      (lasts : UnreadyLasts disk files (InMaildir was) from (AsFiles digits_here) items occasion.now (in_maildir state.account.maildir) state.account.file (InMaildir device) f) where
+    same_files : occasion.after.maildir.files ≡ state.account.maildir.files
     same_files = by cut.fault unprepared.unready.cause
       where
-        by : (fault : Fault) → UnreadyCause fault state.kept.maildir state.kept.file occasion.after.maildir occasion.after.file → occasion.after.maildir.files ≡ state.kept.maildir.files
+        by : (fault : Fault) → UnreadyCause fault state.account.maildir state.account.file occasion.after.maildir occasion.after.file → occasion.after.maildir.files ≡ state.account.maildir.files
         by SeenRefused cause = ap (λ (m : Maildir). m.files) cause.1
         by (BadSeen line) cause = ap (λ (m : Maildir). m.files) cause.1
         by (StoreRefused Missing) cause = ap (λ (m : Maildir). m.files) cause.1
@@ -615,7 +615,7 @@ module _ (laws : PowerLaws) {D F : Type 0} (disk : DiskGhosts D) (files : FileGh
         by NoMemory cause = ap (λ (m : Maildir). m.files) cause
         by _ never = absurd never
 
-    sure_left : (id : List ℕ) → is_legal_id id ≡ true → IsSure disk was world state.kept.maildir.files id → IsSure disk device world occasion.after.maildir.files id
+    sure_left : (id : List ℕ) → is_legal_id id ≡ true → IsSure disk was world state.account.maildir.files id → IsSure disk device world occasion.after.maildir.files id
     sure_left id legal one = record {
       one = one.one;
       there = subst (λ (l : List File). Contains l one.one) (sym same_files) one.there;
@@ -632,17 +632,17 @@ module _ (laws : PowerLaws) {D F : Type 0} (disk : DiskGhosts D) (files : FileGh
       ];
     }
       where
-        none_took : TookOne one.one.name (disk.maildir was).files state.kept.maildir.files → ⊥
+        none_took : TookOne one.one.name (disk.maildir was).files state.account.maildir.files → ⊥
         none_took took =
-            let there = count_there state.kept.maildir.files one.one one.there in
+            let there = count_there state.account.maildir.files one.one one.there in
             let below = count_below (stem_of world.account id) one.one.name (disk.maildir was).files one.named in
             let once = is.once id legal in
             absurd (omega (arith, took, there, below, once))
 
     -- the record was merged, or was about to be
-    module _ (m : MergeLasts disk files (AsFiles digits_here) items occasion.now (in_maildir state.kept.maildir) state.kept.file (InMaildir device) from f) where
+    module _ (m : MergeLasts disk files (AsFiles digits_here) items occasion.now (in_maildir state.account.maildir) state.account.file (InMaildir device) from f) where
       abbrev here : List Row
-      here = merged m.was.rows items (flags_of digits_here state.kept.maildir items) occasion.now
+      here = merged m.was.rows items (flags_of digits_here state.account.maildir items) occasion.now
 
       all_sure : (id : List ℕ) → is_held world.account occasion.after.maildir id ≡ true → IsSure disk device world occasion.after.maildir.files id
       all_sure id held =
@@ -668,17 +668,17 @@ module _ (laws : PowerLaws) {D F : Type 0} (disk : DiskGhosts D) (files : FileGh
 
       of_was : (id : List ℕ) (rows : List Row) → is_delivered m.was.rows id ≡ true → Shows id rows
       of_was id rows delivered = of_recorded id rows (ap (λ (r : List Row). is_delivered r id)
-          (laws.record_is.one state.kept.file.content is_kept.0 m.was.rows is_kept.1.0 m.was.intent is_kept.1.1 m.stood).0 ∙ delivered)
+          (laws.record_is.one state.account.file.content is_kept.0 m.was.rows is_kept.1.0 m.was.intent is_kept.1.1 m.stood).0 ∙ delivered)
 
       of_merged : (id : List ℕ) (rows : List Row) → is_legal_id id ≡ true → is_delivered here id ≡ true → Shows id rows
       of_merged id rows legal delivered =
-          elim (or_cases (is_delivered m.was.rows id) (is_flagged items (flags_of digits_here state.kept.maildir items) id)
-          (sym (laws.flagged m.was.rows items (flags_of digits_here state.kept.maildir items) occasion.now id) ∙ delivered)) [
+          elim (or_cases (is_delivered m.was.rows id) (is_flagged items (flags_of digits_here state.account.maildir items) id)
+          (sym (laws.flagged m.was.rows items (flags_of digits_here state.account.maildir items) occasion.now id) ∙ delivered)) [
             | inl before ↦ of_was id rows before
             | inr flagged ↦ inr (
               legal,
               inl (all_sure id (ap (λ (l : List File). list_any (λ (g : File). names_id world.account id g.name) l) same_files
-                  ∙ subst (λ (a : List ℕ). is_held a state.kept.maildir id ≡ true) is.settings.account (flag_held digits_here state.kept.maildir items id flagged))),
+                  ∙ subst (λ (a : List ℕ). is_held a state.account.maildir id ≡ true) is.settings.account (flag_held digits_here state.account.maildir items id flagged))),
             )
           ]
 
@@ -713,28 +713,28 @@ module _ (laws : PowerLaws) {D F : Type 0} (disk : DiskGhosts D) (files : FileGh
   answered = by is.session.result is.session.proceeds is.lasts is.session.leaves is.session.reports
     where
       by : (result : Result (Unit {0}) Cut)
-          → (proceeds : Proceeds occasion.settings (AsFiles digits_here) occasion.now (at occasion.link []) (keeps_files state.kept) result is.session.mid (keeps_files occasion.after) is.session.notes)
+          → (proceeds : Proceeds occasion.settings (AsFiles digits_here) occasion.now (at occasion.link []) (keeps_files state.account) result is.session.mid (keeps_files occasion.after) is.session.notes)
           → ProceedsLast disk files (InMaildir was) from _ _ _ _ _ _ _ _ _ proceeds (InMaildir device) f → LeavesLink result is.session.mid occasion.link' → Reports (outcome_of result) is.session.notes.total is.session.notes.skipped is.session.notes.lines occasion.report → Answered
       by (Ok done) dealt lasts leaves reports = of dealt.carries lasts
         where
-          of : (carries : Carries occasion.settings (AsFiles digits_here) dealt.items occasion.now dealt.mid (in_maildir state.kept.maildir) state.kept.file [] (Ok done) is.session.mid
+          of : (carries : Carries occasion.settings (AsFiles digits_here) dealt.items occasion.now dealt.mid (in_maildir state.account.maildir) state.account.file [] (Ok done) is.session.mid
               (in_maildir occasion.after.maildir) occasion.after.file is.session.notes.lines is.session.notes.skipped) → CarriesLast disk files (InMaildir was) from occasion.settings (AsFiles digits_here) dealt.items occasion.now dealt.mid
-              (in_maildir state.kept.maildir) state.kept.file [] (Ok done) is.session.mid (in_maildir occasion.after.maildir) occasion.after.file is.session.notes.lines is.session.notes.skipped carries (InMaildir device) f → Answered
+              (in_maildir state.account.maildir) state.account.file [] (Ok done) is.session.mid (in_maildir occasion.after.maildir) occasion.after.file is.session.notes.lines is.session.notes.skipped carries (InMaildir device) f → Answered
           of (rows, c) all = elim (all safe) [
-            | inl (quiet, un) ↦ still (quiet_ok laws disk files world sound state.kept gone_after state.taken occasion.after.file device f is.file_is is.none _ _ _ _ _ _ _ _ _ occasion.after.maildir is.settings.account c quiet) un
-            | inr (lasts, mail) ↦ answer_ok laws disk files world sound state.kept gone_after state.taken occasion.after.file device f is.file_is is.none _ _ _ _ _ _ _ _ _ occasion.after.maildir is.settings.account c mail.stay lasts
+            | inl (quiet, un) ↦ still (quiet_ok laws disk files world sound state.account gone_after state.taken occasion.after.file device f is.file_is is.none _ _ _ _ _ _ _ _ _ occasion.after.maildir is.settings.account c quiet) un
+            | inr (lasts, mail) ↦ answer_ok laws disk files world sound state.account gone_after state.taken occasion.after.file device f is.file_is is.none _ _ _ _ _ _ _ _ _ occasion.after.maildir is.settings.account c mail.stay lasts
           ]
       by (Err cut) (inl stopped) un leaves reports = still (ap (λ (k : Keeping). k.store.maildir.files) stopped.same) un
       by (Err cut) (inr (inl wanting)) un leaves reports = still (ap (λ (k : Keeping). k.store.maildir.files) wanting.same) un
       by (Err cut) (inr (inr dealt)) lasts leaves reports = of dealt.carries lasts
         where
-          of : (carries : Carries occasion.settings (AsFiles digits_here) dealt.items occasion.now dealt.mid (in_maildir state.kept.maildir) state.kept.file [] (Err cut) is.session.mid
+          of : (carries : Carries occasion.settings (AsFiles digits_here) dealt.items occasion.now dealt.mid (in_maildir state.account.maildir) state.account.file [] (Err cut) is.session.mid
               (in_maildir occasion.after.maildir) occasion.after.file is.session.notes.lines is.session.notes.skipped) → CarriesLast disk files (InMaildir was) from occasion.settings (AsFiles digits_here) dealt.items occasion.now dealt.mid
-              (in_maildir state.kept.maildir) state.kept.file [] (Err cut) is.session.mid (in_maildir occasion.after.maildir) occasion.after.file is.session.notes.lines is.session.notes.skipped carries (InMaildir device) f → Answered
+              (in_maildir state.account.maildir) state.account.file [] (Err cut) is.session.mid (in_maildir occasion.after.maildir) occasion.after.file is.session.notes.lines is.session.notes.skipped carries (InMaildir device) f → Answered
           of (rows, inl (none_said, unprepared)) all = unready dealt.items dealt.mid is.session.mid cut rows is.session.notes.lines unprepared (all safe)
           of (rows, inr c) all = elim (all safe) [
-            | inl (quiet, un) ↦ still (quiet_cut laws disk files world sound state.kept gone_after state.taken occasion.after.file device f is.file_is is.none _ _ _ _ _ _ _ _ _ occasion.after.maildir is.settings.account c quiet) un
-            | inr (lasts, mail) ↦ answer_cut laws disk files world sound state.kept gone_after state.taken occasion.after.file device f is.file_is is.none _ _ _ _ _ _ _ _ _ occasion.after.maildir is.settings.account
+            | inl (quiet, un) ↦ still (quiet_cut laws disk files world sound state.account gone_after state.taken occasion.after.file device f is.file_is is.none _ _ _ _ _ _ _ _ _ occasion.after.maildir is.settings.account c quiet) un
+            | inr (lasts, mail) ↦ answer_cut laws disk files world sound state.account gone_after state.taken occasion.after.file device f is.file_is is.none _ _ _ _ _ _ _ _ _ occasion.after.maildir is.settings.account
                 c mail.stay lasts
                 (λ m carried. kept_after m (record {
                   result = Err cut;

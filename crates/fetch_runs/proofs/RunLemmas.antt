@@ -7,7 +7,7 @@ use Rattle.rc_file.specs.declared.settings.Settings.{Settings}
 use Rattle.pop3_wire.specs.World.{IsWorld}
 use Rattle.fetch_session.specs.Account.{digits_of}
 use Rattle.fetch_session.specs.declared.report.Report.{Report}
-use Rattle.fetch_session.specs.Session.{Kept, MboxKept, Session}
+use Rattle.fetch_session.specs.Session.{AccountFiles, MboxAccountFiles, Session}
 use Rattle.fetch_runs.specs.declared.run.Visit.{Visit}
 use Rattle.run_law.specs.Sessions.{Fact}
 use Rattle.run_law.specs.MboxRuns.{MboxState, MboxWorld}
@@ -73,16 +73,16 @@ takings_leave world (TakenAway id after ∷ events) takings = takings_leave worl
 takings_leave world (Between after ∷ events) takings = takings_leave world events takings
 takings_leave world (other ∷ events) takings = absurd takings
 
-pub runs_promised : {W : Type 0} → Headline → TakingsAreEvents → (seen : W → Link) (settings : Settings) (world : World) (olds : List (Visit W)) (state : State Kept) (reports : List Report) (news : List (Visit W)) (facts : List Fact) (last : Kept)
+pub runs_promised : {W : Type 0} → Headline → TakingsAreEvents → (seen : W → Link) (settings : Settings) (world : World) (olds : List (Visit W)) (state : State AccountFiles) (reports : List Report) (news : List (Visit W)) (facts : List Fact) (last : AccountFiles)
     → IsSound world → AreSettings world settings → IsKept world state → AreServed seen world.all state.gone olds news facts
-    → Runs seen settings (digits_of settings) olds state.kept reports news last → ArePromised seen settings world state olds reports news facts last
+    → Runs seen settings (digits_of settings) olds state.account reports news last → ArePromised seen settings world state olds reports news facts last
 runs_promised law takings seen settings world [] state [] [] [] last sound are is served runs = ((law world state [] sound is tt).0, is, sym runs)
 runs_promised law takings seen settings world (old ∷ olds) state (report ∷ reports) (new ∷ news) (fact ∷ facts) last sound are is served (between, ((left, part, session), same), runs) =
     let told = takings world state left sound is part in
     let mid = state_after state told.0 in
     let occasion = occasion_of seen settings old report new fact between in
     let held = subst (λ (w : World). IsKept w mid) (takings_leave world told.0 told.1.each) (law world state told.0 sound is told.1.run).1 in
-    let went = subst (λ (k : Kept). Session settings (digits_of settings) old.now (seen old.wire) k report (seen new.wire) between) (sym told.1.kept) session in
+    let went = subst (λ (k : AccountFiles). Session settings (digits_of settings) old.now (seen old.wire) k report (seen new.wire) between) (sym told.1.account) session in
     let here = subst (λ (gone : List (List ℕ)). AreServed seen world.all gone (old ∷ olds) (new ∷ news) (fact ∷ facts)) (sym told.1.gone) served in
     let one = law world mid (Fetched occasion ∷ []) sound held (record { settings = are; session = went; served = here.0 }, tt) in (
       record {
@@ -99,9 +99,9 @@ runs_promised law takings seen settings world (old ∷ olds) state (report ∷ r
     )
 runs_promised law takings seen settings world olds state reports news facts last sound are is served runs = search rules
 
-pub mbox_runs_promised : {W : Type 0} → MboxHeadline → (seen : W → Link) (settings : Settings) (world : MboxWorld) (olds : List (Visit W)) (state : MboxState MboxKept) (reports : List Report) (news : List (Visit W)) (facts : List Fact) (last : MboxKept)
+pub mbox_runs_promised : {W : Type 0} → MboxHeadline → (seen : W → Link) (settings : Settings) (world : MboxWorld) (olds : List (Visit W)) (state : MboxState MboxAccountFiles) (reports : List Report) (news : List (Visit W)) (facts : List Fact) (last : MboxAccountFiles)
     → IsWorld world.all → AreMboxSettings world settings → IsMboxKept world state → AreServed seen world.all state.gone olds news facts
-    → MboxRuns seen settings olds state.kept reports news last → AreMboxPromised seen settings world state olds reports news facts last
+    → MboxRuns seen settings olds state.account reports news last → AreMboxPromised seen settings world state olds reports news facts last
 mbox_runs_promised law seen settings world [] state [] [] [] last sound are is served runs = ((law world state [] sound is tt).0, is, sym runs)
 mbox_runs_promised law seen settings world (old ∷ olds) state (report ∷ reports) (new ∷ news) (fact ∷ facts) last sound are is served runs =
     let occasion = mbox_occasion seen settings old report new fact runs.0 in

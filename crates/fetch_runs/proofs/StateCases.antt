@@ -4,7 +4,7 @@ use Rattle.std.specs.List.{AllByRecursion, AllZip}
 use Rattle.std.proofs.lemmas.Bool.{true≢false}
 use Rattle.std.proofs.lemmas.List.{append-nil, length-map, map-append}
 use Rattle.std.proofs.lemmas.List.Concat.{flat_map-append}
-use Rattle.fetch_rules.specs.Record.{Row, Held, none_open, marked, marked_all}
+use Rattle.fetch_rules.specs.Record.{Row, RecordState, none_open, marked, marked_all}
 use Rattle.mail_store.specs.FlatFile.{Stored}
 use Rattle.pop3_wire.specs.Reading.{WholeReply}
 use Rattle.pop3_client.specs.Turns.{IsGood, retr}
@@ -32,7 +32,7 @@ abbrev pub UnsavedIn : Result (Unit {0}) Cut → Type 0
 UnsavedIn (Ok done) = ⊥
 UnsavedIn (Err cut) = (cut.fault ≡ SeenRefused) ⊎ (cut.fault ≡ NoMemory)
 
-pub unsaved_why : (old : Stored) (was now : Held) (fault : Fault) (new : Stored) → Saves old was now (Err fault) new → (fault ≡ SeenRefused) ⊎ (fault ≡ NoMemory)
+pub unsaved_why : (old : Stored) (was now : RecordState) (fault : Fault) (new : Stored) → Saves old was now (Err fault) new → (fault ≡ SeenRefused) ⊎ (fault ≡ NoMemory)
 unsaved_why old was now SeenRefused new is = inl refl
 unsaved_why old was now NoMemory new is = inr refl
 unsaved_why old was now other new never = absurd never

@@ -4,7 +4,7 @@ use Rattle.std.specs.List.{filter, AllByRecursion, AllZip}
 use Rattle.std.proofs.lemmas.List.{append-nil}
 use Rattle.std.proofs.lemmas.List.Concat.{flat_map-append}
 use Rattle.rc_file.specs.declared.settings.Settings.{Settings}
-use Rattle.fetch_rules.specs.Record.{Row, Held, none_open, merged, marked}
+use Rattle.fetch_rules.specs.Record.{Row, RecordState, none_open, merged, marked}
 use Rattle.fetch_rules.specs.RecordMeaning.{FileStandsFor}
 use Rattle.mail_store.specs.Maildir.{Maildir, File}
 use Rattle.mail_store.specs.FlatFile.{Stored}
@@ -24,12 +24,12 @@ use Rattle.fetch_session.specs.Readiness.{IsMergedAtMost, UnreadyCause}
 use Rattle.fetch_session.specs.Report.{retrieved_in}
 use Rattle.fetch_session.specs.Plan.{Unprepared, Carried, Carries}
 use Rattle.fetch_session.specs.Scene.{Scene, scene, NoFile, FileNotSaved, Went, Fell, Stops, Does}
-use Rattle.fetch_session.specs.Session.{Keeping, Kept, kept, keeps_files, Noted, Proceeds}
+use Rattle.fetch_session.specs.Session.{Keeping, AccountFiles, account_files, keeps_files, Noted, Proceeds}
 use Rattle.fetch_session.specs.Store.{RefusesText}
 use Rattle.fetch_session.specs.Target.{AsFiles, Stores, in_maildir}
 use Rattle.fetch_session.specs.Task.{Task, Done, stores, files_in, files_of, file_from}
 use Rattle.run_law.specs.Steps.{file_for, is_unheld, wanted_at}
-use Rattle.run_law.specs.Told.{Told, Records}
+use Rattle.run_law.specs.Counted.{Counted, Records}
 use Rattle.fetch_runs.specs.Steps.{holds}
 use Rattle.fetch_runs.proofs.Courses.{Course, SessionCourse, Idle, Deals, course, spare_in, spare_of, course_stopped, course_does, course_carried, course_carries, course_proceeded, stored_done, found_by, found_of, begun_of}
 use Rattle.fetch_runs.proofs.StatePlan.{tasks_ahead, IsRight, right_ahead}
@@ -40,13 +40,13 @@ use Rattle.fetch_runs.proofs.StateCases.{is_ended, UnsavedIn, unsaved_why, Start
 pub record Leads (settings : Settings) (account : List ℕ) (now : ℕ) (ended : Bool) (course : Course) (rows : List Row) (maildir maildir' : Maildir) (content' : Option (List ℕ)) (lines : List ReportLine) (refused unsaved : Type 0) : Type 0 where
   pub rows' : List Row
   pub keeps : KeepsRows content' rows'
-  pub told : Told settings account (holds rows maildir) (effect_of now ended course) (holds rows' maildir')
+  pub figures : Counted settings account (holds rows maildir) (effect_of now ended course) (holds rows' maildir')
   pub numbers : map number_found (found_of course) ≡ map number_of (take (length (found_of course)) (wanted_at settings account (holds rows maildir) (effect_of now ended course)))
   pub right : AllByRecursion (IsRight account maildir course.items) (begun_of course)
-  pub counted : retrieved_in lines ≡ told.k
-  pub one_more : told.k + 1 ≡ length (found_of course) → refused
-  pub one_less : told.j + 1 ≡ told.k → unsaved
-  pub recorded : Records settings account (holds rows maildir) (effect_of now ended course) told.j (holds rows' maildir')
+  pub counted : retrieved_in lines ≡ figures.k
+  pub one_more : figures.k + 1 ≡ length (found_of course) → refused
+  pub one_less : figures.j + 1 ≡ figures.k → unsaved
+  pub recorded : Records settings account (holds rows maildir) (effect_of now ended course) figures.j (holds rows' maildir')
       ⊎ ((rows' ≡ rows) × (found_of course ≡ []) × (begun_of course ≡ []) × (ended ≡ false))
 
 -- the store refused a text
@@ -78,7 +78,7 @@ module _ (laws : Laws) (p : Inputs) where
   lead {taken = taken} {whole = whole} {noted = noted} {spare = spare} {under = under} t maildir' content' adds keeps = record {
     rows' = rows_after p noted;
     keeps = keeps;
-    told = record {
+    figures = record {
       k = length (found_by taken);
       j = length (found_by noted);
       number = rw (tally_number laws p t) t.number;
@@ -195,7 +195,7 @@ unready_files fault old file new file' is = grind arith
 
 module _ (laws : Laws) (p : Inputs) (place : Place) (file : Stored) (lines : List ReportLine) (keeps : KeepsRows file.content p.rows) (no_lines : lines ≡ []) where
   -- the record that was read has these rows
-  same_rows : (was : Held) → Keeps file.content was → was.rows ≡ p.rows
+  same_rows : (was : RecordState) → Keeps file.content was → was.rows ≡ p.rows
   same_rows was stood = (laws.one file.content was.rows p.rows was.intent keeps.0 stood keeps.1).0
 
   -- nothing was planned
@@ -214,7 +214,7 @@ module _ (laws : Laws) (p : Inputs) (place : Place) (file : Stored) (lines : Lis
       stays keeps' = record {
         rows' = p.rows;
         keeps = keeps';
-        told = record {
+        figures = record {
           k = 0;
           j = 0;
           number = inl refl;
@@ -258,17 +258,17 @@ module _ (laws : Laws) (p : Inputs) (place : Place) (file : Stored) (lines : Lis
   carries_leads (Err cut) place' maildir' file' lines' skipped (rows, inr is) = carried_leads (Err cut) (scene place' (in_maildir maildir') file' rows lines') skipped is
 
 -- the account is as it was, or as the course leaves it
-abbrev pub CourseLeads : Settings → List ℕ → ℕ → Result (Unit {0}) Cut → SessionCourse → List Row → Kept → Kept → List ReportLine → Type 0
+abbrev pub CourseLeads : Settings → List ℕ → ℕ → Result (Unit {0}) Cut → SessionCourse → List Row → AccountFiles → AccountFiles → List ReportLine → Type 0
 CourseLeads settings account now result Idle rows before after lines = (is_ended result ≡ false) × (after ≡ before) × (lines ≡ [])
 CourseLeads settings account now result (Deals course) rows before after lines =
     Leads settings account now (is_ended result) course rows before.maildir after.maildir after.file.content lines (RefusedIn result) (UnsavedIn result)
 
-pub course_leads : (laws : Laws) (settings : Settings) (account : List ℕ) (now : ℕ) (old : Place) (before : Kept) (result : Result (Unit {0}) Cut) (new : Place) (after : Kept) (notes : Noted) (rows : List Row)
+pub course_leads : (laws : Laws) (settings : Settings) (account : List ℕ) (now : ℕ) (old : Place) (before : AccountFiles) (result : Result (Unit {0}) Cut) (new : Place) (after : AccountFiles) (notes : Noted) (rows : List Row)
     → KeepsRows before.file.content rows → (is : Proceeds settings (AsFiles account) now old (keeps_files before) result new (keeps_files after) notes)
     → CourseLeads settings account now result (course_proceeded settings (AsFiles account) now old (keeps_files before) result new (keeps_files after) notes is) rows before after notes.lines
 course_leads laws settings account now old before (Ok done) new after notes rows keeps dealt =
     carries_leads laws (record { settings = settings; account = account; items = dealt.items; now = now; maildir = before.maildir; rows = rows }) dealt.mid before.file [] keeps refl (Ok done) new after.maildir after.file notes.lines notes.skipped dealt.carries
-course_leads laws settings account now old before (Err cut) new after notes rows keeps (inl stopped) = (refl, ap (λ (k : Keeping). kept k.store.maildir k.file) stopped.same, ap (λ (n : Noted). n.lines) stopped.nothing)
-course_leads laws settings account now old before (Err cut) new after notes rows keeps (inr (inl wanting)) = (refl, ap (λ (k : Keeping). kept k.store.maildir k.file) wanting.same, ap (λ (n : Noted). n.lines) wanting.nothing)
+course_leads laws settings account now old before (Err cut) new after notes rows keeps (inl stopped) = (refl, ap (λ (k : Keeping). account_files k.store.maildir k.file) stopped.same, ap (λ (n : Noted). n.lines) stopped.nothing)
+course_leads laws settings account now old before (Err cut) new after notes rows keeps (inr (inl wanting)) = (refl, ap (λ (k : Keeping). account_files k.store.maildir k.file) wanting.same, ap (λ (n : Noted). n.lines) wanting.nothing)
 course_leads laws settings account now old before (Err cut) new after notes rows keeps (inr (inr dealt)) =
     carries_leads laws (record { settings = settings; account = account; items = dealt.items; now = now; maildir = before.maildir; rows = rows }) dealt.mid before.file [] keeps refl (Err cut) new after.maildir after.file notes.lines notes.skipped dealt.carries

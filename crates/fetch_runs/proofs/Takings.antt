@@ -10,7 +10,7 @@ use Rattle.mail_store.specs.Maildir.{File, IsPart, Maildir, with_files}
 use Rattle.mail_store.specs.FileName.{StemsDiffer, names_id, stem, stem_of}
 use Rattle.run_law.specs.Accounts.{copies}
 use Rattle.run_law.specs.Mails.{ids_of, selected}
-use Rattle.fetch_session.specs.Session.{Kept, kept}
+use Rattle.fetch_session.specs.Session.{AccountFiles, account_files}
 use Rattle.fetch_runs.specs.Headline.{Event, Between, TakenAway, AreTaken, Headline, IsKept, IsTakenAway, TakingsAreEvents, after_event}
 use Rattle.run_law.specs.Runs.{State, IsSound, World}
 
@@ -82,9 +82,9 @@ nothing_or_some (x ∷ xs) = inr (λ none. cc)
 -- ---- parts
 
 -- each event leaves some of the files
-abbrev pub LeaveParts : State Kept → List Event → Type 0
+abbrev pub LeaveParts : State AccountFiles → List Event → Type 0
 LeaveParts state [] = Unit {0}
-LeaveParts state (event ∷ events) = IsPart state.kept.maildir.files (after_event state event).kept.maildir.files × LeaveParts (after_event state event) events
+LeaveParts state (event ∷ events) = IsPart state.account.maildir.files (after_event state event).account.maildir.files × LeaveParts (after_event state event) events
 
 others_are_part : (front : List ℕ) (fs : List File) → IsPart fs (others_than front fs)
 others_are_part front [] = refl
@@ -125,11 +125,11 @@ module _ (differ : StemsDiffer) (world : World) (maildir : Maildir) (file : Stor
   abbrev account : List ℕ
   account = world.account
 
-  abbrev with_kept : List File → List (List ℕ) → State Kept
-  with_kept fs taken = record { kept = kept (with_files fs maildir) file; gone = gone; taken = taken }
+  abbrev with_kept : List File → List (List ℕ) → State AccountFiles
+  with_kept fs taken = record { account = account_files (with_files fs maildir) file; gone = gone; taken = taken }
 
-  abbrev Told : List File → List (List ℕ) → Type 0
-  Told fs taken = (events : List Event) × AreTaken world (with_kept fs taken) left events × LeaveParts (with_kept fs taken) events
+  abbrev HasEvents : List File → List (List ℕ) → Type 0
+  HasEvents fs taken = (events : List Event) × AreTaken world (with_kept fs taken) left events × LeaveParts (with_kept fs taken) events
 
   -- its files are taken away
   abbrev IsDue : List File → List ℕ → Type 0
@@ -182,7 +182,7 @@ module _ (differ : StemsDiffer) (world : World) (maildir : Maildir) (file : Stor
         | inr more ↦ inr (more, none, λ gone. some (sym (others_left (stem_of account id) (stem_of account other) fs (apart other id l is.0 not)) ∙ gone))
       ]
 
-  is_taken : (fs : List File) (id : List ℕ) → IsDue fs id → IsTakenAway world (kept (with_files fs maildir) file) id (kept (with_files (without id fs) maildir) file)
+  is_taken : (fs : List File) (id : List ℕ) → IsDue fs id → IsTakenAway world (account_files (with_files fs maildir) file) id (account_files (with_files (without id fs) maildir) file)
   is_taken fs id due = record {
     legal = due.0;
     held = some_held account id fs due.2;
@@ -191,18 +191,18 @@ module _ (differ : StemsDiffer) (world : World) (maildir : Maildir) (file : Stor
     others = λ other l not. others_left (stem_of account id) (stem_of account other) fs (apart other id l due.0 not);
   }
 
-  one_more : (fs : List File) (id : List ℕ) (taken : List (List ℕ)) → IsDue fs id → Told (without id fs) (id ∷ taken) → Told fs taken
+  one_more : (fs : List File) (id : List ℕ) (taken : List (List ℕ)) → IsDue fs id → HasEvents (without id fs) (id ∷ taken) → HasEvents fs taken
   one_more fs id taken due (events, told, parts) = (
-    TakenAway id (kept (with_files (without id fs) maildir) file) ∷ events,
-    record { each = told.each; run = (is_taken fs id due, told.run); kept = told.kept; gone = told.gone },
+    TakenAway id (account_files (with_files (without id fs) maildir) file) ∷ events,
+    record { each = told.each; run = (is_taken fs id due, told.run); account = told.account; gone = told.gone },
     (others_are_part (stem_of account id) fs, parts),
   )
 
   -- all others are files of other names
-  rest : (fs : List File) (taken : List (List ℕ)) → AreDue account left [] fs → IsPart fs left → Told fs taken
+  rest : (fs : List File) (taken : List (List ℕ)) → AreDue account left [] fs → IsPart fs left → HasEvents fs taken
   rest fs taken due part = (
-    Between (kept (with_files left maildir) file) ∷ [],
-    record { each = tt; run = (record { record_is = λ rows keeps. keeps; mail = λ id l. same id (due id l) }, tt); kept = refl; gone = refl },
+    Between (account_files (with_files left maildir) file) ∷ [],
+    record { each = tt; run = (record { record_is = λ rows keeps. keeps; mail = λ id l. same id (due id l) }, tt); account = refl; gone = refl },
     (part, tt),
   )
     where
@@ -212,21 +212,21 @@ module _ (differ : StemsDiffer) (world : World) (maildir : Maildir) (file : Stor
       same id (inl is) = is
       same id (inr (never, none, some)) = absurd (true≢false (sym never))
 
-  all_told : (ids : List (List ℕ)) (fs : List File) (taken : List (List ℕ)) → AreDue account left ids fs → IsPart fs left → Told fs taken
+  all_told : (ids : List (List ℕ)) (fs : List File) (taken : List (List ℕ)) → AreDue account left ids fs → IsPart fs left → HasEvents fs taken
   all_told [] fs taken due part = rest fs taken due part
   all_told (id ∷ ids) fs taken due part = elim (is_due fs id) [
     | inl is ↦ one_more fs id taken is (all_told ids (without id fs) (id ∷ taken) (took fs id ids due is) (part_of_others (stem_of account id) fs left part is.1))
     | inr not ↦ all_told ids fs taken (passed fs id ids due not) part
   ]
 
-pub takings_leave_parts : Headline → StemsDiffer → (world : World) (state : State Kept) (left : List File) → IsSound world → IsKept world state
-    → IsPart state.kept.maildir.files left → (events : List Event) × AreTaken world state left events × LeaveParts state events
+pub takings_leave_parts : Headline → StemsDiffer → (world : World) (state : State AccountFiles) (left : List File) → IsSound world → IsKept world state
+    → IsPart state.account.maildir.files left → (events : List Event) × AreTaken world state left events × LeaveParts state events
 takings_leave_parts law differ world state left sound is part =
     let holds = (law world state [] sound is tt).0 in
     let account = world.account in
     let ids = ids_of (take holds.j (selected world.max_size world.all)) in
-    let files = state.kept.maildir.files in
-    all_told differ world state.kept.maildir state.kept.file state.gone left ids files state.taken
+    let files = state.account.maildir.files in
+    all_told differ world state.account.maildir state.account.file state.gone left ids files state.taken
     (λ id l. due ids account files id (holds.ids id l) (holds.once id l) (part_copies (stem_of account id) files left part)) part
   where
     due : (ids : List (List ℕ)) (account : List ℕ) (files : List File) (id : List ℕ) → (list_any (λ (f : File). names_id account id f.name) files ≡ true → has_id ids id ≡ true)

@@ -31,7 +31,7 @@ use Rattle.fetch_session.specs.Tail.{tail, Left, turns_in as tail_turns}
 use Rattle.fetch_session.specs.Plan.{tasks_ahead, Prepared, Unprepared, Carried, Carries}
 use Rattle.fetch_session.specs.Scene.{Scene, scene, Fell, Stops, Does}
 use Rattle.fetch_session.specs.Target.{Target, AsFiles, AsEntries, Stores}
-use Rattle.fetch_session.specs.Session.{LeavesLink, outcome_of, Keeping, Noted, NotEntered, NoRoom, Dealt, Proceeds, SessionIn, keeps_entries, Kept, keeps_files}
+use Rattle.fetch_session.specs.Session.{LeavesLink, outcome_of, Keeping, Noted, NotEntered, NoRoom, Dealt, Proceeds, SessionIn, keeps_entries, AccountFiles, keeps_files}
 use Rattle.fetch_session.specs.Store.{RefusesText}
 use Rattle.fetch_runs.specs.Conversations.{AreFound, tail_behind, is_retrieval, retrieved_by, Conversation, plan_turns, FollowsPlan, MboxSessionsFollowPlans, Converses, CountsTexts, Opens, SpeaksByPlan, SessionsAreConversations}
 use Rattle.fetch_runs.proofs.Courses.{Course, course, stored_done, spare_in, spare_of, course_stopped, course_does, course_carried, course_carries, begun_of, SessionCourse, Idle, Deals, course_dealt, course_proceeded, session_course_of, IsOfTask}
@@ -492,7 +492,7 @@ whole_ended : (result : Result (Unit {0}) Cut) (under later : List Task) → IsW
 whole_ended (Ok done) under later whole ended = whole
 whole_ended (Err cut) under later whole ended = absurd (not_ended cut.fault ended)
 
-module _ (settings : Settings) (account : List ℕ) (now : ℕ) (link link' : Link) (before : Kept) (notes : Noted) (report : Report) (result : Result (Unit {0}) Cut)
+module _ (settings : Settings) (account : List ℕ) (now : ℕ) (link link' : Link) (before : AccountFiles) (notes : Noted) (report : Report) (result : Result (Unit {0}) Cut)
     (tells : Reports (outcome_of result) notes.total notes.skipped notes.lines report) where
   -- if the listing was joined
   by_plan : (c : Course) → (p : Planned settings (AsFiles account) now (keeps_files before) link link' result notes.lines c) → SpeaksByPlan settings account now before report p.sent p.got

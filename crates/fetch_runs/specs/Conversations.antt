@@ -27,7 +27,7 @@ use Rattle.fetch_session.specs.declared.report.Outcome.TheVariants.{Ended, Cut}
 use Rattle.fetch_session.specs.declared.report.Report.{Report}
 use Rattle.fetch_session.specs.Opening.{opening}
 use Rattle.fetch_session.specs.Tail.{tail, turns_in}
-use Rattle.fetch_session.specs.Session.{Kept, Session, MboxKept, MboxSession}
+use Rattle.fetch_session.specs.Session.{AccountFiles, Session, MboxAccountFiles, MboxSession}
 
 -- what was sent after the completed turns: a prefix of the octets of the turn that was begun, if one was; or
 -- that turn whole, and a prefix of the tail's octets
@@ -96,7 +96,7 @@ pub record AreFound (account : List ℕ) (now : ℕ) (maildir : Maildir) (file :
 
 -- a session whose listing was joined followed the plan for that listing, the record and the Maildir that it
 -- found; or it didn't come to a plan, and began only the tail after the opening
-pub record SpeaksByPlan (settings : Settings) (account : List ℕ) (now : ℕ) (before : Kept) (report : Report)
+pub record SpeaksByPlan (settings : Settings) (account : List ℕ) (now : ℕ) (before : AccountFiles) (report : Report)
     (sent got : List ℕ) : Type 0 where
   pub items : List Item
   pub rows : List Row
@@ -122,8 +122,8 @@ pub record SpeaksByPlan (settings : Settings) (account : List ℕ) (now : ℕ) (
 
 -- a law: what the link gained by a session is one conversation, of the opening alone if it didn't get further
 abbrev pub SessionsAreConversations : Type 0
-SessionsAreConversations = (settings : Settings) (account : List ℕ) (now : ℕ) (link : Link) (before : Kept)
-    (report : Report) (link' : Link) (after : Kept)
+SessionsAreConversations = (settings : Settings) (account : List ℕ) (now : ℕ) (link : Link) (before : AccountFiles)
+    (report : Report) (link' : Link) (after : AccountFiles)
     → IsValid settings → Session settings account now link before report link' after
     → (sent got : List ℕ) × (link'.sent ≡ link.sent ++ sent) × (link'.got ≡ link.got ++ got)
     × (Opens settings report sent got ⊎ SpeaksByPlan settings account now before report sent got)
@@ -137,7 +137,7 @@ pub record FollowsPlan (settings : Settings) (sent : List ℕ) : Type 0 where
 
 -- a law: with an mboxrd file, what was sent in a session follows a plan
 abbrev pub MboxSessionsFollowPlans : Type 0
-MboxSessionsFollowPlans = (settings : Settings) (now : ℕ) (link : Link) (before : MboxKept) (report : Report)
-    (link' : Link) (after : MboxKept)
+MboxSessionsFollowPlans = (settings : Settings) (now : ℕ) (link : Link) (before : MboxAccountFiles) (report : Report)
+    (link' : Link) (after : MboxAccountFiles)
     → IsValid settings → MboxSession settings now link before report link' after
     → (sent : List ℕ) × (link'.sent ≡ link.sent ++ sent) × FollowsPlan settings sent

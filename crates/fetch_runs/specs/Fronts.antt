@@ -14,7 +14,7 @@ use Rattle.fetch_session.specs.Plan.{Prepared, tasks_ahead}
 use Rattle.fetch_session.specs.Record.{Steady}
 use Rattle.fetch_session.specs.Report.{Reports, skips_planned}
 use Rattle.fetch_session.specs.Scene.{Scene, Went}
-use Rattle.fetch_session.specs.Session.{Enters_with, Kept, Session}
+use Rattle.fetch_session.specs.Session.{Enters_with, AccountFiles, Session}
 use Rattle.fetch_session.specs.Target.{AsFiles, in_maildir}
 use Rattle.fetch_session.specs.Task.{Done, files_of, ids_of, stores, tasks_of, turns_in}
 use Rattle.fetch_session.specs.Account.{digits_of}
@@ -22,8 +22,8 @@ use Rattle.fetch_runs.specs.Headline.{HasTheSameFiles, IsSession, IsStopped, Occ
 use Rattle.run_law.specs.Runs.{State, World}
 
 -- what an uncut session of an account with a Maildir had ready before its first task, and the tasks that it did
-pub record Uncut (settings : Settings) (account : List ℕ) (now : ℕ) (link : Link) (before : Kept) (link' : Link)
-    (after : Kept) : Type 0 where
+pub record Uncut (settings : Settings) (account : List ℕ) (now : ℕ) (link : Link) (before : AccountFiles) (link' : Link)
+    (after : AccountFiles) : Type 0 where
   pub items : List Item
   pub entered : Place
   pub enters : Enters_with settings (at link []) (Ok items) entered
@@ -39,21 +39,23 @@ pub record Uncut (settings : Settings) (account : List ℕ) (now : ℕ) (link : 
 
 -- a law: an uncut session did its tasks
 abbrev pub UncutSessionsDoTasks : Type 0
-UncutSessionsDoTasks = (settings : Settings) (account : List ℕ) (now : ℕ) (link : Link) (before : Kept)
-    (report : Report) (link' : Link) (after : Kept)
+UncutSessionsDoTasks = (settings : Settings) (account : List ℕ) (now : ℕ) (link : Link) (before : AccountFiles)
+    (report : Report) (link' : Link) (after : AccountFiles)
     → Session settings account now link before report link' after → report.outcome ≡ Ended
     → Uncut settings account now link before link' after
 
 -- these tasks were done, and the next one, which sends a line, wasn't begun: their files came, and the record's file shows
 -- their ids as delivered
-pub record IsLeftBetween (account : List ℕ) (before : Kept) (ready : Scene) (front : List Done) (next : Done) (left : Kept) : Type 0 where
+pub record IsLeftBetween (account : List ℕ) (before : AccountFiles) (ready : Scene) (front : List Done) (next : Done)
+    (left : AccountFiles) : Type 0 where
   pub turn : Turn
   pub takes : turns_in next.task ≡ turn ∷ []
   pub files : left.maildir.files ≡ before.maildir.files ++ files_of account front
   pub file : Steady left.file.content (none_open (marked_all ready.rows (ids_of front)))
 
 -- these tasks were done, and the next one's text was stored, but the record's file doesn't show its id as delivered yet
-pub record IsLeftWithin (account : List ℕ) (before : Kept) (ready : Scene) (front : List Done) (next : Done) (left : Kept) : Type 0 where
+pub record IsLeftWithin (account : List ℕ) (before : AccountFiles) (ready : Scene) (front : List Done) (next : Done)
+    (left : AccountFiles) : Type 0 where
   pub number : ℕ
   pub uid : List ℕ
   pub is : next.task ≡ stores number uid
@@ -61,12 +63,13 @@ pub record IsLeftWithin (account : List ℕ) (before : Kept) (ready : Scene) (fr
   pub file : Steady left.file.content (none_open (marked_all ready.rows (ids_of front)))
 
 -- a session that was cut, and that sent and got only a prefix of what this one did, left these files
-pub record IsCutThere (settings : Settings) (account : List ℕ) (now : ℕ) (link : Link) (before : Kept) (link' : Link) (items : List Item)
-    (ready : Scene) (left : Kept) : Type 0 where
+pub record IsCutThere (settings : Settings) (account : List ℕ) (now : ℕ) (link : Link) (before : AccountFiles) (link' : Link)
+    (items : List Item)
+    (ready : Scene) (left : AccountFiles) : Type 0 where
   pub fault : Fault
   pub lines : List ReportLine
   pub cut : Link
-  pub after : Kept
+  pub after : AccountFiles
   pub files : HasTheSameFiles after left
   pub sent : (later : List ℕ) × (link'.sent ≡ cut.sent ++ later)
   pub got : (later : List ℕ) × (link'.got ≡ cut.got ++ later)
@@ -74,18 +77,18 @@ pub record IsCutThere (settings : Settings) (account : List ℕ) (now : ℕ) (li
       → Session settings account now link before report cut after
 
 -- the session, cut there, with this report
-abbrev pub cut_at : Occasion → Link → Kept → Report → Occasion
+abbrev pub cut_at : Occasion → Link → AccountFiles → Report → Occasion
 cut_at occasion link after report = record occasion { report = report; link' = link; after = after; vanished = [] }
 
 -- a law: at each such point of an uncut session of a run, a session was cut there and left what is there. It is one of the
 -- run, too, whatever the report that tells of it
 abbrev pub FrontsAreSessions : Type 0
-FrontsAreSessions = (world : World) (state : State Kept) (occasion : Occasion) → IsSession world state occasion
-    → (uncut : Uncut occasion.settings (digits_of occasion.settings) occasion.now occasion.link state.kept occasion.link' occasion.after)
-    → (front back : List Done) (next : Done) (left : Kept) → uncut.dones ≡ front ++ next ∷ back
-    → IsLeftBetween (digits_of occasion.settings) state.kept uncut.ready front next left
-    ⊎ IsLeftWithin (digits_of occasion.settings) state.kept uncut.ready front next left
-    → (there : IsCutThere occasion.settings (digits_of occasion.settings) occasion.now occasion.link state.kept occasion.link'
+FrontsAreSessions = (world : World) (state : State AccountFiles) (occasion : Occasion) → IsSession world state occasion
+    → (uncut : Uncut occasion.settings (digits_of occasion.settings) occasion.now occasion.link state.account occasion.link' occasion.after)
+    → (front back : List Done) (next : Done) (left : AccountFiles) → uncut.dones ≡ front ++ next ∷ back
+    → IsLeftBetween (digits_of occasion.settings) state.account uncut.ready front next left
+    ⊎ IsLeftWithin (digits_of occasion.settings) state.account uncut.ready front next left
+    → (there : IsCutThere occasion.settings (digits_of occasion.settings) occasion.now occasion.link state.account occasion.link'
     uncut.items uncut.ready left)
     × ((report : Report) → Reports (WasCut there.fault) (length uncut.items)
     (skips_planned occasion.settings uncut.ready.rows uncut.items occasion.now) there.lines report

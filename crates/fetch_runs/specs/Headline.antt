@@ -20,11 +20,11 @@ use Rattle.mail_store.specs.Held.{flags_of}
 use Rattle.mail_store.specs.Maildir.{Maildir, File, IsPart, with_files}
 use Rattle.fetch_session.specs.Account.{digits_of}
 use Rattle.fetch_session.specs.Record.{KeepsRows}
-use Rattle.fetch_session.specs.Session.{Kept, Session, kept}
+use Rattle.fetch_session.specs.Session.{AccountFiles, Session, account_files}
 use Rattle.fetch_session.specs.declared.report.Outcome.TheVariants.{Ended}
 use Rattle.fetch_session.specs.declared.report.Report.{Report}
 use Rattle.run_law.specs.Mails.{listing_of, is_selected, messages_after, selected, texts_of, without}
-use Rattle.run_law.specs.Accounts.{Account, KeepsOthers, copies, files}
+use Rattle.run_law.specs.Accounts.{AccountMail, KeepsOthers, copies, files}
 use Rattle.run_law.specs.Steps.{ids_wanted}
 use Rattle.run_law.specs.Runs.{World, IsSound, State, Kept as IsKeptIn, HoldsExactly, HoldsWhatIsLeft, past_limit}
 use Rattle.run_law.specs.Sessions.{BeginsOne, Served}
@@ -50,7 +50,7 @@ pub record Occasion : Type 0 where
   pub report : Report
   pub link : Link
   pub link' : Link
-  pub after : Kept
+  pub after : AccountFiles
   pub come : ℕ
   pub vanished : List (List ℕ)
 
@@ -59,42 +59,42 @@ pub record Occasion : Type 0 where
 -- record that is lost, or is replaced by an older one; and a loss of power
 pub data Event : Type 0 where
   Fetched : Occasion → Event
-  Between : Kept → Event
+  Between : AccountFiles → Event
   Expired : List (List ℕ) → Event
   Withdrawn : List (List ℕ) → Event
-  TakenAway : List ℕ → Kept → Event
-  BroughtBack : List ℕ → Kept → Event
-  Forgotten : Kept → Event
-  PowerLost : Kept → Event
+  TakenAway : List ℕ → AccountFiles → Event
+  BroughtBack : List ℕ → AccountFiles → Event
+  Forgotten : AccountFiles → Event
+  PowerLost : AccountFiles → Event
 
 -- the maildrop of an occasion
-abbrev pub maildrop_at : World → State Kept → Occasion → List Message
+abbrev pub maildrop_at : World → State AccountFiles → Occasion → List Message
 maildrop_at world state occasion = maildrop_of world.all occasion.come state.gone
 
 -- it was a session, whatever cut it, and all that its link gained came from an honest server with this maildrop
-pub record IsSession (world : World) (state : State Kept) (occasion : Occasion) : Type 0 where
+pub record IsSession (world : World) (state : State AccountFiles) (occasion : Occasion) : Type 0 where
   pub settings : AreSettings world occasion.settings
-  pub session : Session occasion.settings (digits_of occasion.settings) occasion.now occasion.link state.kept
+  pub session : Session occasion.settings (digits_of occasion.settings) occasion.now occasion.link state.account
       occasion.report occasion.link' occasion.after
   pub served : (sent got : List ℕ) → occasion.link'.sent ≡ occasion.link.sent ++ sent → occasion.link'.got ≡ occasion.link.got ++ got
       → Served (maildrop_at world state occasion) sent got occasion.vanished
 
 -- the record's file still stands for the rows that it stood for
-abbrev pub KeepsRecord : Kept → Kept → Type 0
+abbrev pub KeepsRecord : AccountFiles → AccountFiles → Type 0
 KeepsRecord before after = (rows : List Row) → KeepsRows before.file.content rows → KeepsRows after.file.content rows
 
 -- what the files with an id's stem hold, in `new` and `cur` together
-abbrev pub contents_of : World → Kept → List ℕ → List (List ℕ)
+abbrev pub contents_of : World → AccountFiles → List ℕ → List (List ℕ)
 contents_of world state id = copies (files (holds [] state.maildir)) (stem_of world.account id)
 
 -- the record stays, and for each legal id the files hold what they held. All else may have changed: the
 -- counts of refusals, the file that was begun, which folders are there, and files of other names
-pub record IsBetween (world : World) (before after : Kept) : Type 0 where
+pub record IsBetween (world : World) (before after : AccountFiles) : Type 0 where
   pub record_is : KeepsRecord before after
   pub mail : (id : List ℕ) → is_legal_id id ≡ true → contents_of world after id ≡ contents_of world before id
 
 -- it was held, and no longer is; all else of the account is as it was
-pub record IsTakenAway (world : World) (before : Kept) (id : List ℕ) (after : Kept) : Type 0 where
+pub record IsTakenAway (world : World) (before : AccountFiles) (id : List ℕ) (after : AccountFiles) : Type 0 where
   pub legal : is_legal_id id ≡ true
   pub held : is_held world.account before.maildir id ≡ true
   pub none : contents_of world after id ≡ []
@@ -103,116 +103,116 @@ pub record IsTakenAway (world : World) (before : Kept) (id : List ℕ) (after : 
       → contents_of world after other ≡ contents_of world before other
 
 -- it was taken away, and one file holds its text again; all else of the account is as it was
-pub record IsBroughtBack (world : World) (state : State Kept) (id : List ℕ) (after : Kept) : Type 0 where
+pub record IsBroughtBack (world : World) (state : State AccountFiles) (id : List ℕ) (after : AccountFiles) : Type 0 where
   pub legal : is_legal_id id ≡ true
   pub taken : has_id state.taken id ≡ true
   pub text : contents_of world after id ≡ texts_of world.all id
-  pub record_is : KeepsRecord state.kept after
+  pub record_is : KeepsRecord state.account after
   pub others : (other : List ℕ) → is_legal_id other ≡ true → bytes_eq other id ≡ false
-      → contents_of world after other ≡ contents_of world state.kept other
+      → contents_of world after other ≡ contents_of world state.account other
 
 -- the record's file stands for rows of which no more are delivered than before. All else of them may be any, such as
 -- the times from which `delete_after` counts
-abbrev pub ShowsNoMore : Kept → List Row → Type 0
+abbrev pub ShowsNoMore : AccountFiles → List Row → Type 0
 ShowsNoMore after rows = (now : List Row) × KeepsRows after.file.content now
     × ((id : List ℕ) → is_delivered now id ≡ true → is_delivered rows id ≡ true)
 
 -- the record's file is gone or empty, or is an older copy; for each legal id the files hold what they held
-pub record IsForgotten (world : World) (before after : Kept) : Type 0 where
+pub record IsForgotten (world : World) (before after : AccountFiles) : Type 0 where
   pub record_is : (rows : List Row) → KeepsRows before.file.content rows → ShowsNoMore after rows
   pub mail : (id : List ℕ) → is_legal_id id ≡ true → contents_of world after id ≡ contents_of world before id
 
 -- it is neither held nor taken away
-abbrev pub IsNeither : World → State Kept → List ℕ → Type 0
-IsNeither world state id = (is_held world.account state.kept.maildir id ≡ false) × (has_id state.taken id ≡ false)
+abbrev pub IsNeither : World → State AccountFiles → List ℕ → Type 0
+IsNeither world state id = (is_held world.account state.account.maildir id ≡ false) × (has_id state.taken id ≡ false)
 
 -- it was held, or was taken away before
-abbrev pub IsFetched : World → State Kept → List ℕ → Type 0
+abbrev pub IsFetched : World → State AccountFiles → List ℕ → Type 0
 IsFetched world state id = (is_legal_id id ≡ true)
-    × ((is_held world.account state.kept.maildir id ≡ true) ⊎ (has_id state.taken id ≡ true))
+    × ((is_held world.account state.account.maildir id ≡ true) ⊎ (has_id state.taken id ≡ true))
 
 -- the record's file stands for a record in which the id is delivered
-abbrev pub IsRecorded : Kept → List ℕ → Type 0
+abbrev pub IsRecorded : AccountFiles → List ℕ → Type 0
 IsRecorded state id = (rows : List Row) × KeepsRows state.file.content rows × (is_delivered rows id ≡ true)
 
 -- the record doesn't show the message, the server still has it, and no later one of the selected messages is held or was
 -- taken away: a text and its name are flushed before its row is written, and before the next one is stored
-pub record IsLastStored (world : World) (state : State Kept) (id : List ℕ) : Type 0 where
-  pub unrecorded : IsRecorded state.kept id → ⊥
+pub record IsLastStored (world : World) (state : State AccountFiles) (id : List ℕ) : Type 0 where
+  pub unrecorded : IsRecorded state.account id → ⊥
   pub on_server : has_id state.gone id ≡ false
   pub last : AllByRecursion (λ (message : Message). IsNeither world state message.uid)
       (messages_after id (selected world.max_size world.all))
 
 -- the record's file stands for rows of which each that is delivered was so before, or is held or was taken away
-abbrev pub ShowsWhatIsLeft : World → State Kept → Kept → List Row → Type 0
+abbrev pub ShowsWhatIsLeft : World → State AccountFiles → AccountFiles → List Row → Type 0
 ShowsWhatIsLeft world state after rows = (now : List Row) × KeepsRows after.file.content now
     × ((id : List ℕ) → is_delivered now id ≡ true
-    → (is_delivered rows id ≡ true) ⊎ IsFetched world (record state { kept = after }) id)
+    → (is_delivered rows id ≡ true) ⊎ IsFetched world (record state { account = after }) id)
 
 -- power is lost. For each legal id the files hold what they held; or there is none, and the message was taken away before
 -- and stored again, or is the last that was stored
-pub record IsPowerLost (world : World) (state : State Kept) (after : Kept) : Type 0 where
-  pub record_is : (rows : List Row) → KeepsRows state.kept.file.content rows → ShowsWhatIsLeft world state after rows
-  pub mail : (id : List ℕ) → is_legal_id id ≡ true → (contents_of world after id ≡ contents_of world state.kept id)
+pub record IsPowerLost (world : World) (state : State AccountFiles) (after : AccountFiles) : Type 0 where
+  pub record_is : (rows : List Row) → KeepsRows state.account.file.content rows → ShowsWhatIsLeft world state after rows
+  pub mail : (id : List ℕ) → is_legal_id id ≡ true → (contents_of world after id ≡ contents_of world state.account id)
       ⊎ ((contents_of world after id ≡ []) × ((has_id state.taken id ≡ true) ⊎ IsLastStored world state id))
 
-abbrev pub after_event : State Kept → Event → State Kept
-after_event state (Fetched occasion) = record state { kept = occasion.after; gone = state.gone ++ occasion.vanished }
-after_event state (Between after) = record state { kept = after }
+abbrev pub after_event : State AccountFiles → Event → State AccountFiles
+after_event state (Fetched occasion) = record state { account = occasion.after; gone = state.gone ++ occasion.vanished }
+after_event state (Between after) = record state { account = after }
 after_event state (Expired ids) = record state { gone = state.gone ++ ids }
 after_event state (Withdrawn ids) = state
-after_event state (TakenAway id after) = record state { kept = after; taken = id ∷ state.taken }
-after_event state (BroughtBack id after) = record state { kept = after; taken = filter (λ other. not (bytes_eq other id)) state.taken }
-after_event state (Forgotten after) = record state { kept = after }
-after_event state (PowerLost after) = record state { kept = after }
+after_event state (TakenAway id after) = record state { account = after; taken = id ∷ state.taken }
+after_event state (BroughtBack id after) = record state { account = after; taken = filter (λ other. not (bytes_eq other id)) state.taken }
+after_event state (Forgotten after) = record state { account = after }
+after_event state (PowerLost after) = record state { account = after }
 
 -- all mail goes on without the messages that are withdrawn
 abbrev pub world_after : World → Event → World
 world_after world (Withdrawn ids) = record world { all = without ids world.all }
 world_after world _ = world
 
-abbrev pub Follows : World → State Kept → Event → Type 0
+abbrev pub Follows : World → State AccountFiles → Event → Type 0
 Follows world state (Fetched occasion) = IsSession world state occasion
-Follows world state (Between after) = IsBetween world state.kept after
+Follows world state (Between after) = IsBetween world state.account after
 Follows world state (Expired ids) = AllByRecursion (IsFetched world state) ids
 Follows world state (Withdrawn ids) = AllByRecursion (IsNeither world state) ids
-Follows world state (TakenAway id after) = IsTakenAway world state.kept id after
+Follows world state (TakenAway id after) = IsTakenAway world state.account id after
 Follows world state (BroughtBack id after) = IsBroughtBack world state id after
-Follows world state (Forgotten after) = IsForgotten world state.kept after
+Follows world state (Forgotten after) = IsForgotten world state.account after
 Follows world state (PowerLost after) = IsPowerLost world state after
 
-abbrev pub IsRun : World → State Kept → List Event → Type 0
+abbrev pub IsRun : World → State AccountFiles → List Event → Type 0
 IsRun world state [] = Unit {0}
 IsRun world state (event ∷ events) = Follows world state event × IsRun (world_after world event) (after_event state event) events
 
 -- ---- what is promised
 
 -- an account whose record has these rows, and which of its messages are gone or were taken away
-abbrev pub by_rows : List Row → State Kept → State Account
-by_rows rows state = record { kept = holds rows state.kept.maildir; gone = state.gone; taken = state.taken }
+abbrev pub by_rows : List Row → State AccountFiles → State AccountMail
+by_rows rows state = record { account = holds rows state.account.maildir; gone = state.gone; taken = state.taken }
 
 -- the Maildir holds exactly the first of the selected messages, each in one file with its text, except for
 -- those that were taken away, and no others
-abbrev pub HoldsAPrefix : World → State Kept → Type 0
+abbrev pub HoldsAPrefix : World → State AccountFiles → Type 0
 HoldsAPrefix world state = HoldsWhatIsLeft world (by_rows [] state)
 
 -- a message is held when a session returns, or was taken away before it began
-abbrev pub IsHeldAfter : World → State Kept → Occasion → List ℕ → Type 0
+abbrev pub IsHeldAfter : World → State AccountFiles → Occasion → List ℕ → Type 0
 IsHeldAfter world state occasion id = (is_held world.account occasion.after.maildir id ≡ true) ⊎ (has_id state.taken id ≡ true)
 
 -- the message could be fetched, but comes after the first `max_count` that could; 0 is no limit
-abbrev pub IsPastCount : World → State Kept → Occasion → Message → Type 0
+abbrev pub IsPastCount : World → State AccountFiles → Occasion → Message → Type 0
 IsPastCount world state occasion message =
     let listing = listing_of (maildrop_at world state occasion) in
-    (rows : List Row) × KeepsRows state.kept.file.content rows
+    (rows : List Row) × KeepsRows state.account.file.content rows
     × (has_id (ids_wanted (past_limit occasion.settings.max_count
     (candidates occasion.settings
-    (merged rows listing (flags_of world.account state.kept.maildir listing) occasion.now) listing)))
+    (merged rows listing (flags_of world.account state.account.maildir listing) occasion.now) listing)))
     message.uid ≡ true)
 
 -- after an uncut session each message of the maildrop is held, or was taken away, or is larger than the
 -- limit, or is past the number that one session fetches
-abbrev pub LeavesOutOnlyBeyondLimits : World → State Kept → Occasion → Type 0
+abbrev pub LeavesOutOnlyBeyondLimits : World → State AccountFiles → Occasion → Type 0
 LeavesOutOnlyBeyondLimits world state occasion = occasion.report.outcome ≡ Ended → AllByRecursion (λ (message : Message).
     IsHeldAfter world state occasion message.uid
     ⊎ (is_selected world.max_size message ≡ false)
@@ -221,14 +221,14 @@ LeavesOutOnlyBeyondLimits world state occasion = occasion.report.outcome ≡ End
 
 -- a DELE gives the number, counted from 1, of a message of the maildrop that is held when the session
 -- returns, or was taken away
-abbrev pub IsForHeld : World → State Kept → Occasion → Command → Type 0
+abbrev pub IsForHeld : World → State AccountFiles → Occasion → Command → Type 0
 IsForHeld world state occasion (Dele number) = (0 < number) × (message : Message)
     × (slice_get (maildrop_at world state occasion) (number - 1) ≡ Some message)
     × IsHeldAfter world state occasion message.uid
 IsForHeld world state occasion _ = Unit {0}
 
 -- each DELE that was sent, the last perhaps in part, is for such a message
-pub record DeletesOnlyHeld (world : World) (state : State Kept) (occasion : Occasion) : Type 0 where
+pub record DeletesOnlyHeld (world : World) (state : State AccountFiles) (occasion : Occasion) : Type 0 where
   pub sent : List ℕ
   pub sent_is : occasion.link'.sent ≡ occasion.link.sent ++ sent
   pub commands : List Command
@@ -237,8 +237,8 @@ pub record DeletesOnlyHeld (world : World) (state : State Kept) (occasion : Occa
   pub next : BeginsOne (IsForHeld world state occasion) asked.part
 
 -- files of other names stay
-abbrev pub OthersStay : World → State Kept → State Kept → Type 0
-OthersStay world before after = KeepsOthers world.account (holds [] before.kept.maildir) (holds [] after.kept.maildir)
+abbrev pub OthersStay : World → State AccountFiles → State AccountFiles → Type 0
+OthersStay world before after = KeepsOthers world.account (holds [] before.account.maildir) (holds [] after.account.maildir)
 
 -- every file of `new` and `cur` is there as before, in whichever folder and with whatever marks, and what
 -- was added comes after them: so a session loses none
@@ -247,20 +247,21 @@ pub record FilesStay (before after : Maildir) : Type 0 where
   pub came : after.files ≡ before.files ++ gained
 
 -- if delivered messages aren't read again, none that is recorded as delivered is stored, and it stays recorded
-abbrev pub StoresOnlyNew : World → State Kept → Occasion → Type 0
-StoresOnlyNew world state occasion = occasion.settings.read_all ≡ false → (id : List ℕ) → is_legal_id id ≡ true → IsRecorded state.kept id
-    → (contents_of world occasion.after id ≡ contents_of world state.kept id) × IsRecorded occasion.after id
+abbrev pub StoresOnlyNew : World → State AccountFiles → Occasion → Type 0
+StoresOnlyNew world state occasion = occasion.settings.read_all ≡ false → (id : List ℕ) → is_legal_id id ≡ true
+    → IsRecorded state.account id
+    → (contents_of world occasion.after id ≡ contents_of world state.account id) × IsRecorded occasion.after id
 
 -- nothing is promised of what others do
-abbrev pub Promised : World → State Kept → Event → Type 0
+abbrev pub Promised : World → State AccountFiles → Event → Type 0
 Promised world state (Fetched occasion) =
     LeavesOutOnlyBeyondLimits world state occasion × DeletesOnlyHeld world state occasion
     × OthersStay world state (after_event state (Fetched occasion))
-    × FilesStay state.kept.maildir occasion.after.maildir × StoresOnlyNew world state occasion
+    × FilesStay state.account.maildir occasion.after.maildir × StoresOnlyNew world state occasion
 Promised world state _ = Unit {0}
 
 -- a prefix is held before and after each event, and each event keeps its promises
-abbrev pub Promises : World → State Kept → List Event → Type 0
+abbrev pub Promises : World → State AccountFiles → List Event → Type 0
 Promises world state [] = HoldsAPrefix world state
 Promises world state (event ∷ events) = HoldsAPrefix world state × Promised world state event
     × Promises (world_after world event) (after_event state event) events
@@ -269,10 +270,10 @@ Promises world state (event ∷ events) = HoldsAPrefix world state × Promised w
 
 -- the record's file stands for a record that shows as delivered only messages that are held or were taken
 -- away; the ids that are gone are of such messages too
-abbrev pub IsKept : World → State Kept → Type 0
-IsKept world state = (rows : List Row) × KeepsRows state.kept.file.content rows × IsKeptIn world (by_rows rows state)
+abbrev pub IsKept : World → State AccountFiles → Type 0
+IsKept world state = (rows : List Row) × KeepsRows state.account.file.content rows × IsKeptIn world (by_rows rows state)
 
-abbrev pub state_after : State Kept → List Event → State Kept
+abbrev pub state_after : State AccountFiles → List Event → State AccountFiles
 state_after state [] = state
 state_after state (event ∷ events) = state_after (after_event state event) events
 
@@ -282,7 +283,8 @@ world_left world (event ∷ events) = world_left (world_after world event) event
 
 -- the sentence: from a kept state, over any list of sessions and of what happens between them
 abbrev pub Headline : Type 0
-Headline = (world : World) (start : State Kept) (events : List Event) → IsSound world → IsKept world start → IsRun world start events
+Headline = (world : World) (start : State AccountFiles) (events : List Event) → IsSound world → IsKept world start
+    → IsRun world start events
     → Promises world start events × IsKept (world_left world events) (state_after start events)
 
 -- ---- what is taken away during a session
@@ -295,35 +297,35 @@ AreTakings (Between after ∷ events) = AreTakings events
 AreTakings (_ ∷ events) = ⊥
 
 -- these events take all files away but those that are left
-pub record AreTaken (world : World) (state : State Kept) (left : List File) (events : List Event) : Type 0 where
+pub record AreTaken (world : World) (state : State AccountFiles) (left : List File) (events : List Event) : Type 0 where
   pub each : AreTakings events
   pub run : IsRun world state events
-  pub kept : (state_after state events).kept ≡ kept (with_files left state.kept.maildir) state.kept.file
+  pub account : (state_after state events).account ≡ account_files (with_files left state.account.maildir) state.account.file
   pub gone : (state_after state events).gone ≡ state.gone
 
 -- whichever files are taken away in a kept state, there are such events. What is taken away during a session is taken
 -- away before the names are told, and so before the session; or after that, and so after the session, which sees none of it
 abbrev pub TakingsAreEvents : Type 0
-TakingsAreEvents = (world : World) (state : State Kept) (left : List File) → IsSound world → IsKept world state
-    → IsPart state.kept.maildir.files left → (events : List Event) × AreTaken world state left events
+TakingsAreEvents = (world : World) (state : State AccountFiles) (left : List File) → IsSound world → IsKept world state
+    → IsPart state.account.maildir.files left → (events : List Event) × AreTaken world state left events
 
 -- ---- from the first session on
 
 -- the record's file isn't there or holds an empty record, no file is the account's own, nothing is gone, and
 -- nothing was taken away
-pub record IsEmpty (world : World) (state : State Kept) : Type 0 where
-  pub record_is : KeepsRows state.kept.file.content []
-  pub no_file : (id : List ℕ) → is_legal_id id ≡ true → contents_of world state.kept id ≡ []
+pub record IsEmpty (world : World) (state : State AccountFiles) : Type 0 where
+  pub record_is : KeepsRows state.account.file.content []
+  pub no_file : (id : List ℕ) → is_legal_id id ≡ true → contents_of world state.account id ≡ []
   pub none_gone : state.gone ≡ []
   pub none_taken : state.taken ≡ []
 
 -- the empty account is kept
 abbrev pub EmptyIsKept : Type 0
-EmptyIsKept = (world : World) (start : State Kept) → IsEmpty world start → IsKept world start
+EmptyIsKept = (world : World) (start : State AccountFiles) → IsEmpty world start → IsKept world start
 
 -- so the sentence holds from the first session on
 abbrev pub HeadlineFromEmpty : Type 0
-HeadlineFromEmpty = (world : World) (start : State Kept) (events : List Event) → IsSound world
+HeadlineFromEmpty = (world : World) (start : State AccountFiles) (events : List Event) → IsSound world
     → IsEmpty world start → IsRun world start events → Promises world start events
 
 -- ---- if nothing is taken away or withdrawn
@@ -335,18 +337,18 @@ TakesNoneAway (Withdrawn ids ∷ events) = ⊥
 TakesNoneAway (_ ∷ events) = TakesNoneAway events
 
 -- the Maildir holds exactly the first of the selected messages, each in one file with its text, and no others
-abbrev pub HoldsExactlyAPrefix : World → State Kept → Type 0
-HoldsExactlyAPrefix world state = HoldsExactly world (holds [] state.kept.maildir)
+abbrev pub HoldsExactlyAPrefix : World → State AccountFiles → Type 0
+HoldsExactlyAPrefix world state = HoldsExactly world (holds [] state.account.maildir)
 
 -- each DELE is for a message that is held when the session returns
-abbrev pub IsForOneHeld : World → State Kept → Occasion → Command → Type 0
+abbrev pub IsForOneHeld : World → State AccountFiles → Occasion → Command → Type 0
 IsForOneHeld world state occasion (Dele number) = (0 < number) × (message : Message)
     × (slice_get (maildrop_at world state occasion) (number - 1) ≡ Some message)
     × (is_held world.account occasion.after.maildir message.uid ≡ true)
 IsForOneHeld world state occasion _ = Unit {0}
 
 -- a session as the sentence has it, word for word
-pub record IsWordForWord (world : World) (state : State Kept) (occasion : Occasion) : Type 0 where
+pub record IsWordForWord (world : World) (state : State AccountFiles) (occasion : Occasion) : Type 0 where
   pub left_out : occasion.report.outcome ≡ Ended → AllByRecursion (λ (message : Message).
       (is_held world.account occasion.after.maildir message.uid ≡ true)
       ⊎ (is_selected world.max_size message ≡ false) ⊎ IsPastCount world state occasion message)
@@ -358,18 +360,19 @@ pub record IsWordForWord (world : World) (state : State Kept) (occasion : Occasi
   pub each : AllByRecursion (IsForOneHeld world state occasion) commands
   pub next : BeginsOne (IsForOneHeld world state occasion) asked.part
 
-abbrev pub SaysTheSentence : World → State Kept → Event → Type 0
+abbrev pub SaysTheSentence : World → State AccountFiles → Event → Type 0
 SaysTheSentence world state (Fetched occasion) = IsWordForWord world state occasion
 SaysTheSentence world state _ = Unit {0}
 
-abbrev pub SayTheSentence : World → State Kept → List Event → Type 0
+abbrev pub SayTheSentence : World → State AccountFiles → List Event → Type 0
 SayTheSentence world state [] = HoldsExactlyAPrefix world state
 SayTheSentence world state (event ∷ events) = HoldsExactlyAPrefix world state
     × SaysTheSentence world state event × SayTheSentence world (after_event state event) events
 
 -- then the sentence holds word for word
 abbrev pub HeadlineWordForWord : Type 0
-HeadlineWordForWord = (world : World) (start : State Kept) (events : List Event) → IsSound world → IsKept world start → IsRun world start events
+HeadlineWordForWord = (world : World) (start : State AccountFiles) (events : List Event) → IsSound world → IsKept world start
+    → IsRun world start events
     → start.taken ≡ [] → TakesNoneAway events → SayTheSentence world start events
 
 -- ---- what is taken away stays away
@@ -386,42 +389,43 @@ LeaveAway id (_ ∷ events) = LeaveAway id events
 
 -- then a message that is recorded as delivered and isn't held is never stored again
 abbrev pub StaysAway : Type 0
-StaysAway = (world : World) (start : State Kept) (events : List Event) (id : List ℕ) → IsSound world
+StaysAway = (world : World) (start : State AccountFiles) (events : List Event) (id : List ℕ) → IsSound world
     → IsKept world start → IsRun world start events
-    → LeaveAway id events → is_legal_id id ≡ true → IsRecorded start.kept id → contents_of world start.kept id ≡ []
-    → contents_of world (state_after start events).kept id ≡ []
+    → LeaveAway id events → is_legal_id id ≡ true → IsRecorded start.account id → contents_of world start.account id ≡ []
+    → contents_of world (state_after start events).account id ≡ []
 
 -- ---- a record that is lost
 
 -- the same files of `new` and `cur`, and no record's file, or an empty one
-pub record HasLostRecord (before after : Kept) : Type 0 where
+pub record HasLostRecord (before after : AccountFiles) : Type 0 where
   pub files : after.maildir.files ≡ before.maildir.files
   pub content : (after.file.content ≡ None) ⊎ (after.file.content ≡ Some [])
 
 -- that is such an event
 abbrev pub LostRecordsAreForgotten : Type 0
-LostRecordsAreForgotten = (world : World) (before after : Kept) → HasLostRecord before after → IsForgotten world before after
+LostRecordsAreForgotten = (world : World) (before after : AccountFiles) → HasLostRecord before after → IsForgotten world before after
 
 -- ---- a program that starts anew, and one that is stopped
 
 -- the same files of `new` and `cur`, and the same bytes of the record's file; all else may be another process's
-pub record HasTheSameFiles (before after : Kept) : Type 0 where
+pub record HasTheSameFiles (before after : AccountFiles) : Type 0 where
   pub files : after.maildir.files ≡ before.maildir.files
   pub content : after.file.content ≡ before.file.content
 
 -- a new process, whose counts begin at 0 and which has begun no file, and folders that were made are changes
 -- between two sessions
 abbrev pub NewProcessesAreBetween : Type 0
-NewProcessesAreBetween = (world : World) (before after : Kept) → HasTheSameFiles before after → IsBetween world before after
+NewProcessesAreBetween = (world : World) (before after : AccountFiles) → HasTheSameFiles before after → IsBetween world before after
 
 -- a program was stopped in a session: the files are as that session leaves them if every call is refused from
 -- that moment on, the first of them with or without effect. That is a session that was cut
-pub record IsStopped (world : World) (state : State Kept) (occasion : Occasion) (left : Kept) : Type 0 where
+pub record IsStopped (world : World) (state : State AccountFiles) (occasion : Occasion) (left : AccountFiles) : Type 0 where
   pub session : IsSession world state occasion
   pub cut : occasion.report.outcome ≢ Ended
   pub files : HasTheSameFiles occasion.after left
 
 -- so a stop is a run: the session, and then a new process
 abbrev pub StopsAreRuns : Type 0
-StopsAreRuns = (world : World) (state : State Kept) (occasion : Occasion) (left : Kept) → IsStopped world state occasion left
+StopsAreRuns = (world : World) (state : State AccountFiles) (occasion : Occasion) (left : AccountFiles)
+    → IsStopped world state occasion left
     → IsRun world state (Fetched occasion ∷ Between left ∷ [])

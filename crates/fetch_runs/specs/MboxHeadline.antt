@@ -15,15 +15,15 @@ use Rattle.pop3_wire.specs.World.{Message, IsWorld, maildrop_of}
 use Rattle.mail_terms.specs.UniqueId.{has_id}
 use Rattle.rc_file.specs.Settings.{IsValid}
 use Rattle.rc_file.specs.declared.settings.Settings.{Settings}
-use Rattle.fetch_rules.specs.Record.{Held, is_delivered, merged}
+use Rattle.fetch_rules.specs.Record.{RecordState, is_delivered, merged}
 use Rattle.fetch_rules.specs.Wanted.{candidates}
 use Rattle.fetch_session.specs.Record.{Keeps}
-use Rattle.fetch_session.specs.Session.{MboxKept, MboxSession}
+use Rattle.fetch_session.specs.Session.{MboxAccountFiles, MboxSession}
 use Rattle.fetch_session.specs.Target.{mail_in}
 use Rattle.fetch_session.specs.declared.report.Outcome.TheVariants.{Ended}
 use Rattle.fetch_session.specs.declared.report.Report.{Report}
 use Rattle.run_law.specs.Mails.{ids_of, listing_of, is_selected, selected, without}
-use Rattle.run_law.specs.Mboxes.{MboxAccount, settled, none_held}
+use Rattle.run_law.specs.Mboxes.{MboxMail, settled, none_held}
 use Rattle.run_law.specs.MboxRuns.{MboxWorld, MboxState, MboxKept as IsKeptIn, MboxHolds, HasEntry, IsUnbegun, AreAllRecorded}
 use Rattle.run_law.specs.Runs.{past_limit}
 use Rattle.run_law.specs.Sessions.{BeginsOne, Served}
@@ -50,7 +50,7 @@ pub record MboxOccasion : Type 0 where
   pub report : Report
   pub link : Link
   pub link' : Link
-  pub after : MboxKept
+  pub after : MboxAccountFiles
   pub come : ℕ
   pub vanished : List (List ℕ)
 
@@ -59,50 +59,51 @@ pub record MboxOccasion : Type 0 where
 -- these messages are recorded
 pub data MboxEvent : Type 0 where
   Fetched : MboxOccasion → MboxEvent
-  Between : MboxKept → MboxEvent
+  Between : MboxAccountFiles → MboxEvent
   Expired : List (List ℕ) → MboxEvent
   Withdrawn : List (List ℕ) → MboxEvent
-  Rewritten : List Message → MboxKept → MboxEvent
+  Rewritten : List Message → MboxAccountFiles → MboxEvent
 
 -- the maildrop of an occasion
-abbrev pub maildrop_at : MboxWorld → MboxState MboxKept → MboxOccasion → List Message
+abbrev pub maildrop_at : MboxWorld → MboxState MboxAccountFiles → MboxOccasion → List Message
 maildrop_at world state occasion = maildrop_of world.all occasion.come state.gone
 
 -- it was a session, whatever cut it, and all that its link gained came from an honest server with this maildrop
-pub record IsMboxSession (world : MboxWorld) (state : MboxState MboxKept) (occasion : MboxOccasion) : Type 0 where
+pub record IsMboxSession (world : MboxWorld) (state : MboxState MboxAccountFiles) (occasion : MboxOccasion) : Type 0 where
   pub settings : AreSettings world occasion.settings
-  pub session : MboxSession occasion.settings occasion.now occasion.link state.kept occasion.report occasion.link' occasion.after
+  pub session : MboxSession occasion.settings occasion.now occasion.link state.account occasion.report occasion.link' occasion.after
   pub served : (sent got : List ℕ) → occasion.link'.sent ≡ occasion.link.sent ++ sent → occasion.link'.got ≡ occasion.link.got ++ got
       → Served (maildrop_at world state occasion) sent got occasion.vanished
 
 -- the record's file still stands for the record that it stood for, and the mboxrd file has the same bytes. The
 -- counts of refusals may have changed
-pub record IsMboxBetween (before after : MboxKept) : Type 0 where
-  pub record_is : (held : Held) → Keeps before.file.content held → Keeps after.file.content held
+pub record IsMboxBetween (before after : MboxAccountFiles) : Type 0 where
+  pub record_is : (held : RecordState) → Keeps before.file.content held → Keeps after.file.content held
   pub mail : mail_in after.mbox.content ≡ mail_in before.mbox.content
 
 -- the record's file stands for a record in which these are delivered
-abbrev pub AreRecorded : MboxKept → List (List ℕ) → Type 0
-AreRecorded state ids = (held : Held) × Keeps state.file.content held × AllByRecursion (λ id. is_delivered held.rows id ≡ true) ids
+abbrev pub AreRecorded : MboxAccountFiles → List (List ℕ) → Type 0
+AreRecorded state ids = (held : RecordState) × Keeps state.file.content held × AllByRecursion (λ id. is_delivered held.rows id ≡ true) ids
 
 -- the record's file stands for a record in which none of these is delivered or has an open intent
-abbrev pub AreUnbegun : MboxState MboxKept → List (List ℕ) → Type 0
-AreUnbegun state ids = (held : Held) × Keeps state.kept.file.content held × AllByRecursion (IsUnbegun (mbox_holds held state.kept.mbox)) ids
+abbrev pub AreUnbegun : MboxState MboxAccountFiles → List (List ℕ) → Type 0
+AreUnbegun state ids = (held : RecordState) × Keeps state.account.file.content held
+    × AllByRecursion (IsUnbegun (mbox_holds held state.account.mbox)) ids
 
 -- the mboxrd file may hold anything now. The record's file still stands for its record, which has no open intent and shows
 -- exactly these messages as delivered
-pub record IsRewritten (world : MboxWorld) (before : MboxKept) (had : List Message) (after : MboxKept) : Type 0 where
-  pub held : Held
+pub record IsRewritten (world : MboxWorld) (before : MboxAccountFiles) (had : List Message) (after : MboxAccountFiles) : Type 0 where
+  pub held : RecordState
   pub stood_for : Keeps before.file.content held
   pub stands_for : Keeps after.file.content held
   pub recorded : AreAllRecorded world (mbox_holds held before.mbox) had
 
-abbrev pub after_event : MboxState MboxKept → MboxEvent → MboxState MboxKept
-after_event state (Fetched occasion) = record { kept = occasion.after; gone = state.gone ++ occasion.vanished }
-after_event state (Between after) = record state { kept = after }
+abbrev pub after_event : MboxState MboxAccountFiles → MboxEvent → MboxState MboxAccountFiles
+after_event state (Fetched occasion) = record { account = occasion.after; gone = state.gone ++ occasion.vanished }
+after_event state (Between after) = record state { account = after }
 after_event state (Expired ids) = record state { gone = state.gone ++ ids }
 after_event state (Withdrawn ids) = state
-after_event state (Rewritten had after) = record state { kept = after }
+after_event state (Rewritten had after) = record state { account = after }
 
 -- all mail goes on without the messages that are withdrawn; what others write is what the file begins with
 abbrev pub world_after : MboxWorld → MboxEvent → MboxWorld
@@ -110,18 +111,18 @@ world_after world (Withdrawn ids) = record world { all = without ids world.all }
 world_after world (Rewritten had after) = record world { start = mail_in after.mbox.content; had = had }
 world_after world _ = world
 
-abbrev pub Follows : MboxWorld → MboxState MboxKept → MboxEvent → Type 0
+abbrev pub Follows : MboxWorld → MboxState MboxAccountFiles → MboxEvent → Type 0
 Follows world state (Fetched occasion) = IsMboxSession world state occasion
-Follows world state (Between after) = IsMboxBetween state.kept after
-Follows world state (Expired ids) = AreRecorded state.kept ids
+Follows world state (Between after) = IsMboxBetween state.account after
+Follows world state (Expired ids) = AreRecorded state.account ids
 Follows world state (Withdrawn ids) = AreUnbegun state ids
-Follows world state (Rewritten had after) = IsRewritten world state.kept had after
+Follows world state (Rewritten had after) = IsRewritten world state.account had after
 
-abbrev pub IsMboxRun : MboxWorld → MboxState MboxKept → List MboxEvent → Type 0
+abbrev pub IsMboxRun : MboxWorld → MboxState MboxAccountFiles → List MboxEvent → Type 0
 IsMboxRun world state [] = Unit {0}
 IsMboxRun world state (event ∷ events) = Follows world state event × IsMboxRun (world_after world event) (after_event state event) events
 
-abbrev pub state_after : MboxState MboxKept → List MboxEvent → MboxState MboxKept
+abbrev pub state_after : MboxState MboxAccountFiles → List MboxEvent → MboxState MboxAccountFiles
 state_after state [] = state
 state_after state (event ∷ events) = state_after (after_event state event) events
 
@@ -132,33 +133,34 @@ world_left world (event ∷ events) = world_left (world_after world event) event
 -- ---- what is promised
 
 -- an account with this record, and which ids are gone
-abbrev pub by_record : Held → MboxState MboxKept → MboxState MboxAccount
-by_record held state = record { kept = mbox_holds held state.kept.mbox; gone = state.gone }
+abbrev pub by_record : RecordState → MboxState MboxAccountFiles → MboxState MboxMail
+by_record held state = record { account = mbox_holds held state.account.mbox; gone = state.gone }
 
 -- the file is the one before the first session, followed by the entries of the first of the selected messages
 -- that weren't recorded then, in order, each once, and by at most a prefix of the next one's entry, whose intent is
 -- then open. The recorded messages are exactly these and those before
-abbrev pub HoldsEntries : MboxWorld → MboxState MboxKept → Type 0
-HoldsEntries world state = (held : Held) × Keeps state.kept.file.content held × MboxHolds world (mbox_holds held state.kept.mbox)
+abbrev pub HoldsEntries : MboxWorld → MboxState MboxAccountFiles → Type 0
+HoldsEntries world state = (held : RecordState) × Keeps state.account.file.content held
+    × MboxHolds world (mbox_holds held state.account.mbox)
 
 -- the whole entry of a message with this id is in the file, or the id was recorded before the first session
-abbrev pub IsEntered : MboxWorld → MboxKept → List ℕ → Type 0
+abbrev pub IsEntered : MboxWorld → MboxAccountFiles → List ℕ → Type 0
 IsEntered world state id = (has_id (ids_of world.had) id ≡ true) ⊎ HasEntry world (mail_in state.mbox.content) id
 
 -- the message could be fetched, but comes after the first `max_count` that could; 0 is no limit
-abbrev pub IsPastCount : MboxWorld → MboxState MboxKept → MboxOccasion → Message → Type 0
+abbrev pub IsPastCount : MboxWorld → MboxState MboxAccountFiles → MboxOccasion → Message → Type 0
 IsPastCount world state occasion message =
     let listing = listing_of (maildrop_at world state occasion) in
-    (held : Held) × Keeps state.kept.file.content held
+    (held : RecordState) × Keeps state.account.file.content held
     × (has_id (ids_wanted (past_limit occasion.settings.max_count
     (candidates occasion.settings
-    (merged (settled listing (mbox_holds held state.kept.mbox)).rows listing (none_held listing) occasion.now) listing)))
+    (merged (settled listing (mbox_holds held state.account.mbox)).rows listing (none_held listing) occasion.now) listing)))
     message.uid ≡ true)
 
 -- after an uncut session no intent is open and nothing of a next entry is left, and each message of the maildrop
 -- has its entry, or is larger than the limit, or is past the number that one session fetches
-pub record EndsWhole (world : MboxWorld) (state : MboxState MboxKept) (occasion : MboxOccasion) : Type 0 where
-  pub held : Held
+pub record EndsWhole (world : MboxWorld) (state : MboxState MboxAccountFiles) (occasion : MboxOccasion) : Type 0 where
+  pub held : RecordState
   pub stands_for : Keeps occasion.after.file.content held
   pub closed : held.intent ≡ None
   pub holds : MboxHolds world (mbox_holds held occasion.after.mbox)
@@ -170,14 +172,14 @@ pub record EndsWhole (world : MboxWorld) (state : MboxState MboxKept) (occasion 
 
 -- a DELE gives the number, counted from 1, of a message of the maildrop whose whole entry is in the file when the
 -- session returns, or that was recorded before the first session
-abbrev pub IsForEntered : MboxWorld → MboxState MboxKept → MboxOccasion → Command → Type 0
+abbrev pub IsForEntered : MboxWorld → MboxState MboxAccountFiles → MboxOccasion → Command → Type 0
 IsForEntered world state occasion (Dele number) = (0 < number) × (message : Message)
     × (slice_get (maildrop_at world state occasion) (number - 1) ≡ Some message)
     × IsEntered world occasion.after message.uid
 IsForEntered world state occasion _ = Unit {0}
 
 -- each DELE that was sent, the last perhaps in part, is for such a message
-pub record DeletesOnlyEntered (world : MboxWorld) (state : MboxState MboxKept) (occasion : MboxOccasion) : Type 0 where
+pub record DeletesOnlyEntered (world : MboxWorld) (state : MboxState MboxAccountFiles) (occasion : MboxOccasion) : Type 0 where
   pub sent : List ℕ
   pub sent_is : occasion.link'.sent ≡ occasion.link.sent ++ sent
   pub commands : List Command
@@ -186,80 +188,82 @@ pub record DeletesOnlyEntered (world : MboxWorld) (state : MboxState MboxKept) (
   pub next : BeginsOne (IsForEntered world state occasion) asked.part
 
 -- nothing is promised of what others do
-abbrev pub MboxPromised : MboxWorld → MboxState MboxKept → MboxEvent → Type 0
+abbrev pub MboxPromised : MboxWorld → MboxState MboxAccountFiles → MboxEvent → Type 0
 MboxPromised world state (Fetched occasion) =
     (occasion.report.outcome ≡ Ended → EndsWhole world state occasion) × DeletesOnlyEntered world state occasion
 MboxPromised world state _ = Unit {0}
 
 -- the file holds these entries before and after each event, and each event keeps its promises
-abbrev pub MboxPromises : MboxWorld → MboxState MboxKept → List MboxEvent → Type 0
+abbrev pub MboxPromises : MboxWorld → MboxState MboxAccountFiles → List MboxEvent → Type 0
 MboxPromises world state [] = HoldsEntries world state
 MboxPromises world state (event ∷ events) = HoldsEntries world state × MboxPromised world state event
     × MboxPromises (world_after world event) (after_event state event) events
 
 -- ---- the states in which it can begin and go on
 
-abbrev pub IsMboxKept : MboxWorld → MboxState MboxKept → Type 0
-IsMboxKept world state = (held : Held) × Keeps state.kept.file.content held × IsKeptIn world (by_record held state)
+abbrev pub IsMboxKept : MboxWorld → MboxState MboxAccountFiles → Type 0
+IsMboxKept world state = (held : RecordState) × Keeps state.account.file.content held × IsKeptIn world (by_record held state)
 
 -- the second sentence: from a kept state, over any list of sessions and of what happens between them
 abbrev pub MboxHeadline : Type 0
-MboxHeadline = (world : MboxWorld) (start : MboxState MboxKept) (events : List MboxEvent) → IsWorld world.all
+MboxHeadline = (world : MboxWorld) (start : MboxState MboxAccountFiles) (events : List MboxEvent) → IsWorld world.all
     → IsMboxKept world start → IsMboxRun world start events
     → MboxPromises world start events × IsMboxKept (world_left world events) (state_after start events)
 
 -- the record has no open intent, and what it shows as delivered is exactly a prefix of the selected messages, as it
 -- is with an empty record; only messages of this prefix may be gone. The mboxrd file may hold anything
-pub record IsMboxStart (world : MboxWorld) (state : MboxState MboxKept) : Type 0 where
-  pub held : Held
-  pub stands_for : Keeps state.kept.file.content held
+pub record IsMboxStart (world : MboxWorld) (state : MboxState MboxAccountFiles) : Type 0 where
+  pub held : RecordState
+  pub stands_for : Keeps state.account.file.content held
   pub closed : held.intent ≡ None
   pub ahead : List Message
   pub prefix : selected world.max_size world.all ≡ world.had ++ ahead
   pub recorded : (id : List ℕ) → is_delivered held.rows id ≡ has_id (ids_of world.had) id
   pub gone : AllByRecursion (λ id. has_id (ids_of world.had) id ≡ true) state.gone
-  pub file : mail_in state.kept.mbox.content ≡ world.start
+  pub file : mail_in state.account.mbox.content ≡ world.start
 
 -- such an account is kept
 abbrev pub MboxStartIsKept : Type 0
-MboxStartIsKept = (world : MboxWorld) (start : MboxState MboxKept) → IsMboxStart world start → IsMboxKept world start
+MboxStartIsKept = (world : MboxWorld) (start : MboxState MboxAccountFiles) → IsMboxStart world start → IsMboxKept world start
 
 -- so the sentence holds from the first session on
 abbrev pub MboxHeadlineFromStart : Type 0
-MboxHeadlineFromStart = (world : MboxWorld) (start : MboxState MboxKept) (events : List MboxEvent) → IsWorld world.all
+MboxHeadlineFromStart = (world : MboxWorld) (start : MboxState MboxAccountFiles) (events : List MboxEvent) → IsWorld world.all
     → IsMboxStart world start → IsMboxRun world start events
     → MboxPromises world start events
 
 -- ---- what others write
 
 -- the record has no open intent, and its file stands for the same record afterwards
-pub record AreOthers (before after : MboxKept) : Type 0 where
-  pub held : Held
+pub record AreOthers (before after : MboxAccountFiles) : Type 0 where
+  pub held : RecordState
   pub stood_for : Keeps before.file.content held
   pub stands_for : Keeps after.file.content held
   pub closed : held.intent ≡ None
 
 -- then whatever others did to the mboxrd file of a kept state is an event
 abbrev pub WritingsAreEvents : Type 0
-WritingsAreEvents = (world : MboxWorld) (state : MboxState MboxKept) (after : MboxKept) → IsMboxKept world state → AreOthers state.kept after
-    → (had : List Message) × IsRewritten world state.kept had after
+WritingsAreEvents = (world : MboxWorld) (state : MboxState MboxAccountFiles) (after : MboxAccountFiles) → IsMboxKept world state
+    → AreOthers state.account after
+    → (had : List Message) × IsRewritten world state.account had after
 
 -- ---- a program that starts anew, and one that is stopped
 
 -- the same bytes of the mboxrd file and of the record's file
-pub record HasTheSameBytes (before after : MboxKept) : Type 0 where
+pub record HasTheSameBytes (before after : MboxAccountFiles) : Type 0 where
   pub mbox : after.mbox.content ≡ before.mbox.content
   pub content : after.file.content ≡ before.file.content
 
 -- a program was stopped in a session: the files are as that session leaves them if every call is refused from
 -- that moment on, the first of them with or without effect. That is a session that was cut
-pub record IsMboxStopped (world : MboxWorld) (state : MboxState MboxKept) (occasion : MboxOccasion) (left : MboxKept) : Type 0 where
+pub record IsMboxStopped (world : MboxWorld) (state : MboxState MboxAccountFiles) (occasion : MboxOccasion)
+    (left : MboxAccountFiles) : Type 0 where
   pub session : IsMboxSession world state occasion
   pub cut : occasion.report.outcome ≢ Ended
   pub files : HasTheSameBytes occasion.after left
 
 -- so a stop is a run: the session, and then a new process
 abbrev pub MboxStopsAreRuns : Type 0
-MboxStopsAreRuns = (world : MboxWorld) (state : MboxState MboxKept) (occasion : MboxOccasion) (left : MboxKept)
+MboxStopsAreRuns = (world : MboxWorld) (state : MboxState MboxAccountFiles) (occasion : MboxOccasion) (left : MboxAccountFiles)
     → IsMboxStopped world state occasion left
     → IsMboxRun world state (Fetched occasion ∷ Between left ∷ [])

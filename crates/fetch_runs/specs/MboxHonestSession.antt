@@ -3,12 +3,12 @@ use Rattle.std.specs.Prelude.{◌≡◌, ◌⊎◌, ℕ, Bool, List, ◌++◌}
 use Rattle.pop3_wire.specs.Honest.{Honest}
 use Rattle.pop3_wire.specs.Link.{Link}
 use Rattle.pop3_wire.specs.World.{Message}
-use Rattle.fetch_rules.specs.Record.{Held}
+use Rattle.fetch_rules.specs.Record.{RecordState}
 use Rattle.rc_file.specs.Settings.{IsValid}
 use Rattle.rc_file.specs.declared.settings.Settings.{Settings}
 use Rattle.fetch_session.specs.declared.report.Report.{Report}
 use Rattle.fetch_session.specs.Record.{Keeps}
-use Rattle.fetch_session.specs.Session.{MboxKept, MboxSession}
+use Rattle.fetch_session.specs.Session.{MboxAccountFiles, MboxSession}
 use Rattle.run_law.specs.Mboxes.{MboxLeaves}
 use Rattle.run_law.specs.MboxHonestSession.{AppendsMessages}
 use Rattle.fetch_runs.specs.MboxSteps.{mbox_holds, IsMboxStep}
@@ -17,8 +17,8 @@ use Rattle.fetch_runs.specs.MboxSteps.{mbox_holds, IsMboxStep}
 -- perhaps cut back; or its joined listing is the maildrop's, and what it appended are the entries of messages of
 -- the maildrop, with their texts, and at most a beginning of one more
 abbrev pub MboxHonestSessions : Type 0
-MboxHonestSessions = (settings : Settings) (now : ℕ) (link : Link) (before : MboxKept) (held : Held)
-    (report : Report) (link' : Link) (after : MboxKept)
+MboxHonestSessions = (settings : Settings) (now : ℕ) (link : Link) (before : MboxAccountFiles) (held : RecordState)
+    (report : Report) (link' : Link) (after : MboxAccountFiles)
     (drop : List Message) (marks : List Bool)
     → IsValid settings → Keeps before.file.content held → MboxSession settings now link before report link' after
     → ((sent got : List ℕ) → link'.sent ≡ link.sent ++ sent → link'.got ≡ link.got ++ got → Honest drop sent got marks)

@@ -3,7 +3,7 @@ use Rattle.std.specs.Prelude.{◌≡◌, ℕ, List, [], ◌∷◌}
 use Rattle.pop3_wire.specs.Link.{Link}
 use Rattle.rc_file.specs.declared.settings.Settings.{Settings}
 use Rattle.fetch_session.specs.declared.report.Report.{Report}
-use Rattle.fetch_session.specs.Session.{MboxKept, MboxSession}
+use Rattle.fetch_session.specs.Session.{MboxAccountFiles, MboxSession}
 use Rattle.run_law.specs.Sessions.{Fact}
 use Rattle.run_law.specs.MboxRuns.{MboxState, MboxWorld}
 use Rattle.fetch_runs.specs.declared.run.Visit.{Visit}
@@ -11,21 +11,22 @@ use Rattle.fetch_runs.specs.MboxHeadline.{MboxOccasion, Fetched, after_event, Ho
 use Rattle.fetch_runs.specs.Runs.{RunsBy}
 
 -- the visit was one session at its time
-abbrev pub WasMadeInMbox : {W : Type 0} → (W → Link) → Settings → Visit W → MboxKept → Report → Visit W → MboxKept → Type 0
+abbrev pub WasMadeInMbox : {W : Type 0} → (W → Link) → Settings → Visit W → MboxAccountFiles → Report → Visit W → MboxAccountFiles → Type 0
 WasMadeInMbox seen settings old before report new after =
     MboxSession settings old.now (seen old.wire) before report (seen new.wire) after × (new.now ≡ old.now)
 
 -- each visit was one session at its time, in order, from what the one before left, and has its report
-abbrev pub MboxRuns : {W : Type 0} → (W → Link) → Settings → List (Visit W) → MboxKept → List Report → List (Visit W) → MboxKept → Type 0
+abbrev pub MboxRuns : {W : Type 0} → (W → Link) → Settings → List (Visit W) → MboxAccountFiles → List Report → List (Visit W)
+    → MboxAccountFiles → Type 0
 MboxRuns seen settings olds first reports news last = RunsBy (WasMadeInMbox seen settings) olds first reports news last
 
 -- ---- what is promised of them
 
-abbrev pub mbox_state : MboxKept → List (List ℕ) → MboxState MboxKept
-mbox_state kept gone = record { kept = kept; gone = gone }
+abbrev pub mbox_state : MboxAccountFiles → List (List ℕ) → MboxState MboxAccountFiles
+mbox_state account gone = record { account = account; gone = gone }
 
 -- a visit as an occasion of the headline
-abbrev pub mbox_occasion : {W : Type 0} → (W → Link) → Settings → Visit W → Report → Visit W → Fact → MboxKept → MboxOccasion
+abbrev pub mbox_occasion : {W : Type 0} → (W → Link) → Settings → Visit W → Report → Visit W → Fact → MboxAccountFiles → MboxOccasion
 mbox_occasion seen settings old report new fact after = record {
   settings = settings;
   now = old.now;
@@ -39,11 +40,11 @@ mbox_occasion seen settings old report new fact after = record {
 
 -- the mboxrd file is as the headline says before and after each visit, each visit keeps its promises, and the
 -- last state is kept
-abbrev pub AreMboxPromised : {W : Type 0} → (W → Link) → Settings → MboxWorld → MboxState MboxKept → List (Visit W)
-    → List Report → List (Visit W) → List Fact → MboxKept → Type 0
-AreMboxPromised seen settings world state [] [] [] [] last = HoldsEntries world state × IsMboxKept world state × (state.kept ≡ last)
+abbrev pub AreMboxPromised : {W : Type 0} → (W → Link) → Settings → MboxWorld → MboxState MboxAccountFiles → List (Visit W)
+    → List Report → List (Visit W) → List Fact → MboxAccountFiles → Type 0
+AreMboxPromised seen settings world state [] [] [] [] last = HoldsEntries world state × IsMboxKept world state × (state.account ≡ last)
 AreMboxPromised seen settings world state (old ∷ olds) (report ∷ reports) (new ∷ news) (fact ∷ facts) last =
-    (between : MboxKept) × MboxSession settings old.now (seen old.wire) state.kept report (seen new.wire) between
+    (between : MboxAccountFiles) × MboxSession settings old.now (seen old.wire) state.account report (seen new.wire) between
     × HoldsEntries world state × MboxPromised world state (Fetched (mbox_occasion seen settings old report new fact between))
     × AreMboxPromised seen settings world
     (after_event state (Fetched (mbox_occasion seen settings old report new fact between)))

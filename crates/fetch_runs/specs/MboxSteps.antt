@@ -1,7 +1,7 @@
 -- A session of the code with an mboxrd file, as the law over runs takes it.
 use Rattle.std.specs.Prelude.{◌≡◌, ◌↔◌, ◌⊎◌, ◌+◌, ℕ, true, List, ◌++◌}
 use Rattle.pop3_wire.specs.Link.{Link}
-use Rattle.fetch_rules.specs.Record.{Held}
+use Rattle.fetch_rules.specs.Record.{RecordState}
 use Rattle.mail_store.specs.FlatFile.{Stored}
 use Rattle.rc_file.specs.Settings.{IsValid}
 use Rattle.rc_file.specs.declared.settings.Settings.{Settings}
@@ -9,32 +9,32 @@ use Rattle.fetch_session.specs.declared.fault.Fault.TheVariants.{SeenRefused, No
 use Rattle.fetch_session.specs.declared.report.Outcome.TheVariants.{Ended, Cut}
 use Rattle.fetch_session.specs.declared.report.Report.{Report}
 use Rattle.fetch_session.specs.Record.{Keeps}
-use Rattle.fetch_session.specs.Session.{MboxKept, MboxSession}
+use Rattle.fetch_session.specs.Session.{MboxAccountFiles, MboxSession}
 use Rattle.fetch_session.specs.Target.{mail_in}
 use Rattle.run_law.specs.Steps.{Effect}
-use Rattle.run_law.specs.Mboxes.{MboxAccount, MboxLeaves}
-use Rattle.run_law.specs.MboxTold.{MboxTold}
+use Rattle.run_law.specs.Mboxes.{MboxMail, MboxLeaves}
+use Rattle.run_law.specs.MboxCounted.{MboxCounted}
 use Rattle.run_law.specs.MboxSessions.{MboxSession as Stepped}
 
 -- an account with this record and this mboxrd file; a missing file has no bytes
-abbrev pub mbox_holds : Held → Stored → MboxAccount
+abbrev pub mbox_holds : RecordState → Stored → MboxMail
 mbox_holds held mbox = record { rows = held.rows; intent = held.intent; file = mail_in mbox.content }
 
 -- the account as it was left, by how many texts the report counts and how many of these are recorded: one fewer
 -- only if the record wasn't saved
-pub record IsMboxTold (settings : Settings) (before : MboxAccount) (effect : Effect) (after : MboxAccount) (report : Report) : Type 0 where
-  pub told : MboxTold settings before effect after
-  pub retrieved_is : report.retrieved ≡ told.k
-  pub one_less : told.j + 1 ≡ told.k → (report.outcome ≡ Cut SeenRefused) ⊎ (report.outcome ≡ Cut NoMemory)
+pub record IsMboxCounted (settings : Settings) (before : MboxMail) (effect : Effect) (after : MboxMail) (report : Report) : Type 0 where
+  pub figures : MboxCounted settings before effect after
+  pub retrieved_is : report.retrieved ≡ figures.k
+  pub one_less : figures.j + 1 ≡ figures.k → (report.outcome ≡ Cut SeenRefused) ⊎ (report.outcome ≡ Cut NoMemory)
 
 -- what the link gained, what was done to the account, and the record that its file stands for afterwards: the
 -- account is as it was, or settled; or it was settled, the listing merged, and texts appended and recorded
-pub record IsMboxStep (settings : Settings) (now : ℕ) (link : Link) (before : MboxKept) (held : Held)
-    (report : Report) (link' : Link) (after : MboxKept) : Type 0 where
+pub record IsMboxStep (settings : Settings) (now : ℕ) (link : Link) (before : MboxAccountFiles) (held : RecordState)
+    (report : Report) (link' : Link) (after : MboxAccountFiles) : Type 0 where
   pub sent : List ℕ
   pub got : List ℕ
   pub effect : Effect
-  pub held' : Held
+  pub held' : RecordState
   pub sent_is : link'.sent ≡ link.sent ++ sent
   pub got_is : link'.got ≡ link.got ++ got
   pub now_is : effect.now ≡ now
@@ -42,11 +42,11 @@ pub record IsMboxStep (settings : Settings) (now : ℕ) (link : Link) (before : 
   pub keeps : Keeps after.file.content held'
   pub stepped : Stepped settings (mbox_holds held before.mbox) sent got effect (mbox_holds held' after.mbox)
   pub left : (MboxLeaves (mbox_holds held before.mbox) effect (mbox_holds held' after.mbox) × (report.retrieved ≡ 0))
-      ⊎ IsMboxTold settings (mbox_holds held before.mbox) effect (mbox_holds held' after.mbox) report
+      ⊎ IsMboxCounted settings (mbox_holds held before.mbox) effect (mbox_holds held' after.mbox) report
 
 -- a law: if the record's file stood for this record, a session is a step
 abbrev pub MboxSessionIsAStep : Type 0
-MboxSessionIsAStep = (settings : Settings) (now : ℕ) (link : Link) (before : MboxKept) (held : Held)
-    (report : Report) (link' : Link) (after : MboxKept)
+MboxSessionIsAStep = (settings : Settings) (now : ℕ) (link : Link) (before : MboxAccountFiles) (held : RecordState)
+    (report : Report) (link' : Link) (after : MboxAccountFiles)
     → IsValid settings → Keeps before.file.content held → MboxSession settings now link before report link' after
     → IsMboxStep settings now link before held report link' after

@@ -3,7 +3,7 @@ use Rattle.std.specs.Prelude.{◌≡◌, ◌⊎◌, ℕ, true, List, [], ◌∷�
 use Rattle.std.specs.List.{AllByRecursion}
 use Rattle.fetch_rules.specs.Record.{Row}
 use Rattle.fetch_session.specs.Record.{KeepsRows}
-use Rattle.fetch_session.specs.Session.{Kept}
+use Rattle.fetch_session.specs.Session.{AccountFiles}
 use Rattle.mail_store.specs.declared.file.flat_file.FlatFile.{Ghosts as FileGhosts}
 use Rattle.mail_store.specs.declared.maildir.disk.MaildirDisk.{Ghosts as DiskGhosts}
 use Rattle.mail_store.specs.Loss.{MayLeave}
@@ -25,14 +25,16 @@ pub record EventOn (D F : Type 0) : Type 0 where
 
 -- each message of which a file stayed, or which was taken away, has a file that stays now, or was taken away; and nothing may be left of
 -- the record's file but what it holds and what could have been left before
-pub record KeepsSure {D F : Type 0} (disk : DiskGhosts D) (files : FileGhosts F) (world : World) (was : D) (from : F) (before : State Kept)
-    (device : D) (f : F) (after : State Kept) : Type 0 where
+pub record KeepsSure {D F : Type 0} (disk : DiskGhosts D) (files : FileGhosts F) (world : World) (was : D) (from : F)
+    (before : State AccountFiles)
+    (device : D) (f : F) (after : State AccountFiles) : Type 0 where
   pub mail : (id : List ℕ) → is_legal_id id ≡ true → IsSureOrTaken disk was world before id → IsSureOrTaken disk device world after id
-  pub record_is : (left : Option (List ℕ)) → files.may_leave f left → (left ≡ after.kept.file.content) ⊎ files.may_leave from left
+  pub record_is : (left : Option (List ℕ)) → files.may_leave f left → (left ≡ after.account.file.content) ⊎ files.may_leave from left
 
 -- a loss of power left this state, the record's file can be read, and all of it is on the disk by what the new devices say
-pub record IsLeftBy {D F : Type 0} (disk : DiskGhosts D) (files : FileGhosts F) (was : D) (from : F) (before : Kept) (device : D) (f : F)
-    (after : Kept) : Type 0 where
+pub record IsLeftBy {D F : Type 0} (disk : DiskGhosts D) (files : FileGhosts F) (was : D) (from : F) (before : AccountFiles) (device : D)
+    (f : F)
+    (after : AccountFiles) : Type 0 where
   pub mail : MayLeave disk was before.maildir.files after.maildir.files
   pub record_is : files.may_leave from after.file.content
   pub readable : (rows : List Row) × KeepsRows after.file.content rows
@@ -40,28 +42,28 @@ pub record IsLeftBy {D F : Type 0} (disk : DiskGhosts D) (files : FileGhosts F) 
   pub same : (left : Option (List ℕ)) → files.may_leave f left → left ≡ after.file.content
 
 -- what holds of an event besides: a message that expires isn't the last that was stored, or a file of it stays
-abbrev pub LosesNone : {D : Type 0} → DiskGhosts D → D → World → State Kept → Event → Type 0
+abbrev pub LosesNone : {D : Type 0} → DiskGhosts D → D → World → State AccountFiles → Event → Type 0
 LosesNone disk was world state (Expired ids) =
     AllByRecursion (λ id. IsLastStored world state id → IsSureOrTaken disk was world state id) ids
 LosesNone disk was world state event = Unit {0}
 
 -- the event happens, and the devices after it hold what it leaves
-abbrev pub FollowsOn : {D F : Type 0} → DiskGhosts D → FileGhosts F → World → State Kept → D → F → Event → D → F → Type 0
+abbrev pub FollowsOn : {D F : Type 0} → DiskGhosts D → FileGhosts F → World → State AccountFiles → D → F → Event → D → F → Type 0
 FollowsOn disk files world state was from (Fetched occasion) device f = IsSessionOf disk files world state occasion was from device f
-FollowsOn disk files world state was from (PowerLost after) device f = IsLeftBy disk files was from state.kept device f after
+FollowsOn disk files world state was from (PowerLost after) device f = IsLeftBy disk files was from state.account device f after
 FollowsOn disk files world state was from event device f = Follows world state event × LosesNone disk was world state event
     × KeepsSure disk files world was from state device f (after_event state event)
 
 -- a law: then it is an event of a run, and each loss of power after it is one, if each before it was
 abbrev pub EventsKeepPower : {D F : Type 0} → DiskGhosts D → FileGhosts F → Type 0
-EventsKeepPower {D} {F} disk files = (world : World) (state : State Kept) (was : D) (from : F) (event : Event) (device : D) (f : F)
+EventsKeepPower {D} {F} disk files = (world : World) (state : State AccountFiles) (was : D) (from : F) (event : Event) (device : D) (f : F)
     → IsSound world → IsKept world state → CanLosePower disk files was from world state
     → FollowsOn disk files world state was from event device f
     → Follows world state event × CanLosePower disk files device f (world_after world event) (after_event state event)
 
 -- ---- a run
 
-abbrev pub IsRunOn : {D F : Type 0} → DiskGhosts D → FileGhosts F → World → State Kept → D → F → List (EventOn D F) → Type 0
+abbrev pub IsRunOn : {D F : Type 0} → DiskGhosts D → FileGhosts F → World → State AccountFiles → D → F → List (EventOn D F) → Type 0
 IsRunOn disk files world state was from [] = Unit {0}
 IsRunOn disk files world state was from (on ∷ ons) = FollowsOn disk files world state was from on.event on.device on.file
     × IsRunOn disk files (world_after world on.event) (after_event state on.event) on.device on.file ons
@@ -70,14 +72,15 @@ abbrev pub events_of : {D F : Type 0} → List (EventOn D F) → List Event
 events_of {D} {F} ons = map (λ (on : EventOn D F). on.event) ons
 
 -- before and after each event whatever a loss of power may leave is an event
-abbrev pub CanAlwaysLosePower : {D F : Type 0} → DiskGhosts D → FileGhosts F → World → State Kept → D → F → List (EventOn D F) → Type 0
+abbrev pub CanAlwaysLosePower : {D F : Type 0} → DiskGhosts D → FileGhosts F → World → State AccountFiles → D → F → List (EventOn D F)
+    → Type 0
 CanAlwaysLosePower disk files world state was from [] = CanLosePower disk files was from world state
 CanAlwaysLosePower disk files world state was from (on ∷ ons) = CanLosePower disk files was from world state
     × CanAlwaysLosePower disk files (world_after world on.event) (after_event state on.event) on.device on.file ons
 
 -- a law, the sentence over devices: of any list of sessions, losses of power and other events all is promised that the headline says
 abbrev pub HeadlineOn : {D F : Type 0} → DiskGhosts D → FileGhosts F → Type 0
-HeadlineOn {D} {F} disk files = (world : World) (start : State Kept) (was : D) (from : F) (ons : List (EventOn D F))
+HeadlineOn {D} {F} disk files = (world : World) (start : State AccountFiles) (was : D) (from : F) (ons : List (EventOn D F))
     → IsSound world → IsKept world start → CanLosePower disk files was from world start → IsRunOn disk files world start was from ons
     → IsRun world start (events_of ons) × Promises world start (events_of ons)
     × IsKept (world_left world (events_of ons)) (state_after start (events_of ons)) × CanAlwaysLosePower disk files world start was from ons
@@ -91,14 +94,14 @@ pub record LeavesAsMuch {D F : Type 0} (disk : DiskGhosts D) (files : FileGhosts
 
 -- a law: such devices keep it, whatever files readers take away, if the others stay as they are
 abbrev pub AsMuchIsSure : {D F : Type 0} → DiskGhosts D → FileGhosts F → Type 0
-AsMuchIsSure {D} {F} disk files = (world : World) (state : State Kept) (was : D) (from : F) (event : Event) (device : D) (f : F)
+AsMuchIsSure {D} {F} disk files = (world : World) (state : State AccountFiles) (was : D) (from : F) (event : Event) (device : D) (f : F)
     → IsSound world → IsKept world state → AreTakings (event ∷ []) → Follows world state event
-    → IsPart state.kept.maildir.files (after_event state event).kept.maildir.files → LeavesAsMuch disk files was from device f
+    → IsPart state.account.maildir.files (after_event state event).account.maildir.files → LeavesAsMuch disk files was from device f
     → KeepsSure disk files world was from state device f (after_event state event)
 
 -- a law: whichever files readers take away from a kept state, also during a session, such events lead over the same devices to the state
 -- without them
 abbrev pub TakingsRunOn : {D F : Type 0} → DiskGhosts D → FileGhosts F → Type 0
-TakingsRunOn {D} {F} disk files = (device : D) (f : F) (world : World) (state : State Kept) (left : List File)
-    → IsSound world → IsKept world state → IsPart state.kept.maildir.files left
+TakingsRunOn {D} {F} disk files = (device : D) (f : F) (world : World) (state : State AccountFiles) (left : List File)
+    → IsSound world → IsKept world state → IsPart state.account.maildir.files left
     → (ons : List (EventOn D F)) × AreTaken world state left (events_of ons) × IsRunOn disk files world state device f ons

@@ -6,7 +6,7 @@ use Rattle.pop3_wire.specs.World.{Message, maildrop_of}
 use Rattle.rc_file.specs.declared.settings.Settings.{Settings}
 use Rattle.fetch_session.specs.declared.report.Report.{Report}
 use Rattle.fetch_session.specs.Account.{digits_of}
-use Rattle.fetch_session.specs.Session.{Kept, Session, kept}
+use Rattle.fetch_session.specs.Session.{AccountFiles, Session, account_files}
 use Rattle.mail_store.specs.Maildir.{AfterTaking, File, Maildir}
 use Rattle.run_law.specs.Sessions.{Fact, Served}
 use Rattle.fetch_runs.specs.declared.run.Visit.{Visit}
@@ -29,13 +29,14 @@ RunsBy Made (old ∷ olds) first [] news last = ⊥
 RunsBy Made (old ∷ olds) first (report ∷ reports) [] last = ⊥
 
 -- the visit was one session at its time, of what readers left
-abbrev pub WasMade : {W : Type 0} → (W → Link) → Settings → List ℕ → Visit W → Kept → Report → Visit W → Kept → Type 0
+abbrev pub WasMade : {W : Type 0} → (W → Link) → Settings → List ℕ → Visit W → AccountFiles → Report → Visit W → AccountFiles → Type 0
 WasMade seen settings account old before report new after =
-    AfterTaking before.maildir (λ (left : Maildir). Session settings account old.now (seen old.wire) (kept left before.file) report
+    AfterTaking before.maildir (λ (left : Maildir). Session settings account old.now (seen old.wire) (account_files left before.file) report
     (seen new.wire) after) × (new.now ≡ old.now)
 
 -- each visit was one session at its time, in order, from what the one before and readers left, and has its report
-abbrev pub Runs : {W : Type 0} → (W → Link) → Settings → List ℕ → List (Visit W) → Kept → List Report → List (Visit W) → Kept → Type 0
+abbrev pub Runs : {W : Type 0} → (W → Link) → Settings → List ℕ → List (Visit W) → AccountFiles → List Report → List (Visit W)
+    → AccountFiles → Type 0
 Runs seen settings account olds first reports news last = RunsBy (WasMade seen settings account) olds first reports news last
 
 -- ---- what is promised of them
@@ -47,11 +48,11 @@ world_of settings all = record {
   all = all;
 }
 
-abbrev pub state_of : Kept → List (List ℕ) → List (List ℕ) → State Kept
-state_of kept gone taken = record { kept = kept; gone = gone; taken = taken }
+abbrev pub state_of : AccountFiles → List (List ℕ) → List (List ℕ) → State AccountFiles
+state_of account gone taken = record { account = account; gone = gone; taken = taken }
 
 -- a visit as an occasion of the headline
-abbrev pub occasion_of : {W : Type 0} → (W → Link) → Settings → Visit W → Report → Visit W → Fact → Kept → Occasion
+abbrev pub occasion_of : {W : Type 0} → (W → Link) → Settings → Visit W → Report → Visit W → Fact → AccountFiles → Occasion
 occasion_of seen settings old report new fact after = record {
   settings = settings;
   now = old.now;
@@ -74,21 +75,23 @@ AreServed seen all gone olds news facts = ⊥
 
 -- readers took files away, and then a session was one of what they left: a prefix is held before and after they did, and the
 -- session keeps its promises
-pub record IsPromised {W : Type 0} (seen : W → Link) (settings : Settings) (world : World) (state : State Kept) (old : Visit W) (report : Report)
+pub record IsPromised {W : Type 0} (seen : W → Link) (settings : Settings) (world : World) (state : State AccountFiles) (old : Visit W)
+    (report : Report)
     (new : Visit W) (fact : Fact) : Type 0 where
   pub left : List File
   pub takings : List Event
   pub taken : AreTaken world state left takings
-  pub between : Kept
-  pub session : Session settings (digits_of settings) old.now (seen old.wire) (state_after state takings).kept report (seen new.wire) between
+  pub between : AccountFiles
+  pub session : Session settings (digits_of settings) old.now (seen old.wire) (state_after state takings).account report
+      (seen new.wire) between
   pub before : HoldsAPrefix world state
   pub holds : HoldsAPrefix world (state_after state takings)
   pub promised : Promised world (state_after state takings) (Fetched (occasion_of seen settings old report new fact between))
 
 -- each visit is promised, from what the one before left, and a prefix is held in the last state, which is kept
-abbrev pub ArePromised : {W : Type 0} → (W → Link) → Settings → World → State Kept → List (Visit W) → List Report
-    → List (Visit W) → List Fact → Kept → Type 0
-ArePromised seen settings world state [] [] [] [] last = HoldsAPrefix world state × IsKept world state × (state.kept ≡ last)
+abbrev pub ArePromised : {W : Type 0} → (W → Link) → Settings → World → State AccountFiles → List (Visit W) → List Report
+    → List (Visit W) → List Fact → AccountFiles → Type 0
+ArePromised seen settings world state [] [] [] [] last = HoldsAPrefix world state × IsKept world state × (state.account ≡ last)
 ArePromised seen settings world state (old ∷ olds) (report ∷ reports) (new ∷ news) (fact ∷ facts) last =
     (is : IsPromised seen settings world state old report new fact)
     × ArePromised seen settings world

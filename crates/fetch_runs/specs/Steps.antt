@@ -15,15 +15,15 @@ use Rattle.fetch_session.specs.declared.fault.Fault.TheVariants.{StoreRefused, S
 use Rattle.fetch_session.specs.declared.fault.Why.TheVariants.{Refused}
 use Rattle.fetch_session.specs.declared.report.Report.{Report}
 use Rattle.fetch_session.specs.Record.{KeepsRows}
-use Rattle.fetch_session.specs.Session.{Kept, Session}
-use Rattle.run_law.specs.Accounts.{Account}
+use Rattle.fetch_session.specs.Session.{AccountFiles, Session}
+use Rattle.run_law.specs.Accounts.{AccountMail}
 use Rattle.run_law.specs.Steps.{Effect, Leaves}
-use Rattle.run_law.specs.Told.{Told, Records}
+use Rattle.run_law.specs.Counted.{Counted, Records}
 use Rattle.run_law.specs.Sessions.{Session as Stepped}
 use Rattle.fetch_runs.specs.Conversations.{tail_behind}
 
 -- an account whose record has these rows
-abbrev pub holds : List Row → Maildir → Account
+abbrev pub holds : List Row → Maildir → AccountMail
 holds rows maildir = record { rows = rows; maildir = maildir }
 
 -- of these turns only the first were sent, which are these commands, and a prefix of the next one's line
@@ -44,19 +44,19 @@ pub record StopsAtList (outcome : Outcome) (commands : List Command) (part : Lis
 -- more text came whole, and its file may be there, only if the store refused it; one fewer is recorded only
 -- if the record wasn't saved; and the record is the old one only if the session was cut and no command of the
 -- plan after LIST was begun
-pub record IsTold (settings : Settings) (account : List ℕ) (before : Account) (effect : Effect)
-    (after : Account) (report : Report) (commands : List Command) (part : List ℕ) : Type 0 where
-  pub told : Told settings account before effect after
-  pub retrieved_is : report.retrieved ≡ told.k
-  pub one_more : told.k + 1 ≡ length effect.texts → report.outcome ≡ Cut (StoreRefused Refused)
-  pub one_less : told.j + 1 ≡ told.k → (report.outcome ≡ Cut SeenRefused) ⊎ (report.outcome ≡ Cut NoMemory)
-  pub recorded : Records settings account before effect told.j after
+pub record IsCounted (settings : Settings) (account : List ℕ) (before : AccountMail) (effect : Effect)
+    (after : AccountMail) (report : Report) (commands : List Command) (part : List ℕ) : Type 0 where
+  pub figures : Counted settings account before effect after
+  pub retrieved_is : report.retrieved ≡ figures.k
+  pub one_more : figures.k + 1 ≡ length effect.texts → report.outcome ≡ Cut (StoreRefused Refused)
+  pub one_less : figures.j + 1 ≡ figures.k → (report.outcome ≡ Cut SeenRefused) ⊎ (report.outcome ≡ Cut NoMemory)
+  pub recorded : Records settings account before effect figures.j after
       ⊎ ((after.rows ≡ before.rows) × (effect.texts ≡ []) × (effect.begun ≡ []) × (effect.ended ≡ false)
       × StopsAtList report.outcome commands part)
 
 -- what the link gained, what was done to the account, and the record that its file stands for afterwards
-pub record IsStep (settings : Settings) (account : List ℕ) (now : ℕ) (link : Link) (before : Kept)
-    (rows : List Row) (report : Report) (link' : Link) (after : Kept) : Type 0 where
+pub record IsStep (settings : Settings) (account : List ℕ) (now : ℕ) (link : Link) (before : AccountFiles)
+    (rows : List Row) (report : Report) (link' : Link) (after : AccountFiles) : Type 0 where
   pub sent : List ℕ
   pub got : List ℕ
   pub effect : Effect
@@ -68,11 +68,11 @@ pub record IsStep (settings : Settings) (account : List ℕ) (now : ℕ) (link :
   pub keeps : KeepsRows after.file.content rows'
   pub stepped : Stepped settings account (holds rows before.maildir) sent got effect (holds rows' after.maildir)
   pub left : (Leaves (holds rows before.maildir) effect (holds rows' after.maildir) × (report.retrieved ≡ 0))
-      ⊎ IsTold settings account (holds rows before.maildir) effect (holds rows' after.maildir) report stepped.commands stepped.asked.part
+      ⊎ IsCounted settings account (holds rows before.maildir) effect (holds rows' after.maildir) report stepped.commands stepped.asked.part
 
 -- a law: if the record's file stood for these rows, a session is a step
 abbrev pub SessionIsAStep : Type 0
-SessionIsAStep = (settings : Settings) (account : List ℕ) (now : ℕ) (link : Link) (before : Kept)
-    (rows : List Row) (report : Report) (link' : Link) (after : Kept)
+SessionIsAStep = (settings : Settings) (account : List ℕ) (now : ℕ) (link : Link) (before : AccountFiles)
+    (rows : List Row) (report : Report) (link' : Link) (after : AccountFiles)
     → IsValid settings → KeepsRows before.file.content rows → Session settings account now link before report link' after
     → IsStep settings account now link before rows report link' after

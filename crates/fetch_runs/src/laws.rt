@@ -30,11 +30,11 @@ use mail_store::{
 use pop3_client::{conversations_are_paced, turns_join};
 use pop3_wire::fronts_are_asked;
 use run_law::{
-    holds_exactly, holds_what_is_left, honest_is_granted, honest_sessions_append_messages,
-    honest_sessions_bring_messages, kept_states, links_are_visits, mbox_holds_exactly,
-    mbox_links_are_visits, mbox_sessions_are_safe, mbox_starts_kept, mbox_states_are_kept,
-    mbox_told_stores, one_more_is_last, sessions_are_safe, some_are_recorded, starts_kept,
-    told_stores, worlds_shrink,
+    counted_stores, holds_exactly, holds_what_is_left, honest_is_granted,
+    honest_sessions_append_messages, honest_sessions_bring_messages, kept_states, links_are_visits,
+    mbox_counted_stores, mbox_holds_exactly, mbox_links_are_visits, mbox_sessions_are_safe,
+    mbox_starts_kept, mbox_states_are_kept, one_more_is_last, sessions_are_safe, some_are_recorded,
+    starts_kept, worlds_shrink,
 };
 
 /// What a link gains in a session is one conversation that follows the plan. What was sent is the
@@ -67,7 +67,7 @@ pub fn session_is_a_step()
     files_stand_for_one_record();
     steady_files_keep();
     unsaved_files_keep();
-    told_stores();
+    counted_stores();
     turns_join();
     conversations_are_paced();
     fronts_are_asked();
@@ -305,7 +305,7 @@ pub fn mbox_session_is_a_step()
     files_stand_for_one_record();
     steady_files_keep();
     unsaved_files_keep();
-    mbox_told_stores();
+    mbox_counted_stores();
     turns_join();
     conversations_are_paced();
     fronts_are_asked();

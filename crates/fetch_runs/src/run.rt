@@ -1,7 +1,7 @@
 //! Sessions of an account, one after another, each over its own link.
 ghost use Rattle.std.specs.Prelude.{◌≡◌, ◌*◌, ℕ, List, length, IfErr, IfOk};
 ghost use Rattle.fetch_session.specs.Account.{digits_of};
-ghost use Rattle.fetch_session.specs.Session.{kept, mbox_kept};
+ghost use Rattle.fetch_session.specs.Session.{account_files, mbox_account_files};
 ghost use Rattle.fetch_session.specs.Target.{IsSoundMaildir, IsSoundMbox, maildir_of, mbox_of};
 ghost use Rattle.fetch_runs.specs.Headline.{IsKept};
 ghost use Rattle.fetch_runs.specs.MboxHeadline.{AreSettings, IsMboxKept};
@@ -44,27 +44,27 @@ pub fn run_sessions<W: Wire, D: MaildirDisk, F: FlatFile, H: BuildHasher>(
         → IsSoundMaildir D.MaildirDisk account.new.store → F.sound account.new.file
         → AreSound W.sound visits.old × IsSoundMaildir D.MaildirDisk account.old.store × F.sound account.old.file
         × Runs W.history account.old.settings (digits_of account.old.settings) visits.old
-        (kept (maildir_of D.MaildirDisk account.old.store) (F.stored account.old.file))
-        reports.items visits.new (kept (maildir_of D.MaildirDisk account.new.store) (F.stored account.new.file))
+        (account_files (maildir_of D.MaildirDisk account.old.store) (F.stored account.old.file))
+        reports.items visits.new (account_files (maildir_of D.MaildirDisk account.new.store) (F.stored account.new.file))
         × ((all : List Message) (gone taken : List (List ℕ)) (facts : List Fact) → IsWorld all
         → IsKept (world_of account.old.settings all)
-        (state_of (kept (maildir_of D.MaildirDisk account.old.store) (F.stored account.old.file)) gone taken)
+        (state_of (account_files (maildir_of D.MaildirDisk account.old.store) (F.stored account.old.file)) gone taken)
         → AreServed W.history all gone visits.old visits.new facts
         → ArePromised W.history account.old.settings (world_of account.old.settings all)
-        (state_of (kept (maildir_of D.MaildirDisk account.old.store) (F.stored account.old.file)) gone taken)
-        visits.old reports.items visits.new facts (kept (maildir_of D.MaildirDisk account.new.store) (F.stored account.new.file)))) }
+        (state_of (account_files (maildir_of D.MaildirDisk account.old.store) (F.stored account.old.file)) gone taken)
+        visits.old reports.items visits.new facts (account_files (maildir_of D.MaildirDisk account.new.store) (F.stored account.new.file)))) }
     ensures mbox_runs { IfOk result (λ reports. AreSound W.sound visits.new
         → IsSoundMbox F.FlatFile account.new.store → F.sound account.new.file
         → AreSound W.sound visits.old × IsSoundMbox F.FlatFile account.old.store × F.sound account.old.file
         × MboxRuns W.history account.old.settings visits.old
-        (mbox_kept (mbox_of F.FlatFile account.old.store) (F.stored account.old.file))
-        reports.items visits.new (mbox_kept (mbox_of F.FlatFile account.new.store) (F.stored account.new.file))
+        (mbox_account_files (mbox_of F.FlatFile account.old.store) (F.stored account.old.file))
+        reports.items visits.new (mbox_account_files (mbox_of F.FlatFile account.new.store) (F.stored account.new.file))
         × ((world : MboxWorld) (gone : List (List ℕ)) (facts : List Fact) → IsWorld world.all → AreSettings world account.old.settings
-        → IsMboxKept world (mbox_state (mbox_kept (mbox_of F.FlatFile account.old.store) (F.stored account.old.file)) gone)
+        → IsMboxKept world (mbox_state (mbox_account_files (mbox_of F.FlatFile account.old.store) (F.stored account.old.file)) gone)
         → AreServed W.history world.all gone visits.old visits.new facts
         → AreMboxPromised W.history account.old.settings world
-        (mbox_state (mbox_kept (mbox_of F.FlatFile account.old.store) (F.stored account.old.file)) gone)
-        visits.old reports.items visits.new facts (mbox_kept (mbox_of F.FlatFile account.new.store) (F.stored account.new.file)))) }
+        (mbox_state (mbox_account_files (mbox_of F.FlatFile account.old.store) (F.stored account.old.file)) gone)
+        visits.old reports.items visits.new facts (mbox_account_files (mbox_of F.FlatFile account.new.store) (F.stored account.new.file)))) }
 {
     headline();
     takings_are_events();

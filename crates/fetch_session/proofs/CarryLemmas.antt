@@ -4,7 +4,7 @@ use Rattle.std.proofs.lemmas.List.{length-map}
 use Rattle.std.proofs.lemmas.List.FromFn.{length-enumerate_from}
 use Rattle.pop3_wire.specs.Place.{Place}
 use Rattle.mail_terms.specs.Listing.{Item, numbered}
-use Rattle.fetch_rules.specs.Record.{Row, Held}
+use Rattle.fetch_rules.specs.Record.{Row, RecordState}
 use Rattle.fetch_rules.specs.Plan.{IsQuiet, planned, step_of}
 use Rattle.rc_file.specs.declared.settings.Settings.{Settings}
 use Rattle.fetch_rules.specs.declared.steps.Step.{Step}
@@ -43,7 +43,7 @@ pub unprepared : {target : Target} {items : List Item} {now : ℕ} {place : Plac
 unprepared plain same why = rw plain (record { none = refl; unready = why; place_is = refl; lines_are = same })
 
 -- the files that were there stay
-pub stay_from : {D F : Type 0} (disk : DiskGhosts D) (files : FileGhosts F) (target : Target) (was : Held) (items : List Item) (old : Stores) (mid end : Store D F)
+pub stay_from : {D F : Type 0} (disk : DiskGhosts D) (files : FileGhosts F) (target : Target) (was : RecordState) (items : List Item) (old : Stores) (mid end : Store D F)
     → Settles target was items old (stores_of disk files mid) → AllStayIn disk mid → KeepsMailIn disk mid end → StayFrom disk target old end
 stay_from disk files (AsFiles account) was items old (InMaildir device) end settles all keeps = λ name inside.
     keeps.0 name (all name (subst (λ (s : Stores). Contains (names_of s.maildir.files) name) (sym settles) inside))

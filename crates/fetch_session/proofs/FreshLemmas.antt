@@ -12,7 +12,7 @@ use Rattle.fetch_rules.specs.declared.steps.Step.{Step}
 use Rattle.mail_store.specs.Maildir.{Maildir, File, with_file}
 use Rattle.mail_store.specs.FileName.{mail_file, stem_of, names_id, is_held, IsAccountText}
 use Rattle.fetch_session.specs.Task.{Task, ids_in, ids_ahead, AreFresh, fetching, deleting, tasks_in, tasks_planned}
-use Rattle.fetch_session.specs.Store.{Grows}
+use Rattle.fetch_session.specs.Store.{MayGain}
 
 -- which ids are held depends only on the files
 held_by_files : (account uid : List ℕ) (a b : Maildir) → b.files ≡ a.files → is_held account b uid ≡ is_held account a uid
@@ -24,7 +24,7 @@ abbrev pub OneMore : Type 0
 OneMore = (account a b content : List ℕ) (maildir : Maildir) → IsAccountText account → IsLegalId a → IsLegalId b
     → is_held account (with_file maildir (mail_file account a content)) b ≡ (is_held account maildir b || bytes_eq b a)
 
-still_free : OneMore → (account uid other : List ℕ) (a b : Maildir) → IsAccountText account → IsLegalId uid → IsLegalId other → other ≢ uid → Grows (stem_of account uid) a b
+still_free : OneMore → (account uid other : List ℕ) (a b : Maildir) → IsAccountText account → IsLegalId uid → IsLegalId other → other ≢ uid → MayGain (stem_of account uid) a b
     → is_held account a other ≡ false → is_held account b other ≡ false
 still_free law account uid other a b text legal legal' apart grows free =
     elim grows.came [
@@ -37,7 +37,7 @@ still_free law account uid other a b text legal legal' apart grows free =
     ]
 
 pub fresh_grows : OneMore → (account uid : List ℕ) (uids : List (List ℕ)) (a b : Maildir) → IsAccountText account → IsLegalId uid → AllByRecursion (λ (other : List ℕ). other ≢ uid) uids
-    → Grows (stem_of account uid) a b → AreFresh account a uids → AreFresh account b uids
+    → MayGain (stem_of account uid) a b → AreFresh account a uids → AreFresh account b uids
 fresh_grows law account uid [] a b text legal apart grows fresh = tt
 fresh_grows law account uid (x ∷ xs) a b text legal apart grows fresh =
     (fresh.0, still_free law account uid x a b text legal fresh.0 apart.0 grows fresh.1, fresh.2, fresh_grows law account uid xs a b text legal apart.1 grows fresh.3)

@@ -5,7 +5,7 @@ use Rattle.std.specs.List.{AllByRecursion}
 use Rattle.std.proofs.lemmas.List.{length-map}
 use Rattle.mail_terms.specs.Listing.{Item}
 use Rattle.rc_file.specs.declared.settings.Settings.{Settings}
-use Rattle.fetch_rules.specs.Record.{Row, Held, Intent, IsRecord, Loaded, has_row, is_delivered, merged, none_open}
+use Rattle.fetch_rules.specs.Record.{Row, RecordState, Intent, IsRecord, Loaded, has_row, is_delivered, merged, none_open}
 use Rattle.fetch_rules.specs.Plan.{IsQuiet}
 use Rattle.fetch_rules.specs.declared.steps.Step.{Step}
 use Rattle.mail_store.specs.FlatFile.{Stored}
@@ -21,7 +21,7 @@ use Rattle.fetch_session.specs.declared.account.Store.TheVariants.{Maildir as In
 use Rattle.fetch_session.specs.declared.readiness.Ready.{Ready}
 use Rattle.fetch_session.specs.Mbox.{AsksMbox, IsStoreFault}
 use Rattle.fetch_session.specs.Readiness.{AreAsHeld, ChecksStore, HasPlan, IsIdle, IsReady, Readies, Rests, Settles, Unready}
-use Rattle.fetch_session.specs.Record.{ReadAs, Steady, held_in}
+use Rattle.fetch_session.specs.Record.{ReadAs, Steady, record_state_in}
 use Rattle.fetch_session.specs.Target.{Kind, Files, Entries, Target, AsFiles, AsEntries, Stores, flags_in, in_maildir, in_mbox, kind_of, rows_in, stores_of, target_of}
 use Rattle.fetch_session.specs.Task.{Task, fetching, deleting, tasks_in, tasks_planned}
 use Rattle.fetch_session.proofs.MboxLemmas.{asks_refused, held_same}
@@ -68,13 +68,13 @@ no_place Entries items old new refusal fault is told = (asks_refused None old.mb
 
 module _ {D F : Type 0} (disk : DiskGhosts D) (files : FileGhosts F) (account : List ℕ) where
   -- a store that was only looked at
-  settles_same : (store : Store D F) (was : Held) (items : List Item) (new : Stores) → was.intent ≡ None → ChecksStore {T = Unit {0}} (kind_of store) (stores_of disk files store) (Ok tt) new
+  settles_same : (store : Store D F) (was : RecordState) (items : List Item) (new : Stores) → was.intent ≡ None → ChecksStore {T = Unit {0}} (kind_of store) (stores_of disk files store) (Ok tt) new
       → Settles (target_of store account) was items (stores_of disk files store) new
   settles_same (InMaildir device) was items new closed ((news, curs, same), others) = same_stores new (in_maildir (disk.maildir device)) same others
   settles_same (InMbox device) was items new closed (((bytes, goes_on), same), others) =
       rw closed (bytes, goes_on.0, same ∙ held_same (files.stored device) bytes goes_on.0, goes_on.1)
 
-  rows_same : (store : Store D F) (was : Held) (items : List Item) → was.intent ≡ None → rows_in (target_of store account) (stores_of disk files store) was items ≡ was.rows
+  rows_same : (store : Store D F) (was : RecordState) (items : List Item) → was.intent ≡ None → rows_in (target_of store account) (stores_of disk files store) was items ≡ was.rows
   rows_same (InMaildir device) was items closed = refl
   rows_same (InMbox device) was items closed = rw closed refl
 
@@ -84,15 +84,15 @@ module _ {D F : Type 0} (disk : DiskGhosts D) (files : FileGhosts F) (account : 
       → IsIdle settings loaded.rows items now ready.steps.items → length ready.held.items ≡ length items
       → IsReady settings (target_of store account) items now (stores_of disk files store) file ready loaded.rows new read
   rests_ok {settings} {items} {now} store new file read loaded ready law closed rests stood read_is fresh idle counted = record {
-    was = held_in loaded;
+    was = record_state_in loaded;
     stood = read_keeps file.content loaded stood;
     held = quiet_same ready.steps.items items ready.held.items (flags_in (target_of store account) (stores_of disk files store) items) idle.quiet counted (flags_length (target_of store account) (stores_of disk files store) items);
     rows = sym (law loaded.rows items (flags_in (target_of store account) (stores_of disk files store) items) now idle.is_record idle.known)
-        ∙ ap (λ (rows : List Row). merged rows items (flags_in (target_of store account) (stores_of disk files store) items) now) (sym (rows_same store (held_in loaded) items closed));
+        ∙ ap (λ (rows : List Row). merged rows items (flags_in (target_of store account) (stores_of disk files store) items) now) (sym (rows_same store (record_state_in loaded) items closed));
     steps = idle.planned;
     saved = subst (λ (s : Stored). Steady s.content (none_open loaded.rows)) (sym read_is) (read_steady file.content loaded stood fresh).0;
     file_count = ap (λ (s : Stored). s.failures) read_is;
-    settles = settles_same store (held_in loaded) items new closed rests;
+    settles = settles_same store (record_state_in loaded) items new closed rests;
   }
 
   pub rests_refused : (items : List Item) (now : ℕ) (store : Store D F) (new : Stores) (file read : Stored) (loaded : Loaded) (fault : Fault)

@@ -6,7 +6,7 @@ use Rattle.std.proofs.lemmas.Option.{none-some, same_Some}
 use Rattle.std.specs.List.{flat_map, AllByRecursion}
 use Rattle.std.specs.Prelude.{option_map}
 use Rattle.pop3_wire.specs.Place.{Place}
-use Rattle.fetch_rules.specs.Record.{Row, Held, Intent, none_open, marked_all}
+use Rattle.fetch_rules.specs.Record.{Row, RecordState, Intent, none_open, marked_all}
 use Rattle.fetch_rules.specs.RecordGrowth.{Grows, Updates}
 use Rattle.mail_store.specs.FlatFile.{Stored}
 use Rattle.mail_store.specs.declared.maildir.disk.MaildirDisk.{Ghosts as DiskGhosts}
@@ -20,7 +20,7 @@ use Rattle.fetch_session.specs.declared.account.Store.{Store}
 use Rattle.fetch_session.specs.declared.account.Store.TheVariants.{Maildir as InMaildir, Mboxrd as InMbox}
 use Rattle.fetch_session.specs.declared.fault.Cut.{Cut}
 use Rattle.fetch_session.specs.declared.work.Work.{Work}
-use Rattle.fetch_session.specs.Record.{Steady, bytes_in, held}
+use Rattle.fetch_session.specs.Record.{Steady, bytes_in, record_state}
 use Rattle.fetch_session.specs.Scene.{Scene, scene, Went, AllWent}
 use Rattle.fetch_session.specs.Store.{Brings, Ends, begun_with}
 use Rattle.fetch_session.specs.Lasting.{AreLeft, CutLasts, DoesAndLasts, DonesLast, IsSafe, IsSafeStore, IsSafeWork, IsUntouched, IsLeft, KeepsMailIn, RowsStillLast, KeepsWork, Leaves, LeavesLeft, LeavesMerged, NewOutlive, RowsLast, ShowsRows, TextsLast, may_leave_in, outlives_in}
@@ -47,7 +47,7 @@ safe_store files f safe = (safe.0, λ bytes is. (tt, (safe.1 bytes is).1))
 
 module _ {F : Type 0} (file : FileGhosts F) (f : F) where
   -- the file is safe, so just its bytes
-  pub safe_left : (was : Held) (added : List ℕ) → IsSafe file f → Steady (file.stored f).content was → Leaves file f (IsLeft was added)
+  pub safe_left : (was : RecordState) (added : List ℕ) → IsSafe file f → Steady (file.stored f).content was → Leaves file f (IsLeft was added)
   safe_left was added safe stood bytes is left may = record {
     bytes = bytes;
     behind = [];
@@ -58,21 +58,21 @@ module _ {F : Type 0} (file : FileGhosts F) (f : F) where
   }
 
   -- bytes were appended, or a part of them
-  pub part_left : (old : Stored) (was : Held) (added : List ℕ) → bytes_in old.content ≢ [] → Steady old.content was → LeavesPart old.content added (file.may_leave f)
+  pub part_left : (old : Stored) (was : RecordState) (added : List ℕ) → bytes_in old.content ≢ [] → Steady old.content was → LeavesPart old.content added (file.may_leave f)
       → (left : Option (List ℕ)) → file.may_leave f left → IsLeft was added left
   part_left old was added some stood part left may =
       let behind = part (bytes_in old.content) (is_there old.content some) left may in
       record { bytes = bytes_in old.content; behind = behind.0; is = behind.1; stands = stood; part = behind.2; begun = inr some }
 
   pub rows_left : (rows others next : List Row) (before after : Option Intent) (added : List ℕ) → Grows rows before added next after → (next ≡ rows) ⊎ (next ≡ others)
-      → Leaves file f (IsLeft (held rows before) added) → Leaves file f (AreLeft rows others)
+      → Leaves file f (IsLeft (record_state rows before) added) → Leaves file f (AreLeft rows others)
   rows_left rows others next before after added grows next_is leaves bytes is left may =
       record { before = before; added = added; next = next; after = after; grows = grows; next_is = next_is; file = leaves bytes is left may }
 
   -- the file is safe and stands for the rows
-  pub same_left : (rows others : List Row) (intent : Option Intent) → IsSafe file f → Steady (file.stored f).content (held rows intent) → Leaves file f (AreLeft rows others)
+  pub same_left : (rows others : List Row) (intent : Option Intent) → IsSafe file f → Steady (file.stored f).content (record_state rows intent) → Leaves file f (AreLeft rows others)
   same_left rows others intent safe stood =
-      rows_left rows others rows intent intent [] (inl (inl (refl, refl, refl))) (inl refl) (safe_left (held rows intent) [] safe stood)
+      rows_left rows others rows intent intent [] (inl (inl (refl, refl, refl))) (inl refl) (safe_left (record_state rows intent) [] safe stood)
 
 -- ---- what outlives it
 

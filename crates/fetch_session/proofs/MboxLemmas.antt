@@ -5,7 +5,7 @@ use Rattle.std.proofs.lemmas.List.{append-nil}
 use Rattle.pop3_wire.specs.Body.{kept, text_of, unstuffed}
 use Rattle.mail_terms.specs.Listing.{Item}
 use Rattle.mail_terms.specs.Text.{IsWhole}
-use Rattle.fetch_rules.specs.Record.{Row, Held, Intent, Loaded, none_open, marked}
+use Rattle.fetch_rules.specs.Record.{Row, RecordState, Intent, Loaded, none_open, marked}
 use Rattle.mail_store.specs.FlatFile.{Stored, holding, counted, Measures}
 use Rattle.mail_store.specs.Mboxrd.{entry_of}
 use Rattle.mail_store.specs.MboxCalls.{RefusesLook, Checks, AppendsEntry}
@@ -26,7 +26,7 @@ use Rattle.fetch_session.specs.declared.fault.Why.TheVariants.{Refused}
 use Rattle.fetch_session.specs.declared.readiness.Found.{Found}
 use Rattle.fetch_session.specs.Fault.{cut_of, fault_of}
 use Rattle.fetch_session.specs.Mbox.{AppendsText, AsksMbox, HoldsText, IsIntended, IsSettledAtMost, IsStoreFault, IsTakenBack, MarksEntry, RefusesEntry, SettlesIntent, intent_of}
-use Rattle.fetch_session.specs.Record.{Saves, TakesBack, held_in, intent_at, with_open}
+use Rattle.fetch_session.specs.Record.{Saves, TakesBack, record_state_in, intent_at, with_open}
 use Rattle.fetch_session.specs.Scene.{scene, Stops, TakesTask}
 use Rattle.fetch_session.specs.Store.{Appended}
 use Rattle.fetch_session.specs.Task.{stores}
@@ -157,7 +157,7 @@ entry_refused mbox mid mbox' file file' rows uid text edges why fault measures b
     by refused.NoMemory same f = rw f (inl (same, inr back))
 
 -- and memory ran out for closing it
-pub entry_left_open : (mbox mid mbox' file opened file' : Stored) (was : Held) (rows : List Row) (uid text : List ℕ) (edges : Edges) (why : StoreFault) (fault : Fault) → Measures mbox (Ok edges) mid
+pub entry_left_open : (mbox mid mbox' file opened file' : Stored) (was : RecordState) (rows : List Row) (uid text : List ℕ) (edges : Edges) (why : StoreFault) (fault : Fault) → Measures mbox (Ok edges) mid
     → IsIntended mbox file rows uid text opened → AppendsEntry {T = Unit {0}} mid text (Err (Nothing why)) mbox' → TakesBack opened was (Err fault) file' → RefusesEntry mbox file rows uid text fault mbox' file'
 entry_left_open mbox mid mbox' file opened file' was rows uid text edges why NoMemory measures is appends kept =
     inr (by why (subst (λ (m : Stored). AppendsEntry {T = Unit {0}} m text (Err (Nothing why)) mbox') measures.1 appends), subst (λ (f : Stored). IsIntended mbox file rows uid text f) (sym kept) is)
@@ -224,10 +224,10 @@ text_refused {n} {uid} {a} {b} {mbox} {mbox'} {file} {file'} {rows} text fault (
 
 -- its entry was appended, and the mark wasn't saved
 pub entry_not_saved : {n : ℕ} {uid : List ℕ} {a b : Place} {mbox mbox' file file' : Stored} {rows' : List Row} {lines lines' : List ReportLine} {cut : Cut} (octets : ℕ) (text : List ℕ) (mid : Stored) (seen seen' : Loaded) (fault : Fault)
-    → Fetched (retr n) a text b → octets ≡ length text → cut ≡ cut_of fault None → AppendsText mbox file seen uid text (Ok tt) mbox' mid seen' → seen'.rows ≡ seen.rows → Saves mid (held_in seen') (none_open (marked seen'.rows uid)) (Err fault) file'
+    → Fetched (retr n) a text b → octets ≡ length text → cut ≡ cut_of fault None → AppendsText mbox file seen uid text (Ok tt) mbox' mid seen' → seen'.rows ≡ seen.rows → Saves mid (record_state_in seen') (none_open (marked seen'.rows uid)) (Err fault) file'
     → lines' ≡ lines ++ Delivered n octets ∷ [] → Stops AsEntries (stores n uid) (scene a (in_mbox mbox) file seen.rows lines) cut (scene b (in_mbox mbox') file' rows' lines')
 entry_not_saved {n} {uid} {a} {b} {mbox} {mbox'} {file} {file'} {rows'} {lines} {lines'} {cut} octets text mid seen seen' fault (reply, talked, is) long plain (was, goes_on, now, opened, saves) rows_are marks told =
-    let held_is : held_in seen' ≡ with_open seen.rows (intent_of was uid text) = rw (rows_are, opened) in
+    let held_is : record_state_in seen' ≡ with_open seen.rows (intent_of was uid text) = rw (rows_are, opened) in
     inr (inr (record {
       none = ap (λ (c : Cut). c.rest) plain;
       number = n;
@@ -241,15 +241,15 @@ entry_not_saved {n} {uid} {a} {b} {mbox} {mbox'} {file} {file'} {rows'} {lines} 
         goes_on.0,
         mid,
         saves,
-        rw plain (subst (λ (h : Held). Saves mid h (none_open (marked seen.rows uid)) (Err fault) file') held_is
-            (subst (λ (r : List Row). Saves mid (held_in seen') (none_open (marked r uid)) (Err fault) file') rows_are marks)),
+        rw plain (subst (λ (h : RecordState). Saves mid h (none_open (marked seen.rows uid)) (Err fault) file') held_is
+            (subst (λ (r : List Row). Saves mid (record_state_in seen') (none_open (marked r uid)) (Err fault) file') rows_are marks)),
       );
       lines = simp (told, long, is);
     }))
 
 -- it was appended and marked
 pub entry_stored : {n : ℕ} {uid : List ℕ} {a b : Place} {mbox mbox' file file' : Stored} {rows' : List Row} {lines lines' : List ReportLine} (octets : ℕ) (text : List ℕ) (mid : Stored) (seen seen' : Loaded)
-    → Fetched (retr n) a text b → octets ≡ length text → AppendsText mbox file seen uid text (Ok tt) mbox' mid seen' → seen'.rows ≡ seen.rows → rows' ≡ marked seen'.rows uid → Saves mid (held_in seen') (none_open (marked seen'.rows uid)) (Ok tt) file'
+    → Fetched (retr n) a text b → octets ≡ length text → AppendsText mbox file seen uid text (Ok tt) mbox' mid seen' → seen'.rows ≡ seen.rows → rows' ≡ marked seen'.rows uid → Saves mid (record_state_in seen') (none_open (marked seen'.rows uid)) (Ok tt) file'
     → lines' ≡ lines ++ Delivered n octets ∷ [] → TakesTask AsEntries (stores n uid) (scene a (in_mbox mbox) file seen.rows lines) (Ok tt) (scene b (in_mbox mbox') file' rows' lines')
 entry_stored {n} {uid} {a} {b} {mbox} {mbox'} {file} {file'} {rows'} {lines} {lines'} octets text mid seen seen' (reply, talked, is) long (was, goes_on, now, opened, saves) rows_are mark marks told = (
   reply ∷ [],

@@ -28,7 +28,7 @@ use Rattle.fetch_session.specs.Lasting.{AreLeft, CutLasts, DoesAndLasts, IsSafeW
 use Rattle.fetch_session.specs.Parts.{DoesTasks, IsReadyFor, KeepsLedger, KeepsLink, KeepsSession, KeepsStore}
 use Rattle.fetch_session.specs.Record.{Steady}
 use Rattle.fetch_session.specs.Scene.{scene, TakesTask}
-use Rattle.fetch_session.specs.Store.{Grows}
+use Rattle.fetch_session.specs.Store.{MayGain}
 use Rattle.fetch_session.specs.Target.{Target, is_sound, kind_of, stores_of, target_of}
 use Rattle.fetch_session.specs.Task.{Task, stores, ids_in, ids_ahead, turns_in, turns_ahead, AreFresh, fetching, deleting, tasks_planned}
 use Rattle.fetch_session.specs.Work.{IsReady, IsWritten}
@@ -279,7 +279,7 @@ module _ {W D F H Z : Type 0} {link : WireGhosts W} {disk : DiskGhosts D} {file 
   -- a text that is stored
   pub kept_taking : OneMore → (number : ℕ) (uid : List ℕ) {c c' : Client W} {w w' : Work D F H Z} (r : Result (Unit {0}) Cut)
       → KeepsLink link (TookTillCut (line_limit + text_limit)) c r c' → KeepsLedger file uid w.ledger r w'.ledger → kind_of w'.store ≡ kind_of w.store
-      → (is_sound disk file w'.store → is_sound disk file w.store × Grows (stem_of account uid) (stores_of disk file w.store).maildir (stores_of disk file w'.store).maildir)
+      → (is_sound disk file w'.store → is_sound disk file w.store × MayGain (stem_of account uid) (stores_of disk file w.store).maildir (stores_of disk file w'.store).maildir)
       → (is_sound disk file w'.store → file.sound w'.ledger.file → KeepsMailIn disk w.store w'.store)
       → (is_sound disk file w'.store → file.sound w'.ledger.file → IsSafeWork file w → OnOk r (IsSafeWork file w'))
       → KeepsSession link disk file account (stores number uid ∷ []) c w r c' w'

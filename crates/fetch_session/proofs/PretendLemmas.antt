@@ -20,7 +20,7 @@ use Rattle.fetch_session.specs.declared.message_preview.MessagePreview.{MessageP
 use Rattle.fetch_session.specs.Fault.{cut_of, fault_of}
 use Rattle.fetch_session.specs.Pretend.{PreviewsWork, PreviewsMerged, HoldsTheSame, IsUntouched, LooksIn, MayBeFollowed, Pretends, PreviewsSession, counted_as, previews_of, is_unsettled, told_in}
 use Rattle.fetch_session.specs.MessagePreview.{message_previews}
-use Rattle.fetch_session.specs.Record.{ReadAs, held_in}
+use Rattle.fetch_session.specs.Record.{ReadAs, record_state_in}
 use Rattle.fetch_session.specs.Session.{Keeping, LeavesLink, Enters_with, keeping, outcome_of}
 use Rattle.fetch_session.specs.Target.{Target, AsFiles, AsEntries, Stores, flags_in}
 use Rattle.fetch_session.proofs.RecordLemmas.{not_whole, read_keeps}
@@ -48,7 +48,7 @@ pub work_preview : (settings : Settings) (target : Target) (items : List Item) (
 work_preview settings target items now store file read loaded store' looked told stood same looks is =
     let found = looks_same target loaded.intent store store' items looked looks in (
       record {
-        was = held_in loaded;
+        was = record_state_in loaded;
         stood = read_keeps file.content loaded stood;
         followed = found.2;
         unsettled_is = found.1;

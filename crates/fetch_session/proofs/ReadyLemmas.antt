@@ -8,7 +8,7 @@ use Rattle.std.specs.Prelude.{bytes_eq}
 use Rattle.std.proofs.lemmas.List.Folds.{list_any-append}
 use Rattle.std.proofs.lemmas.Slice.Eq.{bytes_eq-Decides}
 use Rattle.mail_terms.specs.Listing.{has_item}
-use Rattle.fetch_rules.specs.Record.{Row, Held, Loaded, has_row, none_open, merged}
+use Rattle.fetch_rules.specs.Record.{Row, RecordState, Loaded, has_row, none_open, merged}
 use Rattle.fetch_rules.specs.Intents.{closed_rows}
 use Rattle.fetch_rules.specs.Plan.{planned}
 use Rattle.rc_file.specs.declared.settings.Settings.{Settings}
@@ -26,19 +26,19 @@ use Rattle.fetch_session.specs.declared.account.Store.{Store}
 use Rattle.fetch_session.specs.Lasting.{AllStayIn, LeavesMerged, MergeLasts, NewsLast}
 use Rattle.fetch_session.specs.Readiness.{CausesUnready, FindsIn, FindsRefused, IsReady, IsSettledBy, MboxUnready, Settles, Unready, UnreadyCause, merged_in}
 use Rattle.fetch_session.specs.Task.{tasks_planned}
-use Rattle.fetch_session.specs.Record.{Keeps, Steady, ReadAs, Reads, Merges, held_in}
+use Rattle.fetch_session.specs.Record.{Keeps, Steady, ReadAs, Reads, Merges, record_state_in}
 use Rattle.fetch_session.specs.Target.{Target, AsFiles, AsEntries, Stores, closed_file, flags_in, rows_in}
 use Rattle.fetch_session.proofs.RecordLemmas.{read_keeps, steady_keeps, not_whole}
 
 -- ---- what was found
 
 -- the rows once the open intent was ended by what was found, which messages are held, and the store
-found_is : (target : Target) (store store' : Stores) (items : List Item) (was : Held) (found : Found) → FindsIn target was.intent store items (Ok found) store'
+found_is : (target : Target) (store store' : Stores) (items : List Item) (was : RecordState) (found : Found) → FindsIn target was.intent store items (Ok found) store'
     → (closed_rows found.stored was.rows was.intent ≡ rows_in target store was items) × (found.held.items ≡ flags_in target store items) × Settles target was items store store'
 found_is (AsFiles account) store store' items was found (held, stored, same) = (rw stored (not_whole was.rows was.intent), held, same)
 found_is AsEntries store store' items was found (bytes, is, stored, now, goes_on, held) = (rw (stored, is), held, (bytes, is, now, goes_on))
 
-settled_at_most : (items : List Item) (file : Stored) (store store' : Stores) (was : Held) → Keeps file.content was → Settles AsEntries was items store store' → IsSettledBy items file store.mbox store'.mbox
+settled_at_most : (items : List Item) (file : Stored) (store store' : Stores) (was : RecordState) → Keeps file.content was → Settles AsEntries was items store store' → IsSettledBy items file store.mbox store'.mbox
 settled_at_most items file store store' was kept (bytes, is, now, goes_on) =
     inr (was, kept, inr (bytes, is, ap (λ (s : Stored). s.content) now))
 
@@ -59,7 +59,7 @@ files_refused (StoreRefused why.Refused) maildir file maildir' file' is = is
 files_refused NoMemory maildir file maildir' file' is = is
 files_refused _ maildir file maildir' file' never = absurd never
 
-mbox_refused : (fault : Fault) (items : List Item) (was : Held) (mbox file mbox' file' : Stored) → Keeps file.content was → AsksMbox was.intent mbox items (Err fault) mbox' → MboxUnready items fault mbox file mbox' file'
+mbox_refused : (fault : Fault) (items : List Item) (was : RecordState) (mbox file mbox' file' : Stored) → Keeps file.content was → AsksMbox was.intent mbox items (Err fault) mbox' → MboxUnready items fault mbox file mbox' file'
 mbox_refused (StoreRefused why.Missing) items was mbox file mbox' file' kept is = is
 mbox_refused (StoreRefused why.Refused) items was mbox file mbox' file' kept (up, most) =
     (omega (arith, up), inr (was, kept, most))
@@ -74,49 +74,49 @@ pub not_found : (target : Target) (items : List Item) (now : ℕ) (store store' 
 not_found (AsFiles account) items now store store' file new loaded fault stood same finds =
     record { cause = files_refused fault store.maildir file store'.maildir new finds; content = inl (ap (λ (s : Stored). s.content) same) }
 not_found AsEntries items now store store' file new loaded fault stood same finds =
-    record { cause = mbox_refused fault items (held_in loaded) store.mbox file store'.mbox new (read_keeps file.content loaded stood) finds; content = inl (ap (λ (s : Stored). s.content) same) }
+    record { cause = mbox_refused fault items (record_state_in loaded) store.mbox file store'.mbox new (read_keeps file.content loaded stood) finds; content = inl (ap (λ (s : Stored). s.content) same) }
 
 -- ---- the listing was merged
 
 module _ (settings : Settings) (target : Target) (items : List Item) (now : ℕ) (store store' : Stores) (file read new : Stored) (loaded : Loaded) (found : Found)
     (stood : ReadAs file.content loaded) (same : read ≡ file) (finds : FindsIn target loaded.intent store items (Ok found) store') where
-  kept : Keeps file.content (held_in loaded)
+  kept : Keeps file.content (record_state_in loaded)
   kept = read_keeps file.content loaded stood
 
   abbrev here : List Row
   here = merged (closed_rows found.stored loaded.rows loaded.intent) items found.held.items now
 
-  as_now : here ≡ merged_in target store (held_in loaded) items now
-  as_now = rw ((found_is target store store' items (held_in loaded) found finds).1, (found_is target store store' items (held_in loaded) found finds).0)
+  as_now : here ≡ merged_in target store (record_state_in loaded) items now
+  as_now = rw ((found_is target store store' items (record_state_in loaded) found finds).1, (found_is target store store' items (record_state_in loaded) found finds).0)
 
   failures_same : read.failures ≡ file.failures
   failures_same = ap (λ (s : Stored). s.failures) same
 
-  settles : Settles target (held_in loaded) items store store'
-  settles = (found_is target store store' items (held_in loaded) found finds).2
+  settles : Settles target (record_state_in loaded) items store store'
+  settles = (found_is target store store' items (record_state_in loaded) found finds).2
 
-  risen_cause : file.failures < new.failures → (t : Target) → Settles t (held_in loaded) items store store' → CausesUnready t items SeenRefused store file store' new
+  risen_cause : file.failures < new.failures → (t : Target) → Settles t (record_state_in loaded) items store store' → CausesUnready t items SeenRefused store file store' new
   risen_cause risen (AsFiles account) is = (risen, ap (λ (s : Stores). s.maildir) is)
-  risen_cause risen AsEntries is = (risen, settled_at_most items file store store' (held_in loaded) kept is)
+  risen_cause risen AsEntries is = (risen, settled_at_most items file store store' (record_state_in loaded) kept is)
 
-  wants_cause : (t : Target) → Settles t (held_in loaded) items store store' → CausesUnready t items NoMemory store file store' new
+  wants_cause : (t : Target) → Settles t (record_state_in loaded) items store store' → CausesUnready t items NoMemory store file store' new
   wants_cause (AsFiles account) is = ap (λ (s : Stores). s.maildir) is
-  wants_cause AsEntries is = settled_at_most items file store store' (held_in loaded) kept is
+  wants_cause AsEntries is = settled_at_most items file store store' (record_state_in loaded) kept is
 
-  pub unsaved_merge : (fault : Fault) → Merges read (held_in loaded) (none_open here) (Err fault) new → Unready target items now store file fault store' new
+  pub unsaved_merge : (fault : Fault) → Merges read (record_state_in loaded) (none_open here) (Err fault) new → Unready target items now store file fault store' new
   unsaved_merge SeenRefused merges = record {
     cause = risen_cause (omega (arith, merges.0, failures_same)) target settles;
-    content = inr (held_in loaded, kept, settles, subst (λ (rows : List Row). Keeps new.content (held_in loaded) ⊎ Keeps new.content (none_open rows)) as_now merges.1);
+    content = inr (record_state_in loaded, kept, settles, subst (λ (rows : List Row). Keeps new.content (record_state_in loaded) ⊎ Keeps new.content (none_open rows)) as_now merges.1);
   }
   unsaved_merge NoMemory merges = record { cause = wants_cause target settles; content = inl (ap (λ (s : Stored). s.content) (merges ∙ same)) }
   unsaved_merge _ never = absurd never
 
-  pub saved_merge : (ready : Ready) (after : List Row) → Merges read (held_in loaded) (none_open here) (Ok tt) new → after ≡ here
+  pub saved_merge : (ready : Ready) (after : List Row) → Merges read (record_state_in loaded) (none_open here) (Ok tt) new → after ≡ here
       → ready.held.items ≡ found.held.items → ready.steps.items ≡ planned settings after items now → IsReady settings target items now store file ready after store' new
   saved_merge ready after merges rows_are flags_are steps_are = record {
-    was = held_in loaded;
+    was = record_state_in loaded;
     stood = kept;
-    held = ap (tasks_planned ready.steps.items items) (flags_are ∙ (found_is target store store' items (held_in loaded) found finds).1);
+    held = ap (tasks_planned ready.steps.items items) (flags_are ∙ (found_is target store store' items (record_state_in loaded) found finds).1);
     rows = rows_are ∙ as_now;
     steps = steps_are;
     saved = subst (λ (rows : List Row). Steady new.content (none_open rows)) (sym rows_are) merges.1;
@@ -125,10 +125,10 @@ module _ (settings : Settings) (target : Target) (items : List Item) (now : ℕ)
   }
 
   -- saved, and memory ran out for the plan
-  pub no_plan : Merges read (held_in loaded) (none_open here) (Ok tt) new → Unready target items now store file NoMemory store' new
+  pub no_plan : Merges read (record_state_in loaded) (none_open here) (Ok tt) new → Unready target items now store file NoMemory store' new
   no_plan merges = record {
     cause = wants_cause target settles;
-    content = inr (held_in loaded, kept, settles, inr (subst (λ (rows : List Row). Keeps new.content (none_open rows)) as_now (steady_keeps new.content (none_open here) merges.1)));
+    content = inr (record_state_in loaded, kept, settles, inr (subst (λ (rows : List Row). Keeps new.content (none_open rows)) as_now (steady_keeps new.content (none_open here) merges.1)));
   }
 
   -- what may be left of the record's file
@@ -136,7 +136,7 @@ module _ (settings : Settings) (target : Target) (items : List Item) (now : ℕ)
       → NewsLast disk target file.content items store place → MergeLasts disk files target items now store file place from f
   merge_lasts disk files place from f stay leaves news = record {
     stay = stay;
-    was = held_in loaded;
+    was = record_state_in loaded;
     stood = kept;
     leaves = subst (λ (rows : List Row). LeavesMerged files loaded.rows rows from f) as_now leaves;
     news = news;

@@ -3,7 +3,7 @@ use Rattle.std.proofs.Common.{◌≡◌, ◌≢◌, ◌⊎◌, inl, inr, ℕ, Bo
 use Rattle.std.specs.Prelude.{OnOk, ◌==◌, ◌||◌, true, if◌then◌else◌, length}
 use Rattle.std.proofs.lemmas.Bool.{true≢false, or_parts}
 use Rattle.std.proofs.lemmas.List.{append-nil}
-use Rattle.fetch_rules.specs.Record.{Row, Intent, Held, Loaded, none_open, IntentHasRow, IsIntent, has_row, marked}
+use Rattle.fetch_rules.specs.Record.{Row, Intent, RecordState, Loaded, none_open, IntentHasRow, IsIntent, has_row, marked}
 use Rattle.fetch_rules.specs.RecordFile.{Version, One, Two, header, file_of, intent_line}
 use Rattle.fetch_rules.specs.RecordMeaning.{Rows, Means, has_bytes, taken}
 use Rattle.fetch_rules.specs.RecordGrowth.{Updates, Grows, AppendedCounts, CutIsIgnored, taken_all}
@@ -12,7 +12,7 @@ use Rattle.mail_store.specs.FlatFile.{Stored, Appends, Replaces}
 use Rattle.mail_store.specs.declared.fault.StoreFault.{StoreFault}
 use Rattle.fetch_session.specs.declared.fault.Fault.{Fault}
 use Rattle.fetch_session.specs.declared.fault.Fault.TheVariants.{SeenRefused, NoMemory}
-use Rattle.fetch_session.specs.Record.{bytes_in, held, Keeps, Steady, ReadAs, Writes, Saves, Merges, TakesBack, held_in}
+use Rattle.fetch_session.specs.Record.{bytes_in, record_state, Keeps, Steady, ReadAs, Writes, Saves, Merges, TakesBack, record_state_in}
 
 bytes_begin : (version : Version) (rest : List ℕ) → [] ≢ header version ++ rest
 bytes_begin One rest is = true≢false (sym (ap has_bytes is))
@@ -24,15 +24,15 @@ empty_means version rows intent torn (inl is) = (cc is.1, cc is.1)
 empty_means version rows intent torn (inr (inl other)) = absurd (other.0 refl)
 empty_means version rows intent torn (inr (inr lines)) = absurd (bytes_begin lines.version _ lines.cut.whole)
 
-means_keeps : (content : Option (List ℕ)) (version : Version) (held : Held) (torn : Bool) → Means (bytes_in content) (Rows version held.rows held.intent torn) → Keeps content held
-means_keeps None version held torn means = empty_means version held.rows held.intent torn means
-means_keeps (Some bytes) version held torn means = (version, torn, means)
+means_keeps : (content : Option (List ℕ)) (version : Version) (state : RecordState) (torn : Bool) → Means (bytes_in content) (Rows version state.rows state.intent torn) → Keeps content state
+means_keeps None version state torn means = empty_means version state.rows state.intent torn means
+means_keeps (Some bytes) version state torn means = (version, torn, means)
 
-pub read_keeps : (content : Option (List ℕ)) (loaded : Loaded) → ReadAs content loaded → Keeps content (held_in loaded)
-read_keeps content loaded is = means_keeps content is.version (held_in loaded) is.torn is.means
+pub read_keeps : (content : Option (List ℕ)) (loaded : Loaded) → ReadAs content loaded → Keeps content (record_state_in loaded)
+read_keeps content loaded is = means_keeps content is.version (record_state_in loaded) is.torn is.means
 
-pub steady_keeps : (content : Option (List ℕ)) (held : Held) → Steady content held → Keeps content held
-steady_keeps content held steady = means_keeps content Two held false steady
+pub steady_keeps : (content : Option (List ℕ)) (state : RecordState) → Steady content state → Keeps content state
+steady_keeps content state steady = means_keeps content Two state false steady
 
 -- a record that isn't stale is of version 2, isn't torn, and has no open intent
 not_older : (version : Version) → is_older version ≡ false → version ≡ Two
@@ -50,8 +50,8 @@ read_steady content loaded is fresh =
     let closed : loaded.intent ≡ None = no_intent loaded.intent (or_parts (has_intent loaded.intent) is.outgrown torn.1).0 in
     (rw (not_older is.version old.0, closed, torn.0) at is.means, closed)
 
-pub held_is : (loaded : Loaded) → loaded.intent ≡ None → none_open loaded.rows ≡ held_in loaded
-held_is loaded closed = ap (held loaded.rows) (sym closed)
+pub held_is : (loaded : Loaded) → loaded.intent ≡ None → none_open loaded.rows ≡ record_state_in loaded
+held_is loaded closed = ap (record_state loaded.rows) (sym closed)
 
 -- an intent that is ended with no entry leaves the rows
 pub not_whole : (rows : List Row) (intent : Option Intent) → closed_rows false rows intent ≡ rows
@@ -60,7 +60,7 @@ not_whole rows (Some intent) = refl
 
 -- ---- the whole record written
 
-pub writes_merges : (old new : Stored) (was now : Held) (r : Result (Unit {0}) Fault) → Keeps old.content was → Means (file_of now.rows now.intent) (Rows Two now.rows now.intent false) → Writes old now r new → Merges old was now r new
+pub writes_merges : (old new : Stored) (was now : RecordState) (r : Result (Unit {0}) Fault) → Keeps old.content was → Means (file_of now.rows now.intent) (Rows Two now.rows now.intent false) → Writes old now r new → Merges old was now r new
 writes_merges old new was now (Ok done) kept stands is = rw is (refl, stands)
 writes_merges old new was now (Err SeenRefused) kept stands (inl is) = rw is (refl, inl kept)
 writes_merges old new was now (Err SeenRefused) kept stands (inr is) = rw is (refl, inr (Two, false, stands))
@@ -68,13 +68,13 @@ writes_merges old new was now (Err NoMemory) kept stands is = is
 writes_merges old new was now (Err _) kept stands never = absurd never
 
 -- an open intent was closed in this way
-pub taken_back : (old new : Stored) (was : Held) (r : Result (Unit {0}) StoreFault) → Means (file_of was.rows None) (Rows Two was.rows None false)
+pub taken_back : (old new : Stored) (was : RecordState) (r : Result (Unit {0}) StoreFault) → Means (file_of was.rows None) (Rows Two was.rows None false)
     → Replaces old (file_of was.rows None) r new → TakesBack old was (Ok tt) new
 taken_back old new was (Ok done) stands is = inl (rw is (refl, λ stood. stands))
 taken_back old new was (Err fault) stands (inl is) = inr (rw is (refl, λ stood. inl (steady_keeps old.content was stood)))
 taken_back old new was (Err fault) stands (inr is) = inr (rw is (refl, λ stood. inr (Two, false, stands)))
 
-pub saves_merges : (old new : Stored) (was now : Held) (r : Result (Unit {0}) Fault) → Steady old.content was → Saves old was now r new → Merges old was now r new
+pub saves_merges : (old new : Stored) (was now : RecordState) (r : Result (Unit {0}) Fault) → Steady old.content was → Saves old was now r new → Merges old was now r new
 saves_merges old new was now (Ok done) stood is = (is.0, is.1 stood)
 saves_merges old new was now (Err SeenRefused) stood is = (is.0, is.1 stood)
 saves_merges old new was now (Err NoMemory) stood is = is
@@ -90,23 +90,23 @@ is_there None some = absurd (some refl)
 is_there (Some bytes) some = refl
 
 -- the record becomes another by what is appended
-abbrev pub GrowsBy : List ℕ → Held → Held → Type 0
+abbrev pub GrowsBy : List ℕ → RecordState → RecordState → Type 0
 GrowsBy added was now = Grows was.rows was.intent added now.rows now.intent
 
-pub grown : AppendedCounts → (old new : Stored) (added : List ℕ) (was now : Held) → bytes_in old.content ≢ [] → GrowsBy added was now
+pub grown : AppendedCounts → (old new : Stored) (added : List ℕ) (was now : RecordState) → bytes_in old.content ≢ [] → GrowsBy added was now
     → Appends {T = Unit {0}} old added (Ok tt) new → Saves old was now (Ok tt) new
 grown counts old new added was now some grows appends =
     rw (appends (bytes_in old.content) (is_there old.content some))
     (refl, λ stood. counts (bytes_in old.content) added was.rows now.rows was.intent now.intent some stood grows)
 
-kept_front : AppendedCounts → CutIsIgnored → (bytes added front rest : List ℕ) (was now : Held) → bytes ≢ [] → GrowsBy added was now → Means bytes (Rows Two was.rows was.intent false) → added ≡ front ++ rest
+kept_front : AppendedCounts → CutIsIgnored → (bytes added front rest : List ℕ) (was now : RecordState) → bytes ≢ [] → GrowsBy added was now → Means bytes (Rows Two was.rows was.intent false) → added ≡ front ++ rest
     → Keeps (Some (bytes ++ front)) was ⊎ Keeps (Some (bytes ++ front)) now
 kept_front counts ignored bytes added front [] was now some grows stood split =
     inr (Two, false, rw (split, append-nil) at (counts bytes added was.rows now.rows was.intent now.intent some stood grows))
 kept_front counts ignored bytes added front (byte ∷ rest) was now some grows stood split =
     inl (Two, has_bytes front, ignored bytes added front (byte ∷ rest) was.rows now.rows was.intent now.intent some stood grows split (λ none. true≢false (ap has_bytes none)))
 
-pub cut_short : AppendedCounts → CutIsIgnored → (old new : Stored) (added : List ℕ) (was now : Held) (fault : StoreFault) → bytes_in old.content ≢ [] → GrowsBy added was now
+pub cut_short : AppendedCounts → CutIsIgnored → (old new : Stored) (added : List ℕ) (was now : RecordState) (fault : StoreFault) → bytes_in old.content ≢ [] → GrowsBy added was now
     → Appends {T = Unit {0}} old added (Err fault) new → Saves old was now (Err SeenRefused) new
 cut_short counts ignored old new added was now fault some grows appends =
     let cut = appends (bytes_in old.content) (is_there old.content some) in
@@ -125,7 +125,7 @@ still_some rows [] some = some
 still_some rows (row ∷ group) some = still_some (taken rows row) group (taken_by (has_row rows row.uid) rows row some)
 
 -- if an id's mark gives a group, the file has bytes
-pub mark_begun : (content : Option (List ℕ)) (was now : List Row) (before after : Option Intent) (uid group : List ℕ) → Steady content (held was before) → now ≡ marked was uid → Updates was before group now after → group ≢ [] → bytes_in content ≢ []
+pub mark_begun : (content : Option (List ℕ)) (was now : List Row) (before after : Option Intent) (uid group : List ℕ) → Steady content (record_state was before) → now ≡ marked was uid → Updates was before group now after → group ≢ [] → bytes_in content ≢ []
 mark_begun content was now before after uid group steady marks (inl same) some none = some same.0
 mark_begun content was now before after uid group steady marks (inr (rows, is, bytes, grown', closed)) some none =
     let no_row : was ≡ [] = (empty_means Two was before false (rw none at steady)).0 in
@@ -136,7 +136,7 @@ mark_begun content was now before after uid group steady marks (inr (rows, is, b
     by_rows (row ∷ more) count nothing no_row = still_some (row ∷ []) more (λ e. cc) (rw no_row at nothing)
 
 -- if an id has a row, the file has bytes
-pub row_begun : (content : Option (List ℕ)) (rows : List Row) (intent : Option Intent) (uid : List ℕ) → Steady content (held rows intent) → has_row rows uid ≡ true → bytes_in content ≢ []
+pub row_begun : (content : Option (List ℕ)) (rows : List Row) (intent : Option Intent) (uid : List ℕ) → Steady content (record_state rows intent) → has_row rows uid ≡ true → bytes_in content ≢ []
 row_begun content rows intent uid steady has none =
     let no_row : rows ≡ [] = (empty_means Two rows intent false (rw none at steady)).0 in
     true≢false (sym has ∙ ap (λ (r : List Row). has_row r uid) no_row)
@@ -149,6 +149,6 @@ opens rows intent line is has line_is =
 pub has_row_where_none : (rows : List Row) (intent : Option Intent) → intent ≡ None → IntentHasRow rows intent
 has_row_where_none rows intent closed = rw closed tt
 
-pub saves_steady : (old new : Stored) (was now : Held) (r : Result (Unit {0}) Fault) → Steady old.content was → Saves old was now r new → OnOk r (Steady new.content now)
+pub saves_steady : (old new : Stored) (was now : RecordState) (r : Result (Unit {0}) Fault) → Steady old.content was → Saves old was now r new → OnOk r (Steady new.content now)
 saves_steady old new was now (Ok done) stood saves = saves.1 stood
 saves_steady old new was now (Err fault) stood saves = tt

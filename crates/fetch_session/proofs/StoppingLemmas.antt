@@ -2,7 +2,7 @@
 use Rattle.std.proofs.Common.{◌≡◌, inl, inr, ◌⊎◌, ℕ, List, [], ◌∷◌, ◌++◌, Err, refl, sym, ◌∙◌, append_assoc}
 use Rattle.std.proofs.lemmas.List.{append-nil, map-append}
 use Rattle.std.proofs.lemmas.Grind.{flat_map-append}
-use Rattle.fetch_rules.specs.Record.{Held, none_open, marked, marked_all}
+use Rattle.fetch_rules.specs.Record.{RecordState, none_open, marked, marked_all}
 use Rattle.mail_store.specs.Maildir.{File}
 use Rattle.mail_store.specs.FlatFile.{Stored}
 use Rattle.pop3_client.specs.Turns.{Turn, retr}
@@ -19,18 +19,18 @@ use Rattle.mail_store.specs.FileName.{mail_file}
 use Rattle.fetch_session.specs.Record.{Keeps, Steady, Saves}
 use Rattle.fetch_session.specs.Scene.{Scene, Fell, Broken, NoFile, FileNotSaved}
 use Rattle.fetch_session.specs.Target.{AsFiles}
-use Rattle.fetch_session.specs.Laws.{Stands, ExtraIs, MarksAre, CutShort, StoppingCutsShort, UnsavedFilesKeep}
+use Rattle.fetch_session.specs.Laws.{CameWhole, ExtraIs, MarksAre, CutShort, StoppingCutsShort, UnsavedFilesKeep}
 use Rattle.fetch_session.proofs.SceneLemmas.{marked_on}
 use Rattle.fetch_session.proofs.RecordLemmas.{steady_keeps}
 
 stand : (turns : List Turn) (replies : List WholeReply) (old mid new : Scene) (more : List ℕ) → old.place.waiting ≡ [] → Talked turns replies old.place mid.place
-    → new.place.link.got ≡ mid.place.link.got ++ more → Stands replies old new
+    → new.place.link.got ≡ mid.place.link.got ++ more → CameWhole replies old new
 stand turns replies old mid new more none talked is =
     let heard = rw none at talked.heard in
     (mid.place.waiting ++ more, simp (is, talked.got, heard, append_assoc))
 
 -- the record wasn't saved: why, and which record its file stands for
-unsaved_why : (old : Stored) (was now : Held) (fault : Fault) (new : Stored) → Saves old was now (Err fault) new → (fault ≡ SeenRefused) ⊎ (fault ≡ NoMemory)
+unsaved_why : (old : Stored) (was now : RecordState) (fault : Fault) (new : Stored) → Saves old was now (Err fault) new → (fault ≡ SeenRefused) ⊎ (fault ≡ NoMemory)
 unsaved_why old was now SeenRefused new is = inl refl
 unsaved_why old was now NoMemory new is = inr refl
 unsaved_why old was now _ new never = absurd never

@@ -12,12 +12,12 @@ use Rattle.pop3_wire.specs.Bodies.{Rest}
 use Rattle.pop3_wire.specs.declared.unstuffer.Spot.TheVariants.{Done}
 use Rattle.pop3_client.specs.Conversation.{Broke}
 use Rattle.pop3_client.specs.Turns.{retr}
-use Rattle.fetch_session.specs.Store.{Gained, Grows, begun_with, Starts, Puts, Ends, RefusesText, StopsStoring, StoresText, StopsReading}
+use Rattle.fetch_session.specs.Store.{Gained, MayGain, begun_with, Starts, Puts, Ends, RefusesText, StopsStoring, StoresText, StopsReading}
 
 pub gained_file : (old new : Maildir) (f : File) → new ≡ with_file old f → Gained old new (f ∷ [])
 gained_file old new f is = rw is (record { came = refl; there = refl; none_begun = λ none_begun. refl; failures = omega arith })
 
-pub not_grown : (old new : Maildir) (name : List ℕ) → old.begun ≡ None → new ≡ old → Grows name old new
+pub not_grown : (old new : Maildir) (name : List ℕ) → old.begun ≡ None → new ≡ old → MayGain name old new
 not_grown old new name none_begun is = rw is (record { none_begun = none_begun; came = inl refl })
 
 -- ---- a text, piece by piece
@@ -67,13 +67,13 @@ refused_end old now new stem text octets rest fault was counts done ends =
       ],
     )
 
-stops_grows : (old new : Maildir) (name text : List ℕ) (fault : Fault) (rest : Option Rest) → old.begun ≡ None → StopsStoring name old text fault rest new → Grows name old new
+stops_grows : (old new : Maildir) (name text : List ℕ) (fault : Fault) (rest : Option Rest) → old.begun ≡ None → StopsStoring name old text fault rest new → MayGain name old new
 stops_grows old new name text fault None none_begun is = not_grown old new name none_begun is
 stops_grows old new name text fault (Some rest) none_begun (inl missing) = not_grown old new name none_begun missing.2
 stops_grows old new name text fault (Some rest) none_begun (inr (why, inl is)) = rw is (record { none_begun = refl; came = inl refl })
 stops_grows old new name text fault (Some rest) none_begun (inr (why, inr there)) = rw there.1 (record { none_begun = refl; came = inr (text, refl) })
 
-pub stores_grows : (old new : Maildir) (name text : List ℕ) (r : Result ℕ Cut) → old.begun ≡ None → StoresText name old text r new → Grows name old new
+pub stores_grows : (old new : Maildir) (name text : List ℕ) (r : Result ℕ Cut) → old.begun ≡ None → StoresText name old text r new → MayGain name old new
 stores_grows old new name text (Ok octets) none_begun is = rw is.0 (record { none_begun = refl; came = inr (text, refl) })
 stores_grows old new name text (Err cut) none_begun is = stops_grows old new name text cut.fault cut.rest none_begun is
 

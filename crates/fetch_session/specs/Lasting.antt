@@ -16,7 +16,7 @@ use Rattle.pop3_wire.specs.Link.{Link}
 use Rattle.pop3_wire.specs.declared.wire.Wire.{Ghosts as WireGhosts}
 use Rattle.pop3_wire.specs.Place.{Place}
 use Rattle.rc_file.specs.declared.settings.Settings.{Settings}
-use Rattle.fetch_rules.specs.Record.{Row, Held, Intent, is_delivered, none_open, marked_all}
+use Rattle.fetch_rules.specs.Record.{Row, RecordState, Intent, is_delivered, none_open, marked_all}
 use Rattle.fetch_rules.specs.RecordGrowth.{Grows}
 use Rattle.fetch_rules.specs.Plan.{IsQuiet, planned}
 use Rattle.fetch_session.specs.declared.account.Store.{Store}
@@ -31,7 +31,7 @@ use Rattle.fetch_session.specs.declared.work.Work.{Work}
 use Rattle.fetch_session.specs.Account.{Holding, digits_of}
 use Rattle.fetch_session.specs.Plan.{Carried, Carries, tasks_ahead}
 use Rattle.fetch_session.specs.Readiness.{Readies, merged_in}
-use Rattle.fetch_session.specs.Record.{Keeps, Steady, held}
+use Rattle.fetch_session.specs.Record.{Keeps, Steady, record_state}
 use Rattle.fetch_session.specs.Scene.{Scene, Does, WhereAllSound}
 use Rattle.fetch_session.specs.Session.{Keeping, Noted, Proceeds, SessionIn, keeping}
 use Rattle.fetch_session.specs.Target.{Target, AsFiles, AsEntries, AfterTakingIn, Stores, is_sound, stores_of, target_of}
@@ -83,7 +83,7 @@ FoundLastIn disk account rows items (InMbox device) = Unit {0}
 
 -- the same of the rows of whatever record a file stood for that had these bytes, with the files that a Maildir had
 abbrev pub NewsLast : {D F : Type 0} → DiskGhosts D → Target → Option (List ℕ) → List Item → Stores → Store D F → Type 0
-NewsLast disk (AsFiles account) content items old store = (was : Held) → Keeps content was
+NewsLast disk (AsFiles account) content items old store = (was : RecordState) → Keeps content was
     → FoundLast account was.rows items old.maildir (outlives_in disk store)
 NewsLast disk AsEntries content items old store = Unit {0}
 
@@ -139,7 +139,7 @@ Leaves file f Is = (bytes : List ℕ) → (file.stored f).content ≡ Some bytes
 
 -- bytes that stand for this record, and behind them what a loss of power may leave of what was appended; nothing is appended to an
 -- empty file
-pub record IsLeft (was : Held) (added : List ℕ) (left : Option (List ℕ)) : Type 0 where
+pub record IsLeft (was : RecordState) (added : List ℕ) (left : Option (List ℕ)) : Type 0 where
   pub bytes : List ℕ
   pub behind : List ℕ
   pub is : left ≡ Some (bytes ++ behind)
@@ -155,7 +155,7 @@ pub record AreLeft (rows others : List Row) (left : Option (List ℕ)) : Type 0 
   pub after : Option Intent
   pub grows : Grows rows before added next after
   pub next_is : (next ≡ rows) ⊎ (next ≡ others)
-  pub file : IsLeft (held rows before) added left
+  pub file : IsLeft (record_state rows before) added left
 
 -- what these tasks stored and marked outlives a loss of power; and at most a part of one intent, or of the marks of these other ids,
 -- may be left behind it
@@ -215,7 +215,7 @@ LeavesMerged files rows others from f = (left : Option (List ℕ)) → files.may
     → files.may_leave from left ⊎ (AreLeft rows others left ⊎ AreLeft others others left)
 
 -- what may be left of the record's file could be left before, or a part of what was appended stands behind what the file had
-abbrev pub LeavesLeft : {F : Type 0} → FileGhosts F → Held → List ℕ → F → F → Type 0
+abbrev pub LeavesLeft : {F : Type 0} → FileGhosts F → RecordState → List ℕ → F → F → Type 0
 LeavesLeft files was added from f = (left : Option (List ℕ)) → files.may_leave f left → files.may_leave from left ⊎ IsLeft was added left
 
 -- the record was merged, or was to be, after each name of a Maildir was on the disk, and a file of each message that was found there and
@@ -223,7 +223,7 @@ LeavesLeft files was added from f = (left : Option (List ℕ)) → files.may_lea
 pub record MergeLasts {D F : Type 0} (disk : DiskGhosts D) (files : FileGhosts F) (target : Target) (items : List Item) (now : ℕ)
     (old : Stores) (file : Stored) (store : Store D F) (from f : F) : Type 0 where
   pub stay : AllStayIn disk store
-  pub was : Held
+  pub was : RecordState
   pub stood : Keeps file.content was
   pub leaves : LeavesMerged files was.rows (merged_in target old was items now) from f
   pub news : NewsLast disk target file.content items old store

@@ -1,7 +1,7 @@
 -- What a list of tasks that stopped leaves, in terms of the tasks that were done.
 use Rattle.std.specs.Prelude.{◌≡◌, ◌⊎◌, ℕ, List, [], ◌∷◌, ◌++◌, Option, Err}
 use Rattle.std.specs.List.{flat_map, AllZip}
-use Rattle.fetch_rules.specs.Record.{Held, none_open, marked_all}
+use Rattle.fetch_rules.specs.Record.{RecordState, none_open, marked_all}
 use Rattle.mail_store.specs.FlatFile.{Stored}
 use Rattle.mail_store.specs.Maildir.{File, AfterTaking}
 use Rattle.pop3_wire.specs.Reading.{WholeReply, reply_bytes}
@@ -16,22 +16,22 @@ use Rattle.fetch_session.specs.Scene.{Scene, Fell, WhereAllSound}
 use Rattle.fetch_session.specs.Target.{AsFiles, IsSoundMaildir, IsSoundMbox, maildir_of, mbox_of}
 use Rattle.fetch_session.specs.Account.{Holding, IsSameAccount, digits_of}
 use Rattle.fetch_session.specs.Lasting.{RunsSession}
-use Rattle.fetch_session.specs.Session.{MboxSession, Session, kept, mbox_kept}
+use Rattle.fetch_session.specs.Session.{MboxSession, Session, account_files, mbox_account_files}
 use Rattle.fetch_session.specs.declared.report.Report.{Report}
 use Rattle.mail_store.specs.declared.file.flat_file.FlatFile.{Ghosts as FileGhosts}
 use Rattle.mail_store.specs.declared.maildir.disk.MaildirDisk.{Ghosts as DiskGhosts}
 use Rattle.pop3_wire.specs.declared.wire.Wire.{Ghosts as WireGhosts}
 
 -- what was got begins with these replies, whole
-abbrev pub Stands : List WholeReply → Scene → Scene → Type 0
-Stands replies old new = (rest : List ℕ) × (new.place.link.got ≡ old.place.link.got ++ (flat_map reply_bytes replies ++ rest))
+abbrev pub CameWhole : List WholeReply → Scene → Scene → Type 0
+CameWhole replies old new = (rest : List ℕ) × (new.place.link.got ≡ old.place.link.got ++ (flat_map reply_bytes replies ++ rest))
 
 -- one more file, whose reply comes after those taken, only if the store refused
 abbrev pub ExtraIs : List ℕ → List Done → List Task → Scene → Fault → Scene → List File → Type 0
 ExtraIs account taken next old fault new extra = (extra ≡ [])
     ⊎ ((fault ≡ StoreRefused Refused) × ((number : ℕ) × (uid : List ℕ) × (later : List Task) × (reply : WholeReply)
     × (next ≡ stores number uid ∷ later)
-    × (extra ≡ file_from account uid reply ∷ []) × Stands (replies_of taken ++ reply ∷ []) old new))
+    × (extra ≡ file_from account uid reply ∷ []) × CameWhole (replies_of taken ++ reply ∷ []) old new))
 
 -- the marks are those of all tasks; or the last is missing, only if the record wasn't saved
 abbrev pub MarksAre : List (List ℕ) → Fault → List (List ℕ) → Type 0
@@ -46,7 +46,7 @@ pub record CutShort (account : List ℕ) (tasks : List Task) (old : Scene) (faul
   pub marks : List (List ℕ)
   pub split : tasks ≡ tasks_of taken ++ next
   pub good : AllZip IsGood (turns_of taken) (replies_of taken)
-  pub got : Stands (replies_of taken) old new
+  pub got : CameWhole (replies_of taken) old new
   pub told : new.lines ≡ old.lines ++ lines_of taken
   pub files : new.store.maildir.files ≡ old.store.maildir.files ++ (files_of account taken ++ extra)
   pub extra_is : ExtraIs account taken next old fault new extra
@@ -65,22 +65,23 @@ MaildirSessions {W} {D} {F} link disk files = (now : ℕ) (old new : Holding D F
     → RunsSession link disk files now old wire report new wire'
     → WhereAllSound link.sound link.leads_to (IsSoundMaildir disk) files.sound wire wire' old.store new.store old.file new.file
     (AfterTaking (maildir_of disk old.store) (λ left. Session old.settings (digits_of old.settings) now (link.history wire)
-    (kept left (files.stored old.file)) report (link.history wire') (kept (maildir_of disk new.store) (files.stored new.file))))
+    (account_files left (files.stored old.file)) report (link.history wire')
+    (account_files (maildir_of disk new.store) (files.stored new.file))))
 
 -- a session of an account with an mboxrd file
 abbrev pub MboxSessions : {W D F : Type 0} → WireGhosts W → DiskGhosts D → FileGhosts F → Type 0
 MboxSessions {W} {D} {F} link disk files = (now : ℕ) (old new : Holding D F) (wire wire' : W) (report : Report) → IsSameAccount old new
     → RunsSession link disk files now old wire report new wire'
     → WhereAllSound link.sound link.leads_to (IsSoundMbox files) files.sound wire wire' old.store new.store old.file new.file
-    (MboxSession old.settings now (link.history wire) (mbox_kept (mbox_of files old.store) (files.stored old.file)) report
-    (link.history wire') (mbox_kept (mbox_of files new.store) (files.stored new.file)))
+    (MboxSession old.settings now (link.history wire) (mbox_account_files (mbox_of files old.store) (files.stored old.file)) report
+    (link.history wire') (mbox_account_files (mbox_of files new.store) (files.stored new.file)))
 
 -- a file of version 2 that stands for a record and has no torn end stands for that record
 abbrev pub SteadyFilesKeep : Type 0
-SteadyFilesKeep = (content : Option (List ℕ)) (held : Held) → Steady content held → Keeps content held
+SteadyFilesKeep = (content : Option (List ℕ)) (held : RecordState) → Steady content held → Keeps content held
 
 -- the file of a record that wasn't saved stands for the old record or for the new one
 abbrev pub UnsavedFilesKeep : Type 0
-UnsavedFilesKeep = (old : Stored) (was now : Held) (fault : Fault) (new : Stored) → Saves old was now (Err fault) new
+UnsavedFilesKeep = (old : Stored) (was now : RecordState) (fault : Fault) (new : Stored) → Saves old was now (Err fault) new
     → Steady old.content was
     → Keeps new.content was ⊎ Keeps new.content now

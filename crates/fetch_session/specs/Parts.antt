@@ -20,7 +20,7 @@ use Rattle.fetch_session.specs.declared.work.Ledger.{Ledger}
 use Rattle.fetch_session.specs.declared.work.Work.{Work}
 use Rattle.fetch_session.specs.Intake.{TookTillCut}
 use Rattle.fetch_session.specs.Lasting.{AreLeft, DoesAndLasts, IsSafe, IsSafeWork, KeepsMailIn, Leaves}
-use Rattle.fetch_session.specs.Record.{Steady, held_in}
+use Rattle.fetch_session.specs.Record.{Steady, record_state_in}
 use Rattle.fetch_session.specs.Refusal.{RefusesTillCut}
 use Rattle.fetch_session.specs.Report.{Adds, HasRoom}
 use Rattle.fetch_session.specs.Target.{is_sound, kind_of, stores_of, target_of}
@@ -71,7 +71,7 @@ pub record KeepsRecord {F H Z : Type 0} (file : FileGhosts F) (uid : List ℕ) (
   pub lines : new.lines ≡ old.lines
   pub rows : new.seen.rows ≡ old.seen.rows
   pub opened : OnOk result (IsNoneOrOf uid new.seen.intent)
-  pub steady : file.sound new.file → file.sound old.file × OnOk result (Steady (file.stored new.file).content (held_in new.seen))
+  pub steady : file.sound new.file → file.sound old.file × OnOk result (Steady (file.stored new.file).content (record_state_in new.seen))
   pub lasts : file.sound new.file → IsSafe file old.file → OnOk result (IsSafe file new.file)
       × ((others : List Row) → Leaves file new.file (AreLeft old.seen.rows others))
 

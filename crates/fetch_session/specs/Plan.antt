@@ -2,7 +2,7 @@
 use Rattle.std.specs.Prelude.{◌≡◌, ◌⊎◌, ℕ, List, [], ◌∷◌, ◌++◌, None, Result, Ok, Err}
 use Rattle.pop3_wire.specs.Place.{Place}
 use Rattle.mail_terms.specs.Listing.{Item}
-use Rattle.fetch_rules.specs.Record.{Row, Held, none_open}
+use Rattle.fetch_rules.specs.Record.{Row, RecordState, none_open}
 use Rattle.fetch_rules.specs.Plan.{planned}
 use Rattle.rc_file.specs.declared.settings.Settings.{Settings}
 use Rattle.mail_store.specs.FlatFile.{Stored}
@@ -25,7 +25,7 @@ tasks_ahead settings target items now store rows = tasks_planned (planned settin
 -- the record was read, merged with the listing and saved
 pub record Prepared (target : Target) (items : List Item) (now : ℕ) (place : Place) (store : Stores)
     (file : Stored) (lines : List ReportLine) (mid : Scene) : Type 0 where
-  pub was : Held
+  pub was : RecordState
   pub stood : Keeps file.content was
   pub rows : mid.rows ≡ merged_in target store was items now
   pub saved : Steady mid.file.content (none_open mid.rows)

@@ -6,7 +6,7 @@ use Rattle.pop3_wire.specs.Place.{Place, at}
 use Rattle.pop3_client.specs.Conversation.{Talks}
 use Rattle.pop3_client.specs.Turns.{quit}
 use Rattle.rc_file.specs.declared.settings.Settings.{Settings}
-use Rattle.fetch_rules.specs.Record.{Row, Intent, Held, merged}
+use Rattle.fetch_rules.specs.Record.{Row, Intent, RecordState, merged}
 use Rattle.fetch_rules.specs.Plan.{planned}
 use Rattle.mail_store.specs.FlatFile.{Stored}
 use Rattle.mail_store.specs.Held.{flags_of}
@@ -81,7 +81,7 @@ MayBeFollowed AsEntries intent store = intent ≡ None → (was : List ℕ) × G
 -- whose entry isn't whole
 pub record PreviewsMerged (settings : Settings) (target : Target) (items : List Item) (now : ℕ) (old : Keeping) (unsettled : Bool)
     (told : List MessagePreview) : Type 0 where
-  pub was : Held
+  pub was : RecordState
   pub stood : Keeps old.file.content was
   pub followed : MayBeFollowed target was.intent old.store
   pub unsettled_is : unsettled ≡ is_unsettled target was.intent

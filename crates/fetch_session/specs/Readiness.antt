@@ -2,7 +2,7 @@
 use Rattle.std.specs.Prelude.{◌≡◌, ◌⊎◌, ◌<◌, ℕ, Bool, true, false, All, List, length, Option, None, Some, Result, Ok, Err, Vec}
 use Rattle.std.specs.List.{AllByRecursion}
 use Rattle.mail_terms.specs.Listing.{Item}
-use Rattle.fetch_rules.specs.Record.{Row, Intent, Held, IsRecord, Loaded, has_row, is_delivered, none_open, merged}
+use Rattle.fetch_rules.specs.Record.{Row, Intent, RecordState, IsRecord, Loaded, has_row, is_delivered, none_open, merged}
 use Rattle.fetch_rules.specs.Plan.{IsQuiet, planned}
 use Rattle.fetch_rules.specs.declared.steps.Step.{Step}
 use Rattle.fetch_session.specs.Task.{tasks_planned}
@@ -43,13 +43,13 @@ FindsIn (AsFiles account) intent old items (Err fault) new = FindsRefused old.ma
 FindsIn AsEntries intent old items result new = AsksMbox intent old.mbox items result new.mbox
 
 -- the store was asked, and in an mboxrd file what the open intent had left was cut off or counted
-abbrev pub Settles : Target → Held → List Item → Stores → Stores → Type 0
+abbrev pub Settles : Target → RecordState → List Item → Stores → Stores → Type 0
 Settles (AsFiles account) was items old new = new ≡ old
 Settles AsEntries was items old new = (bytes : List ℕ) × (old.mbox.content ≡ Some bytes)
     × (new.mbox ≡ holding old.mbox (closed_file was.intent items bytes)) × MayGoOn (closed_file was.intent items bytes)
 
 -- the record once its open intent was ended and the listing merged into it
-abbrev pub merged_in : Target → Stores → Held → List Item → ℕ → List Row
+abbrev pub merged_in : Target → Stores → RecordState → List Item → ℕ → List Row
 merged_in target store was items now = merged (rows_in target store was items) items (flags_in target store items) now
 
 -- what the store holds can change neither the record nor what is done: each listed id is recorded as delivered, and the steps that are
@@ -93,7 +93,7 @@ pub record HasPlan (settings : Settings) (items : List Item) (now : ℕ) (ready 
 -- the record was read, merged and saved, and the plan made; no intent is open any more
 pub record IsReady (settings : Settings) (target : Target) (items : List Item) (now : ℕ) (store : Stores)
     (file : Stored) (ready : Ready) (after : List Row) (store' : Stores) (file' : Stored) : Type 0 where
-  pub was : Held
+  pub was : RecordState
   pub stood : Keeps file.content was
   pub held : AreAsHeld ready.steps.items items ready.held.items (flags_in target store items)
   pub rows : after ≡ merged_in target store was items now
@@ -115,7 +115,7 @@ UnreadyCause _ maildir file maildir' file' = ⊥
 -- the mboxrd file is as it was, or settled by the intent of the record that was read
 abbrev pub IsSettledBy : List Item → Stored → Stored → Stored → Type 0
 IsSettledBy items file mbox mbox' = (mbox'.content ≡ mbox.content)
-    ⊎ ((was : Held) × Keeps file.content was × IsSettledAtMost was.intent items mbox mbox')
+    ⊎ ((was : RecordState) × Keeps file.content was × IsSettledAtMost was.intent items mbox mbox')
 
 abbrev pub MboxUnready : List Item → Fault → Stored → Stored → Stored → Stored → Type 0
 MboxUnready items SeenRefused mbox file mbox' file' = (file.failures < file'.failures) × IsSettledBy items file mbox mbox'
@@ -134,7 +134,7 @@ CausesUnready AsEntries items fault store file store' file' = MboxUnready items 
 -- the file is as it was; or the store was settled first, and the file stands for the record or for the merged one
 abbrev pub IsMergedAtMost : Target → List Item → ℕ → Stores → Stored → Stores → Stored → Type 0
 IsMergedAtMost target items now store file store' file' = (file'.content ≡ file.content)
-    ⊎ ((was : Held) × Keeps file.content was × Settles target was items store store' × (Keeps file'.content was
+    ⊎ ((was : RecordState) × Keeps file.content was × Settles target was items store store' × (Keeps file'.content was
     ⊎ Keeps file'.content (none_open (merged_in target store was items now))))
 
 pub record Unready (target : Target) (items : List Item) (now : ℕ) (store : Stores) (file : Stored)

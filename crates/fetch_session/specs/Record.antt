@@ -1,6 +1,6 @@
 -- What is done to the record and its file.
 use Rattle.std.specs.Prelude.{◌≡◌, ◌≢◌, ◌⊎◌, ◌+◌, ℕ, Bool, false, List, [], Option, None, Some, Result, Ok, Err, Vec}
-use Rattle.fetch_rules.specs.Record.{Row, Intent, Held, Loaded, none_open}
+use Rattle.fetch_rules.specs.Record.{Row, Intent, RecordState, Loaded, none_open}
 use Rattle.fetch_rules.specs.RecordFile.{Two, file_of}
 use Rattle.fetch_rules.specs.RecordMeaning.{Means, Rows, Fault as Faulty, FileStandsFor}
 use Rattle.fetch_rules.specs.Intents.{ReadAs as BytesReadAs}
@@ -16,45 +16,45 @@ bytes_in None = []
 bytes_in (Some bytes) = bytes
 
 -- a file stands for a record, of any version, with or without a torn end
-abbrev pub Keeps : Option (List ℕ) → Held → Type 0
-Keeps content held = FileStandsFor content held.rows held.intent
+abbrev pub Keeps : Option (List ℕ) → RecordState → Type 0
+Keeps content state = FileStandsFor content state.rows state.intent
 
 -- a file stands for these rows, whether an intent is open or not
 abbrev pub KeepsRows : Option (List ℕ) → List Row → Type 0
 KeepsRows content rows = (intent : Option Intent) × FileStandsFor content rows intent
 
 -- the file is of version 2 and has no torn end, so that what is appended counts
-abbrev pub Steady : Option (List ℕ) → Held → Type 0
-Steady content held = Means (bytes_in content) (Rows Two held.rows held.intent false)
+abbrev pub Steady : Option (List ℕ) → RecordState → Type 0
+Steady content state = Means (bytes_in content) (Rows Two state.rows state.intent false)
 
 -- a file was read as this record
 abbrev pub ReadAs : Option (List ℕ) → Loaded → Type 0
 ReadAs content loaded = BytesReadAs (bytes_in content) loaded
 
 -- what is kept of a record in memory
-abbrev pub held_in : Loaded → Held
-held_in loaded = record { rows = loaded.rows; intent = loaded.intent }
+abbrev pub record_state_in : Loaded → RecordState
+record_state_in loaded = record { rows = loaded.rows; intent = loaded.intent }
 
-abbrev pub held : List Row → Option Intent → Held
-held rows intent = record { rows = rows; intent = intent }
+abbrev pub record_state : List Row → Option Intent → RecordState
+record_state rows intent = record { rows = rows; intent = intent }
 
 -- the intent of appending `len` octets for an id to an mboxrd file of size `start`
 abbrev pub intent_at : List ℕ → ℕ → ℕ → Intent
 intent_at uid start len = record { uid = uid; start = start; len = len }
 
 -- rows, and this intent open
-abbrev pub with_open : List Row → Intent → Held
+abbrev pub with_open : List Row → Intent → RecordState
 with_open rows intent = record { rows = rows; intent = Some intent }
 
 -- the record was written whole; or, refused, the file is as it was or has the record; or memory ran out
-abbrev pub Writes : Stored → Held → Result (Unit {0}) Fault → Stored → Type 0
-Writes old held (Ok done) new = new ≡ holding old (file_of held.rows held.intent)
-Writes old held (Err SeenRefused) new = (new ≡ counted old) ⊎ (new ≡ counted (holding old (file_of held.rows held.intent)))
-Writes old held (Err NoMemory) new = new ≡ old
-Writes old held (Err _) new = ⊥
+abbrev pub Writes : Stored → RecordState → Result (Unit {0}) Fault → Stored → Type 0
+Writes old state (Ok done) new = new ≡ holding old (file_of state.rows state.intent)
+Writes old state (Err SeenRefused) new = (new ≡ counted old) ⊎ (new ≡ counted (holding old (file_of state.rows state.intent)))
+Writes old state (Err NoMemory) new = new ≡ old
+Writes old state (Err _) new = ⊥
 
 -- a changed record was saved; or, refused, the file stands for the old or the new one; or memory ran out, and nothing was done
-abbrev pub Saves : Stored → Held → Held → Result (Unit {0}) Fault → Stored → Type 0
+abbrev pub Saves : Stored → RecordState → RecordState → Result (Unit {0}) Fault → Stored → Type 0
 Saves old was now (Ok done) new = (new.failures ≡ old.failures) × (Steady old.content was → Steady new.content now)
 Saves old was now (Err SeenRefused) new = (new.failures ≡ old.failures + 1)
     × (Steady old.content was → Keeps new.content was ⊎ Keeps new.content now)
@@ -63,14 +63,14 @@ Saves old was now (Err _) new = ⊥
 
 -- an open intent was closed, as none of its entry is there; or that was refused, and it may be open; or memory ran out, and nothing
 -- was done
-abbrev pub TakesBack : Stored → Held → Result (Unit {0}) Fault → Stored → Type 0
+abbrev pub TakesBack : Stored → RecordState → Result (Unit {0}) Fault → Stored → Type 0
 TakesBack old was (Ok done) new = Saves old was (none_open was.rows) (Ok tt) new ⊎ Saves old was (none_open was.rows) (Err SeenRefused) new
 TakesBack old was (Err NoMemory) new = new ≡ old
 TakesBack old was (Err _) new = ⊥
 
 -- a record read from the file was merged and saved; or, refused, the file stands for the old or the
 -- new one; or memory ran out, and nothing was done
-abbrev pub Merges : Stored → Held → Held → Result (Unit {0}) Fault → Stored → Type 0
+abbrev pub Merges : Stored → RecordState → RecordState → Result (Unit {0}) Fault → Stored → Type 0
 Merges old was now (Ok done) new = (new.failures ≡ old.failures) × Steady new.content now
 Merges old was now (Err SeenRefused) new = (new.failures ≡ old.failures + 1) × (Keeps new.content was ⊎ Keeps new.content now)
 Merges old was now (Err NoMemory) new = new ≡ old

@@ -40,14 +40,14 @@ abbrev pub keeping : Stores → Stored → Keeping
 keeping store file = record { store = store; file = file }
 
 -- a Maildir and the record's file
-pub record Kept : Type 0 where
+pub record AccountFiles : Type 0 where
   pub maildir : Maildir
   pub file : Stored
 
-abbrev pub kept : Maildir → Stored → Kept
-kept maildir file = record { maildir = maildir; file = file }
+abbrev pub account_files : Maildir → Stored → AccountFiles
+account_files maildir file = record { maildir = maildir; file = file }
 
-abbrev pub keeps_files : Kept → Keeping
+abbrev pub keeps_files : AccountFiles → Keeping
 keeps_files account = keeping (in_maildir account.maildir) account.file
 
 abbrev pub Enters_with : Settings → Place → Result (List Item) ClientFault → Place → Type 0
@@ -108,22 +108,22 @@ pub record SessionIn (settings : Settings) (target : Target) (now : ℕ) (link :
   pub reports : Reports (outcome_of result) notes.total notes.skipped notes.lines report
 
 -- a session of an account with a Maildir
-abbrev pub Session : Settings → List ℕ → ℕ → Link → Kept → Report → Link → Kept → Type 0
+abbrev pub Session : Settings → List ℕ → ℕ → Link → AccountFiles → Report → Link → AccountFiles → Type 0
 Session settings account now link before report link' after =
     SessionIn settings (AsFiles account) now link (keeps_files before) report link' (keeps_files after)
 
 -- an mboxrd file and the record's file
-pub record MboxKept : Type 0 where
+pub record MboxAccountFiles : Type 0 where
   pub mbox : Stored
   pub file : Stored
 
-abbrev pub mbox_kept : Stored → Stored → MboxKept
-mbox_kept mbox file = record { mbox = mbox; file = file }
+abbrev pub mbox_account_files : Stored → Stored → MboxAccountFiles
+mbox_account_files mbox file = record { mbox = mbox; file = file }
 
-abbrev pub keeps_entries : MboxKept → Keeping
+abbrev pub keeps_entries : MboxAccountFiles → Keeping
 keeps_entries account = keeping (in_mbox account.mbox) account.file
 
 -- a session of an account with an mboxrd file
-abbrev pub MboxSession : Settings → ℕ → Link → MboxKept → Report → Link → MboxKept → Type 0
+abbrev pub MboxSession : Settings → ℕ → Link → MboxAccountFiles → Report → Link → MboxAccountFiles → Type 0
 MboxSession settings now link before report link' after =
     SessionIn settings AsEntries now link (keeps_entries before) report link' (keeps_entries after)

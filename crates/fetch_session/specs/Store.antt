@@ -39,7 +39,7 @@ Brings (AsFiles account) dones old new = Gained old.maildir new.maildir (files_o
 Brings AsEntries dones old new = Appended old.mbox new.mbox (texts_of dones)
 
 -- at most a file with this stem and its length in its name came, and none is begun
-pub record Grows (stem : List ℕ) (old new : Maildir) : Type 0 where
+pub record MayGain (stem : List ℕ) (old new : Maildir) : Type 0 where
   pub none_begun : new.begun ≡ None
   pub came : (new.files ≡ old.files) ⊎ ((content : List ℕ) × (new.files ≡ old.files ++ sized_file stem content ∷ []))
 

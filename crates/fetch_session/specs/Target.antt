@@ -1,7 +1,7 @@
 -- Where the texts of an account go, and what is known of it.
 use Rattle.std.specs.Prelude.{◌≡◌, ℕ, Bool, false, List, [], map, Option, None, Some}
 use Rattle.mail_terms.specs.Listing.{Item}
-use Rattle.fetch_rules.specs.Record.{Row, Intent, Held}
+use Rattle.fetch_rules.specs.Record.{Row, Intent, RecordState}
 use Rattle.fetch_rules.specs.Intents.{closed_rows}
 use Rattle.mail_store.specs.declared.maildir.disk.MaildirDisk.{Ghosts as DiskGhosts}
 use Rattle.mail_store.specs.declared.file.flat_file.FlatFile.{Ghosts as FileGhosts}
@@ -119,6 +119,6 @@ mail_in None = []
 mail_in (Some bytes) = bytes
 
 -- the rows of a record once its open intent is closed
-abbrev pub rows_in : Target → Stores → Held → List Item → List Row
+abbrev pub rows_in : Target → Stores → RecordState → List Item → List Row
 rows_in (AsFiles account) store was items = was.rows
 rows_in AsEntries store was items = closed_rows (is_stored was.intent items (mail_in store.mbox.content)) was.rows was.intent

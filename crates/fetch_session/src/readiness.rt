@@ -16,7 +16,7 @@ ghost use Rattle.fetch_session.specs.Lasting.{ReadiesAndLasts, is_sure};
 ghost use Rattle.fetch_session.specs.Parts.{KeepsBegun};
 ghost use Rattle.fetch_session.specs.Target.{AfterTakingIn, flags_in, is_sound, kind_of, stores_of, target_of};
 ghost use Rattle.fetch_session.specs.Readiness.{AreAsHeld, ChecksBoth, ChecksStore, FindsHeld, FindsIn, HasPlan, IsIdle, Rests};
-ghost use Rattle.fetch_session.specs.Record.{Gets, Reads, ReadAs, Merges, IsLineFault, IsSecured, Steady, bytes_in, held_in};
+ghost use Rattle.fetch_session.specs.Record.{Gets, Reads, ReadAs, Merges, IsLineFault, IsSecured, Steady, bytes_in, record_state_in};
 
 use crate::account::Store;
 use crate::appending::refused;
@@ -280,7 +280,7 @@ fn take_in<F: FlatFile, H: BuildHasher>(
     ensures renewed { F.sound file.new → seen.old.stale ≡ true
         → OnOk result ((F.stored file.new).content ≡ Some (file_of seen.new.rows None)) }
     ensures merges { F.sound file.new → F.sound file.old
-        × Merges (F.stored file.old) (held_in seen.old) (none_open
+        × Merges (F.stored file.old) (record_state_in seen.old) (none_open
         (merged (closed_rows found.now.stored seen.old.rows seen.old.intent) listing.now found.now.held.items now)) result
         (F.stored file.new) }
     ensures lasts { F.sound file.new → IsSafe F.FlatFile file.old → LeavesMerged F.FlatFile seen.old.rows

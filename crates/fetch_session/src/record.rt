@@ -2,11 +2,11 @@
 ghost use Rattle.std.specs.Prelude.{◌≡◌, ◌≢◌, List, [], false, true, None, Some, OnOk};
 ghost use Rattle.mail_terms.specs.UniqueId.{IsLegalId};
 ghost use Rattle.fetch_rules.specs.Intents.{IsNoneOrOf};
-ghost use Rattle.fetch_rules.specs.Record.{Held, Row, has_row, none_open, marked};
+ghost use Rattle.fetch_rules.specs.Record.{RecordState, Row, has_row, none_open, marked};
 ghost use Rattle.fetch_rules.specs.RecordFile.{Two, file_of};
 ghost use Rattle.fetch_rules.specs.RecordMeaning.{Means, Rows};
 ghost use Rattle.fetch_rules.specs.RecordGrowth.{Grows};
-ghost use Rattle.fetch_session.specs.Record.{Writes, Saves, Steady, TakesBack, bytes_in, held_in, intent_at, with_open};
+ghost use Rattle.fetch_session.specs.Record.{Writes, Saves, Steady, TakesBack, bytes_in, record_state_in, intent_at, with_open};
 ghost use Rattle.fetch_session.specs.Lasting.{AreLeft, IsLeft, IsSafe, RowsStillLast, Leaves, LeavesLeft};
 ghost use Rattle.mail_store.specs.Power.{LeavesEither};
 
@@ -20,7 +20,7 @@ pub(crate) fn save<F: FlatFile, H: BuildHasher>(file: &mut F, seen: &Seen<H>) ->
     requires closed { seen.now.intent ≡ None }
     ensures stands { Means (file_of seen.now.rows seen.now.intent) (Rows Two seen.now.rows seen.now.intent false) }
     ensures saves { F.sound file.new → F.sound file.old
-        × Writes (F.stored file.old) (held_in seen.now) result (F.stored file.new) }
+        × Writes (F.stored file.old) (record_state_in seen.now) result (F.stored file.new) }
     ensures leaves { F.sound file.new → LeavesEither (F.may_leave file.old) (file_of seen.now.rows None) (F.may_leave file.new) }
     ensures lasts { F.sound file.new → OnOk result (IsSafe F.FlatFile file.new) }
 {
@@ -38,12 +38,12 @@ pub(crate) fn save<F: FlatFile, H: BuildHasher>(file: &mut F, seen: &Seen<H>) ->
 pub(crate) fn grow<F: FlatFile>(file: &mut F, group: &[u8]) -> Result<(), Fault>
     requires begun { F.sound file.old → group.now ≢ [] → bytes_in (F.stored file.old).content ≢ [] }
     ensures saves { F.sound file.new → F.sound file.old
-        × ((was now : Held) → Grows was.rows was.intent group.now now.rows now.intent
+        × ((was now : RecordState) → Grows was.rows was.intent group.now now.rows now.intent
         → Saves (F.stored file.old) was now result (F.stored file.new)) }
     ensures keeps { F.sound file.new → ((rows : List Row) → RowsStillLast F.FlatFile rows file.old file.new) }
     ensures lasts { F.sound file.new → IsSafe F.FlatFile file.old → OnOk result (IsSafe F.FlatFile file.new) }
     ensures leaves { F.sound file.new → IsSafe F.FlatFile file.old
-        → ((was : Held) → Steady (F.stored file.old).content was → Leaves F.FlatFile file.new (IsLeft was group.now)
+        → ((was : RecordState) → Steady (F.stored file.old).content was → Leaves F.FlatFile file.new (IsLeft was group.now)
         × LeavesLeft F.FlatFile was group.now file.old file.new) }
 {
     appended_counts();
@@ -96,7 +96,7 @@ pub(crate) fn take_back<F: FlatFile, H: BuildHasher>(
     requires begun { F.sound file.old → bytes_in (F.stored file.old).content ≢ [] }
     ensures rows { seen.new.rows ≡ seen.old.rows }
     ensures closes { F.sound file.new → F.sound file.old
-        × TakesBack (F.stored file.old) (held_in seen.old) result (F.stored file.new) }
+        × TakesBack (F.stored file.old) (record_state_in seen.old) result (F.stored file.new) }
     ensures keeps { F.sound file.new → RowsStillLast F.FlatFile seen.old.rows file.old file.new }
     ensures leaves { F.sound file.new → ((others : List Row)
         → Leaves F.FlatFile file.old (AreLeft seen.old.rows others) → Leaves F.FlatFile file.new (AreLeft seen.old.rows others)) }
@@ -117,13 +117,13 @@ pub(crate) fn remember<F: FlatFile, H: BuildHasher>(
     seen: &mut Seen<H>,
     uid: &[u8],
 ) -> Result<(), Fault>
-    requires steady { F.sound file.old → Steady (F.stored file.old).content (held_in seen.old) }
+    requires steady { F.sound file.old → Steady (F.stored file.old).content (record_state_in seen.old) }
     requires own { IsNoneOrOf uid.now seen.old.intent }
     ensures rows { OnOk result (seen.new.rows ≡ marked seen.old.rows uid.now) }
     ensures steady { F.sound file.new → F.sound file.old × OnOk result (Steady (F.stored file.new).content (none_open seen.new.rows)) }
     ensures closed { OnOk result (seen.new.intent ≡ None) }
     ensures saves { F.sound file.new → F.sound file.old
-        × Saves (F.stored file.old) (held_in seen.old) (none_open (marked seen.old.rows uid.now)) result (F.stored file.new) }
+        × Saves (F.stored file.old) (record_state_in seen.old) (none_open (marked seen.old.rows uid.now)) result (F.stored file.new) }
     ensures keeps { F.sound file.new → ((rows : List Row) → RowsStillLast F.FlatFile rows file.old file.new)
         × (IsSafe F.FlatFile file.old → Leaves F.FlatFile file.new (AreLeft seen.old.rows (marked seen.old.rows uid.now))) }
     ensures lasts { F.sound file.new → IsSafe F.FlatFile file.old → OnOk result (IsSafe F.FlatFile file.new) }

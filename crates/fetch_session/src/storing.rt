@@ -19,7 +19,7 @@ ghost use Rattle.fetch_session.specs.Parts.{KeepsLedger, KeepsLink};
 ghost use Rattle.fetch_session.specs.Refusal.{RefusesTillCut};
 ghost use Rattle.fetch_session.specs.Report.{Adds, HasRoom};
 ghost use Rattle.fetch_session.specs.Scene.{scene, TakesTask, WhereAllSound};
-ghost use Rattle.fetch_session.specs.Store.{Ends, Grows, PassesText, Puts, ReadsText, Starts, StoresText};
+ghost use Rattle.fetch_session.specs.Store.{Ends, MayGain, PassesText, Puts, ReadsText, Starts, StoresText};
 ghost use Rattle.fetch_session.specs.Target.{AsFiles, Stores, Target, in_maildir};
 ghost use Rattle.fetch_session.specs.Task.{rereads, stores};
 ghost use Rattle.fetch_session.specs.Work.{IsWritten};
@@ -229,7 +229,7 @@ pub(crate) fn take_into_maildir<W: Wire, D: MaildirDisk, F: FlatFile, H: BuildHa
     ensures link { KeepsLink W.Wire (TookTillCut (most (retr number))) client.old result client.new }
     ensures ledger { KeepsLedger F.FlatFile uid.now ledger.old result ledger.new }
     ensures grows { D.sound disk.new → D.sound disk.old
-        × Grows (stem_of account.now uid.now) (D.maildir disk.old) (D.maildir disk.new) }
+        × MayGain (stem_of account.now uid.now) (D.maildir disk.old) (D.maildir disk.new) }
     ensures takes { WhereAllSound W.sound W.leads_to D.sound F.sound client.old.wire.now client.new.wire.now disk.old disk.new
         ledger.old.file ledger.new.file (TakesTask (AsFiles account.now) (stores number uid.now)
         (scene (place_of W.Wire client.old) (in_maildir (D.maildir disk.old)) (F.stored ledger.old.file) ledger.old.seen.rows

@@ -5,14 +5,14 @@ use Rattle.folder_drop.specs.declared.folders_look.FoldersLook.{FoldersLook}
 
 -- at the time of a look a folder's last change was more than two seconds old, so that any change after the
 -- look gives it another time
-abbrev pub IsSettled : ChangeTime → ℕ → Type 0
-IsSettled change at = change.seconds < at - 2
+abbrev pub IsAtRest : ChangeTime → ℕ → Type 0
+IsAtRest change at = change.seconds < at - 2
 
 -- a listing after the later look would find the same names as one after the earlier look: both folders were
 -- settled and haven't changed since; and the later look is less than an hour later
-pub record Stands (earlier later : FoldersLook) : Type 0 where
-  pub new_settled : IsSettled earlier.new earlier.at
-  pub cur_settled : IsSettled earlier.cur earlier.at
+pub record IsUnchanged (earlier later : FoldersLook) : Type 0 where
+  pub new_settled : IsAtRest earlier.new earlier.at
+  pub cur_settled : IsAtRest earlier.cur earlier.at
   pub new_same : later.new ≡ earlier.new
   pub cur_same : later.cur ≡ earlier.cur
   pub behind : earlier.at ≤ later.at

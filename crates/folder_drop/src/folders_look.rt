@@ -1,7 +1,7 @@
 //! When the folders of a Maildir were last changed, and how long an earlier listing of them stays valid.
 ghost use Rattle.std.specs.Prelude.{◌≡◌, ◌↔◌, IsTrue};
 ghost use Rattle.folder_drop.specs.declared.folders_look.FoldersLook.{FoldersLook};
-ghost use Rattle.folder_drop.specs.FoldersLook.{Stands};
+ghost use Rattle.folder_drop.specs.FoldersLook.{IsUnchanged};
 
 use folder_store::ChangeTime;
 
@@ -24,7 +24,7 @@ pub struct FoldersLook {
 impl FoldersLook {
     /// No look: no listing is valid after it.
     pub fn none() -> FoldersLook
-        ensures { (later : FoldersLook) → Stands result later → ⊥ }
+        ensures { (later : FoldersLook) → IsUnchanged result later → ⊥ }
     {
         let never = ChangeTime {
             seconds: 0,
@@ -40,7 +40,7 @@ impl FoldersLook {
     /// Whether a listing that was made after this look is still valid at a later look: the folders were
     /// settled and haven't changed since, and the listing isn't too old.
     pub fn stands_at(&self, later: &FoldersLook) -> bool
-        ensures { IsTrue result ↔ Stands self.now later.now }
+        ensures { IsTrue result ↔ IsUnchanged self.now later.now }
     {
         let settled = self.at.saturating_sub(SETTLED_SECONDS);
         self.new.seconds < settled

@@ -2,7 +2,7 @@
 ghost use Rattle.std.specs.Prelude.{◌≡◌, [], IsTrue, IfSome, IfOk, map};
 ghost use Rattle.std.specs.String.{string_bytes};
 ghost use Rattle.folder_drop.specs.declared.folders_look.FoldersLook.{FoldersLook};
-ghost use Rattle.folder_drop.specs.FoldersLook.{Stands};
+ghost use Rattle.folder_drop.specs.FoldersLook.{IsUnchanged};
 ghost use Rattle.folder_drop.specs.ListedFiles.{WasCounted, found_place, listed_place};
 
 use crate::folders_look::FoldersLook;
@@ -108,7 +108,7 @@ impl Listing {
     /// No listing; it is never valid.
     pub fn none(alloc: Global) -> Listing
         ensures files { result.files.items ≡ [] }
-        ensures never { (later : FoldersLook) → Stands result.look later → ⊥ }
+        ensures never { (later : FoldersLook) → IsUnchanged result.look later → ⊥ }
     {
         Listing {
             look: FoldersLook::none(),

@@ -12,7 +12,7 @@ use Rattle.mail_store.specs.Power.{LastsWhole, LeavesEither, LeavesPart}
 use Rattle.mail_store.specs.Settling.{block_size, is_lost, MayBeLeft}
 use Rattle.folder_store.specs.FileFolder.{Directory, Entry, Blob, Older, entry, find, appended, cut, flushed, doubted, secured, content_in, content_at, FlushesFile, FlushesNames}
 use Rattle.folder_store.specs.HostFile.{Holds, MayBeFlushed, IsSoFar, IsPartAppended, AppendsFlushed, CutsFlushed, ReplacesFlushed}
-use Rattle.folder_store.specs.PowerLoss.{IsZeroFrom, IsByteLeft, IsTorn, Loses, IsLeftOf, WasOnce, MayBe, IsFlushed, IsSure, IsOnDisk, IsKnown, DiskStands, DiskIsKnown, PowerLeaves, AppendsForGood, CutsForGood, ReplacesForGood}
+use Rattle.folder_store.specs.PowerLoss.{IsZeroFrom, IsByteLeft, IsTorn, Loses, IsLeftOf, WasOnce, MayBe, IsFlushed, IsSure, IsOnDisk, IsKnown, DiskIsLeft, DiskIsKnown, PowerLeaves, AppendsForGood, CutsForGood, ReplacesForGood}
 use Rattle.folder_store.proofs.Files.{content_is, find_here, find_later, holds_changed}
 use Rattle.folder_store.proofs.Leaving.{no_rest, left_of, flushed_sure, may_held, appends_longer, cuts_front}
 
@@ -328,7 +328,7 @@ disk_is_known is_flushed d name is = record { sure = flushed_is_sure (find name 
 
 -- ---- the laws
 
-pub disk_stands : DiskStands
+pub disk_stands : DiskIsLeft
 disk_stands d name h = λ left may. left_flushed (find name d.entries) left h.flushed (left_named d name left h.named may)
 
 -- what is on the disk is known to be there, and a loss of power leaves exactly that

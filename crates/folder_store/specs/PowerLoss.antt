@@ -69,12 +69,12 @@ pub record Loses (old new : Directory) : Type 0 where
   pub made : new.made ≡ None
 
 -- a loss of power leaves this under the name, and nothing else
-abbrev pub Stands : Directory → List ℕ → Option (List ℕ) → Type 0
-Stands d name bytes = (left : Option (List ℕ)) → MayBe d name left → left ≡ bytes
+abbrev pub LeavesOnly : Directory → List ℕ → Option (List ℕ) → Type 0
+LeavesOnly d name bytes = (left : Option (List ℕ)) → MayBe d name left → left ≡ bytes
 
 -- what calls see under the name outlives a loss of power
-abbrev pub DiskStands : Type 0
-DiskStands = (d : Directory) (name : List ℕ) → IsOnDisk d name → Stands d name (content_at d name)
+abbrev pub DiskIsLeft : Type 0
+DiskIsLeft = (d : Directory) (name : List ℕ) → IsOnDisk d name → LeavesOnly d name (content_at d name)
 
 -- a loss of power leaves one of these under the name, and each of them may be what it leaves
 abbrev pub PowerLeaves : Type 0

@@ -2,7 +2,7 @@
 //! the law.
 
 ghost use Rattle.std.specs.Prelude.{List};
-ghost use Rattle.folder_store.specs.PowerLoss.{DiskIsKnown, DiskStands, PowerLeaves};
+ghost use Rattle.folder_store.specs.PowerLoss.{DiskIsKnown, DiskIsLeft, PowerLeaves};
 ghost use Rattle.folder_store.specs.HostFile.{AppendsLast, CutsLast, ReplacesLast};
 ghost use Rattle.folder_store.specs.MailCalls.{BothBring, MadeBringsNone};
 ghost use Rattle.folder_store.specs.MailCalls.{SettlingKeepsFlushed, TellingKeepsFlushed, WritingKeepsFlushed};
@@ -12,7 +12,7 @@ ghost use Rattle.folder_store.specs.MailPower.{LeftMailIsOnDisk, MailCanLosePowe
 
 /// A loss of power leaves what calls see under a name whose file is on the disk.
 pub fn disk_stands()
-    ensures { DiskStands }
+    ensures { DiskIsLeft }
 {}
 
 /// What may be left under a name is exactly what a loss of power may leave there.

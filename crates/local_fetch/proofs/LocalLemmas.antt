@@ -21,7 +21,7 @@ use Rattle.fetch_session.specs.declared.report.Outcome.{Outcome}
 use Rattle.fetch_session.specs.declared.report.Outcome.TheVariants.{Ended, Cut as WasCut}
 use Rattle.fetch_session.specs.Refusal.{RefusesByOutcome}
 use Rattle.fetch_session.specs.declared.report.Report.{Report}
-use Rattle.fetch_session.specs.Session.{Kept, MboxKept, Session, MboxSession}
+use Rattle.fetch_session.specs.Session.{AccountFiles, MboxAccountFiles, Session, MboxSession}
 use Rattle.fetch_runs.specs.Conversations.{Opens, SpeaksByPlan, SessionsAreConversations, FollowsPlan, MboxSessionsFollowPlans}
 use Rattle.pop3_server.specs.Maildrop.{Mail, there}
 use Rattle.pop3_server.specs.ServerMachine.{Machine}
@@ -136,7 +136,7 @@ vanishing before marks after machine commands gone (inr quits) =
     record { vanished = more.ids; quits = inr quits; marked = more.marked; left = more.left }
 
 -- what was sent follows a plan
-follows : (settings : Settings) (account : List ℕ) (now : ℕ) (before : Kept) (report : Report) (sent got : List ℕ) → Opens settings report sent got ⊎ SpeaksByPlan settings account now before report sent got
+follows : (settings : Settings) (account : List ℕ) (now : ℕ) (before : AccountFiles) (report : Report) (sent got : List ℕ) → Opens settings report sent got ⊎ SpeaksByPlan settings account now before report sent got
     → FollowsPlan settings sent
 follows settings account now before report sent got (inl said) = record { steps = []; commands = said.commands; asked = said.asked; front = said.front }
 follows settings account now before report sent got (inr said) = record { steps = planned settings said.rows said.items now; commands = said.commands; asked = said.asked; front = said.front }
@@ -173,7 +173,7 @@ module _ {M : Type 0} (sound : M → Type 0) (mail : M → Mail) (honesty : Give
       (from_new (Made unused) settings server loop (sends made) is_new (subst (λ (l : Loop M). Serves sound mail l loop) first serves) made
       (subst (λ (m : Machine M). sound m.drop) last sound') messages)
 
-  pub fetches : SessionsAreConversations → (settings : Settings) (account : List ℕ) (now : ℕ) (server new : Machine M) (start loop : Loop M) (before : Kept) (report : Report) (after : Kept)
+  pub fetches : SessionsAreConversations → (settings : Settings) (account : List ℕ) (now : ℕ) (server new : Machine M) (start loop : Loop M) (before : AccountFiles) (report : Report) (after : AccountFiles)
       → start ≡ loop_to server → new ≡ loop.machine → IsNew (loop_to server) → IsValid settings → Serves sound mail start loop
       → Session settings account now start.link before report loop.link after → sound new.drop
       → AllByRecursion IsMessage (there (mail server.drop).slots) → FetchesFrom mail settings account now server new loop.link before report after
@@ -183,7 +183,7 @@ module _ {M : Type 0} (sound : M → Type 0) (mail : M → Mail) (honesty : Give
       sends : Session settings account now unused before report loop.link after → Sends settings loop.link
       sends session = let said = conversations settings account now unused before report loop.link after valid session in (said.0, said.2, follows settings account now before report said.0 said.1 said.4)
 
-  pub mbox_fetches : MboxSessionsFollowPlans → (settings : Settings) (now : ℕ) (server new : Machine M) (start loop : Loop M) (before : MboxKept) (report : Report) (after : MboxKept)
+  pub mbox_fetches : MboxSessionsFollowPlans → (settings : Settings) (now : ℕ) (server new : Machine M) (start loop : Loop M) (before : MboxAccountFiles) (report : Report) (after : MboxAccountFiles)
       → start ≡ loop_to server → new ≡ loop.machine → IsNew (loop_to server) → IsValid settings → Serves sound mail start loop
       → MboxSession settings now start.link before report loop.link after → sound new.drop
       → AllByRecursion IsMessage (there (mail server.drop).slots) → MboxFetchesFrom mail settings now server new loop.link before report after
@@ -205,12 +205,12 @@ pub are_sessions : {M : Type 0} (mail : M → Mail) → AreSessions mail
 are_sessions mail world state settings now come old new link report after are local drop = record {
   settings = are;
   session = local.session;
-  served = served mail (Session settings (digits_of settings) now unused state.kept report link after) (maildrop_of world.all come state.gone) old new link local drop;
+  served = served mail (Session settings (digits_of settings) now unused state.account report link after) (maildrop_of world.all come state.gone) old new link local drop;
 }
 
 pub are_mbox_sessions : {M : Type 0} (mail : M → Mail) → AreMboxSessions mail
 are_mbox_sessions mail world state settings now come old new link report after are local drop = record {
   settings = are;
   session = local.session;
-  served = served mail (MboxSession settings now unused state.kept report link after) (maildrop_of world.all come state.gone) old new link local drop;
+  served = served mail (MboxSession settings now unused state.account report link after) (maildrop_of world.all come state.gone) old new link local drop;
 }

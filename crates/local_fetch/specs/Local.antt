@@ -9,7 +9,7 @@ use Rattle.pop3_server.specs.ServerMachine.{Machine, greeting}
 use Rattle.pop3_server.specs.LoopLink.{Loop}
 use Rattle.fetch_session.specs.Account.{digits_of}
 use Rattle.fetch_session.specs.declared.report.Report.{Report}
-use Rattle.fetch_session.specs.Session.{Kept, MboxKept, Session, MboxSession}
+use Rattle.fetch_session.specs.Session.{AccountFiles, MboxAccountFiles, Session, MboxSession}
 use Rattle.fetch_runs.specs.Headline.{AreSettings, IsSession}
 use Rattle.fetch_runs.specs.MboxHeadline.{AreSettings as AreMboxSettings, IsMboxSession}
 use Rattle.run_law.specs.MboxRuns.{MboxState, MboxWorld}
@@ -38,21 +38,23 @@ pub record FetchesBy {M : Type 0} (mail : M → Mail) (Made : Type 0) (old new :
   pub left : AreWithout (there (mail old.drop).slots) vanished (there (mail new.drop).slots)
 
 -- a session of an account with a Maildir
-abbrev pub FetchesFrom : {M : Type 0} → (M → Mail) → Settings → List ℕ → ℕ → Machine M → Machine M → Link → Kept → Report → Kept → Type 0
+abbrev pub FetchesFrom : {M : Type 0} → (M → Mail) → Settings → List ℕ → ℕ → Machine M → Machine M → Link → AccountFiles → Report
+    → AccountFiles → Type 0
 FetchesFrom mail settings account now old new link before report after =
     FetchesBy mail (Session settings account now unused before report link after) old new link
 
 -- a session of an account with an mboxrd file
-abbrev pub MboxFetchesFrom : {M : Type 0} → (M → Mail) → Settings → ℕ → Machine M → Machine M → Link → MboxKept → Report → MboxKept → Type 0
+abbrev pub MboxFetchesFrom : {M : Type 0} → (M → Mail) → Settings → ℕ → Machine M → Machine M → Link → MboxAccountFiles → Report
+    → MboxAccountFiles → Type 0
 MboxFetchesFrom mail settings now old new link before report after =
     FetchesBy mail (MboxSession settings now unused before report link after) old new link
 
 -- a law: over the maildrop of a world, such a session is one that the headline is about
 abbrev pub AreSessions : {M : Type 0} → (M → Mail) → Type 0
-AreSessions {M} mail = (world : World) (state : State Kept) (settings : Settings) (now come : ℕ)
-    (old new : Machine M) (link : Link) (report : Report) (after : Kept)
+AreSessions {M} mail = (world : World) (state : State AccountFiles) (settings : Settings) (now come : ℕ)
+    (old new : Machine M) (link : Link) (report : Report) (after : AccountFiles)
     → AreSettings world settings
-    → (local : FetchesFrom mail settings (digits_of settings) now old new link state.kept report after)
+    → (local : FetchesFrom mail settings (digits_of settings) now old new link state.account report after)
     → there (mail old.drop).slots ≡ maildrop_of world.all come state.gone
     → IsSession world state (record {
       settings = settings;
@@ -67,10 +69,10 @@ AreSessions {M} mail = (world : World) (state : State Kept) (settings : Settings
 
 -- a law: with an mboxrd file, such a session is one that the second headline is about
 abbrev pub AreMboxSessions : {M : Type 0} → (M → Mail) → Type 0
-AreMboxSessions {M} mail = (world : MboxWorld) (state : MboxState MboxKept) (settings : Settings) (now come : ℕ)
-    (old new : Machine M) (link : Link) (report : Report) (after : MboxKept)
+AreMboxSessions {M} mail = (world : MboxWorld) (state : MboxState MboxAccountFiles) (settings : Settings) (now come : ℕ)
+    (old new : Machine M) (link : Link) (report : Report) (after : MboxAccountFiles)
     → AreMboxSettings world settings
-    → (local : MboxFetchesFrom mail settings now old new link state.kept report after)
+    → (local : MboxFetchesFrom mail settings now old new link state.account report after)
     → there (mail old.drop).slots ≡ maildrop_of world.all come state.gone
     → IsMboxSession world state (record {
       settings = settings;

@@ -6,7 +6,7 @@ ghost use Rattle.pop3_server.specs.Maildrop.{there};
 ghost use Rattle.pop3_server.specs.HonestLoop.{IsNew};
 ghost use Rattle.mail_store.specs.Maildir.{AfterTaking};
 ghost use Rattle.fetch_session.specs.Account.{digits_of};
-ghost use Rattle.fetch_session.specs.Session.{kept, mbox_kept};
+ghost use Rattle.fetch_session.specs.Session.{account_files, mbox_account_files};
 ghost use Rattle.fetch_session.specs.Target.{IsSoundMaildir, IsSoundMbox, maildir_of, mbox_of};
 ghost use Rattle.local_fetch.specs.Local.{FetchesFrom, MboxFetchesFrom, loop_to};
 
@@ -35,14 +35,14 @@ pub fn fetch_local<D: MaildirDisk, F: FlatFile, H: BuildHasher, M: Maildrop>(
         → AllByRecursion IsMessage (there (M.mail server.drop).slots)
         → IsSoundMaildir D.MaildirDisk account.old.store × F.sound account.old.file
         × AfterTaking (maildir_of D.MaildirDisk account.old.store) (λ left. FetchesFrom M.mail account.old.settings
-        (digits_of account.old.settings) now server result.1.machine result.1.link (kept left (F.stored account.old.file)) result.0
-        (kept (maildir_of D.MaildirDisk account.new.store) (F.stored account.new.file))) }
+        (digits_of account.old.settings) now server result.1.machine result.1.link (account_files left (F.stored account.old.file)) result.0
+        (account_files (maildir_of D.MaildirDisk account.new.store) (F.stored account.new.file))) }
     ensures mbox_fetches { IsSoundMbox F.FlatFile account.new.store → F.sound account.new.file → M.sound result.1.machine.drop
         → AllByRecursion IsMessage (there (M.mail server.drop).slots)
         → IsSoundMbox F.FlatFile account.old.store × F.sound account.old.file
         × MboxFetchesFrom M.mail account.old.settings now server result.1.machine result.1.link
-        (mbox_kept (mbox_of F.FlatFile account.old.store) (F.stored account.old.file)) result.0
-        (mbox_kept (mbox_of F.FlatFile account.new.store) (F.stored account.new.file)) }
+        (mbox_account_files (mbox_of F.FlatFile account.old.store) (F.stored account.old.file)) result.0
+        (mbox_account_files (mbox_of F.FlatFile account.new.store) (F.stored account.new.file)) }
 {
     sessions_are_conversations();
     mbox_sessions_follow_plans();

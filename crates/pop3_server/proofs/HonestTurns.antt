@@ -34,10 +34,10 @@ pub record Laws : Type 0 where
   pub read : ReadAsWritten
 
 -- the server's state with these messages, if these are marked
-abbrev pub Stands : List Message → State → Mail → List Bool → Type 0
-Stands ms (Authorization kept) mail marks = (there mail.slots ≡ ms) × (marks ≡ no_marks ms)
-Stands ms (Transaction rows) mail marks = (mail.slots ≡ map Some ms) × (length marks ≡ length ms) × (rows ≡ rows_with ms marks) × AreServed ms
-Stands ms Closed mail marks = AreLeft ms marks (there mail.slots)
+abbrev pub IsStateWith : List Message → State → Mail → List Bool → Type 0
+IsStateWith ms (Authorization kept) mail marks = (there mail.slots ≡ ms) × (marks ≡ no_marks ms)
+IsStateWith ms (Transaction rows) mail marks = (mail.slots ≡ map Some ms) × (length marks ≡ length ms) × (rows ≡ rows_with ms marks) × AreServed ms
+IsStateWith ms Closed mail marks = AreLeft ms marks (there mail.slots)
 
 -- a text that ends in LF stays as it is
 ended_stays : (front : List ℕ) → whole_text (front ++ 10 ∷ []) ≡ front ++ 10 ∷ []
@@ -51,22 +51,22 @@ whole_stays text (inr (front, is)) = subst (λ (t : List ℕ). whole_text t ≡ 
 
 -- an honest reply, after which the server is in that state
 abbrev pub Replied : List Message → List Bool → Command → List ℕ → State → Mail → Type 0
-Replied ms marks c answer next mail = (after : List Bool) × Reply ms marks c answer after × Stands ms next mail after
+Replied ms marks c answer next mail = (after : List Bool) × Reply ms marks c answer after × IsStateWith ms next mail after
 
 -- a line that says no, and nothing changes
 says_no : Laws → {D : Type 0} (mail : D → Mail) (ms : List Message) (marks : List Bool) (c : Command) (old : D) (answer after : List ℕ) (state next : State) (new : D)
-    → (answer ≡ said (codes "-ERR" ++ after)) × (next ≡ state) × (new ≡ old) → HoldsNoLf after → Stands ms state (mail old) marks → Replied ms marks c answer next (mail new)
+    → (answer ≡ said (codes "-ERR" ++ after)) × (next ≡ state) × (new ≡ old) → HoldsNoLf after → IsStateWith ms state (mail old) marks → Replied ms marks c answer next (mail new)
 says_no laws mail ms marks c old answer after state next new does none stands =
-    (marks, refused laws.written ms marks c answer after does.0 none, subst (λ (s : State). Stands ms s (mail new) marks) (sym does.1) (subst (λ d. Stands ms state (mail d) marks) (sym does.2) stands))
+    (marks, refused laws.written ms marks c answer after does.0 none, subst (λ (s : State). IsStateWith ms s (mail new) marks) (sym does.1) (subst (λ d. IsStateWith ms state (mail d) marks) (sym does.2) stands))
 
 -- a line that says yes, if no more is asked for
 says_yes : Laws → {D : Type 0} (mail : D → Mail) (ms : List Message) (marks after_marks : List Bool) (c : Command) (old : D) (answer after : List ℕ) (state next : State) (new : D)
     → (answer ≡ said (codes "+OK" ++ after)) × (next ≡ state) × (new ≡ old) → HoldsNoLf after
-    → (SaysAnything Positive answer → Grants ms marks c answer after_marks) → Stands ms state (mail old) after_marks → Replied ms marks c answer next (mail new)
+    → (SaysAnything Positive answer → Grants ms marks c answer after_marks) → IsStateWith ms state (mail old) after_marks → Replied ms marks c answer next (mail new)
 says_yes laws mail ms marks after_marks c old answer after state next new does none grants stands = (
   after_marks,
   inr (grants (granted laws.written answer after does.0 none)),
-  subst (λ (s : State). Stands ms s (mail new) after_marks) (sym does.1) (subst (λ d. Stands ms state (mail d) after_marks) (sym does.2) stands),
+  subst (λ (s : State). IsStateWith ms s (mail new) after_marks) (sym does.1) (subst (λ d. IsStateWith ms state (mail d) after_marks) (sym does.2) stands),
 )
 
 -- ---- AUTHORIZATION
@@ -77,7 +77,7 @@ opened laws sound mail ms word old answer next new messages same s (inl (is, sta
     let drop = (known s).1 in (
       no_marks ms,
       refused laws.written ms (no_marks ms) (Pass word) answer (codes " maildrop unavailable") is refl,
-      subst (λ (st : State). Stands ms st (mail new) (no_marks ms)) (sym state) (ap (λ (m : Mail). there m.slots) drop ∙ same, refl),
+      subst (λ (st : State). IsStateWith ms st (mail new) (no_marks ms)) (sym state) (ap (λ (m : Mail). there m.slots) drop ∙ same, refl),
     )
 opened laws sound mail ms word old answer next new messages same s (inr (rows, limits, is, state, known)) =
     let drop = (known s).1 in
@@ -87,7 +87,7 @@ opened laws sound mail ms word old answer next new messages same s (inr (rows, l
     let none : HoldsNoLf ((32 ∷ decimal (length rows)) ++ codes " messages") = no_lf_append (32 ∷ decimal (length rows)) (codes " messages") (no_lf_append (32 ∷ []) (decimal (length rows)) refl digits) refl in (
       no_marks ms,
       inr (granted laws.written answer ((32 ∷ decimal (length rows)) ++ codes " messages") is none, refl),
-      subst (λ (st : State). Stands ms st (mail new) (no_marks ms)) (sym state)
+      subst (λ (st : State). IsStateWith ms st (mail new) (no_marks ms)) (sym state)
           (ap (λ (m : Mail). m.slots) drop.0 ∙ ap (map Some) same, length-map ms (λ _. false), same_rows ∙ fresh_rows ms, are_served ms rows messages limits same_rows),
     )
 
@@ -129,7 +129,7 @@ made_rows : (ms : List Message) (marks : List Bool) (mail : Mail) → mail.slots
 unfolding InRows
 made_rows ms marks mail a b served = (a, b, served)
 
-stands_in : (ms : List Message) (marks : List Bool) (mail : Mail) → InRows ms marks mail → Stands ms (Transaction (rows_with ms marks)) mail marks
+stands_in : (ms : List Message) (marks : List Bool) (mail : Mail) → InRows ms marks mail → IsStateWith ms (Transaction (rows_with ms marks)) mail marks
 unfolding InRows
 stands_in ms marks mail h = (h.0, h.1, refl, h.2)
 
@@ -157,7 +157,7 @@ module _ (laws : Laws) where
       let drop = (known s).1 in (
         marks,
         refused laws.written ms marks (Retr k) answer (codes " message unavailable") is refl,
-        subst (λ (st : State). Stands ms st (mail new) marks) (sym state) (ap (λ (x : Mail). x.slots) drop ∙ rows.0, rows.1, refl, rows.2),
+        subst (λ (st : State). IsStateWith ms st (mail new) marks) (sym state) (ap (λ (x : Mail). x.slots) drop ∙ rows.0, rows.1, refl, rows.2),
       )
   gave sound mail ms marks k m old answer next new served rows s at (state, inr (text, is, known)) =
       let drop = (known s).1 in
@@ -179,16 +179,16 @@ module _ (laws : Laws) where
           body,
           refl,
         ),
-        subst (λ (st : State). Stands ms st (mail new) marks) (sym state) (ap (λ (x : Mail). x.slots) drop.0 ∙ rows.0, rows.1, refl, rows.2),
+        subst (λ (st : State). IsStateWith ms st (mail new) marks) (sym state) (ap (λ (x : Mail). x.slots) drop.0 ∙ rows.0, rows.1, refl, rows.2),
       )
 
   left : {D : Type 0} (sound : D → Type 0) (mail : D → Mail) (ms : List Message) (marks : List Bool) (old : D) (answer : List ℕ) (next : State) (new : D)
       → InRows ms marks (mail old) → sound new → (next ≡ Closed) × RemovesMarked sound mail (rows_with ms marks) old answer new → Replied ms marks Quit answer next (mail new)
   unfolding InRows
   left sound mail ms marks old answer next new rows s (state, (true, is, known)) =
-      (marks, inr (granted laws.written answer (codes " bye") is refl, refl), subst (λ (st : State). Stands ms st (mail new) marks) (sym state) (left_by_quit ms marks (mail old) (mail new) true rows.1 rows.0 (known s).1))
+      (marks, inr (granted laws.written answer (codes " bye") is refl, refl), subst (λ (st : State). IsStateWith ms st (mail new) marks) (sym state) (left_by_quit ms marks (mail old) (mail new) true rows.1 rows.0 (known s).1))
   left sound mail ms marks old answer next new rows s (state, (false, is, known)) =
-      (marks, refused laws.written ms marks Quit answer (codes " some messages not removed") is refl, subst (λ (st : State). Stands ms st (mail new) marks) (sym state) (left_by_quit ms marks (mail old) (mail new) false rows.1 rows.0 (known s).1))
+      (marks, refused laws.written ms marks Quit answer (codes " some messages not removed") is refl, subst (λ (st : State). IsStateWith ms st (mail new) marks) (sym state) (left_by_quit ms marks (mail old) (mail new) false rows.1 rows.0 (known s).1))
 
   abbrev counted_with : ℕ → ℕ → Result (ℕ × ℕ) WireFault
   counted_with total count = Ok (count, total)
@@ -220,7 +220,7 @@ module _ (laws : Laws) where
           (laws.written.scan (left_count (rows_with ms marks)) (left_total (rows_with ms marks)) small (omega arith)).1 ∙ ap (counted_with (left_total (rows_with ms marks))) count,
           refl,
         ),
-        subst (λ (st : State). Stands ms st (mail new) marks) (sym does.1) (subst (λ d. Stands ms (Transaction (rows_with ms marks)) (mail d) marks) (sym does.2) (stands_in ms marks (mail old) rows)),
+        subst (λ (st : State). IsStateWith ms st (mail new) marks) (sym does.1) (subst (λ d. IsStateWith ms (Transaction (rows_with ms marks)) (mail d) marks) (sym does.2) (stands_in ms marks (mail old) rows)),
       )
 
   -- DELE of an unmarked message
@@ -234,7 +234,7 @@ module _ (laws : Laws) where
 
   -- RSET
   cleared : {D : Type 0} (sound : D → Type 0) (mail : D → Mail) (ms : List Message) (marks : List Bool) (old : D)
-      → InRows ms marks (mail old) → Stands ms (Transaction (map unmarked (rows_with ms marks))) (mail old) (map (λ _. false) marks)
+      → InRows ms marks (mail old) → IsStateWith ms (Transaction (map unmarked (rows_with ms marks))) (mail old) (map (λ _. false) marks)
   unfolding InRows
   cleared sound mail ms marks old rows = (rows.0, length-map marks (λ _. false) ∙ rows.1, cleared_rows ms marks, rows.2)
 
@@ -248,13 +248,13 @@ module _ (laws : Laws) where
   in_trans sound mail ms marks UidlAll old answer next new served rows s asked does = (
     marks,
     inr (lists_all laws.written uid_line IsUidRow (uid_rows laws.written) ms marks answer served does.0),
-    subst (λ (st : State). Stands ms st (mail new) marks) (sym does.1) (subst (λ d. Stands ms (Transaction (rows_with ms marks)) (mail d) marks) (sym does.2) (stands_in ms marks (mail old) rows)),
+    subst (λ (st : State). IsStateWith ms st (mail new) marks) (sym does.1) (subst (λ d. IsStateWith ms (Transaction (rows_with ms marks)) (mail d) marks) (sym does.2) (stands_in ms marks (mail old) rows)),
   )
   in_trans sound mail ms marks (UidlOne n) old answer next new served rows s asked does = absurd asked
   in_trans sound mail ms marks ListAll old answer next new served rows s asked does = (
     marks,
     inr (lists_all laws.written scan_line IsScanRow (scan_rows laws.written) ms marks answer served does.0),
-    subst (λ (st : State). Stands ms st (mail new) marks) (sym does.1) (subst (λ d. Stands ms (Transaction (rows_with ms marks)) (mail d) marks) (sym does.2) (stands_in ms marks (mail old) rows)),
+    subst (λ (st : State). IsStateWith ms st (mail new) marks) (sym does.1) (subst (λ d. IsStateWith ms (Transaction (rows_with ms marks)) (mail d) marks) (sym does.2) (stands_in ms marks (mail old) rows)),
   )
   in_trans sound mail ms marks (ListOne n) old answer next new served rows s asked does = absurd asked
   in_trans sound mail ms marks (Retr k) old answer next new served rows s asked does = elim (found ms marks k) [
@@ -280,7 +280,7 @@ module _ (laws : Laws) where
   -- ---- all answers in order
 
   replied : {D : Type 0} (sound : D → Type 0) (mail : D → Mail) (ms : List Message) (marks : List Bool) (user pass : List ℕ) (state : State) (c : Command) (old : D) (answer : List ℕ) (next : State) (new : D)
-      → AllByRecursion IsMessage ms → is_open state ≡ true → Stands ms state (mail old) marks → sound new → IsOfSession c → Does sound mail (action_of user pass state (Ok c)) old answer next new → Replied ms marks c answer next (mail new)
+      → AllByRecursion IsMessage ms → is_open state ≡ true → IsStateWith ms state (mail old) marks → sound new → IsOfSession c → Does sound mail (action_of user pass state (Ok c)) old answer next new → Replied ms marks c answer next (mail new)
   replied sound mail ms marks user pass (Authorization kept) c old answer next new messages opened stands s asked does =
       subst (λ (bs : List Bool). Replied ms bs c answer next (mail new)) (sym stands.1) (in_auth laws sound mail ms user pass kept c old answer next new messages stands.0 s asked does)
   replied sound mail ms marks user pass (Transaction rows) c old answer next new messages opened stands s asked does =
@@ -302,10 +302,10 @@ module _ (laws : Laws) where
       did_sound sound mail _ old.drop first next.state next.drop turn.answers.does (run_sound sound mail next new lines rest run s)
 
   all_replied : {D : Type 0} (sound : D → Type 0) (mail : D → Mail) (ms : List Message) (marks : List Bool) (commands : List Command) (old new : Machine D) (answers : List ℕ)
-      → AllByRecursion IsMessage ms → AllByRecursion IsAsked commands → AnswersLines sound mail old (lines_of commands) answers new → sound new.drop → Stands ms old.state (mail old.drop) marks
-      → (last : List Bool) × Replies ms marks commands answers last × Stands ms new.state (mail new.drop) last
+      → AllByRecursion IsMessage ms → AllByRecursion IsAsked commands → AnswersLines sound mail old (lines_of commands) answers new → sound new.drop → IsStateWith ms old.state (mail old.drop) marks
+      → (last : List Bool) × Replies ms marks commands answers last × IsStateWith ms new.state (mail new.drop) last
   all_replied sound mail ms marks [] old new answers messages asked run s stands =
-      (marks, (run.0, refl), subst (λ (m : Machine _). Stands ms m.state (mail m.drop) marks) (sym run.1) stands)
+      (marks, (run.0, refl), subst (λ (m : Machine _). IsStateWith ms m.state (mail m.drop) marks) (sym run.1) stands)
   all_replied sound mail ms marks (c ∷ commands) old new answers messages asked (first, rest, next, is, turn, run) s stands =
       let sound_next = run_sound sound mail next new (lines_of commands) rest run s in
       let does = subst (λ (r : Result Command WireFault). Does sound mail (action_of old.user old.pass old.state r) old.drop first next.state next.drop) (laws.read c asked.0.numbers asked.0.sendable) turn.answers.does in
@@ -313,7 +313,7 @@ module _ (laws : Laws) where
       let more = all_replied sound mail ms one.0 commands next new rest messages asked.1 run s one.2 in
       (more.0, (first, rest, one.0, is, one.1, more.1), more.2)
 
-  gone_at : (ms : List Message) (marks : List Bool) (state : State) (mail : Mail) → Stands ms state mail marks → Gone ms marks state (there mail.slots)
+  gone_at : (ms : List Message) (marks : List Bool) (state : State) (mail : Mail) → IsStateWith ms state mail marks → Gone ms marks state (there mail.slots)
   gone_at ms marks (Authorization kept) mail stands =
       record { left = subst (AreLeft ms marks) (sym stands.0) (none_gone ms marks (ap length stands.1 ∙ length-map ms (λ _. false))); before_quit = λ _. stands.0 }
   gone_at ms marks (Transaction rows) mail stands =
@@ -331,7 +331,7 @@ module _ (laws : Laws) where
 
   pub answers_honestly : {D : Type 0} (sound : D → Type 0) (mail : D → Mail) → AnswersHonestly sound mail
   answers_honestly sound mail old new commands answers state asked run s messages =
-      let stands = subst (λ (st : State). Stands (there (mail old.drop).slots) st (mail old.drop) (no_marks (there (mail old.drop).slots))) (sym state) (refl, refl) in
+      let stands = subst (λ (st : State). IsStateWith (there (mail old.drop).slots) st (mail old.drop) (no_marks (there (mail old.drop).slots))) (sym state) (refl, refl) in
       let all = all_replied sound mail (there (mail old.drop).slots) (no_marks (there (mail old.drop).slots)) commands old new answers messages asked run s stands in
       (all.0, all.1, gone_at (there (mail old.drop).slots) all.0 new.state (mail new.drop) all.2)
 

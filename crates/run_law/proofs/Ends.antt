@@ -12,10 +12,10 @@ use Rattle.mail_store.specs.Held.{flags_of}
 use Rattle.mail_terms.specs.Listing.{Item}
 use Rattle.mail_terms.specs.UniqueId.{has_id}
 use Rattle.run_law.specs.Mails.{listing_of}
-use Rattle.run_law.specs.Accounts.{Account}
+use Rattle.run_law.specs.Accounts.{AccountMail}
 use Rattle.run_law.specs.Steps.{Effect, Stores, IsHonest, AreTexts, ids_wanted, file_for, is_unheld}
 use Rattle.run_law.specs.Runs.{CanEnd}
-use Rattle.run_law.specs.Mboxes.{MboxAccount, settled, none_held, entries, MboxStores}
+use Rattle.run_law.specs.Mboxes.{MboxMail, settled, none_held, entries, MboxStores}
 use Rattle.run_law.specs.MboxRuns.{MboxCanEnd}
 use Rattle.run_law.proofs.Ids.{distinct_is, distinct_filter, distinct_take}
 use Rattle.run_law.proofs.Wants.{num_item, wants_by_number, wanted_are, wants_placed, Placed}
@@ -52,17 +52,17 @@ can_fetch filtered all sound come gone now settings rows = record {
 pub can_end : DistinctAreFiltered → CanEnd
 can_end filtered world before settings come now is same =
     let here : List Message = maildrop_of world.all come before.gone in
-    let rows : List Row = merged before.kept.rows (listing_of here) (flags_of world.account before.kept.maildir (listing_of here)) now in
+    let rows : List Row = merged before.account.rows (listing_of here) (flags_of world.account before.account.maildir (listing_of here)) now in
     let wants : List (ℕ × Item) = wanted settings rows (listing_of here) in
     let effect : Effect = all_fetched now settings rows here in
     let n : ℕ = length effect.texts in
     let can = can_fetch filtered world.all is.mail come before.gone now settings rows in
-    let new : List File = map (file_for world.account) (filter (is_unheld world.account before.kept.maildir) (zip (take n wants) effect.texts)) in
-    let after : Account = record {
+    let new : List File = map (file_for world.account) (filter (is_unheld world.account before.account.maildir) (zip (take n wants) effect.texts)) in
+    let after : AccountMail = record {
       rows = marked_all rows (ids_wanted (take n wants));
-      maildir = record before.kept.maildir { files = before.kept.maildir.files ++ new };
+      maildir = record before.account.maildir { files = before.account.maildir.files ++ new };
     } in
-    let stores : Stores settings world.account before.kept effect after = record {
+    let stores : Stores settings world.account before.account effect after = record {
       stored = n;
       recorded = n;
       order = omega arith;
@@ -81,16 +81,16 @@ can_end filtered world before settings come now is same =
 pub mbox_can_end : DistinctAreFiltered → MboxCanEnd
 mbox_can_end filtered world before settings come now sound same only_new =
     let here : List Message = maildrop_of world.all come before.gone in
-    let rows : List Row = merged (settled (listing_of here) before.kept).rows (listing_of here) (none_held (listing_of here)) now in
+    let rows : List Row = merged (settled (listing_of here) before.account).rows (listing_of here) (none_held (listing_of here)) now in
     let effect : Effect = all_fetched now settings rows here in
     let n : ℕ = length effect.texts in
     let can = can_fetch filtered world.all sound come before.gone now settings rows in
-    let after : MboxAccount = record {
+    let after : MboxMail = record {
       rows = marked_all rows (ids_wanted (take n (wanted settings rows (listing_of here))));
       intent = None;
-      file = (settled (listing_of here) before.kept).file ++ entries (take n effect.texts);
+      file = (settled (listing_of here) before.account).file ++ entries (take n effect.texts);
     } in
-    let stores : MboxStores settings before.kept effect after = record {
+    let stores : MboxStores settings before.account effect after = record {
       stored = n;
       fetched = omega arith;
       rows = refl;

@@ -13,20 +13,20 @@ use Rattle.mail_terms.specs.MaildirName.{base}
 use Rattle.mail_store.specs.FileName.{NamesHaveStems, StemsDiffer, mail_file, name_of, names_id, stem, stem_of, is_held, IsAccountText}
 use Rattle.run_law.specs.Mails.{ids_of, texts_of}
 use Rattle.std.proofs.lemmas.List.Elements.{filter-append}
-use Rattle.run_law.specs.Accounts.{Account, files, copies, count_files, IsOther, KeepsOthers}
+use Rattle.run_law.specs.Accounts.{AccountMail, files, copies, count_files, IsOther, KeepsOthers}
 use Rattle.run_law.proofs.Below.{StemsOfBases}
 use Rattle.run_law.proofs.Lists.{any_filter, is_some}
 use Rattle.run_law.proofs.Ids.{bytes_same, bytes_self, has_texts}
 
 -- ---- held
 
-pub held_copies : (account : List ℕ) (state : Account) (id : List ℕ) → is_held account state.maildir id ≡ is_some (copies (files state) (stem_of account id))
+pub held_copies : (account : List ℕ) (state : AccountMail) (id : List ℕ) → is_held account state.maildir id ≡ is_some (copies (files state) (stem_of account id))
 held_copies account state id =
     let p : File → Bool = λ (f : File). names_id account id f.name in
     any_filter p (λ (f : File). f.content) (files state)
 
 -- what is held is what is done
-pub held_done : (account : List ℕ) (state : Account) (done : List Message) (id : List ℕ) → copies (files state) (stem_of account id) ≡ texts_of done id
+pub held_done : (account : List ℕ) (state : AccountMail) (done : List Message) (id : List ℕ) → copies (files state) (stem_of account id) ≡ texts_of done id
     → is_held account state.maildir id ≡ has_id (ids_of done) id
 held_done account state done id e = held_copies account state id ∙ ap is_some e ∙ sym (has_texts done id)
 
@@ -75,7 +75,7 @@ none_counted stems own account (m ∷ ms) name content text other h =
     let apart = not_other stems own account name m.uid (length m.text) text other h.0 in
     grind (arith, apart, none_counted stems own account ms name content text other h.1)
 
-pub deliveries_keep : NamesHaveStems → StemsOfBases → (account : List ℕ) (before after : Account) (ms : List Message) → IsAccountText account
+pub deliveries_keep : NamesHaveStems → StemsOfBases → (account : List ℕ) (before after : AccountMail) (ms : List Message) → IsAccountText account
     → AllByRecursion (λ (m : Message). is_legal_id m.uid ≡ true) ms → files after ≡ files before ++ map (message_file account) ms → KeepsOthers account before after
 deliveries_keep stems own account before after ms text h is name content other = omega (
   arith,

@@ -6,30 +6,30 @@ use Rattle.pop3_wire.specs.World.{Message}
 use Rattle.mail_store.specs.FileName.{is_held, stem_of}
 use Rattle.fetch_rules.specs.Record.{is_delivered}
 use Rattle.run_law.specs.Mails.{ids_of, selected}
-use Rattle.run_law.specs.Accounts.{Account, files, copies}
+use Rattle.run_law.specs.Accounts.{AccountMail, files, copies}
 use Rattle.run_law.specs.Runs.{World, State, HoldsOf, StartsKept}
 use Rattle.run_law.proofs.Lists.{is_some}
 use Rattle.run_law.proofs.Ids.{Distinct, lone}
 use Rattle.run_law.proofs.Files.{held_done, held_copies}
 
-module _ (world : World) (state : State Account) where
+module _ (world : World) (state : State AccountMail) where
   abbrev held : List ℕ → Bool
-  held id = is_held world.account state.kept.maildir id
+  held id = is_held world.account state.account.maildir id
 
   -- no file has the id's stem, so it isn't held
-  pub unheld_if : (id : List ℕ) → copies (files state.kept) (stem_of world.account id) ≡ [] → held id ≡ false
-  unheld_if id none = held_copies world.account state.kept id ∙ ap is_some none
+  pub unheld_if : (id : List ℕ) → copies (files state.account) (stem_of world.account id) ≡ [] → held id ≡ false
+  unheld_if id none = held_copies world.account state.account id ∙ ap is_some none
 
   pub held_is_done : (done : List Message) (id : List ℕ) → HoldsOf world state done id → held id ≡ true → has_id (ids_of done) id ≡ true
-  held_is_done done id (inl e) h = sym (held_done world.account state.kept done id e) ∙ h
+  held_is_done done id (inl e) h = sym (held_done world.account state.account done id e) ∙ h
   held_is_done done id (inr taken) h = absurd (both_ways (held id) (unheld_if id taken.1) h)
 
   pub done_is_held : (done : List Message) (id : List ℕ) → HoldsOf world state done id → has_id (ids_of done) id ≡ true
       → (held id ≡ true) ⊎ (has_id state.taken id ≡ true)
-  done_is_held done id (inl e) h = inl (held_done world.account state.kept done id e ∙ h)
+  done_is_held done id (inl e) h = inl (held_done world.account state.account done id e ∙ h)
   done_is_held done id (inr taken) h = inr taken.0
 
-  pub one_file : (done : List Message) (id : List ℕ) → Distinct (ids_of done) → HoldsOf world state done id → length (copies (files state.kept) (stem_of world.account id)) ≤ 1
+  pub one_file : (done : List Message) (id : List ℕ) → Distinct (ids_of done) → HoldsOf world state done id → length (copies (files state.account) (stem_of world.account id)) ≤ 1
   one_file done id d (inl e) = subst (λ (c : List (List ℕ)). length c ≤ 1) (sym e) (lone done id d)
   one_file done id d (inr taken) = subst (λ (c : List (List ℕ)). length c ≤ 1) (sym taken.1) (omega arith)
 

@@ -8,7 +8,7 @@ use Rattle.pop3_wire.specs.World.{Message}
 use Rattle.fetch_rules.specs.Record.{is_delivered}
 use Rattle.mail_store.specs.FileName.{is_held, stem_of}
 use Rattle.run_law.specs.Mails.{ids_of, selected, texts_of}
-use Rattle.run_law.specs.Accounts.{Account, files, copies, count_files}
+use Rattle.run_law.specs.Accounts.{AccountMail, files, copies, count_files}
 use Rattle.run_law.specs.Steps.{Effect, Leaves}
 use Rattle.run_law.specs.Runs.{World, IsSound, State, Visit, Event, Visited, Between, Expired, Withdrawn, TakenAway, BroughtBack, Forgotten, PowerLost, Visits, Run, HoldsOf, Kept, LeavesMail, after_event, world_after, Promises, KeptStaysKept, KeptHoldsWhatIsLeft, NothingTakenHoldsExactly}
 use Rattle.run_law.proofs.Below.{Below}
@@ -22,35 +22,35 @@ use Rattle.run_law.proofs.VisitKept.{visit_kept, deletes_held, keeps_others, lea
 
 -- ---- an account whose files and rows stay
 
-same_files : (before : Account) (effect : Effect) (after : Account) → Leaves before effect after → files after ≡ files before
+same_files : (before : AccountMail) (effect : Effect) (after : AccountMail) → Leaves before effect after → files after ≡ files before
 same_files before effect after h = h.same
 
-left_leaves : (account : List ℕ) (before : Account) (effect : Effect) (after : Account) → Leaves before effect after → LeavesMail account before after
+left_leaves : (account : List ℕ) (before : AccountMail) (effect : Effect) (after : AccountMail) → Leaves before effect after → LeavesMail account before after
 left_leaves account before effect after h = record { rows = h.rows; same = λ id l. ap (λ f. copies f (stem_of account id)) (same_files before effect after h) }
 
-left_kept : (world : World) (before : State Account) (v : Visit) → Kept world before → Leaves before.kept v.effect v.after
+left_kept : (world : World) (before : State AccountMail) (v : Visit) → Kept world before → Leaves before.account v.effect v.after
     → AllByRecursion (λ id. has_id v.effect.begun id ≡ true) v.vanished → Kept world (after_event before (Visited v))
 left_kept world before v kept h vanished =
-    subst (λ (gone : List (List ℕ)). Kept world (record { kept = v.after; gone = gone; taken = before.taken }))
+    subst (λ (gone : List (List ℕ)). Kept world (record { account = v.after; gone = gone; taken = before.taken }))
     (sym (append-nil before.gone) ∙ ap (λ l. before.gone ++ l) (sym (none_vanish v.vanished v.effect.begun h.begun vanished)))
-    (between_kept world before v.after kept (left_leaves world.account before.kept v.effect v.after h))
+    (between_kept world before v.after kept (left_leaves world.account before.account v.effect v.after h))
 
-left_promises : (world : World) (before : State Account) (v : Visit) → Leaves before.kept v.effect v.after → Promises world before (Visited v)
+left_promises : (world : World) (before : State AccountMail) (v : Visit) → Leaves before.account v.effect v.after → Promises world before (Visited v)
 left_promises world before v h = (
   (λ ended. absurd (both_ways v.effect.ended h.ended ended)),
   subst (AllByRecursion (λ id. (is_held world.account v.after.maildir id ≡ true) ⊎ (has_id before.taken id ≡ true))) (sym h.begun) tt,
-  (λ name content other. ap (λ fs. count_files fs name content) (same_files before.kept v.effect v.after h)),
-  λ only_new id l recorded. ((left_leaves world.account before.kept v.effect v.after h).same id l, ap (λ r. is_delivered r id) h.rows ∙ recorded),
+  (λ name content other. ap (λ fs. count_files fs name content) (same_files before.account v.effect v.after h)),
+  λ only_new id l recorded. ((left_leaves world.account before.account v.effect v.after h).same id l, ap (λ r. is_delivered r id) h.rows ∙ recorded),
 )
 
 -- ---- each id has one copy at most
 
-one_copy : (world : World) (state : State Account) → IsSound world → (kept : Kept world state) → (id : List ℕ) → is_legal_id id ≡ true → length (copies (files state.kept) (stem_of world.account id)) ≤ 1
+one_copy : (world : World) (state : State AccountMail) → IsSound world → (kept : Kept world state) → (id : List ℕ) → is_legal_id id ≡ true → length (copies (files state.account) (stem_of world.account id)) ≤ 1
 one_copy world state is kept id l = one_file world state kept.done id (done_distinct world is kept.done kept.rest kept.prefix) (kept.holds id l)
 
 -- ---- one event
 
-visited : Below → (world : World) (before : State Account) (v : Visit) → IsSound world → Kept world before → Visits world before v
+visited : Below → (world : World) (before : State AccountMail) (v : Visit) → IsSound world → Kept world before → Visits world before v
     → Kept world (after_event before (Visited v)) × Promises world before (Visited v)
 visited laws world before v is kept h = elim h.step [
   | inl left ↦ (left_kept world before v kept left h.vanished, left_promises world before v left)
@@ -65,7 +65,7 @@ visited laws world before v is kept h = elim h.step [
   )
 ]
 
-happened : Below → (world : World) (before : State Account) (event : Event) → IsSound world → Kept world before → Run world before (event ∷ [])
+happened : Below → (world : World) (before : State AccountMail) (event : Event) → IsSound world → Kept world before → Run world before (event ∷ [])
     → Kept (world_after world event) (after_event before event) × Promises world before event
 happened laws world before (Visited v) is kept h = visited laws world before v is kept h.0
 happened laws world before (Between after) is kept h = (between_kept world before after kept h.0, tt)
@@ -99,9 +99,9 @@ holds_exactly world state holds none = record {
   j = holds.j;
   below = holds.below;
   contents = texts;
-  ids = λ id l. held_done world.account state.kept (take holds.j (selected world.max_size world.all)) id (texts id l);
+  ids = λ id l. held_done world.account state.account (take holds.j (selected world.max_size world.all)) id (texts id l);
   once = holds.once;
 }
   where
-    texts : (id : List ℕ) → is_legal_id id ≡ true → copies (files state.kept) (stem_of world.account id) ≡ texts_of (take holds.j (selected world.max_size world.all)) id
+    texts : (id : List ℕ) → is_legal_id id ≡ true → copies (files state.account) (stem_of world.account id) ≡ texts_of (take holds.j (selected world.max_size world.all)) id
     texts id l = grind (arith, holds.contents id l, ap (λ ids. has_id ids id) none)

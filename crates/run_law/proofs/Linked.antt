@@ -130,15 +130,15 @@ module _ (laws : Readings) (sent got : List ℕ) (effect : Effect) (drop : List 
 pub visits : Readings → LinksAreVisits
 visits laws world before link l = record { same = l.same; step = visit.0; vanished = visit.1 }
   where
-    visit : Honestly (Leaves before.kept l.effect link.after) (Stores link.settings world.account before.kept l.effect link.after) (wanted_at link.settings world.account before.kept l.effect)
+    visit : Honestly (Leaves before.account l.effect link.after) (Stores link.settings world.account before.account l.effect link.after) (wanted_at link.settings world.account before.account l.effect)
         (maildrop_of world.all link.come before.gone) l.effect link.vanished
     visit = one_visit laws link.sent link.got l.effect (maildrop_of world.all link.come before.gone) link.vanished l.session.commands l.session.asked l.session.begun l.served
-        (wanted_at link.settings world.account before.kept l.effect) (λ left. left) (λ left. left.begun) l.session.step
+        (wanted_at link.settings world.account before.account l.effect) (λ left. left) (λ left. left.begun) l.session.step
 
 pub mbox_visits : Readings → MboxLinksAreVisits
 mbox_visits laws world before link l = record { same = l.same; only_new = l.only_new; step = visit.0; vanished = visit.1 }
   where
-    visit : Honestly (MboxLeaves before.kept l.effect link.after) (MboxStores link.settings before.kept l.effect link.after) (mbox_wanted link.settings before.kept l.effect)
+    visit : Honestly (MboxLeaves before.account l.effect link.after) (MboxStores link.settings before.account l.effect link.after) (mbox_wanted link.settings before.account l.effect)
         (maildrop_of world.all link.come before.gone) l.effect link.vanished
     visit = one_visit laws link.sent link.got l.effect (maildrop_of world.all link.come before.gone) link.vanished l.session.commands l.session.asked l.session.begun l.served
-        (mbox_wanted link.settings before.kept l.effect) (λ left. left.0) (λ left. left.0.begun) l.session.step
+        (mbox_wanted link.settings before.account l.effect) (λ left. left.0) (λ left. left.0.begun) l.session.step

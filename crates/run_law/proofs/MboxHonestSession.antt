@@ -7,7 +7,7 @@ use Rattle.pop3_wire.specs.World.{Message}
 use Rattle.mail_terms.specs.Listing.{Item}
 use Rattle.rc_file.specs.declared.settings.Settings.{Settings}
 use Rattle.mail_store.specs.Mboxrd.{entry_of}
-use Rattle.run_law.specs.Mboxes.{MboxAccount, MboxStores, IsBroken, IsClosed, entries, mbox_wanted, settled}
+use Rattle.run_law.specs.Mboxes.{MboxMail, MboxStores, IsBroken, IsClosed, entries, mbox_wanted, settled}
 use Rattle.run_law.specs.MboxHonestSession.{IsIn, AppendsMessages, MboxHonestSession}
 use Rattle.run_law.specs.Sessions.{Served}
 use Rattle.run_law.specs.Steps.{AreTexts, Effect, IsHonest}
@@ -34,7 +34,7 @@ text_at drop [] (t ∷ texts) n text are e = absurd are
 text_at drop (w ∷ wanted) (t ∷ texts) zero text are e = (are.0.0, (w.0 - 1, are.0.1), sym (same_Some t text e) ∙ are.0.2)
 text_at drop (w ∷ wanted) (t ∷ texts) (suc n) text are e = text_at drop wanted texts n text are.1 e
 
-module _ (drop : List Message) (settings : Settings) (before : MboxAccount) (effect : Effect) (after : MboxAccount) (s : MboxStores settings before effect after)
+module _ (drop : List Message) (settings : Settings) (before : MboxMail) (effect : Effect) (after : MboxMail) (s : MboxStores settings before effect after)
     (honest : IsHonest (mbox_wanted settings before effect) drop effect) where
   -- what comes after the whole entries
   abbrev Tail : Type 0

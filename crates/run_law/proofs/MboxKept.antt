@@ -19,7 +19,7 @@ use Rattle.mail_store.specs.Settling.{listed_size, stands_whole, settled_file, F
 use Rattle.run_law.specs.Mails.{ids_of, is_selected, selected}
 use Rattle.run_law.specs.Steps.{IsHonest, AreTexts, ids_wanted}
 use Rattle.run_law.specs.Runs.{past_limit}
-use Rattle.run_law.specs.Mboxes.{MboxAccount, is_stored, closed_file, settled, mbox_rows, mbox_wanted, none_held, entries, intent_of, IsClosed, IsOpen, IsBroken, MboxLeaves, MboxStores}
+use Rattle.run_law.specs.Mboxes.{MboxMail, is_stored, closed_file, settled, mbox_rows, mbox_wanted, none_held, entries, intent_of, IsClosed, IsOpen, IsBroken, MboxLeaves, MboxStores}
 use Rattle.run_law.specs.MboxRuns.{MboxState, MboxVisit, MboxWorld, MboxVisits, MboxKept, MboxEnds, MboxPromises, HasEntry, IsNextOpen, after_visit, mbox_shown, entries_of, MboxEvent, MboxVisited, MboxExpired, MboxWithdrawn, MboxRewritten, MboxHappens, MboxPromised, after_mbox_event, mbox_world_after, MboxKeptStaysKept, MboxKeptHolds}
 use Rattle.run_law.proofs.Core as core
 use Rattle.run_law.proofs.Core.{Scene, IsScene, fetched}
@@ -38,7 +38,7 @@ entries-append ms ns = ap entries (map-append (λ (m : Message). m.text) ms ns) 
 -- ---- a state that is settled
 
 -- no intent is open: the file ends after the entries of what is recorded
-pub record IsSettled (world : MboxWorld) (listing : List Item) (account : MboxAccount) (old : List Message) : Type 0 where
+pub record IsSettled (world : MboxWorld) (listing : List Item) (account : MboxMail) (old : List Message) : Type 0 where
   pub done : List Message
   pub rest : List Message
   pub prefix : selected world.max_size world.all ≡ (world.had ++ done) ++ rest
@@ -56,13 +56,13 @@ selected_whole world sound = all_filter (λ (m : Message). IsWhole m.text) (is_s
     (all_map IsMessage (λ (m : Message). IsWhole m.text) (λ m h. h.whole) world.all sound.messages)
 
 -- the text of the next message is whole
-next_whole : (world : MboxWorld) (state : MboxState MboxAccount) → IsWorld world.all → (kept : MboxKept world state) → (next : Message) (more : List Message) → kept.rest ≡ next ∷ more → IsWhole next.text
+next_whole : (world : MboxWorld) (state : MboxState MboxMail) → IsWorld world.all → (kept : MboxKept world state) → (next : Message) (more : List Message) → kept.rest ≡ next ∷ more → IsWhole next.text
 next_whole world state sound kept next more is =
     (all_back (λ (m : Message). IsWhole m.text) (world.had ++ kept.done) (next ∷ more)
     (subst (AllByRecursion (λ (m : Message). IsWhole m.text)) (kept.prefix ∙ ap (λ l. (world.had ++ kept.done) ++ l) is) (selected_whole world sound))).0
 
 -- what settling makes of an account with this open intent
-settled_is : (bytes uid text : List ℕ) (listing : List Item) (account : MboxAccount) → (o : IsOpen bytes uid text account)
+settled_is : (bytes uid text : List ℕ) (listing : List Item) (account : MboxMail) → (o : IsOpen bytes uid text account)
     → ((settled listing account).rows ≡ cond (stands_whole (length bytes) (length (entry_of text)) (listed_size listing uid) (bytes ++ o.front)) (marked account.rows uid) account.rows)
     × ((settled listing account).file ≡ settled_file (length bytes) (length (entry_of text)) (listed_size listing uid) (bytes ++ o.front))
 settled_is bytes uid text listing account o = (
@@ -71,20 +71,20 @@ settled_is bytes uid text listing account o = (
   ap (λ i. closed_file i listing account.file) o.intent ∙ ap (closed_file (Some (intent_of bytes uid text)) listing) o.file,
 )
 
-pub settle : FrontsAreSettled → RowLaws → (world : MboxWorld) (listing : List Item) (state : MboxState MboxAccount) → IsWorld world.all → (kept : MboxKept world state) → IsSettled world listing state.kept kept.done
+pub settle : FrontsAreSettled → RowLaws → (world : MboxWorld) (listing : List Item) (state : MboxState MboxMail) → IsWorld world.all → (kept : MboxKept world state) → IsSettled world listing state.account kept.done
 settle fronts laws world listing state sound kept = elim kept.stands [
-  | inl closed ↦ no_more (ap (λ i. closed_rows (is_stored i listing state.kept.file) state.kept.rows i) closed.intent) (ap (λ i. closed_file i listing state.kept.file) closed.intent ∙ closed.file)
+  | inl closed ↦ no_more (ap (λ i. closed_rows (is_stored i listing state.account.file) state.account.rows i) closed.intent) (ap (λ i. closed_file i listing state.account.file) closed.intent ∙ closed.file)
   | inr o ↦
       let bytes : List ℕ = world.start ++ entries_of kept.done in
-      let is = settled_is bytes o.next.uid o.next.text listing state.kept o.opened in
-      let rows = λ (b : Bool). cond b (marked state.kept.rows o.next.uid) state.kept.rows in
+      let is = settled_is bytes o.next.uid o.next.text listing state.account o.opened in
+      let rows = λ (b : Bool). cond b (marked state.account.rows o.next.uid) state.account.rows in
       elim (fronts bytes o.next.text o.opened.front o.opened.behind (listed_size listing o.next.uid) (next_whole world state sound kept o.next o.more o.is_next) o.opened.entry) [
         | inl whole ↦ record {
           done = kept.done ++ o.next ∷ [];
           rest = o.more;
           prefix = kept.prefix ∙ ap (λ l. (world.had ++ kept.done) ++ l) o.is_next ∙ simp append_assoc;
           recorded = λ id. ap (λ r. is_delivered r id) (is.0 ∙ ap rows whole.0)
-              ∙ delivered_one laws state.kept.rows o.next.uid id o.row
+              ∙ delivered_one laws state.account.rows o.next.uid id o.row
               ∙ ap (λ b. b || bytes_eq id o.next.uid) (kept.recorded id)
               ∙ sym (with_next world kept.done o.next id);
           more = λ id e. with_next world kept.done o.next id ∙ or_left _ _ e;
@@ -97,12 +97,12 @@ settle fronts laws world listing state sound kept = elim kept.stands [
       ]
 ]
   where
-    no_more : (settled listing state.kept).rows ≡ state.kept.rows → (settled listing state.kept).file ≡ world.start ++ entries_of kept.done → IsSettled world listing state.kept kept.done
+    no_more : (settled listing state.account).rows ≡ state.account.rows → (settled listing state.account).file ≡ world.start ++ entries_of kept.done → IsSettled world listing state.account kept.done
     no_more rows file = record { done = kept.done; rest = kept.rest; prefix = kept.prefix; recorded = λ id. ap (λ r. is_delivered r id) rows ∙ kept.recorded id; more = λ id e. e; file = file }
 
 -- ---- an account that is left, its file perhaps cut back
 
-reopened : FrontsAreSettled → (bytes uid text : List ℕ) (listing : List Item) (before after : MboxAccount) → IsWhole text → IsOpen bytes uid text before → after.intent ≡ before.intent
+reopened : FrontsAreSettled → (bytes uid text : List ℕ) (listing : List Item) (before after : MboxMail) → IsWhole text → IsOpen bytes uid text before → after.intent ≡ before.intent
     → after.file ≡ (settled listing before).file → IsOpen bytes uid text after
 reopened fronts bytes uid text listing before after whole-text o i f = elim (fronts bytes text o.front o.behind (listed_size listing uid) whole-text o.entry) [
   | inl whole ↦ record { intent = i ∙ o.intent; front = o.front; behind = o.behind; entry = o.entry; file = cut ∙ whole.1 }
@@ -112,7 +112,7 @@ reopened fronts bytes uid text listing before after whole-text o i f = elim (fro
     cut : after.file ≡ settled_file (length bytes) (length (entry_of text)) (listed_size listing uid) (bytes ++ o.front)
     cut = f ∙ (settled_is bytes uid text listing before o).1
 
-left_kept : FrontsAreSettled → (world : MboxWorld) (before : MboxState MboxAccount) (v : MboxVisit) → IsWorld world.all → MboxKept world before → MboxLeaves before.kept v.effect v.after
+left_kept : FrontsAreSettled → (world : MboxWorld) (before : MboxState MboxMail) (v : MboxVisit) → IsWorld world.all → MboxKept world before → MboxLeaves before.account v.effect v.after
     → AllByRecursion (λ id. has_id v.effect.begun id ≡ true) v.vanished → MboxKept world (after_visit before v)
 left_kept fronts world before v sound kept h vanished = record {
   done = kept.done;
@@ -123,7 +123,7 @@ left_kept fronts world before v sound kept h vanished = record {
   stands = elim kept.stands [
     | inl closed ↦ inl (record {
       intent = h.intent ∙ closed.intent;
-      file = grind (arith, h.file, closed.file, ap (λ i. closed_file i v.effect.listing before.kept.file) closed.intent);
+      file = grind (arith, h.file, closed.file, ap (λ i. closed_file i v.effect.listing before.account.file) closed.intent);
     })
     | inr o ↦ inr (record {
       next = o.next;
@@ -131,7 +131,7 @@ left_kept fronts world before v sound kept h vanished = record {
       is_next = o.is_next;
       opened = elim h.file [
         | inl same ↦ record { intent = h.intent ∙ o.opened.intent; front = o.opened.front; behind = o.opened.behind; entry = o.opened.entry; file = same ∙ o.opened.file }
-        | inr cut ↦ reopened fronts (world.start ++ entries_of kept.done) o.next.uid o.next.text v.effect.listing before.kept v.after (next_whole world before sound kept o.next o.more o.is_next) o.opened h.intent cut
+        | inr cut ↦ reopened fronts (world.start ++ entries_of kept.done) o.next.uid o.next.text v.effect.listing before.account v.after (next_whole world before sound kept o.next o.more o.is_next) o.opened h.intent cut
       ];
       row = ap (λ r. has_row r o.next.uid) h.rows ∙ o.row;
     })
@@ -148,16 +148,16 @@ split_at (m ∷ ms) id e = elim (or_cases (bytes_eq id m.uid) (has_id (ids_of ms
 ]
 
 -- what comes after the entries of what is done
-pub rest_of : (world : MboxWorld) (state : MboxState MboxAccount) → (kept : MboxKept world state) → (rest : List ℕ) × (state.kept.file ≡ (world.start ++ entries_of kept.done) ++ rest)
-    × (((state.kept.intent ≡ None) × (rest ≡ [])) ⊎ ((next : Message) × (behind : List ℕ) × (more : List Message) × (kept.rest ≡ next ∷ more) × (entry_of next.text ≡ rest ++ behind)
-    × (state.kept.intent ≡ Some (intent_of (world.start ++ entries_of kept.done) next.uid next.text))))
+pub rest_of : (world : MboxWorld) (state : MboxState MboxMail) → (kept : MboxKept world state) → (rest : List ℕ) × (state.account.file ≡ (world.start ++ entries_of kept.done) ++ rest)
+    × (((state.account.intent ≡ None) × (rest ≡ [])) ⊎ ((next : Message) × (behind : List ℕ) × (more : List Message) × (kept.rest ≡ next ∷ more) × (entry_of next.text ≡ rest ++ behind)
+    × (state.account.intent ≡ Some (intent_of (world.start ++ entries_of kept.done) next.uid next.text))))
 rest_of world state kept = elim kept.stands [
   | inl closed ↦ ([], closed.file ∙ sym (append-nil (world.start ++ entries_of kept.done)), inl (closed.intent, refl))
   | inr o ↦ (o.opened.front, o.opened.file, inr (o.next, o.opened.behind, o.more, o.is_next, o.opened.entry, o.opened.intent))
 ]
 
-pub has_entry : (world : MboxWorld) (state : MboxState MboxAccount) → MboxKept world state → (id : List ℕ) → is_delivered state.kept.rows id ≡ true
-    → (has_id (ids_of world.had) id ≡ true) ⊎ HasEntry world state.kept.file id
+pub has_entry : (world : MboxWorld) (state : MboxState MboxMail) → MboxKept world state → (id : List ℕ) → is_delivered state.account.rows id ≡ true
+    → (has_id (ids_of world.had) id ≡ true) ⊎ HasEntry world state.account.file id
 has_entry world state kept id e = elim (or_cases (has_id (ids_of world.had) id) (has_id (ids_of kept.done) id) (sym (ids_both world.had kept.done id) ∙ sym (kept.recorded id) ∙ e)) [
   | inl before ↦ inl before
   | inr new ↦
@@ -200,23 +200,23 @@ at_place drop' (q ∷ qs) (x ∷ texts) (suc n) message text h t w g =
 
 -- ---- one session that stored something
 
-module _ (fronts : FrontsAreSettled) (laws : RowLaws) (filtered : DistinctAreFiltered) (world : MboxWorld) (sound : IsWorld world.all) (before : MboxState MboxAccount) (v : MboxVisit) (kept : MboxKept world before)
-    (same : v.settings.max_size ≡ world.max_size) (only_new : v.settings.read_all ≡ false) (s : MboxStores v.settings before.kept v.effect v.after)
-    (honest : IsHonest (mbox_wanted v.settings before.kept v.effect) (mbox_shown world before v) v.effect) where
+module _ (fronts : FrontsAreSettled) (laws : RowLaws) (filtered : DistinctAreFiltered) (world : MboxWorld) (sound : IsWorld world.all) (before : MboxState MboxMail) (v : MboxVisit) (kept : MboxKept world before)
+    (same : v.settings.max_size ≡ world.max_size) (only_new : v.settings.read_all ≡ false) (s : MboxStores v.settings before.account v.effect v.after)
+    (honest : IsHonest (mbox_wanted v.settings before.account v.effect) (mbox_shown world before v) v.effect) where
   abbrev rows : List Row
-  rows = mbox_rows before.kept v.effect
+  rows = mbox_rows before.account v.effect
 
   abbrev here : List Message
   here = mbox_shown world before v
 
-  origin : IsSettled world v.effect.listing before.kept kept.done
+  origin : IsSettled world v.effect.listing before.account kept.done
   origin = settle fronts laws world v.effect.listing before sound kept
 
   abbrev scene : Scene
   scene = record { all = world.all; gone = before.gone; come = v.come; settings = v.settings; rows = rows; done = world.had ++ origin.done; rest = origin.rest }
 
   known : (id : List ℕ) → is_delivered rows id ≡ core.is_done scene id
-  known id = delivered_unheld laws (settled v.effect.listing before.kept).rows v.effect.listing v.effect.now id ∙ origin.recorded id
+  known id = delivered_unheld laws (settled v.effect.listing before.account).rows v.effect.listing v.effect.now id ∙ origin.recorded id
 
   is_scene : IsScene scene
   is_scene = record {
@@ -232,7 +232,7 @@ module _ (fronts : FrontsAreSettled) (laws : RowLaws) (filtered : DistinctAreFil
   abbrev qs : List (ℕ × Message)
   qs = wants_by_number v.settings rows here
 
-  wanted_is : mbox_wanted v.settings before.kept v.effect ≡ map num_item qs
+  wanted_is : mbox_wanted v.settings before.account v.effect ≡ map num_item qs
   wanted_is = ap (λ l. wanted v.settings rows l) honest.listing ∙ core.wanted_is scene is_scene filtered
 
   texts_are : AreTexts here (map num_item qs) v.effect.texts
@@ -252,7 +252,7 @@ module _ (fronts : FrontsAreSettled) (laws : RowLaws) (filtered : DistinctAreFil
   has_rows : (n : ℕ) → AllByRecursion (λ (m : Message). has_row rows m.uid ≡ true) (take n ws)
   has_rows n = all_take (λ (m : Message). has_row rows m.uid ≡ true) n ws
       (all_map (λ (m : Message). has_id (ids_of here) m.uid ≡ true) (λ (m : Message). has_row rows m.uid ≡ true)
-      (λ m e. laws.listed (settled v.effect.listing before.kept).rows v.effect.listing (none_held v.effect.listing) v.effect.now m.uid
+      (λ m e. laws.listed (settled v.effect.listing before.account).rows v.effect.listing (none_held v.effect.listing) v.effect.now m.uid
       ∙ or_right _ _ (ap (λ l. has_item l m.uid) honest.listing ∙ has_listed here m.uid ∙ e))
       ws (core.fetched_here scene is_scene))
 
@@ -269,7 +269,7 @@ module _ (fronts : FrontsAreSettled) (laws : RowLaws) (filtered : DistinctAreFil
   appended = ap entries (texts_taken here qs v.effect.texts s.stored (wants_placed v.settings rows here) texts_are s.fetched
       ∙ ap (map (λ (m : Message). m.text)) (core.taken_is scene is_scene s.stored))
 
-  bytes_are : (settled v.effect.listing before.kept).file ++ entries (take s.stored v.effect.texts) ≡ world.start ++ entries_of (origin.done ++ take s.stored ws)
+  bytes_are : (settled v.effect.listing before.account).file ++ entries (take s.stored v.effect.texts) ≡ world.start ++ entries_of (origin.done ++ take s.stored ws)
   bytes_are = rw (origin.file, appended, entries-append origin.done (take s.stored ws)) (append_assoc world.start (entries_of origin.done) (entries_of (take s.stored ws)))
 
   -- ---- the next state
@@ -279,7 +279,7 @@ module _ (fronts : FrontsAreSettled) (laws : RowLaws) (filtered : DistinctAreFil
   Next = (rest : List Message) × (selected world.max_size world.all ≡ (world.had ++ (origin.done ++ take s.stored ws)) ++ rest)
       × (IsClosed (world.start ++ entries_of (origin.done ++ take s.stored ws)) v.after ⊎ IsNextOpen (world.start ++ entries_of (origin.done ++ take s.stored ws)) rest v.after)
 
-  broken_next : IsBroken v.settings before.kept v.effect s.stored v.after → Next
+  broken_next : IsBroken v.settings before.account v.effect s.stored v.after → Next
   broken_next b = (
     place.0.1 ∷ later,
     prefix_of (suc s.stored) ∙ ap (λ l. (world.had ++ (origin.done ++ l)) ++ later) taken ∙ simp append_assoc,
@@ -349,7 +349,7 @@ module _ (fronts : FrontsAreSettled) (laws : RowLaws) (filtered : DistinctAreFil
 
 -- ---- one session
 
-visited : FrontsAreSettled → RowLaws → DistinctAreFiltered → (world : MboxWorld) (before : MboxState MboxAccount) (v : MboxVisit) → IsWorld world.all → MboxKept world before → MboxVisits world before v
+visited : FrontsAreSettled → RowLaws → DistinctAreFiltered → (world : MboxWorld) (before : MboxState MboxMail) (v : MboxVisit) → IsWorld world.all → MboxKept world before → MboxVisits world before v
     → MboxKept world (after_visit before v) × MboxPromises world before v
 visited fronts laws filtered world before v sound kept h = elim h.step [
   | inl left ↦ (
@@ -366,7 +366,7 @@ visited fronts laws filtered world before v sound kept h = elim h.step [
       )
 ]
 
-happened : FrontsAreSettled → RowLaws → DistinctAreFiltered → (world : MboxWorld) (before : MboxState MboxAccount) (event : MboxEvent) → IsWorld world.all → MboxKept world before → MboxHappens world before event
+happened : FrontsAreSettled → RowLaws → DistinctAreFiltered → (world : MboxWorld) (before : MboxState MboxMail) (event : MboxEvent) → IsWorld world.all → MboxKept world before → MboxHappens world before event
     → MboxKept (mbox_world_after world event) (after_mbox_event before event) × MboxPromised world before event
 happened fronts laws filtered world before (MboxVisited v) sound kept h = visited fronts laws filtered world before v sound kept h
 happened fronts laws filtered world before (MboxExpired ids) sound kept h = (expired_kept world before ids kept h, tt)
@@ -421,7 +421,7 @@ mbox_holds adds world state sound kept =
       ids = λ id. kept.recorded id ∙ ap (λ (ms : List Message). has_id (ids_of (world.had ++ ms)) id) (sym front);
       entered = has_entry world state kept;
       texts = λ none first stands.
-          subst (λ (ms : List Message). MboxFile state.kept.file (first ++ map (λ (m : Message). m.text) ms)) (sym front)
+          subst (λ (ms : List Message). MboxFile state.account.file (first ++ map (λ (m : Message). m.text) ms)) (sym front)
           (subst (λ f. MboxFile f (first ++ map (λ (m : Message). m.text) kept.done))
           (sym (tail.1 ∙ ap (λ l. (world.start ++ entries_of kept.done) ++ l) none ∙ append-nil (world.start ++ entries_of kept.done)))
           (texts_stand adds world.start first kept.done whole_done stands));

@@ -14,14 +14,14 @@ use Rattle.run_law.proofs.Core.{members}
 use Rattle.run_law.proofs.Ids.{all_ids_at, bytes_self}
 use Rattle.run_law.proofs.Lists.{all_append, all_map, filter-swap, filter_all}
 use Rattle.run_law.proofs.Others.{worlds_shrink}
-use Rattle.run_law.specs.Mboxes.{MboxAccount}
+use Rattle.run_law.specs.Mboxes.{MboxMail}
 
 pub mbox_world_stays : (world : MboxWorld) → IsWorld world.all → (event : MboxEvent) → IsWorld (mbox_world_after world event).all
 mbox_world_stays world sound (MboxWithdrawn ids) = worlds_shrink world.all ids sound
 mbox_world_stays world sound (MboxRewritten had file) = sound
 mbox_world_stays world sound event = sound
 
-pub expired_kept : (world : MboxWorld) (before : MboxState MboxAccount) (ids : List (List ℕ)) → MboxKept world before → AllByRecursion (λ id. is_delivered before.kept.rows id ≡ true) ids
+pub expired_kept : (world : MboxWorld) (before : MboxState MboxMail) (ids : List (List ℕ)) → MboxKept world before → AllByRecursion (λ id. is_delivered before.account.rows id ≡ true) ids
     → MboxKept world (after_mbox_event before (MboxExpired ids))
 expired_kept world before ids kept all = record {
   done = kept.done;
@@ -29,11 +29,11 @@ expired_kept world before ids kept all = record {
   prefix = kept.prefix;
   recorded = kept.recorded;
   gone = all_append (λ id. has_id (ids_of (world.had ++ kept.done)) id ≡ true) before.gone ids kept.gone
-      (all_map (λ id. is_delivered before.kept.rows id ≡ true) (λ id. has_id (ids_of (world.had ++ kept.done)) id ≡ true) (λ id e. sym (kept.recorded id) ∙ e) ids all);
+      (all_map (λ id. is_delivered before.account.rows id ≡ true) (λ id. has_id (ids_of (world.had ++ kept.done)) id ≡ true) (λ id e. sym (kept.recorded id) ∙ e) ids all);
   stands = kept.stands;
 }
 
-module _ (world : MboxWorld) (before : MboxState MboxAccount) (ids : List (List ℕ)) (kept : MboxKept world before) (all : AllByRecursion (IsUnbegun before.kept) ids) where
+module _ (world : MboxWorld) (before : MboxState MboxMail) (ids : List (List ℕ)) (kept : MboxKept world before) (all : AllByRecursion (IsUnbegun before.account) ids) where
   abbrev stays : Message → Bool
   stays m = not (has_id ids m.uid)
 
@@ -43,17 +43,17 @@ module _ (world : MboxWorld) (before : MboxState MboxAccount) (ids : List (List 
   -- what is done is recorded, so it isn't withdrawn
   done_stays : (m : Message) → has_id (ids_of done) m.uid ≡ true → stays m ≡ true
   done_stays m is = ap not (false_from_ne_true (has_id ids m.uid) (λ withdrawn.
-      both_ways (is_delivered before.kept.rows m.uid) (all_ids_at (IsUnbegun before.kept) ids m.uid all withdrawn).0 (kept.recorded m.uid ∙ is)))
+      both_ways (is_delivered before.account.rows m.uid) (all_ids_at (IsUnbegun before.account) ids m.uid all withdrawn).0 (kept.recorded m.uid ∙ is)))
 
   all_stay : AllByRecursion (λ (m : Message). stays m ≡ true) done
   all_stay = all_map (λ (m : Message). has_id (ids_of done) m.uid ≡ true) (λ (m : Message). stays m ≡ true) done_stays done (members done)
 
   -- nor is the next message, if its intent is open
-  next_stays : (bytes : List ℕ) → (o : IsNextOpen bytes kept.rest before.kept) → stays o.next ≡ true
+  next_stays : (bytes : List ℕ) → (o : IsNextOpen bytes kept.rest before.account) → stays o.next ≡ true
   next_stays bytes o = ap not (false_from_ne_true (has_id ids o.next.uid) (λ withdrawn.
-      both_ways (bytes_eq o.next.uid o.next.uid) ((all_ids_at (IsUnbegun before.kept) ids o.next.uid all withdrawn).1 _ o.opened.intent) (bytes_self o.next.uid)))
+      both_ways (bytes_eq o.next.uid o.next.uid) ((all_ids_at (IsUnbegun before.account) ids o.next.uid all withdrawn).1 _ o.opened.intent) (bytes_self o.next.uid)))
 
-  still_next : (bytes : List ℕ) → IsNextOpen bytes kept.rest before.kept → IsNextOpen bytes (without ids kept.rest) before.kept
+  still_next : (bytes : List ℕ) → IsNextOpen bytes kept.rest before.account → IsNextOpen bytes (without ids kept.rest) before.account
   still_next bytes o = record {
     next = o.next;
     more = without ids o.more;
@@ -88,7 +88,7 @@ mbox_starts world found rest gone prefix recorded recorded_gone = record {
 
 -- ---- others write the file
 
-pub rewritten_kept : (world : MboxWorld) (before : MboxState MboxAccount) (had : List Message) (file : List ℕ) → MboxKept world before → AreAllRecorded world before.kept had
+pub rewritten_kept : (world : MboxWorld) (before : MboxState MboxMail) (had : List Message) (file : List ℕ) → MboxKept world before → AreAllRecorded world before.account had
     → MboxKept (mbox_world_after world (MboxRewritten had file)) (after_mbox_event before (MboxRewritten had file))
 rewritten_kept world before had file kept is = record {
   done = [];

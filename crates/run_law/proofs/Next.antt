@@ -16,9 +16,9 @@ use Rattle.run_law.proofs.Holds.{held_is_done}
 use Rattle.run_law.proofs.Wants.{has_listed}
 use Rattle.run_law.proofs.Core as core
 use Rattle.run_law.proofs.Core.{Scene, IsScene}
-use Rattle.run_law.specs.Accounts.{Account}
+use Rattle.run_law.specs.Accounts.{AccountMail}
 
-module _ (laws : Records) (world : World) (is : IsSound world) (before : State Account) (kept : Kept world before) (settings : Settings) (come now : ℕ) (listing : List Item)
+module _ (laws : Records) (world : World) (is : IsSound world) (before : State AccountMail) (kept : Kept world before) (settings : Settings) (come now : ℕ) (listing : List Item)
     (listing_is : listing ≡ listing_of (maildrop_of world.all come before.gone)) (same : settings.max_size ≡ world.max_size) where
   abbrev pub scene : Scene
   scene = record {
@@ -26,13 +26,13 @@ module _ (laws : Records) (world : World) (is : IsSound world) (before : State A
     gone = before.gone;
     come = come;
     settings = settings;
-    rows = merged before.kept.rows listing (flags_of world.account before.kept.maildir listing) now;
+    rows = merged before.account.rows listing (flags_of world.account before.account.maildir listing) now;
     done = kept.done;
     rest = kept.rest;
   }
 
-  pub known_parts : (id : List ℕ) → is_delivered scene.rows id ≡ (is_delivered before.kept.rows id || (has_item listing id && is_held world.account before.kept.maildir id))
-  known_parts id = delivered_merged laws world.account before.kept.maildir before.kept.rows listing now id
+  pub known_parts : (id : List ℕ) → is_delivered scene.rows id ≡ (is_delivered before.account.rows id || (has_item listing id && is_held world.account before.account.maildir id))
+  known_parts id = delivered_merged laws world.account before.account.maildir before.account.rows listing now id
 
   pub listed_is : (id : List ℕ) → has_item listing id ≡ has_id (ids_of (core.here scene)) id
   listed_is id = ap (λ l. has_item l id) listing_is ∙ has_listed (core.here scene) id

@@ -11,7 +11,7 @@ use Rattle.pop3_wire.specs.World.{Message, IsMessage}
 use Rattle.mail_store.specs.FileName.{is_held, stem_of}
 use Rattle.fetch_rules.specs.Record.{is_delivered}
 use Rattle.run_law.specs.Mails.{ids_of, item_of, is_selected, selected, texts_of, without, WorldsShrink}
-use Rattle.run_law.specs.Accounts.{Account, files, copies}
+use Rattle.run_law.specs.Accounts.{AccountMail, files, copies}
 use Rattle.run_law.specs.Runs.{World, IsSound, State, Event, HoldsOf, IsHeldOrTaken, IsNeither, Kept, LeavesMail, TakesAway, BringsBack, Forgets, Between, Expired, Withdrawn, TakenAway, BroughtBack, Forgotten, after_event, world_after}
 use Rattle.run_law.proofs.Lists.{all_map, all_both, all_append, all_filter, all_front, filter_all, filter-swap, front_is, map-map}
 use Rattle.run_law.proofs.Ids.{Distinct, HasTextsOf, all_ids_at, bytes_same, distinct_filter, distinct_is, distinct_take, has_filtered, through, whole_filter, whole_take}
@@ -21,7 +21,7 @@ use Rattle.run_law.proofs.Wants.{listing_distinct}
 
 -- ---- the record and the server
 
-pub forgotten_kept : (world : World) (before : State Account) (after : Account) → Kept world before → Forgets world.account before.kept after
+pub forgotten_kept : (world : World) (before : State AccountMail) (after : AccountMail) → Kept world before → Forgets world.account before.account after
     → Kept world (after_event before (Forgotten after))
 forgotten_kept world before after kept forgets = record {
   done = kept.done;
@@ -33,12 +33,12 @@ forgotten_kept world before after kept forgets = record {
   taken = kept.taken;
 }
 
-pub between_kept : (world : World) (before : State Account) (after : Account) → Kept world before → LeavesMail world.account before.kept after
+pub between_kept : (world : World) (before : State AccountMail) (after : AccountMail) → Kept world before → LeavesMail world.account before.account after
     → Kept world (after_event before (Between after))
 between_kept world before after kept same =
     forgotten_kept world before after kept (record { delivered = λ id e. ap (λ r. is_delivered r id) (sym same.rows) ∙ e; same = same.same })
 
-pub expired_kept : (world : World) (before : State Account) (ids : List (List ℕ)) → Kept world before → AllByRecursion (IsHeldOrTaken world.account before) ids
+pub expired_kept : (world : World) (before : State AccountMail) (ids : List (List ℕ)) → Kept world before → AllByRecursion (IsHeldOrTaken world.account before) ids
     → Kept world (after_event before (Expired ids))
 expired_kept world before ids kept all = record {
   done = kept.done;
@@ -57,7 +57,7 @@ expired_kept world before ids kept all = record {
 
 -- ---- what a reader takes away and puts back
 
-pub taken_kept : (world : World) (before : State Account) (id : List ℕ) (after : Account) → Kept world before → TakesAway world.account before.kept id after
+pub taken_kept : (world : World) (before : State AccountMail) (id : List ℕ) (after : AccountMail) → Kept world before → TakesAway world.account before.account id after
     → Kept world (after_event before (TakenAway id after))
 taken_kept world before id after kept takes = record {
   done = kept.done;
@@ -93,7 +93,7 @@ done_texts world is done rest e id =
     (subst (λ (ms : List Message). HasTextsOf ms chosen id) (front_is done rest e) (whole_take (length done) chosen id (distinct_filter (is_selected world.max_size) world.all distinct)))
     (whole_filter (is_selected world.max_size) world.all id distinct)
 
-pub brought_kept : (world : World) → IsSound world → (before : State Account) (id : List ℕ) (after : Account) → Kept world before → BringsBack world before id after
+pub brought_kept : (world : World) → IsSound world → (before : State AccountMail) (id : List ℕ) (after : AccountMail) → Kept world before → BringsBack world before id after
     → Kept world (after_event before (BroughtBack id after))
 brought_kept world is before id after kept brings = record {
   done = kept.done;
@@ -114,7 +114,7 @@ brought_kept world is before id after kept brings = record {
     there : Holds id
     there = brings.text ∙ sym (done_texts world is kept.done kept.rest kept.prefix id (all_ids_at (λ x. has_id (ids_of kept.done) x ≡ true) before.taken id kept.taken brings.taken))
 
-    by : (other : List ℕ) → bytes_eq other id ≡ false → copies (files after) (stem_of world.account other) ≡ copies (files before.kept) (stem_of world.account other)
+    by : (other : List ℕ) → bytes_eq other id ≡ false → copies (files after) (stem_of world.account other) ≡ copies (files before.account) (stem_of world.account other)
         → HoldsOf world before kept.done other → HoldsOf world (after_event before (BroughtBack id after)) kept.done other
     by other apart same (inl e) = inl (same ∙ e)
     by other apart same (inr (taken, none)) =
@@ -133,7 +133,7 @@ pub world_stays : (world : World) → IsSound world → (event : Event) → IsSo
 world_stays world is (Withdrawn ids) = record { account = is.account; mail = worlds_shrink world.all ids is.mail }
 world_stays world is event = is
 
-module _ (world : World) (is : IsSound world) (before : State Account) (ids : List (List ℕ)) (kept : Kept world before) (all : AllByRecursion (IsNeither world.account before) ids) where
+module _ (world : World) (is : IsSound world) (before : State AccountMail) (ids : List (List ℕ)) (kept : Kept world before) (all : AllByRecursion (IsNeither world.account before) ids) where
   abbrev stays : Message → Bool
   stays m = not (has_id ids m.uid)
 
@@ -142,7 +142,7 @@ module _ (world : World) (is : IsSound world) (before : State Account) (ids : Li
   done_stays m legal done = ap not (false_from_ne_true (has_id ids m.uid) (λ withdrawn.
       let neither = all_ids_at (IsNeither world.account before) ids m.uid all withdrawn in
       elim (done_is_held world before kept.done m.uid (kept.holds m.uid legal) done) [
-        | inl held ↦ both_ways (is_held world.account before.kept.maildir m.uid) neither.0 held
+        | inl held ↦ both_ways (is_held world.account before.account.maildir m.uid) neither.0 held
         | inr taken ↦ both_ways (has_id before.taken m.uid) neither.1 taken
       ]))
 

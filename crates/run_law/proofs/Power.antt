@@ -9,7 +9,7 @@ use Rattle.pop3_wire.specs.World.{Message}
 use Rattle.fetch_rules.specs.Record.{is_delivered}
 use Rattle.mail_store.specs.FileName.{is_held, stem_of}
 use Rattle.run_law.specs.Mails.{ids_of, selected, texts_of, messages_after}
-use Rattle.run_law.specs.Accounts.{Account, files, copies}
+use Rattle.run_law.specs.Accounts.{AccountMail, files, copies}
 use Rattle.run_law.specs.Power.{AllMayBeLeft}
 use Rattle.run_law.specs.Runs.{World, IsSound, State, HoldsOf, IsNeither, IsLastStored, Kept, LosesPower, PowerLost, after_event}
 use Rattle.run_law.proofs.Lists.{all_back}
@@ -61,8 +61,8 @@ all_apart P Q x f (id ∷ ids) none all =
 
 -- ---- a kept state
 
-module _ (world : World) (is : IsSound world) (before : State Account) (after : Account) (kept : Kept world before) (loses : LosesPower world before after) where
-  abbrev left : State Account
+module _ (world : World) (is : IsSound world) (before : State AccountMail) (after : AccountMail) (kept : Kept world before) (loses : LosesPower world before after) where
+  abbrev left : State AccountMail
   left = after_event before (PowerLost after)
 
   abbrev AreNone : List ℕ → Type 0
@@ -72,7 +72,7 @@ module _ (world : World) (is : IsSound world) (before : State Account) (after : 
   MayGo id = (has_id before.taken id ≡ true) ⊎ IsLastStored world before id
 
   abbrev StayOrGo : List ℕ → Type 0
-  StayOrGo id = (copies (files after) (stem_of world.account id) ≡ copies (files before.kept) (stem_of world.account id)) ⊎ (AreNone id × MayGo id)
+  StayOrGo id = (copies (files after) (stem_of world.account id) ≡ copies (files before.account) (stem_of world.account id)) ⊎ (AreNone id × MayGo id)
 
   -- the files of these messages, of which none is the last that was stored
   still_holds : (ms : List Message) (id : List ℕ) → (IsLastStored world before id → has_id (ids_of ms) id ≡ false) → HoldsOf world before ms id → StayOrGo id → HoldsOf world left ms id
@@ -112,7 +112,7 @@ module _ (world : World) (is : IsSound world) (before : State Account) (after : 
 
     last_there : IsNeither world.account before last.uid → ⊥
     last_there neither = elim (done_is_held world before kept.done last.uid (kept.holds last.uid last_legal) last_done) [
-      | inl held ↦ both_ways (is_held world.account before.kept.maildir last.uid) neither.0 held
+      | inl held ↦ both_ways (is_held world.account before.account.maildir last.uid) neither.0 held
       | inr taken ↦ both_ways (has_id before.taken last.uid) neither.1 taken
     ]
 
@@ -160,7 +160,7 @@ module _ (world : World) (is : IsSound world) (before : State Account) (after : 
         prefix = chosen;
         holds = holds_front;
         recorded = λ id e. elim (loses.delivered id e) [
-          | inl was ↦ earlier id (not_last (is_delivered before.kept.rows) id lastly.unrecorded was) (kept.recorded id was)
+          | inl was ↦ earlier id (not_last (is_delivered before.account.rows) id lastly.unrecorded was) (kept.recorded id was)
           | inr (legal, inl held) ↦ held_is_done world left front id (holds_front id legal) held
           | inr (legal, inr taken) ↦ earlier id (not_last (has_id before.taken) id untaken taken) (all_ids_at (λ x. is_done x ≡ true) before.taken id kept.taken taken)
         ];
@@ -168,7 +168,7 @@ module _ (world : World) (is : IsSound world) (before : State Account) (after : 
         taken = all_apart (λ x. is_done x ≡ true) (λ x. has_id (ids_of front) x ≡ true) last.uid earlier before.taken untaken kept.taken;
       }
 
-    same_holds : copies (files after) (stem_of world.account last.uid) ≡ copies (files before.kept) (stem_of world.account last.uid)
+    same_holds : copies (files after) (stem_of world.account last.uid) ≡ copies (files before.account) (stem_of world.account last.uid)
         → HoldsOf world before kept.done last.uid → HoldsOf world left kept.done last.uid
     same_holds same (inl e) = inl (same ∙ e)
     same_holds same (inr (taken, none)) = inr (taken, same ∙ none)

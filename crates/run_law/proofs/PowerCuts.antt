@@ -9,7 +9,7 @@ use Rattle.mail_store.specs.Maildir.{Maildir}
 use Rattle.mail_terms.specs.UniqueId.{is_legal_id, has_id}
 use Rattle.pop3_wire.specs.World.{Message}
 use Rattle.fetch_rules.specs.Record.{is_delivered}
-use Rattle.run_law.specs.Accounts.{Account, files, copies}
+use Rattle.run_law.specs.Accounts.{AccountMail, files, copies}
 use Rattle.run_law.specs.Mails.{ids_of, messages_after}
 use Rattle.run_law.specs.Power.{OneMoreIsLast, with_maildir}
 use Rattle.run_law.specs.Runs.{World, IsSound, State, IsNeither, IsLastStored, Kept}
@@ -76,19 +76,19 @@ none_before (f ∷ front) rest d =
 
 -- ---- a kept state, and one more file
 
-module _ (world : World) (is : IsSound world) (state : State Account) (kept : Kept world state) (maildir : Maildir) (id : List ℕ) (legal : is_legal_id id ≡ true)
-    (none : copies (files state.kept) (stem_of world.account id) ≡ [])
-    (others : (other : List ℕ) → is_legal_id other ≡ true → bytes_eq other id ≡ false → copies maildir.files (stem_of world.account other) ≡ copies (files state.kept) (stem_of world.account other))
+module _ (world : World) (is : IsSound world) (state : State AccountMail) (kept : Kept world state) (maildir : Maildir) (id : List ℕ) (legal : is_legal_id id ≡ true)
+    (none : copies (files state.account) (stem_of world.account id) ≡ [])
+    (others : (other : List ℕ) → is_legal_id other ≡ true → bytes_eq other id ≡ false → copies maildir.files (stem_of world.account other) ≡ copies (files state.account) (stem_of world.account other))
     (untaken : has_id state.taken id ≡ false) where
   abbrev is_done : List ℕ → Bool
   is_done x = has_id (ids_of kept.done) x
 
-  abbrev now : State Account
+  abbrev now : State AccountMail
   now = with_maildir maildir state
 
   undone : is_done id ≡ false
   undone = false_from_ne_true (is_done id) (λ done. elim (done_is_held world state kept.done id (kept.holds id legal) done) [
-    | inl held ↦ both_ways (is_held world.account state.kept.maildir id) (unheld_if world state id none) held
+    | inl held ↦ both_ways (is_held world.account state.account.maildir id) (unheld_if world state id none) held
     | inr taken ↦ both_ways (has_id state.taken id) untaken taken
   ])
 
@@ -100,7 +100,7 @@ module _ (world : World) (is : IsSound world) (state : State Account) (kept : Ke
   among ids all x not = never (has_id ids) x not (λ e. all_ids_at (λ y. is_done y ≡ true) ids x all e)
 
   -- no file of a message that isn't done
-  no_copies : (x : List ℕ) → is_legal_id x ≡ true → is_done x ≡ false → copies (files state.kept) (stem_of world.account x) ≡ []
+  no_copies : (x : List ℕ) → is_legal_id x ≡ true → is_done x ≡ false → copies (files state.account) (stem_of world.account x) ≡ []
   no_copies x l not = elim (kept.holds x l) [
     | inl e ↦ e ∙ no_texts kept.done x not
     | inr taken ↦ taken.1
@@ -128,7 +128,7 @@ module _ (world : World) (is : IsSound world) (state : State Account) (kept : Ke
 
   pub lastly : IsLastStored world now id
   lastly = record {
-    unrecorded = never (is_delivered state.kept.rows) id undone (λ e. kept.recorded id e);
+    unrecorded = never (is_delivered state.account.rows) id undone (λ e. kept.recorded id e);
     on_server = among state.gone kept.gone id undone;
     last = subst (λ (l : List Message). AllByRecursion Neither (messages_after id l)) (sym kept.prefix)
         (subst (AllByRecursion Neither) (sym (after_later id kept.done kept.rest undone)) later);

@@ -12,13 +12,13 @@ use Rattle.mail_store.specs.Maildir.{Maildir, File}
 use Rattle.mail_store.specs.FileName.{is_held, mail_file}
 use Rattle.mail_store.specs.Mboxrd.{entry_of}
 use Rattle.mail_terms.specs.UniqueId.{has_id}
-use Rattle.run_law.specs.Accounts.{Account}
+use Rattle.run_law.specs.Accounts.{AccountMail}
 use Rattle.run_law.specs.Steps.{Effect, Leaves, Stores, file_for, is_unheld, ids_wanted, wanted_at, merged_rows}
 use Rattle.run_law.specs.Sessions.{IsBegun, BeginsOne}
 use Rattle.pop3_wire.specs.declared.command.Command.{Command}
 use Rattle.pop3_wire.specs.declared.command.Command.TheVariants.{Dele}
 use Rattle.run_law.specs.Safety.{IsAmong, DeletesKept, SessionsAreSafe}
-use Rattle.run_law.specs.Mboxes.{MboxAccount, settled, mbox_rows, mbox_wanted, entries, MboxStores}
+use Rattle.run_law.specs.Mboxes.{MboxMail, settled, mbox_rows, mbox_wanted, entries, MboxStores}
 use Rattle.run_law.specs.MboxSafety.{MboxDeletesKept, MboxSessionsAreSafe}
 use Rattle.run_law.proofs.Lists.{all_map, all_both, all_filter, all_passing, all_back}
 use Rattle.run_law.proofs.Ids.{bytes_same, bytes_self, taken_more, all_ids_at}
@@ -89,12 +89,12 @@ abbrev StoredBy : List ℕ → List (ℕ × Item) → List (List ℕ) → List F
 StoredBy account qs texts gained id = (message : ℕ × Item) × (text : List ℕ) × IsAmong (message, text) (zip qs texts)
     × (message.1.uid ≡ id) × IsAmong (mail_file account id text) gained
 
-abbrev KeptBy : Settings → List ℕ → Account → Effect → List File → List ℕ → Type 0
+abbrev KeptBy : Settings → List ℕ → AccountMail → Effect → List File → List ℕ → Type 0
 KeptBy settings account before effect gained id = (is_delivered before.rows id ≡ true) ⊎ (is_held account before.maildir id ≡ true)
     ⊎ StoredBy account (wanted_at settings account before effect) effect.texts gained id
 
 -- the files are still there, and each id for which a DELE was begun is kept
-record KeepsAll (settings : Settings) (account : List ℕ) (before : Account) (effect : Effect) (after : Account) : Type 0 where
+record KeepsAll (settings : Settings) (account : List ℕ) (before : AccountMail) (effect : Effect) (after : AccountMail) : Type 0 where
   gained : List File
   came : after.maildir.files ≡ before.maildir.files ++ gained
   begun : AllByRecursion (KeptBy settings account before effect gained) effect.begun
@@ -127,7 +127,7 @@ found account maildir (suc n) (q ∷ qs) (t ∷ ts) id less is free = elim (or_c
     next true text there = behind_one (mail_file account id text) (file_for account (q, t)) (map (file_for account) later) there
     next false text there = there
 
-module _ (laws : Records) (settings : Settings) (account : List ℕ) (before : Account) (effect : Effect) (after : Account) (stores : Stores settings account before effect after) where
+module _ (laws : Records) (settings : Settings) (account : List ℕ) (before : AccountMail) (effect : Effect) (after : AccountMail) (stores : Stores settings account before effect after) where
   abbrev qs : List (ℕ × Item)
   qs = wanted_at settings account before effect
 
@@ -160,14 +160,14 @@ module _ (laws : Records) (settings : Settings) (account : List ℕ) (before : A
     begun = all_map (λ id. is_delivered after.rows id ≡ true) (KeptBy settings account before effect gained) kept_ids effect.begun stores.begun;
   }
 
-kept_none : (settings : Settings) (account : List ℕ) (before : Account) (effect : Effect) (after : Account) → Leaves before effect after → KeepsAll settings account before effect after
+kept_none : (settings : Settings) (account : List ℕ) (before : AccountMail) (effect : Effect) (after : AccountMail) → Leaves before effect after → KeepsAll settings account before effect after
 kept_none settings account before effect after leaves = record {
   gained = [];
   came = leaves.same ∙ sym (append-nil before.maildir.files);
   begun = subst (λ (ids : List (List ℕ)). AllByRecursion (KeptBy settings account before effect []) ids) (sym leaves.begun) tt;
 }
 
-deletes_kept : (settings : Settings) (account : List ℕ) (before : Account) (effect : Effect) (after : Account) (keeps : KeepsAll settings account before effect after) (command : Command)
+deletes_kept : (settings : Settings) (account : List ℕ) (before : AccountMail) (effect : Effect) (after : AccountMail) (keeps : KeepsAll settings account before effect after) (command : Command)
     → IsBegun effect.listing effect.begun command → DeletesKept settings account before effect keeps.gained command
 deletes_kept settings account before effect after keeps (Dele number) (item, at, is, counted, alone) = (
   counted,
@@ -231,14 +231,14 @@ has_text (suc n) (q ∷ qs) (t ∷ ts) id less is = elim (or_cases _ _ is) [
 ]
 
 -- what comes after the entries
-pub tail_of : (settings : Settings) (before : MboxAccount) (effect : Effect) (after : MboxAccount) → (s : MboxStores settings before effect after)
+pub tail_of : (settings : Settings) (before : MboxMail) (effect : Effect) (after : MboxMail) → (s : MboxStores settings before effect after)
     → (rest : List ℕ) × (after.file ≡ (settled effect.listing before).file ++ (entries (take s.stored effect.texts) ++ rest))
 tail_of settings before effect after s = elim s.ending [
   | inl closed ↦ ([], closed.file ∙ ap (λ l. (settled effect.listing before).file ++ l) (sym (append-nil (entries (take s.stored effect.texts)))))
   | inr broken ↦ (broken.opened.front, broken.opened.file ∙ append_assoc (settled effect.listing before).file (entries (take s.stored effect.texts)) broken.opened.front)
 ]
 
-module _ (laws : RowLaws) (settings : Settings) (before : MboxAccount) (effect : Effect) (after : MboxAccount) (s : MboxStores settings before effect after) where
+module _ (laws : RowLaws) (settings : Settings) (before : MboxMail) (effect : Effect) (after : MboxMail) (s : MboxStores settings before effect after) where
   kept_id : (id : List ℕ) → is_delivered after.rows id ≡ true → (is_delivered (settled effect.listing before).rows id ≡ true) ⊎ HasText (mbox_wanted settings before effect) effect.texts id (entries (take s.stored effect.texts))
   kept_id id e = elim (delivered_marked laws.marks (mbox_rows before effect) (ids_wanted (take s.stored (mbox_wanted settings before effect))) id (ap (λ r. is_delivered r id) (sym s.rows) ∙ e)) [
     | inl known ↦ inl (sym (delivered_unheld laws (settled effect.listing before).rows effect.listing effect.now id) ∙ known)
@@ -269,7 +269,7 @@ module _ (laws : RowLaws) (settings : Settings) (before : MboxAccount) (effect :
   deletes other is = tt
 
 -- nothing was begun
-none_begun : (settings : Settings) (before : MboxAccount) (effect : Effect) (after : MboxAccount) → effect.begun ≡ [] → (command : Command) → IsBegun effect.listing effect.begun command → MboxDeletesKept settings before effect after command
+none_begun : (settings : Settings) (before : MboxMail) (effect : Effect) (after : MboxMail) → effect.begun ≡ [] → (command : Command) → IsBegun effect.listing effect.begun command → MboxDeletesKept settings before effect after command
 none_begun settings before effect after none (Dele number) (item, at, is, counted, alone) = absurd (true≢false (sym is ∙ ap (λ l. has_id l item.uid) none))
 none_begun settings before effect after none command is = tt
 

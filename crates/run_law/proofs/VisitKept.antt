@@ -11,7 +11,7 @@ use Rattle.fetch_rules.specs.Wanted.{wanted, candidates}
 use Rattle.mail_terms.specs.Listing.{has_item}
 use Rattle.mail_store.specs.FileName.{is_held, stem_of}
 use Rattle.run_law.specs.Mails.{ids_of, is_selected, selected, texts_of}
-use Rattle.run_law.specs.Accounts.{Account, files, copies, KeepsOthers}
+use Rattle.run_law.specs.Accounts.{AccountMail, files, copies, KeepsOthers}
 use Rattle.run_law.specs.Steps.{Stores, IsHonest, AreTexts, wanted_at, merged_rows, ids_wanted, file_for, is_unheld}
 use Rattle.run_law.specs.Runs.{World, IsSound, State, Visit, Visited, HoldsOf, Kept, after_event, shown, LeavesOut, DeletesHeld, StoresOnlyNew, past_limit}
 use Rattle.run_law.proofs.Core as core
@@ -25,16 +25,16 @@ use Rattle.run_law.proofs.Files.{held_done, copies-append, copies_messages, mess
 use Rattle.run_law.proofs.Wants.{num_item, wants_by_number, stored_files}
 use Rattle.run_law.proofs.Holds.{done_is_held, unheld_if}
 
-module _ (laws : Below) (world : World) (is : IsSound world) (before : State Account) (v : Visit) (kept : Kept world before) (same : v.settings.max_size ≡ world.max_size)
-    (s : Stores v.settings world.account before.kept v.effect v.after) (honest : IsHonest (wanted_at v.settings world.account before.kept v.effect) (shown world before v) v.effect) where
+module _ (laws : Below) (world : World) (is : IsSound world) (before : State AccountMail) (v : Visit) (kept : Kept world before) (same : v.settings.max_size ≡ world.max_size)
+    (s : Stores v.settings world.account before.account v.effect v.after) (honest : IsHonest (wanted_at v.settings world.account before.account v.effect) (shown world before v) v.effect) where
   abbrev rows : List Row
-  rows = merged_rows world.account before.kept v.effect
+  rows = merged_rows world.account before.account v.effect
 
   abbrev here : List Message
   here = shown world before v
 
   abbrev held : List ℕ → Bool
-  held id = is_held world.account before.kept.maildir id
+  held id = is_held world.account before.account.maildir id
 
   abbrev pub scene : Scene
   scene = record { all = world.all; gone = before.gone; come = v.come; settings = v.settings; rows = rows; done = kept.done; rest = kept.rest }
@@ -44,7 +44,7 @@ module _ (laws : Below) (world : World) (is : IsSound world) (before : State Acc
   pub is_scene : IsScene scene
   is_scene = plan.is_scene laws.records world is before kept v.settings v.come v.effect.now v.effect.listing honest.listing same
 
-  known_parts : (id : List ℕ) → is_delivered rows id ≡ (is_delivered before.kept.rows id || (has_item v.effect.listing id && held id))
+  known_parts : (id : List ℕ) → is_delivered rows id ≡ (is_delivered before.account.rows id || (has_item v.effect.listing id && held id))
   known_parts id = plan.known_parts laws.records world is before kept v.settings v.come v.effect.now v.effect.listing honest.listing same id
 
   pub known_done : (id : List ℕ) → is_delivered rows id ≡ true → core.is_done scene id ≡ true
@@ -53,10 +53,10 @@ module _ (laws : Below) (world : World) (is : IsSound world) (before : State Acc
 
   -- ---- what came into the Maildir
 
-  wanted_is : wanted_at v.settings world.account before.kept v.effect ≡ map num_item (wants_by_number v.settings rows here)
+  wanted_is : wanted_at v.settings world.account before.account v.effect ≡ map num_item (wants_by_number v.settings rows here)
   wanted_is = ap (λ l. wanted v.settings rows l) honest.listing ∙ core.wanted_is scene is_scene laws.filtered
 
-  zipped_is : zip (take s.stored (wanted_at v.settings world.account before.kept v.effect)) v.effect.texts
+  zipped_is : zip (take s.stored (wanted_at v.settings world.account before.account v.effect)) v.effect.texts
       ≡ map (λ (q : ℕ × Message). (num_item q, q.1.text)) (take s.stored (wants_by_number v.settings rows here))
   zipped_is = ap (λ w. zip (take s.stored w) v.effect.texts) wanted_is
       ∙ core.zipped_is scene is_scene v.effect.texts s.stored (subst (λ w. AreTexts here w v.effect.texts) wanted_is honest.texts) s.fetched
@@ -75,20 +75,20 @@ module _ (laws : Below) (world : World) (is : IsSound world) (before : State Acc
   legal_delivered : AllByRecursion IsLegal delivered
   legal_delivered = all_filter IsLegal (λ (m : Message). not (held m.uid)) got (all_take IsLegal s.stored (fetched scene) (core.legal_fetched scene is_scene))
 
-  new_is : v.after.maildir.files ≡ before.kept.maildir.files ++ map (message_file world.account) delivered
+  new_is : v.after.maildir.files ≡ before.account.maildir.files ++ map (message_file world.account) delivered
   new_is = s.came
-      ∙ ap (λ l. before.kept.maildir.files ++ map (file_for world.account) (filter (is_unheld world.account before.kept.maildir) l)) zipped_is
-      ∙ ap (λ l. before.kept.maildir.files ++ l) (stored_files world.account before.kept.maildir (take s.stored (wants_by_number v.settings rows here))
+      ∙ ap (λ l. before.account.maildir.files ++ map (file_for world.account) (filter (is_unheld world.account before.account.maildir) l)) zipped_is
+      ∙ ap (λ l. before.account.maildir.files ++ l) (stored_files world.account before.account.maildir (take s.stored (wants_by_number v.settings rows here))
       ∙ ap (λ l. map (message_file world.account) (filter (λ (m : Message). not (held m.uid)) l)) (core.taken_is scene is_scene s.stored))
 
-  files_are : files v.after ≡ files before.kept ++ map (message_file world.account) delivered
+  files_are : files v.after ≡ files before.account ++ map (message_file world.account) delivered
   files_are = new_is
 
   pub copies_are : (id : List ℕ) → is_legal_id id ≡ true → copies (files v.after) (stem_of world.account id)
-      ≡ copies (files before.kept) (stem_of world.account id) ++ cond (not (held id)) (texts_of got id) []
+      ≡ copies (files before.account) (stem_of world.account id) ++ cond (not (held id)) (texts_of got id) []
   copies_are id l = ap (λ f. copies f (stem_of world.account id)) files_are
-      ∙ copies-append (files before.kept) (map (message_file world.account) delivered) (stem_of world.account id)
-      ∙ ap (λ t. copies (files before.kept) (stem_of world.account id) ++ t)
+      ∙ copies-append (files before.account) (map (message_file world.account) delivered) (stem_of world.account id)
+      ∙ ap (λ t. copies (files before.account) (stem_of world.account id) ++ t)
       (copies_messages laws.differ laws.stems laws.own world.account delivered id is.account l legal_delivered
       ∙ texts_filtered (λ x. not (held x)) got id)
 
@@ -97,7 +97,7 @@ module _ (laws : Below) (world : World) (is : IsSound world) (before : State Acc
 
   pub holds_after : (id : List ℕ) → is_legal_id id ≡ true → HoldsOf world (after_event before (Visited v)) (kept.done ++ stored) id
   holds_after id l = elim (kept.holds id l) [
-    | inl e ↦ inl (cc (copies_are id l, e, held_done world.account before.kept kept.done id e, texts_after id))
+    | inl e ↦ inl (cc (copies_are id l, e, held_done world.account before.account kept.done id e, texts_after id))
     | inr (taken, none) ↦
         let is_done : core.is_done scene id ≡ true = all_ids_at (λ x. core.is_done scene x ≡ true) before.taken id kept.taken taken in
         let now : copies (files v.after) (stem_of world.account id) ≡ texts_of got id = copies_are id l ∙ rw (none, unheld_if world before id none) in
@@ -113,13 +113,13 @@ module _ (laws : Below) (world : World) (is : IsSound world) (before : State Acc
   abbrev is_done_after : List ℕ → Bool
   is_done_after id = core.is_done_after scene s.stored id
 
-  pub recorded_ids : ids_wanted (take s.recorded (wanted_at v.settings world.account before.kept v.effect)) ≡ ids_of (take s.recorded (fetched scene))
+  pub recorded_ids : ids_wanted (take s.recorded (wanted_at v.settings world.account before.account v.effect)) ≡ ids_of (take s.recorded (fetched scene))
   recorded_ids = ap (λ w. ids_wanted (take s.recorded w)) wanted_is ∙ core.wanted_ids scene is_scene s.recorded
 
   recorded_after : (id : List ℕ) → is_delivered v.after.rows id ≡ true → is_done_after id ≡ true
   recorded_after id e = elim s.rows [
     | inl old ↦ core.done_more scene is_scene s.stored id (kept.recorded id (ap (λ r. is_delivered r id) (sym old) ∙ e))
-    | inr new ↦ elim (delivered_marked laws.records.marks rows (ids_wanted (take s.recorded (wanted_at v.settings world.account before.kept v.effect))) id (sym (ap (λ r. is_delivered r id) new) ∙ e)) [
+    | inr new ↦ elim (delivered_marked laws.records.marks rows (ids_wanted (take s.recorded (wanted_at v.settings world.account before.account v.effect))) id (sym (ap (λ r. is_delivered r id) new) ∙ e)) [
       | inl was ↦ core.done_more scene is_scene s.stored id (known_done id was)
       | inr more ↦ core.fetched_done scene is_scene s.stored id (taken_more (λ (m : Message). m.uid) s.recorded s.stored (fetched scene) id s.order (sym (ap (λ l. has_id l id) recorded_ids) ∙ more))
     ]
@@ -147,18 +147,18 @@ module _ (laws : Below) (world : World) (is : IsSound world) (before : State Acc
   pub deletes_held : DeletesHeld world before v
   deletes_held = all_map (λ id. is_done_after id ≡ true) (λ id. (is_held world.account v.after.maildir id ≡ true) ⊎ (has_id before.taken id ≡ true)) held_after v.effect.begun begun_done
 
-  pub keeps_others : KeepsOthers world.account before.kept v.after
-  keeps_others = deliveries_keep laws.stems laws.own world.account before.kept v.after delivered is.account legal_delivered files_are
+  pub keeps_others : KeepsOthers world.account before.account v.after
+  keeps_others = deliveries_keep laws.stems laws.own world.account before.account v.after delivered is.account legal_delivered files_are
 
   pub stores_only_new : StoresOnlyNew world before v
   stores_only_new only_new id l recorded = (
     copies_are id l
-        ∙ ap (λ t. copies (files before.kept) (stem_of world.account id) ++ t) nothing
-        ∙ append-nil (copies (files before.kept) (stem_of world.account id)),
+        ∙ ap (λ t. copies (files before.account) (stem_of world.account id) ++ t) nothing
+        ∙ append-nil (copies (files before.account) (stem_of world.account id)),
     elim s.rows [
       | inl old ↦ ap (λ r. is_delivered r id) old ∙ recorded
       | inr new ↦ ap (λ r. is_delivered r id) new
-          ∙ marks_stay laws.records.marks rows (ids_wanted (take s.recorded (wanted_at v.settings world.account before.kept v.effect))) id known
+          ∙ marks_stay laws.records.marks rows (ids_wanted (take s.recorded (wanted_at v.settings world.account before.account v.effect))) id known
     ],
   )
     where

@@ -8,12 +8,12 @@ use Rattle.mail_store.specs.FileName.{stem, stem_of}
 use Rattle.mail_terms.specs.UniqueId.{is_legal_id}
 
 -- the rows of the record, and the Maildir
-pub record Account : Type 0 where
+pub record AccountMail : Type 0 where
   pub rows : List Row
   pub maildir : Maildir
 
 -- the files of `new` and `cur`; delivered files come last
-abbrev pub files : Account → List File
+abbrev pub files : AccountMail → List File
 files account = account.maildir.files
 
 -- the contents of the files whose names have this stem
@@ -29,6 +29,6 @@ abbrev pub IsOther : List ℕ → List ℕ → Type 0
 IsOther account name = (id : List ℕ) → is_legal_id id ≡ true → bytes_eq (stem name) (stem_of account id) ≡ false
 
 -- files of other names are the same as before, in whichever folder and with whatever marks
-abbrev pub KeepsOthers : List ℕ → Account → Account → Type 0
+abbrev pub KeepsOthers : List ℕ → AccountMail → AccountMail → Type 0
 KeepsOthers account before after = (name content : List ℕ) → IsOther account name
     → count_files (files after) name content ≡ count_files (files before) name content

@@ -7,7 +7,7 @@ use Rattle.rc_file.specs.declared.settings.Settings.{Settings}
 use Rattle.mail_store.specs.Maildir.{File}
 use Rattle.mail_store.specs.FileName.{mail_file}
 use Rattle.run_law.specs.Mails.{listing_of}
-use Rattle.run_law.specs.Accounts.{Account}
+use Rattle.run_law.specs.Accounts.{AccountMail}
 use Rattle.run_law.specs.Steps.{Effect, Leaves}
 use Rattle.run_law.specs.Sessions.{Session}
 
@@ -18,7 +18,8 @@ IsFileOf account drop f = (place : ℕ) × (message : Message) × (slice_get dro
     × (f ≡ mail_file account message.uid message.text)
 
 -- the joined listing is the maildrop's, and each file that was added to the Maildir is that of one of its messages
-pub record BringsMessages (account : List ℕ) (drop : List Message) (before : Account) (effect : Effect) (after : Account) : Type 0 where
+pub record BringsMessages (account : List ℕ) (drop : List Message) (before : AccountMail) (effect : Effect)
+    (after : AccountMail) : Type 0 where
   pub listing : effect.listing ≡ listing_of drop
   pub gained : List File
   pub came : after.maildir.files ≡ before.maildir.files ++ gained
@@ -27,7 +28,7 @@ pub record BringsMessages (account : List ℕ) (drop : List Message) (before : A
 -- a law: if the conversation is honest, a session left the account as it was, or brought messages of the
 -- maildrop and nothing else
 abbrev pub HonestSession : Type 0
-HonestSession = (settings : Settings) (account : List ℕ) (before : Account) (sent got : List ℕ)
-    (effect : Effect) (after : Account) (drop : List Message) (marks : List Bool)
+HonestSession = (settings : Settings) (account : List ℕ) (before : AccountMail) (sent got : List ℕ)
+    (effect : Effect) (after : AccountMail) (drop : List Message) (marks : List Bool)
     → Honest drop sent got marks → Session settings account before sent got effect after
     → Leaves before effect after ⊎ BringsMessages account drop before effect after

@@ -1,11 +1,12 @@
 pub mod Accounts
+pub mod Counted
 pub mod HonestSession
 pub mod Mails
+pub mod MboxCounted
 pub mod MboxHonestSession
 pub mod MboxRuns
 pub mod MboxSafety
 pub mod MboxSessions
-pub mod MboxTold
 pub mod Mboxes
 pub mod Plans
 pub mod Power
@@ -14,4 +15,3 @@ pub mod Runs
 pub mod Safety
 pub mod Sessions
 pub mod Steps
-pub mod Told

@@ -10,11 +10,11 @@ use Rattle.pop3_wire.specs.World.{Message, IsWorld, maildrop_of}
 use Rattle.run_law.specs.Mails.{ids_of, is_selected, selected, without}
 use Rattle.run_law.specs.Steps.{Effect, IsHonest, ids_wanted}
 use Rattle.run_law.specs.Runs.{past_limit}
-use Rattle.run_law.specs.Mboxes.{MboxAccount, mbox_rows, mbox_wanted, entries, intent_of, IsClosed, IsOpen, MboxLeaves, MboxStores}
+use Rattle.run_law.specs.Mboxes.{MboxMail, mbox_rows, mbox_wanted, entries, intent_of, IsClosed, IsOpen, MboxLeaves, MboxStores}
 
 -- what is kept of an account, and the ids that are gone from the server
 pub record MboxState (K : Type 0) : Type 0 where
-  pub kept : K
+  pub account : K
   pub gone : List (List ℕ)
 
 -- one session: its settings, how much mail had come, what it did, which ids its QUIT removed from the server,
@@ -24,10 +24,10 @@ pub record MboxVisit : Type 0 where
   pub come : ℕ
   pub effect : Effect
   pub vanished : List (List ℕ)
-  pub after : MboxAccount
+  pub after : MboxMail
 
-abbrev pub after_visit : MboxState MboxAccount → MboxVisit → MboxState MboxAccount
-after_visit before visit = record { kept = visit.after; gone = before.gone ++ visit.vanished }
+abbrev pub after_visit : MboxState MboxMail → MboxVisit → MboxState MboxMail
+after_visit before visit = record { account = visit.after; gone = before.gone ++ visit.vanished }
 
 -- what stays throughout, but where others write the file or messages are withdrawn: the file before the first session, the
 -- messages that were recorded as delivered then, whose entries aren't looked for, the limit on sizes, and all mail
@@ -37,15 +37,15 @@ pub record MboxWorld : Type 0 where
   pub max_size : ℕ
   pub all : List Message
 
-abbrev pub mbox_shown : MboxWorld → MboxState MboxAccount → MboxVisit → List Message
+abbrev pub mbox_shown : MboxWorld → MboxState MboxMail → MboxVisit → List Message
 mbox_shown world before visit = maildrop_of world.all visit.come before.gone
 
-pub record MboxVisits (world : MboxWorld) (before : MboxState MboxAccount) (visit : MboxVisit) : Type 0 where
+pub record MboxVisits (world : MboxWorld) (before : MboxState MboxMail) (visit : MboxVisit) : Type 0 where
   pub same : visit.settings.max_size ≡ world.max_size
   pub only_new : visit.settings.read_all ≡ false
-  pub step : MboxLeaves before.kept visit.effect visit.after
-      ⊎ (MboxStores visit.settings before.kept visit.effect visit.after
-      × IsHonest (mbox_wanted visit.settings before.kept visit.effect) (mbox_shown world before visit) visit.effect)
+  pub step : MboxLeaves before.account visit.effect visit.after
+      ⊎ (MboxStores visit.settings before.account visit.effect visit.after
+      × IsHonest (mbox_wanted visit.settings before.account visit.effect) (mbox_shown world before visit) visit.effect)
   pub vanished : AllByRecursion (λ id. has_id visit.effect.begun id ≡ true) visit.vanished
 
 -- a session; messages that are gone from the server after they were recorded as delivered, or before; and others who write
@@ -56,11 +56,11 @@ pub data MboxEvent : Type 0 where
   MboxWithdrawn : List (List ℕ) → MboxEvent
   MboxRewritten : List Message → List ℕ → MboxEvent
 
-abbrev pub after_mbox_event : MboxState MboxAccount → MboxEvent → MboxState MboxAccount
+abbrev pub after_mbox_event : MboxState MboxMail → MboxEvent → MboxState MboxMail
 after_mbox_event before (MboxVisited visit) = after_visit before visit
 after_mbox_event before (MboxExpired ids) = record before { gone = before.gone ++ ids }
 after_mbox_event before (MboxWithdrawn ids) = before
-after_mbox_event before (MboxRewritten had file) = record before { kept = record before.kept { file = file } }
+after_mbox_event before (MboxRewritten had file) = record before { account = record before.account { file = file } }
 
 -- all mail goes on without the messages that are withdrawn; what others write is what the file begins with
 abbrev pub mbox_world_after : MboxWorld → MboxEvent → MboxWorld
@@ -69,30 +69,30 @@ mbox_world_after world (MboxRewritten had file) = record world { start = file; h
 mbox_world_after world _ = world
 
 -- the message isn't recorded as delivered, and no intent is open for it
-abbrev pub IsUnbegun : MboxAccount → List ℕ → Type 0
+abbrev pub IsUnbegun : MboxMail → List ℕ → Type 0
 IsUnbegun account id = (is_delivered account.rows id ≡ false)
     × ((intent : Intent) → account.intent ≡ Some intent → bytes_eq intent.uid id ≡ false)
 
 -- no intent is open, and exactly these messages are recorded as delivered, which are the first of the selected ones
-pub record AreAllRecorded (world : MboxWorld) (account : MboxAccount) (had : List Message) : Type 0 where
+pub record AreAllRecorded (world : MboxWorld) (account : MboxMail) (had : List Message) : Type 0 where
   pub closed : account.intent ≡ None
   pub ahead : List Message
   pub prefix : selected world.max_size world.all ≡ had ++ ahead
   pub recorded : (id : List ℕ) → is_delivered account.rows id ≡ has_id (ids_of had) id
 
 -- nothing else happens to the record between two sessions
-abbrev pub MboxHappens : MboxWorld → MboxState MboxAccount → MboxEvent → Type 0
+abbrev pub MboxHappens : MboxWorld → MboxState MboxMail → MboxEvent → Type 0
 MboxHappens world before (MboxVisited visit) = MboxVisits world before visit
-MboxHappens world before (MboxExpired ids) = AllByRecursion (λ id. is_delivered before.kept.rows id ≡ true) ids
-MboxHappens world before (MboxWithdrawn ids) = AllByRecursion (IsUnbegun before.kept) ids
-MboxHappens world before (MboxRewritten had file) = AreAllRecorded world before.kept had
+MboxHappens world before (MboxExpired ids) = AllByRecursion (λ id. is_delivered before.account.rows id ≡ true) ids
+MboxHappens world before (MboxWithdrawn ids) = AllByRecursion (IsUnbegun before.account) ids
+MboxHappens world before (MboxRewritten had file) = AreAllRecorded world before.account had
 
-abbrev pub MboxRun : MboxWorld → MboxState MboxAccount → List MboxEvent → Type 0
+abbrev pub MboxRun : MboxWorld → MboxState MboxMail → List MboxEvent → Type 0
 MboxRun world before [] = Unit {0}
 MboxRun world before (event ∷ events) = MboxHappens world before event
     × MboxRun (mbox_world_after world event) (after_mbox_event before event) events
 
-abbrev pub after_mbox_events : MboxState MboxAccount → List MboxEvent → MboxState MboxAccount
+abbrev pub after_mbox_events : MboxState MboxMail → List MboxEvent → MboxState MboxMail
 after_mbox_events before [] = before
 after_mbox_events before (event ∷ events) = after_mbox_events (after_mbox_event before event) events
 
@@ -105,7 +105,7 @@ abbrev pub entries_of : List Message → List ℕ
 entries_of ms = entries (map (λ (m : Message). m.text) ms)
 
 -- the next message's entry was about to be appended to these bytes, and its id has a row
-pub record IsNextOpen (bytes : List ℕ) (rest : List Message) (account : MboxAccount) : Type 0 where
+pub record IsNextOpen (bytes : List ℕ) (rest : List Message) (account : MboxMail) : Type 0 where
   pub next : Message
   pub more : List Message
   pub is_next : rest ≡ next ∷ more
@@ -115,20 +115,20 @@ pub record IsNextOpen (bytes : List ℕ) (rest : List Message) (account : MboxAc
 -- the recorded messages are exactly a prefix of the selected ones: those that were recorded before the first
 -- session, and some more. The file is the one before the first session, followed by the entries of these
 -- others, and by a prefix of the next entry only if its intent is open. What is gone is recorded
-pub record MboxKept (world : MboxWorld) (state : MboxState MboxAccount) : Type 0 where
+pub record MboxKept (world : MboxWorld) (state : MboxState MboxMail) : Type 0 where
   pub done : List Message
   pub rest : List Message
   pub prefix : selected world.max_size world.all ≡ (world.had ++ done) ++ rest
-  pub recorded : (id : List ℕ) → is_delivered state.kept.rows id ≡ has_id (ids_of (world.had ++ done)) id
+  pub recorded : (id : List ℕ) → is_delivered state.account.rows id ≡ has_id (ids_of (world.had ++ done)) id
   pub gone : AllByRecursion (λ id. has_id (ids_of (world.had ++ done)) id ≡ true) state.gone
-  pub stands : IsClosed (world.start ++ entries_of done) state.kept ⊎ IsNextOpen (world.start ++ entries_of done) rest state.kept
+  pub stands : IsClosed (world.start ++ entries_of done) state.account ⊎ IsNextOpen (world.start ++ entries_of done) rest state.account
 
 -- an uncut session leaves out only what its limits exclude, and leaves no intent open
-pub record MboxEnds (world : MboxWorld) (before : MboxState MboxAccount) (visit : MboxVisit) : Type 0 where
+pub record MboxEnds (world : MboxWorld) (before : MboxState MboxMail) (visit : MboxVisit) : Type 0 where
   pub closed : visit.after.intent ≡ None
   pub leaves_out : AllByRecursion (λ (m : Message). (is_delivered visit.after.rows m.uid ≡ true) ⊎ (is_selected world.max_size m ≡ false)
       ⊎ (has_id (ids_wanted (past_limit visit.settings.max_count
-      (candidates visit.settings (mbox_rows before.kept visit.effect) visit.effect.listing))) m.uid ≡ true))
+      (candidates visit.settings (mbox_rows before.account visit.effect) visit.effect.listing))) m.uid ≡ true))
       (mbox_shown world before visit)
 
 -- the file has the whole entry of a message with this id
@@ -143,16 +143,16 @@ pub record HasEntry (world : MboxWorld) (file id : List ℕ) : Type 0 where
 
 -- what a session promises: an uncut one ends in this way; each DELE begun is for a message whose whole entry
 -- is in the file, or that was recorded before the first session
-pub record MboxPromises (world : MboxWorld) (before : MboxState MboxAccount) (visit : MboxVisit) : Type 0 where
+pub record MboxPromises (world : MboxWorld) (before : MboxState MboxMail) (visit : MboxVisit) : Type 0 where
   pub ends : visit.effect.ended ≡ true → MboxEnds world before visit
   pub begun : AllByRecursion (λ id. (has_id (ids_of world.had) id ≡ true) ⊎ HasEntry world visit.after.file id) visit.effect.begun
 
 -- nothing is promised of what others do
-abbrev pub MboxPromised : MboxWorld → MboxState MboxAccount → MboxEvent → Type 0
+abbrev pub MboxPromised : MboxWorld → MboxState MboxMail → MboxEvent → Type 0
 MboxPromised world before (MboxVisited visit) = MboxPromises world before visit
 MboxPromised world before _ = Unit {0}
 
-abbrev pub AllMboxPromised : MboxWorld → MboxState MboxAccount → List MboxEvent → Type 0
+abbrev pub AllMboxPromised : MboxWorld → MboxState MboxMail → List MboxEvent → Type 0
 AllMboxPromised world before [] = Unit {0}
 AllMboxPromised world before (event ∷ events) = MboxPromised world before event
     × MboxKept (mbox_world_after world event) (after_mbox_event before event)
@@ -160,14 +160,14 @@ AllMboxPromised world before (event ∷ events) = MboxPromised world before even
 
 -- the law: from a kept state any events lead to a kept state, and each keeps its promises
 abbrev pub MboxKeptStaysKept : Type 0
-MboxKeptStaysKept = (world : MboxWorld) (start : MboxState MboxAccount) (events : List MboxEvent) → IsWorld world.all
+MboxKeptStaysKept = (world : MboxWorld) (start : MboxState MboxMail) (events : List MboxEvent) → IsWorld world.all
     → MboxKept world start → MboxRun world start events
     → MboxKept (mbox_world_after_all world events) (after_mbox_events start events) × AllMboxPromised world start events
 
 -- the file is the one before the first session, followed by the entries of the next j of the selected messages
 -- after those that were recorded before the first session, in order, each once, and by at most a prefix of the
 -- next entry, which may be all of it and whose intent is then open. The recorded messages are exactly these
-pub record MboxHolds (world : MboxWorld) (account : MboxAccount) : Type 0 where
+pub record MboxHolds (world : MboxWorld) (account : MboxMail) : Type 0 where
   pub j : ℕ
   pub later : List Message
   pub later_is : selected world.max_size world.all ≡ world.had ++ later
@@ -185,7 +185,7 @@ pub record MboxHolds (world : MboxWorld) (account : MboxAccount) : Type 0 where
       → MboxFile account.file (first ++ map (λ (m : Message). m.text) (take j later))
 
 abbrev pub MboxKeptHolds : Type 0
-MboxKeptHolds = (world : MboxWorld) (state : MboxState MboxAccount) → IsWorld world.all → MboxKept world state → MboxHolds world state.kept
+MboxKeptHolds = (world : MboxWorld) (state : MboxState MboxMail) → IsWorld world.all → MboxKept world state → MboxHolds world state.account
 
 -- an account without an open intent that records exactly a prefix of the selected messages as delivered is
 -- kept with any file. An empty record is such a record, and a record of version 1 has no open intent
@@ -194,15 +194,15 @@ MboxStartsKept = (world : MboxWorld) (rows : List Row) (rest : List Message) (go
     → selected world.max_size world.all ≡ world.had ++ rest
     → ((id : List ℕ) → is_delivered rows id ≡ has_id (ids_of world.had) id)
     → AllByRecursion (λ id. has_id (ids_of world.had) id ≡ true) gone
-    → MboxKept world (record { kept = record { rows = rows; intent = None; file = world.start }; gone = gone })
+    → MboxKept world (record { account = record { rows = rows; intent = None; file = world.start }; gone = gone })
 
 -- a law: in a kept state without an open intent some messages are exactly the recorded ones, so others may write the file
 abbrev pub SomeAreRecorded : Type 0
-SomeAreRecorded = (world : MboxWorld) (state : MboxState MboxAccount) → MboxKept world state → state.kept.intent ≡ None
-    → (had : List Message) × AreAllRecorded world state.kept had
+SomeAreRecorded = (world : MboxWorld) (state : MboxState MboxMail) → MboxKept world state → state.account.intent ≡ None
+    → (had : List Message) × AreAllRecorded world state.account had
 
 -- in every state there is a session that ends
 abbrev pub MboxCanEnd : Type 0
-MboxCanEnd = (world : MboxWorld) (before : MboxState MboxAccount) (settings : Settings) (come now : ℕ)
+MboxCanEnd = (world : MboxWorld) (before : MboxState MboxMail) (settings : Settings) (come now : ℕ)
     → IsWorld world.all → settings.max_size ≡ world.max_size → settings.read_all ≡ false
     → (visit : MboxVisit) × MboxVisits world before visit × (visit.effect.ended ≡ true) × (visit.come ≡ come)

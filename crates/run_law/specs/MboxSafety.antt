@@ -8,7 +8,7 @@ use Rattle.mail_store.specs.Mboxrd.{entry_of}
 use Rattle.run_law.specs.Steps.{Effect}
 use Rattle.run_law.specs.Sessions.{BeginsOne}
 use Rattle.run_law.specs.Safety.{IsAmong}
-use Rattle.run_law.specs.Mboxes.{MboxAccount, settled, mbox_wanted}
+use Rattle.run_law.specs.Mboxes.{MboxMail, settled, mbox_wanted}
 use Rattle.run_law.specs.MboxSessions.{MboxSession}
 use Rattle.pop3_wire.specs.Honest.{Asked}
 use Rattle.pop3_wire.specs.declared.command.Command.{Command}
@@ -17,7 +17,7 @@ use Rattle.mail_terms.specs.Listing.{Item}
 
 -- the wanted message of this number has the id, and the whole entry of the text that the session got by that
 -- number comes after what the settled file held
-pub record WasAppended (settings : Settings) (before : MboxAccount) (effect : Effect) (after : MboxAccount)
+pub record WasAppended (settings : Settings) (before : MboxMail) (effect : Effect) (after : MboxMail)
     (number : ℕ) (id : List ℕ) : Type 0 where
   pub message : ℕ × Item
   pub text : List ℕ
@@ -30,7 +30,7 @@ pub record WasAppended (settings : Settings) (before : MboxAccount) (effect : Ef
 
 -- a DELE gives the number, counted from 1, of a message that the settled record shows as delivered, or whose
 -- entry the session appended; no other command deletes
-abbrev pub MboxDeletesKept : Settings → MboxAccount → Effect → MboxAccount → Command → Type 0
+abbrev pub MboxDeletesKept : Settings → MboxMail → Effect → MboxMail → Command → Type 0
 MboxDeletesKept settings before effect after (Dele number) =
     (0 < number) × (item : Item) × (slice_get effect.listing (number - 1) ≡ Some item)
     × ((is_delivered (settled effect.listing before).rows item.uid ≡ true) ⊎ WasAppended settings before effect after number item.uid)
@@ -38,7 +38,7 @@ MboxDeletesKept settings before effect after _ = Unit {0}
 
 -- the file is as it was, or begins with what it held after it was settled; and each DELE that was sent, the
 -- last perhaps in part, asks for such a message
-pub record MboxIsSafe (settings : Settings) (before : MboxAccount) (sent : List ℕ) (effect : Effect) (after : MboxAccount) : Type 0 where
+pub record MboxIsSafe (settings : Settings) (before : MboxMail) (sent : List ℕ) (effect : Effect) (after : MboxMail) : Type 0 where
   pub file : (after.file ≡ before.file) ⊎ ((more : List ℕ) × (after.file ≡ (settled effect.listing before).file ++ more))
   pub commands : List Command
   pub asked : Asked commands sent
@@ -47,5 +47,5 @@ pub record MboxIsSafe (settings : Settings) (before : MboxAccount) (sent : List 
 
 -- a law: every session is safe in this way, whatever its server says
 abbrev pub MboxSessionsAreSafe : Type 0
-MboxSessionsAreSafe = (settings : Settings) (before : MboxAccount) (sent got : List ℕ) (effect : Effect) (after : MboxAccount)
+MboxSessionsAreSafe = (settings : Settings) (before : MboxMail) (sent got : List ℕ) (effect : Effect) (after : MboxMail)
     → MboxSession settings before sent got effect after → MboxIsSafe settings before sent effect after

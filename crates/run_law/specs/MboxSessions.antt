@@ -8,7 +8,7 @@ use Rattle.pop3_wire.specs.World.{maildrop_of}
 use Rattle.rc_file.specs.declared.settings.Settings.{Settings}
 use Rattle.run_law.specs.Steps.{Effect}
 use Rattle.run_law.specs.Sessions.{IsBegun, Reads, BeginsOne, Served}
-use Rattle.run_law.specs.Mboxes.{MboxAccount, mbox_wanted, MboxLeaves, MboxStores}
+use Rattle.run_law.specs.Mboxes.{MboxMail, mbox_wanted, MboxLeaves, MboxStores}
 use Rattle.run_law.specs.MboxRuns.{MboxWorld, MboxState, MboxVisit, MboxVisits}
 
 -- neither RETR nor DELE
@@ -23,8 +23,8 @@ AsksForNone commands part = AllByRecursion AsksForNoMessage commands × BeginsOn
 
 -- a session by what its link gained: it asked for no message and left the account as it was, or its file cut
 -- back; or it settled the account, read the replies and appended texts
-pub record MboxSession (settings : Settings) (before : MboxAccount) (sent got : List ℕ) (effect : Effect)
-    (after : MboxAccount) : Type 0 where
+pub record MboxSession (settings : Settings) (before : MboxMail) (sent got : List ℕ) (effect : Effect)
+    (after : MboxMail) : Type 0 where
   pub commands : List Command
   pub asked : Asked commands sent
   pub begun : AllByRecursion (IsBegun effect.listing effect.begun) commands
@@ -40,14 +40,14 @@ pub record MboxLink : Type 0 where
   pub sent : List ℕ
   pub got : List ℕ
   pub vanished : List (List ℕ)
-  pub after : MboxAccount
+  pub after : MboxMail
 
 -- a session of the code, over an honest link
-pub record MboxLinks (world : MboxWorld) (before : MboxState MboxAccount) (link : MboxLink) : Type 0 where
+pub record MboxLinks (world : MboxWorld) (before : MboxState MboxMail) (link : MboxLink) : Type 0 where
   pub same : link.settings.max_size ≡ world.max_size
   pub only_new : link.settings.read_all ≡ false
   pub effect : Effect
-  pub session : MboxSession link.settings before.kept link.sent link.got effect link.after
+  pub session : MboxSession link.settings before.account link.sent link.got effect link.after
   pub served : Served (maildrop_of world.all link.come before.gone) link.sent link.got link.vanished
 
 abbrev pub mbox_visit_of : MboxLink → Effect → MboxVisit
@@ -61,5 +61,5 @@ mbox_visit_of link effect = record {
 
 -- a law: a session over an honest link is a visit of the law over runs
 abbrev pub MboxLinksAreVisits : Type 0
-MboxLinksAreVisits = (world : MboxWorld) (before : MboxState MboxAccount) (link : MboxLink)
+MboxLinksAreVisits = (world : MboxWorld) (before : MboxState MboxMail) (link : MboxLink)
     → (l : MboxLinks world before link) → MboxVisits world before (mbox_visit_of link l.effect)

@@ -12,7 +12,7 @@ use Rattle.mail_store.specs.Settling.{listed_size, stands_whole, settled_file}
 use Rattle.run_law.specs.Steps.{Effect, ids_wanted}
 
 -- the rows of the record and its open intent, and the mboxrd file
-pub record MboxAccount : Type 0 where
+pub record MboxMail : Type 0 where
   pub rows : List Row
   pub intent : Option Intent
   pub file : List ℕ
@@ -28,7 +28,7 @@ closed_file None listing file = file
 closed_file (Some intent) listing file = settled_file intent.start intent.len (listed_size listing intent.uid) file
 
 -- the account after the open intent is closed, by what is listed
-abbrev pub settled : List Item → MboxAccount → MboxAccount
+abbrev pub settled : List Item → MboxMail → MboxMail
 settled listing account = record {
   rows = closed_rows (is_stored account.intent listing account.file) account.rows account.intent;
   intent = None;
@@ -40,10 +40,10 @@ abbrev pub none_held : List Item → List Bool
 none_held listing = map (λ _. false) listing
 
 -- the record after it was settled and the listing was merged into it
-abbrev pub mbox_rows : MboxAccount → Effect → List Row
+abbrev pub mbox_rows : MboxMail → Effect → List Row
 mbox_rows before effect = merged (settled effect.listing before).rows effect.listing (none_held effect.listing) effect.now
 
-abbrev pub mbox_wanted : Settings → MboxAccount → Effect → List (ℕ × Item)
+abbrev pub mbox_wanted : Settings → MboxMail → Effect → List (ℕ × Item)
 mbox_wanted settings before effect = wanted settings (mbox_rows before effect) effect.listing
 
 -- the entries of these texts
@@ -55,13 +55,13 @@ abbrev pub intent_of : List ℕ → List ℕ → List ℕ → Intent
 intent_of bytes uid text = record { uid = uid; start = length bytes; len = length (entry_of text) }
 
 -- the file is these bytes, and no intent is open
-pub record IsClosed (bytes : List ℕ) (account : MboxAccount) : Type 0 where
+pub record IsClosed (bytes : List ℕ) (account : MboxMail) : Type 0 where
   pub intent : account.intent ≡ None
   pub file : account.file ≡ bytes
 
 -- the intent to append the entry of this text is open, and the file is these bytes and a prefix of the entry,
 -- which may be empty or the whole entry
-pub record IsOpen (bytes uid text : List ℕ) (account : MboxAccount) : Type 0 where
+pub record IsOpen (bytes uid text : List ℕ) (account : MboxMail) : Type 0 where
   pub intent : account.intent ≡ Some (intent_of bytes uid text)
   pub front : List ℕ
   pub behind : List ℕ
@@ -69,7 +69,7 @@ pub record IsOpen (bytes uid text : List ℕ) (account : MboxAccount) : Type 0 w
   pub file : account.file ≡ bytes ++ front
 
 -- no command for a message was begun: the record is as it was, and the file is as it was, or cut back by its intent
-pub record MboxLeaves (before : MboxAccount) (effect : Effect) (after : MboxAccount) : Type 0 where
+pub record MboxLeaves (before : MboxMail) (effect : Effect) (after : MboxMail) : Type 0 where
   pub rows : after.rows ≡ before.rows
   pub intent : after.intent ≡ before.intent
   pub file : (after.file ≡ before.file) ⊎ (after.file ≡ (settled effect.listing before).file)
@@ -77,7 +77,7 @@ pub record MboxLeaves (before : MboxAccount) (effect : Effect) (after : MboxAcco
   pub ended : effect.ended ≡ false
 
 -- the entry of the next wanted message was about to be appended
-pub record IsBroken (settings : Settings) (before : MboxAccount) (effect : Effect) (stored : ℕ) (after : MboxAccount) : Type 0 where
+pub record IsBroken (settings : Settings) (before : MboxMail) (effect : Effect) (stored : ℕ) (after : MboxMail) : Type 0 where
   pub message : ℕ × Item
   pub text : List ℕ
   pub wanted : slice_get (mbox_wanted settings before effect) stored ≡ Some message
@@ -85,7 +85,7 @@ pub record IsBroken (settings : Settings) (before : MboxAccount) (effect : Effec
   pub opened : IsOpen ((settled effect.listing before).file ++ entries (take stored effect.texts)) message.1.uid text after
 
 -- the account was settled, the listing merged, and the first `stored` of the wanted messages appended and recorded
-pub record MboxStores (settings : Settings) (before : MboxAccount) (effect : Effect) (after : MboxAccount) : Type 0 where
+pub record MboxStores (settings : Settings) (before : MboxMail) (effect : Effect) (after : MboxMail) : Type 0 where
   pub stored : ℕ
   pub fetched : stored ≤ length effect.texts
   pub rows : after.rows ≡ marked_all (mbox_rows before effect) (ids_wanted (take stored (mbox_wanted settings before effect)))

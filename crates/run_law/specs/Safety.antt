@@ -5,7 +5,7 @@ use Rattle.rc_file.specs.declared.settings.Settings.{Settings}
 use Rattle.fetch_rules.specs.Record.{is_delivered}
 use Rattle.mail_store.specs.Maildir.{File}
 use Rattle.mail_store.specs.FileName.{is_held, mail_file}
-use Rattle.run_law.specs.Accounts.{Account}
+use Rattle.run_law.specs.Accounts.{AccountMail}
 use Rattle.run_law.specs.Steps.{Effect, wanted_at}
 use Rattle.run_law.specs.Sessions.{BeginsOne, Session}
 use Rattle.pop3_wire.specs.Honest.{Asked}
@@ -18,19 +18,19 @@ IsAmong x xs = (front behind : List _) × (xs ≡ front ++ x ∷ behind)
 
 -- the wanted message of this number has the id, and the text that the session got by that number is in one of
 -- the files that it added, under the name of the id
-abbrev pub WasStored : Settings → List ℕ → Account → Effect → List File → ℕ → List ℕ → Type 0
+abbrev pub WasStored : Settings → List ℕ → AccountMail → Effect → List File → ℕ → List ℕ → Type 0
 WasStored settings account before effect gained number id = (message : ℕ × Item) × (text : List ℕ)
     × IsAmong (message, text) (zip (wanted_at settings account before effect) effect.texts)
     × (message.0 ≡ number) × (message.1.uid ≡ id) × IsAmong (mail_file account id text) gained
 
 -- the id was recorded as delivered before the session, or was held, or the session stored the text that it
 -- got by this number
-abbrev pub IsKept : Settings → List ℕ → Account → Effect → List File → ℕ → List ℕ → Type 0
+abbrev pub IsKept : Settings → List ℕ → AccountMail → Effect → List File → ℕ → List ℕ → Type 0
 IsKept settings account before effect gained number id = (is_delivered before.rows id ≡ true)
     ⊎ (is_held account before.maildir id ≡ true) ⊎ WasStored settings account before effect gained number id
 
 -- a DELE gives the number, counted from 1, of a message that is kept in this way; no other command deletes
-abbrev pub DeletesKept : Settings → List ℕ → Account → Effect → List File → Command → Type 0
+abbrev pub DeletesKept : Settings → List ℕ → AccountMail → Effect → List File → Command → Type 0
 DeletesKept settings account before effect gained (Dele number) =
     (0 < number) × (item : Item) × (slice_get effect.listing (number - 1) ≡ Some item)
     × IsKept settings account before effect gained number item.uid
@@ -38,8 +38,8 @@ DeletesKept settings account before effect gained _ = Unit {0}
 
 -- every file of `new` and `cur` is still there, with what it held; and each DELE that was sent, the last
 -- perhaps in part, asks for such a message
-pub record IsSafe (settings : Settings) (account : List ℕ) (before : Account) (sent : List ℕ)
-    (effect : Effect) (after : Account) : Type 0 where
+pub record IsSafe (settings : Settings) (account : List ℕ) (before : AccountMail) (sent : List ℕ)
+    (effect : Effect) (after : AccountMail) : Type 0 where
   pub gained : List File
   pub came : after.maildir.files ≡ before.maildir.files ++ gained
   pub commands : List Command
@@ -49,5 +49,6 @@ pub record IsSafe (settings : Settings) (account : List ℕ) (before : Account) 
 
 -- a law: every session is safe in this way, whatever its server says
 abbrev pub SessionsAreSafe : Type 0
-SessionsAreSafe = (settings : Settings) (account : List ℕ) (before : Account) (sent got : List ℕ) (effect : Effect) (after : Account)
+SessionsAreSafe = (settings : Settings) (account : List ℕ) (before : AccountMail) (sent got : List ℕ) (effect : Effect)
+    (after : AccountMail)
     → Session settings account before sent got effect after → IsSafe settings account before sent effect after

@@ -10,7 +10,7 @@ use Rattle.pop3_wire.specs.World.{Message, maildrop_of}
 use Rattle.mail_terms.specs.Listing.{Item, is_first, is_last}
 use Rattle.rc_file.specs.declared.settings.Settings.{Settings}
 use Rattle.mail_terms.specs.UniqueId.{has_id}
-use Rattle.run_law.specs.Accounts.{Account}
+use Rattle.run_law.specs.Accounts.{AccountMail}
 use Rattle.run_law.specs.Steps.{Effect, Leaves, Stores, wanted_at}
 use Rattle.pop3_wire.specs.Reading.{WholeReply}
 use Rattle.run_law.specs.Readings.{Talked, Retrieves, IsListed}
@@ -47,8 +47,8 @@ abbrev pub BeginsOne : (Command → Type 0) → List ℕ → Type 0
 BeginsOne Is part = (part ≡ []) ⊎ ((command : Command) × (unsent : List ℕ) × (ended (line_of command) ≡ part ++ unsent) × Is command)
 
 -- a session by what its link gained: it changed nothing, or it read the replies and stored texts
-pub record Session (settings : Settings) (account : List ℕ) (before : Account) (sent got : List ℕ)
-    (effect : Effect) (after : Account) : Type 0 where
+pub record Session (settings : Settings) (account : List ℕ) (before : AccountMail) (sent got : List ℕ)
+    (effect : Effect) (after : AccountMail) : Type 0 where
   pub commands : List Command
   pub asked : Asked commands sent
   pub begun : AllByRecursion (IsBegun effect.listing effect.begun) commands
@@ -76,18 +76,18 @@ pub record Link : Type 0 where
   pub sent : List ℕ
   pub got : List ℕ
   pub vanished : List (List ℕ)
-  pub after : Account
+  pub after : AccountMail
 
 -- a session of the code, over an honest link
-pub record Links (world : World) (before : State Account) (link : Link) : Type 0 where
+pub record Links (world : World) (before : State AccountMail) (link : Link) : Type 0 where
   pub same : link.settings.max_size ≡ world.max_size
   pub effect : Effect
-  pub session : Session link.settings world.account before.kept link.sent link.got effect link.after
+  pub session : Session link.settings world.account before.account link.sent link.got effect link.after
   pub served : Served (maildrop_of world.all link.come before.gone) link.sent link.got link.vanished
 
 -- a law: a session over an honest link is a visit of the law over runs
 abbrev pub LinksAreVisits : Type 0
-LinksAreVisits = (world : World) (before : State Account) (link : Link) → (l : Links world before link)
+LinksAreVisits = (world : World) (before : State AccountMail) (link : Link) → (l : Links world before link)
     → Visits world before (record {
       settings = link.settings;
       come = link.come;

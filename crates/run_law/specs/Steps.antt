@@ -10,7 +10,7 @@ use Rattle.mail_store.specs.FileName.{is_held, mail_file}
 use Rattle.mail_store.specs.Held.{flags_of}
 use Rattle.pop3_wire.specs.World.{Message}
 use Rattle.run_law.specs.Mails.{listing_of}
-use Rattle.run_law.specs.Accounts.{Account}
+use Rattle.run_law.specs.Accounts.{AccountMail}
 
 -- the parts of a session that the law over runs uses
 pub record Effect : Type 0 where
@@ -25,11 +25,11 @@ pub record Effect : Type 0 where
   pub ended : Bool
 
 -- the record after the listing and the files were merged into it
-abbrev pub merged_rows : List ℕ → Account → Effect → List Row
+abbrev pub merged_rows : List ℕ → AccountMail → Effect → List Row
 merged_rows account before effect = merged before.rows effect.listing (flags_of account before.maildir effect.listing) effect.now
 
 -- the messages that are fetched, with their numbers
-abbrev pub wanted_at : Settings → List ℕ → Account → Effect → List (ℕ × Item)
+abbrev pub wanted_at : Settings → List ℕ → AccountMail → Effect → List (ℕ × Item)
 wanted_at settings account before effect = wanted settings (merged_rows account before effect) effect.listing
 
 -- the ids of numbered messages
@@ -45,14 +45,14 @@ abbrev pub is_unheld : List ℕ → Maildir → (ℕ × Item) × List ℕ → Bo
 is_unheld account maildir pair = not (is_held account maildir pair.0.1.uid)
 
 -- nothing of the account was changed
-pub record Leaves (before : Account) (effect : Effect) (after : Account) : Type 0 where
+pub record Leaves (before : AccountMail) (effect : Effect) (after : AccountMail) : Type 0 where
   pub rows : after.rows ≡ before.rows
   pub same : after.maildir.files ≡ before.maildir.files
   pub begun : effect.begun ≡ []
   pub ended : effect.ended ≡ false
 
 -- the listing was joined, and the first of the wanted messages were stored and recorded
-pub record Stores (settings : Settings) (account : List ℕ) (before : Account) (effect : Effect) (after : Account) : Type 0 where
+pub record Stores (settings : Settings) (account : List ℕ) (before : AccountMail) (effect : Effect) (after : AccountMail) : Type 0 where
   -- how many of the wanted messages are held, and how many of these are recorded
   pub stored : ℕ
   pub recorded : ℕ

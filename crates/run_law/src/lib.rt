@@ -10,12 +10,12 @@ ghost use Rattle.run_law.specs.HonestSession.{HonestSession};
 ghost use Rattle.run_law.specs.MboxHonestSession.{MboxHonestSession};
 ghost use Rattle.run_law.specs.Safety.{SessionsAreSafe};
 ghost use Rattle.run_law.specs.Sessions.{LinksAreVisits};
-ghost use Rattle.run_law.specs.Told.{ToldStores};
+ghost use Rattle.run_law.specs.Counted.{CountedStores};
 ghost use Rattle.run_law.specs.MboxRuns.{MboxCanEnd, MboxKeptStaysKept, MboxKeptHolds};
 ghost use Rattle.run_law.specs.MboxRuns.{MboxStartsKept, SomeAreRecorded};
 ghost use Rattle.run_law.specs.MboxSafety.{MboxSessionsAreSafe};
 ghost use Rattle.run_law.specs.MboxSessions.{MboxLinksAreVisits};
-ghost use Rattle.run_law.specs.MboxTold.{MboxToldStores};
+ghost use Rattle.run_law.specs.MboxCounted.{MboxCountedStores};
 
 use fetch_rules::{
     distinct_messages_are_filtered, held_is_delivered, listed_has_row, marked_is_delivered,
@@ -143,9 +143,9 @@ pub fn can_end()
 }
 
 /// A session given by its numbers is one that the law over runs takes.
-#[tactic(auto, using(crate::proofs::Tells::told_stores))]
-pub fn told_stores()
-    ensures { ToldStores }
+#[tactic(auto, using(crate::proofs::Tells::counted_stores))]
+pub fn counted_stores()
+    ensures { CountedStores }
 {}
 
 /// Whatever its server says, a session loses and changes no file of `new` and `cur`, and sends a DELE
@@ -219,9 +219,9 @@ pub fn honest_sessions_append_messages()
 }
 
 /// With an mboxrd: a session given by its numbers is one that the law over runs takes.
-#[tactic(auto, using(crate::proofs::Tells::mbox_told_stores))]
-pub fn mbox_told_stores()
-    ensures { MboxToldStores }
+#[tactic(auto, using(crate::proofs::Tells::mbox_counted_stores))]
+pub fn mbox_counted_stores()
+    ensures { MboxCountedStores }
 {}
 
 /// With an mboxrd: in every state there is a session that ends.

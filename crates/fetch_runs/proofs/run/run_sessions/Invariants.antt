@@ -1,7 +1,7 @@
 use Rattle.std.proofs.Common.{◌≡◌, ◌≤◌, ℕ, take, get_or, length}
 use Rattle.std.specs.Vec.{vec_capacity}
 use Rattle.fetch_session.specs.Account.{digits_of}
-use Rattle.fetch_session.specs.Session.{kept, mbox_kept}
+use Rattle.fetch_session.specs.Session.{account_files, mbox_account_files}
 use Rattle.fetch_session.specs.Target.{IsSoundMaildir, IsSoundMbox, maildir_of, mbox_of}
 use Rattle.fetch_runs.specs.MboxRuns.{WasMadeInMbox}
 use Rattle.fetch_runs.specs.Runs.{WasMade}
@@ -16,10 +16,10 @@ invariant-loop-i g l = (l.account.settings ≡ l.fn.account.settings)
     × (length l.visits ≡ length l.fn.visits)
     × ((k : ℕ) (d : Visit (g.row.W).Denot) → l.i ≤ k → get_or l.visits k d ≡ get_or l.fn.visits k d)
     × Ran g.W.Wire.sound (WasMade g.W.Wire.history l.fn.account.settings (digits_of l.fn.account.settings)) (take l.i l.fn.visits)
-    (kept (maildir_of g.D.MaildirDisk l.fn.account.store) (g.F.FlatFile.stored l.fn.account.file)) (IsSoundMaildir g.D.MaildirDisk l.fn.account.store × g.F.FlatFile.sound l.fn.account.file)
+    (account_files (maildir_of g.D.MaildirDisk l.fn.account.store) (g.F.FlatFile.stored l.fn.account.file)) (IsSoundMaildir g.D.MaildirDisk l.fn.account.store × g.F.FlatFile.sound l.fn.account.file)
     l.reports.items (take l.i l.visits)
-    (kept (maildir_of g.D.MaildirDisk l.account.store) (g.F.FlatFile.stored l.account.file)) (IsSoundMaildir g.D.MaildirDisk l.account.store × g.F.FlatFile.sound l.account.file)
+    (account_files (maildir_of g.D.MaildirDisk l.account.store) (g.F.FlatFile.stored l.account.file)) (IsSoundMaildir g.D.MaildirDisk l.account.store × g.F.FlatFile.sound l.account.file)
     × Ran g.W.Wire.sound (WasMadeInMbox g.W.Wire.history l.fn.account.settings) (take l.i l.fn.visits)
-    (mbox_kept (mbox_of g.F.FlatFile l.fn.account.store) (g.F.FlatFile.stored l.fn.account.file)) (IsSoundMbox g.F.FlatFile l.fn.account.store × g.F.FlatFile.sound l.fn.account.file)
+    (mbox_account_files (mbox_of g.F.FlatFile l.fn.account.store) (g.F.FlatFile.stored l.fn.account.file)) (IsSoundMbox g.F.FlatFile l.fn.account.store × g.F.FlatFile.sound l.fn.account.file)
     l.reports.items (take l.i l.visits)
-    (mbox_kept (mbox_of g.F.FlatFile l.account.store) (g.F.FlatFile.stored l.account.file)) (IsSoundMbox g.F.FlatFile l.account.store × g.F.FlatFile.sound l.account.file)
+    (mbox_account_files (mbox_of g.F.FlatFile l.account.store) (g.F.FlatFile.stored l.account.file)) (IsSoundMbox g.F.FlatFile l.account.store × g.F.FlatFile.sound l.account.file)

@@ -1,5 +1,5 @@
 use Rattle.std.proofs.Common.{◌≡◌, List, ℕ, None, Some, Ok, Err, length, refl, subst, sym, ap, ◌∙◌}
-use Rattle.fetch_rules.specs.Record.{Held, Row}
+use Rattle.fetch_rules.specs.Record.{RecordState, Row}
 use Rattle.mail_store.specs.FlatFile.{Stored}
 use Rattle.mail_store.specs.MboxCalls.{AppendsEntry}
 use Rattle.mail_store.specs.declared.fault.EntryFault.{EntryFault}
@@ -7,7 +7,7 @@ use Rattle.mail_store.specs.Mboxrd.{entry_of}
 use Rattle.mail_store.specs.Power.{KeepsWhole}
 use Rattle.fetch_session.specs.Lasting.{AreLeft, IsSafe, RowsStillLast, Leaves}
 use Rattle.fetch_session.specs.Mbox.{IsIntended}
-use Rattle.fetch_session.specs.Record.{TakesBack, held_in, intent_at, with_open}
+use Rattle.fetch_session.specs.Record.{TakesBack, record_state_in, intent_at, with_open}
 use Rattle.fetch_session.proofs.LastLemmas.{no_more_keeps, same_left}
 use Rattle.fetch_session.proofs.MboxLemmas.{appended_all, entry_left_open, entry_refused, front_refused, intended, is_taken_back, not_intended, not_measured}
 use Rattle.fetch_session.proofs.appending.append_text.Given.{Over}
@@ -37,7 +37,7 @@ saved g c size m f =
     (c.in-Ok.ensures.measures m).1 size (c.in_default.ensures.saves f).1
 
 -- the record in memory then
-opened : (g : Over) (c : In_default g) → held_in c.intend.new.seen ≡ with_open c.args.ledger.now.seen.rows (intent_at c.args.uid.now c.in-Ok.edges.size c.entry_len-len.result)
+opened : (g : Over) (c : In_default g) → record_state_in c.intend.new.seen ≡ with_open c.args.ledger.now.seen.rows (intent_at c.args.uid.now c.in-Ok.edges.size c.entry_len-len.result)
 opened g c = rw (c.intend.ensures.rows, c.in_default.ensures.opened) refl
 
 pub take_back-requires : goal.take_back-requires
@@ -64,7 +64,7 @@ returns-in_default-take_back-clause-appends g c = λ m f.
     let closes = c.in_default-take_back.ensures.closes f in
     let saves = c.in_default.ensures.saves closes.0 in
     let here = (goal.at.returns-in_default-take_back-clause-appends g c).In_default in
-    let takes = subst (λ (h : Held). TakesBack (g.F.FlatFile.stored c.intend.new.file) h (Ok tt) (g.F.FlatFile.stored c.take_back.new.file)) (opened g here) closes.1 in (
+    let takes = subst (λ (h : RecordState). TakesBack (g.F.FlatFile.stored c.intend.new.file) h (Ok tt) (g.F.FlatFile.stored c.take_back.new.file)) (opened g here) closes.1 in (
       measures.0,
       saves.0,
       entry_refused (g.F.FlatFile.stored c.args.mbox.now) (g.F.FlatFile.stored c.edges.new.self) (g.F.FlatFile.stored c.append_entry.new.file) (g.F.FlatFile.stored c.args.ledger.now.file) (g.F.FlatFile.stored c.take_back.new.file) c.args.ledger.now.seen.rows c.args.uid.now c.args.text.items c.in-Ok.edges c.in-Err-Nothing.fault c.refused-in-Err-Nothing.result
@@ -79,7 +79,7 @@ returns-in-Err-take_back-clause-appends g c = λ m f.
     let closes = c.in-Err-take_back.ensures.closes f in (
       measures.0,
       (c.in_default.ensures.saves closes.0).0,
-      entry_left_open (g.F.FlatFile.stored c.args.mbox.now) (g.F.FlatFile.stored c.edges.new.self) (g.F.FlatFile.stored c.append_entry.new.file) (g.F.FlatFile.stored c.args.ledger.now.file) (g.F.FlatFile.stored c.intend.new.file) (g.F.FlatFile.stored c.take_back.new.file) (held_in c.intend.new.seen) c.args.ledger.now.seen.rows c.args.uid.now c.args.text.items c.in-Ok.edges c.in-Err-Nothing.fault c.in-Err-take_back.fault
+      entry_left_open (g.F.FlatFile.stored c.args.mbox.now) (g.F.FlatFile.stored c.edges.new.self) (g.F.FlatFile.stored c.append_entry.new.file) (g.F.FlatFile.stored c.args.ledger.now.file) (g.F.FlatFile.stored c.intend.new.file) (g.F.FlatFile.stored c.take_back.new.file) (record_state_in c.intend.new.seen) c.args.ledger.now.seen.rows c.args.uid.now c.args.text.items c.in-Ok.edges c.in-Err-Nothing.fault c.in-Err-take_back.fault
           measures.1 (saved g (goal.at.returns-in-Err-take_back-clause-appends g c).In_default (long g (goal.at.returns-in-Err-take_back-clause-appends g c).After-entry_len-len) appends.0 closes.0) (subst (λ (e : EntryFault). AppendsEntry {T = Unit {0}} (g.F.FlatFile.stored c.edges.new.self) c.args.text.items (Err e) (g.F.FlatFile.stored c.append_entry.new.file)) c.in-Err-Nothing.field-0-is appends.1) closes.1,
     )
 

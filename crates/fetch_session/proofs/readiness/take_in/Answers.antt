@@ -1,11 +1,11 @@
 use Rattle.std.proofs.Common.{◌≡◌, List, None, false, inl, sym, ap, subst, ◌∙◌}
 use Rattle.fetch_rules.specs.Intents.{closed_rows}
-use Rattle.fetch_rules.specs.Record.{Row, Held, none_open, merged}
+use Rattle.fetch_rules.specs.Record.{Row, RecordState, none_open, merged}
 use Rattle.fetch_rules.specs.RecordFile.{Two, file_of}
 use Rattle.fetch_rules.specs.RecordGrowth.{Updates}
 use Rattle.fetch_rules.specs.RecordMeaning.{Means, Rows}
 use Rattle.mail_store.specs.Power.{LeavesEither}
-use Rattle.fetch_session.specs.Record.{Merges, Steady, held_in}
+use Rattle.fetch_session.specs.Record.{Merges, Steady, record_state_in}
 use Rattle.fetch_session.proofs.LastLemmas.{grown_merged, written_merged}
 use Rattle.fetch_session.proofs.RecordLemmas.{saves_merges, writes_merges, read_keeps, read_steady, held_is}
 use Rattle.fetch_session.proofs.readiness.take_in.Given.{Over}
@@ -41,7 +41,7 @@ returns-clause-merges g c = λ kept.
     let rows = merged (closed_rows c.args.found.now.stored was c.args.seen.now.intent) c.args.listing.now c.args.found.now.held.items c.args.now in
     let it = grows g (goal.at.returns-clause-merges g c).After-grow kept in (
       saves.0,
-      subst (λ (h : Held). Merges old h (none_open rows) c.grow.result new) (held_is c.args.seen.now it.1)
+      subst (λ (h : RecordState). Merges old h (none_open rows) c.grow.result new) (held_is c.args.seen.now it.1)
           (saves_merges old new (none_open was) (none_open rows) c.grow.result it.0 (saves.1 (none_open was) (none_open rows) (inl it.2))),
     )
 
@@ -56,7 +56,7 @@ returns-clause-lasts g c = λ kept safe.
 
 -- what was merged
 rows_are : (g : Over) (c : After-needs_rewrite g) → (c.merge_rows.new.self.rows ≡ merged (closed_rows c.args.found.now.stored c.args.seen.now.rows c.args.seen.now.intent) c.args.listing.now c.args.found.now.held.items c.args.now)
-    × (held_in c.merge_rows.new.self ≡ none_open (merged (closed_rows c.args.found.now.stored c.args.seen.now.rows c.args.seen.now.intent) c.args.listing.now c.args.found.now.held.items c.args.now))
+    × (record_state_in c.merge_rows.new.self ≡ none_open (merged (closed_rows c.args.found.now.stored c.args.seen.now.rows c.args.seen.now.intent) c.args.listing.now c.args.found.now.held.items c.args.now))
 rows_are g c =
     let closed : c.merge_rows.new.self.intent ≡ None = c.merge_rows.ensures.intent ∙ c.close.ensures.intent in
     let rows : c.merge_rows.new.self.rows ≡ merged (closed_rows c.args.found.now.stored c.args.seen.now.rows c.args.seen.now.intent) c.args.listing.now c.args.found.now.held.items c.args.now =
@@ -69,15 +69,15 @@ returns-then-needs_rewrite-clause-merges g c = λ kept.
     let old = g.F.FlatFile.stored c.args.file.now in
     let new = g.F.FlatFile.stored c.save.new.file in (
       writes.0,
-      subst (λ (h : Held). Merges old (held_in c.args.seen.now) h c.save.result new) (rows_are g (goal.at.returns-then-needs_rewrite-clause-merges g c).After-needs_rewrite).1
-          (writes_merges old new (held_in c.args.seen.now) (held_in c.merge_rows.new.self) c.save.result (read_keeps old.content c.args.seen.now (c.requires.stands writes.0)) c.save.ensures.stands writes.1),
+      subst (λ (h : RecordState). Merges old (record_state_in c.args.seen.now) h c.save.result new) (rows_are g (goal.at.returns-then-needs_rewrite-clause-merges g c).After-needs_rewrite).1
+          (writes_merges old new (record_state_in c.args.seen.now) (record_state_in c.merge_rows.new.self) c.save.result (read_keeps old.content c.args.seen.now (c.requires.stands writes.0)) c.save.ensures.stands writes.1),
     )
 
 pub returns-then-needs_rewrite-clause-lasts : goal.returns-then-needs_rewrite-clause-lasts
 returns-then-needs_rewrite-clause-lasts g c = λ kept safe.
     let are = rows_are g (goal.at.returns-then-needs_rewrite-clause-lasts g c).After-needs_rewrite in (
       written_merged g.F.FlatFile c.args.seen.now.rows _ c.args.file.now c.save.new.file _
-          (subst (λ (h : Held). Means (file_of h.rows h.intent) (Rows Two h.rows h.intent false)) are.1 c.save.ensures.stands)
+          (subst (λ (h : RecordState). Means (file_of h.rows h.intent) (Rows Two h.rows h.intent false)) are.1 c.save.ensures.stands)
           (subst (λ (r : List Row). LeavesEither (g.F.FlatFile.may_leave c.args.file.now) (file_of r None) (g.F.FlatFile.may_leave c.save.new.file)) are.0 (c.save.ensures.leaves kept)),
       c.save.ensures.lasts kept,
     )
@@ -86,7 +86,7 @@ pub returns-then-not-is_empty-clause-lasts : goal.returns-then-not-is_empty-clau
 returns-then-not-is_empty-clause-lasts g c = λ kept safe.
     let are = rows_are g (goal.at.returns-then-not-is_empty-clause-lasts g c).After-needs_rewrite in (
       written_merged g.F.FlatFile c.args.seen.now.rows _ c.args.file.now c.save-then-not-is_empty.new.file _
-          (subst (λ (h : Held). Means (file_of h.rows h.intent) (Rows Two h.rows h.intent false)) are.1 c.save-then-not-is_empty.ensures.stands)
+          (subst (λ (h : RecordState). Means (file_of h.rows h.intent) (Rows Two h.rows h.intent false)) are.1 c.save-then-not-is_empty.ensures.stands)
           (subst (λ (r : List Row). LeavesEither (g.F.FlatFile.may_leave c.args.file.now) (file_of r None) (g.F.FlatFile.may_leave c.save-then-not-is_empty.new.file)) are.0 (c.save-then-not-is_empty.ensures.leaves kept)),
       c.save-then-not-is_empty.ensures.lasts kept,
     )

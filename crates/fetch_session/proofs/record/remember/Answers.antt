@@ -2,7 +2,7 @@ use Rattle.std.proofs.Common.{List, ℕ, Option, None, inl, inr, sym, subst}
 use Rattle.std.specs.Prelude.{OnOk}
 use Rattle.fetch_rules.specs.Record.{Row, Intent, marked, none_open}
 use Rattle.fetch_rules.specs.RecordGrowth.{Updates}
-use Rattle.fetch_session.specs.Record.{Saves, Steady, held_in}
+use Rattle.fetch_session.specs.Record.{Saves, Steady, record_state_in}
 use Rattle.fetch_session.proofs.LastLemmas.{rows_left, same_left}
 use Rattle.fetch_session.proofs.RecordLemmas.{saves_steady, mark_begun}
 use Rattle.fetch_session.proofs.record.remember.Goals as goal
@@ -24,8 +24,8 @@ returns-clause-saves g c = λ kept.
     let updates : Updates was c.args.seen.now.intent c.deref.result.now rows None = subst (λ (bytes : List ℕ). Updates was c.args.seen.now.intent bytes rows None) (sym c.deref.ensures.value)
     (subst (λ (i : Option Intent). Updates was c.args.seen.now.intent c.in-Ok.group.items rows i) c.in-Ok.ensures.intent c.in-Ok.ensures.updates) in (
       saves.0,
-      subst (λ (r : List Row). Saves (g.F.FlatFile.stored c.args.file.now) (held_in c.args.seen.now) (none_open r) c.grow.result (g.F.FlatFile.stored c.grow.new.file)) c.in-Ok.ensures.rows
-          (saves.1 (held_in c.args.seen.now) (none_open rows) (inl updates)),
+      subst (λ (r : List Row). Saves (g.F.FlatFile.stored c.args.file.now) (record_state_in c.args.seen.now) (none_open r) c.grow.result (g.F.FlatFile.stored c.grow.new.file)) c.in-Ok.ensures.rows
+          (saves.1 (record_state_in c.args.seen.now) (none_open rows) (inl updates)),
     )
 
 pub returns-clause-steady : goal.returns-clause-steady
@@ -34,7 +34,7 @@ returns-clause-steady g c = λ kept.
     let new = g.F.FlatFile.stored c.grow.new.file in (
       saves.0,
       subst (λ (r : List Row). OnOk c.grow.result (Steady new.content (none_open r))) (sym c.in-Ok.ensures.rows)
-          (saves_steady (g.F.FlatFile.stored c.args.file.now) new (held_in c.args.seen.now) (none_open (marked c.args.seen.now.rows c.args.uid.now)) c.grow.result (c.requires.steady saves.0) saves.1),
+          (saves_steady (g.F.FlatFile.stored c.args.file.now) new (record_state_in c.args.seen.now) (none_open (marked c.args.seen.now.rows c.args.uid.now)) c.grow.result (c.requires.steady saves.0) saves.1),
     )
 
 pub returns-in_default-clause-keeps : goal.returns-in_default-clause-keeps
@@ -51,5 +51,5 @@ returns-clause-keeps g c = λ kept.
     (subst (λ (i : Option Intent). Updates was c.args.seen.now.intent c.in-Ok.group.items rows i) c.in-Ok.ensures.intent c.in-Ok.ensures.updates) in (
       c.grow.ensures.keeps kept,
       λ safe. rows_left g.F.FlatFile c.grow.new.file was (marked was c.args.uid.now) rows c.args.seen.now.intent None c.deref.result.now (inl updates) (inr c.in-Ok.ensures.rows)
-          (c.grow.ensures.leaves kept safe (held_in c.args.seen.now) (c.requires.steady (c.grow.ensures.saves kept).0)).0,
+          (c.grow.ensures.leaves kept safe (record_state_in c.args.seen.now) (c.requires.steady (c.grow.ensures.saves kept).0)).0,
     )

@@ -3,7 +3,7 @@ use Rattle.fetch_rules.specs.Record.{Row, Intent, IsRecord, none_open}
 use Rattle.fetch_rules.specs.RecordFile.{Two, file_of}
 use Rattle.fetch_rules.specs.RecordMeaning.{Means, Rows}
 use Rattle.mail_store.specs.FlatFile.{Replaces}
-use Rattle.fetch_session.specs.Record.{Steady, bytes_in, held_in}
+use Rattle.fetch_session.specs.Record.{Steady, bytes_in, record_state_in}
 use Rattle.fetch_session.proofs.LastLemmas.{either_left, either_rows}
 use Rattle.fetch_session.proofs.RecordLemmas.{is_there, not_whole, taken_back}
 use Rattle.fetch_session.proofs.record.take_back.Given.{Over}
@@ -26,7 +26,7 @@ returns-clause-closes g c = λ kept.
     let replaces = c.replace.ensures.replaces kept in
     let here = (goal.at.returns-clause-closes g c).After-replace in (
       replaces.0,
-      taken_back (g.F.FlatFile.stored c.args.file.now) (g.F.FlatFile.stored c.replace.new.self) (held_in c.args.seen.now) c.replace.result (stands g here)
+      taken_back (g.F.FlatFile.stored c.args.file.now) (g.F.FlatFile.stored c.replace.new.self) (record_state_in c.args.seen.now) c.replace.result (stands g here)
           (subst (λ (b : List ℕ). Replaces (g.F.FlatFile.stored c.args.file.now) b c.replace.result (g.F.FlatFile.stored c.replace.new.self)) (bytes_are g here) replaces.1),
     )
 

@@ -1,12 +1,12 @@
 use Rattle.std.proofs.Common.{List, ℕ, None, Ok, Err, inl, inr, arith, refl, sym, ap, subst, ◌∙◌, string_bytes}
-use Rattle.fetch_rules.specs.Record.{Row, Held, has_row, none_open, marked}
+use Rattle.fetch_rules.specs.Record.{Row, RecordState, has_row, none_open, marked}
 use Rattle.fetch_session.specs.Record.{Saves, Steady}
 use Rattle.fetch_session.proofs.RecordLemmas.{held_is}
 use Rattle.pop3_client.specs.Turns.{most, retr}
 use Rattle.pop3_client.specs.Client.{link_of, place_of}
 use Rattle.mail_store.specs.Maildir.{IsThere, Maildir}
 use Rattle.mail_store.specs.FileName.{sized, sized_file, stem_of}
-use Rattle.fetch_session.specs.Store.{Grows}
+use Rattle.fetch_session.specs.Store.{MayGain}
 use Rattle.fetch_session.specs.Target.{AsFiles, in_maildir}
 use Rattle.fetch_session.specs.Task.{stores}
 use Rattle.fetch_session.proofs.LastLemmas.{came_outlives, same_left}
@@ -50,22 +50,22 @@ returns-in-Ok-remember-clause-takes g c =
     let stores = c.in-Ok-store_text.ensures.stores in
     all_sound (and_then g.W.Wire g.met.W.Wire.leads_on c.in-Ok-open.ensures.opens stores.2 (λ opened link. link c.args.number _ opened)) stores.1 c.in-Ok-remember.ensures.saves
     (λ link stored saved. text_stored c.in-Ok-store_text.length stores.0 (string_bytes c.in-Ok.stem) c.in-Ok.ensures.stem stored link c.in-Ok-remember.ensures.rows
-    (subst (λ (h : Held). Saves (g.F.FlatFile.stored c.args.ledger.now.file) h (none_open (marked c.args.ledger.now.seen.rows c.args.uid.now)) (Ok tt) (g.F.FlatFile.stored c.remember.new.file)) (sym (held_is c.args.ledger.now.seen c.requires.ready.closed)) saved) c.note.ensures.items)
+    (subst (λ (h : RecordState). Saves (g.F.FlatFile.stored c.args.ledger.now.file) h (none_open (marked c.args.ledger.now.seen.rows c.args.uid.now)) (Ok tt) (g.F.FlatFile.stored c.remember.new.file)) (sym (held_is c.args.ledger.now.seen c.requires.ready.closed)) saved) c.note.ensures.items)
 
 pub returns-in-Err-remember-clause-takes : goal.returns-in-Err-remember-clause-takes
 returns-in-Err-remember-clause-takes g c =
     let stores = c.in-Ok-store_text.ensures.stores in
     all_sound (and_then g.W.Wire g.met.W.Wire.leads_on c.in-Ok-open.ensures.opens stores.2 (λ opened link. link c.args.number _ opened)) stores.1 c.in-Err-remember.ensures.saves
     (λ link stored saved. text_not_saved c.in-Ok-store_text.length stores.0 (string_bytes c.in-Ok.stem) c.in-Err-remember.fault c.in-Ok.ensures.stem stored link
-    (subst (λ (h : Held). Saves (g.F.FlatFile.stored c.args.ledger.now.file) h (none_open (marked c.args.ledger.now.seen.rows c.args.uid.now)) (Err c.in-Err-remember.fault) (g.F.FlatFile.stored c.remember.new.file)) (sym (held_is c.args.ledger.now.seen c.requires.ready.closed)) saved) c.plain-in-Err-remember.ensures c.note.ensures.items)
+    (subst (λ (h : RecordState). Saves (g.F.FlatFile.stored c.args.ledger.now.file) h (none_open (marked c.args.ledger.now.seen.rows c.args.uid.now)) (Err c.in-Err-remember.fault) (g.F.FlatFile.stored c.remember.new.file)) (sym (held_is c.args.ledger.now.seen c.requires.ready.closed)) saved) c.plain-in-Err-remember.ensures c.note.ensures.items)
 
 grown : (g : Over) (c : After-store_text g) → g.D.MaildirDisk.sound c.store_text.new.disk
-    → g.D.MaildirDisk.sound c.args.disk.now × Grows (stem_of c.args.account.now c.args.uid.now) (g.D.MaildirDisk.maildir c.args.disk.now) (g.D.MaildirDisk.maildir c.store_text.new.disk)
+    → g.D.MaildirDisk.sound c.args.disk.now × MayGain (stem_of c.args.account.now c.args.uid.now) (g.D.MaildirDisk.maildir c.args.disk.now) (g.D.MaildirDisk.maildir c.store_text.new.disk)
 grown g c d =
     let stored = c.store_text.ensures.stores.1 d in
     let maildir = g.D.MaildirDisk.maildir c.args.disk.now in
     let maildir' = g.D.MaildirDisk.maildir c.store_text.new.disk in
-    (stored.0, subst (λ (stem : List ℕ). Grows stem maildir maildir') c.in-Ok.ensures.stem (stores_grows maildir maildir' (string_bytes c.in-Ok.stem) c.store_text.ensures.stores.0 c.store_text.result (c.requires.none_begun stored.0) stored.1))
+    (stored.0, subst (λ (stem : List ℕ). MayGain stem maildir maildir') c.in-Ok.ensures.stem (stores_grows maildir maildir' (string_bytes c.in-Ok.stem) c.store_text.ensures.stores.0 c.store_text.result (c.requires.none_begun stored.0) stored.1))
 
 pub returns-in-Err-store_text-clause-grows : goal.returns-in-Err-store_text-clause-grows
 returns-in-Err-store_text-clause-grows g c = grown g (goal.at.returns-in-Err-store_text-clause-grows g c).After-store_text
@@ -80,7 +80,7 @@ returns-in-Err-remember-clause-grows g c = grown g (goal.at.returns-in-Err-remem
 
 pub remember-requires-clause-steady : goal.remember-requires-clause-steady
 remember-requires-clause-steady g c = λ f.
-    subst (λ (h : Held). Steady (g.F.FlatFile.stored c.args.ledger.now.file).content h) (held_is c.args.ledger.now.seen c.requires.ready.closed) (c.requires.ready.steady f)
+    subst (λ (h : RecordState). Steady (g.F.FlatFile.stored c.args.ledger.now.file).content h) (held_is c.args.ledger.now.seen c.requires.ready.closed) (c.requires.ready.steady f)
 
 -- a line is noted for the text
 noted : (g : Over) (c : After-note g) → Adds c.args.ledger.now.lines 1 c.note.new.lines

@@ -3,7 +3,7 @@ use Rattle.rc_file.specs.Settings.{IsValid}
 use Rattle.pop3_server.specs.LoopLink.{Loop}
 use Rattle.mail_store.specs.Maildir.{with_files}
 use Rattle.fetch_session.specs.Account.{digits_of}
-use Rattle.fetch_session.specs.Session.{kept, mbox_kept}
+use Rattle.fetch_session.specs.Session.{account_files, mbox_account_files}
 use Rattle.fetch_session.specs.Target.{maildir_of, mbox_of}
 use Rattle.local_fetch.proofs.LocalLemmas.{fetches, mbox_fetches, few_refused}
 use Rattle.local_fetch.proofs.fetch.fetch_local.Goals as goal
@@ -19,8 +19,8 @@ returns-clause-fetches g c = λ d f m messages.
         went.4.0,
         went.4.1,
         fetches g.M.Maildrop.sound g.M.Maildrop.mail c.loops_are_honest.ensures c.sessions_are_conversations.ensures account.settings (digits_of account.settings) c.args.now c.args.server
-            c.session-report.new.wire.machine c.new-wire.result c.session-report.new.wire (kept (with_files went.4.0 (maildir_of g.D.MaildirDisk account.store)) (g.F.FlatFile.stored account.file)) c.session-report.result
-            (kept (maildir_of g.D.MaildirDisk c.session-report.new.account.store) (g.F.FlatFile.stored c.session-report.new.account.file)) c.new-wire.ensures refl c.requires.new
+            c.session-report.new.wire.machine c.new-wire.result c.session-report.new.wire (account_files (with_files went.4.0 (maildir_of g.D.MaildirDisk account.store)) (g.F.FlatFile.stored account.file)) c.session-report.result
+            (account_files (maildir_of g.D.MaildirDisk c.session-report.new.account.store) (g.F.FlatFile.stored c.session-report.new.account.file)) c.new-wire.ensures refl c.requires.new
             (subst IsValid c.settings.ensures.value c.settings.ensures.valid) went.3 went.4.2 m messages,
       ),
     )
@@ -33,7 +33,7 @@ returns-clause-mbox_fetches g c = λ d f m messages.
       went.1,
       went.2,
       mbox_fetches g.M.Maildrop.sound g.M.Maildrop.mail c.loops_are_honest.ensures c.mbox_sessions_follow_plans.ensures account.settings c.args.now c.args.server
-          c.session-report.new.wire.machine c.new-wire.result c.session-report.new.wire (mbox_kept (mbox_of g.F.FlatFile account.store) (g.F.FlatFile.stored account.file)) c.session-report.result
-          (mbox_kept (mbox_of g.F.FlatFile c.session-report.new.account.store) (g.F.FlatFile.stored c.session-report.new.account.file)) c.new-wire.ensures refl c.requires.new
+          c.session-report.new.wire.machine c.new-wire.result c.session-report.new.wire (mbox_account_files (mbox_of g.F.FlatFile account.store) (g.F.FlatFile.stored account.file)) c.session-report.result
+          (mbox_account_files (mbox_of g.F.FlatFile c.session-report.new.account.store) (g.F.FlatFile.stored c.session-report.new.account.file)) c.new-wire.ensures refl c.requires.new
           (subst IsValid c.settings.ensures.value c.settings.ensures.valid) went.3 went.4 m messages,
     )

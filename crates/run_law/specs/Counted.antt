@@ -3,22 +3,22 @@ use Rattle.std.specs.Prelude.{◌≡◌, ◌⊎◌, ◌+◌, ℕ, true, List, �
 use Rattle.std.specs.List.{filter, AllByRecursion}
 use Rattle.fetch_rules.specs.Record.{is_delivered, marked_all}
 use Rattle.rc_file.specs.declared.settings.Settings.{Settings}
-use Rattle.run_law.specs.Accounts.{Account}
+use Rattle.run_law.specs.Accounts.{AccountMail}
 use Rattle.run_law.specs.Steps.{Effect, Stores, file_for, is_unheld, wanted_at, merged_rows, ids_wanted}
 
 -- there came the files of the first n of the wanted messages that weren't held
-abbrev pub Adds : Settings → List ℕ → Account → Effect → ℕ → Account → Type 0
+abbrev pub Adds : Settings → List ℕ → AccountMail → Effect → ℕ → AccountMail → Type 0
 Adds settings account before effect n after = after.maildir.files ≡ before.maildir.files
     ++ map (file_for account)
     (filter (is_unheld account before.maildir) (zip (take n (wanted_at settings account before effect)) effect.texts))
 
 -- the record is the merged one, with delivered set for the first n of the wanted messages
-abbrev pub Records : Settings → List ℕ → Account → Effect → ℕ → Account → Type 0
+abbrev pub Records : Settings → List ℕ → AccountMail → Effect → ℕ → AccountMail → Type 0
 Records settings account before effect n after =
     after.rows ≡ marked_all (merged_rows account before effect) (ids_wanted (take n (wanted_at settings account before effect)))
 
 -- `retrieved` is k; which faults allow one fewer or one more isn't stated here
-pub record Told (settings : Settings) (account : List ℕ) (before : Account) (effect : Effect) (after : Account) : Type 0 where
+pub record Counted (settings : Settings) (account : List ℕ) (before : AccountMail) (effect : Effect) (after : AccountMail) : Type 0 where
   pub k : ℕ
   pub j : ℕ
   pub number : (k ≡ length effect.texts) ⊎ (k + 1 ≡ length effect.texts)
@@ -30,6 +30,6 @@ pub record Told (settings : Settings) (account : List ℕ) (before : Account) (e
   pub ended : effect.ended ≡ true → k ≡ length (wanted_at settings account before effect)
 
 -- a law: a session given by these numbers is one that the law over runs takes
-abbrev pub ToldStores : Type 0
-ToldStores = (settings : Settings) (account : List ℕ) (before : Account) (effect : Effect) (after : Account)
-    → Told settings account before effect after → Stores settings account before effect after
+abbrev pub CountedStores : Type 0
+CountedStores = (settings : Settings) (account : List ℕ) (before : AccountMail) (effect : Effect) (after : AccountMail)
+    → Counted settings account before effect after → Stores settings account before effect after

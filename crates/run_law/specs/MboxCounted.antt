@@ -6,15 +6,15 @@ use Rattle.fetch_rules.specs.Record.{is_delivered, marked_all}
 use Rattle.rc_file.specs.declared.settings.Settings.{Settings}
 use Rattle.mail_store.specs.Mboxrd.{entry_of}
 use Rattle.run_law.specs.Steps.{Effect, ids_wanted}
-use Rattle.run_law.specs.Mboxes.{MboxAccount, settled, mbox_rows, mbox_wanted, entries, intent_of, MboxStores}
+use Rattle.run_law.specs.Mboxes.{MboxMail, settled, mbox_rows, mbox_wanted, entries, intent_of, MboxStores}
 
 -- the settled file, with the entries of the first n texts appended
-abbrev pub bytes_at : MboxAccount → Effect → ℕ → List ℕ
+abbrev pub bytes_at : MboxMail → Effect → ℕ → List ℕ
 bytes_at before effect n = (settled effect.listing before).file ++ entries (take n effect.texts)
 
 -- the intent of the wanted message at this place is open
-pub record OpensAt (settings : Settings) (before : MboxAccount) (effect : Effect) (n : ℕ) (text : List ℕ)
-    (after : MboxAccount) : Type 0 where
+pub record OpensAt (settings : Settings) (before : MboxMail) (effect : Effect) (n : ℕ) (text : List ℕ)
+    (after : MboxMail) : Type 0 where
   pub message : ℕ × Item
   pub wanted : slice_get (mbox_wanted settings before effect) n ≡ Some message
   pub got : slice_get effect.texts n ≡ Some text
@@ -22,7 +22,7 @@ pub record OpensAt (settings : Settings) (before : MboxAccount) (effect : Effect
 
 -- k texts are appended, and as many recorded: no intent is open and nothing follows, or the next one's is
 -- open and a prefix of its entry follows
-pub record AllRecorded (settings : Settings) (before : MboxAccount) (effect : Effect) (k : ℕ) (after : MboxAccount) : Type 0 where
+pub record AllRecorded (settings : Settings) (before : MboxMail) (effect : Effect) (k : ℕ) (after : MboxMail) : Type 0 where
   pub text : List ℕ
   pub front : List ℕ
   pub behind : List ℕ
@@ -30,13 +30,13 @@ pub record AllRecorded (settings : Settings) (before : MboxAccount) (effect : Ef
   pub ending : ((after.intent ≡ None) × (front ≡ [])) ⊎ (OpensAt settings before effect k text after × (entry_of text ≡ front ++ behind))
 
 -- k texts are appended, and one fewer recorded: the last one's intent is open
-pub record LastUnrecorded (settings : Settings) (before : MboxAccount) (effect : Effect) (k j : ℕ) (after : MboxAccount) : Type 0 where
+pub record LastUnrecorded (settings : Settings) (before : MboxMail) (effect : Effect) (k j : ℕ) (after : MboxMail) : Type 0 where
   pub one_less : j + 1 ≡ k
   pub text : List ℕ
   pub file : after.file ≡ bytes_at before effect k
   pub opens : OpensAt settings before effect j text after
 
-pub record MboxTold (settings : Settings) (before : MboxAccount) (effect : Effect) (after : MboxAccount) : Type 0 where
+pub record MboxCounted (settings : Settings) (before : MboxMail) (effect : Effect) (after : MboxMail) : Type 0 where
   pub k : ℕ
   pub j : ℕ
   pub number : (k ≡ length effect.texts) ⊎ (k + 1 ≡ length effect.texts)
@@ -46,6 +46,6 @@ pub record MboxTold (settings : Settings) (before : MboxAccount) (effect : Effec
   pub ended : effect.ended ≡ true → (j ≡ length (mbox_wanted settings before effect)) × (after.intent ≡ None)
 
 -- a law: a session given by these numbers is one that the law over runs takes
-abbrev pub MboxToldStores : Type 0
-MboxToldStores = (settings : Settings) (before : MboxAccount) (effect : Effect) (after : MboxAccount)
-    → MboxTold settings before effect after → MboxStores settings before effect after
+abbrev pub MboxCountedStores : Type 0
+MboxCountedStores = (settings : Settings) (before : MboxMail) (effect : Effect) (after : MboxMail)
+    → MboxCounted settings before effect after → MboxStores settings before effect after
