@@ -355,6 +355,7 @@ impl<H: BuildHasher> Seen<H> {
         self.rows.add_listed(listing, now)?;
         let added = count < self.rows.len();
         let marked = self.rows.mark_held(listing, held);
+        // Both are known: `||` would only be a branch more to prove.
         Ok(added | marked)
     }
 

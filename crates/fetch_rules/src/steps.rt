@@ -127,6 +127,7 @@ pub fn plan<H: BuildHasher>(
     let mut candidates: u64 = 0;
     for i in 0..listing.len() {
         let first = firsts[i as usize];
+        // Both are known: `&&` would only be a branch more to prove.
         let alone = first & lasts[i as usize];
         let candidate = first && is_asked_for(settings, seen, listing, i);
         let retrieve = candidate && is_below_limit(settings, candidates);

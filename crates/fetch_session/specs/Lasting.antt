@@ -1,5 +1,6 @@
 -- What of a session outlives a loss of power, by what its devices say.
-use Rattle.std.specs.Prelude.{◌≡◌, ◌≢◌, ◌⊎◌, ℕ, true, false, List, [], ◌∷◌, ◌++◌, length, Option, None, Some, Result, Ok, Err, All, Contains}
+use Rattle.std.specs.Prelude.{◌≡◌, ◌≢◌, ◌⊎◌, ℕ, true, false, List, [], ◌∷◌, ◌++◌, length, Option, None, Some, Result, Ok, Err}
+use Rattle.std.specs.Prelude.{All, Contains}
 use Rattle.std.specs.List.{flat_map, AllByRecursion}
 use Rattle.std.proofs.Common.{inl, inr}
 use Rattle.mail_store.specs.declared.maildir.disk.MaildirDisk.{Ghosts as DiskGhosts}
@@ -289,13 +290,13 @@ abbrev pub ProceedsLast : {D F : Type 0} → DiskGhosts D → FileGhosts F → S
     (old : Place) (before : Keeping) (result : Result (Unit {0}) Cut) (new : Place) (after : Keeping) (notes : Noted)
     → Proceeds settings target now old before result new after notes → Store D F → F → Type 0
 ProceedsLast disk files was from settings target now old before (Ok done) new after notes dealt store f =
-    CarriesLast disk files was from settings target dealt.items now dealt.mid before.store before.file [] (Ok done) new after.store after.file
-    notes.lines notes.skipped dealt.carries store f
+    CarriesLast disk files was from settings target dealt.items now dealt.mid before.store before.file [] (Ok done) new after.store
+    after.file notes.lines notes.skipped dealt.carries store f
 ProceedsLast disk files was from _ _ _ _ _ (Err cut) _ _ _ (inl stopped) store f = IsUntouched disk files was store from f
 ProceedsLast disk files was from _ _ _ _ _ (Err cut) _ _ _ (inr (inl wanting)) store f = IsUntouched disk files was store from f
 ProceedsLast disk files was from settings target now old before (Err cut) new after notes (inr (inr dealt)) store f =
-    CarriesLast disk files was from settings target dealt.items now dealt.mid before.store before.file [] (Err cut) new after.store after.file
-    notes.lines notes.skipped dealt.carries store f
+    CarriesLast disk files was from settings target dealt.items now dealt.mid before.store before.file [] (Err cut) new after.store
+    after.file notes.lines notes.skipped dealt.carries store f
 
 -- a whole session: if no flush was refused before, what was stored and marked for each task that was done outlives a loss of power. Tasks
 -- are done in order, and a deletion comes after its message's other task, so a DELE is sent only for a message whose text does
@@ -311,6 +312,6 @@ abbrev pub RunsSession : {W D F : Type 0} → WireGhosts W → DiskGhosts D → 
 RunsSession link disk files now old wire report new wire' =
     WhereAllSound link.sound link.leads_to (is_sound disk files) files.sound wire wire' old.store new.store old.file new.file
     (AfterTakingIn (stores_of disk files old.store) (λ left. (session : SessionIn old.settings
-    (target_of old.store (digits_of old.settings)) now (link.history wire) (keeping left (files.stored old.file)) report (link.history wire')
-    (keeping (stores_of disk files new.store) (files.stored new.file)))
+    (target_of old.store (digits_of old.settings)) now (link.history wire) (keeping left (files.stored old.file)) report
+    (link.history wire') (keeping (stores_of disk files new.store) (files.stored new.file)))
     × SessionLasts disk files old.store old.file session new.store new.file))

@@ -116,7 +116,8 @@ impl<D: MaildirDisk> MaildirDisk for Fused<D> {
     ghost use Rattle.std.specs.Prelude.{◌≡◌, ◌<◌, IfErr, IsSome, OnErr, OnOk, Some, None};
     ghost use Rattle.mail_terms.specs.FailureCount.{Tallies, refuses, greatest_count};
     ghost use Rattle.mail_store.specs.Fault.{IsDeviceFault};
-    ghost use Rattle.mail_store.specs.Maildir.{AfterTaking, IsThere, Lists, ListsAll, Checks, Flushes, Begins, Adds, Settles, dropped, name_begun};
+    ghost use Rattle.mail_store.specs.Maildir.{AfterTaking, IsThere, Lists, ListsAll, Checks, Flushes, Begins, Adds, Settles};
+    ghost use Rattle.mail_store.specs.Maildir.{dropped, name_begun};
     ghost use Rattle.mail_store.specs.Power.{FlushedOutlive, KeepsLeft, KeepsMail, SettledOutlives, ToldStay};
     ghost use Rattle.mail_store.specs.Fuse.{device_of, passes_left, effect_is_due, refusals, fused_maildir};
     ghost use Rattle.mail_store.specs.Fuse.{FusedIsSound, Burns, Fuses, SettlesBehind};
@@ -180,7 +181,8 @@ impl<D: MaildirDisk> MaildirDisk for Fused<D> {
         ensures fault { IfErr result (λ e. e ≡ StoreFault.Refused) }
         ensures lasts { FusedIsSound D.sound self.new → KeepsMail (D.stays (device_of self.old)) (D.outlives (device_of self.old))
             (D.stays (device_of self.new)) (D.outlives (device_of self.new))
-            × FlushedOutlive (fused_maildir D.maildir self.old) stems.now result (D.stays (device_of self.old)) (D.outlives (device_of self.new)) }
+            × FlushedOutlive (fused_maildir D.maildir self.old) stems.now result (D.stays (device_of self.old))
+            (D.outlives (device_of self.new)) }
         ensures count { Tallies (refuses is_refusal result) (refusals self.old) (refusals self.new) }
         ensures fuse { Fuses (λ d. (D.maildir d).failures) self.old result self.new }
     {
