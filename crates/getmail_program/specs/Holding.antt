@@ -6,7 +6,9 @@ use Rattle.mail_store.specs.declared.file.flat_file.FlatFile.{Ghosts as FileGhos
 use Rattle.fetch_session.specs.declared.fault.Fault.{Fault}
 use Rattle.fetch_session.specs.declared.preview.Preview.{Preview}
 use Rattle.fetch_session.specs.declared.report.Outcome.TheVariants.{Ended, Cut}
+use Rattle.rc_file.specs.declared.settings.Settings.{Settings}
 use Rattle.fetch_session.specs.Account.{Holding, digits_of}
+use Rattle.fetch_session.specs.declared.account.Store.{Store}
 use Rattle.fetch_session.specs.Lasting.{RunsSession}
 use Rattle.fetch_session.specs.Pretend.{Pretends, told_in, told_nothing}
 use Rattle.fetch_session.specs.Refusal.{IsWithinLimits}
@@ -14,6 +16,10 @@ use Rattle.fetch_session.specs.Session.{keeping}
 use Rattle.fetch_session.specs.Target.{AfterTakingIn, is_sound, stores_of, target_of}
 use Rattle.getmail_program.specs.declared.told.Told.{Told}
 use Rattle.getmail_program.specs.declared.told.Told.TheVariants.{Done, Ahead}
+
+-- what an account holds that is made of these parts
+abbrev pub holding : {D F : Type 0} → Settings → Store D F → F → Holding D F
+holding settings store file = record { settings = settings; store = store; file = file }
 
 -- a session that changes nothing was run: the preview says what a run would do
 abbrev pub PreviewsAccount : {W D F : Type 0} → WireGhosts W → DiskGhosts D → FileGhosts F → ℕ → Holding D F → W → Preview → Holding D F

@@ -132,7 +132,7 @@ pub fn fetch_at<
     let for_record = System::new(rt, &reasons.record);
     let parts = Parts {
         store: store_at(&for_store, &settings.dest, &paths, mark),
-        record: HostFile::by_blocks(&for_record, paths.record.as_str(), mark),
+        seen_file: HostFile::by_blocks(&for_record, paths.record.as_str(), mark),
         settings,
         hasher,
     };
@@ -145,7 +145,7 @@ pub fn fetch_at<
     let left = fetch_with(rt, parts, &mut wire, manner, out, &mut errors);
     tell_kept(&left.store, paths.rests.as_str(), &mut errors.err);
     if !left.fetched.is_idle {
-        sweep(&left.settings, &left.store, &left.record);
+        sweep(&left.settings, &left.store, &left.seen_file);
     }
     left.into_status()
 }

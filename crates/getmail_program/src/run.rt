@@ -2,7 +2,7 @@
 ghost use Rattle.std.specs.Prelude.{◌≡◌, ◌≤◌};
 ghost use Rattle.fetch_session.specs.Target.{NoneBegun, kind_of};
 ghost use Rattle.rc_file.specs.Settings.{IsValid};
-ghost use Rattle.getmail_program.specs.Holding.{HoldsSession};
+ghost use Rattle.getmail_program.specs.Holding.{HoldsSession, holding};
 ghost use Rattle.getmail_program.specs.Telling.{TellsAll};
 ghost use Rattle.getmail_program.specs.declared.told.Told.{Told};
 
@@ -58,7 +58,7 @@ pub fn fetch_over<
 pub struct Parts<D, F, H> {
     pub settings: Settings,
     pub store: Store<D, F>,
-    pub record: F,
+    pub seen_file: F,
     pub hasher: H,
 }
 
@@ -67,7 +67,7 @@ pub struct Parts<D, F, H> {
 pub struct Left<D, F> {
     pub settings: Settings,
     pub store: Store<D, F>,
-    pub record: F,
+    pub seen_file: F,
     pub fetched: Fetched,
 }
 
@@ -100,21 +100,29 @@ pub fn fetch_with<
 ) -> Left<D, F>
     requires valid { IsValid parts.settings }
     requires none_begun { NoneBegun D.MaildirDisk F.FlatFile parts.store }
-    ensures { result.fetched.status ≤ 1 }
+    ensures settings { result.settings ≡ parts.settings }
+    ensures kind { kind_of result.store ≡ kind_of parts.store }
+    ensures within { result.fetched.status ≤ 1 }
+    ensures fetched { (told : Told)
+        × HoldsSession W.Wire D.MaildirDisk F.FlatFile manner.entry.pretends manner.entry.now
+        (holding parts.settings parts.store parts.seen_file) wire.old.wire told
+        (holding result.settings result.store result.seen_file) wire.new.wire
+        × TellsAll O.contents E.contents manner.entry.explains parts.settings told out.old errors.old result.fetched out.new
+        errors.new }
 {
     let Parts {
         settings,
         store,
-        record,
+        seen_file,
         hasher,
     } = parts;
-    let mut account = Account::new(rt.alloc(), settings, store, record, hasher);
+    let mut account = Account::new(rt.alloc(), settings, store, seen_file, hasher);
     let fetched = fetch_over(rt, &mut account, wire, manner, out, errors);
-    let (settings, store, record) = account.into_parts();
+    let (settings, store, seen_file) = account.into_parts();
     Left {
         settings,
         store,
-        record,
+        seen_file,
         fetched,
     }
 }
