@@ -31,7 +31,7 @@ Steady content state = Means (bytes_in content) (Rows Two state.rows state.inten
 abbrev pub ReadAs : Option (List ℕ) → Loaded → Type 0
 ReadAs content loaded = BytesReadAs (bytes_in content) loaded
 
--- what is kept of a record in memory
+-- the rows and the open intent of a record in memory
 abbrev pub record_state_in : Loaded → RecordState
 record_state_in loaded = record { rows = loaded.rows; intent = loaded.intent }
 

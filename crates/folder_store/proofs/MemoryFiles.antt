@@ -6,14 +6,14 @@ use Rattle.std.proofs.lemmas.Bool.{cases_Bool, false_from_ne_true}
 use Rattle.std.proofs.lemmas.List.{map-append, get_or_default}
 use Rattle.std.proofs.lemmas.List.Quantifiers.{all_pairs_push}
 use Rattle.mail_terms.specs.Distinct.{AreDistinct}
-use Rattle.folder_store.specs.declared.memory.Kept.{Kept}
+use Rattle.folder_store.specs.declared.memory.MemoryBlob.{MemoryBlob}
 use Rattle.mail_store.specs.declared.fault.StoreFault.{StoreFault}
 use Rattle.folder_store.specs.FileFolder.{Blob, Directory, Entry, entry, names_in, find, placed, appended, cut, flushed, changed, AppendsTo, CutsTo, FlushesFile}
 use Rattle.folder_store.specs.MemoryFolder.{blob_of, entry_of, entries_of}
 use Rattle.folder_store.proofs.Files.{find_here, find_later, not_ahead, placed_new}
 
 abbrev pub Pair : Type 0
-Pair = String Global × Kept
+Pair = String Global × MemoryBlob
 
 -- the names once a file has one: the same, or one more that wasn't there
 names_placed : (name : List ℕ) (b : Blob) (es : List Entry)
@@ -83,23 +83,23 @@ place_distinct (Err e) old new name b ok err h = subst (λ (fs : List Pair). Are
 -- what `place` did if the name led to a file
 pub set_seen : (seen files : List Pair) (text name : List ℕ) (i : ℕ) → seen ≡ files → text ≡ name → i < length seen
     → HoldsAt (λ (f : Pair). string_bytes f.0 ≡ text) seen i → ((k : ℕ) (d : Pair) → k < i → string_bytes (get_or seen k d).0 ≡ text → ⊥)
-    → (now : Pair) → now ≡ get_or files i now → (dest file : Kept) → dest ≡ file
+    → (now : Pair) → now ≡ get_or files i now → (dest file : MemoryBlob) → dest ≡ file
     → entries_of (slice_set files i (now.0, dest)) ≡ placed name (blob_of file) (entries_of files)
 set_seen seen files text name i e t inside at first now is dest file d =
     let P : List Pair → Type 0 = λ fs. now ≡ get_or fs i now → entries_of (slice_set fs i (now.0, dest)) ≡ placed name (blob_of file) (entries_of fs) in
     let Q : List ℕ → Type 0 = λ n. entries_of (slice_set seen i (now.0, dest)) ≡ placed n (blob_of file) (entries_of seen) in
     let q : Pair = (now.0, dest) in
     subst P e (λ was. subst Q t (set_placed seen text i inside at first q (ap (λ (p : Pair). string_bytes p.0) was ∙ at now)
-    ∙ ap (λ (k : Kept). placed text (blob_of k) (entries_of seen)) d)) is
+    ∙ ap (λ (k : MemoryBlob). placed text (blob_of k) (entries_of seen)) d)) is
 
 pub was_seen : (seen files : List Pair) (text name : List ℕ) (i : ℕ) → seen ≡ files → text ≡ name → i < length seen
     → HoldsAt (λ (f : Pair). string_bytes f.0 ≡ text) seen i → ((k : ℕ) (d : Pair) → k < i → string_bytes (get_or seen k d).0 ≡ text → ⊥)
-    → (now : Pair) → now ≡ get_or files i now → (was : Kept) → was ≡ now.1
+    → (now : Pair) → now ≡ get_or files i now → (was : MemoryBlob) → was ≡ now.1
     → Some (blob_of was) ≡ find name (entries_of files)
 was_seen seen files text name i e t inside at first now is was w =
     let P : List Pair → Type 0 = λ fs. now ≡ get_or fs i now → Some (blob_of was) ≡ find name (entries_of fs) in
     let Q : List ℕ → Type 0 = λ n. Some (blob_of was) ≡ find n (entries_of seen) in
-    subst P e (λ told. subst Q t (ap (λ (k : Kept). Some (blob_of k)) w ∙ ap (λ (p : Pair). Some (blob_of p.1)) told
+    subst P e (λ told. subst Q t (ap (λ (k : MemoryBlob). Some (blob_of k)) w ∙ ap (λ (p : Pair). Some (blob_of p.1)) told
     ∙ sym (found_at seen text i inside at first now))) is
 
 pub none_seen : (seen files : List Pair) (text name : List ℕ) → seen ≡ files → text ≡ name → find text (entries_of seen) ≡ None → find name (entries_of files) ≡ None

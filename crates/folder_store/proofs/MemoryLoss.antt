@@ -8,7 +8,7 @@ use Rattle.std.proofs.lemmas.List.Kept.{AllPairs-cons}
 use Rattle.std.proofs.lemmas.Slice.Eq.{bytes_eq-Decides}
 use Rattle.std.proofs.lemmas.Bool.{cases_Bool, cases_lt}
 use Rattle.mail_terms.specs.Distinct.{AreDistinct}
-use Rattle.folder_store.specs.declared.memory.Kept.{Kept}
+use Rattle.folder_store.specs.declared.memory.MemoryBlob.{MemoryBlob}
 use Rattle.folder_store.specs.FileFolder.{Blob, Directory, Entry, Older, entry, names_in, find, secured, content_in}
 use Rattle.folder_store.specs.PowerLoss.{IsTorn, IsLeft, IsLeftOf, WasOnce, MayBe, Loses, IsFlushed}
 use Rattle.folder_store.specs.MemoryFolder.{blob_of, entry_of, entries_of, older_of, kept_of, IsZeroed, MayBeOf, Survive}
@@ -95,7 +95,7 @@ all_is b (Ok bytes) e = inr (inl e)
 all_is b (Err e) h = tt
 
 abbrev pub Before : Type 0
-Before = String Global × Option Kept
+Before = String Global × Option MemoryBlob
 
 -- a change of the name is at a place
 pub was_once : (older : List Before) (name : List ℕ) (i : ℕ) → i < length older → HoldsAt (λ (o : Before). string_bytes o.0 ≡ name) older i

@@ -9,7 +9,7 @@ use Rattle.std.proofs.lemmas.List.Elements.{filter-append}
 use Rattle.mail_store.specs.declared.maildir.disk.Folder.{Folder}
 use Rattle.mail_store.specs.declared.maildir.disk.Folder.TheVariants.{New, Cur}
 use Rattle.mail_store.specs.Maildir.{all_there}
-use Rattle.folder_store.specs.declared.memory_folders.KeptMail.{KeptMail}
+use Rattle.folder_store.specs.declared.memory_folders.StoredMail.{StoredMail}
 use Rattle.folder_store.specs.MailFolders.{Draft, MailFile, Directories, MovesFile, RestsFile, Each, Moved, entries_in, is_in_new, is_in_cur, is_left, is_told, name_at, rests_in}
 use Rattle.folder_store.specs.MailPower.{AreLeftAs}
 use Rattle.folder_store.specs.MemoryFolders.{MayBeLeftAs, list_of, mail_file}
@@ -31,12 +31,12 @@ is_none (x ∷ names) name none c = none c.0 x (omega (arith, c.1, length-map (x
     (sym (get_or-map string_bytes (x ∷ names) c.0 x name (omega (arith, c.1, length-map (x ∷ names) string_bytes))) ∙ c.2)
 
 -- the files in front, and the next
-pub files_next : (files : List KeptMail) (i : ℕ) (x : KeptMail) → i < length files → x ≡ get_or files i x
+pub files_next : (files : List StoredMail) (i : ℕ) (x : StoredMail) → i < length files → x ≡ get_or files i x
     → map mail_file (take (i + 1) files) ≡ map mail_file (take i files) ++ mail_file x ∷ []
 files_next files i x below is =
     let step : i + 1 ≡ suc i = omega arith in
     ap (λ (n : ℕ). map mail_file (take n files)) step ∙ ap (map mail_file) (take-suc files i x below) ∙ map-append mail_file (take i files) (get_or files i x ∷ [])
-    ∙ ap (λ (y : KeptMail). map mail_file (take i files) ++ mail_file y ∷ []) (sym is)
+    ∙ ap (λ (y : StoredMail). map mail_file (take i files) ++ mail_file y ∷ []) (sym is)
 
 names_on : (f : MailFile → Bool) (ss : List MailFile) (s : MailFile) → map name_at (filter f (ss ++ s ∷ [])) ≡ map name_at (filter f ss) ++ (if f s then s.name ∷ [] else [])
 names_on f [] s = by (f s) refl
@@ -67,7 +67,7 @@ names_in_on : (folder : Folder) (ss : List MailFile) (s : MailFile)
 names_in_on New ss s = told_on is_in_new ss s
 names_in_on Cur ss s = told_on is_in_cur ss s
 
-pub names_next : (folder : Folder) (files : List KeptMail) (i : ℕ) (x : KeptMail) (before now : List (String Global)) → i < length files → x ≡ get_or files i x
+pub names_next : (folder : Folder) (files : List StoredMail) (i : ℕ) (x : StoredMail) (before now : List (String Global)) → i < length files → x ≡ get_or files i x
     → map string_bytes before ≡ map name_at (entries_in folder (map mail_file (take i files)))
     → map string_bytes now ≡ map string_bytes before ++ (if is_told folder (mail_file x) then string_bytes x.name ∷ [] else [])
     → map string_bytes now ≡ map name_at (entries_in folder (map mail_file (take (i + 1) files)))
@@ -85,7 +85,7 @@ left_on (x ∷ ss) left s o (inl (gone, l)) may = inl (gone, left_on ss left s o
 left_on (x ∷ ss) left s o (inr (t, rest, e, is, l)) may =
     inr (t, rest ++ list_of o, ap (λ (ts : List MailFile). ts ++ list_of o) e, is, left_on ss rest s o l may)
 
-pub left_next : (files : List KeptMail) (i : ℕ) (x : KeptMail) (o : Option MailFile) (before now : List MailFile) → i < length files → x ≡ get_or files i x
+pub left_next : (files : List StoredMail) (i : ℕ) (x : StoredMail) (o : Option MailFile) (before now : List MailFile) → i < length files → x ≡ get_or files i x
     → AreLeftAs (map mail_file (take i files)) before → MayBeLeftAs (mail_file x) o → now ≡ before ++ list_of o
     → AreLeftAs (map mail_file (take (i + 1) files)) now
 left_next files i x o before now below is l may e =
@@ -95,14 +95,14 @@ left_next files i x o before now below is l may e =
 
 -- ---- a reader's move
 
-each_set : (Does : MailFile → MailFile → Type 0) → ((s : MailFile) → Does s s) → (files : List KeptMail) (i : ℕ) (x y : KeptMail) → i < length files → x ≡ get_or files i x
+each_set : (Does : MailFile → MailFile → Type 0) → ((s : MailFile) → Does s s) → (files : List StoredMail) (i : ℕ) (x y : StoredMail) → i < length files → x ≡ get_or files i x
     → Does (mail_file x) (mail_file y) → Each Does (map mail_file files) (map mail_file (set files i y))
 each_set Does same [] i x y below is does = absurd (omega (arith, below))
 each_set Does same (f ∷ files) zero x y below is does =
-    (subst (λ (k : KeptMail). Does (mail_file k) (mail_file y)) is does, each_same Does same (map mail_file files))
+    (subst (λ (k : StoredMail). Does (mail_file k) (mail_file y)) is does, each_same Does same (map mail_file files))
 each_set Does same (f ∷ files) (suc i) x y below is does = (same (mail_file f), each_set Does same files i x y (omega (arith, below)) is does)
 
-abbrev pub memory_dirs : List KeptMail → Bool → Bool → Option Draft → Directories
+abbrev pub memory_dirs : List StoredMail → Bool → Bool → Option Draft → Directories
 memory_dirs files new_rests cur_rests made = record { there = all_there; entries = map mail_file files; new_rests = new_rests; cur_rests = cur_rests; made = made }
 
 -- the folder rests only if it did, and the file wasn't and isn't there
@@ -128,7 +128,7 @@ not_in_cur s t was is = record {
     by true false was is = absurd (true≢false is)
     by false b was is = absurd (true≢false was)
 
-pub file_moves : (files : List KeptMail) (i : ℕ) (x y : KeptMail) (new new' cur cur' : Bool) (made : Option Draft) → i < length files → x ≡ get_or files i x
+pub file_moves : (files : List StoredMail) (i : ℕ) (x y : StoredMail) (new new' cur cur' : Bool) (made : Option Draft) → i < length files → x ≡ get_or files i x
     → MovesFile (mail_file x) (mail_file y) → Rested new' new x.is_new y.is_new → Rested cur' cur (not x.is_new) (not y.is_new)
     → Moved (memory_dirs files new cur made) (memory_dirs (set files i y) new' cur' made)
 file_moves files i x y new new' cur cur' made below is moves in_new in_cur = record {
@@ -149,10 +149,10 @@ file_moves files i x y new new' cur cur' made below is moves in_new in_cur = rec
 
 -- ---- files that the reader took away
 
-abbrev pub is_kept : KeptMail → Bool
+abbrev pub is_kept : StoredMail → Bool
 is_kept k = not k.is_gone
 
-pub left_files : (files : List KeptMail) → map mail_file (filter is_kept files) ≡ filter is_left (map mail_file files)
+pub left_files : (files : List StoredMail) → map mail_file (filter is_kept files) ≡ filter is_left (map mail_file files)
 left_files [] = refl
 left_files (k ∷ files) = by k.is_gone refl (left_files files)
   where

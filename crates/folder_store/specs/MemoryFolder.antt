@@ -1,23 +1,23 @@
 -- A folder that is kept in memory.
 use Rattle.std.specs.Prelude.{◌≡◌, ◌⊎◌, ℕ, List, [], ◌∷◌, Some, map, false, None, option_map, String, string_bytes}
 use Rattle.std.specs.Prelude.{Option, ◌++◌, ◌≤◌, take, length, slice_index}
-use Rattle.folder_store.specs.declared.memory.Kept.{Kept}
+use Rattle.folder_store.specs.declared.memory.MemoryBlob.{MemoryBlob}
 use Rattle.folder_store.specs.FileFolder.{Blob, Entry, Older, entry, secured}
 use Rattle.folder_store.specs.PowerLoss.{IsLeftOf, WasOnce}
 
 -- a file
-abbrev pub blob_of : Kept → Blob
+abbrev pub blob_of : MemoryBlob → Blob
 blob_of k = record { content = k.content.items; flushed = k.flushed.items; uncut = k.uncut; is_doubted = false }
 
 -- a name and its file
-abbrev pub entry_of : {A : Type 0} → String A × Kept → Entry
+abbrev pub entry_of : {A : Type 0} → String A × MemoryBlob → Entry
 entry_of pair = record { name = string_bytes pair.0; blob = blob_of pair.1 }
 
-abbrev pub entries_of : {A : Type 0} → List (String A × Kept) → List Entry
+abbrev pub entries_of : {A : Type 0} → List (String A × MemoryBlob) → List Entry
 entries_of files = map entry_of files
 
 -- a name and what it led to
-abbrev pub older_of : {A : Type 0} → String A × Option Kept → Older
+abbrev pub older_of : {A : Type 0} → String A × Option MemoryBlob → Older
 older_of pair = record { name = string_bytes pair.0; was = option_map blob_of pair.1 }
 
 -- the first bytes of a content, and zeros after them, in all at most as many as the content has

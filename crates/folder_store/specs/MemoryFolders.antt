@@ -1,11 +1,11 @@
 -- The folders of a Maildir that are kept in memory.
 use Rattle.std.specs.Prelude.{◌≡◌, ℕ, Bool, true, false, List, [], ◌∷◌, Option, Some, None, Vec, string_bytes}
-use Rattle.folder_store.specs.declared.memory_folders.KeptMail.{KeptMail}
+use Rattle.folder_store.specs.declared.memory_folders.StoredMail.{StoredMail}
 use Rattle.folder_store.specs.MailFolders.{Draft, MailFile}
 use Rattle.folder_store.specs.MailPower.{IsLeftAs}
 
 -- a file
-abbrev pub mail_file : KeptMail → MailFile
+abbrev pub mail_file : StoredMail → MailFile
 mail_file k = record {
   is_new = k.is_new;
   name = string_bytes k.name;

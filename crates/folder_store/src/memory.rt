@@ -14,7 +14,7 @@ use std::mem;
 /// A file in memory: its bytes, those that were flushed last, and how many of these weren't cut off
 /// since.
 #[derive(Drop)]
-struct Kept {
+struct MemoryBlob {
     content: Vec<u8>,
     flushed: Vec<u8>,
     uncut: usize,
@@ -41,9 +41,9 @@ pub enum Left {
 #[derive(Drop)]
 pub struct MemoryFolder {
     alloc: Global,
-    files: Vec<(String, Kept)>,
-    older: Vec<(String, Option<Kept>)>,
-    made: Option<Kept>,
+    files: Vec<(String, MemoryBlob)>,
+    older: Vec<(String, Option<MemoryBlob>)>,
+    made: Option<MemoryBlob>,
 }
 
 impl Model for MemoryFolder {
@@ -66,7 +66,7 @@ impl Model for MemoryFolder {
 }
 
 /// The place of the file of this name, if there is one.
-fn place_of(files: &[(String, Kept)], name: &str) -> Option<usize>
+fn place_of(files: &[(String, MemoryBlob)], name: &str) -> Option<usize>
     ensures inside { IfSome result (λ i. i < length files.now) }
     ensures named { IfSome result (λ i. HoldsAt (λ f. string_bytes f.0 ≡ name.now) files.now i) }
     ensures first { IfSome result (λ i. (k : ℕ) (d : _) → k < i → string_bytes (slice_index_or files.now k d).0 ≢ name.now) }
@@ -81,7 +81,7 @@ fn place_of(files: &[(String, Kept)], name: &str) -> Option<usize>
 }
 
 /// The file of this name, if there is one.
-fn kept_at<'a>(files: &'a [(String, Kept)], name: &str) -> Option<&'a Kept>
+fn kept_at<'a>(files: &'a [(String, MemoryBlob)], name: &str) -> Option<&'a MemoryBlob>
     ensures { option_map (λ k. blob_of k.now) result ≡ find name.now (entries_of files.now) }
 {
     match place_of(files, name) {
@@ -92,10 +92,10 @@ fn kept_at<'a>(files: &'a [(String, Kept)], name: &str) -> Option<&'a Kept>
 
 /// Gives the name a file, and answers the one that it had.
 fn place(
-    files: &mut Vec<(String, Kept)>,
+    files: &mut Vec<(String, MemoryBlob)>,
     name: String,
-    file: Kept,
-) -> Result<Option<Kept>, AllocError>
+    file: MemoryBlob,
+) -> Result<Option<MemoryBlob>, AllocError>
     ensures placed { OnOk result (entries_of files.new.items ≡ placed (string_bytes name) (blob_of file) (entries_of files.old.items)) }
     ensures was { IfOk result (λ was. option_map blob_of was ≡ find (string_bytes name) (entries_of files.old.items)) }
     ensures err { OnErr result (files.new.items ≡ files.old.items) }
@@ -110,7 +110,7 @@ fn place(
 }
 
 /// The place in `older` of what a name led to before it was changed last, if it was changed.
-fn place_before(older: &[(String, Option<Kept>)], name: &str) -> Option<usize>
+fn place_before(older: &[(String, Option<MemoryBlob>)], name: &str) -> Option<usize>
     ensures inside { IfSome result (λ i. i < length older.now) }
     ensures named { IfSome result (λ i. HoldsAt (λ o. string_bytes o.0 ≡ name.now) older.now i) }
 {
@@ -124,8 +124,8 @@ fn place_before(older: &[(String, Option<Kept>)], name: &str) -> Option<usize>
 
 /// What is left under the name of a file, as the choice says: its bytes, or no file.
 fn bytes_left(
-    file: &(String, Kept),
-    older: &[(String, Option<Kept>)],
+    file: &(String, MemoryBlob),
+    older: &[(String, Option<MemoryBlob>)],
     left: Left,
 ) -> Result<Option<Vec<u8>>, AllocError>
     ensures { IfOk result (λ text. MayBeOf (map older_of older.now) (entry_of file.now) (option_map (λ bytes. bytes.items) text)) }
@@ -143,8 +143,8 @@ fn bytes_left(
 
 /// Appends a file with the bytes that are left of it, all on the disk, if it is still there.
 fn keep(
-    left: &mut Vec<(String, Kept)>,
-    file: &(String, Kept),
+    left: &mut Vec<(String, MemoryBlob)>,
+    file: &(String, MemoryBlob),
     bytes: Option<Vec<u8>>,
 ) -> Result<(), AllocError>
     ensures { OnOk result (entries_of left.new.items
@@ -152,7 +152,7 @@ fn keep(
 {
     match bytes {
         Some(bytes) => {
-            left.push((file.0.clone()?, Kept::whole(bytes)?))?;
+            left.push((file.0.clone()?, MemoryBlob::whole(bytes)?))?;
             Ok(())
         }
         None => Ok(()),
@@ -162,10 +162,10 @@ fn keep(
 /// What is left of some files, one by one.
 fn survivors(
     alloc: Global,
-    files: &[(String, Kept)],
-    older: &[(String, Option<Kept>)],
+    files: &[(String, MemoryBlob)],
+    older: &[(String, Option<MemoryBlob>)],
     choices: &[Left],
-) -> Result<Vec<(String, Kept)>, AllocError>
+) -> Result<Vec<(String, MemoryBlob)>, AllocError>
     ensures { IfOk result (λ left. Survive (map older_of older.now) (entries_of files.now) (entries_of left.items)) }
 {
     let mut left = Vec::new(alloc);
@@ -177,28 +177,28 @@ fn survivors(
     Ok(left)
 }
 
-impl Kept {
+impl MemoryBlob {
     ghost use Rattle.std.specs.Prelude.{IfOk, OnErr, OnOk, ◌≡◌, [], ◌++◌, length, take};
     ghost use Rattle.folder_store.specs.FileFolder.{appended, cut, empty_blob, flushed, secured};
     ghost use Rattle.folder_store.specs.PowerLoss.{IsLeft};
     ghost use Rattle.folder_store.specs.MemoryFolder.{IsZeroed, blob_of};
 
-    fn empty(alloc: Global) -> Kept
+    fn empty(alloc: Global) -> MemoryBlob
         ensures { blob_of result ≡ empty_blob }
     {
-        Kept {
+        MemoryBlob {
             content: Vec::new(alloc),
             flushed: Vec::new(alloc),
             uncut: 0,
         }
     }
 
-    fn whole(bytes: Vec<u8>) -> Result<Kept, AllocError>
+    fn whole(bytes: Vec<u8>) -> Result<MemoryBlob, AllocError>
         ensures { IfOk result (λ kept. blob_of kept ≡ secured bytes.items) }
     {
         let flushed = bytes.clone()?;
         let uncut = bytes.len();
-        Ok(Kept {
+        Ok(MemoryBlob {
             content: bytes,
             flushed,
             uncut,
@@ -243,17 +243,17 @@ impl Kept {
         }
     }
 
-    fn copy(&self) -> Result<Kept, AllocError>
+    fn copy(&self) -> Result<MemoryBlob, AllocError>
         ensures { IfOk result (λ kept. blob_of kept ≡ blob_of self.now) }
     {
-        Ok(Kept {
+        Ok(MemoryBlob {
             content: self.content.clone()?,
             flushed: self.flushed.clone()?,
             uncut: self.uncut,
         })
     }
 
-    fn appended(&self, bytes: &[u8]) -> Result<Kept, AllocError>
+    fn appended(&self, bytes: &[u8]) -> Result<MemoryBlob, AllocError>
         ensures { IfOk result (λ kept. blob_of kept ≡ appended (blob_of self.now) bytes.now) }
     {
         let mut kept = self.copy()?;
@@ -261,7 +261,7 @@ impl Kept {
         Ok(kept)
     }
 
-    fn cut(&self, len: usize) -> Result<Kept, AllocError>
+    fn cut(&self, len: usize) -> Result<MemoryBlob, AllocError>
         ensures { IfOk result (λ kept. blob_of kept ≡ cut (blob_of self.now) len) }
     {
         let mut kept = self.copy()?;
@@ -270,10 +270,10 @@ impl Kept {
         Ok(kept)
     }
 
-    fn flushed(&self) -> Result<Kept, AllocError>
+    fn flushed(&self) -> Result<MemoryBlob, AllocError>
         ensures { IfOk result (λ kept. blob_of kept ≡ flushed (blob_of self.now)) }
     {
-        Ok(Kept {
+        Ok(MemoryBlob {
             content: self.content.clone()?,
             flushed: self.content.clone()?,
             uncut: self.content.len(),
@@ -318,7 +318,7 @@ impl MemoryFolder {
     }
 
     /// Gives the file of a name other bytes.
-    fn change(&mut self, name: &str, file: Kept) -> Result<(), StoreFault>
+    fn change(&mut self, name: &str, file: MemoryBlob) -> Result<(), StoreFault>
         ensures ok { OnOk result (self.new ≡ changed self.old name.now (blob_of file)) }
         ensures err { OnErr result (self.new ≡ self.old) }
     {
@@ -332,7 +332,7 @@ impl MemoryFolder {
     }
 
     /// Puts a file under a name, in the place of another, if there is one.
-    fn put_file(&mut self, name: &str, file: Kept) -> Result<(), AllocError>
+    fn put_file(&mut self, name: &str, file: MemoryBlob) -> Result<(), AllocError>
         requires { self.old.made ≡ None }
         ensures ok { OnOk result (self.new ≡ put_in self.old (blob_of file) name.now) }
         ensures err { OnErr result (self.new ≡ self.old) }
@@ -361,7 +361,7 @@ impl FileFolder for MemoryFolder {
         ensures fault { IfErr result IsDeviceFault }
         ensures answers { result ≡ Ok tt }
     {
-        self.made = Some(Kept::empty(self.alloc));
+        self.made = Some(MemoryBlob::empty(self.alloc));
         Ok(())
     }
 

@@ -16,7 +16,7 @@ use std::marker::Model;
 
 /// A file of one of the folders, and what of it is on the disk.
 #[derive(Drop)]
-struct KeptMail {
+struct StoredMail {
     is_new: bool,
     name: String,
     content: Vec<u8>,
@@ -58,7 +58,7 @@ pub enum MailLeft {
 #[derive(Drop)]
 pub struct MemoryFolders {
     alloc: Global,
-    files: Vec<KeptMail>,
+    files: Vec<StoredMail>,
     new_rests: bool,
     cur_rests: bool,
     made: Option<(Vec<u8>, bool)>,
@@ -84,7 +84,7 @@ impl Model for MemoryFolders {
 }
 
 /// Appends the name of a file, if it is in the folder and wasn't taken away.
-fn add_name(names: &mut Vec<String>, file: &KeptMail, folder: Folder) -> Result<(), AllocError>
+fn add_name(names: &mut Vec<String>, file: &StoredMail, folder: Folder) -> Result<(), AllocError>
     ensures { OnOk result (map string_bytes names.new.items ≡ map string_bytes names.old.items
         ++ (if is_told folder (mail_file file.now) then string_bytes file.now.name ∷ [] else [])) }
 {
@@ -95,7 +95,7 @@ fn add_name(names: &mut Vec<String>, file: &KeptMail, folder: Folder) -> Result<
 }
 
 /// The names of the files of a folder.
-fn names_in(alloc: Global, files: &[KeptMail], folder: Folder) -> Result<Vec<String>, AllocError>
+fn names_in(alloc: Global, files: &[StoredMail], folder: Folder) -> Result<Vec<String>, AllocError>
     ensures { IfOk result (λ names. map string_bytes names.items ≡ map name_at (entries_in folder (map mail_file files.now))) }
 {
     let mut names = Vec::new(alloc);
@@ -120,9 +120,9 @@ fn is_among(names: &[String], name: &str) -> bool
 /// The files with what a flush of the names of a folder makes last.
 fn named_files(
     alloc: Global,
-    files: &[KeptMail],
+    files: &[StoredMail],
     folder: Folder,
-) -> Result<Vec<KeptMail>, AllocError>
+) -> Result<Vec<StoredMail>, AllocError>
     ensures { IfOk result (λ named. map mail_file named.items ≡ map (named_by folder) (map mail_file files.now)) }
 {
     let mut named = Vec::new(alloc);
@@ -142,9 +142,9 @@ fn is_one_of(texts: &[String], text: &str) -> bool
 /// The files with what a flush of those with these stems makes last.
 fn flushed_files(
     alloc: Global,
-    files: &[KeptMail],
+    files: &[StoredMail],
     stems: &[String],
-) -> Result<Vec<KeptMail>, AllocError>
+) -> Result<Vec<StoredMail>, AllocError>
     ensures { IfOk result (λ flushed. map mail_file flushed.items ≡ map (flushed_by stems.now) (map mail_file files.now)) }
 {
     let mut flushed = Vec::new(alloc);
@@ -157,9 +157,9 @@ fn flushed_files(
 /// What is left of some files, one by one.
 fn files_left(
     alloc: Global,
-    files: &[KeptMail],
+    files: &[StoredMail],
     choices: &[MailLeft],
-) -> Result<Vec<KeptMail>, AllocError>
+) -> Result<Vec<StoredMail>, AllocError>
     ensures { IfOk result (λ left. AreLeftAs (map mail_file files.now) (map mail_file left.items)) }
 {
     let mut left = Vec::new(alloc);
@@ -172,7 +172,7 @@ fn files_left(
 }
 
 /// Appends what is left of a file, if anything is.
-fn keep_left(left: &mut Vec<KeptMail>, file: Option<KeptMail>) -> Result<(), AllocError>
+fn keep_left(left: &mut Vec<StoredMail>, file: Option<StoredMail>) -> Result<(), AllocError>
     ensures { OnOk result (map mail_file left.new.items ≡ map mail_file left.old.items ++ list_of (option_map mail_file file)) }
 {
     match file {
@@ -204,7 +204,7 @@ fn name_for(alloc: Global, name: &str, is_new: bool) -> Result<String, AllocErro
     Ok(text)
 }
 
-impl KeptMail {
+impl StoredMail {
     ghost use Rattle.std.specs.Prelude.{◌≡◌, ◌||◌, IfOk, if◌then◌else◌, option_map};
     ghost use Rattle.folder_store.specs.MailCalls.{flushed_by, named_by};
     ghost use Rattle.folder_store.specs.MailFolders.{MovesFile, is_in, is_told, touches};
@@ -243,10 +243,10 @@ impl KeptMail {
         self.is_named || self.touches(folder)
     }
 
-    fn copy(&self) -> Result<KeptMail, AllocError>
+    fn copy(&self) -> Result<StoredMail, AllocError>
         ensures { IfOk result (λ kept. mail_file kept ≡ mail_file self.now) }
     {
-        Ok(KeptMail {
+        Ok(StoredMail {
             is_new: self.is_new,
             name: self.name.clone()?,
             content: self.content.clone()?,
@@ -259,7 +259,7 @@ impl KeptMail {
     }
 
     // The file once the names of a folder were flushed.
-    fn named_by(&self, folder: Folder) -> Result<KeptMail, AllocError>
+    fn named_by(&self, folder: Folder) -> Result<StoredMail, AllocError>
         ensures { IfOk result (λ kept. mail_file kept ≡ named_by folder (mail_file self.now)) }
     {
         let mut kept = self.copy()?;
@@ -279,7 +279,7 @@ impl KeptMail {
     }
 
     // The file once those with these stems were flushed.
-    fn flushed_by(&self, stems: &[String]) -> Result<KeptMail, AllocError>
+    fn flushed_by(&self, stems: &[String]) -> Result<StoredMail, AllocError>
         ensures { IfOk result (λ kept. mail_file kept ≡ flushed_by stems.now (mail_file self.now)) }
     {
         let mut kept = self.copy()?;
@@ -288,13 +288,13 @@ impl KeptMail {
     }
 
     // The file once a reader moved it to `new`, or to `cur` with a mark.
-    fn moved(&self, alloc: Global, is_new: bool) -> Result<KeptMail, AllocError>
+    fn moved(&self, alloc: Global, is_new: bool) -> Result<StoredMail, AllocError>
         ensures moves { IfOk result (λ kept. MovesFile (mail_file self.now) (mail_file kept)) }
         ensures place { IfOk result (λ kept. kept.is_new ≡ is_new) }
     {
         let name = name_for(alloc, self.name.as_str(), is_new)?;
         let content = self.content.clone()?;
-        Ok(KeptMail {
+        Ok(StoredMail {
             is_new,
             name,
             content,
@@ -307,10 +307,10 @@ impl KeptMail {
     }
 
     // The file after a loss of power, all of it on the disk.
-    fn kept(&self, is_new: bool, content: Vec<u8>) -> Result<KeptMail, AllocError>
+    fn kept(&self, is_new: bool, content: Vec<u8>) -> Result<StoredMail, AllocError>
         ensures { IfOk result (λ kept. mail_file kept ≡ left_with is_new content.items (mail_file self.now)) }
     {
-        Ok(KeptMail {
+        Ok(StoredMail {
             is_new,
             name: self.name.clone()?,
             content,
@@ -340,7 +340,7 @@ impl KeptMail {
     }
 
     // What is left of the file, as the choice says.
-    fn left(&self, choice: MailLeft) -> Result<Option<KeptMail>, AllocError>
+    fn left(&self, choice: MailLeft) -> Result<Option<StoredMail>, AllocError>
         ensures { IfOk result (λ left. MayBeLeftAs (mail_file self.now) (option_map mail_file left)) }
     {
         match choice {
@@ -554,7 +554,7 @@ impl MailFolders for MemoryFolders {
         let Ok(name) = String::from_str(self.alloc, name) else {
             return Err(StoreFault::Refused);
         };
-        let file = KeptMail {
+        let file = StoredMail {
             is_new: true,
             name,
             content,

@@ -10,7 +10,7 @@ use Rattle.mail_terms.specs.MaildirName.{base}
 use Rattle.mail_store.specs.Maildir.{Maildir, File, file, mail, with_files, file_of, name_in, names_of, bases_told, is_there, all_there, AreTheirs}
 use Rattle.mail_store.specs.declared.maildir.disk.Folder.{Folder}
 use Rattle.mail_store.specs.declared.maildir.disk.Folder.TheVariants.{New, Cur}
-use Rattle.mail_store.specs.MemoryMaildir.{Kept, Takes, count, kept_in, merged, shown}
+use Rattle.mail_store.specs.MemoryMaildir.{TwoFolders, Takes, count, files_of_folder, merged, shown}
 
 -- ---- names that are looked up
 
@@ -272,12 +272,12 @@ Contains-map : {A B : Type 0} (f : A → B) (xs : List A) (x : A) → Contains x
 Contains-map f xs x c = (c.0, omega (arith, c.1, length-map xs f), get_or-map f xs c.0 x (f x) c.1 ∙ ap f c.2)
 
 -- names of a folder are those of files that are shown
-pub theirs_of : {Z : Type 0} (kept : Kept) (folder : Folder) (names : List (String Z))
-    → IsPermutation kept.maildir.files (map shown (kept.in_new ++ kept.in_cur)) → map string_bytes names ≡ names_of (kept_in kept folder)
+pub theirs_of : {Z : Type 0} (kept : TwoFolders) (folder : Folder) (names : List (String Z))
+    → IsPermutation kept.maildir.files (map shown (kept.in_new ++ kept.in_cur)) → map string_bytes names ≡ names_of (files_of_folder kept folder)
     → AreTheirs kept.maildir.files names
 unfolding AreTheirs
 theirs_of kept folder names both told = λ k d inside.
-    let files = kept_in kept folder in
+    let files = files_of_folder kept folder in
     let name = string_bytes (get_or names k d) in
     let f : File = get_or files k (file [] []) in
     let count_told = ap length told in
@@ -291,7 +291,7 @@ theirs_of kept folder names both told = λ k d inside.
     (IsPermutation-sym kept.maildir.files (map shown (kept.in_new ++ kept.in_cur)) both)
     (Contains-map shown (kept.in_new ++ kept.in_cur) f (in_both folder f there))))
   where
-    in_both : (folder : Folder) (f : File) → Contains (kept_in kept folder) f → Contains (kept.in_new ++ kept.in_cur) f
+    in_both : (folder : Folder) (f : File) → Contains (files_of_folder kept folder) f → Contains (kept.in_new ++ kept.in_cur) f
     in_both New f c = Contains-append_left kept.in_new kept.in_cur f c
     in_both Cur f c = Contains-append_right kept.in_new kept.in_cur f c
 

@@ -5,15 +5,15 @@ use Rattle.mail_store.specs.declared.maildir.disk.Folder.TheVariants.{New, Cur}
 use Rattle.mail_store.specs.Maildir.{Maildir, File, file, mail, names_of}
 
 -- what it is as a Maildir, and the files of each folder by their whole names
-pub record Kept : Type 0 where
+pub record TwoFolders : Type 0 where
   pub maildir : Maildir
   pub in_new : List File
   pub in_cur : List File
 
 -- the files of a folder
-abbrev pub kept_in : Kept → Folder → List File
-kept_in kept New = kept.in_new
-kept_in kept Cur = kept.in_cur
+abbrev pub files_of_folder : TwoFolders → Folder → List File
+files_of_folder folders New = folders.in_new
+files_of_folder folders Cur = folders.in_cur
 
 -- a file as a Maildir shows it: without its marks
 abbrev pub shown : File → File

@@ -17,12 +17,12 @@ use std::marker::Model;
 
 /// A message, with the size of its text.
 #[derive(Drop)]
-struct Kept {
+struct StoredMessage {
     entry: Entry,
     text: Vec<u8>,
 }
 
-impl Model for Kept {
+impl Model for StoredMessage {
     ghost use Rattle.std.specs.Prelude.{◌≡◌};
     ghost use Rattle.pop3_wire.specs.World.{Message};
     ghost use Rattle.pop3_server.specs.Size.{size_of};
@@ -34,9 +34,9 @@ impl Model for Kept {
     ghost invariant = { λ k. k.entry.size ≡ size_of k.text.items };
 }
 
-impl Kept {
+impl StoredMessage {
     /// A message of this id and text.
-    fn new(alloc: Global, uid: &[u8], text: &[u8]) -> Result<Kept, AllocError>
+    fn new(alloc: Global, uid: &[u8], text: &[u8]) -> Result<StoredMessage, AllocError>
         requires legal { IsTrue (is_legal_id uid.now) }
         requires within { size_of text.now ≤ MAX_SIZE }
         ensures { IfOk result (λ kept. kept ≡ record { uid = uid.now; size = size_of text.now; text = text.now }) }
@@ -44,7 +44,7 @@ impl Kept {
         let size = size_of(text);
         let uid = Bytes::from_vec(Vec::from_slice(alloc, uid)?);
         let text = Vec::from_slice(alloc, text)?;
-        Ok(Kept {
+        Ok(StoredMessage {
             entry: Entry::new(uid, size),
             text,
         })
@@ -93,7 +93,7 @@ impl Kept {
 }
 
 /// How many messages these places hold.
-fn count(slots: &[Option<Kept>]) -> usize
+fn count(slots: &[Option<StoredMessage>]) -> usize
     ensures value { result ≡ length (there slots.now) }
     ensures within { result ≤ length slots.now }
 {
@@ -108,7 +108,7 @@ fn count(slots: &[Option<Kept>]) -> usize
 }
 
 /// The entries of the messages in these places.
-fn list(alloc: Global, slots: &[Option<Kept>]) -> Result<Vec<Entry>, AllocError>
+fn list(alloc: Global, slots: &[Option<StoredMessage>]) -> Result<Vec<Entry>, AllocError>
     ensures { IfOk result (λ entries. entries.items ≡ map entry_of (there slots.now)) }
 {
     let mut entries = Vec::new(alloc);
@@ -122,7 +122,7 @@ fn list(alloc: Global, slots: &[Option<Kept>]) -> Result<Vec<Entry>, AllocError>
 }
 
 /// Whether one of the messages has this id.
-fn has_id(slots: &[Option<Kept>], uid: &[u8]) -> bool
+fn has_id(slots: &[Option<StoredMessage>], uid: &[u8]) -> bool
     ensures { IsTrue result ↔ Contains (ids slots.now) uid.now }
 {
     for slot in slots {
@@ -142,7 +142,7 @@ fn has_id(slots: &[Option<Kept>], uid: &[u8]) -> bool
 #[derive(Drop)]
 pub struct MemoryDrop {
     alloc: Global,
-    slots: Vec<Option<Kept>>,
+    slots: Vec<Option<StoredMessage>>,
     removals: u64,
 }
 
@@ -204,7 +204,7 @@ impl MemoryDrop {
     }
 
     /// The message at this place.
-    fn kept(&self, i: usize) -> &Kept
+    fn kept(&self, i: usize) -> &StoredMessage
         requires { HasPlace self.now i }
         ensures { slice_get self.now.slots i ≡ Some (Some result.now) }
     {
@@ -228,7 +228,7 @@ impl MemoryDrop {
         }) }
         ensures err { OnErr result (self.new ≡ self.old) }
     {
-        let kept = Kept::new(self.alloc, uid, text)?;
+        let kept = StoredMessage::new(self.alloc, uid, text)?;
         self.slots.push(Some(kept))?;
         Ok(())
     }

@@ -12,7 +12,7 @@ use Rattle.run_law.specs.Steps.{Effect, IsHonest, ids_wanted}
 use Rattle.run_law.specs.Runs.{past_limit}
 use Rattle.run_law.specs.Mboxes.{MboxMail, mbox_rows, mbox_wanted, entries, intent_of, IsClosed, IsOpen, MboxLeaves, MboxStores}
 
--- what is kept of an account, and the ids that are gone from the server
+-- an account, and the ids that are gone from the server
 pub record MboxState (K : Type 0) : Type 0 where
   pub account : K
   pub gone : List (List ℕ)

@@ -11,7 +11,7 @@ use Rattle.run_law.specs.Mails.{ids_of, is_selected, selected, texts_of, message
 use Rattle.run_law.specs.Accounts.{AccountMail, files, copies, KeepsOthers}
 use Rattle.run_law.specs.Steps.{Effect, Leaves, Stores, IsHonest, merged_rows, wanted_at, ids_wanted}
 
--- what is kept of an account, the ids that are gone from the server, and those of the messages that were taken away from the
+-- an account, the ids that are gone from the server, and those of the messages that were taken away from the
 -- Maildir and weren't brought back
 pub record State (K : Type 0) : Type 0 where
   pub account : K

@@ -28,9 +28,9 @@ pub struct MemoryMaildir {
 impl Model for MemoryMaildir {
     ghost use Rattle.std.specs.Prelude.{◌≡◌, length, map, option_map, true, false};
     ghost use Rattle.mail_store.specs.Maildir.{Maildir, file_of, all_there};
-    ghost use Rattle.mail_store.specs.MemoryMaildir.{Kept, count, merged, shown};
+    ghost use Rattle.mail_store.specs.MemoryMaildir.{TwoFolders, count, merged, shown};
 
-    ghost Value = { Kept };
+    ghost Value = { TwoFolders };
 
     ghost view = { λ d. record {
       maildir = record {
@@ -50,7 +50,7 @@ impl Model for MemoryMaildir {
 impl MemoryMaildir {
     ghost use Rattle.std.specs.Prelude.{◌≡◌, ◌<◌, ◌↔◌, ◌++◌, ◌∷◌, [], None, map, slice_index, IsTrue, IsSome, IsPermutation, OnErr, OnOk};
     ghost use Rattle.mail_store.specs.Maildir.{Maildir, File, IsThere, all_there, file_of, mail};
-    ghost use Rattle.mail_store.specs.MemoryMaildir.{Kept, kept_in, shown, Moves};
+    ghost use Rattle.mail_store.specs.MemoryMaildir.{TwoFolders, files_of_folder, shown, Moves};
 
     /// A Maildir without files.
     pub fn new(alloc: Global) -> MemoryMaildir
@@ -73,7 +73,7 @@ impl MemoryMaildir {
 
     /// The files of a folder, each with its name and its bytes, in the order in which they came.
     pub fn files(&self, folder: Folder) -> &[(String, Vec<u8>)]
-        ensures files { map file_of result.now ≡ kept_in self.now folder }
+        ensures files { map file_of result.now ≡ files_of_folder self.now folder }
         ensures both { IsPermutation self.now.maildir.files (map shown (self.now.in_new ++ self.now.in_cur)) }
     {
         match folder {

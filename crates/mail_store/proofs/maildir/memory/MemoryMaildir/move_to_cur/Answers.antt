@@ -1,7 +1,7 @@
 use Rattle.std.proofs.Common.{◌≡◌, ◌∙◌, ◌-◌, ◌<◌, ℕ, List, ◌++◌, Bool, true, false, length, map, refl, sym, ap, subst, inl, arith, cond, set, take, insert, String, Vec, Global, string_bytes, Contains, HoldsAt, option_map, is_ok}
 use Rattle.std.proofs.lemmas.Bool.{both_ways}
 use Rattle.mail_store.specs.Maildir.{File, all_there, file_of, names_of}
-use Rattle.mail_store.specs.MemoryMaildir.{Kept, Takes, count, merged, shown}
+use Rattle.mail_store.specs.MemoryMaildir.{TwoFolders, Takes, count, merged, shown}
 use Rattle.mail_store.proofs.NameLemmas.{base-suffixed}
 use Rattle.mail_store.proofs.MoveLemmas.{Fit, before_place, taken_to_cur, within}
 use Rattle.mail_store.proofs.maildir.memory.MemoryMaildir.move_to_cur.Goals as goal
@@ -14,7 +14,7 @@ pub returns-in_default-clause-moves : goal.returns-in_default-clause-moves
 returns-in_default-clause-moves c = (
   refl,
   refl,
-  inl (subst (λ (kept : Kept). Contains (names_of kept.in_new) c.args.name.now → ⊥) c.self.view_is
+  inl (subst (λ (kept : TwoFolders). Contains (names_of kept.in_new) c.args.name.now → ⊥) c.self.view_is
       (subst (λ (pairs : List Pair). Contains (names_of (map file_of pairs)) c.args.name.now → ⊥) c.deref-2.ensures.value c.in_default.ensures.none)),
 )
 
@@ -78,8 +78,8 @@ invariant_of-self-2 c = (moves_of c).2
 pub returns-clause-same : goal.returns-clause-same
 returns-clause-same c =
     ap (λ (files : List File). record { there = all_there; files = files; begun = option_map file_of c.self.inside.begun; failures = c.self.inside.failures })
-    (moves_of c).0 ∙ ap (λ (kept : Kept). kept.maildir) c.self.view_is
+    (moves_of c).0 ∙ ap (λ (kept : TwoFolders). kept.maildir) c.self.view_is
 
 pub returns-clause-moves : goal.returns-clause-moves
 returns-clause-moves c =
-    subst (λ (kept : Kept). Takes kept.in_new kept.in_cur c.args.name.now (c.args.name.now ++ c.args.suffix.now) (map file_of c.remove-content.new.self.items) (map file_of c.insert.new.self.items)) c.self.view_is (moves_of c).1
+    subst (λ (kept : TwoFolders). Takes kept.in_new kept.in_cur c.args.name.now (c.args.name.now ++ c.args.suffix.now) (map file_of c.remove-content.new.self.items) (map file_of c.insert.new.self.items)) c.self.view_is (moves_of c).1

@@ -1,6 +1,6 @@
 use Rattle.std.proofs.Common.{◌∙◌, List, [], Bool, true, false, map, None, length, String, Vec, Global, ℕ, ap, sym}
 use Rattle.mail_store.specs.Maildir.{all_there, file_of}
-use Rattle.mail_store.specs.MemoryMaildir.{Kept, count, merged, shown}
+use Rattle.mail_store.specs.MemoryMaildir.{TwoFolders, count, merged, shown}
 use Rattle.mail_store.proofs.maildir.memory.MemoryMaildir.new.Goals as goal
 
 pub invariant_of-result : goal.invariant_of-result
@@ -10,7 +10,7 @@ invariant_of-result c = (
 )
 
 -- what is known of a device with these fields
-kept_of : List Bool → List (String Global × Vec ℕ Global) → List (String Global × Vec ℕ Global) → ℕ → Kept
+kept_of : List Bool → List (String Global × Vec ℕ Global) → List (String Global × Vec ℕ Global) → ℕ → TwoFolders
 kept_of flags new cur failures = record {
   maildir = record { there = all_there; files = map shown (merged flags (map file_of new) (map file_of cur)); begun = None; failures = failures };
   in_new = map file_of new;

@@ -1,6 +1,6 @@
 use Rattle.std.proofs.Common.{rules, ◌≡◌, ◌∙◌, ◌++◌, List, refl, true, map, subst, ap, String, Vec, Global, ℕ, IsPermutation, string_bytes}
 use Rattle.mail_store.specs.Maildir.{file_of, names_of, bases_told}
-use Rattle.mail_store.specs.MemoryMaildir.{Kept}
+use Rattle.mail_store.specs.MemoryMaildir.{TwoFolders}
 use Rattle.mail_store.proofs.TakingLemmas.{part_same}
 use Rattle.mail_store.proofs.MoveLemmas.{names_tell_both, shown_all}
 use Rattle.mail_store.proofs.maildir.memory.MemoryMaildirMaildirDisk.all_names.Goals as goal
@@ -16,7 +16,7 @@ returns-in-Ok-clause-lists c = λ k.
       (
         c.args.self.now.maildir.files,
         part_same c.args.self.now.maildir.files,
-        subst (λ (kept : Kept). (kept.maildir.there.new ≡ true) × (kept.maildir.there.cur ≡ true)
+        subst (λ (kept : TwoFolders). (kept.maildir.there.new ≡ true) × (kept.maildir.there.cur ≡ true)
             × IsPermutation (names_of kept.maildir.files) (bases_told c.in-Ok.names.items) × (kept.maildir ≡ kept.maildir)) c.self.view_is (
               refl,
               refl,

@@ -1,6 +1,6 @@
 use Rattle.std.proofs.Common.{rules, ◌≡◌, ◌∙◌, refl, true, subst, ap}
 use Rattle.mail_store.specs.Maildir.{is_there, names_of}
-use Rattle.mail_store.specs.MemoryMaildir.{Kept}
+use Rattle.mail_store.specs.MemoryMaildir.{TwoFolders}
 use Rattle.mail_store.proofs.TakingLemmas.{part_same}
 use Rattle.mail_store.proofs.MoveLemmas.{is_all_there, theirs_of}
 use Rattle.mail_store.proofs.maildir.memory.MemoryMaildirMaildirDisk.names.Goals as goal
@@ -12,7 +12,7 @@ returns-in-Ok-clause-lists c = λ k. (
     c.args.self.now.maildir.files,
     part_same c.args.self.now.maildir.files,
     (
-      subst (λ (kept : Kept). is_there kept.maildir.there c.args.folder ≡ true) c.self.view_is (is_all_there c.args.folder),
+      subst (λ (kept : TwoFolders). is_there kept.maildir.there c.args.folder ≡ true) c.self.view_is (is_all_there c.args.folder),
       theirs_of c.args.self.now c.args.folder c.in-Ok.names.items c.files.ensures.both (c.in-Ok.ensures ∙ ap names_of c.files.ensures.files),
       refl,
     ),

@@ -1,6 +1,6 @@
 use Rattle.std.proofs.Common.{arith}
 use Rattle.folder_store.proofs.MemoryLoss.{zeroed_next}
-use Rattle.folder_store.proofs.memory.Kept.zeroed.Goals as goal
+use Rattle.folder_store.proofs.memory.MemoryBlob.zeroed.Goals as goal
 
 pub loop-bytes-preserved : goal.loop-bytes-preserved
 loop-bytes-preserved c =

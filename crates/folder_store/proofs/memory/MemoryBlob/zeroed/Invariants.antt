@@ -1,6 +1,6 @@
 use Rattle.std.proofs.Common.{◌-◌, length}
 use Rattle.folder_store.specs.MemoryFolder.{IsZeroed}
-use Rattle.folder_store.proofs.memory.Kept.zeroed.Given as goal
+use Rattle.folder_store.proofs.memory.MemoryBlob.zeroed.Given as goal
 
 -- what is there so far
 abbrev pub invariant-loop-bytes : goal.invariant-loop-bytes
