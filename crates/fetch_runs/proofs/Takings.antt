@@ -125,11 +125,11 @@ module _ (differ : StemsDiffer) (world : World) (maildir : Maildir) (file : Stor
   abbrev account : List ℕ
   account = world.account
 
-  abbrev with_kept : List File → List (List ℕ) → State AccountFiles
-  with_kept fs taken = record { account = account_files (with_files fs maildir) file; gone = gone; taken = taken }
+  abbrev with_files_left : List File → List (List ℕ) → State AccountFiles
+  with_files_left fs taken = record { account = account_files (with_files fs maildir) file; gone = gone; taken = taken }
 
   abbrev HasEvents : List File → List (List ℕ) → Type 0
-  HasEvents fs taken = (events : List Event) × AreTaken world (with_kept fs taken) left events × LeaveParts (with_kept fs taken) events
+  HasEvents fs taken = (events : List Event) × AreTaken world (with_files_left fs taken) left events × LeaveParts (with_files_left fs taken) events
 
   -- its files are taken away
   abbrev IsDue : List File → List ℕ → Type 0

@@ -64,8 +64,7 @@ pub record IsLeftWithin (account : List ℕ) (before : AccountFiles) (ready : Sc
 
 -- a session that was cut, and that sent and got only a prefix of what this one did, left these files
 pub record IsCutThere (settings : Settings) (account : List ℕ) (now : ℕ) (link : Link) (before : AccountFiles) (link' : Link)
-    (items : List Item)
-    (ready : Scene) (left : AccountFiles) : Type 0 where
+    (items : List Item) (ready : Scene) (left : AccountFiles) : Type 0 where
   pub fault : Fault
   pub lines : List ReportLine
   pub cut : Link

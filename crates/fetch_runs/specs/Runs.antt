@@ -76,8 +76,7 @@ AreServed seen all gone olds news facts = ⊥
 -- readers took files away, and then a session was one of what they left: a prefix is held before and after they did, and the
 -- session keeps its promises
 pub record IsPromised {W : Type 0} (seen : W → Link) (settings : Settings) (world : World) (state : State AccountFiles) (old : Visit W)
-    (report : Report)
-    (new : Visit W) (fact : Fact) : Type 0 where
+    (report : Report) (new : Visit W) (fact : Fact) : Type 0 where
   pub left : List File
   pub takings : List Event
   pub taken : AreTaken world state left takings

@@ -52,7 +52,8 @@ pub fn run_sessions<W: Wire, D: MaildirDisk, F: FlatFile, H: BuildHasher>(
         → AreServed W.history all gone visits.old visits.new facts
         → ArePromised W.history account.old.settings (world_of account.old.settings all)
         (state_of (account_files (maildir_of D.MaildirDisk account.old.store) (F.stored account.old.file)) gone taken)
-        visits.old reports.items visits.new facts (account_files (maildir_of D.MaildirDisk account.new.store) (F.stored account.new.file)))) }
+        visits.old reports.items visits.new facts
+        (account_files (maildir_of D.MaildirDisk account.new.store) (F.stored account.new.file)))) }
     ensures mbox_runs { IfOk result (λ reports. AreSound W.sound visits.new
         → IsSoundMbox F.FlatFile account.new.store → F.sound account.new.file
         → AreSound W.sound visits.old × IsSoundMbox F.FlatFile account.old.store × F.sound account.old.file
@@ -64,7 +65,8 @@ pub fn run_sessions<W: Wire, D: MaildirDisk, F: FlatFile, H: BuildHasher>(
         → AreServed W.history world.all gone visits.old visits.new facts
         → AreMboxPromised W.history account.old.settings world
         (mbox_state (mbox_account_files (mbox_of F.FlatFile account.old.store) (F.stored account.old.file)) gone)
-        visits.old reports.items visits.new facts (mbox_account_files (mbox_of F.FlatFile account.new.store) (F.stored account.new.file)))) }
+        visits.old reports.items visits.new facts
+        (mbox_account_files (mbox_of F.FlatFile account.new.store) (F.stored account.new.file)))) }
 {
     headline();
     takings_are_events();

@@ -78,7 +78,7 @@ MboxSessions {W} {D} {F} link disk files = (now : ℕ) (old new : Holding D F) (
 
 -- a file of version 2 that stands for a record and has no torn end stands for that record
 abbrev pub SteadyFilesKeep : Type 0
-SteadyFilesKeep = (content : Option (List ℕ)) (held : RecordState) → Steady content held → Keeps content held
+SteadyFilesKeep = (content : Option (List ℕ)) (state : RecordState) → Steady content state → Keeps content state
 
 -- the file of a record that wasn't saved stands for the old record or for the new one
 abbrev pub UnsavedFilesKeep : Type 0

@@ -45,7 +45,7 @@ pub record IsReadyFor {D F H Z : Type 0} (disk : DiskGhosts D) (file : FileGhost
   pub rows : AllByRecursion (λ (uid : List ℕ). has_row work.ledger.seen.rows uid ≡ true) (ids_ahead tasks)
   pub free : is_sound disk file work.store → AreFresh account (stores_of disk file work.store).maildir (ids_ahead tasks)
 
--- ---- what is kept
+-- ---- what calls leave as it was
 
 -- it is the same link, its refused calls are counted, and it took this
 pub record KeepsLink {W : Type 0} (link : WireGhosts W) (Took : Place → Result (Unit {0}) Cut → Place → Type 0) (old : Client W)

@@ -9,10 +9,10 @@ abbrev pub IsAtRest : ChangeTime → ℕ → Type 0
 IsAtRest change at = change.seconds < at - 2
 
 -- a listing after the later look would find the same names as one after the earlier look: both folders were
--- settled and haven't changed since; and the later look is less than an hour later
+-- at rest and haven't changed since; and the later look is less than an hour later
 pub record IsUnchanged (earlier later : FoldersLook) : Type 0 where
-  pub new_settled : IsAtRest earlier.new earlier.at
-  pub cur_settled : IsAtRest earlier.cur earlier.at
+  pub new_at_rest : IsAtRest earlier.new earlier.at
+  pub cur_at_rest : IsAtRest earlier.cur earlier.at
   pub new_same : later.new ≡ earlier.new
   pub cur_same : later.cur ≡ earlier.cur
   pub behind : earlier.at ≤ later.at

@@ -7,11 +7,11 @@ use folder_store::ChangeTime;
 
 /// How long ago a folder must have been changed, so that each later change gives it a different time:
 /// no file system's clock ticks in longer steps.
-const SETTLED_SECONDS: u64 = 2;
+const REST_SECONDS: u64 = 2;
 
 /// How long a listing stays valid while the folders don't change: for this long the server may miss
 /// that a file was changed in place.
-const STANDING_SECONDS: u64 = 3_600;
+const VALID_SECONDS: u64 = 3_600;
 
 /// A look at both folders: their times of change, and when it was, in seconds since 1970.
 #[derive(Clone, Copy)]
@@ -38,16 +38,16 @@ impl FoldersLook {
     }
 
     /// Whether a listing that was made after this look is still valid at a later look: the folders were
-    /// settled and haven't changed since, and the listing isn't too old.
-    pub fn stands_at(&self, later: &FoldersLook) -> bool
+    /// at rest and haven't changed since, and the listing isn't too old.
+    pub fn is_unchanged_at(&self, later: &FoldersLook) -> bool
         ensures { IsTrue result ↔ IsUnchanged self.now later.now }
     {
-        let settled = self.at.saturating_sub(SETTLED_SECONDS);
-        self.new.seconds < settled
-            && self.cur.seconds < settled
+        let rested_before = self.at.saturating_sub(REST_SECONDS);
+        self.new.seconds < rested_before
+            && self.cur.seconds < rested_before
             && later.new == self.new
             && later.cur == self.cur
             && self.at <= later.at
-            && later.at - self.at < STANDING_SECONDS
+            && later.at - self.at < VALID_SECONDS
     }
 }

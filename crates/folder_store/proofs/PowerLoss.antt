@@ -328,13 +328,13 @@ disk_is_known is_flushed d name is = record { sure = flushed_is_sure (find name 
 
 -- ---- the laws
 
-pub disk_stands : DiskIsLeft
-disk_stands d name h = λ left may. left_flushed (find name d.entries) left h.flushed (left_named d name left h.named may)
+pub disk_is_left : DiskIsLeft
+disk_is_left d name h = λ left may. left_flushed (find name d.entries) left h.flushed (left_named d name left h.named may)
 
 -- what is on the disk is known to be there, and a loss of power leaves exactly that
 pub told_lasts : (is_flushed : Bool) (d : Directory) (name : List ℕ) → IsOnDisk d name
     → IsKnown is_flushed d name × LastsWhole (content_at d name) (IsOnDisk d name) (MayBe d name)
-told_lasts is_flushed d name is = (disk_is_known is_flushed d name is, λ bytes has. (is, λ left may. disk_stands d name is left may ∙ has))
+told_lasts is_flushed d name is = (disk_is_known is_flushed d name is, λ bytes has. (is, λ left may. disk_is_left d name is left may ∙ has))
 
 -- a call that only reads answered, once the file was flushed
 pub told_again : {T : Type 0} (r : Result T StoreFault) (is_flushed flag : Bool) (old mid new : Directory) (name name' : List ℕ) → is_err r ≡ false

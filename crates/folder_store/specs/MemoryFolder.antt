@@ -1,4 +1,4 @@
--- A folder that is kept in memory.
+-- A folder in memory.
 use Rattle.std.specs.Prelude.{◌≡◌, ◌⊎◌, ℕ, List, [], ◌∷◌, Some, map, false, None, option_map, String, string_bytes}
 use Rattle.std.specs.Prelude.{Option, ◌++◌, ◌≤◌, take, length, slice_index}
 use Rattle.folder_store.specs.declared.memory.MemoryBlob.{MemoryBlob}

@@ -1,4 +1,4 @@
--- The folders of a Maildir that are kept in memory.
+-- The folders of a Maildir in memory.
 use Rattle.std.specs.Prelude.{◌≡◌, ℕ, Bool, true, false, List, [], ◌∷◌, Option, Some, None, Vec, string_bytes}
 use Rattle.folder_store.specs.declared.memory_folders.StoredMail.{StoredMail}
 use Rattle.folder_store.specs.MailFolders.{Draft, MailFile}

@@ -11,7 +11,7 @@ ghost use Rattle.folder_store.specs.NewDevices.{FlushingKeepsFlushed};
 ghost use Rattle.folder_store.specs.MailPower.{LeftMailIsOnDisk, MailCanLosePower, MailOnDiskIsLeft, OutlivingMailIsLeft, StayingMailIsLeft};
 
 /// A loss of power leaves what calls see under a name whose file is on the disk.
-pub fn disk_stands()
+pub fn disk_is_left()
     ensures { DiskIsLeft }
 {}
 

@@ -18,8 +18,8 @@ use Rattle.getmail_program.specs.declared.told.Told.{Told}
 use Rattle.getmail_program.specs.declared.told.Told.TheVariants.{Done, Ahead}
 
 -- what an account holds that is made of these parts
-abbrev pub holding : {D F : Type 0} → Settings → Store D F → F → Holding D F
-holding settings store file = record { settings = settings; store = store; file = file }
+abbrev pub holding_of : {D F : Type 0} → Settings → Store D F → F → Holding D F
+holding_of settings store file = record { settings = settings; store = store; file = file }
 
 -- a session that changes nothing was run: the preview says what a run would do
 abbrev pub PreviewsAccount : {W D F : Type 0} → WireGhosts W → DiskGhosts D → FileGhosts F → ℕ → Holding D F → W → Preview → Holding D F

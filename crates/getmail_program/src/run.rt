@@ -2,7 +2,7 @@
 ghost use Rattle.std.specs.Prelude.{◌≡◌, ◌≤◌};
 ghost use Rattle.fetch_session.specs.Target.{NoneBegun, kind_of};
 ghost use Rattle.rc_file.specs.Settings.{IsValid};
-ghost use Rattle.getmail_program.specs.Holding.{HoldsSession, holding};
+ghost use Rattle.getmail_program.specs.Holding.{HoldsSession, holding_of};
 ghost use Rattle.getmail_program.specs.Telling.{TellsAll};
 ghost use Rattle.getmail_program.specs.declared.told.Told.{Told};
 
@@ -105,8 +105,8 @@ pub fn fetch_with<
     ensures within { result.fetched.status ≤ 1 }
     ensures fetched { (told : Told)
         × HoldsSession W.Wire D.MaildirDisk F.FlatFile manner.entry.pretends manner.entry.now
-        (holding parts.settings parts.store parts.seen_file) wire.old.wire told
-        (holding result.settings result.store result.seen_file) wire.new.wire
+        (holding_of parts.settings parts.store parts.seen_file) wire.old.wire told
+        (holding_of result.settings result.store result.seen_file) wire.new.wire
         × TellsAll O.contents E.contents manner.entry.explains parts.settings told out.old errors.old result.fetched out.new
         errors.new }
 {

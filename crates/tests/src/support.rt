@@ -7,7 +7,7 @@ mod maildrops;
 mod records;
 
 pub use accounts::{
-    Fred, Fuse, Kept, Link, SOUND, account, fetch, kept_by, link, login, nothing_kept,
+    Fred, Fuse, Files, Link, SOUND, account, fetch, files_of, link, login, no_files,
 };
 pub use listings::listing_of;
 pub use maildirs::make_maildir;

@@ -77,7 +77,7 @@ impl<'a, R: Files + Clock + RandomSource + AllocGlobal + Clone + Drop> MaildirDr
     /// The files of the Maildir: those of the earlier listing, if it is still valid.
     fn find(&self, last_seen: &mut SeenFiles) -> io::Result<FoundFiles> {
         let look = self.folders.look()?;
-        if self.earlier.look.stands_at(&look) {
+        if self.earlier.look.is_unchanged_at(&look) {
             return Ok(self.earlier.found(self.system.alloc())?);
         }
         let placed = self.folders.list()?;

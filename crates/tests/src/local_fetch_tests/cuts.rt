@@ -1,8 +1,8 @@
 //! Sessions that are cut, each at another place, and a whole session after each.
 
 use crate::support::{
-    Fred, Fuse, Kept, Link, MESSAGES, SOUND, account, fetch, kept_by, link, login, maildrop_of,
-    nothing_kept,
+    Fred, Fuse, Files, Link, MESSAGES, SOUND, account, fetch, files_of, link, login, maildrop_of,
+    no_files,
 };
 use fetch_session::session;
 use mail_store::{Folder, MemoryMaildir};
@@ -31,7 +31,7 @@ struct Fuses {
 /// What sessions leave at both ends.
 #[derive(Drop)]
 struct Ends {
-    kept: Kept,
+    files: Files,
     maildrop: MemoryDrop,
 }
 
@@ -46,13 +46,13 @@ fn cut(alloc: Global, options: &[u8], fuses: Fuses) -> Result<Ends, Fail> {
     let mut account = account(
         alloc,
         options,
-        nothing_kept(alloc),
+        no_files(alloc),
         fuses.disk,
         fuses.record,
     )?;
     run(&mut account, &mut wire);
     Ok(Ends {
-        kept: kept_by(alloc, account),
+        files: files_of(alloc, account),
         maildrop: wire.into_inner().into_inner().into_drop(),
     })
 }
@@ -60,10 +60,10 @@ fn cut(alloc: Global, options: &[u8], fuses: Fuses) -> Result<Ends, Fail> {
 /// Runs a whole session.
 fn complete(alloc: Global, options: &[u8], ends: Ends) -> Result<Ends, Fail> {
     let login = login(alloc)?;
-    let mut account = account(alloc, options, ends.kept, SOUND, SOUND)?;
+    let mut account = account(alloc, options, ends.files, SOUND, SOUND)?;
     let (_, maildrop) = fetch(alloc, &mut account, ends.maildrop, login);
     Ok(Ends {
-        kept: kept_by(alloc, account),
+        files: files_of(alloc, account),
         maildrop,
     })
 }
@@ -80,7 +80,7 @@ fn holds_each_once(maildir: &MemoryMaildir) -> bool {
 
 /// Each message is held once, and the maildrop is empty if the sessions delete.
 fn expect_whole(rt: &impl Abort, ends: &Ends, delete: bool) {
-    assert!(rt; holds_each_once(&ends.kept.maildir));
+    assert!(rt; holds_each_once(&ends.files.maildir));
     assert_eq!(rt; ends.maildrop.is_empty(), delete);
 }
 

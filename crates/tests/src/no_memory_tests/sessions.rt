@@ -2,7 +2,7 @@
 
 use crate::no_memory_tests::watched::{begin, end, tell, tell_bytes, tell_no_memory, tell_text};
 use crate::support::{
-    Fred, Link, MESSAGES, SOUND, account, fetch, kept_by, link, login, maildrop_of, nothing_kept,
+    Fred, Link, MESSAGES, SOUND, account, fetch, files_of, link, login, maildrop_of, no_files,
 };
 use fetch_runs::{Visit, run_sessions};
 use fetch_session::{Outcome, Report, fault_text};
@@ -21,7 +21,7 @@ fn tell_outcome(rt: &HostRuntime, report: &Report) {
 
 /// Prints the texts that the sessions of an account left.
 fn tell_held(rt: &HostRuntime, account: Fred) {
-    for (_name, text) in kept_by(rt.alloc(), account).maildir.files(Folder::New) {
+    for (_name, text) in files_of(rt.alloc(), account).maildir.files(Folder::New) {
         tell_bytes(rt, text);
     }
 }
@@ -42,7 +42,7 @@ fn fetch_local_row(rt: HostRuntime) -> Result<(), Fail> {
     let alloc = rt.alloc();
     let first = maildrop_of(alloc, &MESSAGES)?;
     let second = maildrop_of(alloc, &MESSAGES)?;
-    let mut account = account(alloc, b"", nothing_kept(alloc), SOUND, SOUND)?;
+    let mut account = account(alloc, b"", no_files(alloc), SOUND, SOUND)?;
     fetch_all(&rt, &mut account, first);
     fetch_all(&rt, &mut account, second);
     tell_held(&rt, account);
@@ -78,7 +78,7 @@ fn run_sessions_row(rt: HostRuntime) -> Result<(), Fail> {
     let alloc = rt.alloc();
     let whole = maildrop_of(alloc, &MESSAGES)?;
     let mut visits = [visit(alloc)?, visit(alloc)?];
-    let mut account = account(alloc, b"", nothing_kept(alloc), SOUND, SOUND)?;
+    let mut account = account(alloc, b"", no_files(alloc), SOUND, SOUND)?;
     run_both(&rt, &mut account, &mut visits);
     fetch_all(&rt, &mut account, whole);
     tell_held(&rt, account);

@@ -32,16 +32,16 @@ pub type Fred = Account<Fused<MemoryMaildir>, Fused<MemoryFile>, BuildHasherDefa
 /// A link to a server, which can refuse calls.
 pub type Link = FusedWire<LoopWire<MemoryDrop>>;
 
-/// What is kept between sessions.
+/// What an account has between sessions.
 #[derive(Drop)]
-pub struct Kept {
+pub struct Files {
     pub maildir: MemoryMaildir,
     pub record: MemoryFile,
 }
 
 /// An empty Maildir, and no file of a record.
-pub fn nothing_kept(alloc: Global) -> Kept {
-    Kept {
+pub fn no_files(alloc: Global) -> Files {
+    Files {
         maildir: MemoryMaildir::new(alloc),
         record: MemoryFile::missing(alloc),
     }
@@ -62,19 +62,19 @@ fn settings(alloc: Global, options: &[u8]) -> Result<Settings, Fail>
     Ok(settings)
 }
 
-/// An account with these options over what is kept, whose Maildir and record refuse calls as
+/// An account with these options over these files, whose Maildir and record refuse calls as
 /// these fuses say.
 pub fn account(
     alloc: Global,
     options: &[u8],
-    kept: Kept,
+    files: Files,
     disk: Fuse,
     record: Fuse,
 ) -> Result<Fred, Fail> {
-    let Kept {
+    let Files {
         mut maildir,
         record: file,
-    } = kept;
+    } = files;
     maildir.abandon();
     Ok(Account::new(
         alloc,
@@ -86,13 +86,13 @@ pub fn account(
 }
 
 /// What the sessions of an account leave.
-pub fn kept_by(alloc: Global, account: Fred) -> Kept {
+pub fn files_of(alloc: Global, account: Fred) -> Files {
     let (_settings, store, record) = account.into_parts();
     let maildir = match store {
         Store::Maildir(disk) => disk.into_inner(),
         Store::Mboxrd(_) => MemoryMaildir::new(alloc),
     };
-    Kept {
+    Files {
         maildir,
         record: record.into_inner(),
     }

@@ -46,7 +46,7 @@ returns-in-Err-reserve-clause-proceeds g c = λ w d f.
     let files = (stores_of g.D.MaildirDisk g.F.FlatFile c.args.work.now.store).maildir.files in
     (entered.0, d, f, entered.1, (files, part_same files, (inr (inl (search rules)), untouched g.D.MaildirDisk g.F.FlatFile c.args.work.now.store c.args.work.now.ledger.file)))
 
--- ---- what is kept
+-- ---- what calls leave as it was
 
 pub returns-in-Err-clause-link : goal.returns-in-Err-clause-link
 returns-in-Err-clause-link g c = record {

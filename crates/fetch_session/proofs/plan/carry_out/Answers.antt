@@ -116,7 +116,7 @@ returns-clause-carries g c = λ w d f.
       ),
     )
 
--- ---- what is kept
+-- ---- what calls leave as it was
 
 pub returns-in-Err-do_steps-clause-link : goal.returns-in-Err-do_steps-clause-link
 returns-in-Err-do_steps-clause-link g c = link_with_tail (link_less (length c.args.listing.now * step_limit)

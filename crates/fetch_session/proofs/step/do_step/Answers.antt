@@ -18,7 +18,7 @@ pub returns-clause-does : goal.returns-clause-does
 returns-clause-does g c = rw (not-false c.args.step.delete c.if-not-step.false)
     (does_on c.turns_join.ensures g.met.W.Wire.leads_on (task_of c.args.first ∷ []) (deletes c.args.step.number ∷ []) c.do_task-2.result c.in_ok-do_task.ensures.keeps c.in_ok-do_task.ensures.does c.do_task-2.ensures.keeps c.do_task-2.ensures.does)
 
--- ---- what is kept
+-- ---- what calls leave as it was
 
 pub returns-in_err-do_task-clause-keeps : goal.returns-in_err-do_task-clause-keeps
 returns-in_err-do_task-clause-keeps g c =
