@@ -228,7 +228,7 @@ module _ (stores : MboxCountedStores) (settings : Settings) (now : ℕ) (link : 
     sent = said.sent;
     got = said.got;
     effect = effect_of now (is_ended result) c;
-    held' = held;
+    record_state' = held;
     sent_is = said.sent_is;
     got_is = said.got_is;
     now_is = refl;
@@ -257,7 +257,7 @@ module _ (stores : MboxCountedStores) (settings : Settings) (now : ℕ) (link : 
     sent = said.sent;
     got = said.got;
     effect = effect_of now (is_ended result) c;
-    held' = left.held';
+    record_state' = left.record_state';
     sent_is = said.sent_is;
     got_is = said.got_is;
     now_is = refl;
@@ -270,7 +270,7 @@ module _ (stores : MboxCountedStores) (settings : Settings) (now : ℕ) (link : 
       begun = all_weaker (IsOfTask (begun_of c)) (IsBegun c.items (deleted_by c.items (begun_of c))) (commands_of said.exchanges) begun said.exchanges.deletes;
       next = begins_of (IsOfTask (begun_of c)) (IsBegun c.items (deleted_by c.items (begun_of c))) begun said.exchanges.talked.asked.part said.exchanges.next;
       step = inr (
-        stores settings (mbox_holds held before.mbox) (effect_of now (is_ended result) c) (mbox_holds left.held' after.mbox) left.figures,
+        stores settings (mbox_holds held before.mbox) (effect_of now (is_ended result) c) (mbox_holds left.record_state' after.mbox) left.figures,
         reads said.exchanges now (is_ended result) (mbox_wanted settings (mbox_holds held before.mbox) (effect_of now (is_ended result) c)) left.numbers,
       );
     };

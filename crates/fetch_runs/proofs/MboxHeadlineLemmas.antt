@@ -46,20 +46,20 @@ module _ (laws : Laws) (world : MboxWorld) (state : MboxState MboxAccountFiles) 
     (is_kept : IsKeptIn world (by_record held state)) (is : IsMboxSession world state occasion)
     (s : IsMboxStep occasion.settings occasion.now occasion.link state.account held occasion.report occasion.link' occasion.after) where
   abbrev link_in : MboxLink
-  link_in = record { settings = occasion.settings; come = occasion.come; sent = s.sent; got = s.got; vanished = occasion.vanished; after = mbox_holds s.held' occasion.after.mbox }
+  link_in = record { settings = occasion.settings; come = occasion.come; sent = s.sent; got = s.got; vanished = occasion.vanished; after = mbox_holds s.record_state' occasion.after.mbox }
 
   visits : MboxVisits world (by_record held state) (mbox_visit_of link_in s.effect)
   visits = laws.visits world (by_record held state) link_in
       (record { same = is.settings.max_size; only_new = is.settings.only_new; effect = s.effect; session = s.stepped; served = is.served s.sent s.got s.sent_is s.got_is })
 
   -- what the law over runs says of it
-  happened : IsKeptIn world (by_record s.held' (after_event state (Fetched occasion))) × PromisesIn world (by_record held state) (mbox_visit_of link_in s.effect)
+  happened : IsKeptIn world (by_record s.record_state' (after_event state (Fetched occasion))) × PromisesIn world (by_record held state) (mbox_visit_of link_in s.effect)
   happened =
       let all = laws.stays world (by_record held state) (MboxVisited (mbox_visit_of link_in s.effect) ∷ []) sound is_kept (visits, tt) in
       (all.0, all.1.0)
 
-  holds_after : MboxHolds world (mbox_holds s.held' occasion.after.mbox)
-  holds_after = laws.holds world (by_record s.held' (after_event state (Fetched occasion))) sound happened.0
+  holds_after : MboxHolds world (mbox_holds s.record_state' occasion.after.mbox)
+  holds_after = laws.holds world (by_record s.record_state' (after_event state (Fetched occasion))) sound happened.0
 
   -- the listing was the maildrop's, or nothing was begun
   listing_or_nothing : (s.effect.listing ≡ listing_of (maildrop_at world state occasion)) ⊎ ((s.effect.begun ≡ []) × (s.effect.ended ≡ false))
@@ -75,7 +75,7 @@ module _ (laws : Laws) (world : MboxWorld) (state : MboxState MboxAccountFiles) 
   past_count message listed is_past = (held, keeps, rw (← s.now_is, ← listed) is_past)
 
   abbrev LeftOut : Message → Type 0
-  LeftOut m = (is_delivered s.held'.rows m.uid ≡ true) ⊎ (is_selected world.max_size m ≡ false)
+  LeftOut m = (is_delivered s.record_state'.rows m.uid ≡ true) ⊎ (is_selected world.max_size m ≡ false)
       ⊎ (has_id (ids_wanted (past_limit occasion.settings.max_count (candidates occasion.settings (mbox_rows (mbox_holds held state.account.mbox) s.effect) s.effect.listing))) m.uid ≡ true)
 
   abbrev Excluded : Message → Type 0
@@ -88,7 +88,7 @@ module _ (laws : Laws) (world : MboxWorld) (state : MboxState MboxAccountFiles) 
 
   ends_whole : occasion.report.outcome ≡ Ended → EndsWhole world state occasion
   ends_whole ended = record {
-    held = s.held';
+    record_state = s.record_state';
     stands_for = s.keeps;
     closed = ends.closed;
     holds = holds_after;
@@ -123,7 +123,7 @@ module _ (laws : Laws) (world : MboxWorld) (state : MboxState MboxAccountFiles) 
         next = begins_of (IsBegun s.effect.listing s.effect.begun) (IsForEntered world state occasion) for_entered s.stepped.asked.part s.stepped.next;
       },
     ),
-    (s.held', s.keeps, happened.0),
+    (s.record_state', s.keeps, happened.0),
   )
 
 -- ---- what happens between sessions
@@ -155,7 +155,7 @@ event_promised laws world state (Withdrawn ids) sound (held, keeps, kept) (other
     (subst (λ (h : RecordState). AllByRecursion (IsUnbegun (mbox_holds h state.account.mbox)) ids) same all, tt) in
     (tt, (held, keeps, after.0))
 event_promised laws world state (Rewritten had after) sound (held, keeps, kept) is =
-    let same = same_held laws.one state.account.file.content is.held held is.stood_for keeps in
+    let same = same_held laws.one state.account.file.content is.record_state held is.stood_for keeps in
     let next = laws.stays world (by_record held state) (MboxRewritten had (mail_in after.mbox.content) ∷ []) sound kept
     (subst (λ (h : RecordState). AreAllRecorded world (mbox_holds h state.account.mbox) had) same is.recorded, tt) in
     (tt, (held, subst (Keeps after.file.content) same is.stands_for, next.0))
@@ -176,11 +176,11 @@ mbox_headline laws world start (event ∷ events) sound is run =
 
 pub start_is_kept : MboxStartsKept → MboxStartIsKept
 start_is_kept starts world start is = (
-  is.held,
+  is.record_state,
   is.stands_for,
-  subst (λ (i : Option Intent). IsKeptIn world (let s : MboxState MboxMail = record { account = record { rows = is.held.rows; intent = i; file = mail_in start.account.mbox.content }; gone = start.gone } in s)) (sym is.closed)
-      (subst (λ (bytes : List ℕ). IsKeptIn world (let s : MboxState MboxMail = record { account = record { rows = is.held.rows; intent = None; file = bytes }; gone = start.gone } in s)) (sym is.file)
-      (starts world is.held.rows is.ahead start.gone is.prefix is.recorded is.gone)),
+  subst (λ (i : Option Intent). IsKeptIn world (let s : MboxState MboxMail = record { account = record { rows = is.record_state.rows; intent = i; file = mail_in start.account.mbox.content }; gone = start.gone } in s)) (sym is.closed)
+      (subst (λ (bytes : List ℕ). IsKeptIn world (let s : MboxState MboxMail = record { account = record { rows = is.record_state.rows; intent = None; file = bytes }; gone = start.gone } in s)) (sym is.file)
+      (starts world is.record_state.rows is.ahead start.gone is.prefix is.recorded is.gone)),
 )
 
 pub from_start : MboxHeadline → MboxStartIsKept → MboxHeadlineFromStart
@@ -190,9 +190,9 @@ from_start law kept world start events sound is run = (law world start events so
 
 pub writings_are_events : SomeAreRecorded → OneRecord → WritingsAreEvents
 writings_are_events some one world state after (held, keeps, kept) others =
-    let same = same_held one state.account.file.content others.held held others.stood_for keeps in
+    let same = same_held one state.account.file.content others.record_state held others.stood_for keeps in
     let all = some world (by_record held state) kept (subst (λ (h : RecordState). h.intent ≡ None) same others.closed) in
-    (all.0, record { held = held; stood_for = keeps; stands_for = subst (Keeps after.file.content) same others.stands_for; recorded = all.1 })
+    (all.0, record { record_state = held; stood_for = keeps; stands_for = subst (Keeps after.file.content) same others.stands_for; recorded = all.1 })
 
 pub stops_are_runs : MboxStopsAreRuns
 stops_are_runs world state occasion left stopped = (

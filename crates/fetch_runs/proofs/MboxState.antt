@@ -215,9 +215,9 @@ abbrev pub held_with : List Row → Option Intent → RecordState
 held_with rows intent = record { rows = rows; intent = intent }
 
 pub record MboxLeads (settings : Settings) (now : ℕ) (ended : Bool) (c : Course) (held : RecordState) (mbox mbox' : Stored) (content' : Option (List ℕ)) (lines : List ReportLine) (unsaved : Type 0) : Type 0 where
-  pub held' : RecordState
-  pub keeps : Keeps content' held'
-  pub figures : MboxCounted settings (mbox_holds held mbox) (effect_of now ended c) (mbox_holds held' mbox')
+  pub record_state' : RecordState
+  pub keeps : Keeps content' record_state'
+  pub figures : MboxCounted settings (mbox_holds held mbox) (effect_of now ended c) (mbox_holds record_state' mbox')
   pub numbers : map number_found (found_of c) ≡ map number_of (take (length (found_of c)) (mbox_wanted settings (mbox_holds held mbox) (effect_of now ended c)))
   pub right : AllByRecursion (IsRight [] no_maildir c.items) (begun_of c)
   pub counted : retrieved_in lines ≡ figures.k
@@ -248,7 +248,7 @@ module _ (laws : Laws) (settings : Settings) (items : List Item) (now : ℕ) (he
         ⊎ LastUnrecorded settings (mbox_holds held mbox) (effect_of now ended (course items taken spare under)) (length (found_by taken)) (length (found_by noted)) (mbox_holds (held_after noted intent') mbox')
         → (ended ≡ true → intent' ≡ None) → Leading
     lead intent' keeps marks closed = record {
-      held' = held_after noted intent';
+      record_state' = held_after noted intent';
       keeps = keeps;
       figures = record {
         k = length (found_by taken);

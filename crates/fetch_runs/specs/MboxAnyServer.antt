@@ -14,8 +14,8 @@ use Rattle.fetch_runs.specs.MboxSteps.{mbox_holds, IsMboxStep}
 -- except for the rest of an open intent's entry, and each DELE that it sent is for a message that was recorded as
 -- delivered, or whose entry it appended
 abbrev pub MboxAnyServer : Type 0
-MboxAnyServer = (settings : Settings) (now : ℕ) (link : Link) (before : MboxAccountFiles) (held : RecordState)
+MboxAnyServer = (settings : Settings) (now : ℕ) (link : Link) (before : MboxAccountFiles) (record_state : RecordState)
     (report : Report) (link' : Link) (after : MboxAccountFiles)
-    → IsValid settings → Keeps before.file.content held → MboxSession settings now link before report link' after
-    → (step : IsMboxStep settings now link before held report link' after)
-    × MboxIsSafe settings (mbox_holds held before.mbox) step.sent step.effect (mbox_holds step.held' after.mbox)
+    → IsValid settings → Keeps before.file.content record_state → MboxSession settings now link before report link' after
+    → (step : IsMboxStep settings now link before record_state report link' after)
+    × MboxIsSafe settings (mbox_holds record_state before.mbox) step.sent step.effect (mbox_holds step.record_state' after.mbox)

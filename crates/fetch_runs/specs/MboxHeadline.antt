@@ -78,25 +78,26 @@ pub record IsMboxSession (world : MboxWorld) (state : MboxState MboxAccountFiles
 -- the record's file still stands for the record that it stood for, and the mboxrd file has the same bytes. The
 -- counts of refusals may have changed
 pub record IsMboxBetween (before after : MboxAccountFiles) : Type 0 where
-  pub record_is : (held : RecordState) → Keeps before.file.content held → Keeps after.file.content held
+  pub record_is : (record_state : RecordState) → Keeps before.file.content record_state → Keeps after.file.content record_state
   pub mail : mail_in after.mbox.content ≡ mail_in before.mbox.content
 
 -- the record's file stands for a record in which these are delivered
 abbrev pub AreRecorded : MboxAccountFiles → List (List ℕ) → Type 0
-AreRecorded state ids = (held : RecordState) × Keeps state.file.content held × AllByRecursion (λ id. is_delivered held.rows id ≡ true) ids
+AreRecorded state ids = (record_state : RecordState) × Keeps state.file.content record_state
+    × AllByRecursion (λ id. is_delivered record_state.rows id ≡ true) ids
 
 -- the record's file stands for a record in which none of these is delivered or has an open intent
 abbrev pub AreUnbegun : MboxState MboxAccountFiles → List (List ℕ) → Type 0
-AreUnbegun state ids = (held : RecordState) × Keeps state.account.file.content held
-    × AllByRecursion (IsUnbegun (mbox_holds held state.account.mbox)) ids
+AreUnbegun state ids = (record_state : RecordState) × Keeps state.account.file.content record_state
+    × AllByRecursion (IsUnbegun (mbox_holds record_state state.account.mbox)) ids
 
 -- the mboxrd file may hold anything now. The record's file still stands for its record, which has no open intent and shows
 -- exactly these messages as delivered
 pub record IsRewritten (world : MboxWorld) (before : MboxAccountFiles) (had : List Message) (after : MboxAccountFiles) : Type 0 where
-  pub held : RecordState
-  pub stood_for : Keeps before.file.content held
-  pub stands_for : Keeps after.file.content held
-  pub recorded : AreAllRecorded world (mbox_holds held before.mbox) had
+  pub record_state : RecordState
+  pub stood_for : Keeps before.file.content record_state
+  pub stands_for : Keeps after.file.content record_state
+  pub recorded : AreAllRecorded world (mbox_holds record_state before.mbox) had
 
 abbrev pub after_event : MboxState MboxAccountFiles → MboxEvent → MboxState MboxAccountFiles
 after_event state (Fetched occasion) = record { account = occasion.after; gone = state.gone ++ occasion.vanished }
@@ -134,14 +135,14 @@ world_left world (event ∷ events) = world_left (world_after world event) event
 
 -- an account with this record, and which ids are gone
 abbrev pub by_record : RecordState → MboxState MboxAccountFiles → MboxState MboxMail
-by_record held state = record { account = mbox_holds held state.account.mbox; gone = state.gone }
+by_record record_state state = record { account = mbox_holds record_state state.account.mbox; gone = state.gone }
 
 -- the file is the one before the first session, followed by the entries of the first of the selected messages
 -- that weren't recorded then, in order, each once, and by at most a prefix of the next one's entry, whose intent is
 -- then open. The recorded messages are exactly these and those before
 abbrev pub HoldsEntries : MboxWorld → MboxState MboxAccountFiles → Type 0
-HoldsEntries world state = (held : RecordState) × Keeps state.account.file.content held
-    × MboxHolds world (mbox_holds held state.account.mbox)
+HoldsEntries world state = (record_state : RecordState) × Keeps state.account.file.content record_state
+    × MboxHolds world (mbox_holds record_state state.account.mbox)
 
 -- the whole entry of a message with this id is in the file, or the id was recorded before the first session
 abbrev pub IsEntered : MboxWorld → MboxAccountFiles → List ℕ → Type 0
@@ -151,19 +152,19 @@ IsEntered world state id = (has_id (ids_of world.had) id ≡ true) ⊎ HasEntry 
 abbrev pub IsPastCount : MboxWorld → MboxState MboxAccountFiles → MboxOccasion → Message → Type 0
 IsPastCount world state occasion message =
     let listing = listing_of (maildrop_at world state occasion) in
-    (held : RecordState) × Keeps state.account.file.content held
+    (record_state : RecordState) × Keeps state.account.file.content record_state
     × (has_id (ids_wanted (past_limit occasion.settings.max_count
     (candidates occasion.settings
-    (merged (settled listing (mbox_holds held state.account.mbox)).rows listing (none_held listing) occasion.now) listing)))
+    (merged (settled listing (mbox_holds record_state state.account.mbox)).rows listing (none_held listing) occasion.now) listing)))
     message.uid ≡ true)
 
 -- after an uncut session no intent is open and nothing of a next entry is left, and each message of the maildrop
 -- has its entry, or is larger than the limit, or is past the number that one session fetches
 pub record EndsWhole (world : MboxWorld) (state : MboxState MboxAccountFiles) (occasion : MboxOccasion) : Type 0 where
-  pub held : RecordState
-  pub stands_for : Keeps occasion.after.file.content held
-  pub closed : held.intent ≡ None
-  pub holds : MboxHolds world (mbox_holds held occasion.after.mbox)
+  pub record_state : RecordState
+  pub stands_for : Keeps occasion.after.file.content record_state
+  pub closed : record_state.intent ≡ None
+  pub holds : MboxHolds world (mbox_holds record_state occasion.after.mbox)
   pub no_rest : holds.rest ≡ []
   pub left_out : AllByRecursion (λ (message : Message). IsEntered world occasion.after message.uid
       ⊎ (is_selected world.max_size message ≡ false)
@@ -202,7 +203,8 @@ MboxPromises world state (event ∷ events) = HoldsEntries world state × MboxPr
 -- ---- the states in which it can begin and go on
 
 abbrev pub IsMboxKept : MboxWorld → MboxState MboxAccountFiles → Type 0
-IsMboxKept world state = (held : RecordState) × Keeps state.account.file.content held × IsKeptIn world (by_record held state)
+IsMboxKept world state = (record_state : RecordState) × Keeps state.account.file.content record_state
+    × IsKeptIn world (by_record record_state state)
 
 -- the second sentence: from a kept state, over any list of sessions and of what happens between them
 abbrev pub MboxHeadline : Type 0
@@ -213,12 +215,12 @@ MboxHeadline = (world : MboxWorld) (start : MboxState MboxAccountFiles) (events 
 -- the record has no open intent, and what it shows as delivered is exactly a prefix of the selected messages, as it
 -- is with an empty record; only messages of this prefix may be gone. The mboxrd file may hold anything
 pub record IsMboxStart (world : MboxWorld) (state : MboxState MboxAccountFiles) : Type 0 where
-  pub held : RecordState
-  pub stands_for : Keeps state.account.file.content held
-  pub closed : held.intent ≡ None
+  pub record_state : RecordState
+  pub stands_for : Keeps state.account.file.content record_state
+  pub closed : record_state.intent ≡ None
   pub ahead : List Message
   pub prefix : selected world.max_size world.all ≡ world.had ++ ahead
-  pub recorded : (id : List ℕ) → is_delivered held.rows id ≡ has_id (ids_of world.had) id
+  pub recorded : (id : List ℕ) → is_delivered record_state.rows id ≡ has_id (ids_of world.had) id
   pub gone : AllByRecursion (λ id. has_id (ids_of world.had) id ≡ true) state.gone
   pub file : mail_in state.account.mbox.content ≡ world.start
 
@@ -236,10 +238,10 @@ MboxHeadlineFromStart = (world : MboxWorld) (start : MboxState MboxAccountFiles)
 
 -- the record has no open intent, and its file stands for the same record afterwards
 pub record AreOthers (before after : MboxAccountFiles) : Type 0 where
-  pub held : RecordState
-  pub stood_for : Keeps before.file.content held
-  pub stands_for : Keeps after.file.content held
-  pub closed : held.intent ≡ None
+  pub record_state : RecordState
+  pub stood_for : Keeps before.file.content record_state
+  pub stands_for : Keeps after.file.content record_state
+  pub closed : record_state.intent ≡ None
 
 -- then whatever others did to the mboxrd file of a kept state is an event
 abbrev pub WritingsAreEvents : Type 0

@@ -17,11 +17,11 @@ use Rattle.fetch_runs.specs.MboxSteps.{mbox_holds, IsMboxStep}
 -- perhaps cut back; or its joined listing is the maildrop's, and what it appended are the entries of messages of
 -- the maildrop, with their texts, and at most a beginning of one more
 abbrev pub MboxHonestSessions : Type 0
-MboxHonestSessions = (settings : Settings) (now : ℕ) (link : Link) (before : MboxAccountFiles) (held : RecordState)
+MboxHonestSessions = (settings : Settings) (now : ℕ) (link : Link) (before : MboxAccountFiles) (record_state : RecordState)
     (report : Report) (link' : Link) (after : MboxAccountFiles)
     (drop : List Message) (marks : List Bool)
-    → IsValid settings → Keeps before.file.content held → MboxSession settings now link before report link' after
+    → IsValid settings → Keeps before.file.content record_state → MboxSession settings now link before report link' after
     → ((sent got : List ℕ) → link'.sent ≡ link.sent ++ sent → link'.got ≡ link.got ++ got → Honest drop sent got marks)
-    → (step : IsMboxStep settings now link before held report link' after)
-    × (MboxLeaves (mbox_holds held before.mbox) step.effect (mbox_holds step.held' after.mbox)
-    ⊎ AppendsMessages drop (mbox_holds held before.mbox) step.effect (mbox_holds step.held' after.mbox))
+    → (step : IsMboxStep settings now link before record_state report link' after)
+    × (MboxLeaves (mbox_holds record_state before.mbox) step.effect (mbox_holds step.record_state' after.mbox)
+    ⊎ AppendsMessages drop (mbox_holds record_state before.mbox) step.effect (mbox_holds step.record_state' after.mbox))

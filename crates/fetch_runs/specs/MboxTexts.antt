@@ -21,8 +21,9 @@ pub record AddsTexts (settings : Settings) (before : MboxMail) (effect : Effect)
 
 -- a law: if the record's file stood for this record, a session is a step, and if it ended, it added these texts
 abbrev pub MboxSessionsAddTexts : Type 0
-MboxSessionsAddTexts = (settings : Settings) (now : ℕ) (link : Link) (before : MboxAccountFiles) (held : RecordState)
+MboxSessionsAddTexts = (settings : Settings) (now : ℕ) (link : Link) (before : MboxAccountFiles) (record_state : RecordState)
     (report : Report) (link' : Link) (after : MboxAccountFiles)
-    → IsValid settings → Keeps before.file.content held → MboxSession settings now link before report link' after
-    → (step : IsMboxStep settings now link before held report link' after)
-    × (report.outcome ≡ Ended → AddsTexts settings (mbox_holds held before.mbox) step.effect (mbox_holds step.held' after.mbox))
+    → IsValid settings → Keeps before.file.content record_state → MboxSession settings now link before report link' after
+    → (step : IsMboxStep settings now link before record_state report link' after)
+    × (report.outcome ≡ Ended
+    → AddsTexts settings (mbox_holds record_state before.mbox) step.effect (mbox_holds step.record_state' after.mbox))

@@ -7,7 +7,7 @@ mod maildrops;
 mod records;
 
 pub use accounts::{
-    Fred, Fuse, Files, Link, SOUND, account, fetch, files_of, link, login, no_files,
+    Files, Fred, Fuse, Link, SOUND, account, fetch, files_of, link, login, no_files,
 };
 pub use listings::listing_of;
 pub use maildirs::make_maildir;

@@ -1,7 +1,7 @@
 //! Sessions that are cut, each at another place, and a whole session after each.
 
 use crate::support::{
-    Fred, Fuse, Files, Link, MESSAGES, SOUND, account, fetch, files_of, link, login, maildrop_of,
+    Files, Fred, Fuse, Link, MESSAGES, SOUND, account, fetch, files_of, link, login, maildrop_of,
     no_files,
 };
 use fetch_session::session;
@@ -43,13 +43,7 @@ fn run(account: &mut Fred, wire: &mut Link) {
 /// Runs a session in which calls are refused.
 fn cut(alloc: Global, options: &[u8], fuses: Fuses) -> Result<Ends, Fail> {
     let mut wire = link(alloc, maildrop_of(alloc, &MESSAGES)?, fuses.link)?;
-    let mut account = account(
-        alloc,
-        options,
-        no_files(alloc),
-        fuses.disk,
-        fuses.record,
-    )?;
+    let mut account = account(alloc, options, no_files(alloc), fuses.disk, fuses.record)?;
     run(&mut account, &mut wire);
     Ok(Ends {
         files: files_of(alloc, account),

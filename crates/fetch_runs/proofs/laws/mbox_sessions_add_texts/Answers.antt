@@ -6,5 +6,5 @@ pub returns : goal.returns
 returns c = λ settings now link before held report link' after valid keeps session.
     let step = c.mbox_session_is_a_step.ensures settings now link before held report link' after valid keeps session in (
       step,
-      λ ended. adds_texts c.entries_add_texts.ensures settings (mbox_holds held before.mbox) step.effect (mbox_holds step.held' after.mbox) (step.ended_is.1 ended) step.sent step.got step.stepped,
+      λ ended. adds_texts c.entries_add_texts.ensures settings (mbox_holds held before.mbox) step.effect (mbox_holds step.record_state' after.mbox) (step.ended_is.1 ended) step.sent step.got step.stepped,
     )
