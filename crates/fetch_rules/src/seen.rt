@@ -208,9 +208,7 @@ impl<H: BuildHasher> Seen<H> {
     pub fn intend(&mut self, uid: &[u8], start: u64, len: u64) -> Result<Vec<u8>, AllocError>
         requires row { has_row self.old.rows uid.now ≡ true }
         requires closed { self.old.intent ≡ None }
-        ensures rows { self.new.rows ≡ self.old.rows }
-        ensures stale { self.new.stale ≡ self.old.stale }
-        ensures intent { OnOk result (self.new.intent ≡ Some (record { uid = uid.now; start = start; len = len })) }
+        ensures after { OnOk result (self.new ≡ record self.old { intent = Some (record { uid = uid.now; start = start; len = len }) }) }
         ensures line { IfOk result (λ bytes. bytes.items ≡ intent_line (record { uid = uid.now; start = start; len = len })) }
         ensures err { OnErr result (self.new ≡ self.old) }
     {
@@ -235,9 +233,7 @@ impl<H: BuildHasher> Seen<H> {
     /// Ends the open intent, if any, and records its id as delivered if the entry is whole.
     /// `needs_rewrite` doesn't change.
     pub fn close(&mut self, whole: bool)
-        ensures rows { self.new.rows ≡ closed_rows whole self.old.rows self.old.intent }
-        ensures intent { self.new.intent ≡ None }
-        ensures stale { self.new.stale ≡ self.old.stale }
+        ensures after { self.new ≡ record self.old { rows = closed_rows whole self.old.rows self.old.intent; intent = None } }
         ensures is_record { IsRecord self.new.rows }
     {
         let _ = self.rows.len();
@@ -297,9 +293,7 @@ impl<H: BuildHasher> Seen<H> {
     /// Records the id as delivered, if it has a row. Returns whether this changed the row.
     pub fn mark(&mut self, uid: &[u8]) -> bool
         requires { self.old.intent ≡ None }
-        ensures rows { self.new.rows ≡ marked self.old.rows uid.now }
-        ensures intent { self.new.intent ≡ self.old.intent }
-        ensures stale { self.new.stale ≡ self.old.stale }
+        ensures after { self.new ≡ record self.old { rows = marked self.old.rows uid.now } }
         ensures changed { OnTrue result (self.new ≢ self.old) }
         ensures unchanged { OnFalse result (self.new ≡ self.old) }
         ensures is_record { IsRecord self.new.rows }
@@ -313,9 +307,7 @@ impl<H: BuildHasher> Seen<H> {
     /// changed.
     pub fn mark_rows(&mut self, uid: &[u8]) -> Result<Vec<u8>, AllocError>
         requires { IsNoneOrOf uid.now self.old.intent }
-        ensures rows { OnOk result (self.new.rows ≡ marked self.old.rows uid.now) }
-        ensures intent { OnOk result (self.new.intent ≡ None) }
-        ensures stale { self.new.stale ≡ self.old.stale }
+        ensures after { OnOk result (self.new ≡ record self.old { rows = marked self.old.rows uid.now; intent = None }) }
         ensures group { IfOk result (λ bytes. bytes.items ≡ written (marking self.old.intent uid.now self.old.rows self.new.rows)) }
         ensures updates { IfOk result (λ bytes. Updates self.old.rows self.old.intent bytes.items self.new.rows self.new.intent) }
         ensures err { OnErr result (self.new ≡ self.old) }
@@ -343,9 +335,7 @@ impl<H: BuildHasher> Seen<H> {
     pub fn merge(&mut self, listing: &Listing, held: &[bool], now: u64) -> Result<bool, AllocError>
         requires lengths { length held.now ≡ length listing.now }
         requires closed { self.old.intent ≡ None }
-        ensures rows { OnOk result (self.new.rows ≡ merged self.old.rows listing.now held.now now) }
-        ensures intent { self.new.intent ≡ self.old.intent }
-        ensures stale { self.new.stale ≡ self.old.stale }
+        ensures after { OnOk result (self.new ≡ record self.old { rows = merged self.old.rows listing.now held.now now }) }
         ensures changed { IfOk result (λ changed. OnTrue changed (self.new ≢ self.old)) }
         ensures unchanged { IfOk result (λ changed. OnFalse changed (self.new ≡ self.old)) }
         ensures err { OnErr result (self.new ≡ self.old) }
@@ -370,9 +360,7 @@ impl<H: BuildHasher> Seen<H> {
     ) -> Result<Vec<u8>, AllocError>
         requires lengths { length held.now ≡ length listing.now }
         requires closed { self.old.intent ≡ None }
-        ensures rows { OnOk result (self.new.rows ≡ merged self.old.rows listing.now held.now now) }
-        ensures intent { self.new.intent ≡ self.old.intent }
-        ensures stale { self.new.stale ≡ self.old.stale }
+        ensures after { OnOk result (self.new ≡ record self.old { rows = merged self.old.rows listing.now held.now now }) }
         ensures group { IfOk result (λ bytes. bytes.items ≡ written (changed self.old.rows self.new.rows)) }
         ensures updates { IfOk result (λ bytes. Updates self.old.rows None bytes.items self.new.rows None) }
         ensures err { OnErr result (self.new ≡ self.old) }

@@ -1,6 +1,6 @@
 use Rattle.std.proofs.Common.{◌≡◌, List, None, false, inl, sym, ap, subst, ◌∙◌}
 use Rattle.fetch_rules.specs.Intents.{closed_rows}
-use Rattle.fetch_rules.specs.Record.{Row, RecordState, none_open, merged}
+use Rattle.fetch_rules.specs.Record.{Row, RecordState, Loaded, none_open, merged}
 use Rattle.fetch_rules.specs.RecordFile.{Two, file_of}
 use Rattle.fetch_rules.specs.RecordGrowth.{Updates}
 use Rattle.fetch_rules.specs.RecordMeaning.{Means, Rows}
@@ -23,13 +23,14 @@ grows g c kept =
     let was = c.args.seen.now.rows in
     let closed = closed_rows c.args.found.now.stored was c.args.seen.now.intent in
     let rows = merged closed c.args.listing.now c.args.found.now.held.items c.args.now in
-    let fresh : c.args.seen.now.stale ≡ false = sym c.close.ensures.stale ∙ sym c.merge_rows.ensures.stale ∙ sym c.needs_rewrite.ensures ∙ c.if-needs_rewrite.false in
+    let fresh : c.args.seen.now.stale ≡ false = ap (λ (seen : Loaded). seen.stale) (sym c.close.ensures.after) ∙ ap (λ (seen : Loaded). seen.stale) (sym c.in-Ok.ensures.after)
+    ∙ sym c.needs_rewrite.ensures ∙ c.if-needs_rewrite.false in
     let steady = read_steady (g.F.FlatFile.stored c.args.file.now).content c.args.seen.now (c.requires.stands (c.grow.ensures.saves kept).0) fresh in
     let is_was : closed ≡ was = ap (closed_rows c.args.found.now.stored was) steady.1 in (
       steady.0,
       steady.1,
       rw c.deref-2.ensures.value (subst (λ (w : List Row). Updates w None c.in-Ok.group.items rows None) is_was
-          (rw (c.in-Ok.ensures.rows, c.deref.ensures.value, c.close.ensures.rows) at c.in-Ok.ensures.updates)),
+          (rw (c.in-Ok.ensures.after, c.deref.ensures.value, c.close.ensures.after) at c.in-Ok.ensures.updates)),
     )
 
 pub returns-clause-merges : goal.returns-clause-merges
@@ -57,11 +58,7 @@ returns-clause-lasts g c = λ kept safe.
 -- what was merged
 rows_are : (g : Over) (c : After-needs_rewrite g) → (c.merge_rows.new.self.rows ≡ merged (closed_rows c.args.found.now.stored c.args.seen.now.rows c.args.seen.now.intent) c.args.listing.now c.args.found.now.held.items c.args.now)
     × (record_state_in c.merge_rows.new.self ≡ none_open (merged (closed_rows c.args.found.now.stored c.args.seen.now.rows c.args.seen.now.intent) c.args.listing.now c.args.found.now.held.items c.args.now))
-rows_are g c =
-    let closed : c.merge_rows.new.self.intent ≡ None = c.merge_rows.ensures.intent ∙ c.close.ensures.intent in
-    let rows : c.merge_rows.new.self.rows ≡ merged (closed_rows c.args.found.now.stored c.args.seen.now.rows c.args.seen.now.intent) c.args.listing.now c.args.found.now.held.items c.args.now =
-    rw (c.in-Ok.ensures.rows, c.deref.ensures.value, c.close.ensures.rows) in
-    (rows, sym (held_is c.merge_rows.new.self closed) ∙ ap (λ (r : List Row). none_open r) rows)
+rows_are g c = (rw (c.in-Ok.ensures.after, c.deref.ensures.value, c.close.ensures.after), rw (c.in-Ok.ensures.after, c.deref.ensures.value, c.close.ensures.after))
 
 pub returns-then-needs_rewrite-clause-merges : goal.returns-then-needs_rewrite-clause-merges
 returns-then-needs_rewrite-clause-merges g c = λ kept.

@@ -1,6 +1,6 @@
-use Rattle.std.proofs.Common.{List, ℕ, Option, None, inl, inr, sym, subst}
+use Rattle.std.proofs.Common.{List, ℕ, None, inl, inr, sym, ap, subst}
 use Rattle.std.specs.Prelude.{OnOk}
-use Rattle.fetch_rules.specs.Record.{Row, Intent, marked, none_open}
+use Rattle.fetch_rules.specs.Record.{Row, Loaded, marked, none_open}
 use Rattle.fetch_rules.specs.RecordGrowth.{Updates}
 use Rattle.fetch_session.specs.Record.{Saves, Steady, record_state_in}
 use Rattle.fetch_session.proofs.LastLemmas.{rows_left, same_left}
@@ -11,7 +11,7 @@ pub grow-requires : goal.grow-requires
 grow-requires g c = record {
   begun = λ kept some.
       mark_begun (g.F.FlatFile.stored c.args.file.now).content c.args.seen.now.rows c.mark_rows.new.self.rows c.args.seen.now.intent c.mark_rows.new.self.intent c.args.uid.now c.deref.result.now
-      (c.requires.steady kept) c.in-Ok.ensures.rows
+      (c.requires.steady kept) (ap (λ (seen : Loaded). seen.rows) c.in-Ok.ensures.after)
       (subst (λ (bytes : List ℕ). Updates c.args.seen.now.rows c.args.seen.now.intent bytes c.mark_rows.new.self.rows c.mark_rows.new.self.intent) (sym c.deref.ensures.value) c.in-Ok.ensures.updates)
       some;
 }
@@ -22,9 +22,9 @@ returns-clause-saves g c = λ kept.
     let was = c.args.seen.now.rows in
     let rows = c.mark_rows.new.self.rows in
     let updates : Updates was c.args.seen.now.intent c.deref.result.now rows None = subst (λ (bytes : List ℕ). Updates was c.args.seen.now.intent bytes rows None) (sym c.deref.ensures.value)
-    (subst (λ (i : Option Intent). Updates was c.args.seen.now.intent c.in-Ok.group.items rows i) c.in-Ok.ensures.intent c.in-Ok.ensures.updates) in (
+    (subst (λ (seen : Loaded). Updates was c.args.seen.now.intent c.in-Ok.group.items rows seen.intent) c.in-Ok.ensures.after c.in-Ok.ensures.updates) in (
       saves.0,
-      subst (λ (r : List Row). Saves (g.F.FlatFile.stored c.args.file.now) (record_state_in c.args.seen.now) (none_open r) c.grow.result (g.F.FlatFile.stored c.grow.new.file)) c.in-Ok.ensures.rows
+      subst (λ (r : List Row). Saves (g.F.FlatFile.stored c.args.file.now) (record_state_in c.args.seen.now) (none_open r) c.grow.result (g.F.FlatFile.stored c.grow.new.file)) (ap (λ (seen : Loaded). seen.rows) c.in-Ok.ensures.after)
           (saves.1 (record_state_in c.args.seen.now) (none_open rows) (inl updates)),
     )
 
@@ -33,7 +33,7 @@ returns-clause-steady g c = λ kept.
     let saves = returns-clause-saves g c kept in
     let new = g.F.FlatFile.stored c.grow.new.file in (
       saves.0,
-      subst (λ (r : List Row). OnOk c.grow.result (Steady new.content (none_open r))) (sym c.in-Ok.ensures.rows)
+      subst (λ (r : List Row). OnOk c.grow.result (Steady new.content (none_open r))) (ap (λ (seen : Loaded). seen.rows) (sym c.in-Ok.ensures.after))
           (saves_steady (g.F.FlatFile.stored c.args.file.now) new (record_state_in c.args.seen.now) (none_open (marked c.args.seen.now.rows c.args.uid.now)) c.grow.result (c.requires.steady saves.0) saves.1),
     )
 
@@ -48,8 +48,8 @@ returns-clause-keeps g c = λ kept.
     let was = c.args.seen.now.rows in
     let rows = c.mark_rows.new.self.rows in
     let updates : Updates was c.args.seen.now.intent c.deref.result.now rows None = subst (λ (bytes : List ℕ). Updates was c.args.seen.now.intent bytes rows None) (sym c.deref.ensures.value)
-    (subst (λ (i : Option Intent). Updates was c.args.seen.now.intent c.in-Ok.group.items rows i) c.in-Ok.ensures.intent c.in-Ok.ensures.updates) in (
+    (subst (λ (seen : Loaded). Updates was c.args.seen.now.intent c.in-Ok.group.items rows seen.intent) c.in-Ok.ensures.after c.in-Ok.ensures.updates) in (
       c.grow.ensures.keeps kept,
-      λ safe. rows_left g.F.FlatFile c.grow.new.file was (marked was c.args.uid.now) rows c.args.seen.now.intent None c.deref.result.now (inl updates) (inr c.in-Ok.ensures.rows)
+      λ safe. rows_left g.F.FlatFile c.grow.new.file was (marked was c.args.uid.now) rows c.args.seen.now.intent None c.deref.result.now (inl updates) (inr (ap (λ (seen : Loaded). seen.rows) c.in-Ok.ensures.after))
           (c.grow.ensures.leaves kept safe (record_state_in c.args.seen.now) (c.requires.steady (c.grow.ensures.saves kept).0)).0,
     )

@@ -1,5 +1,5 @@
-use Rattle.std.proofs.Common.{◌≡◌, List, ℕ, Option, None, Some, false, ap, sym, subst, ◌∙◌}
-use Rattle.fetch_rules.specs.Record.{Row, Intent, IsRecord, none_open}
+use Rattle.std.proofs.Common.{◌≡◌, List, ℕ, None, Some, false, ap, sym, subst, ◌∙◌}
+use Rattle.fetch_rules.specs.Record.{Row, Loaded, IsRecord, none_open}
 use Rattle.fetch_rules.specs.RecordFile.{Two, file_of}
 use Rattle.fetch_rules.specs.RecordMeaning.{Means, Rows}
 use Rattle.mail_store.specs.FlatFile.{Replaces}
@@ -12,11 +12,11 @@ use Rattle.fetch_session.proofs.record.take_back.Goals as goal
 
 -- the rows are the same, and no intent is open
 same : (g : Over) (c : After-replace g) → c.close.new.self.rows ≡ c.args.seen.now.rows
-same g c = c.close.ensures.rows ∙ not_whole c.args.seen.now.rows c.args.seen.now.intent
+same g c = ap (λ (seen : Loaded). seen.rows) c.close.ensures.after ∙ not_whole c.args.seen.now.rows c.args.seen.now.intent
 
 bytes_are : (g : Over) (c : After-replace g) → c.deref.result.now ≡ file_of c.args.seen.now.rows None
-bytes_are g c = c.deref.ensures.value ∙ c.in-Ok.ensures.file ∙ ap (λ (r : List Row). file_of r c.close.new.self.intent) (same g c)
-    ∙ ap (λ (i : Option Intent). file_of c.args.seen.now.rows i) c.close.ensures.intent
+bytes_are g c = c.deref.ensures.value ∙ c.in-Ok.ensures.file ∙ ap (λ (seen : Loaded). file_of seen.rows seen.intent) c.close.ensures.after
+    ∙ ap (λ (r : List Row). file_of r None) (not_whole c.args.seen.now.rows c.args.seen.now.intent)
 
 stands : (g : Over) (c : After-replace g) → Means (file_of c.args.seen.now.rows None) (Rows Two c.args.seen.now.rows None false)
 stands g c = c.bytes_stand.ensures c.args.seen.now.rows None (subst (λ (r : List Row). IsRecord r) (same g c) c.bytes.ensures.is_record) tt

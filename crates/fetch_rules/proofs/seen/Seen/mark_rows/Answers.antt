@@ -1,6 +1,6 @@
-use Rattle.std.proofs.Common.{◌∙◌, ◌∷◌, [], inr, sym, ap, subst, refl, List, None}
+use Rattle.std.proofs.Common.{◌≡◌, ◌∙◌, ◌∷◌, [], inr, sym, ap, subst, refl, ℕ, List, Option, None}
 use Rattle.std.proofs.lemmas.List.Elements.{recursion_from_All}
-use Rattle.fetch_rules.specs.Record.{Row, Loaded, IsRow, marked}
+use Rattle.fetch_rules.specs.Record.{Row, Intent, Loaded, IsRow, marked}
 use Rattle.fetch_rules.specs.RecordFile.{marking, written}
 use Rattle.fetch_rules.specs.RecordGrowth.{Updates}
 use Rattle.fetch_rules.specs.Intents.{intent_in, IsNoneOrOf}
@@ -10,38 +10,34 @@ use Rattle.fetch_rules.proofs.HeldLemmas.{none_without_row, legal_of}
 use Rattle.fetch_rules.proofs.ReadLemmas.{IsGroup-mark, now_delivered}
 use Rattle.fetch_rules.proofs.seen.Seen.mark_rows.Goals as goal
 
-pub returns-in_default-clause-rows : goal.returns-in_default-clause-rows
-returns-in_default-clause-rows g c =
-    ap (λ (loaded : Loaded). loaded.rows) (sym c.self.view_is)
-    ∙ sym (unmarked_none c.args.uid.now c.self.inside.rows (sym c.state.ensures.value ∙ c.in_default.is)) ∙ ap (λ (loaded : Loaded). marked loaded.rows c.args.uid.now) c.self.view_is
+-- a mark that changes no row of a record with no open intent leaves it as it was
+unchanged : (seen now : Loaded) (uid : List ℕ) → seen ≡ now → marked seen.rows uid ≡ seen.rows → seen.intent ≡ None → now ≡ record now { rows = marked now.rows uid; intent = None }
+unchanged seen now uid is same closed =
+    sym is ∙ ap (λ (rows : List Row). record seen { rows = rows }) (sym same)
+    ∙ ap (λ (intent : Option Intent). record seen { rows = marked seen.rows uid; intent = intent }) closed
+    ∙ ap (λ (loaded : Loaded). record loaded { rows = marked loaded.rows uid; intent = None }) is
 
-pub returns-in_default-clause-intent : goal.returns-in_default-clause-intent
-returns-in_default-clause-intent g c =
-    sym (ap (λ (loaded : Loaded). loaded.intent) c.self.view_is)
-    ∙ none_without_row c.self.inside.rows c.args.uid.now (intent_in c.self.inside.intent) c.self.invariant.1
+pub returns-in_default-clause-after : goal.returns-in_default-clause-after
+returns-in_default-clause-after g c =
+    unchanged _ c.args.self.now c.args.uid.now c.self.view_is (unmarked_none c.args.uid.now c.self.inside.rows (sym c.state.ensures.value ∙ c.in_default.is))
+    (none_without_row c.self.inside.rows c.args.uid.now (intent_in c.self.inside.intent) c.self.invariant.1
     (subst (λ (loaded : Loaded). IsNoneOrOf c.args.uid.now loaded.intent) (sym c.self.view_is) c.requires)
-    (has_row-none c.args.uid.now c.self.inside.rows (sym c.state.ensures.value ∙ c.in_default.is))
+    (has_row-none c.args.uid.now c.self.inside.rows (sym c.state.ensures.value ∙ c.in_default.is)))
 
 pub returns-in_default-clause-group : goal.returns-in_default-clause-group
 returns-in_default-clause-group g c =
-    c.new.ensures.items ∙ sym (none_written c.args.self.now.intent c.args.uid.now c.args.self.now.rows (returns-in_default-clause-intent g c))
+    c.new.ensures.items
+    ∙ sym (none_written c.args.self.now.intent c.args.uid.now c.args.self.now.rows (ap (λ (loaded : Loaded). loaded.intent) (returns-in_default-clause-after g c)))
 
-pub returns-then-has_mark-clause-rows : goal.returns-then-has_mark-clause-rows
-returns-then-has_mark-clause-rows g c =
-    ap (λ (loaded : Loaded). loaded.rows) (sym c.self.view_is)
-    ∙ sym (marked-delivered c.args.uid.now c.self.inside.rows c.in-Some.state c.state.ensures.is_record (sym c.in-Some.ensures.value)
-    (marked_parts c.in-Some.state.delivered (intent_in c.self.inside.intent) c.has_mark.result c.has_mark.ensures c.if-has_mark.true).0)
-    ∙ ap (λ (loaded : Loaded). marked loaded.rows c.args.uid.now) c.self.view_is
-
-pub returns-then-has_mark-clause-intent : goal.returns-then-has_mark-clause-intent
-returns-then-has_mark-clause-intent g c =
-    sym (ap (λ (loaded : Loaded). loaded.intent) c.self.view_is)
-    ∙ (marked_parts c.in-Some.state.delivered (intent_in c.self.inside.intent) c.has_mark.result c.has_mark.ensures c.if-has_mark.true).1
+pub returns-then-has_mark-clause-after : goal.returns-then-has_mark-clause-after
+returns-then-has_mark-clause-after g c =
+    let parts = marked_parts c.in-Some.state.delivered (intent_in c.self.inside.intent) c.has_mark.result c.has_mark.ensures c.if-has_mark.true in
+    unchanged _ c.args.self.now c.args.uid.now c.self.view_is (marked-delivered c.args.uid.now c.self.inside.rows c.in-Some.state c.state.ensures.is_record (sym c.in-Some.ensures.value) parts.0) parts.1
 
 pub returns-then-has_mark-clause-group : goal.returns-then-has_mark-clause-group
 returns-then-has_mark-clause-group g c =
     c.new-then-has_mark.ensures.items
-    ∙ sym (none_written c.args.self.now.intent c.args.uid.now c.args.self.now.rows (returns-then-has_mark-clause-intent g c))
+    ∙ sym (none_written c.args.self.now.intent c.args.uid.now c.args.self.now.rows (ap (λ (loaded : Loaded). loaded.intent) (returns-then-has_mark-clause-after g c)))
 
 pub returns-clause-group : goal.returns-clause-group
 returns-clause-group g c =
