@@ -1,6 +1,6 @@
-use Rattle.std.proofs.Common.{◌≡◌, List, None, false, inl, sym, ap, subst, ◌∙◌}
+use Rattle.std.proofs.Common.{◌≡◌, List, None, false, inl, refl, sym, ap, subst, ◌∙◌}
 use Rattle.fetch_rules.specs.Intents.{closed_rows}
-use Rattle.fetch_rules.specs.Record.{Row, RecordState, Loaded, none_open, merged}
+use Rattle.fetch_rules.specs.Record.{Row, RecordState, none_open, merged}
 use Rattle.fetch_rules.specs.RecordFile.{Two, file_of}
 use Rattle.fetch_rules.specs.RecordGrowth.{Updates}
 use Rattle.fetch_rules.specs.RecordMeaning.{Means, Rows}
@@ -23,8 +23,7 @@ grows g c kept =
     let was = c.args.seen.now.rows in
     let closed = closed_rows c.args.found.now.stored was c.args.seen.now.intent in
     let rows = merged closed c.args.listing.now c.args.found.now.held.items c.args.now in
-    let fresh : c.args.seen.now.stale ≡ false = ap (λ (seen : Loaded). seen.stale) (sym c.close.ensures.after) ∙ ap (λ (seen : Loaded). seen.stale) (sym c.in-Ok.ensures.after)
-    ∙ sym c.needs_rewrite.ensures ∙ c.if-needs_rewrite.false in
+    let fresh : c.args.seen.now.stale ≡ false = rw (c.in-Ok.ensures.after, c.close.ensures.after) at (sym c.needs_rewrite.ensures ∙ c.if-needs_rewrite.false) in
     let steady = read_steady (g.F.FlatFile.stored c.args.file.now).content c.args.seen.now (c.requires.stands (c.grow.ensures.saves kept).0) fresh in
     let is_was : closed ≡ was = ap (closed_rows c.args.found.now.stored was) steady.1 in (
       steady.0,
@@ -58,7 +57,7 @@ returns-clause-lasts g c = λ kept safe.
 -- what was merged
 rows_are : (g : Over) (c : After-needs_rewrite g) → (c.merge_rows.new.self.rows ≡ merged (closed_rows c.args.found.now.stored c.args.seen.now.rows c.args.seen.now.intent) c.args.listing.now c.args.found.now.held.items c.args.now)
     × (record_state_in c.merge_rows.new.self ≡ none_open (merged (closed_rows c.args.found.now.stored c.args.seen.now.rows c.args.seen.now.intent) c.args.listing.now c.args.found.now.held.items c.args.now))
-rows_are g c = (rw (c.in-Ok.ensures.after, c.deref.ensures.value, c.close.ensures.after), rw (c.in-Ok.ensures.after, c.deref.ensures.value, c.close.ensures.after))
+rows_are g c = rw (c.in-Ok.ensures.after, c.deref.ensures.value, c.close.ensures.after) (refl, refl)
 
 pub returns-then-needs_rewrite-clause-merges : goal.returns-then-needs_rewrite-clause-merges
 returns-then-needs_rewrite-clause-merges g c = λ kept.

@@ -1,10 +1,12 @@
-use Rattle.std.proofs.Common.{List, ℕ, None, inl, inr, sym, ap, subst}
+use Rattle.std.proofs.Common.{List, ℕ, None, inl, inr, refl, sym, ap, subst}
 use Rattle.std.specs.Prelude.{OnOk}
 use Rattle.fetch_rules.specs.Record.{Row, Loaded, marked, none_open}
 use Rattle.fetch_rules.specs.RecordGrowth.{Updates}
-use Rattle.fetch_session.specs.Record.{Saves, Steady, record_state_in}
+use Rattle.fetch_session.specs.Record.{Steady, record_state_in}
 use Rattle.fetch_session.proofs.LastLemmas.{rows_left, same_left}
 use Rattle.fetch_session.proofs.RecordLemmas.{saves_steady, mark_begun}
+use Rattle.fetch_session.proofs.record.remember.Given.{Over}
+use Rattle.fetch_session.proofs.record.remember.Goals.{After-grow}
 use Rattle.fetch_session.proofs.record.remember.Goals as goal
 
 pub grow-requires : goal.grow-requires
@@ -16,17 +18,16 @@ grow-requires g c = record {
       some;
 }
 
+-- what was appended marks the id's row, and ends the intent
+updates : (g : Over) (c : After-grow g) → Updates c.args.seen.now.rows c.args.seen.now.intent c.deref.result.now (marked c.args.seen.now.rows c.args.uid.now) None
+updates g c =
+    subst (λ (bytes : List ℕ). Updates c.args.seen.now.rows c.args.seen.now.intent bytes (marked c.args.seen.now.rows c.args.uid.now) None) (sym c.deref.ensures.value)
+    (subst (λ (seen : Loaded). Updates c.args.seen.now.rows c.args.seen.now.intent c.in-Ok.group.items seen.rows seen.intent) c.in-Ok.ensures.after c.in-Ok.ensures.updates)
+
 pub returns-clause-saves : goal.returns-clause-saves
 returns-clause-saves g c = λ kept.
     let saves = c.grow.ensures.saves kept in
-    let was = c.args.seen.now.rows in
-    let rows = c.mark_rows.new.self.rows in
-    let updates : Updates was c.args.seen.now.intent c.deref.result.now rows None = subst (λ (bytes : List ℕ). Updates was c.args.seen.now.intent bytes rows None) (sym c.deref.ensures.value)
-    (subst (λ (seen : Loaded). Updates was c.args.seen.now.intent c.in-Ok.group.items rows seen.intent) c.in-Ok.ensures.after c.in-Ok.ensures.updates) in (
-      saves.0,
-      subst (λ (r : List Row). Saves (g.F.FlatFile.stored c.args.file.now) (record_state_in c.args.seen.now) (none_open r) c.grow.result (g.F.FlatFile.stored c.grow.new.file)) (ap (λ (seen : Loaded). seen.rows) c.in-Ok.ensures.after)
-          (saves.1 (record_state_in c.args.seen.now) (none_open rows) (inl updates)),
-    )
+    (saves.0, saves.1 (record_state_in c.args.seen.now) (none_open (marked c.args.seen.now.rows c.args.uid.now)) (inl (updates g (goal.at.returns-clause-saves g c).After-grow)))
 
 pub returns-clause-steady : goal.returns-clause-steady
 returns-clause-steady g c = λ kept.
@@ -46,10 +47,8 @@ returns-in_default-clause-keeps g c = λ kept. (
 pub returns-clause-keeps : goal.returns-clause-keeps
 returns-clause-keeps g c = λ kept.
     let was = c.args.seen.now.rows in
-    let rows = c.mark_rows.new.self.rows in
-    let updates : Updates was c.args.seen.now.intent c.deref.result.now rows None = subst (λ (bytes : List ℕ). Updates was c.args.seen.now.intent bytes rows None) (sym c.deref.ensures.value)
-    (subst (λ (seen : Loaded). Updates was c.args.seen.now.intent c.in-Ok.group.items rows seen.intent) c.in-Ok.ensures.after c.in-Ok.ensures.updates) in (
+    let rows = marked was c.args.uid.now in (
       c.grow.ensures.keeps kept,
-      λ safe. rows_left g.F.FlatFile c.grow.new.file was (marked was c.args.uid.now) rows c.args.seen.now.intent None c.deref.result.now (inl updates) (inr (ap (λ (seen : Loaded). seen.rows) c.in-Ok.ensures.after))
+      λ safe. rows_left g.F.FlatFile c.grow.new.file was rows rows c.args.seen.now.intent None c.deref.result.now (inl (updates g (goal.at.returns-clause-keeps g c).After-grow)) (inr refl)
           (c.grow.ensures.leaves kept safe (record_state_in c.args.seen.now) (c.requires.steady (c.grow.ensures.saves kept).0)).0,
     )
