@@ -1,6 +1,6 @@
-use Rattle.std.proofs.Common.{◌≡◌, ◌∙◌, ◌∷◌, [], inr, sym, ap, subst, refl, ℕ, List, Option, None}
+use Rattle.std.proofs.Common.{◌∙◌, ◌∷◌, [], inr, sym, ap, subst, refl, List, None}
 use Rattle.std.proofs.lemmas.List.Elements.{recursion_from_All}
-use Rattle.fetch_rules.specs.Record.{Row, Intent, Loaded, IsRow, marked}
+use Rattle.fetch_rules.specs.Record.{Row, Loaded, IsRow}
 use Rattle.fetch_rules.specs.RecordFile.{marking, written}
 use Rattle.fetch_rules.specs.RecordGrowth.{Updates}
 use Rattle.fetch_rules.specs.Intents.{intent_in, IsNoneOrOf}
@@ -10,19 +10,11 @@ use Rattle.fetch_rules.proofs.HeldLemmas.{none_without_row, legal_of}
 use Rattle.fetch_rules.proofs.ReadLemmas.{IsGroup-mark, now_delivered}
 use Rattle.fetch_rules.proofs.seen.Seen.mark_rows.Goals as goal
 
--- a mark that changes no row of a record with no open intent leaves it as it was
-unchanged : (seen now : Loaded) (uid : List ℕ) → seen ≡ now → marked seen.rows uid ≡ seen.rows → seen.intent ≡ None → now ≡ record now { rows = marked now.rows uid; intent = None }
-unchanged seen now uid is same closed =
-    sym is ∙ ap (λ (rows : List Row). record seen { rows = rows }) (sym same)
-    ∙ ap (λ (intent : Option Intent). record seen { rows = marked seen.rows uid; intent = intent }) closed
-    ∙ ap (λ (loaded : Loaded). record loaded { rows = marked loaded.rows uid; intent = None }) is
-
 pub returns-in_default-clause-after : goal.returns-in_default-clause-after
 returns-in_default-clause-after g c =
-    unchanged _ c.args.self.now c.args.uid.now c.self.view_is (unmarked_none c.args.uid.now c.self.inside.rows (sym c.state.ensures.value ∙ c.in_default.is))
-    (none_without_row c.self.inside.rows c.args.uid.now (intent_in c.self.inside.intent) c.self.invariant.1
-    (subst (λ (loaded : Loaded). IsNoneOrOf c.args.uid.now loaded.intent) (sym c.self.view_is) c.requires)
-    (has_row-none c.args.uid.now c.self.inside.rows (sym c.state.ensures.value ∙ c.in_default.is)))
+    let none = sym c.state.ensures.value ∙ c.in_default.is in
+    let own = subst (λ (loaded : Loaded). IsNoneOrOf c.args.uid.now loaded.intent) (sym c.self.view_is) c.requires in
+    rw (← c.self.view_is, unmarked_none c.args.uid.now c.self.inside.rows none, none_without_row c.self.inside.rows c.args.uid.now (intent_in c.self.inside.intent) c.self.invariant.1 own (has_row-none c.args.uid.now c.self.inside.rows none))
 
 pub returns-in_default-clause-group : goal.returns-in_default-clause-group
 returns-in_default-clause-group g c =
@@ -32,7 +24,7 @@ returns-in_default-clause-group g c =
 pub returns-then-has_mark-clause-after : goal.returns-then-has_mark-clause-after
 returns-then-has_mark-clause-after g c =
     let parts = marked_parts c.in-Some.state.delivered (intent_in c.self.inside.intent) c.has_mark.result c.has_mark.ensures c.if-has_mark.true in
-    unchanged _ c.args.self.now c.args.uid.now c.self.view_is (marked-delivered c.args.uid.now c.self.inside.rows c.in-Some.state c.state.ensures.is_record (sym c.in-Some.ensures.value) parts.0) parts.1
+    rw (← c.self.view_is, marked-delivered c.args.uid.now c.self.inside.rows c.in-Some.state c.state.ensures.is_record (sym c.in-Some.ensures.value) parts.0, parts.1)
 
 pub returns-then-has_mark-clause-group : goal.returns-then-has_mark-clause-group
 returns-then-has_mark-clause-group g c =

@@ -1,7 +1,6 @@
 use Rattle.std.proofs.Common.{◌≡◌, ◌∙◌, ◌++◌, List, ℕ, map, take, None, refl, sym, ap, subst}
 use Rattle.std.proofs.Math.Seq.{take-append_seam}
-use Rattle.fetch_rules.specs.Record.{Row, Loaded, merged, with_held, new_ids, undelivered}
-use Rattle.fetch_rules.specs.Intents.{intent_in}
+use Rattle.fetch_rules.specs.Record.{Row, Loaded, with_held, new_ids, undelivered}
 use Rattle.fetch_rules.specs.RecordFile.{changed, written}
 use Rattle.fetch_rules.specs.RecordGrowth.{Updates}
 use Rattle.fetch_rules.proofs.MergeLemmas.{merged_from_steps}
@@ -10,10 +9,7 @@ use Rattle.fetch_rules.proofs.seen.Seen.merge_rows.Goals as goal
 
 pub returns-in-Ok-clause-after : goal.returns-in-Ok-clause-after
 returns-in-Ok-clause-after g c =
-    let was : Loaded = record { rows = c.self.inside.rows; intent = intent_in c.self.inside.intent; stale = c.self.inside.stale } in
-    ap (λ (rows : List Row). record was { rows = rows })
-    (merged_from_steps c.self.inside.rows c.args.listing.now c.args.held.now c.args.now _ c.add_listed.new.self c.mark_held.new.self refl c.in_ok-add_listed.ensures.rows c.mark_held.ensures.rows)
-    ∙ ap (λ (loaded : Loaded). record loaded { rows = merged loaded.rows c.args.listing.now c.args.held.now c.args.now }) c.self.view_is
+    rw (merged_from_steps c.self.inside.rows c.args.listing.now c.args.held.now c.args.now _ c.add_listed.new.self c.mark_held.new.self refl c.in_ok-add_listed.ensures.rows c.mark_held.ensures.rows, ← c.self.view_is)
 
 pub returns-in-Ok-clause-updates : goal.returns-in-Ok-clause-updates
 returns-in-Ok-clause-updates g c =
