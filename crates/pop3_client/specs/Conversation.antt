@@ -24,7 +24,7 @@ pub record Talked (turns : List Turn) (replies : List WholeReply) (old new : Pla
   pub got : new.link.got ≡ old.link.got ++ gained
   pub heard : old.waiting ++ gained ≡ flat_map reply_bytes replies ++ new.waiting
   pub good : AllZip IsGood turns replies
-  pub steady : GoesOn old.link new.link
+  pub goes_on : GoesOn old.link new.link
 
 -- the turn was sent, and its first line was taken, which is positive and fits the turn
 pub record Opened (turn : Turn) (line : List ℕ) (old new : Place) : Type 0 where
@@ -37,7 +37,7 @@ pub record Opened (turn : Turn) (line : List ℕ) (old new : Place) : Type 0 whe
   pub short : IsShort line
   pub positive : IsFirstLine line Positive rest
   pub fits : Fits turn rest
-  pub steady : GoesOn old.link new.link
+  pub goes_on : GoesOn old.link new.link
 
 -- whether memory may run out before the turn: not for a constant line, nor for USER and PASS, whose lines are
 -- made before the greeting

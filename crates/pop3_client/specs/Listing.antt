@@ -79,7 +79,7 @@ RowsCause _ turn old new after = ⊥
 pub record TookLines (turn : Turn) (old new : Place) (lines : List (List ℕ)) : Type 0 where
   pub gained : List ℕ
   pub drew : Drew old.link new.link gained
-  pub steady : GoesOn old.link new.link
+  pub goes_on : GoesOn old.link new.link
   pub content : AllByRecursion IsContent lines
   pub fit : LinesFit turn lines
   pub heard : old.waiting ++ gained ≡ body_of lines ++ new.waiting
