@@ -1,6 +1,7 @@
 //! The folders of a Maildir in memory.
 
-ghost use Rattle.std.specs.Prelude.{◌≡◌, ◌↔◌, ◌++◌, [], ◌∷◌, Contains, IfOk, IsTrue, OnOk, false, if◌then◌else◌, true, map, option_map, string_bytes};
+ghost use Rattle.std.specs.Prelude.{◌≡◌, ◌↔◌, ◌++◌, [], ◌∷◌, Contains, IfOk, IsTrue, OnOk};
+ghost use Rattle.std.specs.Prelude.{false, if◌then◌else◌, true, map, option_map, string_bytes};
 ghost use Rattle.mail_terms.specs.MaildirName.{base};
 ghost use Rattle.mail_store.specs.Power.{is_among};
 ghost use Rattle.folder_store.specs.MailCalls.{flushed_by, named_by};
