@@ -3,7 +3,8 @@
 -- now is; in version 2 also one that was. In version 2 an intent's line, whose id has a row, opens an
 -- intent if none is open, and a whole group ends it. A torn end counts for nothing: a last piece
 -- without LF, and a last group that lacks rows, though its rows are judged.
-use Rattle.std.specs.Prelude.{◌≡◌, ◌≢◌, ◌⊎◌, ℕ, zero, suc, ◌+◌, ◌-◌, ◌==◌, List, [], ◌∷◌, ◌++◌, Bool, true, false, not, ◌&&◌, ◌||◌, if◌then◌else◌, Option, Some, None, length, min, flat_map, All}
+use Rattle.std.specs.Prelude.{◌≡◌, ◌≢◌, ◌⊎◌, ℕ, zero, suc, ◌+◌, ◌-◌, ◌==◌, List, [], ◌∷◌, ◌++◌, Bool, true, false}
+use Rattle.std.specs.Prelude.{not, ◌&&◌, ◌||◌, if◌then◌else◌, Option, Some, None, length, min, flat_map, All}
 use Rattle.std.specs.List.{list_any}
 use Rattle.fetch_rules.specs.Record.{Row, Intent, is_of, has_row, marked}
 use Rattle.fetch_rules.specs.RecordFile.{Version, One, Two, header, Line, RowLine, GroupLine, IntentLine, IsLine, text_of}

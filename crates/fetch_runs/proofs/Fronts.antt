@@ -90,7 +90,7 @@ exactly turns replies link good = record {
   got = refl;
   heard = sym (append-nil (flat_map reply_bytes replies));
   good = good;
-  steady = record { ended = refl; failures = refl };
+  goes_on = record { ended = refl; failures = refl };
 }
 
 -- what two conversations, one after the other, gained is their replies, and what waits

@@ -45,7 +45,7 @@ fetching_again number start old rest text now = record {
     short = now.opened.short;
     positive = now.opened.positive;
     fits = now.opened.fits;
-    steady = record { ended = refl; failures = refl };
+    goes_on = record { ended = refl; failures = refl };
   };
   under = record {
     used = now.under.used;
@@ -54,7 +54,7 @@ fetching_again number start old rest text now = record {
     sizes = now.under.sizes;
     heard = append-nil (now.under.used ++ old.waiting);
     drew = record { got = sym (append-nil old.link.got); sent = refl };
-    steady = record { ended = refl; failures = refl };
+    goes_on = record { ended = refl; failures = refl };
   };
 }
 

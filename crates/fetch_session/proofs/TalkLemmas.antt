@@ -13,7 +13,7 @@ talked_none place = record {
   got = sym (append-nil place.link.got);
   heard = append-nil place.waiting;
   good = tt;
-  steady = record { ended = refl; failures = refl };
+  goes_on = record { ended = refl; failures = refl };
 }
 
 -- the first turn broke

@@ -56,8 +56,8 @@ pub record KeepsLink {W : Type 0} (link : WireGhosts W) (Took : Place → Result
 
 -- at most one line was noted, and no more than the mark of this id may be left besides the rows; and if all went well, all is written
 -- down, and ids that had a row keep one
-pub record KeepsLedger {F H Z : Type 0} (file : FileGhosts F) (uid : List ℕ) (old : Ledger F H Z) (result : Result (Unit {0}) Cut) (new : Ledger F H Z)
-    : Type 0 where
+pub record KeepsLedger {F H Z : Type 0} (file : FileGhosts F) (uid : List ℕ) (old : Ledger F H Z) (result : Result (Unit {0}) Cut)
+    (new : Ledger F H Z) : Type 0 where
   pub lines : Adds old.lines 1 new.lines
   pub sound : file.sound new.file → file.sound old.file
   pub written : OnOk result (IsWritten file new)
@@ -66,8 +66,8 @@ pub record KeepsLedger {F H Z : Type 0} (file : FileGhosts F) (uid : List ℕ) (
 
 -- nothing was noted, and the rows are the same, also those that may be left; and if all went well, at most the intent of this id is
 -- open, and all is written down
-pub record KeepsRecord {F H Z : Type 0} (file : FileGhosts F) (uid : List ℕ) (old : Ledger F H Z) (result : Result (Unit {0}) Fault) (new : Ledger F H Z)
-    : Type 0 where
+pub record KeepsRecord {F H Z : Type 0} (file : FileGhosts F) (uid : List ℕ) (old : Ledger F H Z) (result : Result (Unit {0}) Fault)
+    (new : Ledger F H Z) : Type 0 where
   pub lines : new.lines ≡ old.lines
   pub rows : new.seen.rows ≡ old.seen.rows
   pub opened : OnOk result (IsNoneOrOf uid new.seen.intent)
@@ -99,7 +99,8 @@ pub record KeepsSession {W D F H Z : Type 0} (link : WireGhosts W) (disk : DiskG
   pub lasts : is_sound disk file work'.store → file.sound work'.ledger.file → file.sound work.ledger.file
       × KeepsMailIn disk work.store work'.store × (IsSafeWork file work → OnOk result (IsSafeWork file work'))
   pub idle : ids_ahead tasks ≡ [] → work'.ledger.file ≡ work.ledger.file
-  pub next : OnOk result ((later : List Task) → IsReadyFor disk file account (tasks ++ later) work → IsReadyFor disk file account later work')
+  pub next : OnOk result ((later : List Task) → IsReadyFor disk file account (tasks ++ later) work
+      → IsReadyFor disk file account later work')
 
 -- ---- what is done
 

@@ -127,8 +127,8 @@ pub record NotReady (settings : Settings) (target : Target) (old : Place) (befor
   pub nothing : told ≡ told_nothing (length items)
 
 -- the preview says what would be done with the listed messages, and QUIT was sent
-pub record Listed (settings : Settings) (target : Target) (now : ℕ) (old : Place) (before : Keeping) (result : Result (Unit {0}) ClientFault)
-    (new : Place) (told : Told) : Type 0 where
+pub record Listed (settings : Settings) (target : Target) (now : ℕ) (old : Place) (before : Keeping)
+    (result : Result (Unit {0}) ClientFault) (new : Place) (told : Told) : Type 0 where
   pub items : List Item
   pub mid : Place
   pub enters : Enters_with settings old (Ok items) mid

@@ -74,7 +74,8 @@ due_text (Some second) = codes ", not due before " ++ date_text second
 -- the line of one message
 abbrev pub message_preview_text : ℕ → MessagePreview → List ℕ
 message_preview_text total message_preview = message_text total message_preview.number
-    (codes "(" ++ (decimal message_preview.size ++ (codes " octets) " ++ (fate_text message_preview.fate ++ (due_text message_preview.due ++ codes "\n")))))
+    (codes "(" ++ (decimal message_preview.size ++ (codes " octets) "
+    ++ (fate_text message_preview.fate ++ (due_text message_preview.due ++ codes "\n")))))
 
 -- whether a message would be fetched, and whether deleted
 abbrev pub is_fetch : Fate → Bool
@@ -109,4 +110,5 @@ notice unsettled =
 -- what a run would do, each line ended by LF
 abbrev pub preview_text : Preview → Settings → List ℕ
 preview_text preview settings =
-    ((heading settings ++ notice preview.unsettled) ++ flat_map (message_preview_text preview.total) preview.message_previews.items) ++ counts preview
+    ((heading settings ++ notice preview.unsettled) ++ flat_map (message_preview_text preview.total) preview.message_previews.items)
+    ++ counts preview

@@ -343,7 +343,8 @@ fn check_folders<D: MaildirDisk>(disk: &mut D) -> Result<(), StoreFault>
 fn check_store<D: MaildirDisk, F: FlatFile>(store: &mut Store<D, F>) -> Result<(), StoreFault>
     ensures kind { kind_of store.new ≡ kind_of store.old }
     ensures checks { is_sound D.MaildirDisk F.FlatFile store.new → is_sound D.MaildirDisk F.FlatFile store.old
-        × ChecksStore (kind_of store.old) (stores_of D.MaildirDisk F.FlatFile store.old) result (stores_of D.MaildirDisk F.FlatFile store.new) }
+        × ChecksStore (kind_of store.old) (stores_of D.MaildirDisk F.FlatFile store.old) result
+        (stores_of D.MaildirDisk F.FlatFile store.new) }
     ensures keeps { is_sound D.MaildirDisk F.FlatFile store.new → KeepsMailIn D.MaildirDisk store.old store.new }
 {
     match store {

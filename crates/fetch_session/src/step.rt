@@ -173,7 +173,8 @@ pub fn do_steps<W: Wire, D: MaildirDisk, F: FlatFile, H: BuildHasher, L: Listene
 ) -> Result<(), Cut>
     requires all_steps { length plan.steps.now ≡ length plan.listing.now }
     requires all_flags { length plan.held.now ≡ length plan.listing.now }
-    requires ready { IsReadyFor D.MaildirDisk F.FlatFile account.now (tasks_planned plan.steps.now plan.listing.now plan.held.now) work.old }
+    requires ready { IsReadyFor D.MaildirDisk F.FlatFile account.now
+        (tasks_planned plan.steps.now plan.listing.now plan.held.now) work.old }
     ensures keeps { KeepsSession W.Wire D.MaildirDisk F.FlatFile account.now
         (tasks_planned plan.entry.steps.now plan.entry.listing.now plan.entry.held.now) client.old work.old result client.new work.new }
     ensures does { DoesTasks W.Wire D.MaildirDisk F.FlatFile account.now

@@ -137,16 +137,16 @@ impl Listing {
 /// Sizes that were counted for an earlier listing, in the order in which files are listed. They have to
 /// be asked for in that order too.
 #[derive(Drop)]
-pub struct Counted<'a> {
+pub struct CountedSizes<'a> {
     files: &'a [ListedFile],
 }
 
-impl<'a> Counted<'a> {
+impl<'a> CountedSizes<'a> {
     /// The sizes of these files.
-    pub fn new(files: &'a [ListedFile]) -> Counted<'a>
+    pub fn new(files: &'a [ListedFile]) -> CountedSizes<'a>
         ensures { result.files.now ≡ files.now }
     {
-        Counted { files }
+        CountedSizes { files }
     }
 
     /// The counted size of a file that was found, if there is one and the file is as it was then. Files

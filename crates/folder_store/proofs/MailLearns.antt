@@ -13,7 +13,7 @@ use Rattle.mail_store.specs.Power.{TookOne}
 use Rattle.folder_store.specs.MailFolders.{MailFile, Directories, files_at, is_left, mail_at}
 use Rattle.folder_store.specs.MailPower.{AllFlushed, AllNamed, AreLeftAs, SomeIs, StaysIn, OutlivesIn}
 use Rattle.folder_store.specs.MailCalls.{Leads, Learns, listed}
-use Rattle.folder_store.proofs.MailLoss.{kept, kept_left}
+use Rattle.folder_store.proofs.MailLoss.{staying, staying_left}
 use Rattle.folder_store.proofs.MailMoves.{leads_same}
 use Rattle.folder_store.proofs.Parts.{part_same, part_trans, part_counts, one_counts}
 
@@ -110,7 +110,7 @@ were_some : (ss left : List MailFile) → AreLeftAs (filter is_left ss) left →
 were_some [] left e = ([], refl, ap files_at e)
 were_some (s ∷ ss) left l =
     by_first (λ (ts : List MailFile). AreLeftAs ts left → WereSome (s ∷ ss) left) s ss
-    (λ gone l. let r = were_some ss left l in (kept s ∷ r.0, inr (kept s, r.0, refl, kept_left s, r.1), inl r.2))
+    (λ gone l. let r = were_some ss left l in (staying s ∷ r.0, inr (staying s, r.0, refl, staying_left s, r.1), inl r.2))
     (λ here l. were_more s ss left (were_some ss) l) l
 
 -- ---- what calls see

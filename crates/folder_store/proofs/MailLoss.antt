@@ -59,11 +59,11 @@ pub left_mail_is_on_disk : LeftMailIsOnDisk
 left_mail_is_on_disk old new loses = on_disk old.entries new.entries loses.each
 
 -- each file stays where it is, with its bytes
-abbrev pub kept : MailFile → MailFile
-kept s = record s { is_flushed = true; is_named = true; left_new = false; left_cur = false }
+abbrev pub staying : MailFile → MailFile
+staying s = record s { is_flushed = true; is_named = true; left_new = false; left_cur = false }
 
-pub kept_left : (s : MailFile) → IsLeftAs s (kept s)
-kept_left s = record {
+pub staying_left : (s : MailFile) → IsLeftAs s (staying s)
+staying_left s = record {
   title = refl;
   in_new = λ new. ap (λ (b : Bool). b || s.left_new) new;
   in_cur = λ cur. ap (λ (b : Bool). not b || s.left_cur) cur;
@@ -74,11 +74,11 @@ kept_left s = record {
   gone = λ here. here;
 }
 
-all_kept : (ss : List MailFile) → (left : List MailFile) × AreLeftAs ss left
-all_kept [] = ([], refl)
-all_kept (s ∷ ss) = let r = all_kept ss in (kept s ∷ r.0, inr (kept s, r.0, refl, kept_left s, r.1))
+all_staying : (ss : List MailFile) → (left : List MailFile) × AreLeftAs ss left
+all_staying [] = ([], refl)
+all_staying (s ∷ ss) = let r = all_staying ss in (staying s ∷ r.0, inr (staying s, r.0, refl, staying_left s, r.1))
 
 pub mail_can_lose_power : MailCanLosePower
 mail_can_lose_power old =
-    let r = all_kept old.entries in
+    let r = all_staying old.entries in
     (record old { entries = r.0; made = None }, record { there = refl; each = r.1; made = refl })

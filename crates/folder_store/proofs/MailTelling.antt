@@ -16,8 +16,8 @@ use Rattle.folder_store.proofs.MailLooks.{checks_leads}
 use Rattle.folder_store.proofs.MailMoves.{leads_maildir, leads_maildir_but, named_stays}
 
 -- the count after a call
-abbrev Counted : {T : Type 0} → Result T StoreFault → ℕ → ℕ → Type 0
-Counted r n m = m ≡ (if refuses is_refusal r then n + 1 else n)
+abbrev IsCountAfter : {T : Type 0} → Result T StoreFault → ℕ → ℕ → Type 0
+IsCountAfter r n m = m ≡ (if refuses is_refusal r then n + 1 else n)
 
 counted_as : (a b : Directories) (begun : Option (List ℕ)) (m k : ℕ) → Leads a b → m ≡ k → maildir_in b begun m ≡ maildir_in a begun k
 counted_as a b begun m k l e = leads_maildir a b begun m l ∙ ap (λ (c : ℕ). maildir_in a begun c) e
@@ -32,7 +32,7 @@ was_there a b folder l = ap (λ (t : Folders). is_there t folder) (sym l.there)
 
 -- ---- both folders
 
-pub told_all : {A B : Type 0} (a b : Directories) (begun : Option (List ℕ)) (n m : ℕ) (r : Result (Vec (String A) B) StoreFault) → TellsBoth a r b → Counted r n m
+pub told_all : {A B : Type 0} (a b : Directories) (begun : Option (List ℕ)) (n m : ℕ) (r : Result (Vec (String A) B) StoreFault) → TellsBoth a r b → IsCountAfter r n m
     → AfterTaking (maildir_in a begun n) (λ left. ListsAll left r (maildir_in b begun m))
 told_all a b begun n m (Ok names) (l, told) k = (
   files_at b.entries,
@@ -68,7 +68,7 @@ all_stay a b (Err fault) t = tt
 
 -- ---- one folder
 
-pub told_those : {A B : Type 0} (a b : Directories) (folder : Folder) (begun : Option (List ℕ)) (n m : ℕ) (r : Result (Vec (String A) B) StoreFault) → TellsOne a folder r b → Counted r n m
+pub told_those : {A B : Type 0} (a b : Directories) (folder : Folder) (begun : Option (List ℕ)) (n m : ℕ) (r : Result (Vec (String A) B) StoreFault) → TellsOne a folder r b → IsCountAfter r n m
     → AfterTaking (maildir_in a begun n) (λ left. Lists left folder r (maildir_in b begun m))
 told_those a b folder begun n m (Ok names) (l, there, theirs, stay) k =
     (files_at b.entries, l.files, (was_there a b folder l ∙ there, theirs, left_as a b begun m n l k))
@@ -86,11 +86,11 @@ one_learns a b folder (Err NoMemory) t = absurd t
 
 -- ---- whether a folder is there
 
-pub checked : {T : Type 0} (a b : Directories) (folder : Folder) (begun : Option (List ℕ)) (n m : ℕ) (r : Result T StoreFault) → Then (ChecksIn folder r) a b → Counted r n m
+pub checked : {T : Type 0} (a b : Directories) (folder : Folder) (begun : Option (List ℕ)) (n m : ℕ) (r : Result T StoreFault) → Then (ChecksIn folder r) a b → IsCountAfter r n m
     → Checks (maildir_in a begun n) folder r (maildir_in b begun m)
 checked {T} a b folder begun n m r t k = by r t (checks_leads folder a b r t) k
   where
-    by : (r : Result T StoreFault) → Then (ChecksIn folder r) a b → Leads a b → Counted r n m → Checks (maildir_in a begun n) folder r (maildir_in b begun m)
+    by : (r : Result T StoreFault) → Then (ChecksIn folder r) a b → Leads a b → IsCountAfter r n m → Checks (maildir_in a begun n) folder r (maildir_in b begun m)
     by (Ok done) (mid, v, (there, e)) l k = (ap (λ (t : Folders). is_there t folder) (sym v.there) ∙ there, counted_as a b begun m n l k)
     by (Err Missing) (mid, v, (gone, e)) l k = (ap (λ (t : Folders). is_there t folder) (sym v.there) ∙ gone, counted_as a b begun m n l k)
     by (Err Refused) t l k = counted_as a b begun m (n + 1) l k

@@ -11,7 +11,7 @@ use Rattle.mail_terms.specs.Distinct.{AreDistinct}
 use Rattle.folder_store.specs.declared.memory.MemoryBlob.{MemoryBlob}
 use Rattle.folder_store.specs.FileFolder.{Blob, Directory, Entry, Older, entry, names_in, find, secured, content_in}
 use Rattle.folder_store.specs.PowerLoss.{IsTorn, IsLeft, IsLeftOf, WasOnce, MayBe, Loses, IsFlushed}
-use Rattle.folder_store.specs.MemoryFolder.{blob_of, entry_of, entries_of, older_of, kept_of, IsZeroed, MayBeOf, Survive}
+use Rattle.folder_store.specs.MemoryFolder.{blob_of, entry_of, entries_of, older_of, left_under, IsZeroed, MayBeOf, Survive}
 use Rattle.folder_store.proofs.MemoryFiles.{Pair}
 use Rattle.folder_store.proofs.Files.{find_here, find_later, none_of, not_ahead, some_is_not_none}
 
@@ -125,7 +125,7 @@ survives_kept older (x ∷ es) left e bytes (inr (others, rest, is, kept, more))
 
 -- the next file, as it is left
 pub survives_next : (older : List Older) (es left new : List Entry) (e : Entry) (text : Option (List ℕ)) → Survive older es left → MayBeOf older e text
-    → new ≡ left ++ kept_of e.name text → Survive older (es ++ e ∷ []) new
+    → new ≡ left ++ left_under e.name text → Survive older (es ++ e ∷ []) new
 survives_next older es left new e None h may is =
     subst (λ (xs : List Entry). Survive older (es ++ e ∷ []) xs) (sym (is ∙ append-nil left)) (survives_gone older es left e h may)
 survives_next older es left new e (Some bytes) h may is =

@@ -149,14 +149,14 @@ file_moves files i x y new new' cur cur' made below is moves in_new in_cur = rec
 
 -- ---- files that the reader took away
 
-abbrev pub is_kept : StoredMail → Bool
-is_kept k = not k.is_gone
+abbrev pub not_gone : StoredMail → Bool
+not_gone k = not k.is_gone
 
-pub left_files : (files : List StoredMail) → map mail_file (filter is_kept files) ≡ filter is_left (map mail_file files)
+pub left_files : (files : List StoredMail) → map mail_file (filter not_gone files) ≡ filter is_left (map mail_file files)
 left_files [] = refl
 left_files (k ∷ files) = by k.is_gone refl (left_files files)
   where
-    by : (b : Bool) → k.is_gone ≡ b → map mail_file (filter is_kept files) ≡ filter is_left (map mail_file files)
-        → map mail_file (filter is_kept (k ∷ files)) ≡ filter is_left (map mail_file (k ∷ files))
+    by : (b : Bool) → k.is_gone ≡ b → map mail_file (filter not_gone files) ≡ filter is_left (map mail_file files)
+        → map mail_file (filter not_gone (k ∷ files)) ≡ filter is_left (map mail_file (k ∷ files))
     by true e rest = rw e rest
     by false e rest = grind (arith, e, rest)

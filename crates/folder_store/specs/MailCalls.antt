@@ -1,5 +1,6 @@
 -- What each call does to the folders of a Maildir, once others have moved files.
-use Rattle.std.specs.Prelude.{◌≡◌, ◌≢◌, ◌⊎◌, ◌||◌, ◌↔◌, ℕ, Bool, true, false, IsTrue, List, [], ◌∷◌, ◌++◌, map, Option, Some, None, Result, Ok, Err, Vec, String, string_bytes, IsPermutation, Contains}
+use Rattle.std.specs.Prelude.{◌≡◌, ◌≢◌, ◌⊎◌, ◌||◌, ◌↔◌, ℕ, Bool, true, false, IsTrue, List, [], ◌∷◌, ◌++◌, map, Option}
+use Rattle.std.specs.Prelude.{Some, None, Result, Ok, Err, Vec, String, string_bytes, IsPermutation, Contains}
 use Rattle.std.specs.Global.{Global}
 use Rattle.std.specs.List.{AllByRecursion, filter}
 use Rattle.mail_terms.specs.MaildirName.{base}
@@ -10,7 +11,8 @@ use Rattle.mail_store.specs.declared.maildir.disk.Folder.TheVariants.{New, Cur}
 use Rattle.mail_store.specs.Maildir.{File, IsPart, mail, bases_told, names_of, is_there, AreTheirs}
 use Rattle.mail_store.specs.FileName.{stem}
 use Rattle.mail_store.specs.Power.{KeepsLeft, KeepsMail, ToldStay, is_among}
-use Rattle.folder_store.specs.MailFolders.{Directories, MailFile, Draft, Moved, files_at, is_left, name_at, entries_in, rests_in, touches_new, touches_cur}
+use Rattle.folder_store.specs.MailFolders.{Directories, MailFile, Draft, Moved, files_at, is_left}
+use Rattle.folder_store.specs.MailFolders.{name_at, entries_in, rests_in, touches_new, touches_cur}
 use Rattle.folder_store.specs.MailPower.{AllFlushed, AllNamed, StaysIn, OutlivesIn, LeavesMail, LeavesSome}
 
 -- others moved files, and then the call did this

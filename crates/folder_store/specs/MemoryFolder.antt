@@ -26,9 +26,9 @@ IsZeroed content len bytes =
     (zeros : List ℕ) × (bytes ≡ take len content ++ zeros) × ((k : ℕ) → slice_index zeros k ≡ 0) × (length bytes ≤ length content)
 
 -- the file of a name that is left with these bytes, all of them on the disk, or none
-abbrev pub kept_of : List ℕ → Option (List ℕ) → List Entry
-kept_of name None = []
-kept_of name (Some bytes) = entry name (secured bytes) ∷ []
+abbrev pub left_under : List ℕ → Option (List ℕ) → List Entry
+left_under name None = []
+left_under name (Some bytes) = entry name (secured bytes) ∷ []
 
 -- what a loss of power may leave under the name of a file
 abbrev pub MayBeOf : List Older → Entry → Option (List ℕ) → Type 0

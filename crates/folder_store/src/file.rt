@@ -43,8 +43,14 @@ impl<'a, F> HostFile<'a, F> {
         appending: Appending,
         rests: Option<Rests<'a, F>>,
     ) -> HostFile<'a, F>
-        ensures folder { result.folder ≡ folder }
-        ensures failures { result.failures ≡ 0 }
+        ensures { result ≡ record {
+          folder = folder;
+          name = name.entry;
+          appending = appending;
+          is_flushed = false;
+          rests = rests.entry;
+          failures = 0;
+        } }
     {
         HostFile {
             folder,
@@ -84,14 +90,7 @@ impl<'a, F: FileFolder + Drop> HostFile<'a, F> {
         ensures stored { ⟦<HostFile<'a, F> as FlatFile>⟧.stored result ≡ stored_in (F.directory folder) name.now 0 }
         ensures sure { IsSure (find name.now (F.directory folder).entries) → ⟦<HostFile<'a, F> as FlatFile>⟧.is_sure result }
     {
-        HostFile {
-            folder,
-            name,
-            appending,
-            is_flushed: false,
-            rests: None,
-            failures: FailureCount::new(),
-        }
+        HostFile::made(folder, name, appending, None)
     }
 
     /// Gives the folder back.

@@ -17,7 +17,7 @@ use std::io::{self, ErrorKind};
 use std::os::unix::fs::MetadataExt;
 use std::rt::Files;
 use std::time::Clock;
-use trace::{Refusals, System, Told};
+use trace::{Answered, Refusals, System};
 
 /// A folder of the machine's file system. Nothing is known of what the system does. Each call asks the
 /// system for one or two things, so that a reader can compare it with what the trait says.
@@ -29,7 +29,7 @@ use trace::{Refusals, System, Told};
 pub struct HostFolder<'a, R: Files> {
     system: &'a System<'a, R>,
     paths: HostPaths<'a>,
-    handles: Handles<Told<'a, R::File>>,
+    handles: Handles<Answered<'a, R::File>>,
 }
 
 impl<'a, R: Files + AllocGlobal> HostFolder<'a, R> {
@@ -110,7 +110,7 @@ impl<'a, R: Files + AllocGlobal> HostFolder<'a, R> {
     }
 
     // The regular file of a name, opened to be read.
-    fn open_regular(&self, name: &str) -> io::Result<Told<'a, R::File>> {
+    fn open_regular(&self, name: &str) -> io::Result<Answered<'a, R::File>> {
         self.system.open(self.regular_path(name)?.as_str())
     }
 
@@ -121,7 +121,7 @@ impl<'a, R: Files + AllocGlobal> HostFolder<'a, R> {
 
     // Whether a name leads to a file.
     pub(crate) fn has(&self, name: &str) -> Result<bool, StoreFault> {
-        match told(self.system.refusals, self.look_up(name)) {
+        match answer_of(self.system.refusals, self.look_up(name)) {
             Ok(_) => Ok(true),
             Err(StoreFault::Missing) => Ok(false),
             Err(fault) => Err(fault),
@@ -186,14 +186,14 @@ impl<'a, R: Files + AllocGlobal> HostFolder<'a, R> {
     }
 
     // The handle kept from the file's last change, or a new one.
-    fn handle_of(&mut self, name: &str) -> io::Result<Changed<Told<'a, R::File>>> {
+    fn handle_of(&mut self, name: &str) -> io::Result<Changed<Answered<'a, R::File>>> {
         match self.handles.take_kept(name) {
             Some(changed) => Ok(changed),
             None => self.open_changed(name),
         }
     }
 
-    fn open_changed(&self, name: &str) -> io::Result<Changed<Told<'a, R::File>>> {
+    fn open_changed(&self, name: &str) -> io::Result<Changed<Answered<'a, R::File>>> {
         let title = String::from_str(self.system.alloc(), name)?;
         let path = self.regular_path(name)?;
         let file = self
@@ -298,7 +298,7 @@ fn is_folder(answer: io::Result<Metadata>) -> io::Result<bool> {
 
 /// What the system answered, or a device in its place. If neither said why, what was refused before isn't
 /// the reason.
-pub(crate) fn told<T>(refusals: &Refusals, answer: io::Result<T>) -> Result<T, StoreFault>
+pub(crate) fn answer_of<T>(refusals: &Refusals, answer: io::Result<T>) -> Result<T, StoreFault>
     ensures same { IfOk result (λ value. answer ≡ Ok value) }
     ensures fault { IfErr result IsDeviceFault }
 {
@@ -325,12 +325,12 @@ impl<'a, R: Files + AllocGlobal> FileFolder for HostFolder<'a, R> {
     ghost sound = { λ _. ⊥ };
 
     fn make(&mut self, name: &str) -> Result<(), StoreFault> {
-        told(self.system.refusals, self.make_marked(name))
+        answer_of(self.system.refusals, self.make_marked(name))
     }
 
     fn write(&mut self, bytes: &[u8]) -> Result<(), StoreFault> {
         match self.handles.write_made(bytes) {
-            Some(answer) => told(self.system.refusals, answer),
+            Some(answer) => answer_of(self.system.refusals, answer),
             None => Err(StoreFault::Refused),
         }
     }
@@ -339,7 +339,7 @@ impl<'a, R: Files + AllocGlobal> FileFolder for HostFolder<'a, R> {
         let Some(answer) = self.handles.sync_made() else {
             return Err(StoreFault::Refused);
         };
-        let answer = told(self.system.refusals, answer);
+        let answer = answer_of(self.system.refusals, answer);
         if answer.is_err() {
             self.discard();
         }
@@ -347,7 +347,7 @@ impl<'a, R: Files + AllocGlobal> FileFolder for HostFolder<'a, R> {
     }
 
     fn put(&mut self, name: &str) -> Result<(), StoreFault> {
-        told(self.system.refusals, self.rename_made(name))
+        answer_of(self.system.refusals, self.rename_made(name))
     }
 
     fn discard(&mut self) {
@@ -358,34 +358,34 @@ impl<'a, R: Files + AllocGlobal> FileFolder for HostFolder<'a, R> {
     }
 
     fn read(&mut self, name: &str) -> Result<Vec<u8>, StoreFault> {
-        told(self.system.refusals, self.read_all(name))
+        answer_of(self.system.refusals, self.read_all(name))
     }
 
     fn edges(&mut self, name: &str) -> Result<Edges, StoreFault> {
-        told(self.system.refusals, self.read_edges(name))
+        answer_of(self.system.refusals, self.read_edges(name))
     }
 
     fn read_at(&mut self, name: &str, start: u64, buf: &mut [u8]) -> Result<usize, StoreFault> {
-        told(self.system.refusals, self.read_piece(name, start, buf))
+        answer_of(self.system.refusals, self.read_piece(name, start, buf))
     }
 
     fn size(&mut self, name: &str) -> Result<u64, StoreFault> {
-        told(self.system.refusals, self.measure(name))
+        answer_of(self.system.refusals, self.measure(name))
     }
 
     fn append(&mut self, name: &str, bytes: &[u8]) -> Result<(), StoreFault> {
-        told(self.system.refusals, self.write_behind(name, bytes))
+        answer_of(self.system.refusals, self.write_behind(name, bytes))
     }
 
     fn cut_to(&mut self, name: &str, len: u64) -> Result<(), StoreFault> {
-        told(self.system.refusals, self.set_len(name, len))
+        answer_of(self.system.refusals, self.set_len(name, len))
     }
 
     fn flush(&mut self, name: &str) -> Result<(), StoreFault> {
-        told(self.system.refusals, self.sync(name))
+        answer_of(self.system.refusals, self.sync(name))
     }
 
     fn flush_names(&mut self) -> Result<(), StoreFault> {
-        told(self.system.refusals, self.sync_names())
+        answer_of(self.system.refusals, self.sync_names())
     }
 }

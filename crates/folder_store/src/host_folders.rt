@@ -5,7 +5,7 @@ ghost use Rattle.folder_store.specs.MailFolders.{unknown_directories};
 
 use crate::device::FileFolder;
 use crate::exact_listing::{ChangeTime, FolderNames};
-use crate::host::{HostFolder, told};
+use crate::host::{HostFolder, answer_of};
 use crate::mail_folders::MailFolders;
 use crate::process_mark::ProcessMark;
 use mail_store::{Folder, StoreFault, stem};
@@ -128,7 +128,7 @@ impl<'a, R: Files + Clock + AllocGlobal + Clone + Drop> MailFolders for HostFold
     ghost sound = { λ _. ⊥ };
 
     fn check(&mut self, folder: Folder) -> Result<(), StoreFault> {
-        match told(
+        match answer_of(
             self.system.refusals,
             self.folder_mut(folder).host.look_at_folder(),
         ) {
@@ -144,7 +144,7 @@ impl<'a, R: Files + Clock + AllocGlobal + Clone + Drop> MailFolders for HostFold
     fn list(&mut self, folder: Folder) -> Result<Vec<String>, StoreFault> {
         let refusals = self.system.refusals;
         let listed = self.folder_mut(folder);
-        let FolderNames { names, folder } = told(refusals, listed.host.read_names())?;
+        let FolderNames { names, folder } = answer_of(refusals, listed.host.read_names())?;
         listed.change = Some(ChangeTime::of(&folder));
         Ok(names)
     }
@@ -154,7 +154,7 @@ impl<'a, R: Files + Clock + AllocGlobal + Clone + Drop> MailFolders for HostFold
     fn rests(&mut self, folder: Folder) -> Result<bool, StoreFault> {
         let refusals = self.system.refusals;
         let listed = self.folder_mut(folder);
-        let found = told(refusals, listed.host.look_at_folder())?;
+        let found = answer_of(refusals, listed.host.look_at_folder())?;
         Ok(listed.change == Some(ChangeTime::of(&found)))
     }
 
@@ -178,7 +178,7 @@ impl<'a, R: Files + Clock + AllocGlobal + Clone + Drop> MailFolders for HostFold
 
     // A file that a reader moves meanwhile is looked up again.
     fn flush_files(&mut self, stems: &[String]) -> Result<(), StoreFault> {
-        match told(self.system.refusals, self.sync_all_of(stems)) {
+        match answer_of(self.system.refusals, self.sync_all_of(stems)) {
             Ok(true) => Ok(()),
             Ok(false) => {
                 self.new_folder
@@ -211,7 +211,7 @@ impl<'a, R: Files + Clock + AllocGlobal + Clone + Drop> MailFolders for HostFold
     }
 
     fn flush_names(&mut self, folder: Folder) -> Result<(), StoreFault> {
-        told(
+        answer_of(
             self.system.refusals,
             self.folder_mut(folder).host.sync_names(),
         )

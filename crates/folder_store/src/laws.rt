@@ -8,7 +8,8 @@ ghost use Rattle.folder_store.specs.MailCalls.{BothBring, MadeBringsNone};
 ghost use Rattle.folder_store.specs.MailCalls.{SettlingKeepsFlushed, TellingKeepsFlushed, WritingKeepsFlushed};
 ghost use Rattle.folder_store.specs.MailFolders.{Directories, MailFile, Moved, OneMoves};
 ghost use Rattle.folder_store.specs.NewDevices.{FlushingKeepsFlushed};
-ghost use Rattle.folder_store.specs.MailPower.{LeftMailIsOnDisk, MailCanLosePower, MailOnDiskIsLeft, OutlivingMailIsLeft, StayingMailIsLeft};
+ghost use Rattle.folder_store.specs.MailPower.{LeftMailIsOnDisk, MailCanLosePower, MailOnDiskIsLeft};
+ghost use Rattle.folder_store.specs.MailPower.{OutlivingMailIsLeft, StayingMailIsLeft};
 
 /// A loss of power leaves what calls see under a name whose file is on the disk.
 pub fn disk_is_left()
@@ -49,7 +50,8 @@ pub fn calls_keep_mail_flushed()
 /// Readers may do nothing, move or mark a file, and do so again.
 pub fn readers_move()
     ensures rest { (d : Directories) → Moved d d }
-    ensures one { (old : Directories) (front back : List MailFile) (s t : MailFile) (new : Directories) → OneMoves old front back s t new → Moved old new }
+    ensures one { (old : Directories) (front back : List MailFile) (s t : MailFile) (new : Directories)
+        → OneMoves old front back s t new → Moved old new }
     ensures on { (a b c : Directories) → Moved a b → Moved b c → Moved a c }
 {}
 

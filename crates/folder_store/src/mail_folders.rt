@@ -12,7 +12,8 @@ pub trait MailFolders {
     ghost use Rattle.std.specs.Prelude.{◌≡◌, IfErr};
     ghost use Rattle.mail_store.specs.Fault.{IsDeviceFault};
     ghost use Rattle.folder_store.specs.MailFolders.{Directories};
-    ghost use Rattle.folder_store.specs.MailCalls.{ChecksIn, FlushesDraft, FlushesFiles, FlushesNamesIn, GivesUp, ListsIn, LooksUpNew, MakesDraft};
+    ghost use Rattle.folder_store.specs.MailCalls.{ChecksIn, FlushesDraft, FlushesFiles, FlushesNamesIn};
+    ghost use Rattle.folder_store.specs.MailCalls.{GivesUp, ListsIn, LooksUpNew, MakesDraft};
     ghost use Rattle.folder_store.specs.MailCalls.{PutsDraft, TellsRest, Then, WritesDraft};
 
     // What calls see of the folders, and what is on the disk.

@@ -3,7 +3,7 @@
 ghost use Rattle.std.specs.Prelude.{◌≡◌, ◌≢◌, ◌<◌, ◌++◌, ℕ, [], None, map, length, slice_index_or, string_bytes};
 ghost use Rattle.std.specs.Prelude.{HoldsAt, IfNone, IfOk, IfSome, OnErr, OnOk, option_map};
 ghost use Rattle.folder_store.specs.FileFolder.{find, names_in, placed};
-ghost use Rattle.folder_store.specs.MemoryFolder.{MayBeOf, Survive, blob_of, entries_of, entry_of, kept_of, older_of};
+ghost use Rattle.folder_store.specs.MemoryFolder.{MayBeOf, Survive, blob_of, entries_of, entry_of, left_under, older_of};
 
 use crate::device::FileFolder;
 use mail_store::{Edges, StoreFault, edges_of, read_piece};
@@ -81,7 +81,7 @@ fn place_of(files: &[(String, MemoryBlob)], name: &str) -> Option<usize>
 }
 
 /// The file of this name, if there is one.
-fn kept_at<'a>(files: &'a [(String, MemoryBlob)], name: &str) -> Option<&'a MemoryBlob>
+fn stored_at<'a>(files: &'a [(String, MemoryBlob)], name: &str) -> Option<&'a MemoryBlob>
     ensures { option_map (λ k. blob_of k.now) result ≡ find name.now (entries_of files.now) }
 {
     match place_of(files, name) {
@@ -148,7 +148,7 @@ fn keep(
     bytes: Option<Vec<u8>>,
 ) -> Result<(), AllocError>
     ensures { OnOk result (entries_of left.new.items
-        ≡ entries_of left.old.items ++ kept_of (string_bytes file.now.0) (option_map (λ bytes. bytes.items) bytes)) }
+        ≡ entries_of left.old.items ++ left_under (string_bytes file.now.0) (option_map (λ bytes. bytes.items) bytes)) }
 {
     match bytes {
         Some(bytes) => {
@@ -194,7 +194,7 @@ impl MemoryBlob {
     }
 
     fn whole(bytes: Vec<u8>) -> Result<MemoryBlob, AllocError>
-        ensures { IfOk result (λ kept. blob_of kept ≡ secured bytes.items) }
+        ensures { IfOk result (λ blob. blob_of blob ≡ secured bytes.items) }
     {
         let flushed = bytes.clone()?;
         let uncut = bytes.len();
@@ -244,7 +244,7 @@ impl MemoryBlob {
     }
 
     fn copy(&self) -> Result<MemoryBlob, AllocError>
-        ensures { IfOk result (λ kept. blob_of kept ≡ blob_of self.now) }
+        ensures { IfOk result (λ blob. blob_of blob ≡ blob_of self.now) }
     {
         Ok(MemoryBlob {
             content: self.content.clone()?,
@@ -254,24 +254,24 @@ impl MemoryBlob {
     }
 
     fn appended(&self, bytes: &[u8]) -> Result<MemoryBlob, AllocError>
-        ensures { IfOk result (λ kept. blob_of kept ≡ appended (blob_of self.now) bytes.now) }
+        ensures { IfOk result (λ blob. blob_of blob ≡ appended (blob_of self.now) bytes.now) }
     {
-        let mut kept = self.copy()?;
-        kept.content.extend_from_slice(bytes)?;
-        Ok(kept)
+        let mut copy = self.copy()?;
+        copy.content.extend_from_slice(bytes)?;
+        Ok(copy)
     }
 
     fn cut(&self, len: usize) -> Result<MemoryBlob, AllocError>
-        ensures { IfOk result (λ kept. blob_of kept ≡ cut (blob_of self.now) len) }
+        ensures { IfOk result (λ blob. blob_of blob ≡ cut (blob_of self.now) len) }
     {
-        let mut kept = self.copy()?;
-        kept.content.truncate(len);
-        kept.uncut = len.min(self.uncut);
-        Ok(kept)
+        let mut copy = self.copy()?;
+        copy.content.truncate(len);
+        copy.uncut = len.min(self.uncut);
+        Ok(copy)
     }
 
     fn flushed(&self) -> Result<MemoryBlob, AllocError>
-        ensures { IfOk result (λ kept. blob_of kept ≡ flushed (blob_of self.now)) }
+        ensures { IfOk result (λ blob. blob_of blob ≡ flushed (blob_of self.now)) }
     {
         Ok(MemoryBlob {
             content: self.content.clone()?,
@@ -402,7 +402,7 @@ impl FileFolder for MemoryFolder {
     }
 
     fn read(&mut self, name: &str) -> Result<Vec<u8>, StoreFault> {
-        let Some(file) = kept_at(&self.files, name) else {
+        let Some(file) = stored_at(&self.files, name) else {
             return Err(StoreFault::Missing);
         };
         match file.content.clone() {
@@ -416,7 +416,7 @@ impl FileFolder for MemoryFolder {
         ensures fault { IfErr result IsDeviceFault }
         ensures answers { result ≢ Err StoreFault.Refused }
     {
-        match kept_at(&self.files, name) {
+        match stored_at(&self.files, name) {
             Some(file) => Ok(edges_of(file.content.as_slice())),
             None => Err(StoreFault::Missing),
         }
@@ -428,7 +428,7 @@ impl FileFolder for MemoryFolder {
         ensures fault { IfErr result IsDeviceFault }
         ensures answers { result ≢ Err StoreFault.Refused }
     {
-        match kept_at(&self.files, name) {
+        match stored_at(&self.files, name) {
             Some(file) => Ok(read_piece(file.content.as_slice(), start, buf)),
             None => Err(StoreFault::Missing),
         }
@@ -438,14 +438,14 @@ impl FileFolder for MemoryFolder {
         ensures tells { Unit {0} → Unit {0} × TellsSize self.old name.now result self.new }
         ensures answers { result ≢ Err StoreFault.Refused }
     {
-        match kept_at(&self.files, name) {
+        match stored_at(&self.files, name) {
             Some(file) => Ok(file.content.len() as u64),
             None => Err(StoreFault::Missing),
         }
     }
 
     fn append(&mut self, name: &str, bytes: &[u8]) -> Result<(), StoreFault> {
-        let Some(file) = kept_at(&self.files, name) else {
+        let Some(file) = stored_at(&self.files, name) else {
             return Err(StoreFault::Missing);
         };
         match file.appended(bytes) {
@@ -455,7 +455,7 @@ impl FileFolder for MemoryFolder {
     }
 
     fn cut_to(&mut self, name: &str, len: u64) -> Result<(), StoreFault> {
-        let Some(file) = kept_at(&self.files, name) else {
+        let Some(file) = stored_at(&self.files, name) else {
             return Err(StoreFault::Missing);
         };
         match file.cut(len as usize) {
@@ -465,7 +465,7 @@ impl FileFolder for MemoryFolder {
     }
 
     fn flush(&mut self, name: &str) -> Result<(), StoreFault> {
-        let Some(file) = kept_at(&self.files, name) else {
+        let Some(file) = stored_at(&self.files, name) else {
             return Err(StoreFault::Missing);
         };
         match file.flushed() {

@@ -1,6 +1,7 @@
 //! The folders of a Maildir in memory.
 
-ghost use Rattle.std.specs.Prelude.{◌≡◌, ◌↔◌, ◌++◌, [], ◌∷◌, Contains, IfOk, IsTrue, OnOk, false, if◌then◌else◌, true, map, option_map, string_bytes};
+ghost use Rattle.std.specs.Prelude.{◌≡◌, ◌↔◌, ◌++◌, [], ◌∷◌, Contains, IfOk, IsTrue, OnOk};
+ghost use Rattle.std.specs.Prelude.{false, if◌then◌else◌, true, map, option_map, string_bytes};
 ghost use Rattle.mail_terms.specs.MaildirName.{base};
 ghost use Rattle.mail_store.specs.Power.{is_among};
 ghost use Rattle.folder_store.specs.MailCalls.{flushed_by, named_by};
@@ -244,7 +245,7 @@ impl StoredMail {
     }
 
     fn copy(&self) -> Result<StoredMail, AllocError>
-        ensures { IfOk result (λ kept. mail_file kept ≡ mail_file self.now) }
+        ensures { IfOk result (λ stored. mail_file stored ≡ mail_file self.now) }
     {
         Ok(StoredMail {
             is_new: self.is_new,
@@ -260,15 +261,15 @@ impl StoredMail {
 
     // The file once the names of a folder were flushed.
     fn named_by(&self, folder: Folder) -> Result<StoredMail, AllocError>
-        ensures { IfOk result (λ kept. mail_file kept ≡ named_by folder (mail_file self.now)) }
+        ensures { IfOk result (λ stored. mail_file stored ≡ named_by folder (mail_file self.now)) }
     {
-        let mut kept = self.copy()?;
-        kept.is_named = self.is_named_by(folder);
+        let mut copy = self.copy()?;
+        copy.is_named = self.is_named_by(folder);
         match folder {
-            Folder::New => kept.left_new = false,
-            Folder::Cur => kept.left_cur = false,
+            Folder::New => copy.left_new = false,
+            Folder::Cur => copy.left_cur = false,
         }
-        Ok(kept)
+        Ok(copy)
     }
 
     // Whether its bytes are on the disk once files with these stems were flushed.
@@ -280,17 +281,17 @@ impl StoredMail {
 
     // The file once those with these stems were flushed.
     fn flushed_by(&self, stems: &[String]) -> Result<StoredMail, AllocError>
-        ensures { IfOk result (λ kept. mail_file kept ≡ flushed_by stems.now (mail_file self.now)) }
+        ensures { IfOk result (λ stored. mail_file stored ≡ flushed_by stems.now (mail_file self.now)) }
     {
-        let mut kept = self.copy()?;
-        kept.is_flushed = self.is_flushed_by(stems);
-        Ok(kept)
+        let mut copy = self.copy()?;
+        copy.is_flushed = self.is_flushed_by(stems);
+        Ok(copy)
     }
 
     // The file once a reader moved it to `new`, or to `cur` with a mark.
     fn moved(&self, alloc: Global, is_new: bool) -> Result<StoredMail, AllocError>
-        ensures moves { IfOk result (λ kept. MovesFile (mail_file self.now) (mail_file kept)) }
-        ensures place { IfOk result (λ kept. kept.is_new ≡ is_new) }
+        ensures moves { IfOk result (λ stored. MovesFile (mail_file self.now) (mail_file stored)) }
+        ensures place { IfOk result (λ stored. stored.is_new ≡ is_new) }
     {
         let name = name_for(alloc, self.name.as_str(), is_new)?;
         let content = self.content.clone()?;
@@ -307,8 +308,8 @@ impl StoredMail {
     }
 
     // The file after a loss of power, all of it on the disk.
-    fn kept(&self, is_new: bool, content: Vec<u8>) -> Result<StoredMail, AllocError>
-        ensures { IfOk result (λ kept. mail_file kept ≡ left_with is_new content.items (mail_file self.now)) }
+    fn left_with(&self, is_new: bool, content: Vec<u8>) -> Result<StoredMail, AllocError>
+        ensures { IfOk result (λ stored. mail_file stored ≡ left_with is_new content.items (mail_file self.now)) }
     {
         Ok(StoredMail {
             is_new,
@@ -346,12 +347,12 @@ impl StoredMail {
         match choice {
             MailLeft::Gone if !self.is_named => Ok(None),
             MailLeft::Elsewhere if self.may_be_elsewhere() => {
-                Ok(Some(self.kept(!self.is_new, self.content.clone()?)?))
+                Ok(Some(self.left_with(!self.is_new, self.content.clone()?)?))
             }
             MailLeft::Front(len) if !self.is_flushed => {
-                Ok(Some(self.kept(self.is_new, self.front(len)?)?))
+                Ok(Some(self.left_with(self.is_new, self.front(len)?)?))
             }
-            _ => Ok(Some(self.kept(self.is_new, self.content.clone()?)?)),
+            _ => Ok(Some(self.left_with(self.is_new, self.content.clone()?)?)),
         }
     }
 }

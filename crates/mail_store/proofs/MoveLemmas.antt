@@ -272,12 +272,12 @@ Contains-map : {A B : Type 0} (f : A → B) (xs : List A) (x : A) → Contains x
 Contains-map f xs x c = (c.0, omega (arith, c.1, length-map xs f), get_or-map f xs c.0 x (f x) c.1 ∙ ap f c.2)
 
 -- names of a folder are those of files that are shown
-pub theirs_of : {Z : Type 0} (kept : TwoFolders) (folder : Folder) (names : List (String Z))
-    → IsPermutation kept.maildir.files (map shown (kept.in_new ++ kept.in_cur)) → map string_bytes names ≡ names_of (files_of_folder kept folder)
-    → AreTheirs kept.maildir.files names
+pub theirs_of : {Z : Type 0} (two : TwoFolders) (folder : Folder) (names : List (String Z))
+    → IsPermutation two.maildir.files (map shown (two.in_new ++ two.in_cur)) → map string_bytes names ≡ names_of (files_of_folder two folder)
+    → AreTheirs two.maildir.files names
 unfolding AreTheirs
-theirs_of kept folder names both told = λ k d inside.
-    let files = files_of_folder kept folder in
+theirs_of two folder names both told = λ k d inside.
+    let files = files_of_folder two folder in
     let name = string_bytes (get_or names k d) in
     let f : File = get_or files k (file [] []) in
     let count_told = ap length told in
@@ -285,15 +285,15 @@ theirs_of kept folder names both told = λ k d inside.
     let titled : f.name ≡ name =
     sym (get_or-map name_in files k (file [] []) name below) ∙ ap (λ (ns : List (List ℕ)). get_or ns k name) (sym told) ∙ get_or-map string_bytes names k d name inside in
     let there : Contains files f = (k, below, get_or_default files k f (file [] []) below) in
-    subst (λ (n : List ℕ). Contains (names_of kept.maildir.files) (base n)) titled
-    (Contains-map name_in kept.maildir.files (shown f)
-    (Contains-permutation (map shown (kept.in_new ++ kept.in_cur)) kept.maildir.files (shown f)
-    (IsPermutation-sym kept.maildir.files (map shown (kept.in_new ++ kept.in_cur)) both)
-    (Contains-map shown (kept.in_new ++ kept.in_cur) f (in_both folder f there))))
+    subst (λ (n : List ℕ). Contains (names_of two.maildir.files) (base n)) titled
+    (Contains-map name_in two.maildir.files (shown f)
+    (Contains-permutation (map shown (two.in_new ++ two.in_cur)) two.maildir.files (shown f)
+    (IsPermutation-sym two.maildir.files (map shown (two.in_new ++ two.in_cur)) both)
+    (Contains-map shown (two.in_new ++ two.in_cur) f (in_both folder f there))))
   where
-    in_both : (folder : Folder) (f : File) → Contains (files_of_folder kept folder) f → Contains (kept.in_new ++ kept.in_cur) f
-    in_both New f c = Contains-append_left kept.in_new kept.in_cur f c
-    in_both Cur f c = Contains-append_right kept.in_new kept.in_cur f c
+    in_both : (folder : Folder) (f : File) → Contains (files_of_folder two folder) f → Contains (two.in_new ++ two.in_cur) f
+    in_both New f c = Contains-append_left two.in_new two.in_cur f c
+    in_both Cur f c = Contains-append_right two.in_new two.in_cur f c
 
 bases : {Z : Type 0} (names : List (String Z)) → bases_told names ≡ map base (map string_bytes names)
 bases [] = refl

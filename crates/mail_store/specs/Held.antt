@@ -1,5 +1,6 @@
 -- What `held` answers for a Maildir.
-use Rattle.std.specs.Prelude.{◌≡◌, ℕ, List, map, Bool, true, false, Result, Ok, Err, Vec, ◌⊎◌, ◌∷◌, ◌++◌, bytes_eq, String, string_bytes, Contains, HoldsAt, ◌<◌}
+use Rattle.std.specs.Prelude.{◌≡◌, ℕ, List, map, Bool, true, false, Result, Ok, Err, Vec, ◌⊎◌}
+use Rattle.std.specs.Prelude.{◌∷◌, ◌++◌, bytes_eq, String, string_bytes, Contains, HoldsAt, ◌<◌}
 use Rattle.std.specs.List.{list_any}
 use Rattle.std.specs.Borrow.{Bor}
 use Rattle.std.specs.BTreeSet.{BTreeSet, contains_by}

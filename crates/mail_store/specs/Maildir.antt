@@ -1,6 +1,7 @@
 -- What each call of a Maildir device does, for either outcome, as a relation between the Maildir
 -- before and after the call.
-use Rattle.std.specs.Prelude.{◌≡◌, ℕ, ◌+◌, List, [], ◌∷◌, ◌++◌, map, Bool, false, true, Option, Some, None, option_map, Result, Ok, Err, ◌⊎◌, Vec, String, string_bytes, IsPermutation, Contains, All}
+use Rattle.std.specs.Prelude.{◌≡◌, ℕ, ◌+◌, List, [], ◌∷◌, ◌++◌, map, Bool, false, true, Option, Some, None, option_map}
+use Rattle.std.specs.Prelude.{Result, Ok, Err, ◌⊎◌, Vec, String, string_bytes, IsPermutation, Contains, All}
 use Rattle.mail_terms.specs.MaildirName.{base}
 use Rattle.mail_store.specs.declared.fault.StoreFault.{StoreFault}
 use Rattle.mail_store.specs.declared.fault.StoreFault.TheVariants.{Missing, Refused, NotMbox, NoMemory}

@@ -1,5 +1,6 @@
 -- What is known of a Maildir in memory, and what its calls in a reader's place do.
-use Rattle.std.specs.Prelude.{◌≡◌, ℕ, suc, ◌<◌, List, [], ◌∷◌, length, Bool, true, false, insert, remove, Result, Ok, Err, ◌⊎◌, Contains, HoldsAt}
+use Rattle.std.specs.Prelude.{◌≡◌, ℕ, suc, ◌<◌, List, [], ◌∷◌, length, Bool, true, false}
+use Rattle.std.specs.Prelude.{insert, remove, Result, Ok, Err, ◌⊎◌, Contains, HoldsAt}
 use Rattle.mail_store.specs.declared.maildir.disk.Folder.{Folder}
 use Rattle.mail_store.specs.declared.maildir.disk.Folder.TheVariants.{New, Cur}
 use Rattle.mail_store.specs.Maildir.{Maildir, File, file, mail, names_of}

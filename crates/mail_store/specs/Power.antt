@@ -1,5 +1,6 @@
 -- What outlives a loss of power, as each device defines it.
-use Rattle.std.specs.Prelude.{◌≡◌, ◌⊎◌, ◌<◌, ℕ, List, ◌++◌, bytes_eq, length, take, Bool, true, Option, Some, option_map, Result, Ok, Err, Vec, String, string_bytes, Contains, filter}
+use Rattle.std.specs.Prelude.{◌≡◌, ◌⊎◌, ◌<◌, ℕ, List, ◌++◌, bytes_eq, length, take, Bool, true, Option}
+use Rattle.std.specs.Prelude.{Some, option_map, Result, Ok, Err, Vec, String, string_bytes, Contains, filter}
 use Rattle.std.specs.List.{list_any}
 use Rattle.mail_store.specs.declared.fault.StoreFault.{StoreFault}
 use Rattle.mail_store.specs.declared.fault.StoreFault.TheVariants.{Missing, Refused, NotMbox, NoMemory}

@@ -1,6 +1,7 @@
 -- The listing of a maildrop: the rows of UIDL and of LIST, joined by their numbers (RFC 1939,
 -- sections 5 and 7).
-use Rattle.std.specs.Prelude.{◌≡◌, ℕ, ◌<◌, ◌-◌, Bool, not, ◌&&◌, List, length, map, take, drop, zip, bytes_eq, slice_index, slice_index_or, All, HoldsAt}
+use Rattle.std.specs.Prelude.{◌≡◌, ℕ, ◌<◌, ◌-◌, Bool, not, ◌&&◌, List, length, map, take}
+use Rattle.std.specs.Prelude.{drop, zip, bytes_eq, slice_index, slice_index_or, All, HoldsAt}
 use Rattle.std.specs.List.{list_any, enumerate_from}
 use Rattle.mail_terms.specs.Distinct.{AreDistinct}
 use Rattle.mail_terms.specs.Numbering.{IsNumbering}

@@ -20,7 +20,7 @@ use Rattle.pop3_client.specs.Conversation.{Opened}
 use Rattle.pop3_wire.specs.Reading.{IsUidLine, IsScanLine}
 use Rattle.pop3_client.specs.Listing.{Listed, GetsListing, ListsRows, RowBehind, RowCause, RowsCause, NotTaken, TakesRows}
 use Rattle.pop3_client.proofs.MostLemmas.{lines_within}
-use Rattle.pop3_client.proofs.TalkLemmas.{append_on, drew_of, goes_on, line_short, line_waits, talked_on, talked_body, not_answered_behind, begins_of}
+use Rattle.pop3_client.proofs.TalkLemmas.{append_on, drew_of, goes_further, line_short, line_waits, talked_on, talked_body, not_answered_behind, begins_of}
 
 -- what holds of both listings
 by_listing : (P : Turn → Type 0) → P uidl → P list → (turn : Turn) → IsListing turn → P turn
@@ -34,7 +34,7 @@ pub record TookRows {R : Type 0} (turn : Turn) (StandsFor : List ℕ → R → T
   pub has : HasRows turn (old.waiting ++ gained) new.waiting lines
   pub read : AllZip StandsFor lines rows
   pub drew : Drew old.link new.link gained
-  pub steady : GoesOn old.link new.link
+  pub goes_on : GoesOn old.link new.link
 
 drew_on : (a b c : Link) (g h : List ℕ) → Drew a b g → Drew b c h → Drew a c (g ++ h)
 drew_on a b c g h first then = record {
@@ -49,7 +49,7 @@ took_none turn StandsFor place listing = record {
   has = record { listing = listing; content = tt; short = tt; rows = tt; few = omega arith; whole = append-nil place.waiting };
   read = tt;
   drew = record { got = sym (append-nil place.link.got); sent = refl };
-  steady = record { ended = refl; failures = refl };
+  goes_on = record { ended = refl; failures = refl };
 }
 
 all_push : (P : List ℕ → Type 0) (lines : List (List ℕ)) (line : List ℕ) → AllByRecursion P lines → P line → AllByRecursion P (lines ++ line ∷ [])
@@ -75,13 +75,13 @@ module _ {R : Type 0} (turn : Turn) (StandsFor : List ℕ → R → Type 0) (old
   }
 
   pub took_on : (new : Place) (more : List ℕ) → Gains here new more → GoesOn here.link new.link → TookRows turn StandsFor old new rows
-  took_on new more gains steady = record {
+  took_on new more gains onward = record {
     lines = now.lines;
     gained = now.gained ++ more;
     has = more_waits new more gains;
     read = now.read;
     drew = drew_on old.link here.link new.link now.gained more now.drew (drew_of here new more gains);
-    steady = goes_on old.link here.link new.link now.steady steady;
+    goes_on = goes_further old.link here.link new.link now.goes_on onward;
   }
 
   -- one more row was taken
@@ -100,7 +100,7 @@ module _ {R : Type 0} (turn : Turn) (StandsFor : List ℕ → R → Type 0) (old
     };
     read = zip_push StandsFor now.lines rows line row now.read read;
     drew = now.drew;
-    steady = now.steady;
+    goes_on = now.goes_on;
   }
 
   -- a row waits that wasn't taken
@@ -134,7 +134,7 @@ module _ {R : Type 0} (turn : Turn) (StandsFor : List ℕ → R → Type 0) (old
 
       by : (f : ClientFault) → RowCause f n here.link new.link new.waiting → RowsCause f turn old.link new.link (old.waiting ++ (now.gained ++ more))
       by ConnectionEnded w = (w.0, (new.waiting, now.lines, has, w.1))
-      by ReadFailed w = (subst (λ (k : ℕ). k < new.link.failures) now.steady.failures w.0, (new.waiting, now.lines, has, w.1))
+      by ReadFailed w = (subst (λ (k : ℕ). k < new.link.failures) now.goes_on.failures w.0, (new.waiting, now.lines, has, w.1))
       by ReplyTooLong w = (new.waiting, now.lines, has, w)
       by TooMany w = (
         w.0,
@@ -152,12 +152,12 @@ module _ {R : Type 0} (turn : Turn) (StandsFor : List ℕ → R → Type 0) (old
   -- the end mark was taken
   pub rows_end : (new : Place) (more : List ℕ) → Drew here.link new.link more → GoesOn here.link new.link → here.waiting ++ more ≡ ended dot ++ new.waiting
       → TakesRows turn StandsFor old (Ok rows) new
-  rows_end new more drew steady heard = (
+  rows_end new more drew onward heard = (
     now.lines,
     record {
       gained = now.gained ++ more;
       drew = drew_on old.link here.link new.link now.gained more now.drew drew;
-      steady = goes_on old.link here.link new.link now.steady steady;
+      goes_on = goes_further old.link here.link new.link now.goes_on onward;
       content = now.has.content;
       fit = by_listing (λ t. AllByRecursion (IsRow t) now.lines → LinesFit t now.lines) (λ rows. (now.has.few, now.has.short, rows)) (λ rows. (now.has.few, now.has.short, rows)) turn now.has.listing now.has.rows;
       heard = append_on old.waiting now.gained (flat_map ended now.lines) here.waiting more now.has.whole ∙ simp (heard, append_assoc);
@@ -204,7 +204,7 @@ pub lists_of : {R : Type 0} (turn : Turn) (IsThisRow : List ℕ → R → Type 0
     → Opened turn line old mid → IsListing turn → TakesRows turn IsThisRow mid result new → ListsRows turn IsThisRow old result new
 lists_of turn IsThisRow line old mid new (Ok rows) begun listing takes = (
   record { first = line; body = Some takes.0 },
-  talked_body turn line old mid new takes.0 takes.1.gained begun takes.1.drew takes.1.steady takes.1.heard (takes.1.content, takes.1.fit),
+  talked_body turn line old mid new takes.0 takes.1.gained begun takes.1.drew takes.1.goes_on takes.1.heard (takes.1.content, takes.1.fit),
   (takes.0, refl, takes.2),
 )
 lists_of turn IsThisRow line old mid new (Err fault) begun listing takes =

@@ -55,7 +55,7 @@ pub opened : (turn : Turn) (old : Place) (said : Link) (mid : Place) (gained : L
     → HasLine line_limit mid.waiting n → GoesOn said mid.link
     → IsFirstLine (take n mid.waiting) Positive rest → Fits turn rest
     → Opened turn (take n mid.waiting) old (at mid.link (drop (n + 2) mid.waiting))
-opened turn old said mid gained n rest is gains has steady positive fits =
+opened turn old said mid gained n rest is gains has onward positive fits =
     record {
       gained = gained;
       rest = rest;
@@ -66,9 +66,9 @@ opened turn old said mid gained n rest is gains has steady positive fits =
       short = line_short n mid.waiting has;
       positive = positive;
       fits = fits;
-      steady = record {
-        ended = steady.ended ∙ ap (λ (l : Link). l.ended) is;
-        failures = steady.failures ∙ ap (λ (l : Link). l.failures) is;
+      goes_on = record {
+        ended = onward.ended ∙ ap (λ (l : Link). l.ended) is;
+        failures = onward.failures ∙ ap (λ (l : Link). l.failures) is;
       };
     }
 
@@ -179,8 +179,8 @@ few_heard fault said mid gained n gains has why =
 
 -- ---- turns in a row
 
-pub goes_on : (a b c : Link) → GoesOn a b → GoesOn b c → GoesOn a c
-goes_on a b c first then = record { ended = then.ended ∙ first.ended; failures = then.failures ∙ first.failures }
+pub goes_further : (a b c : Link) → GoesOn a b → GoesOn b c → GoesOn a c
+goes_further a b c first then = record { ended = then.ended ∙ first.ended; failures = then.failures ∙ first.failures }
 
 pub talked_none : (place : Place) → Talked [] [] place place
 talked_none place = record {
@@ -189,7 +189,7 @@ talked_none place = record {
   got = sym (append-nil place.link.got);
   heard = append-nil place.waiting;
   good = tt;
-  steady = record { ended = refl; failures = refl };
+  goes_on = record { ended = refl; failures = refl };
 }
 
 good_on : (xs ys : List Turn) (ls ms : List WholeReply) → AllZip IsGood xs ls → AllZip IsGood ys ms → AllZip IsGood (xs ++ ys) (ls ++ ms)
@@ -204,7 +204,7 @@ talked_on xs ys ls ms a b c first then = record {
   got = simp (then.got, first.got, append_assoc);
   heard = append_on a.waiting first.gained (flat_map reply_bytes ls) b.waiting then.gained first.heard ∙ simp (then.heard, flat_map-append, append_assoc);
   good = good_on xs ys ls ms first.good then.good;
-  steady = goes_on a.link b.link c.link first.steady then.steady;
+  goes_on = goes_further a.link b.link c.link first.goes_on then.goes_on;
 }
 
 -- a reply of one line
@@ -216,20 +216,20 @@ talked_line turn line old new begun none = record {
   got = begun.got;
   heard = begun.heard ∙ ap (λ (s : List ℕ). s ++ new.waiting) (sym (append-nil (ended line ++ []) ∙ append-nil (ended line)));
   good = (record { rest = begun.rest; line = begun.is; short = begun.short; positive = begun.positive; fits = begun.fits; body = none }, tt);
-  steady = begun.steady;
+  goes_on = begun.goes_on;
 }
 
 -- a reply with a body
 pub talked_body : (turn : Turn) (line : List ℕ) (old mid new : Place) (lines : List (List ℕ)) (gained : List ℕ) → Opened turn line old mid
     → Drew mid.link new.link gained → GoesOn mid.link new.link → mid.waiting ++ gained ≡ body_of lines ++ new.waiting
     → IsBody turn (Some lines) → Talked (turn ∷ []) (record { first = line; body = Some lines } ∷ []) old new
-talked_body turn line old mid new lines gained begun drew steady heard is = record {
+talked_body turn line old mid new lines gained begun drew onward heard is = record {
   gained = begun.gained ++ gained;
   sent = drew.sent ∙ begun.sent ∙ ap (λ (s : List ℕ). old.link.sent ++ s) (sym (append-nil (turn_bytes turn)));
   got = simp (drew.got, begun.got, append_assoc);
   heard = append_on old.waiting begun.gained (ended line) mid.waiting gained begun.heard ∙ simp (heard, append-nil, append_assoc);
   good = (record { rest = begun.rest; line = begun.is; short = begun.short; positive = begun.positive; fits = begun.fits; body = is }, tt);
-  steady = goes_on old.link mid.link new.link begun.steady steady;
+  goes_on = goes_further old.link mid.link new.link begun.goes_on onward;
 }
 
 -- a turn broke after its good first line
@@ -245,7 +245,7 @@ not_answered_behind turn line old mid new gained used fault begun drew why rest 
       got = simp (drew.got, begun.got, append_assoc);
       heard = heard ∙ simp (rest, append_assoc);
       within = omega (arith, length-append {A = ℕ}, begun.short);
-      cause = cause_since fault turn old.link mid.link new.link (old.waiting ++ (begun.gained ++ gained)) begun.steady.failures (rw heard why);
+      cause = cause_since fault turn old.link mid.link new.link (old.waiting ++ (begun.gained ++ gained)) begun.goes_on.failures (rw heard why);
       takes = takes_other fault (ended line ++ used) other;
     }
 

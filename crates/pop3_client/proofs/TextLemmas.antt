@@ -28,7 +28,7 @@ pub fetched : (number : ℕ) (old new : Place) (body : Rest) (text : List ℕ) �
 fetched number old new body text now done =
     let is : Body now.under.used text = subst (λ (s : Spot). Reaches s now.under.used text) done now.under.reached in (
       record { first = now.line; body = Some is.lines },
-      talked_body (retr number) now.line old now.mid new is.lines now.under.gained now.opened now.under.drew now.under.steady
+      talked_body (retr number) now.line old now.mid new is.lines now.under.gained now.opened now.under.drew now.under.goes_on
           (now.under.heard ∙ ap (λ (b : List ℕ). b ++ new.waiting) is.whole) (is.content, omega (arith, now.under.sizes, ap length is.whole)),
       is.read,
     )

@@ -10,7 +10,8 @@ use Rattle.pop3_wire.specs.Link.{Link}
 use Rattle.pop3_wire.specs.Place.{HasNoLine}
 use Rattle.pop3_wire.specs.declared.command.Command.TheVariants.{UidlAll, ListAll, Retr}
 use Rattle.pop3_client.specs.declared.fault.ClientFault.{ClientFault}
-use Rattle.pop3_client.specs.declared.fault.ClientFault.TheVariants.{ConnectionEnded, ReadFailed, WriteFailed, ReplyTooLong, BadReply, Refused, BadListing, ListingsDisagree, TooMany, TextTooLong, NoMemory}
+use Rattle.pop3_client.specs.declared.fault.ClientFault.TheVariants.{ConnectionEnded, ReadFailed, WriteFailed, ReplyTooLong, BadReply}
+use Rattle.pop3_client.specs.declared.fault.ClientFault.TheVariants.{Refused, BadListing, ListingsDisagree, TooMany, TextTooLong, NoMemory}
 use Rattle.mail_terms.specs.Listing.{message_limit}
 use Rattle.pop3_client.specs.Turns.{Turn, Names, gives_count, retr, line_limit, text_limit, IsShort, IsListing, IsRow}
 

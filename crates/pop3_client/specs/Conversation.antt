@@ -1,6 +1,7 @@
 -- A conversation: turns and the replies to them, whole and in order, or the turn at which it stopped (RFC
 -- 1939, section 3).
-use Rattle.std.specs.Prelude.{◌≡◌, ◌⊎◌, ◌+◌, ◌<◌, ◌≤◌, ℕ, Bool, true, false, List, [], ◌∷◌, ◌++◌, length, take, None, Some, Result, Ok, Err, IsOk}
+use Rattle.std.specs.Prelude.{◌≡◌, ◌⊎◌, ◌+◌, ◌<◌, ◌≤◌, ℕ, Bool, true, false, List, []}
+use Rattle.std.specs.Prelude.{◌∷◌, ◌++◌, length, take, None, Some, Result, Ok, Err, IsOk}
 use Rattle.std.specs.List.{flat_map, AllZip}
 use Rattle.pop3_wire.specs.Line.{IsLine, ended}
 use Rattle.pop3_wire.specs.Reply.{IsFirstLine}
@@ -11,8 +12,10 @@ use Rattle.pop3_wire.specs.Fields.{number_and_size}
 use Rattle.pop3_wire.specs.Link.{Link}
 use Rattle.pop3_wire.specs.Place.{Place, GoesOn, Gains, HasLine}
 use Rattle.pop3_client.specs.declared.fault.ClientFault.{ClientFault}
-use Rattle.pop3_client.specs.declared.fault.ClientFault.TheVariants.{ConnectionEnded, ReadFailed, WriteFailed, ReplyTooLong, BadReply, Refused, TooMany, NoMemory}
-use Rattle.pop3_client.specs.Turns.{Turn, turn_bytes, asking, greeting, user, pass, stat, rset, quit, line_limit, IsShort, most, Fits, IsGood}
+use Rattle.pop3_client.specs.declared.fault.ClientFault.TheVariants.{ConnectionEnded, ReadFailed, WriteFailed, ReplyTooLong}
+use Rattle.pop3_client.specs.declared.fault.ClientFault.TheVariants.{BadReply, Refused, TooMany, NoMemory}
+use Rattle.pop3_client.specs.Turns.{Turn, turn_bytes, asking, greeting, user, pass, stat}
+use Rattle.pop3_client.specs.Turns.{rset, quit, line_limit, IsShort, most, Fits, IsGood}
 use Rattle.mail_terms.specs.Listing.{message_limit}
 use Rattle.pop3_client.specs.Causes.{IsPartOfLine, IsOverlong, Cause}
 
@@ -24,7 +27,7 @@ pub record Talked (turns : List Turn) (replies : List WholeReply) (old new : Pla
   pub got : new.link.got ≡ old.link.got ++ gained
   pub heard : old.waiting ++ gained ≡ flat_map reply_bytes replies ++ new.waiting
   pub good : AllZip IsGood turns replies
-  pub steady : GoesOn old.link new.link
+  pub goes_on : GoesOn old.link new.link
 
 -- the turn was sent, and its first line was taken, which is positive and fits the turn
 pub record Opened (turn : Turn) (line : List ℕ) (old new : Place) : Type 0 where
@@ -37,7 +40,7 @@ pub record Opened (turn : Turn) (line : List ℕ) (old new : Place) : Type 0 whe
   pub short : IsShort line
   pub positive : IsFirstLine line Positive rest
   pub fits : Fits turn rest
-  pub steady : GoesOn old.link new.link
+  pub goes_on : GoesOn old.link new.link
 
 -- whether memory may run out before the turn: not for a constant line, nor for USER and PASS, whose lines are
 -- made before the greeting

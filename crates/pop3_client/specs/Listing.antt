@@ -11,7 +11,8 @@ use Rattle.mail_terms.specs.Listing.{Item, Agree, Joins, message_limit}
 use Rattle.mail_terms.specs.declared.listing.UidRow.{UidRow}
 use Rattle.mail_terms.specs.declared.listing.ScanRow.{ScanRow}
 use Rattle.pop3_client.specs.declared.fault.ClientFault.{ClientFault}
-use Rattle.pop3_client.specs.declared.fault.ClientFault.TheVariants.{ConnectionEnded, ReadFailed, ReplyTooLong, BadListing, ListingsDisagree, TooMany, NoMemory}
+use Rattle.pop3_client.specs.declared.fault.ClientFault.TheVariants.{ConnectionEnded, ReadFailed, ReplyTooLong}
+use Rattle.pop3_client.specs.declared.fault.ClientFault.TheVariants.{BadListing, ListingsDisagree, TooMany, NoMemory}
 use Rattle.pop3_client.specs.Turns.{Turn, uidl, list, line_limit, IsShort, IsRow, LinesFit}
 use Rattle.pop3_client.specs.Causes.{IsPartOfListing, HasRows, IsOverlong}
 use Rattle.pop3_client.specs.Conversation.{NoLineCause, Talked, Stopped, Broke}
@@ -79,7 +80,7 @@ RowsCause _ turn old new after = ⊥
 pub record TookLines (turn : Turn) (old new : Place) (lines : List (List ℕ)) : Type 0 where
   pub gained : List ℕ
   pub drew : Drew old.link new.link gained
-  pub steady : GoesOn old.link new.link
+  pub goes_on : GoesOn old.link new.link
   pub content : AllByRecursion IsContent lines
   pub fit : LinesFit turn lines
   pub heard : old.waiting ++ gained ≡ body_of lines ++ new.waiting

@@ -12,7 +12,9 @@ use Rattle.pop3_wire.specs.Commands.{line_of}
 use Rattle.pop3_wire.specs.declared.command.Command.{Command}
 use Rattle.pop3_wire.specs.declared.command.Command.TheVariants.{User, Pass, Stat, UidlAll, ListAll, Retr, Dele, Rset, Quit}
 use Rattle.pop3_client.specs.declared.fault.Asked.{Asked}
-use Rattle.pop3_client.specs.declared.fault.Asked.TheVariants.{Greeting as ByGreeting, User as ByUser, Pass as ByPass, Stat as ByStat, Uidl as ByUidl, Retr as ByRetr, Dele as ByDele, Rset as ByRset, Quit as ByQuit, List as ByList}
+use Rattle.pop3_client.specs.declared.fault.Asked.TheVariants.{Greeting as ByGreeting, User as ByUser, Pass as ByPass}
+use Rattle.pop3_client.specs.declared.fault.Asked.TheVariants.{Stat as ByStat, Uidl as ByUidl, Retr as ByRetr, Dele as ByDele}
+use Rattle.pop3_client.specs.declared.fault.Asked.TheVariants.{Rset as ByRset, Quit as ByQuit, List as ByList}
 
 -- a turn: the command that is sent, or none for the greeting
 abbrev pub Turn : Type 0

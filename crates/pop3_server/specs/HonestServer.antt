@@ -2,7 +2,8 @@
 use Rattle.std.specs.Prelude.{◌≡◌, ◌⊎◌, ℕ, Bool, true, List, [], ◌∷◌, ◌++◌, map, None}
 use Rattle.std.specs.List.{flat_map, AllByRecursion}
 use Rattle.pop3_wire.specs.declared.command.Command.{Command}
-use Rattle.pop3_wire.specs.declared.command.Command.TheVariants.{User, Pass, Stat, UidlAll, UidlOne, ListAll, ListOne, Retr, Dele, Rset, Noop, Top, Quit}
+use Rattle.pop3_wire.specs.declared.command.Command.TheVariants.{User, Pass, Stat, UidlAll, UidlOne, ListAll}
+use Rattle.pop3_wire.specs.declared.command.Command.TheVariants.{ListOne, Retr, Dele, Rset, Noop, Top, Quit}
 use Rattle.pop3_wire.specs.Line.{ended}
 use Rattle.pop3_wire.specs.Commands.{line_of, can_be_sent}
 use Rattle.pop3_wire.specs.CommandLine.{HasNumbers}

@@ -1,5 +1,6 @@
 -- A maildrop: what is known of it, and what each call does to it.
-use Rattle.std.specs.Prelude.{◌≡◌, ◌⊎◌, ◌≤◌, ℕ, ◌+◌, length, take, drop, Bool, true, false, List, [], ◌∷◌, map, Option, Some, None, Result, Ok, Err, Vec, slice_get, slice_set}
+use Rattle.std.specs.Prelude.{◌≡◌, ◌⊎◌, ◌≤◌, ℕ, ◌+◌, length, take, drop, Bool, true, false, List, []}
+use Rattle.std.specs.Prelude.{◌∷◌, map, Option, Some, None, Result, Ok, Err, Vec, slice_get, slice_set}
 use Rattle.mail_terms.specs.FailureCount.{counted_up}
 use Rattle.pop3_wire.specs.World.{Message}
 use Rattle.pop3_server.specs.declared.maildrop.DropFault.{DropFault}

@@ -26,7 +26,7 @@ under_way_none limit place = record {
   sizes = omega arith;
   heard = append-nil place.waiting;
   drew = record { got = sym (append-nil place.link.got); sent = refl };
-  steady = record { ended = refl; failures = refl };
+  goes_on = record { ended = refl; failures = refl };
 }
 
 pub drew_on : (a b c : Link) (g h : List ℕ) → Drew a b g → Drew b c h → Drew a c (g ++ h)
@@ -36,8 +36,8 @@ drew_on a b c g h first then =
       sent = then.sent ∙ first.sent;
     }
 
-pub goes_on : (a b c : Link) → GoesOn a b → GoesOn b c → GoesOn a c
-goes_on a b c first then = record { ended = then.ended ∙ first.ended; failures = then.failures ∙ first.failures }
+pub goes_further : (a b c : Link) → GoesOn a b → GoesOn b c → GoesOn a c
+goes_further a b c first then = record { ended = then.ended ∙ first.ended; failures = then.failures ∙ first.failures }
 
 pub heard_on : (w gained more used waits : List ℕ) (n : ℕ) → w ++ gained ≡ used ++ waits
     → w ++ (gained ++ more) ≡ (used ++ take n (waits ++ more)) ++ drop n (waits ++ more)
@@ -51,7 +51,7 @@ pub cause_of_nothing : (fault : BodyFault) (limit left : ℕ) (spot : Spot) (a b
     → Reaches spot used text → spot ≢ Done → length used + left ≡ limit → 0 < left → w ++ gained ≡ used ++ []
     → Drew a b gained → GoesOn a b → DrawsNothing fault b c
     → Drew a c gained × BodyCause limit fault a c (w ++ gained)
-cause_of_nothing fault limit left spot a b c w gained used text reached other sizes some heard drew steady nothing = cause fault nothing
+cause_of_nothing fault limit left spot a b c w gained used text reached other sizes some heard drew onward nothing = cause fault nothing
   where
     all : w ++ gained ≡ used
     all = heard ∙ append-nil used
@@ -66,8 +66,8 @@ cause_of_nothing fault limit left spot a b c w gained used text reached other si
     drawn l e then = subst (Drew a c) e (drew_on a b c gained [] drew then)
 
     cause : (f : BodyFault) → DrawsNothing f b c → Drew a c gained × BodyCause limit f a c (w ++ gained)
-    cause Ended n = (drawn gained (append-nil gained) n.0, (none, short, n.1, n.2 ∙ steady.failures))
-    cause Failed n = (drawn gained (append-nil gained) n.0, (none, short, n.1 ∙ steady.ended, n.2 ∙ ap (λ (k : ℕ). k + 1) steady.failures))
+    cause Ended n = (drawn gained (append-nil gained) n.0, (none, short, n.1, n.2 ∙ onward.failures))
+    cause Failed n = (drawn gained (append-nil gained) n.0, (none, short, n.1 ∙ onward.ended, n.2 ∙ ap (λ (k : ℕ). k + 1) onward.failures))
     cause TooLong n = absurd n
 
 -- the limit was reached before the body ended
@@ -86,7 +86,7 @@ pub under_way_on : (limit : ℕ) (old : Place) (link : Link) (waits : List ℕ) 
     → n ≤ body.left → n ≤ length waits1 → waits2 ≡ drop n waits1
     → ((bytes known : List ℕ) → Reaches body.spot bytes known → Reaches spot' (bytes ++ take n waits1) (known ++ put))
     → UnderWay limit old (at link' waits2) (rest_of spot' (body.left - n)) (text ++ put)
-under_way_on limit old link waits body text now link' more waits1 waits2 n spot' put drawn drew steady small fits rest reaches =
+under_way_on limit old link waits body text now link' more waits1 waits2 n spot' put drawn drew onward small fits rest reaches =
     record {
       used = now.used ++ take n waits1;
       gained = now.gained ++ more;
@@ -95,7 +95,7 @@ under_way_on limit old link waits body text now link' more waits1 waits2 n spot'
       heard = subst (λ (l : List ℕ). old.waiting ++ (now.gained ++ more) ≡ (now.used ++ take n l) ++ drop n l) (sym drawn) (heard_on old.waiting now.gained more now.used waits n now.heard)
           ∙ ap (λ (l : List ℕ). (now.used ++ take n waits1) ++ l) (sym rest);
       drew = drew_on old.link link link' now.gained more now.drew drew;
-      steady = goes_on old.link link link' now.steady steady;
+      goes_on = goes_further old.link link link' now.goes_on onward;
     }
   where
     sizes : length (now.used ++ take n waits1) + (body.left - n) ≡ limit
@@ -111,7 +111,7 @@ pub under_way_ends : (limit : ℕ) (old : Place) (link : Link) (waits : List ℕ
     → LeavesRest limit old (at link' waits') × ((gained : List ℕ) × Drew old.link link' gained × BodyCause limit fault old.link link' (old.waiting ++ gained))
 under_way_ends limit old link waits body text now other some fault link' waits' none none' nothing =
     let cause = cause_of_nothing fault limit body.left body.spot old.link link link' old.waiting now.gained now.used text
-    now.reached other now.sizes some (now.heard ∙ ap (λ (l : List ℕ). now.used ++ l) none) now.drew now.steady nothing in
+    now.reached other now.sizes some (now.heard ∙ ap (λ (l : List ℕ). now.used ++ l) none) now.drew now.goes_on nothing in
     let sizes : length now.used + body.left ≡ limit = now.sizes in (
       record { gained = now.gained; used = now.used; got = cause.0.got; within = omega arith; heard = now.heard ∙ ap (λ (l : List ℕ). now.used ++ l) (none ∙ sym none') },
       (now.gained, cause.0, cause.1),
@@ -124,4 +124,4 @@ under_way_too_long limit old new body text now other none =
     let sizes : length now.used + body.left ≡ limit = now.sizes in
     let whole : length now.used ≡ limit = omega arith in
     let cause = cause_of_limit limit body.spot old.waiting now.gained now.used new.waiting text now.reached other whole now.heard in
-    (leaves limit old new body text now, (now.gained, now.drew, (cause.0, cause.1, now.steady)))
+    (leaves limit old new body text now, (now.gained, now.drew, (cause.0, cause.1, now.goes_on)))

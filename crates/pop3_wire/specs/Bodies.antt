@@ -53,7 +53,7 @@ pub record UnderWay (limit : ℕ) (old new : Place) (body : Rest) (text : List �
   pub sizes : length used + body.left ≡ limit
   pub heard : old.waiting ++ gained ≡ used ++ new.waiting
   pub drew : Drew old.link new.link gained
-  pub steady : GoesOn old.link new.link
+  pub goes_on : GoesOn old.link new.link
 
 -- the next piece of that body was added to the known text; or there is none, for this cause
 abbrev pub TakesPiece : ℕ → Place → List ℕ → Result Piece BodyFault → List ℕ → Place → Rest → Type 0

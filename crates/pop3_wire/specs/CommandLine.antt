@@ -1,11 +1,13 @@
 -- The command that a line asks for, or why it asks for none (RFC 1939, sections 3 and 5 to 7).
-use Rattle.std.specs.Prelude.{◌≡◌, ◌<◌, ◌^◌, true, ℕ, List, [], ◌∷◌, ◌-◌, if◌then◌else◌, nat_lt, nat_le, length, take, drop, codes, Option, Some, None, Result, Ok, Err}
+use Rattle.std.specs.Prelude.{◌≡◌, ◌<◌, ◌^◌, true, ℕ, List, [], ◌∷◌, ◌-◌, if◌then◌else◌, nat_lt}
+use Rattle.std.specs.Prelude.{nat_le, length, take, drop, codes, Option, Some, None, Result, Ok, Err}
 use Rattle.std.specs.List.{before_first, after_first, slice_split, suffix_len}
 use Rattle.std.specs.Str.{str_eq_ignore_ascii_case}
 use Rattle.pop3_wire.specs.declared.fault.WireFault.{WireFault}
 use Rattle.pop3_wire.specs.declared.fault.WireFault.TheVariants.{BadNumber, BadCommand, BadArgument}
 use Rattle.pop3_wire.specs.declared.command.Command.{Command}
-use Rattle.pop3_wire.specs.declared.command.Command.TheVariants.{User, Pass, Stat, UidlAll, UidlOne, ListAll, ListOne, Retr, Dele, Rset, Noop, Top, Quit}
+use Rattle.pop3_wire.specs.declared.command.Command.TheVariants.{User, Pass, Stat, UidlAll, UidlOne, ListAll}
+use Rattle.pop3_wire.specs.declared.command.Command.TheVariants.{ListOne, Retr, Dele, Rset, Noop, Top, Quit}
 use Rattle.pop3_wire.specs.declared.keyword.Keyword.{Keyword}
 use Rattle.pop3_wire.specs.declared.keyword.Keyword.TheVariants as keyword
 use Rattle.mail_terms.specs.Credential.{is_credential}

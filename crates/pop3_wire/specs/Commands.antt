@@ -3,7 +3,8 @@ use Rattle.std.specs.Prelude.{ℕ, Bool, true, List, ◌++◌, codes, decimal, f
 use Rattle.mail_terms.specs.Credential.{is_credential}
 use Rattle.pop3_wire.specs.Line.{ended}
 use Rattle.pop3_wire.specs.declared.command.Command.{Command}
-use Rattle.pop3_wire.specs.declared.command.Command.TheVariants.{User, Pass, Stat, UidlAll, UidlOne, ListAll, ListOne, Retr, Dele, Rset, Noop, Top, Quit}
+use Rattle.pop3_wire.specs.declared.command.Command.TheVariants.{User, Pass, Stat, UidlAll, UidlOne, ListAll}
+use Rattle.pop3_wire.specs.declared.command.Command.TheVariants.{ListOne, Retr, Dele, Rset, Noop, Top, Quit}
 
 -- the command can be sent
 abbrev pub can_be_sent : Command → Bool

@@ -17,7 +17,7 @@ use std::random::RandomSource;
 use std::rt::{Clock, Files};
 use std::thread;
 use std::time::Duration;
-use trace::{System, Told, TracedWire};
+use trace::{Answered, System, TracedWire};
 
 /// How long the server waits after a connection that couldn't be accepted: without a free descriptor,
 /// the next one can't be accepted at once either.
@@ -41,8 +41,8 @@ where
     ensures { is_open server.new.state ≡ true → (D.mail server.new.drop).removals ≡ (D.mail server.old.drop).removals }
 {
     let (alloc, refusals) = (system.alloc(), system.refusals);
-    let reader = Told::new(alloc, input.0, input.1, refusals);
-    let writer = Told::new(alloc, output.0, output.1, refusals);
+    let reader = Answered::new(alloc, input.0, input.1, refusals);
+    let writer = Answered::new(alloc, output.0, output.1, refusals);
     let link = StreamWire::new(reader, writer);
     let mut wire = TracedWire::new(alloc, link, refusals.trace(), None, None);
     serve_and_note(server, &mut wire, journal)
@@ -209,7 +209,10 @@ fn serve_next<'a, R>(
 where
     R: Files + Clock + RandomSource + AllocGlobal + Eprint + Clone + Drop,
 {
-    match system.refusals.told("accept", address, listener.accept()) {
+    match system
+        .refusals
+        .answered("accept", address, listener.accept())
+    {
         Ok(taken) => serve_client(system, verbose, &taken, account, maildir),
         Err(_) => {
             let rt = system.rt;
@@ -227,7 +230,7 @@ where
     ensures { IfErr result (λ f. (f ≡ Failure.CannotListen address.entry) ⊎ (f ≡ Failure.Fault ServerFault.NoMemory)) }
 {
     let bound = TcpListener::bind(system.rt, address);
-    match system.refusals.told("bind", address, bound) {
+    match system.refusals.answered("bind", address, bound) {
         Ok(listener) => Ok(listener),
         Err(error) => Err(failure_of(error, Failure::CannotListen(address))),
     }

@@ -8,7 +8,8 @@ use Rattle.mail_terms.specs.Numeral.{is_numeral}
 use Rattle.rc_file.specs.Settings.{is_server, is_maildir_path, is_mboxrd_path}
 use Rattle.rc_file.specs.declared.settings.TheConstants.{DELETE_AFTER_LIMIT}
 use Rattle.rc_file.specs.declared.key.Key.{Key}
-use Rattle.rc_file.specs.declared.key.Key.TheVariants.{RetrieverKind, UseApop, Server, Port, Username, Password, DestinationKind, Path, ReadAll, Delete, DeleteAfter, MaxSize, MaxCount, Verbose}
+use Rattle.rc_file.specs.declared.key.Key.TheVariants.{RetrieverKind, UseApop, Server, Port, Username, Password, DestinationKind}
+use Rattle.rc_file.specs.declared.key.Key.TheVariants.{Path, ReadAll, Delete, DeleteAfter, MaxSize, MaxCount, Verbose}
 use Rattle.rc_file.specs.declared.fault.RcFault.{RcFault}
 use Rattle.rc_file.specs.declared.fault.RcFault.TheVariants.{UnknownType, BadValue, Unsupported, BadPath}
 

@@ -1,5 +1,6 @@
 -- What an rc file means: its rows are read first, and then everything is looked up in them.
-use Rattle.std.specs.Prelude.{ℕ, Bool, false, not, ◌&&◌, List, [], ◌∷◌, length, map, min, nat_lt, if◌then◌else◌, Option, Some, None, Result, Ok, Err, codes, unwrap_or, bytes_eq}
+use Rattle.std.specs.Prelude.{ℕ, Bool, false, not, ◌&&◌, List, [], ◌∷◌, length, map, min, nat_lt, if◌then◌else◌}
+use Rattle.std.specs.Prelude.{Option, Some, None, Result, Ok, Err, codes, unwrap_or, bytes_eq}
 use Rattle.std.specs.List.{filter, filter_map, last_or, list_any}
 use Rattle.std.specs.Str.Parse.{digits_value}
 use Rattle.rc_file.specs.KeyTable.{rule, value_fault, is_yes, retriever_section, destination_section, all_keys}
@@ -9,7 +10,8 @@ use Rattle.rc_file.specs.declared.file.TheConstants.{RC_LIMIT}
 use Rattle.rc_file.specs.declared.key.Section.{Section}
 use Rattle.rc_file.specs.declared.key.Section.TheVariants.{Retriever, Destination as DestinationSection}
 use Rattle.rc_file.specs.declared.key.Key.{Key}
-use Rattle.rc_file.specs.declared.key.Key.TheVariants.{Server, Port, Username, Password, DestinationKind, Path, ReadAll, Delete, DeleteAfter, MaxSize, MaxCount, Verbose}
+use Rattle.rc_file.specs.declared.key.Key.TheVariants.{Server, Port, Username, Password, DestinationKind, Path}
+use Rattle.rc_file.specs.declared.key.Key.TheVariants.{ReadAll, Delete, DeleteAfter, MaxSize, MaxCount, Verbose}
 use Rattle.rc_file.specs.declared.fault.RcFault.{RcFault}
 use Rattle.rc_file.specs.declared.fault.RcFault.TheVariants.{TooLong, BadLine, MissingSection, MissingKey}
 

@@ -4,7 +4,8 @@ use Rattle.rc_file.specs.KeyTable.{rule}
 use Rattle.rc_file.specs.RcMeaning.{Warned, section_name}
 use Rattle.rc_file.specs.FileRows.{RcRow, section_row, key_row, bad_row}
 use Rattle.rc_file.specs.declared.fault.RcFault.{RcFault}
-use Rattle.rc_file.specs.declared.fault.RcFault.TheVariants.{TooLong, BadLine, MissingSection, MissingKey, UnknownType, BadValue, Unsupported, BadPath, Contradiction, NoMemory}
+use Rattle.rc_file.specs.declared.fault.RcFault.TheVariants.{TooLong, BadLine, MissingSection, MissingKey, UnknownType}
+use Rattle.rc_file.specs.declared.fault.RcFault.TheVariants.{BadValue, Unsupported, BadPath, Contradiction, NoMemory}
 use Rattle.rc_file.specs.declared.key.Key.{Key}
 
 -- a key with its section, as "retriever.port"

@@ -11,7 +11,8 @@ use Rattle.rc_file.specs.declared.account.Retriever.{Retriever}
 use Rattle.rc_file.specs.declared.fault.RcFault.{RcFault}
 use Rattle.rc_file.specs.declared.fault.RcFault.TheVariants.{BadPath, NoMemory}
 use Rattle.rc_file.specs.declared.key.Key.{Key}
-use Rattle.rc_file.specs.declared.key.Key.TheVariants.{Server, Port, Username, Password, ReadAll, Delete, DeleteAfter, MaxSize, MaxCount, Verbose}
+use Rattle.rc_file.specs.declared.key.Key.TheVariants.{Server, Port, Username, Password, ReadAll}
+use Rattle.rc_file.specs.declared.key.Key.TheVariants.{Delete, DeleteAfter, MaxSize, MaxCount, Verbose}
 use Rattle.rc_file.specs.declared.settings.Dest.{Dest}
 use Rattle.rc_file.specs.declared.settings.TheConstants.{DELETE_AFTER_LIMIT}
 use Rattle.rc_file.specs.declared.settings.Settings.{Settings}

@@ -1,6 +1,6 @@
 //! The machine's file system, whose refused calls are noted.
+use crate::answered::Answered;
 use crate::refusals::Refusals;
-use crate::told::Told;
 use std::alloc::Global;
 use std::fs;
 use std::fs::{Metadata, OpenOptions};
@@ -30,7 +30,7 @@ impl<'a, R: Files + AllocGlobal> System<'a, R> {
     /// The metadata of what a path leads to.
     pub fn stat(&self, path: &str) -> io::Result<Metadata> {
         self.refusals
-            .told("stat", path, fs::metadata(self.rt, path))
+            .answered("stat", path, fs::metadata(self.rt, path))
     }
 
     /// The metadata of what a path names. That there is nothing isn't noted: the programs ask whether a name
@@ -38,23 +38,23 @@ impl<'a, R: Files + AllocGlobal> System<'a, R> {
     pub fn lstat(&self, path: &str) -> io::Result<Metadata> {
         match fs::symlink_metadata(self.rt, path) {
             Err(error) if error.kind() == ErrorKind::NotFound => Err(error),
-            answer => self.refusals.told("lstat", path, answer),
+            answer => self.refusals.answered("lstat", path, answer),
         }
     }
 
     /// Opens a file or a folder to read it.
-    pub fn open(&self, path: &str) -> io::Result<Told<'a, R::File>> {
+    pub fn open(&self, path: &str) -> io::Result<Answered<'a, R::File>> {
         self.opened(path, fs::open(self.rt, path))
     }
 
     /// Opens a file in another way.
-    pub fn open_with(&self, how: &OpenOptions, path: &str) -> io::Result<Told<'a, R::File>> {
+    pub fn open_with(&self, how: &OpenOptions, path: &str) -> io::Result<Answered<'a, R::File>> {
         self.opened(path, how.open(self.rt, path))
     }
 
-    fn opened(&self, path: &str, file: io::Result<R::File>) -> io::Result<Told<'a, R::File>> {
-        let file = self.refusals.told("open", path, file)?;
-        Ok(Told::new(self.rt.alloc(), file, path, self.refusals))
+    fn opened(&self, path: &str, file: io::Result<R::File>) -> io::Result<Answered<'a, R::File>> {
+        let file = self.refusals.answered("open", path, file)?;
+        Ok(Answered::new(self.rt.alloc(), file, path, self.refusals))
     }
 
     /// Gives a file another name.
@@ -62,7 +62,7 @@ impl<'a, R: Files + AllocGlobal> System<'a, R> {
         let answer = fs::rename(self.rt, from, to);
         if answer.is_err() {
             if let Ok(paths) = format!(in self.rt.alloc(); "{from} to {to}") {
-                return self.refusals.told("rename", paths.as_str(), answer);
+                return self.refusals.answered("rename", paths.as_str(), answer);
             }
             self.refusals.forget();
         }
@@ -72,6 +72,6 @@ impl<'a, R: Files + AllocGlobal> System<'a, R> {
     /// Removes a file.
     pub fn unlink(&self, path: &str) -> io::Result<()> {
         self.refusals
-            .told("unlink", path, fs::remove_file(self.rt, path))
+            .answered("unlink", path, fs::remove_file(self.rt, path))
     }
 }

@@ -145,7 +145,8 @@ impl<H: BuildHasher> RowMap<H> {
         requires legal { IsLegalId uid.now }
         ensures old { IfOk result (λ old. old ≡ state_in self.old uid.now) }
         ensures added { IfOk result (λ old. IfNone old (self.new ≡ self.old ++ row_from uid.now state ∷ [])) }
-        ensures marked { IfOk result (λ old. IfSome old (λ old. state ≡ record old { delivered = true } → self.new ≡ marked self.old uid.now)) }
+        ensures marked { IfOk result (λ old. IfSome old (λ old. state ≡ record old { delivered = true }
+            → self.new ≡ marked self.old uid.now)) }
         ensures err { OnErr result (self.new ≡ self.old) }
         ensures is_record { IsRecord self.new }
     {

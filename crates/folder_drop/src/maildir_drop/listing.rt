@@ -7,7 +7,7 @@ ghost use Rattle.folder_drop.specs.ListedIds.{same_key};
 ghost use Rattle.folder_drop.specs.RealMaildir.{id_of_name, names_of, uid_of, HaveIds};
 
 use crate::folders_look::FoldersLook;
-use crate::listed_file::{Counted, FoundFiles, ListedFile, Listing, PIECE};
+use crate::listed_file::{CountedSizes, FoundFiles, ListedFile, Listing, PIECE};
 use crate::maildir_drop::MaildirDrop;
 use crate::maildir_names::{MailFile, unique_id};
 use crate::seen_files::SeenFiles;
@@ -156,7 +156,7 @@ impl<'a, R: Files + Clock + RandomSource + AllocGlobal + Clone + Drop> MaildirDr
             entries: Vec::with_capacity(alloc, found.len())?,
             files: Vec::with_capacity(alloc, found.len())?,
         };
-        let mut counted = Counted::new(self.earlier.files.as_slice());
+        let mut counted = CountedSizes::new(self.earlier.files.as_slice());
         let mut piece = Vec::from_elem(alloc, 0u8, PIECE)?;
         for file in found {
             if listed.entries.len() >= MAX_COUNT {

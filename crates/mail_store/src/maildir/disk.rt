@@ -24,7 +24,8 @@ pub trait MaildirDisk {
     ghost use Rattle.std.specs.Prelude.{◌≡◌, ℕ, List, IfErr, IsSome, OnErr, OnOk, Some, None};
     ghost use Rattle.mail_terms.specs.FailureCount.{Tallies, refuses};
     ghost use Rattle.mail_store.specs.Fault.{is_refusal, IsDeviceFault};
-    ghost use Rattle.mail_store.specs.Maildir.{Maildir, AfterTaking, File, IsThere, Lists, ListsAll, Checks, Flushes, Begins, Adds, Settles, dropped, name_begun};
+    ghost use Rattle.mail_store.specs.Maildir.{Maildir, AfterTaking, File, IsThere, Lists, ListsAll, Checks};
+    ghost use Rattle.mail_store.specs.Maildir.{Flushes, Begins, Adds, Settles, dropped, name_begun};
     ghost use Rattle.mail_store.specs.Power.{FlushedOutlive, KeepsLeft, KeepsMail, SettledOutlives, ToldStay};
 
     // What is known of the Maildir. Whether a file is begun, its name and the count of refusals are

@@ -8,7 +8,8 @@ ghost use Rattle.mail_store.specs.Mboxrd.{text_in};
 ghost use Rattle.mail_store.specs.Power.{LastsWhole, LeavesFronts, LeavesNoMore};
 ghost use Rattle.mail_store.specs.Settling.{block_size, begin_with, ends_empty, has_size, is_entry, is_lost, is_one_entry};
 ghost use Rattle.mail_store.specs.Settling.{is_ours, is_torn, is_whole, listed_size};
-ghost use Rattle.mail_store.specs.Settling.{FrontsAreSettled, IsBehind, LeftoversAreSettled, LooksBehind, ReadsBehind, SettlesFile, WholeEntriesCount};
+ghost use Rattle.mail_store.specs.Settling.{FrontsAreSettled, IsBehind, LeftoversAreSettled, LooksBehind};
+ghost use Rattle.mail_store.specs.Settling.{ReadsBehind, SettlesFile, WholeEntriesCount};
 
 use crate::fault::StoreFault;
 use crate::file::flat_file::FlatFile;

@@ -16,15 +16,15 @@ returns-then-has_base c =
     (shown_all c.self.inside.are_new.items c.self.inside.in_new.items c.self.inside.in_cur.items c.self.invariant) in
     let has = subst (λ (front : List ℕ). Has c.self.inside.in_new.items front) c.base-front.ensures
     (subst (λ (pairs : List (String Global × Vec ℕ Global)). Has pairs c.base-front.result.now) c.deref.ensures.value (c.has_base.ensures.0 c.if-has_base.true)) in
-    subst (λ (kept : TwoFolders). (IsTrue c.has_base.result → IsThere kept.maildir c.args.name.now) × (IsThere kept.maildir c.args.name.now → IsTrue c.has_base.result)) c.self.view_is
+    subst (λ (two : TwoFolders). (IsTrue c.has_base.result → IsThere two.maildir c.args.name.now) × (IsThere two.maildir c.args.name.now → IsTrue c.has_base.result)) c.self.view_is
     (λ _. either.0 (inl has), λ _. c.if-has_base.true)
 
 pub returns-else-has_base : goal.returns-else-has_base
 returns-else-has_base c =
     let either = shown_iff _ c.self.inside.in_new.items c.self.inside.in_cur.items (base c.args.name.now)
     (shown_all c.self.inside.are_new.items c.self.inside.in_new.items c.self.inside.in_cur.items c.self.invariant) in
-    subst (λ (kept : TwoFolders). (IsTrue c.has_base-else-has_base.result → IsThere kept.maildir c.args.name.now)
-    × (IsThere kept.maildir c.args.name.now → IsTrue c.has_base-else-has_base.result)) c.self.view_is (
+    subst (λ (two : TwoFolders). (IsTrue c.has_base-else-has_base.result → IsThere two.maildir c.args.name.now)
+    × (IsThere two.maildir c.args.name.now → IsTrue c.has_base-else-has_base.result)) c.self.view_is (
       λ t. either.0 (inr (subst (λ (front : List ℕ). Has c.self.inside.in_cur.items front) c.base-front.ensures
           (subst (λ (pairs : List (String Global × Vec ℕ Global)). Has pairs c.base-front.result.now) c.deref-else-has_base.ensures.value (c.has_base-else-has_base.ensures.0 t)))),
       λ there. by (either.1 there),

@@ -14,7 +14,7 @@ pub returns-in_default-clause-moves : goal.returns-in_default-clause-moves
 returns-in_default-clause-moves c = (
   refl,
   refl,
-  inl (subst (λ (kept : TwoFolders). Contains (names_of kept.in_new) c.args.name.now → ⊥) c.self.view_is
+  inl (subst (λ (two : TwoFolders). Contains (names_of two.in_new) c.args.name.now → ⊥) c.self.view_is
       (subst (λ (pairs : List Pair). Contains (names_of (map file_of pairs)) c.args.name.now → ⊥) c.deref-2.ensures.value c.in_default.ensures.none)),
 )
 
@@ -78,8 +78,8 @@ invariant_of-self-2 c = (moves_of c).2
 pub returns-clause-same : goal.returns-clause-same
 returns-clause-same c =
     ap (λ (files : List File). record { there = all_there; files = files; begun = option_map file_of c.self.inside.begun; failures = c.self.inside.failures })
-    (moves_of c).0 ∙ ap (λ (kept : TwoFolders). kept.maildir) c.self.view_is
+    (moves_of c).0 ∙ ap (λ (two : TwoFolders). two.maildir) c.self.view_is
 
 pub returns-clause-moves : goal.returns-clause-moves
 returns-clause-moves c =
-    subst (λ (kept : TwoFolders). Takes kept.in_new kept.in_cur c.args.name.now (c.args.name.now ++ c.args.suffix.now) (map file_of c.remove-content.new.self.items) (map file_of c.insert.new.self.items)) c.self.view_is (moves_of c).1
+    subst (λ (two : TwoFolders). Takes two.in_new two.in_cur c.args.name.now (c.args.name.now ++ c.args.suffix.now) (map file_of c.remove-content.new.self.items) (map file_of c.insert.new.self.items)) c.self.view_is (moves_of c).1

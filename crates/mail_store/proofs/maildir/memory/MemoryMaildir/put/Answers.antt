@@ -17,4 +17,4 @@ returns-clause-puts c =
     let came = (settled c.self.inside.are_new.items c.self.inside.in_new.items c.self.inside.in_cur.items (c.in_ok-name.name, c.args.content) c.self.invariant flagged pushed).0 in
     let named : string_bytes c.in_ok-name.name ≡ c.args.name.now = search rules in
     came_to c.args.self.now.maildir _ _ (option_map file_of c.self.inside.begun) c.self.inside.failures (string_bytes c.in_ok-name.name) c.args.name.now
-    c.args.content.items (ap (λ (kept : TwoFolders). kept.maildir) c.self.view_is) came named
+    c.args.content.items (ap (λ (two : TwoFolders). two.maildir) c.self.view_is) came named

@@ -16,8 +16,8 @@ returns-in-Ok-clause-lists c = λ k.
       (
         c.args.self.now.maildir.files,
         part_same c.args.self.now.maildir.files,
-        subst (λ (kept : TwoFolders). (kept.maildir.there.new ≡ true) × (kept.maildir.there.cur ≡ true)
-            × IsPermutation (names_of kept.maildir.files) (bases_told c.in-Ok.names.items) × (kept.maildir ≡ kept.maildir)) c.self.view_is (
+        subst (λ (two : TwoFolders). (two.maildir.there.new ≡ true) × (two.maildir.there.cur ≡ true)
+            × IsPermutation (names_of two.maildir.files) (bases_told c.in-Ok.names.items) × (two.maildir ≡ two.maildir)) c.self.view_is (
               refl,
               refl,
               names_tell_both _ (map file_of new) (map file_of cur) c.in-Ok.names.items (shown_all c.self.inside.are_new.items new cur c.self.invariant) told,

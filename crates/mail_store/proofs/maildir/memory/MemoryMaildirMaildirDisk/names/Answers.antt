@@ -12,7 +12,7 @@ returns-in-Ok-clause-lists c = λ k. (
     c.args.self.now.maildir.files,
     part_same c.args.self.now.maildir.files,
     (
-      subst (λ (kept : TwoFolders). is_there kept.maildir.there c.args.folder ≡ true) c.self.view_is (is_all_there c.args.folder),
+      subst (λ (two : TwoFolders). is_there two.maildir.there c.args.folder ≡ true) c.self.view_is (is_all_there c.args.folder),
       theirs_of c.args.self.now c.args.folder c.in-Ok.names.items c.files.ensures.both (c.in-Ok.ensures ∙ ap names_of c.files.ensures.files),
       refl,
     ),

@@ -3,7 +3,7 @@ use Rattle.std.specs.List.{Contains}
 use Rattle.std.proofs.lemmas.List.Elements.{Contains-get_or}
 use Rattle.folder_drop.specs.declared.listed_file.ListedFile.{ListedFile}
 use Rattle.folder_drop.proofs.ListingLemmas.{counted_again}
-use Rattle.folder_drop.proofs.listed_file.Counted.size_of.Goals as goal
+use Rattle.folder_drop.proofs.listed_file.CountedSizes.size_of.Goals as goal
 
 pub returns-then-is_same : goal.returns-then-is_same
 returns-then-is_same c =

@@ -8,29 +8,29 @@ use std::io::{self, Read, Seek, SeekFrom, Write};
 
 /// An open file, folder or connection that passes each call on, and notes those that are refused.
 #[derive(Drop)]
-pub struct Told<'a, S> {
+pub struct Answered<'a, S> {
     inner: S,
     path: Option<String>,
     refusals: &'a Refusals,
 }
 
-impl<'a, S> Told<'a, S> {
+impl<'a, S> Answered<'a, S> {
     /// What is open at this path, or the connection of this name. Without memory for that, nothing is noted.
-    pub fn new(alloc: Global, inner: S, path: &str, refusals: &'a Refusals) -> Told<'a, S>
+    pub fn new(alloc: Global, inner: S, path: &str, refusals: &'a Refusals) -> Answered<'a, S>
         ensures { result.inner ≡ inner }
     {
-        Told {
+        Answered {
             inner,
             path: String::from_str(alloc, path).ok(),
             refusals,
         }
     }
 
-    fn told<T>(&self, call: &str, answer: io::Result<T>) -> io::Result<T>
+    fn answered<T>(&self, call: &str, answer: io::Result<T>) -> io::Result<T>
         ensures { result ≡ answer }
     {
         match &self.path {
-            Some(path) => self.refusals.told(call, path.as_str(), answer),
+            Some(path) => self.refusals.answered(call, path.as_str(), answer),
             None => {
                 if answer.is_err() {
                     self.refusals.forget();
@@ -41,21 +41,21 @@ impl<'a, S> Told<'a, S> {
     }
 }
 
-impl<'a, S: Read> Read for Told<'a, S> {
+impl<'a, S: Read> Read for Answered<'a, S> {
     ghost remaining = { λ t. S.remaining t.inner };
 
     fn read(&mut self, buf: &mut [u8]) -> io::Result<usize> {
         let answer = self.inner.read(buf);
-        self.told("read", answer)
+        self.answered("read", answer)
     }
 }
 
-impl<'a, S: Write> Write for Told<'a, S> {
+impl<'a, S: Write> Write for Answered<'a, S> {
     ghost contents = { λ t. S.contents t.inner };
 
     fn write(&mut self, buf: &[u8]) -> io::Result<usize> {
         let answer = self.inner.write(buf);
-        self.told("write", answer)
+        self.answered("write", answer)
     }
 
     fn flush(&mut self) -> io::Result<()> {
@@ -63,31 +63,31 @@ impl<'a, S: Write> Write for Told<'a, S> {
     }
 }
 
-impl<'a, S: Seek> Seek for Told<'a, S> {
+impl<'a, S: Seek> Seek for Answered<'a, S> {
     ghost stream_position = { λ t. S.stream_position t.inner };
 
     ghost stream_bytes = { λ t. S.stream_bytes t.inner };
 
     fn seek(&mut self, to: SeekFrom) -> io::Result<u64> {
         let answer = self.inner.seek(to);
-        self.told("lseek", answer)
+        self.answered("lseek", answer)
     }
 }
 
-impl<'a, S: OpenFile> OpenFile for Told<'a, S> {
+impl<'a, S: OpenFile> OpenFile for Answered<'a, S> {
     fn metadata(&self) -> io::Result<Metadata> {
-        self.told("fstat", self.inner.metadata())
+        self.answered("fstat", self.inner.metadata())
     }
 
     fn set_len(&self, size: u64) -> io::Result<()> {
-        self.told("ftruncate", self.inner.set_len(size))
+        self.answered("ftruncate", self.inner.set_len(size))
     }
 
     fn sync_all(&self) -> io::Result<()> {
-        self.told("fsync", self.inner.sync_all())
+        self.answered("fsync", self.inner.sync_all())
     }
 
     fn sync_data(&self) -> io::Result<()> {
-        self.told("fdatasync", self.inner.sync_data())
+        self.answered("fdatasync", self.inner.sync_data())
     }
 }

@@ -1,7 +1,7 @@
 use Rattle.std.proofs.Common.{length}
 use Rattle.std.specs.List.{Contains}
 use Rattle.folder_drop.specs.declared.listed_file.ListedFile.{ListedFile}
-use Rattle.folder_drop.proofs.listed_file.Counted.size_of.Given as goal
+use Rattle.folder_drop.proofs.listed_file.CountedSizes.size_of.Given as goal
 
 abbrev pub invariant-loop-self : goal.invariant-loop-self
 invariant-loop-self l = (file : ListedFile) → Contains l.self.files.now file → Contains l.fn.self.files.now file
