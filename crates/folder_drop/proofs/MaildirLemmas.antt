@@ -19,23 +19,9 @@ ids_push entries names entry name before same =
     map_push uid_of entries entry ∙ ap (λ ids. ids ++ uid_of entry ∷ []) before ∙ ap (λ id. map id_of_name names ++ id ∷ []) same
     ∙ sym (map_push id_of_name names name)
 
-same_bytes : {Z : Type 0} (a b : Vec ℕ Z) → a.items ≡ b.items → same_key a b ≡ true
-same_bytes a b same = (bytes_eq-Decides a.items b.items).1 same
-
 either_way : (b kept : Bool) → kept ≡ true → cond b true kept ≡ true
 either_way true kept is = refl
 either_way false kept is = is
-
--- the set with one more key has one more id
-seen_push : {Z S : Type 0} (old new : HashSet (Vec ℕ Z) S) (key : Vec ℕ Z) → Updates same_key old new key true → (ids : List (List ℕ)) (id : List ℕ) → key.items ≡ id → AreSeen old ids → AreSeen new (ids ++ id ∷ [])
-seen_push old new key updates ids id is seen = λ q h. updates.0 q ∙ elim (Contains-push_cases ids id q.items h) [
-  | inl before ↦ either_way (same_key key q) (contains same_key old q) (seen q before)
-  | inr now ↦ ap (λ (b : Bool). cond b true (contains same_key old q)) (same_bytes key q (is ∙ now))
-]
-
--- an id that isn't in the set is none of these
-unseen : {Z S : Type 0} (seen : HashSet (Vec ℕ Z) S) (key : Vec ℕ Z) (ids : List (List ℕ)) → AreSeen seen ids → contains same_key seen key ≡ false → Contains ids key.items → ⊥
-unseen seen key ids all none h = false≢true (sym none ∙ all key h)
 
 -- one more message, whose id isn't in the set, is listed
 distinct_more : {Z S : Type 0} (seen : HashSet (Vec ℕ Z) S) (key : Vec ℕ Z) (entries : List Listed) (entry : Listed) → key.items ≡ entry.uid → AreDistinct (map uid_of entries)
@@ -43,12 +29,16 @@ distinct_more : {Z S : Type 0} (seen : HashSet (Vec ℕ Z) S) (key : Vec ℕ Z) 
 distinct_more seen key entries entry is distinct all none =
     subst (λ (l : List (List ℕ)). AreDistinct l) (sym (map_push uid_of entries entry))
     (all_pairs_push (λ a b. a ≢ b) (map uid_of entries) entry.uid distinct
-    (λ k d fits e. unseen seen key (map uid_of entries) all none (subst (λ id. Contains (map uid_of entries) id) (e ∙ sym is) (Contains-get_or (map uid_of entries) k d fits))))
+    (λ k d fits e. false≢true (sym none ∙ all key (subst (λ id. Contains (map uid_of entries) id) (e ∙ sym is) (Contains-get_or (map uid_of entries) k d fits)))))
 
+-- the set with one more key has one more id
 seen_more : {Z S : Type 0} (old new : HashSet (Vec ℕ Z) S) (key : Vec ℕ Z) (entries : List Listed) (entry : Listed) → key.items ≡ entry.uid → Updates same_key old new key true
     → AreSeen old (map uid_of entries) → AreSeen new (map uid_of (entries ++ entry ∷ []))
 seen_more old new key entries entry is updates all =
-    subst (λ (l : List (List ℕ)). AreSeen new l) (sym (map_push uid_of entries entry)) (seen_push old new key updates (map uid_of entries) entry.uid is all)
+    subst (λ (l : List (List ℕ)). AreSeen new l) (sym (map_push uid_of entries entry)) (λ q h. updates.0 q ∙ elim (Contains-push_cases (map uid_of entries) entry.uid q.items h) [
+      | inl before ↦ either_way (same_key key q) (contains same_key old q) (all q before)
+      | inr now ↦ ap (λ (b : Bool). cond b true (contains same_key old q)) ((bytes_eq-Decides key.items q.items).1 (is ∙ now))
+    ])
 
 -- one more message is listed
 pub listed_more : {Z S : Type 0} (old new : HashSet (Vec ℕ Z) S) (key : Vec ℕ Z) (entries : List Listed) (files : List ListedFile) (entry : Listed) (file : ListedFile)

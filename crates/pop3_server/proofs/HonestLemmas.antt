@@ -7,18 +7,16 @@ use Rattle.std.proofs.lemmas.List.{length-map}
 use Rattle.std.proofs.lemmas.List.Folds.{list_all-append}
 use Rattle.std.proofs.lemmas.Bool.Decides.{eqb_tells, nat_tests}
 use Rattle.std.proofs.lemmas.List.Elements.{recursion_from_All}
-use Rattle.std.proofs.lemmas.List.Sums.{sum_by-cons}
-use Rattle.std.proofs.lemmas.List.Recursion.{is_count_by}
+use Rattle.std.proofs.lemmas.List.Sums.{AllPass-from_list_all, list_all-from_AllPass, sum_by-cons}
 use Rattle.std.proofs.lemmas.List.Sorted.{IsPermutation-refl}
 use Rattle.pop3_wire.specs.declared.command.Command.{Command}
-use Rattle.pop3_wire.specs.declared.reply.Status.{Status}
 use Rattle.pop3_wire.specs.declared.reply.Status.TheVariants.{Positive, Negative}
 use Rattle.pop3_wire.specs.Line.{crlf, ended, is_no_lf, HoldsNoLf}
 use Rattle.pop3_wire.specs.Body.{dot, IsContent, unstuffed}
 use Rattle.pop3_wire.specs.Fields.{number_and_size, number_and_id}
 use Rattle.mail_terms.specs.Numeral.{greatest_size}
 use Rattle.pop3_wire.specs.World.{Message, IsMessage}
-use Rattle.pop3_wire.specs.Honest.{Says, SaysAnything, FirstLinesAreRead, IsUnmarked, unmarked_from, IsScanRow, IsUidRow, ListsAll, Reply, no_marks}
+use Rattle.pop3_wire.specs.Honest.{SaysAnything, FirstLinesAreRead, IsUnmarked, unmarked_from, IsScanRow, IsUidRow, ListsAll, Reply, no_marks}
 use Rattle.pop3_wire.specs.Rows.{NumbersAreRead, ScanRowsAreRead, UidRowsAreRead}
 use Rattle.pop3_server.specs.declared.rows.MessageRow.{MessageRow}
 use Rattle.pop3_server.specs.Maildrop.{entry_of, max_count, max_size}
@@ -111,24 +109,13 @@ text_at [] i m x e h = absurd cc
 text_at (y ∷ ms) zero m x e h = cc
 text_at (y ∷ ms) (suc i) m x e h = text_at ms i m x e h
 
-number_of : {X : Type 0} → (X → Bool) → List X → ℕ
-number_of p [] = 0
-number_of p (x ∷ xs) = cond (p x) (1 + number_of p xs) (number_of p xs)
-
-same_number : {X : Type 0} (p : X → Bool) (xs : List X) → number_of p xs ≡ count_by p xs
-unfolding number_of
-same_number p xs = is_count_by (number_of p) p refl (λ x xs. refl) xs
-
-number_left : (ms : List Message) (bs : List Bool) → length bs ≡ length ms → number_of is_left (rows_with ms bs) ≡ number_of not bs
-unfolding number_of
-number_left [] [] e = refl
-number_left [] (b ∷ bs) e = absurd (omega arith)
-number_left (m ∷ ms) [] e = absurd (omega arith)
-number_left (m ∷ ms) (true ∷ bs) e = number_left ms bs (omega arith)
-number_left (m ∷ ms) (false ∷ bs) e = ap (λ (n : ℕ). 1 + n) (number_left ms bs (omega arith))
-
 pub counted_left : (ms : List Message) (bs : List Bool) → length bs ≡ length ms → left_count (rows_with ms bs) ≡ count_by not bs
-counted_left ms bs e = sym (same_number is_left (rows_with ms bs)) ∙ number_left ms bs e ∙ same_number not bs
+counted_left [] [] e = refl
+counted_left [] (b ∷ bs) e = absurd (omega arith)
+counted_left (m ∷ ms) [] e = absurd (omega arith)
+counted_left (m ∷ ms) (b ∷ bs) e =
+    sum_by-cons (λ row. cond (is_left row) 1 0) (row_with m b) (rows_with ms bs) ∙ ap (λ (n : ℕ). cond (not b) 1 0 + n) (counted_left ms bs (omega arith))
+    ∙ sym (sum_by-cons (λ b. cond (not b) 1 0) b bs)
 
 pub total_left : (ms : List Message) (bs : List Bool) → AllByRecursion IsServed ms → left_total (rows_with ms bs) ≤ 134217728 * length ms
 total_left [] bs all = omega arith
@@ -143,10 +130,7 @@ total_left (m ∷ ms) (false ∷ bs) all =
 -- ---- first lines
 
 digits_no_lf : (digits : List ℕ) → list_all is_ascii_digit digits ≡ true → HoldsNoLf digits
-digits_no_lf [] e = refl
-digits_no_lf (d ∷ ds) e =
-    let parts = and_parts (is_ascii_digit d) (list_all is_ascii_digit ds) e in
-    and_from (is_no_lf d) (list_all is_no_lf ds) (digit_no_lf d parts.0) (digits_no_lf ds parts.1)
+digits_no_lf digits e = list_all-from_AllPass is_no_lf digits (λ k d inside. digit_no_lf _ (AllPass-from_list_all is_ascii_digit digits e k d inside))
   where
     digit_no_lf : (d : ℕ) → is_ascii_digit d ≡ true → is_no_lf d ≡ true
     digit_no_lf d e = grind (arith, nat_tests)
@@ -158,14 +142,11 @@ no_lf_decimal written n fits =
 pub no_lf_append : (xs ys : List ℕ) → HoldsNoLf xs → HoldsNoLf ys → HoldsNoLf (xs ++ ys)
 no_lf_append xs ys a b = list_all-append is_no_lf xs ys ∙ and_from (list_all is_no_lf xs) (list_all is_no_lf ys) a b
 
-anything : (status : Status) (bytes rest : List ℕ) → Says status bytes rest → SaysAnything status bytes
-anything status bytes rest says = (rest, says)
-
 pub refused : Written → (ms : List Message) (bs : List Bool) (c : Command) (answer after : List ℕ) → answer ≡ said (codes "-ERR" ++ after) → HoldsNoLf after → Reply ms bs c answer bs
-refused written ms bs c answer after is none = inl (subst (SaysAnything Negative) (sym is) (anything Negative (said (codes "-ERR" ++ after)) _ (written.first Negative after none)), refl)
+refused written ms bs c answer after is none = inl (subst (SaysAnything Negative) (sym is) (_, written.first Negative after none), refl)
 
 pub granted : Written → (answer after : List ℕ) → answer ≡ said (codes "+OK" ++ after) → HoldsNoLf after → SaysAnything Positive answer
-granted written answer after is none = subst (SaysAnything Positive) (sym is) (anything Positive (said (codes "+OK" ++ after)) _ (written.first Positive after none))
+granted written answer after is none = subst (SaysAnything Positive) (sym is) (_, written.first Positive after none)
 
 -- ---- listings
 
@@ -180,13 +161,12 @@ lines_flat line k (m ∷ ms) (true ∷ bs) = lines_flat line (k + 1) ms bs
 lines_flat line k (m ∷ ms) (false ∷ bs) = ap (λ (l : List ℕ). said (line k (row_with m false)) ++ l) (lines_flat line (k + 1) ms bs)
 
 -- each row of a served message is a line of a body, and is read as that message's
-pub GoodRows : (ℕ → MessageRow → List ℕ) → (ℕ × Message → List ℕ → Type 0) → Type 0
+abbrev pub GoodRows : (ℕ → MessageRow → List ℕ) → (ℕ × Message → List ℕ → Type 0) → Type 0
 GoodRows line IsRow = (k : ℕ) (m : Message) → k ≤ 4294967295 → IsServed m → IsContent (line k (row_with m false)) × IsRow (k, m) (unstuffed (line k (row_with m false)))
 
 rows_content : (line : ℕ → MessageRow → List ℕ) (IsRow : ℕ × Message → List ℕ → Type 0) → GoodRows line IsRow → (k : ℕ) (ms : List Message) (bs : List Bool)
     → k + length ms ≤ 4294967296 → AllByRecursion IsServed ms
     → AllByRecursion IsContent (row_lines line k (rows_with ms bs)) × AllZip IsRow (unmarked_from k ms bs) (map unstuffed (row_lines line k (rows_with ms bs)))
-unfolding GoodRows
 rows_content line IsRow good k [] bs few all = (tt, tt)
 rows_content line IsRow good k (m ∷ ms) [] few all = (tt, tt)
 rows_content line IsRow good k (m ∷ ms) (true ∷ bs) few all = rows_content line IsRow good (k + 1) ms bs (omega arith) all.1
@@ -196,14 +176,12 @@ rows_content line IsRow good k (m ∷ ms) (false ∷ bs) few all =
     ((one.0, more.0), (one.1, more.1))
 
 pub scan_rows : Written → GoodRows scan_line IsScanRow
-unfolding GoodRows
 scan_rows written k m few served =
     let size : m.size ≤ greatest_size = (let w : m.size ≤ 134217728 = served.within in omega arith) in
     let row = written.scan k m.size few size in
     (row.0.0, ap number_and_size row.0.1 ∙ row.1)
 
 pub uid_rows : Written → GoodRows uid_line IsUidRow
-unfolding GoodRows
 uid_rows written k m few served =
     let row = written.uid k m.uid few served.is_message.legal in
     (row.0.0, ap number_and_id row.0.1 ∙ row.1)

@@ -53,12 +53,11 @@ asked_front (c ∷ a) b all = (all.0, asked_front a b all.1)
 abbrev no : List ℕ
 no = codes "-ERR" ++ crlf
 
-nos : List Command → List ℕ
+abbrev nos : List Command → List ℕ
 nos [] = []
 nos (c ∷ commands) = no ++ nos commands
 
 refused_all : Written → (ms : List Message) (marks : List Bool) (commands : List Command) → Replies ms marks commands (nos commands) marks
-unfolding nos
 refused_all written ms marks [] = (refl, refl)
 refused_all written ms marks (c ∷ commands) = (no, nos commands, marks, refl, refused written ms marks c no [] refl refl, refused_all written ms marks commands)
 

@@ -122,15 +122,10 @@ in_auth laws sound mail ms user pass kept (Top n k) old answer next new messages
 
 -- ---- TRANSACTION
 
-InRows : List Message → List Bool → Mail → Type 0
+abbrev InRows : List Message → List Bool → Mail → Type 0
 InRows ms marks mail = (mail.slots ≡ map Some ms) × (length marks ≡ length ms) × AreServed ms
 
-made_rows : (ms : List Message) (marks : List Bool) (mail : Mail) → mail.slots ≡ map Some ms → length marks ≡ length ms → AreServed ms → InRows ms marks mail
-unfolding InRows
-made_rows ms marks mail a b served = (a, b, served)
-
 stands_in : (ms : List Message) (marks : List Bool) (mail : Mail) → InRows ms marks mail → IsStateWith ms (Transaction (rows_with ms marks)) mail marks
-unfolding InRows
 stands_in ms marks mail h = (h.0, h.1, refl, h.2)
 
 -- ---- lists of commands
@@ -152,7 +147,6 @@ module _ (laws : Laws) where
   gave : {D : Type 0} (sound : D → Type 0) (mail : D → Mail) (ms : List Message) (marks : List Bool) (k : ℕ) (m : Message) (old : D) (answer : List ℕ) (next : State) (new : D)
       → AreServed ms → InRows ms marks (mail old) → sound new → IsUnmarked ms marks k m
       → Does sound mail (Give (rows_with ms marks) (k - 1) (said (octets_line (row_with m false))) None) old answer next new → Replied ms marks (Retr k) answer next (mail new)
-  unfolding InRows
   gave sound mail ms marks k m old answer next new served rows s at (state, inl (is, known)) =
       let drop = (known s).1 in (
         marks,
@@ -184,7 +178,6 @@ module _ (laws : Laws) where
 
   left : {D : Type 0} (sound : D → Type 0) (mail : D → Mail) (ms : List Message) (marks : List Bool) (old : D) (answer : List ℕ) (next : State) (new : D)
       → InRows ms marks (mail old) → sound new → (next ≡ Closed) × RemovesMarked sound mail (rows_with ms marks) old answer new → Replied ms marks Quit answer next (mail new)
-  unfolding InRows
   left sound mail ms marks old answer next new rows s (state, (true, is, known)) =
       (marks, inr (granted laws.written answer (codes " bye") is refl, refl), subst (λ (st : State). IsStateWith ms st (mail new) marks) (sym state) (left_by_quit ms marks (mail old) (mail new) true rows.1 rows.0 (known s).1))
   left sound mail ms marks old answer next new rows s (state, (false, is, known)) =
@@ -196,11 +189,8 @@ module _ (laws : Laws) where
   -- STAT
   stated : {D : Type 0} (sound : D → Type 0) (mail : D → Mail) (ms : List Message) (marks : List Bool) (old : D) (answer : List ℕ) (next : State) (new : D)
       → AreServed ms → InRows ms marks (mail old) → Does sound mail (in_transaction (rows_with ms marks) Stat) old answer next new → Replied ms marks Stat answer next (mail new)
-  unfolding InRows
   stated sound mail ms marks old answer next new served rows does =
       let few : length ms ≤ 100000 = served.few in
-      let n : ℕ = left_count (rows_with ms marks) in
-      let t : ℕ = left_total (rows_with ms marks) in
       let count : left_count (rows_with ms marks) ≡ count_by not marks = counted_left ms marks rows.1 in
       let fewer : count_by not marks ≤ length marks = count_by-le-length not marks in
       let same : length marks ≡ length ms = rows.1 in
@@ -227,16 +217,9 @@ module _ (laws : Laws) where
   marked : {D : Type 0} (sound : D → Type 0) (mail : D → Mail) (ms : List Message) (marks : List Bool) (k : ℕ) (m : Message) (old : D) (answer : List ℕ) (next : State) (new : D)
       → InRows ms marks (mail old) → IsUnmarked ms marks k m → Does sound mail (Say (said (codes "+OK marked")) (Transaction (mark_at (rows_with ms marks) (k - 1)))) old answer next new
       → Replied ms marks (Dele k) answer next (mail new)
-  unfolding InRows
   marked sound mail ms marks k m old answer next new rows at does =
       says_yes laws mail ms marks (slice_set marks (k - 1) true) (Dele k) old answer (codes " marked") (Transaction (mark_at (rows_with ms marks) (k - 1))) next new does refl
       (λ says. (m, says, at, refl)) (rows.0, length-set marks (k - 1) true ∙ rows.1, marked_rows ms marks (k - 1), rows.2)
-
-  -- RSET
-  cleared : {D : Type 0} (sound : D → Type 0) (mail : D → Mail) (ms : List Message) (marks : List Bool) (old : D)
-      → InRows ms marks (mail old) → IsStateWith ms (Transaction (map unmarked (rows_with ms marks))) (mail old) (map (λ _. false) marks)
-  unfolding InRows
-  cleared sound mail ms marks old rows = (rows.0, length-map marks (λ _. false) ∙ rows.1, cleared_rows ms marks, rows.2)
 
   in_trans : {D : Type 0} (sound : D → Type 0) (mail : D → Mail) (ms : List Message) (marks : List Bool) (c : Command) (old : D) (answer : List ℕ) (next : State) (new : D)
       → AreServed ms → InRows ms marks (mail old) → sound new → IsOfSession c → Does sound mail (in_transaction (rows_with ms marks) c) old answer next new → Replied ms marks c answer next (mail new)
@@ -271,7 +254,7 @@ module _ (laws : Laws) where
   ]
   in_trans sound mail ms marks Rset old answer next new served rows s asked does =
       says_yes laws mail ms marks (map (λ _. false) marks) Rset old answer [] (Transaction (map unmarked (rows_with ms marks))) next new does refl (λ says. (says, refl))
-      (cleared sound mail ms marks old rows)
+      (rows.0, length-map marks (λ _. false) ∙ rows.1, cleared_rows ms marks, rows.2)
   in_trans sound mail ms marks Noop old answer next new served rows s asked does =
       says_yes laws mail ms marks marks Noop old answer [] (Transaction (rows_with ms marks)) next new does refl (λ says. (says, refl)) (stands_in ms marks (mail old) rows)
   in_trans sound mail ms marks (Top n k) old answer next new served rows s asked does = absurd asked
@@ -284,7 +267,7 @@ module _ (laws : Laws) where
   replied sound mail ms marks user pass (Authorization kept) c old answer next new messages opened stands s asked does =
       subst (λ (bs : List Bool). Replied ms bs c answer next (mail new)) (sym stands.1) (in_auth laws sound mail ms user pass kept c old answer next new messages stands.0 s asked does)
   replied sound mail ms marks user pass (Transaction rows) c old answer next new messages opened stands s asked does =
-      in_trans sound mail ms marks c old answer next new stands.3 (made_rows ms marks (mail old) stands.0 stands.1 stands.3) s asked
+      in_trans sound mail ms marks c old answer next new stands.3 (stands.0, stands.1, stands.3) s asked
       (subst (λ (rs : List MessageRow). Does sound mail (in_transaction rs c) old answer next new) stands.2 does)
   replied sound mail ms marks user pass Closed c old answer next new messages opened stands s asked does = absurd (let e : false ≡ true = opened in cc)
 
@@ -322,14 +305,11 @@ module _ (laws : Laws) where
   gone_at ms marks Closed mail stands = record { left = stands; before_quit = λ e. absurd (let h : false ≡ true = e in cc) }
 
   -- what was answered is honest, and what is gone then was marked
-  abbrev pub AnswersHonestly : {D : Type 0} → (D → Type 0) → (D → Mail) → Type 0
-  AnswersHonestly {D} sound mail = (old new : Machine D) (commands : List Command) (answers : List ℕ)
+  pub answers_honestly : {D : Type 0} (sound : D → Type 0) (mail : D → Mail) (old new : Machine D) (commands : List Command) (answers : List ℕ)
       → old.state ≡ Authorization None → AllByRecursion IsAsked commands → AnswersLines sound mail old (lines_of commands) answers new
       → sound new.drop → AllByRecursion IsMessage (there (mail old.drop).slots)
       → (marks : List Bool) × Replies (there (mail old.drop).slots) (no_marks (there (mail old.drop).slots)) commands answers marks
       × Gone (there (mail old.drop).slots) marks new.state (there (mail new.drop).slots)
-
-  pub answers_honestly : {D : Type 0} (sound : D → Type 0) (mail : D → Mail) → AnswersHonestly sound mail
   answers_honestly sound mail old new commands answers state asked run s messages =
       let stands = subst (λ (st : State). IsStateWith (there (mail old.drop).slots) st (mail old.drop) (no_marks (there (mail old.drop).slots))) (sym state) (refl, refl) in
       let all = all_replied sound mail (there (mail old.drop).slots) (no_marks (there (mail old.drop).slots)) commands old new answers messages asked run s stands in

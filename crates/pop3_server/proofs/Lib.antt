@@ -5,7 +5,6 @@ mod GoneLemmas
 mod HonestLemmas
 mod HonestLoopLemmas
 mod HonestTurns
-mod KeptLemmas
 mod LeaveLemmas
 mod LoopLemmas
 mod OpenLemmas

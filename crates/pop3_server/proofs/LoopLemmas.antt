@@ -1,9 +1,8 @@
 -- A link to a server: what its calls do to what it keeps.
 use Rattle.std.proofs.Common.{◌≡◌, inl, inr, ◌≤◌, ◌<◌, ◌+◌, ◌-◌, ◌==◌, ◌||◌, ℕ, Bool, true, false, List, [], ◌∷◌, ◌++◌, length, take, drop, refl, sym, ap, subst, ◌∙◌, arith, append_assoc, take-append-drop, length-append, length-drop, if◌then◌else◌}
-use Rattle.std.proofs.lemmas.List.{append-nil, drop-append-le, take-append-le, take_all}
+use Rattle.std.proofs.lemmas.List.{append-nil, drop-append-le, drop-drop, length-take-le, take-append-le, take_all}
 use Rattle.std.proofs.lemmas.Bool.{cases_Bool}
 use Rattle.std.proofs.lemmas.Bool.Decides.{nat_tests}
-use Rattle.std.proofs.lemmas.Grind.{common_steps}
 use Rattle.std.proofs.Math.Seq.{take-add, take-append_seam, drop-append-add}
 use Rattle.pop3_wire.specs.Line.{crlf, IsLine, ended}
 use Rattle.pop3_wire.specs.Link.{Link, with_failures}
@@ -29,25 +28,6 @@ kept machine sent used answers given over down failures = record {
 
 pub not_both : {A : Type 0} (b : Bool) → b ≡ false → b ≡ true → A
 not_both b off on = absurd (let e : true ≡ false = sym on ∙ off in cc)
-
--- the octets before a line's end are the first line of what waits
-pub line_cut : (sent : List ℕ) (used octets : ℕ) → HasLine (length (drop used sent)) (drop used sent) octets
-    → IsLine (take octets (drop used sent)) × (drop used sent ≡ ended (take octets (drop used sent)) ++ drop (used + (octets + 2)) sent)
-line_cut sent used octets has = (
-  has.line,
-  has.whole ∙ sym (append_assoc (take octets (drop used sent)) crlf (drop (octets + 2) (drop used sent)))
-      ∙ ap (λ (l : List ℕ). ended (take octets (drop used sent)) ++ l) (drop_more used (octets + 2) sent),
-)
-  where
-    drop_more : (a b : ℕ) (l : List ℕ) → drop b (drop a l) ≡ drop (a + b) l
-    drop_more a b l = grind (arith, common_steps)
-
--- a line that waits is among the octets sent, and fewer wait after it
-pub line_fits : (sent : List ℕ) (used octets : ℕ) → used ≤ length sent → HasLine (length (drop used sent)) (drop used sent) octets
-    → (used + (octets + 2) ≤ length sent) × (length (drop (used + (octets + 2)) sent) < length (drop used sent))
-line_fits sent used octets within has =
-    let few : octets + 2 ≤ length (drop used sent) = has.within in
-    (omega (arith, length-drop used sent), omega (arith, length-drop used sent, length-drop (used + (octets + 2)) sent))
 
 -- no line was answered: the server is the same, if the link is still up, and some of what is left may have been given
 pub serves_none : {D : Type 0} (sound : D → Type 0) (mail : D → Mail) (m n : Machine D) (sent : List ℕ) (used : ℕ) (answers : List ℕ) (given more : ℕ) (over later down then_down : Bool) (failures : ℕ)
@@ -76,20 +56,21 @@ pub serves_one : {D : Type 0} (sound : D → Type 0) (mail : D → Mail) (m n : 
     → (then_down ≡ false → lost ≡ [])
     → Serves sound mail (kept m sent used answers given over down failures) (kept n sent (used + (octets + 2)) kept_answers given over then_down failures)
 serves_one sound mail m n sent used octets answers kept_answers more lost given over down then_down failures same up is has turn none =
-    let line = line_cut sent used octets has in record {
-      lines = take octets (drop used sent) ∷ [];
+    let line = take octets (drop used sent) in record {
+      lines = line ∷ [];
       more = more;
       lost = lost;
       gained = [];
       last = n;
-      each = (line.0, tt);
-      run = run_one sound mail m n (take octets (drop used sent)) (more ++ lost) turn;
+      each = (has.line, tt);
+      run = run_one sound mail m n line (more ++ lost) turn;
       same = same;
       answers = is;
       told = λ h. take-append-drop given (greeting ++ kept_answers);
       sent = sym (append-nil sent);
-      heard = append-nil (drop used sent) ∙ line.1 ∙ ap (λ (l : List ℕ). l ++ drop (used + (octets + 2)) sent) (sym (append-nil (ended (take octets (drop used sent)))));
-      whole = λ e. (none e, refl, λ answered. absurd (answered turn.was_open (take octets (drop used sent)) (drop (octets + 2) (drop used sent)) has.whole));
+      heard = append-nil (drop used sent) ∙ has.whole ∙ sym (append_assoc line crlf (drop (octets + 2) (drop used sent))) ∙ ap (λ (l : List ℕ). ended line ++ l) (drop-drop (octets + 2) used sent)
+          ∙ ap (λ (l : List ℕ). l ++ drop (used + (octets + 2)) sent) (sym (append-nil (ended line)));
+      whole = λ e. (none e, refl, λ answered. absurd (answered turn.was_open line (drop (octets + 2) (drop used sent)) has.whole));
       over = λ e. not_both down up e;
     }
 
@@ -109,13 +90,10 @@ serves_sent sound mail m new sent bytes longer used answers given over down fail
   answers = p.answers;
   told = p.told;
   sent = p.sent ∙ ap (λ (l : List ℕ). l ++ p.gained) is ∙ append_assoc sent bytes p.gained;
-  heard = sym (append_assoc (drop used sent) bytes p.gained) ∙ ap (λ (l : List ℕ). l ++ p.gained) (sym longer_waits) ∙ p.heard;
+  heard = sym (append_assoc (drop used sent) bytes p.gained) ∙ ap (λ (l : List ℕ). l ++ p.gained) (sym (ap (drop used) is ∙ drop-append-le used sent bytes within)) ∙ p.heard;
   whole = λ e. let whole = p.whole e in (whole.0, whole.1, λ _. answered e);
   over = p.over;
 }
-  where
-    longer_waits : drop used longer ≡ drop used sent ++ bytes
-    longer_waits = ap (drop used) is ∙ drop-append-le used sent bytes within
 
 -- after that the link went down
 pub serves_down : {D : Type 0} (sound : D → Type 0) (mail : D → Mail) (old mid : Loop D) (failures : ℕ) → Serves sound mail old mid
@@ -143,7 +121,7 @@ serves_down sound mail old mid failures p = record {
 pub line_found : (seen sent line rest : List ℕ) (used : ℕ) → seen ≡ sent → IsLine line → take (length seen - used) (drop used seen) ≡ line ++ (crlf ++ rest)
     → HasLine (length (drop used sent)) (drop used sent) (length line)
 line_found seen sent line rest used same is cut =
-    let whole : drop used sent ≡ line ++ (crlf ++ rest) = ap (drop used) (sym same) ∙ sym (take_all (length seen - used) (drop used seen) short) ∙ cut in
+    let whole : drop used sent ≡ line ++ (crlf ++ rest) = ap (drop used) (sym same) ∙ sym (take_all (length seen - used) (drop used seen) (omega (arith, length-drop used seen))) ∙ cut in
     let long : length (drop used sent) ≡ length (line ++ (crlf ++ rest)) = ap length whole in
     let front : take (length line) (drop used sent) ≡ line = ap (take (length line)) whole ∙ take-append_seam line (crlf ++ rest) in record {
       line = subst IsLine (sym front) is;
@@ -151,9 +129,6 @@ line_found seen sent line rest used same is cut =
       whole = whole ∙ ap (λ (l : List ℕ). l ++ (crlf ++ rest)) (sym front)
           ∙ ap (λ (l : List ℕ). take (length line) (drop used sent) ++ (crlf ++ l)) (sym (drop-append-add line (crlf ++ rest) 2) ∙ ap (drop (length line + 2)) (sym whole));
     }
-  where
-    short : length (drop used seen) ≤ length seen - used
-    short = grind (arith, common_steps)
 
 -- the server answered that line
 pub turn_at : {D : Type 0} (sound : D → Type 0) (mail : D → Mail) (m n : Machine D) (seen sent : List ℕ) (used octets : ℕ) (answer bytes : List ℕ)
@@ -176,44 +151,32 @@ same_link sent answers more kept_answers given over failures is within =
 
 -- what is left in the first part, and in the second
 pub left_first : (first second : List ℕ) (given : ℕ) → given ≤ length first → drop given (first ++ second) ≡ take (length first - given) (drop given first) ++ second
-left_first first second given within = drop-append-le given first second within ∙ ap (λ (l : List ℕ). l ++ second) (sym (take_all (length first - given) (drop given first) short))
-  where
-    short : length (drop given first) ≤ length first - given
-    short = grind (arith, common_steps)
+left_first first second given within =
+    drop-append-le given first second within ∙ ap (λ (l : List ℕ). l ++ second) (sym (take_all (length first - given) (drop given first) (omega (arith, length-drop given first))))
 
 pub left_second : (first second seen : List ℕ) (given : ℕ) → length first ≤ given → seen ≡ second
     → drop given (first ++ second) ≡ take (length seen - (given - length first)) (drop (given - length first) seen) ++ []
 left_second first second seen given within same =
     let count : given ≡ length first + (given - length first) = omega arith in
     ap (λ (k : ℕ). drop k (first ++ second)) count ∙ drop-append-add first second (given - length first) ∙ ap (drop (given - length first)) (sym same)
-    ∙ sym (take_all (length seen - (given - length first)) (drop (given - length first) seen) short) ∙ sym (append-nil _)
-  where
-    short : length (drop (given - length first) seen) ≤ length seen - (given - length first)
-    short = grind (arith, common_steps)
+    ∙ sym (take_all (length seen - (given - length first)) (drop (given - length first) seen) (omega (arith, length-drop (given - length first) seen))) ∙ sym (append-nil _)
 
 -- a piece of what is left ends within it
 pub piece_within : (all piece rest : List ℕ) (given n : ℕ) → given ≤ length all → drop given all ≡ piece ++ rest → n ≤ length piece → given + n ≤ length all
 piece_within all piece rest given n within is few =
     let long : length (drop given all) ≡ length (piece ++ rest) = ap length is in
-    let dropped : length (drop given all) ≡ length all - given = grind (arith, common_steps) in
-    omega (arith, long, dropped, length-append piece rest)
+    omega (arith, long, length-drop given all, length-append piece rest)
 
 -- the first octets of a piece of what is left are given
 pub given_on : (all piece rest copied buf : List ℕ) (given n : ℕ) → given ≤ length all → drop given all ≡ piece ++ rest → n ≤ length piece → copied ≡ take n piece
     → (take (given + n) all ≡ take given all ++ take n (copied ++ drop n buf)) × (drop given all ≡ take n (copied ++ drop n buf) ++ drop (given + n) all)
 given_on all piece rest copied buf given n within is few same =
-    let long : length copied ≡ n = ap length same ∙ take_length in
+    let long : length copied ≡ n = ap length same ∙ length-take-le n piece few in
     let front : take n (copied ++ drop n buf) ≡ copied = ap (λ (k : ℕ). take k (copied ++ drop n buf)) (sym long) ∙ take-append_seam copied (drop n buf) in
     let left : take n (drop given all) ≡ copied = ap (take n) is ∙ take-append-le n piece rest few ∙ sym same in (
       take-add given n all ∙ ap (λ (l : List ℕ). take given all ++ l) (left ∙ sym front),
-      sym (take-append-drop n (drop given all)) ∙ ap (λ (l : List ℕ). l ++ drop n (drop given all)) (left ∙ sym front) ∙ ap (λ (l : List ℕ). take n (copied ++ drop n buf) ++ l) dropped,
+      sym (take-append-drop n (drop given all)) ∙ ap (λ (l : List ℕ). l ++ drop n (drop given all)) (left ∙ sym front) ∙ ap (λ (l : List ℕ). take n (copied ++ drop n buf) ++ l) (drop-drop n given all),
     )
-  where
-    take_length : length (take n piece) ≡ n
-    take_length = grind (arith, common_steps)
-
-    dropped : drop n (drop given all) ≡ drop (given + n) all
-    dropped = grind (arith, common_steps)
 
 -- a refused call below the greatest count was counted
 pub counted_below : (old new : ℕ) → new ≡ counted_up old → new < greatest_count → (old < greatest_count) × (new ≡ old + 1)

@@ -1,5 +1,5 @@
 -- Removals, and what is left.
-use Rattle.std.proofs.Common.{◌≡◌, ℕ, zero, suc, ◌+◌, ◌<◌, ◌≤◌, Bool, true, false, List, [], ◌∷◌, Option, Some, None, slice_get, slice_set, refl, sym, ◌∙◌, ap, subst, inl, inr, arith, if◌then◌else◌}
+use Rattle.std.proofs.Common.{◌≡◌, ℕ, zero, suc, ◌+◌, ◌<◌, ◌≤◌, Bool, true, false, List, [], ◌∷◌, Option, Some, None, slice_get, slice_set, refl, sym, ◌∙◌, ap, inl, inr, arith, if◌then◌else◌}
 use Rattle.std.proofs.lemmas.Bool.{false≢true}
 use Rattle.pop3_wire.specs.World.{Message}
 use Rattle.pop3_server.specs.declared.rows.MessageRow.{MessageRow}
@@ -74,13 +74,11 @@ some_refused (goes i row rows old mid false all new marked tries rest) left =
     let later = few_left rest in
     omega (arith, one, later)
 
-pub others_stay : {i : ℕ} {rows : List MessageRow} {old : Mail} {all : Bool} {new : Mail} → Empties i rows old all new → (k : ℕ) (row : MessageRow) → slice_get rows k ≡ Some row → row.marked ≡ false → slice_get new.slots (i + k) ≡ slice_get old.slots (i + k)
-others_stay (none i old) k row h unmarked = refl
-others_stay (stays i first rows old all new fresh rest) zero row h unmarked = earlier rest (i + 0) (omega arith)
-others_stay (stays i first rows old all new fresh rest) (suc k) row h unmarked =
-    let e : i + 1 + k ≡ i + suc k = omega arith in subst (λ n. slice_get new.slots n ≡ slice_get old.slots n) e (others_stay rest k row h unmarked)
-others_stay (goes i first rows old mid done all new marked tries rest) zero row h unmarked =
+pub others_stay : {i : ℕ} {rows : List MessageRow} {old : Mail} {all : Bool} {new : Mail} → Empties i rows old all new → (k j : ℕ) (row : MessageRow) → slice_get rows k ≡ Some row → row.marked ≡ false → j ≡ i + k → slice_get new.slots j ≡ slice_get old.slots j
+others_stay (none i old) k j row h unmarked at = refl
+others_stay (stays i first rows old all new fresh rest) zero j row h unmarked at = earlier rest j (omega (arith, at))
+others_stay (stays i first rows old all new fresh rest) (suc k) j row h unmarked at = others_stay rest k j row h unmarked (omega (arith, at))
+others_stay (goes i first rows old mid done all new marked tries rest) zero j row h unmarked at =
     let same : first ≡ row = cc in absurd (false≢true (sym unmarked ∙ ap (λ (r : MessageRow). r.marked) (sym same) ∙ marked))
-others_stay (goes i first rows old mid done all new marked tries rest) (suc k) row h unmarked =
-    let e : i + 1 + k ≡ i + suc k = omega arith in
-    subst (λ n. slice_get new.slots n ≡ slice_get mid.slots n) e (others_stay rest k row h unmarked) ∙ tries_other old mid i (i + suc k) done tries (λ same. omega arith)
+others_stay (goes i first rows old mid done all new marked tries rest) (suc k) j row h unmarked at =
+    others_stay rest k j row h unmarked (omega (arith, at)) ∙ tries_other old mid i j done tries (λ same. omega (arith, at, same))

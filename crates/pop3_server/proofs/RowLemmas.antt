@@ -1,5 +1,5 @@
 -- Rows, marked and unmarked.
-use Rattle.std.proofs.Common.{◌≡◌, ℕ, zero, suc, ◌<◌, ◌≤◌, true, List, [], ◌∷◌, ◌++◌, map, length, get_or, Some, slice_set, slice_get, refl, ap, arith, All}
+use Rattle.std.proofs.Common.{◌≡◌, ℕ, zero, suc, ◌<◌, ◌≤◌, true, List, [], ◌∷◌, ◌++◌, map, length, get_or, slice_set, refl, ap, arith, All}
 use Rattle.pop3_server.specs.declared.rows.MessageRow.{MessageRow}
 use Rattle.std.proofs.lemmas.List.Elements.{All-push}
 use Rattle.pop3_server.specs.Maildrop.{max_size}
@@ -15,14 +15,14 @@ pub same_rows : (rows : List MessageRow) → SamePlaces rows rows
 same_rows rows i row h = (row, h)
 
 -- each place that has a row had one before
-pub row_of_mark : (rows : List MessageRow) (i k : ℕ) (row : MessageRow) → slice_get (mark_at rows i) k ≡ Some row → (r : MessageRow) × (slice_get rows k ≡ Some r)
+pub row_of_mark : (rows : List MessageRow) (i : ℕ) → SamePlaces rows (mark_at rows i)
 row_of_mark [] i k row h = (row, h)
 row_of_mark (first ∷ rows) zero zero row h = (first, refl)
 row_of_mark (first ∷ rows) zero (suc k) row h = (row, h)
 row_of_mark (first ∷ rows) (suc i) zero row h = (first, refl)
 row_of_mark (first ∷ rows) (suc i) (suc k) row h = row_of_mark rows i k row h
 
-pub row_of_unmark : (rows : List MessageRow) (k : ℕ) (row : MessageRow) → slice_get (map unmarked rows) k ≡ Some row → (r : MessageRow) × (slice_get rows k ≡ Some r)
+pub row_of_unmark : (rows : List MessageRow) → SamePlaces rows (map unmarked rows)
 row_of_unmark [] k row h = (row, h)
 row_of_unmark (first ∷ rows) zero row h = (first, refl)
 row_of_unmark (first ∷ rows) (suc k) row h = row_of_unmark rows k row h

@@ -1,20 +1,14 @@
 -- Sending an answer in parts.
-use Rattle.std.proofs.Common.{◌≡◌, ◌≤◌, ◌<◌, ◌+◌, ◌-◌, ℕ, List, ◌++◌, Option, Some, None, ap, ◌∙◌, arith, append_assoc, IfSome}
+use Rattle.std.proofs.Common.{◌≡◌, ◌≤◌, ◌<◌, ◌+◌, ◌-◌, ℕ, List, ◌++◌, Option, Some, None, ap, ◌∙◌, append_assoc, IfSome}
 use Rattle.pop3_wire.specs.Link.{Link}
 use Rattle.pop3_server.specs.declared.text_part.TextBody.{TextBody}
-use Rattle.pop3_server.specs.TextAnswer.{Follows, IsFurther}
+use Rattle.pop3_server.specs.TextAnswer.{Follows}
 
 -- a text that follows was begun, and there is room for more of it
 pub room_for : (limit capacity : ℕ) (rest : Option TextBody) → IfSome rest (Follows limit) → IfSome rest (λ text. 98309 ≤ capacity)
     → IfSome rest (λ text. (0 < text.start) × (98309 ≤ capacity))
 room_for limit capacity None follows room = tt
 room_for limit capacity (Some text) follows room = (follows.0, room)
-
--- and still is, when more of it was read
-pub room_on : (capacity : ℕ) (text : TextBody) (rest : Option TextBody) → 98309 ≤ capacity → IfSome rest (IsFurther text)
-    → IfSome rest (λ next. (0 < next.start) × (98309 ≤ capacity))
-room_on capacity text None room further = tt
-room_on capacity text (Some next) room further = (omega (arith, further.more), room)
 
 -- how many more octets of a text may follow, and its end
 abbrev pub to_come : Option TextBody → ℕ

@@ -13,12 +13,13 @@ use Rattle.pop3_server.specs.declared.fault.ServerFault.TheVariants.{ReadFailed,
 use Rattle.pop3_server.specs.declared.text_part.TextBody.{TextBody}
 use Rattle.pop3_server.specs.Maildrop.{Mail}
 use Rattle.pop3_server.specs.ServerMachine.{Machine, greeting, said, is_open}
-use Rattle.pop3_server.specs.LoopLaws.{runs_on}
-use Rattle.pop3_server.specs.AnswersLines.{AnswersLines, AnswersLine, MakesAnswer, SameServer}
+use Rattle.pop3_server.specs.LoopLaws.{lines_on, runs_on}
+use Rattle.pop3_server.specs.AnswersLines.{AnswersLines, AnswersLine, MakesAnswer}
 use Rattle.pop3_server.specs.Got.{Waiting}
 use Rattle.pop3_server.specs.declared.intake.NextLine.TheVariants.{End}
 use Rattle.pop3_server.specs.Serving.{Hears, Queues, AllSent, LastSent, SendsAnswer, Served, WentOut}
 use Rattle.pop3_wire.specs.Bodies.{Drew}
+use Rattle.pop3_server.proofs.ServeIntakeLemmas.{took_none, takes_none}
 
 -- the greeting and the answers to all lines that came whole were sent
 pub record Progress {D : Type 0} (sound : D → Type 0) (mail : D → Mail) (old : Machine D) (before : Link) (server : Machine D) (link : Link) (waiting : Waiting) : Type 0 where
@@ -51,10 +52,6 @@ greeted sound mail old server before link waiting hello same is sends starts = r
 pub run_one : {D : Type 0} (sound : D → Type 0) (mail : D → Mail) (a b : Machine D) (line answer : List ℕ) → AnswersLine sound mail a line answer b → AnswersLines sound mail a (line ∷ []) answer b
 run_one sound mail a b line answer turn = (answer, [], b, sym (append-nil answer), turn, (refl, refl))
 
-all_push : (lines : List (List ℕ)) (line : List ℕ) → AllByRecursion IsLine lines → IsLine line → AllByRecursion IsLine (lines ++ line ∷ [])
-all_push [] line all is = (is, tt)
-all_push (first ∷ lines) line all is = (all.0, all_push lines line all.1 is)
-
 -- one more line came and was answered
 pub progress_line : {D : Type 0} (sound : D → Type 0) (mail : D → Mail) (old server next : Machine D) (before link taken sent : Link) (waiting after : Waiting) (g line answer : List ℕ)
     → Progress sound mail old before server link waiting → Drew link taken g → waiting.octets ++ g ≡ ended line ++ after.octets → length g + after.left ≡ waiting.left → IsLine line
@@ -63,17 +60,15 @@ progress_line sound mail old server next before link taken sent waiting after g 
   gained = p.gained ++ g;
   lines = p.lines ++ line ∷ [];
   answers = p.answers ++ answer;
-  each = all_push p.lines line p.each is;
+  each = lines_on p.lines (line ∷ []) p.each (is, tt);
   got = ap (λ (l : Link). l.got) sends ∙ took.got ∙ ap (λ (l : List ℕ). l ++ g) p.got ∙ append_assoc before.got p.gained g;
   heard = ap (λ (l : List ℕ). l ++ g) p.heard ∙ append_assoc (flat_map ended p.lines) waiting.octets g ∙ ap (λ (l : List ℕ). flat_map ended p.lines ++ l) octets
       ∙ sym (append_assoc (flat_map ended p.lines) (ended line) after.octets) ∙ ap (λ (l : List ℕ). l ++ after.octets) (flat_map_more ended [] p.lines line);
   left = let start : length p.gained + waiting.left ≡ 16777216 = p.left in omega (arith, length-append p.gained g);
-  sent = ap (λ (l : Link). l.sent) sends ∙ ap (λ (l : List ℕ). l ++ answer) (took.sent ∙ p.sent) ∙ moved before.sent greeting p.answers answer;
+  sent = ap (λ (l : Link). l.sent) sends ∙ ap (λ (l : List ℕ). l ++ answer) (took.sent ∙ p.sent) ∙ append_assoc before.sent (greeting ++ p.answers) answer
+      ∙ ap (λ (l : List ℕ). before.sent ++ l) (append_assoc greeting p.answers answer);
   run = runs_on sound mail old server next p.lines (line ∷ []) p.answers answer p.run (run_one sound mail server next line answer turn);
 }
-  where
-    moved : (a b c d : List ℕ) → (a ++ (b ++ c)) ++ d ≡ a ++ (b ++ (c ++ d))
-    moved a b c d = simp append_assoc
 
 pub all_sent : {D : Type 0} (sound : D → Type 0) (mail : D → Mail) (old server : Machine D) (before link : Link) (waiting : Waiting)
     (p : Progress sound mail old before server link waiting) → AllSent sound mail old p.lines (greeting ++ p.answers) server
@@ -99,24 +94,33 @@ within : {D : Type 0} (sound : D → Type 0) (mail : D → Mail) (old server : M
     (p : Progress sound mail old before server link waiting) → length g + left ≡ waiting.left → length (p.gained ++ g) + left ≡ 16777216
 within sound mail old server before link waiting g left p more = let start : length p.gained + waiting.left ≡ 16777216 = p.left in omega (arith, length-append p.gained g)
 
+-- no whole line came
+served_after : {D : Type 0} (sound : D → Type 0) (mail : D → Mail) (old server next : Machine D) (before link taken : Link) (waiting after : Waiting) (g dropped : List ℕ) (result : Result (Unit {0}) ServerFault)
+    (p : Progress sound mail old before server link waiting) → Drew link taken g → Queues waiting dropped after g
+    → WentOut sound mail old p.lines (dropped ++ after.octets) (greeting ++ p.answers) result next
+    → (result ≡ Ok tt → (is_open next.state ≡ false) ⊎ ((taken.ended ≡ true) ⊎ (length (p.gained ++ g) ≡ 16777216)))
+    → Served sound mail old before result next taken
+served_after sound mail old server next before link taken waiting after g dropped result p took takes answered ends =
+    let total = within sound mail old server before link waiting g after.left p takes.left in
+    record {
+      gained = p.gained ++ g;
+      got = took.got ∙ ap (λ (l : List ℕ). l ++ g) p.got ∙ append_assoc before.got p.gained g;
+      bound = omega arith;
+      lines = p.lines;
+      rest = dropped ++ after.octets;
+      each = p.each;
+      heard = ap (λ (l : List ℕ). l ++ g) p.heard ∙ append_assoc (flat_map ended p.lines) waiting.octets g ∙ ap (λ (l : List ℕ). flat_map ended p.lines ++ l) takes.octets;
+      out = greeting ++ p.answers;
+      sent = took.sent ∙ p.sent;
+      answered = answered;
+      ends = ends;
+    }
+
 -- the session is over
 pub served_closed : {D : Type 0} (sound : D → Type 0) (mail : D → Mail) (old server : Machine D) (before link : Link) (waiting : Waiting)
     → Progress sound mail old before server link waiting → is_open server.state ≡ false → Served sound mail old before (Ok tt) server link
 served_closed sound mail old server before link waiting p closed =
-    let total : length p.gained + waiting.left ≡ 16777216 = p.left in
-    record {
-      gained = p.gained;
-      got = p.got;
-      bound = omega arith;
-      lines = p.lines;
-      rest = waiting.octets;
-      each = p.each;
-      heard = p.heard;
-      out = greeting ++ p.answers;
-      sent = p.sent;
-      answered = (all_sent sound mail old server before link waiting p, inl closed);
-      ends = λ _. inl closed;
-    }
+    served_after sound mail old server server before link link waiting waiting [] [] (Ok tt) p (took_none link) (takes_none waiting) (all_sent sound mail old server before link waiting p, inl closed) (λ _. inl closed)
 
 -- one more line came, and this much of its answer was sent before a fault
 served_last : {D : Type 0} (sound : D → Type 0) (mail : D → Mail) (old server next : Machine D) (before link taken sent : Link) (waiting after : Waiting) (g line front : List ℕ) (fault : ServerFault)
@@ -131,7 +135,7 @@ served_last sound mail old server next before link taken sent waiting after g li
       bound = omega arith;
       lines = p.lines ++ line ∷ [];
       rest = after.octets;
-      each = all_push p.lines line p.each is;
+      each = lines_on p.lines (line ∷ []) p.each (is, tt);
       heard = ap (λ (l : List ℕ). l ++ g) p.heard ∙ append_assoc (flat_map ended p.lines) waiting.octets g ∙ ap (λ (l : List ℕ). flat_map ended p.lines ++ l) octets
           ∙ sym (append_assoc (flat_map ended p.lines) (ended line) after.octets) ∙ ap (λ (l : List ℕ). l ++ after.octets) (flat_map_more ended [] p.lines line);
       out = (greeting ++ p.answers) ++ front;
@@ -155,25 +159,6 @@ served_unsent sound mail old server next before link taken sent waiting after g 
           (subst (λ (l : List ℕ). MakesAnswer sound mail server line l text next) part makes),
     ))
 
--- one more line came, and memory ran out for its answer
-served_unanswered : {D : Type 0} (sound : D → Type 0) (mail : D → Mail) (old server next : Machine D) (before link taken : Link) (waiting : Waiting) (g : List ℕ) (left : ℕ)
-    → Progress sound mail old before server link waiting → Drew link taken g → length g + left ≡ waiting.left → SameServer sound mail server next → Served sound mail old before (Err NoMemory) next taken
-served_unanswered sound mail old server next before link taken waiting g left p took more same =
-    let total = within sound mail old server before link waiting g left p more in
-    record {
-      gained = p.gained ++ g;
-      got = took.got ∙ ap (λ (l : List ℕ). l ++ g) p.got ∙ append_assoc before.got p.gained g;
-      bound = omega arith;
-      lines = p.lines;
-      rest = waiting.octets ++ g;
-      each = p.each;
-      heard = ap (λ (l : List ℕ). l ++ g) p.heard ∙ append_assoc (flat_map ended p.lines) waiting.octets g;
-      out = greeting ++ p.answers;
-      sent = took.sent ∙ p.sent;
-      answered = inr (server, all_sent sound mail old server before link waiting p, same);
-      ends = λ e. cc;
-    }
-
 -- one more line came, and its answer met a fault
 pub served_stopped : {D : Type 0} (sound : D → Type 0) (mail : D → Mail) (old server next : Machine D) (before link taken sent : Link) (waiting after : Waiting) (g line : List ℕ) (fault : ServerFault)
     → Progress sound mail old before server link waiting → Drew link taken g → waiting.octets ++ g ≡ ended line ++ after.octets → length g + after.left ≡ waiting.left → IsLine line
@@ -192,41 +177,14 @@ served_stopped sound mail old server next before link taken sent waiting after g
     )
 served_stopped sound mail old server next before link taken sent waiting after g line NoMemory p took octets left is (same, none) =
     subst (λ (l : Link). Served sound mail old before (Err NoMemory) next l) (sym none)
-    (served_unanswered sound mail old server next before link taken waiting g after.left p took left same)
-
--- no whole line came
-served_after : {D : Type 0} (sound : D → Type 0) (mail : D → Mail) (old server : Machine D) (before link taken : Link) (waiting after : Waiting) (g dropped : List ℕ) (result : Result (Unit {0}) ServerFault)
-    (p : Progress sound mail old before server link waiting) → Drew link taken g → Queues waiting dropped after g
-    → WentOut sound mail old p.lines (dropped ++ after.octets) (greeting ++ p.answers) result server
-    → (result ≡ Ok tt → (is_open server.state ≡ false) ⊎ ((taken.ended ≡ true) ⊎ (length (p.gained ++ g) ≡ 16777216)))
-    → Served sound mail old before result server taken
-served_after sound mail old server before link taken waiting after g dropped result p took takes answered ends =
-    let total = within sound mail old server before link waiting g after.left p takes.left in
-    record {
-      gained = p.gained ++ g;
-      got = took.got ∙ ap (λ (l : List ℕ). l ++ g) p.got ∙ append_assoc before.got p.gained g;
-      bound = omega arith;
-      lines = p.lines;
-      rest = dropped ++ after.octets;
-      each = p.each;
-      heard = ap (λ (l : List ℕ). l ++ g) p.heard ∙ append_assoc (flat_map ended p.lines) waiting.octets g ∙ ap (λ (l : List ℕ). flat_map ended p.lines ++ l) takes.octets;
-      out = greeting ++ p.answers;
-      sent = took.sent ∙ p.sent;
-      answered = answered;
-      ends = ends;
-    }
-
-pub served_unread : {D : Type 0} (sound : D → Type 0) (mail : D → Mail) (old server : Machine D) (before link taken : Link) (waiting after : Waiting) (fault : ServerFault)
-    → Progress sound mail old before server link waiting → Hears link waiting (Err fault) taken after → Served sound mail old before (Err fault) server taken
-served_unread sound mail old server before link taken waiting after fault p heard =
-    subst (λ (f : ServerFault). Served sound mail old before (Err f) server taken) (sym heard.0)
-    (served_after sound mail old server before link taken waiting after heard.1.0 heard.1.1 (Err ReadFailed) p heard.1.2 heard.1.3 (all_sent sound mail old server before link waiting p) (λ e. cc))
+    (served_after sound mail old server next before link taken waiting (record { octets = waiting.octets ++ g; left = after.left }) g [] (Err NoMemory) p took (record { octets = refl; left = left })
+    (inr (server, all_sent sound mail old server before link waiting p, same)) (λ e. cc))
 
 pub served_ended : {D : Type 0} (sound : D → Type 0) (mail : D → Mail) (old server : Machine D) (before link taken : Link) (waiting after : Waiting)
     → Progress sound mail old before server link waiting → Hears link waiting (Ok End) taken after → Served sound mail old before (Ok tt) server taken
 served_ended sound mail old server before link taken waiting after p heard =
     let total = within sound mail old server before link waiting heard.0 after.left p heard.3.left in
-    served_after sound mail old server before link taken waiting after heard.0 heard.1 (Ok tt) p heard.2 heard.3 (all_sent sound mail old server before link waiting p, inr heard.4)
+    served_after sound mail old server server before link taken waiting after heard.0 heard.1 (Ok tt) p heard.2 heard.3 (all_sent sound mail old server before link waiting p, inr heard.4)
     (λ _. inr (elim heard.5 [ inl ends ↦ inl ends | inr none ↦ inr (omega (arith, total, none)) ]))
 
 -- not even the greeting was sent whole

@@ -1,5 +1,5 @@
 -- The size of a text by what its bytes add.
-use Rattle.std.proofs.Common.{◌≡◌, ◌==◌, ℕ, ◌+◌, Bool, true, false, not, List, [], ◌∷◌, ◌++◌, length, refl, sym, ◌∙◌, ap, arith, inl, inr, if◌then◌else◌}
+use Rattle.std.proofs.Common.{◌≡◌, ◌≢◌, ◌==◌, ℕ, ◌+◌, Bool, true, false, not, List, [], ◌∷◌, ◌++◌, length, refl, sym, ◌∙◌, ap, arith, inl, inr, if◌then◌else◌}
 use Rattle.std.specs.List.{flat_map, sum_by, onto_first}
 use Rattle.std.proofs.lemmas.List.Sums.{sum_by-cons, sum_by-append}
 use Rattle.pop3_wire.specs.Line.{ended}
@@ -10,28 +10,18 @@ use Rattle.pop3_server.specs.TextPiece.{is_open_after}
 use Rattle.pop3_server.proofs.TextPieceLemmas.{open_append}
 use Rattle.pop3_server.specs.Size.{size_of, weight, ends_open, capped, CountsText}
 
--- these are the lines of a text that isn't empty
-record Some (lines : List (List ℕ)) : Type 0 where
-  first : List ℕ
-  more : List (List ℕ)
-  is : lines ≡ first ∷ more
-
-some_onto : (byte : ℕ) (lines : List (List ℕ)) → Some (onto_first byte lines)
-some_onto byte [] = record { first = _; more = _; is = refl }
-some_onto byte (line ∷ lines) = record { first = _; more = _; is = refl }
-
-some_if : (at_end : Bool) (byte : ℕ) (lines : List (List ℕ)) → Some (if at_end then [] ∷ lines else onto_first byte lines)
-some_if true byte lines = record { first = []; more = lines; is = refl }
-some_if false byte lines = some_onto byte lines
-
-some_lines : (byte : ℕ) (rest : List ℕ) → Some (lines_of_text (byte ∷ rest))
-some_lines byte rest = some_if (byte == 10) byte (lines_of_text rest)
+-- a text that isn't empty has lines
+some_lines : (at_end : Bool) (byte : ℕ) (lines : List (List ℕ)) → (if at_end then [] ∷ lines else onto_first byte lines) ≢ []
+some_lines true byte lines = λ e. cc
+some_lines false byte [] = λ e. cc
+some_lines false byte (line ∷ lines) = λ e. cc
 
 -- a byte before some lines adds one octet, and an end of a line two
-size_more : (at_end : Bool) (byte : ℕ) (line : List ℕ) (lines : List (List ℕ))
-    → length (flat_map ended (if at_end then [] ∷ (line ∷ lines) else onto_first byte (line ∷ lines))) ≡ (if at_end then 2 else 1) + length (flat_map ended (line ∷ lines))
-size_more true byte line lines = omega arith
-size_more false byte line lines = omega arith
+size_more : (at_end : Bool) (byte : ℕ) (lines : List (List ℕ)) → lines ≢ []
+    → length (flat_map ended (if at_end then [] ∷ lines else onto_first byte lines)) ≡ (if at_end then 2 else 1) + length (flat_map ended lines)
+size_more at_end byte [] some = absurd (some refl)
+size_more true byte (line ∷ lines) some = omega arith
+size_more false byte (line ∷ lines) some = omega arith
 
 size_one : (at_end : Bool) (byte : ℕ) → length (flat_map ended (if at_end then [] ∷ [] else onto_first byte [])) ≡ (if at_end then 2 else 1) + (if not at_end then 2 else 0)
 size_one true byte = refl
@@ -41,9 +31,8 @@ pub size_of-weights : (text : List ℕ) → size_of text ≡ sum_by weight text 
 size_of-weights [] = refl
 size_of-weights (byte ∷ []) = size_one (byte == 10) byte ∙ omega (arith, sum_by-cons weight byte [])
 size_of-weights (byte ∷ other ∷ rest) =
-    let some : Some (lines_of_text (other ∷ rest)) = some_lines other rest in
-    let more : length (flat_map ended (if byte == 10 then [] ∷ lines_of_text (other ∷ rest) else onto_first byte (lines_of_text (other ∷ rest)))) ≡ weight byte + size_of (other ∷ rest) = rw some.is (size_more (byte == 10) byte some.first some.more) in
-    more ∙ ap (λ n. weight byte + n) (size_of-weights (other ∷ rest)) ∙ omega (arith, sum_by-cons weight byte (other ∷ rest))
+    size_more (byte == 10) byte (lines_of_text (other ∷ rest)) (some_lines (other == 10) other (lines_of_text rest))
+    ∙ ap (λ n. weight byte + n) (size_of-weights (other ∷ rest)) ∙ omega (arith, sum_by-cons weight byte (other ∷ rest))
 
 -- a piece without LF adds its length
 weights : (piece : List ℕ) → HasNoLf piece → sum_by weight piece ≡ length piece
@@ -68,12 +57,12 @@ CountsText-more count next text piece rest octets in_line none h counted open_no
 }
 
 -- the size of what was counted, if the last line is open and if it isn't
-pub size-open : (count : SizeCount) (text : List ℕ) → CountsText count text → count.in_line ≡ true → capped (count.octets + 2) ≡ capped (size_of text)
-size-open count text h more = let open_text : ends_open text ≡ true = sym h.in_line ∙ more in
+pub size_open : (count : SizeCount) (text : List ℕ) → CountsText count text → count.in_line ≡ true → capped (count.octets + 2) ≡ capped (size_of text)
+size_open count text h more = let open_text : ends_open text ≡ true = sym h.in_line ∙ more in
     let e = size_of-weights text in
     let e2 : size_of text ≡ sum_by weight text + 2 = rw open_text at e in omega (arith, h.octets, e2)
 
-pub size-closed : (count : SizeCount) (text : List ℕ) → CountsText count text → count.in_line ≡ false → count.octets ≡ capped (size_of text)
-size-closed count text h closed = let closed_text : ends_open text ≡ false = sym h.in_line ∙ closed in
+pub size_closed : (count : SizeCount) (text : List ℕ) → CountsText count text → count.in_line ≡ false → count.octets ≡ capped (size_of text)
+size_closed count text h closed = let closed_text : ends_open text ≡ false = sym h.in_line ∙ closed in
     let e = size_of-weights text in
     let e2 : size_of text ≡ sum_by weight text + 0 = rw closed_text at e in omega (arith, h.octets, e2)

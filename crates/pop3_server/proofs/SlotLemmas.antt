@@ -4,7 +4,7 @@ use Rattle.std.proofs.lemmas.List.{take_more, append-nil, map-append, length-app
 use Rattle.std.proofs.lemmas.List.Elements.{Contains-push_cases, Contains-append_left, Contains-append_right, Contains-append_cases}
 use Rattle.mail_terms.specs.Distinct.{AreDistinct}
 use Rattle.pop3_wire.specs.World.{Message}
-use Rattle.pop3_server.specs.Maildrop.{Listed, there, ids, entry_of}
+use Rattle.pop3_server.specs.Maildrop.{there, ids}
 use Rattle.pop3_server.proofs.DistinctLemmas.{distinct_head, distinct_tail, distinct_cons}
 
 -- ---- places in order
@@ -50,26 +50,21 @@ left_ids (Some m ∷ slots) (suc i) uid h =
       | inr later ↦ Contains-append_right (m.uid ∷ []) (ids slots) uid (left_ids slots i uid later)
     ]
 
-pub AreDistinct-removed : (slots : List (Option Message)) (i : ℕ) → AreDistinct (ids slots) → AreDistinct (ids (slice_set slots i None))
-AreDistinct-removed [] i distinct = distinct
-AreDistinct-removed (None ∷ slots) zero distinct = distinct
-AreDistinct-removed (Some m ∷ slots) zero distinct = distinct_tail m.uid (ids slots) distinct
-AreDistinct-removed (None ∷ slots) (suc i) distinct = AreDistinct-removed slots i distinct
-AreDistinct-removed (Some m ∷ slots) (suc i) distinct =
+pub distinct_removed : (slots : List (Option Message)) (i : ℕ) → AreDistinct (ids slots) → AreDistinct (ids (slice_set slots i None))
+distinct_removed [] i distinct = distinct
+distinct_removed (None ∷ slots) zero distinct = distinct
+distinct_removed (Some m ∷ slots) zero distinct = distinct_tail m.uid (ids slots) distinct
+distinct_removed (None ∷ slots) (suc i) distinct = distinct_removed slots i distinct
+distinct_removed (Some m ∷ slots) (suc i) distinct =
     distinct_cons m.uid (ids (slice_set slots i None)) (λ h. distinct_head m.uid (ids slots) distinct (left_ids slots i m.uid h))
-    (AreDistinct-removed slots i (distinct_tail m.uid (ids slots) distinct))
+    (distinct_removed slots i (distinct_tail m.uid (ids slots) distinct))
 
-pub count-removed : (slots : List (Option Message)) (i : ℕ) → length (there (slice_set slots i None)) ≤ length (there slots)
-count-removed [] i = omega arith
-count-removed (None ∷ slots) zero = omega arith
-count-removed (Some m ∷ slots) zero = omega arith
-count-removed (None ∷ slots) (suc i) = count-removed slots i
-count-removed (Some m ∷ slots) (suc i) = let h = count-removed slots i in omega (arith, h)
-
--- the ids of a listing are those of the messages
-pub ids-listed : (ms : List Message) → map (λ (e : Listed). e.uid) (map entry_of ms) ≡ map (λ (m : Message). m.uid) ms
-ids-listed [] = refl
-ids-listed (m ∷ ms) = ap (λ l. m.uid ∷ l) (ids-listed ms)
+pub count_removed : (slots : List (Option Message)) (i : ℕ) → length (there (slice_set slots i None)) ≤ length (there slots)
+count_removed [] i = omega arith
+count_removed (None ∷ slots) zero = omega arith
+count_removed (Some m ∷ slots) zero = omega arith
+count_removed (None ∷ slots) (suc i) = count_removed slots i
+count_removed (Some m ∷ slots) (suc i) = let h = count_removed slots i in omega (arith, h)
 
 -- the message at a place is there
 pub Contains-slot : (slots : List (Option Message)) (i : ℕ) (slot : Option Message) (m : Message) → i < length slots → slot ≡ get_or slots i slot → slot ≡ Some m → Contains (ids slots) m.uid
@@ -93,7 +88,3 @@ absent_some slots i slot m uid fits is some other absent h =
 -- a message was appended
 pub count-push : (slots : List (Option Message)) (m : Message) → length (there (slots ++ Some m ∷ [])) ≡ length (there slots) + 1
 count-push slots m = ap length (there-append slots (Some m ∷ [])) ∙ length-append (there slots) (m ∷ [])
-
--- the messages that are there, in new places
-pub ids_map : (ms : List Message) → ids (map (λ m. Some m) ms) ≡ map (λ (x : Message). x.uid) ms
-ids_map ms = ap (map (λ (x : Message). x.uid)) (there_map ms)

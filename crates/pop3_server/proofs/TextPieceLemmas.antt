@@ -13,11 +13,6 @@ pub open_append : (in_line : Bool) (one two : List ℕ) → is_open_after in_lin
 open_append in_line [] two = refl
 open_append in_line (byte ∷ one) two = open_append (not (byte == 10)) one two
 
--- after the end of a line no line is open
-pub open_line : (in_line : Bool) (line after : List ℕ) → HasNoLf line → is_open_after in_line (line ++ 10 ∷ after) ≡ is_open_after false after
-open_line in_line [] after none = refl
-open_line in_line (byte ∷ line) after none = open_line (not (byte == 10)) line after none.1
-
 open_on : (rest : List ℕ) → HasNoLf rest → is_open_after true rest ≡ true
 open_on [] none = refl
 open_on (byte ∷ rest) none = elim (eqb_tells byte 10) [
@@ -26,46 +21,25 @@ open_on (byte ∷ rest) none = elim (eqb_tells byte 10) [
 ]
 
 -- after some octets without LF a line is open
-pub open_rest : (in_line : Bool) (byte : ℕ) (rest : List ℕ) → HasNoLf (byte ∷ rest) → is_open_after in_line (byte ∷ rest) ≡ true
-open_rest in_line byte rest none = open_on (byte ∷ rest) none
-
--- the same if there are any octets
 pub open_some : (in_line : Bool) (rest : List ℕ) → HasNoLf rest → rest ≢ [] → is_open_after in_line rest ≡ true
 open_some in_line [] none some = absurd (some refl)
-open_some in_line (byte ∷ rest) none some = open_rest in_line byte rest none
-
-pub none_of : (rest : List ℕ) → length rest ≡ 0 → rest ≡ []
-none_of [] zero = refl
-none_of (byte ∷ rest) zero = absurd (omega (arith, zero))
+open_some in_line (byte ∷ rest) none some = open_on (byte ∷ rest) none
 
 -- ---- what pieces add to a body
 
-sent_on : (line after : List ℕ) → HasNoLf line → sent_piece true (line ++ 10 ∷ after) ≡ line ++ (crlf ++ sent_piece false after)
-sent_on [] after none = refl
-sent_on (byte ∷ line) after none = elim (eqb_tells byte 10) [
-  | inl p ↦ absurd (none.0 p.1)
-  | inr p ↦ rw p.0 (ap (λ (l : List ℕ). byte ∷ l) (sent_on line after none.1))
-]
+-- two pieces in a row
+pub sent_append : (in_line : Bool) (one two : List ℕ) → sent_piece in_line (one ++ two) ≡ sent_piece in_line one ++ sent_piece (is_open_after in_line one) two
+sent_append in_line [] two = refl
+sent_append in_line (byte ∷ one) two =
+    let first = if byte == 10 then crlf else stuffing in_line (byte ∷ []) ++ byte ∷ [] in
+    ap (λ (l : List ℕ). first ++ l) (sent_append (not (byte == 10)) one two)
+    ∙ sym (append_assoc first (sent_piece (not (byte == 10)) one) (sent_piece (is_open_after (not (byte == 10)) one) two))
 
 sent_on_rest : (rest : List ℕ) → HasNoLf rest → sent_piece true rest ≡ rest
 sent_on_rest [] none = refl
 sent_on_rest (byte ∷ rest) none = elim (eqb_tells byte 10) [
   | inl p ↦ absurd (none.0 p.1)
   | inr p ↦ rw p.0 (ap (λ (l : List ℕ). byte ∷ l) (sent_on_rest rest none.1))
-]
-
--- a line and its end
-pub sent_line_more : (in_line : Bool) (line after : List ℕ) → HasNoLf line
-    → sent_piece in_line (line ++ 10 ∷ after) ≡ ((stuffing in_line line ++ line) ++ crlf) ++ sent_piece false after
-sent_line_more in_line [] after none = refl
-sent_line_more in_line (byte ∷ line) after none = elim (eqb_tells byte 10) [
-  | inl p ↦ absurd (none.0 p.1)
-  | inr p ↦ rw p.0 (
-      let start = stuffing in_line (byte ∷ []) in
-      ap (λ (l : List ℕ). (start ++ byte ∷ []) ++ l) (sent_on line after none.1)
-      ∙ append_assoc start (byte ∷ []) (line ++ (crlf ++ sent_piece false after))
-      ∙ sym (append_assoc (start ++ byte ∷ line) crlf (sent_piece false after) ∙ append_assoc start (byte ∷ line) (crlf ++ sent_piece false after))
-      )
 ]
 
 -- octets without LF
@@ -79,6 +53,13 @@ sent_rest in_line (byte ∷ rest) none = elim (eqb_tells byte 10) [
       )
 ]
 
+-- a line and its end
+pub sent_line_more : (in_line : Bool) (line after : List ℕ) → HasNoLf line
+    → sent_piece in_line (line ++ 10 ∷ after) ≡ ((stuffing in_line line ++ line) ++ crlf) ++ sent_piece false after
+sent_line_more in_line line after none =
+    sent_append in_line line (10 ∷ after) ∙ ap (λ (l : List ℕ). l ++ (crlf ++ sent_piece false after)) (sent_rest in_line line none)
+    ∙ sym (append_assoc (stuffing in_line line ++ line) crlf (sent_piece false after))
+
 -- stuffing adds at most one octet, and none to an empty line
 pub stuffing_length : (in_line : Bool) (line : List ℕ) → (length (stuffing in_line line) ≤ 1) × (length (stuffing in_line line) ≤ length line)
 stuffing_length in_line [] = (omega arith, omega arith)
@@ -87,14 +68,6 @@ stuffing_length false (byte ∷ line) = elim (eqb_tells byte 46) [
   | inl p ↦ rw p.0 (omega arith, omega arith)
   | inr p ↦ rw p.0 (omega arith, omega arith)
 ]
-
--- two pieces in a row
-pub sent_append : (in_line : Bool) (one two : List ℕ) → sent_piece in_line (one ++ two) ≡ sent_piece in_line one ++ sent_piece (is_open_after in_line one) two
-sent_append in_line [] two = refl
-sent_append in_line (byte ∷ one) two =
-    let first = if byte == 10 then crlf else stuffing in_line (byte ∷ []) ++ byte ∷ [] in
-    ap (λ (l : List ℕ). first ++ l) (sent_append (not (byte == 10)) one two)
-    ∙ sym (append_assoc first (sent_piece (not (byte == 10)) one) (sent_piece (is_open_after (not (byte == 10)) one) two))
 
 -- ---- the body of a whole text
 
@@ -148,5 +121,4 @@ sent_whole text =
 -- ---- what was appended
 
 pub regroup : (before start line end after : List ℕ) → (((before ++ start) ++ line) ++ end) ++ after ≡ before ++ (((start ++ line) ++ end) ++ after)
-regroup [] start line end after = refl
-regroup (byte ∷ before) start line end after = ap (λ (l : List ℕ). byte ∷ l) (regroup before start line end after)
+regroup before start line end after = simp append_assoc

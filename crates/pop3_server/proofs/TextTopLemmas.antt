@@ -1,10 +1,10 @@
 -- The top of a text, by its octets.
 use Rattle.std.proofs.Common.{◌≡◌, ◌==◌, ◌<◌, ◌-◌, ◌||◌, ℕ, zero, suc, Bool, true, false, not, List, [], ◌∷◌, ◌++◌, length, take, length-append, append_assoc, Some, IsTrue, ◌↔◌, refl, sym, ap, ◌∙◌, arith, inl, inr, take_at, true≢false}
 use Rattle.std.specs.List.{onto_first}
-use Rattle.std.proofs.lemmas.Bool.Decides.{eqb_tells}
+use Rattle.std.proofs.lemmas.Bool.Decides.{eqb_tells, nat_tests}
 use Rattle.mail_terms.specs.Text.{lines_of_text, HasNoLf}
 use Rattle.pop3_wire.specs.Stuffed.{stuffed_lines}
-use Rattle.pop3_server.specs.ServerMachine.{text_body, top_from, top_lines}
+use Rattle.pop3_server.specs.ServerMachine.{text_body, top_from}
 use Rattle.pop3_server.specs.TextPiece.{is_open_after, sent_end, sent_piece, top_octets}
 use Rattle.pop3_server.proofs.TextPieceLemmas.{sent_whole}
 
@@ -22,10 +22,7 @@ from_open n (line ∷ lines) = line ∷ top_from true n lines
 
 -- a line with an octet in it isn't empty
 some_octets : (k : ℕ) → (suc k == 0) ≡ false
-some_octets k = elim (eqb_tells (suc k) 0) [
-  | inl p ↦ absurd (omega (arith, p.1))
-  | inr p ↦ p.0
-]
+some_octets k = grind (arith, nat_tests)
 
 top_first : (n byte : ℕ) (lines : List (List ℕ)) → onto_first byte (from_open n lines) ≡ top_from true n (onto_first byte lines)
 top_first n byte [] = refl
@@ -63,54 +60,28 @@ lines_of_top false in_line (suc n) (byte ∷ text) = elim (eqb_tells byte 10) [
   | inr p ↦ rw p.0 (ap (onto_first byte) (lines_of_top false true (suc n) text) ∙ behind_first n byte (lines_of_text text))
 ]
 
--- the top of a text by its octets and by its lines
-pub lines_of_whole_top : (n : ℕ) (text : List ℕ) → lines_of_text (top_octets true false n text) ≡ top_lines n (lines_of_text text)
-lines_of_whole_top n text = lines_of_top true false n text
-
 -- ---- what it takes
 
--- octets without LF, if a line is open
-head_rest : (n : ℕ) (piece rest : List ℕ) → HasNoLf piece → top_octets true true n (piece ++ rest) ≡ piece ++ top_octets true true n rest
-head_rest n [] rest none = refl
-head_rest n (byte ∷ piece) rest none = elim (eqb_tells byte 10) [
-  | inl p ↦ absurd (none.0 p.1)
-  | inr p ↦ rw p.0 (ap (λ (l : List ℕ). byte ∷ l) (head_rest n piece rest none.1))
-]
+-- an octet that isn't LF, if more of the top is to come
+one_octet : (in_head in_line : Bool) (n byte : ℕ) (rest : List ℕ) → (byte == 10) ≡ false → (in_head ≡ false → 0 < n) → top_octets in_head in_line n (byte ∷ rest) ≡ byte ∷ top_octets in_head true n rest
+one_octet true in_line n byte rest other more = rw other refl
+one_octet false in_line zero byte rest other more = absurd (omega (arith, more refl))
+one_octet false in_line (suc n) byte rest other more = rw other refl
 
-later_rest : (n : ℕ) (piece rest : List ℕ) → HasNoLf piece → top_octets false true (suc n) (piece ++ rest) ≡ piece ++ top_octets false true (suc n) rest
-later_rest n [] rest none = refl
-later_rest n (byte ∷ piece) rest none = elim (eqb_tells byte 10) [
-  | inl p ↦ absurd (none.0 p.1)
-  | inr p ↦ rw p.0 (ap (λ (l : List ℕ). byte ∷ l) (later_rest n piece rest none.1))
-]
+opens : (in_line : Bool) (k : ℕ) → (in_line || not (suc k == 0)) ≡ true
+opens true k = refl
+opens false k = ap not (some_octets k)
 
-first_of_head : (n byte : ℕ) (piece rest : List ℕ) → HasNoLf (byte ∷ piece) → top_octets true false n ((byte ∷ piece) ++ rest) ≡ (byte ∷ piece) ++ top_octets true true n rest
-first_of_head n byte piece rest none = elim (eqb_tells byte 10) [
-  | inl p ↦ absurd (none.0 p.1)
-  | inr p ↦ rw p.0 (ap (λ (l : List ℕ). byte ∷ l) (head_rest n piece rest none.1))
-]
-
-first_of_later : (n byte : ℕ) (piece rest : List ℕ) → HasNoLf (byte ∷ piece) → top_octets false false (suc n) ((byte ∷ piece) ++ rest) ≡ (byte ∷ piece) ++ top_octets false true (suc n) rest
-first_of_later n byte piece rest none = elim (eqb_tells byte 10) [
-  | inl p ↦ absurd (none.0 p.1)
-  | inr p ↦ rw p.0 (ap (λ (l : List ℕ). byte ∷ l) (later_rest n piece rest none.1))
-]
-
-some_open : (line : List ℕ) → not (suc (length line) == 0) ≡ true
-some_open line = ap not (some_octets (length line))
-
--- octets without LF, if more of the top is to come
+-- octets without LF
 pub takes_rest : (in_head in_line opened : Bool) (n : ℕ) (piece rest : List ℕ) → HasNoLf piece → (in_head ≡ false → 0 < n) → opened ≡ (in_line || not (length piece == 0))
     → top_octets in_head in_line n (piece ++ rest) ≡ piece ++ top_octets in_head opened n rest
-takes_rest true true opened n piece rest none more is = head_rest n piece rest none ∙ ap (λ b. piece ++ top_octets true b n rest) (sym is)
-takes_rest true false opened n [] rest none more is = ap (λ b. top_octets true b n rest) (sym is)
-takes_rest true false opened n (byte ∷ piece) rest none more is =
-    first_of_head n byte piece rest none ∙ ap (λ b. (byte ∷ piece) ++ top_octets true b n rest) (sym (is ∙ some_open piece))
-takes_rest false in_line opened zero piece rest none more is = absurd (omega (arith, more refl))
-takes_rest false true opened (suc n) piece rest none more is = later_rest n piece rest none ∙ ap (λ b. piece ++ top_octets false b (suc n) rest) (sym is)
-takes_rest false false opened (suc n) [] rest none more is = ap (λ b. top_octets false b (suc n) rest) (sym is)
-takes_rest false false opened (suc n) (byte ∷ piece) rest none more is =
-    first_of_later n byte piece rest none ∙ ap (λ b. (byte ∷ piece) ++ top_octets false b (suc n) rest) (sym (is ∙ some_open piece))
+takes_rest in_head true opened n [] rest none more is = ap (λ b. top_octets in_head b n rest) (sym is)
+takes_rest in_head false opened n [] rest none more is = ap (λ b. top_octets in_head b n rest) (sym is)
+takes_rest in_head in_line opened n (byte ∷ piece) rest none more is = elim (eqb_tells byte 10) [
+  | inl p ↦ absurd (none.0 p.1)
+  | inr p ↦ one_octet in_head in_line n byte (piece ++ rest) p.0 more
+      ∙ ap (λ (l : List ℕ). byte ∷ l) (takes_rest in_head true opened n piece rest none.1 more (is ∙ opens in_line (length piece)))
+]
 
 -- a line ends; it was one of the head, or came after it
 pub ends_head : (in_head in_line opened : Bool) (n left : ℕ) (line rest : List ℕ) → HasNoLf line → in_head ≡ true → opened ≡ (in_line || not (length line == 0)) → left ≡ n
@@ -144,7 +115,7 @@ done_takes_none false in_line (suc n) later none (byte ∷ rest) = absurd (omega
 -- ---- its body
 
 pub top_body : (n : ℕ) (text top : List ℕ) → top_octets true false n text ≡ top → sent_piece false top ++ sent_end (is_open_after false top) ≡ text_body (Some n) text
-top_body n text top is = sent_whole top ∙ ap (λ (t : List ℕ). stuffed_lines (lines_of_text t)) (sym is) ∙ ap stuffed_lines (lines_of_whole_top n text)
+top_body n text top is = sent_whole top ∙ ap (λ (t : List ℕ). stuffed_lines (lines_of_text t)) (sym is) ∙ ap stuffed_lines (lines_of_top true false n text)
 
 -- ---- one line more of a piece
 

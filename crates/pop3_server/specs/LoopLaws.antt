@@ -44,7 +44,7 @@ runs_on sound mail a b c (line ∷ lines) others x y (first, rest, next, is, tur
   runs_on sound mail next b c lines others rest y run second,
 )
 
-lines_on : (lines others : List (List ℕ)) → AllByRecursion IsLine lines → AllByRecursion IsLine others
+pub lines_on : (lines others : List (List ℕ)) → AllByRecursion IsLine lines → AllByRecursion IsLine others
     → AllByRecursion IsLine (lines ++ others)
 lines_on [] others a b = b
 lines_on (line ∷ lines) others a b = (a.0, lines_on lines others a.1 b)

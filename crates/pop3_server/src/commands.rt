@@ -270,6 +270,7 @@ fn list_one(alloc: Global, column: Column, rows: &Rows, number: u32) -> Result<V
 }
 
 /// DELE: marks a message.
+#[tactic(auto, using(crate::proofs::RowLemmas::row_of_mark))]
 fn dele(alloc: Global, rows: &mut Rows, number: u32) -> Result<Vec<u8>, ServerFault>
     ensures ok { IfOk result (λ reply. in_transaction rows.old (Dele number) ≡ Say reply.items (Transaction rows.new)) }
     ensures same_places { SamePlaces rows.old rows.new }
@@ -286,6 +287,7 @@ fn dele(alloc: Global, rows: &mut Rows, number: u32) -> Result<Vec<u8>, ServerFa
 }
 
 /// RSET: unmarks all messages.
+#[tactic(auto, using(crate::proofs::RowLemmas::row_of_unmark))]
 fn rset(alloc: Global, rows: &mut Rows) -> Result<Vec<u8>, ServerFault>
     ensures ok { IfOk result (λ reply. in_transaction rows.old Rset ≡ Say reply.items (Transaction rows.new)) }
     ensures same_places { SamePlaces rows.old rows.new }

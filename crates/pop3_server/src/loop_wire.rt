@@ -93,6 +93,7 @@ impl<D: Maildrop> LoopWire<D> {
     }
 
     /// The length of the first whole line that waits, without its CR LF, while the server is open.
+    #[tactic(auto, using(crate::proofs::LoopLemmas::line_found))]
     fn next_line(&self) -> Option<usize>
         ensures some { IfSome result (λ n. (is_open self.now.machine.state ≡ true) × HasLine (length self.now.waiting) self.now.waiting n) }
         ensures none { IfNone result (IsAnswered self.now) }
@@ -138,6 +139,7 @@ impl<D: Maildrop> LoopWire<D> {
     }
 
     /// Answers all whole lines that wait, while the server is open.
+    #[tactic(auto, using(crate::specs::LoopLaws::serves_same, crate::specs::LoopLaws::serves_on))]
     fn answer_lines(&mut self) -> Result<(), WireDown>
         requires up { self.old.down ≡ false }
         ensures link { self.new.link ≡ self.old.link }

@@ -253,6 +253,7 @@ impl Maildrop for MemoryDrop {
         Ok(self.kept(i).put_part(start, piece))
     }
 
+    #[tactic(auto, using(crate::proofs::SlotLemmas::distinct_removed, crate::proofs::SlotLemmas::count_removed))]
     fn remove(&mut self, i: usize) -> Result<(), DropFault> {
         self.slots[i] = None;
         self.removals = self.removals.saturating_add(1);

@@ -91,6 +91,7 @@ impl Rows {
     }
 
     /// Marks the row at a place.
+    #[tactic(auto, using(crate::proofs::RowLemmas::set_mark))]
     pub fn mark(&mut self, i: usize)
         requires { i < length self.old }
         ensures { self.new ≡ mark_at self.old i }

@@ -218,6 +218,7 @@ impl<D: Maildrop> Server<D> {
     /// than `limit` octets; returns the text that follows then, if any. The reply must have room for
     /// `limit` and `ROOM` octets together. The only fault is MaildropFailed, if the maildrop refuses
     /// a part.
+    #[tactic(auto, using(crate::proofs::TextAnswerLemmas::reads_tied))]
     pub fn go_on(
         &mut self,
         text: TextBody,

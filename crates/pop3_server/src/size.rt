@@ -51,6 +51,7 @@ impl SizeCount {
     }
 
     /// The size so far.
+    #[tactic(auto, using(crate::proofs::SizeLemmas::size_open))]
     pub fn size(&self) -> u64
         ensures { (text : List ℕ) → CountsText self.now text → result ≡ capped (size_of text) }
     {

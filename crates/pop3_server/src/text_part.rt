@@ -32,6 +32,7 @@ pub struct TextBody {
 
 impl TextBody {
     /// The start of the text at a place: of all of it, or of its head and `count` lines after it.
+    #[tactic(auto, using(crate::proofs::TextBodyLemmas::whole_of_all, crate::proofs::TextBodyLemmas::whole_of_top))]
     pub fn new(place: usize, count: Option<u32>) -> TextBody
         ensures place { result.place ≡ place }
         ensures start { result.start ≡ 0 }
@@ -55,6 +56,7 @@ impl TextBody {
     }
 
     /// Whether nothing that may follow in the text belongs to it.
+    #[tactic(auto, using(crate::proofs::TextTopLemmas::done_takes_none))]
     fn is_whole(&self) -> bool
         ensures { IsTrue result → (rest : List ℕ) → belonging self.now.top rest ≡ [] }
     {

@@ -44,6 +44,7 @@ impl Top {
     }
 
     /// Ends a line of it, after some octets of that line.
+    #[tactic(auto, using(crate::proofs::TextTopLemmas::ends_head, crate::proofs::TextTopLemmas::ends_later))]
     fn end_line(&mut self, octets: &[u8])
         requires { self.old.in_head ≡ false → 0 < self.old.left }
         ensures { HasNoLf octets.now → (rest : List ℕ)

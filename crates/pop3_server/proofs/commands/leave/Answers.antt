@@ -1,9 +1,9 @@
-use Rattle.std.proofs.Common.{◌≡◌, refl, ◌+◌, ◌&&◌, drop, ap, sym, ◌∙◌, subst, arith, true, []}
+use Rattle.std.proofs.Common.{◌≡◌, refl, ◌+◌, ◌&&◌, drop, ap, sym, ◌∙◌, subst, arith, true, false, []}
 use Rattle.std.proofs.Math.Bool.{and_assoc, and-true}
 use Rattle.std.proofs.lemmas.Grind.{common_steps}
 use Rattle.std.proofs.lemmas.Option.{slice_get_read}
 use Rattle.pop3_server.specs.ServerMachine.{Empties, none, stays, goes, with_marked}
-use Rattle.pop3_server.proofs.LeaveLemmas.{drop_row, later_place, count_stays, count_goes}
+use Rattle.pop3_server.proofs.LeaveLemmas.{drop_row, later_place, count_row}
 use Rattle.pop3_server.proofs.commands.leave.Goals as goal
 
 pub remove_at-done-requires : goal.remove_at-done-requires
@@ -17,7 +17,7 @@ loop-i-preserved-then-not-row g c =
     let row = c.index-rows-i.result in
     let cut = drop_row rows i row c.index-rows-i.is c.loop-i-test.true in
     let mail = g.D.Maildrop.mail c.loop-i.drop in (
-      sym (count_stays row (drop (i + 1) rows) mail.removals c.if-not-row.true) ∙ ap (λ rs. with_marked rs mail.removals) (sym cut) ∙ c.loop-i.invariant.0,
+      sym (count_row row (drop (i + 1) rows) mail.removals false c.if-not-row.true) ∙ ap (λ rs. with_marked rs mail.removals) (sym cut) ∙ c.loop-i.invariant.0,
       λ s. let inv = c.loop-i.invariant.1 s in
           (inv.0, (λ k r later h. inv.1 k r (omega arith) h), (λ tail end h. inv.2 tail end (subst (λ rs. Empties i rs mail tail end) (sym cut) (stays i row (drop (i + 1) rows) mail tail end c.if-not-row.true h)))),
     )
@@ -31,7 +31,7 @@ loop-i-preserved g c =
     let mail = g.D.Maildrop.mail c.loop-i.drop in
     let next = g.D.Maildrop.mail c.remove_at-done.new.drop in
     let done = c.remove_at-done.result in (
-      ap (with_marked (drop (i + 1) rows)) c.remove_at-done.ensures.asks ∙ sym (count_goes row (drop (i + 1) rows) mail.removals c.if-not-row.false) ∙ ap (λ rs. with_marked rs mail.removals) (sym cut) ∙ c.loop-i.invariant.0,
+      ap (with_marked (drop (i + 1) rows)) c.remove_at-done.ensures.asks ∙ sym (count_row row (drop (i + 1) rows) mail.removals true c.if-not-row.false) ∙ ap (λ rs. with_marked rs mail.removals) (sym cut) ∙ c.loop-i.invariant.0,
       λ s. let tried = c.remove_at-done.ensures.tries s in
           let inv = c.loop-i.invariant.1 tried.0 in (
             inv.0,

@@ -1,11 +1,8 @@
-use Rattle.std.proofs.Common.{◌≡◌, ◌+◌, true, take, drop, None, Ok, refl, sym, ap, subst, ◌∙◌, arith, ℕ}
+use Rattle.std.proofs.Common.{◌≡◌, ◌+◌, true, take, drop, None, refl, sym, ◌∙◌}
 use Rattle.std.proofs.lemmas.Bool.{not-true, not-false}
-use Rattle.mail_terms.specs.FailureCount.{Tallies, counted_up}
-use Rattle.pop3_server.specs.ServerMachine.{Machine, is_open}
-use Rattle.pop3_server.specs.Serving.{is_refusal}
+use Rattle.pop3_server.specs.ServerMachine.{is_open}
 use Rattle.pop3_server.specs.Got.{Waiting}
-use Rattle.pop3_server.proofs.ServeLemmas.{greeted, served_unmade, served_ungreeted, served_unsent, served_stopped, served_closed, served_unread, served_ended, progress_line, long_turn, line_octets}
-use Rattle.pop3_server.proofs.ServeIntakeLemmas.{line_inside, line_less}
+use Rattle.pop3_server.proofs.ServeLemmas.{greeted, served_unmade, served_ungreeted, served_unsent, served_stopped, served_closed, served_ended, progress_line, long_turn, line_octets}
 use Rattle.pop3_server.proofs.serving.serve_and_note.Goals as goal
 
 pub returns-in-Err-clause-served : goal.returns-in-Err-clause-served
@@ -122,16 +119,6 @@ loop-heard-preserved g c =
           ),
     )
 
-pub returns-in-Err-next-clause-served : goal.returns-in-Err-next-clause-served
-returns-in-Err-next-clause-served g c = λ s.
-    let came = c.in-Err-next.ensures.hears s in
-    let inv = c.loop-heard.invariant.3 came.0 in (
-      inv.0,
-      g.met.W.Wire.leads_on _ _ _ inv.1 came.1,
-      served_unread g.D.Maildrop.sound g.D.Maildrop.mail c.args.server.now c.loop-heard.server (g.W.Wire.history c.args.wire.now) (g.W.Wire.history c.loop-heard.wire)
-          (g.W.Wire.history c.next.new.wire) c.loop-heard.intake c.next.new.self c.in-Err-next.fault inv.2 came.2,
-    )
-
 pub returns-in-End-clause-served : goal.returns-in-End-clause-served
 returns-in-End-clause-served g c = λ s.
     let came = c.in-Ok-next.ensures.hears s in
@@ -142,59 +129,3 @@ returns-in-End-clause-served g c = λ s.
       served_ended g.D.Maildrop.sound g.D.Maildrop.mail c.args.server.now c.loop-heard.server (g.W.Wire.history c.args.wire.now) (g.W.Wire.history c.loop-heard.wire)
           (g.W.Wire.history c.next.new.wire) c.loop-heard.intake c.next.new.self inv.2 heard,
     )
-
-pub returns-in-Err-answer_line-clause-removals : goal.returns-in-Err-answer_line-clause-removals
-returns-in-Err-answer_line-clause-removals g c = λ opened. c.in-Err-answer_line.ensures.removals opened ∙ c.loop-heard.invariant.2
-
-pub returns-then-closing-clause-removals : goal.returns-then-closing-clause-removals
-returns-then-closing-clause-removals g c = λ opened. c.in-Ok-answer_line.ensures.removals opened ∙ c.loop-heard.invariant.2
-
-pub returns-in-Err-clause-counted : goal.returns-in-Err-clause-counted
-returns-in-Err-clause-counted g c = rw c.in-Err.ensures.err refl
-
-pub returns-in-Err-send-clause-counted : goal.returns-in-Err-send-clause-counted
-returns-in-Err-send-clause-counted g c = rw c.in-Err-send.ensures.err c.in-Err-send.ensures.counted
-
-pub returns-in-Err-next-clause-counted : goal.returns-in-Err-next-clause-counted
-returns-in-Err-next-clause-counted g c = rw c.in-Err-next.ensures.err (c.in-Err-next.ensures.counted ∙ ap counted_up c.loop-heard.invariant.0)
-
-pub returns-in-Err-send-2-clause-counted : goal.returns-in-Err-send-2-clause-counted
-returns-in-Err-send-2-clause-counted g c =
-    rw c.in-Err-send-2.ensures.err (c.in-Err-send-2.ensures.counted ∙ ap counted_up (c.in-Ok-next.ensures.counted ∙ c.loop-heard.invariant.0))
-
-pub returns-in-Err-answer_line-clause-counted : goal.returns-in-Err-answer_line-clause-counted
-returns-in-Err-answer_line-clause-counted g c =
-    subst (λ (k : ℕ). Tallies (is_refusal c.in-Err-answer_line.fault) k (g.W.Wire.history c.answer_line.new.wire).failures) (c.in-Ok-next.ensures.counted ∙ c.loop-heard.invariant.0)
-    c.in-Err-answer_line.ensures.counted
-
-pub returns-then-closing-clause-counted : goal.returns-then-closing-clause-counted
-returns-then-closing-clause-counted g c = c.in-Ok-answer_line.ensures.counted ∙ c.in-Ok-next.ensures.counted ∙ c.loop-heard.invariant.0
-
-pub returns-in-End-clause-counted : goal.returns-in-End-clause-counted
-returns-in-End-clause-counted g c = c.in-Ok-next.ensures.counted ∙ c.loop-heard.invariant.0
-
-pub returns-in-Err-clause-removals : goal.returns-in-Err-clause-removals
-returns-in-Err-clause-removals g c = λ opened. ap (λ (m : Machine _). (g.D.Maildrop.mail m.drop).removals) c.greeting.ensures.same
-
-pub returns-in-Err-send-clause-removals : goal.returns-in-Err-send-clause-removals
-returns-in-Err-send-clause-removals g c = λ opened. ap (λ (m : Machine _). (g.D.Maildrop.mail m.drop).removals) c.greeting.ensures.same
-
-pub returns-in-Err-next-clause-removals : goal.returns-in-Err-next-clause-removals
-returns-in-Err-next-clause-removals g c = λ opened. c.loop-heard.invariant.2
-
-pub returns-in-Err-send-2-clause-removals : goal.returns-in-Err-send-2-clause-removals
-returns-in-Err-send-2-clause-removals g c = λ opened. c.loop-heard.invariant.2
-
-pub returns-in-End-clause-removals : goal.returns-in-End-clause-removals
-returns-in-End-clause-removals g c = λ opened. c.loop-heard.invariant.2
-
-pub skip-requires : goal.skip-requires
-skip-requires g c = line_inside c.next.new.self.octets c.in-Line.length (rw c.in-Line.is at c.in-Ok-next.ensures.found)
-
-pub loop-heard-smaller : goal.loop-heard-smaller
-loop-heard-smaller g c =
-    let less = line_less c.next.new.self c.skip.new.self c.in-Line.length (rw c.in-Line.is at c.in-Ok-next.ensures.found) c.skip.ensures in
-    omega (arith, less, c.in-Ok-next.ensures.fewer)
-
-pub loop-heard-smaller-in_default-send : goal.loop-heard-smaller-in_default-send
-loop-heard-smaller-in_default-send g c = c.in-Ok-next.ensures.dropped (ap Ok c.in-LongLine.is)

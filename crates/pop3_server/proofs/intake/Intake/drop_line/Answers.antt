@@ -1,6 +1,5 @@
 use Rattle.std.proofs.Common.{◌≡◌, ◌≤◌, ◌<◌, ◌+◌, ◌*◌, ◌++◌, [], length, take, arith, refl, ap, ◌∙◌, Ok, length-append, length-drop}
-use Rattle.mail_terms.specs.FailureCount.{counted_up}
-use Rattle.pop3_server.proofs.ServeIntakeLemmas.{drops_first, drops_more, drops_on, dropped_line, dropped_end, took_on, took_none, still_dropping, drop_less, line_inside, line_less, still_none, still_short}
+use Rattle.pop3_server.proofs.ServeIntakeLemmas.{drops_first, drops_more, drops_on, dropped_line, dropped_end, took_on, took_none, still_dropping, still_none, still_short}
 use Rattle.pop3_server.proofs.intake.Intake.drop_line.Goals as goal
 
 pub loop-length-init : goal.loop-length-init
@@ -22,19 +21,17 @@ pub loop-length-smaller-then-waiting-ge-MAX_LINE :
     goal.loop-length-smaller-then-waiting-ge-MAX_LINE
 loop-length-smaller-then-waiting-ge-MAX_LINE g c =
     let long : 512 ≤ length c.line_end.new.self.octets = rw (← c.waiting.ensures) c.if-waiting-ge-MAX_LINE.true in
-    let less = drop_less c.line_end.new.self long in
-    rw (c.skip-then-waiting-ge-MAX_LINE.ensures, ← c.line_end.ensures.same) less
+    rw (c.skip-then-waiting-ge-MAX_LINE.ensures, ← c.line_end.ensures.same) (omega (arith, long, length-drop 511 c.line_end.new.self.octets))
 
 pub loop-length-preserved-then-waiting-ge-MAX_LINE :
     goal.loop-length-preserved-then-waiting-ge-MAX_LINE
 loop-length-preserved-then-waiting-ge-MAX_LINE g c =
     let long : 512 ≤ length c.line_end.new.self.octets = rw (← c.waiting.ensures) c.if-waiting-ge-MAX_LINE.true in
-    let less = drop_less c.line_end.new.self long in
     let same = c.line_end.ensures.same in
     let before : length c.line_end.new.self.octets + 2 * c.line_end.new.self.left < length c.args.self.now.octets + 2 * c.args.self.now.left = rw same c.loop-length.invariant.1 in
     rw c.skip-then-waiting-ge-MAX_LINE.ensures (
       c.loop-length.invariant.0,
-      omega (arith, less),
+      omega (arith, length-drop 511 c.line_end.new.self.octets),
       λ s. let inv = c.loop-length.invariant.2 s in
           let d = still_dropping c.args.self.now c.loop-length.self c.line_end.new.self inv.2.0 inv.2.1 same inv.2.3 in
           (inv.0, inv.1, (inv.2.0, inv.2.1 ++ take 511 c.line_end.new.self.octets, inv.2.2, drops_more c.args.self.now c.line_end.new.self inv.2.0 inv.2.1 d c.in_default.ensures.none long)),
@@ -79,58 +76,3 @@ returns-in-Err-clause-hears g c = λ s.
     let d = still_dropping c.args.self.now c.loop-length.self c.line_end.new.self inv.2.0 inv.2.1 c.line_end.ensures.same inv.2.3 in
     let on = drops_on c.args.self.now c.line_end.new.self c.more.new.self inv.2.0 inv.2.1 takes.0 d takes.2 takes.1 in
     (inv.0, g.met.W.Wire.leads_on _ _ _ inv.1 more.1, (c.in-Err.ensures.err, (inv.2.0 ++ takes.0, inv.2.1, took_on _ _ _ inv.2.0 takes.0 inv.2.2 more.2, on.takes)))
-
-pub returns-in-Err-clause-fewer : goal.returns-in-Err-clause-fewer
-returns-in-Err-clause-fewer g c =
-    let takes = c.in-Err.ensures.takes in
-    let before : length c.line_end.new.self.octets + 2 * c.line_end.new.self.left < length c.args.self.now.octets + 2 * c.args.self.now.left = rw c.line_end.ensures.same c.loop-length.invariant.1 in
-    let size : length c.more.new.self.octets ≡ length c.line_end.new.self.octets + length takes.0 = ap length takes.2 ∙ length-append c.line_end.new.self.octets takes.0 in
-    let left = takes.1 in
-    omega arith
-
-pub returns-then-not-came-clause-fewer : goal.returns-then-not-came-clause-fewer
-returns-then-not-came-clause-fewer g c =
-    let takes = c.in-Ok.ensures.takes in
-    let before : length c.line_end.new.self.octets + 2 * c.line_end.new.self.left < length c.args.self.now.octets + 2 * c.args.self.now.left = rw c.line_end.ensures.same c.loop-length.invariant.1 in
-    let size : length c.more.new.self.octets ≡ length c.line_end.new.self.octets + length takes.0 = ap length takes.2 ∙ length-append c.line_end.new.self.octets takes.0 in
-    let left = takes.1 in
-    omega arith
-
-pub skip-requires : goal.skip-requires
-skip-requires g c = omega (arith, c.requires.long)
-
-pub skip-requires-in-Some : goal.skip-requires-in-Some
-skip-requires-in-Some g c = line_inside c.line_end.new.self.octets c.in-Some.length c.in-Some.ensures.found
-
-pub skip-requires-then-waiting-ge-MAX_LINE :
-    goal.skip-requires-then-waiting-ge-MAX_LINE
-skip-requires-then-waiting-ge-MAX_LINE g c =
-    let long : 512 ≤ length c.line_end.new.self.octets = rw (← c.waiting.ensures) c.if-waiting-ge-MAX_LINE.true in
-    omega arith
-
-pub more-requires : goal.more-requires
-more-requires g c = rw (← c.waiting.ensures) c.if-waiting-ge-MAX_LINE.false
-
-pub overflow_add-length : goal.overflow_add-length
-overflow_add-length g c = omega (arith, c.in-Some.ensures.found.within)
-
-pub loop-length-smaller : goal.loop-length-smaller
-loop-length-smaller g c =
-    let takes = c.in-Ok.ensures.takes in
-    let some = takes.3 (ap Ok c.if-not-came.false) in
-    let size : length c.more.new.self.octets ≡ length c.line_end.new.self.octets + length takes.0 = ap length takes.2 ∙ length-append c.line_end.new.self.octets takes.0 in
-    let left = takes.1 in
-    let less : length c.more.new.self.octets + 2 * c.more.new.self.left < length c.line_end.new.self.octets + 2 * c.line_end.new.self.left = omega arith in
-    rw (← c.line_end.ensures.same) less
-
-pub returns-in-Some-clause-fewer : goal.returns-in-Some-clause-fewer
-returns-in-Some-clause-fewer g c =
-    let less = line_less c.line_end.new.self c.skip-in-Some.new.self c.in-Some.length c.in-Some.ensures.found c.skip-in-Some.ensures in
-    let before : length c.line_end.new.self.octets + 2 * c.line_end.new.self.left < length c.args.self.now.octets + 2 * c.args.self.now.left = rw c.line_end.ensures.same c.loop-length.invariant.1 in
-    omega arith
-
-pub returns-in-Err-clause-counted : goal.returns-in-Err-clause-counted
-returns-in-Err-clause-counted g c = c.in-Err.ensures.counted ∙ ap counted_up c.loop-length.invariant.0
-
-pub returns-then-not-came-clause-counted : goal.returns-then-not-came-clause-counted
-returns-then-not-came-clause-counted g c = c.in-Ok.ensures.counted ∙ c.loop-length.invariant.0

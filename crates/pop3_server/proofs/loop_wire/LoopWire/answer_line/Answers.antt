@@ -1,8 +1,8 @@
-use Rattle.std.proofs.Common.{◌≡◌, ◌+◌, [], ◌++◌, append-nil, length, Bool, true, false, if◌then◌else◌, refl, sym, ap, subst, ◌∙◌, ◌<◌, drop, length-append, arith}
+use Rattle.std.proofs.Common.{◌≡◌, ◌+◌, [], ◌++◌, append-nil, length, Bool, true, false, if◌then◌else◌, refl, sym, ap, subst, ◌∙◌}
 use Rattle.pop3_wire.specs.Place.{HasLine}
 use Rattle.pop3_server.specs.LoopLink.{Loop, Serves}
 use Rattle.pop3_server.specs.LoopLaws.{same_refl}
-use Rattle.pop3_server.proofs.LoopLemmas.{kept, line_fits, serves_none, serves_one, same_link, turn_at}
+use Rattle.pop3_server.proofs.LoopLemmas.{kept, serves_none, serves_one, same_link, turn_at}
 use Rattle.pop3_server.proofs.loop_wire.LoopWire.answer_line.Goals as goal
 
 pub returns-in-Err-clause-serves : goal.returns-in-Err-clause-serves
@@ -39,50 +39,3 @@ returns-clause-serves g c =
     (subst (λ (w : Loop _). HasLine (length w.waiting) w.waiting c.args.octets) (sym c.self.view_is) c.requires.line)
     (turn_at g.D.Maildrop.sound g.D.Maildrop.mail r.server c.answer.new.self c.deref.result.now r.sent.items r.used c.args.octets (c.as_slice.result.now ++ []) c.in-Ok.answer.bytes.items c.in-Ok.ensures.ok c.deref.ensures.value
     (append-nil c.as_slice.result.now ∙ c.as_slice.ensures.value)) (λ _. refl))
-
-pub overflow_add-self-inside : goal.overflow_add-self-inside
-overflow_add-self-inside g c =
-    let r = c.self.inside in
-    let fits = line_fits r.sent.items r.used c.args.octets c.self.invariant.0 (subst (λ (w : Loop _). HasLine (length w.waiting) w.waiting c.args.octets) (sym c.self.view_is) c.requires.line) in
-    omega (arith, fits.0)
-
-pub slice_bounds-answer-end : goal.slice_bounds-answer-end
-slice_bounds-answer-end g c =
-    let r = c.self.inside in
-    let fits = line_fits r.sent.items r.used c.args.octets c.self.invariant.0 (subst (λ (w : Loop _). HasLine (length w.waiting) w.waiting c.args.octets) (sym c.self.view_is) c.requires.line) in
-    omega (arith, fits.0, c.deref.ensures.value)
-
-pub overflow_add-self : goal.overflow_add-self
-overflow_add-self g c =
-    let r = c.self.inside in
-    let fits = line_fits r.sent.items r.used c.args.octets c.self.invariant.0 (subst (λ (w : Loop _). HasLine (length w.waiting) w.waiting c.args.octets) (sym c.self.view_is) c.requires.line) in
-    omega (arith, fits.0)
-
-pub overflow_add-self-2 : goal.overflow_add-self-2
-overflow_add-self-2 g c =
-    let r = c.self.inside in
-    let fits = line_fits r.sent.items r.used c.args.octets c.self.invariant.0 (subst (λ (w : Loop _). HasLine (length w.waiting) w.waiting c.args.octets) (sym c.self.view_is) c.requires.line) in
-    omega (arith, fits.0)
-
-pub invariant_of-self : goal.invariant_of-self
-invariant_of-self g c = (c.self.invariant.0, c.self.invariant.1, λ e. absurd (let f : true ≡ false = e in cc))
-
-pub invariant_of-self-then-is_err : goal.invariant_of-self-then-is_err
-invariant_of-self-then-is_err g c =
-    let r = c.self.inside in
-    let fits = line_fits r.sent.items r.used c.args.octets c.self.invariant.0 (subst (λ (w : Loop _). HasLine (length w.waiting) w.waiting c.args.octets) (sym c.self.view_is) c.requires.line) in
-    let items : c.extend_from_slice.new.self.items ≡ r.answers.items = c.extend_from_slice.ensures.items ∙ ap (λ (b : Bool). if b then r.answers.items ++ c.as_slice.result.now else r.answers.items) c.if-is_err.ensures.negation in
-    (fits.0, rw items c.self.invariant.1, λ e. absurd (let f : true ≡ false = e in cc))
-
-pub invariant_of-self-else-is_err : goal.invariant_of-self-else-is_err
-invariant_of-self-else-is_err g c =
-    let r = c.self.inside in
-    let fits = line_fits r.sent.items r.used c.args.octets c.self.invariant.0 (subst (λ (w : Loop _). HasLine (length w.waiting) w.waiting c.args.octets) (sym c.self.view_is) c.requires.line) in
-    let items : c.extend_from_slice.new.self.items ≡ r.answers.items ++ c.as_slice.result.now = c.extend_from_slice.ensures.items ∙ ap (λ (b : Bool). if b then r.answers.items ++ c.as_slice.result.now else r.answers.items) c.if-is_err.ensures.negation in
-    (fits.0, omega (arith, ap length items, length-append r.answers.items c.as_slice.result.now, c.self.invariant.1), c.self.invariant.2)
-
-pub returns-clause-fewer : goal.returns-clause-fewer
-returns-clause-fewer g c =
-    let r = c.self.inside in
-    let fits = line_fits r.sent.items r.used c.args.octets c.self.invariant.0 (subst (λ (w : Loop _). HasLine (length w.waiting) w.waiting c.args.octets) (sym c.self.view_is) c.requires.line) in
-    subst (λ (w : Loop _). length (drop (r.used + (c.args.octets + 2)) r.sent.items) < length w.waiting) c.self.view_is fits.1

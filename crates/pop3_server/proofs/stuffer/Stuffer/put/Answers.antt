@@ -1,7 +1,7 @@
-use Rattle.std.proofs.Common.{rules, ◌≡◌, ◌≢◌, ◌≤◌, ◌+◌, ◌*◌, ◌∷◌, ◌++◌, ℕ, Bool, List, [], true, false, length, length-append, sym, ap, ◌∙◌, arith, append_assoc}
+use Rattle.std.proofs.Common.{◌≡◌, ◌≤◌, ◌+◌, ◌*◌, ◌∷◌, ◌++◌, ℕ, Bool, List, false, length, length-append, sym, ap, ◌∙◌, arith, append_assoc}
 use Rattle.pop3_wire.specs.Line.{crlf}
 use Rattle.pop3_server.specs.TextPiece.{is_open_after, sent_piece, stuffing}
-use Rattle.pop3_server.proofs.TextPieceLemmas.{open_line, open_some, regroup, sent_line_more, sent_rest, stuffing_length}
+use Rattle.pop3_server.proofs.TextPieceLemmas.{open_append, regroup, sent_line_more, sent_rest, stuffing_length}
 use Rattle.pop3_server.proofs.stuffer.Stuffer.put.Goals as goal
 
 cut_length : (rest line after : List ℕ) → rest ≡ line ++ 10 ∷ after → length rest ≡ length line + 1 + length after
@@ -27,7 +27,7 @@ loop-line-preserved c =
     ap (sent_piece in_line) cut.1 ∙ sent_line_more in_line line after cut.0 in (
       ap (λ (l : List ℕ). l ++ sent_piece false after) put ∙ regroup body (stuffing in_line line) line crlf (sent_piece false after)
           ∙ ap (λ (l : List ℕ). body ++ l) (sym piece) ∙ c.loop-line.invariant.0,
-      sym (open_line in_line line after cut.0) ∙ ap (is_open_after in_line) (sym cut.1) ∙ c.loop-line.invariant.1,
+      sym (open_append in_line line (10 ∷ after)) ∙ ap (is_open_after in_line) (sym cut.1) ∙ c.loop-line.invariant.1,
       omega (
         arith,
         c.loop-line.invariant.2,
@@ -39,67 +39,6 @@ loop-line-preserved c =
           c.in_ok-extend_from_slice-2.ensures.len c.loop-line.invariant.3,
     )
 
-pub returns-in_err-put_stuffing-clause-capacity : goal.returns-in_err-put_stuffing-clause-capacity
-returns-in_err-put_stuffing-clause-capacity c = omega (arith, c.loop-line.invariant.2, c.in_err-put_stuffing.ensures.capacity)
-
-pub returns-in_err-put_stuffing-clause-room : goal.returns-in_err-put_stuffing-clause-room
-returns-in_err-put_stuffing-clause-room c = λ fits.
-    let line = cut_length c.loop-line.rest.now c.in-Some.line.now c.in-Some.after.now c.in-Some.ensures.cut.1 in
-    absurd (let none : false ≡ true = c.in_err-put_stuffing.ensures.room (omega (arith, fits, line, c.loop-line.invariant.2, c.loop-line.invariant.3)) in cc)
-
-pub returns-in_err-extend_from_slice-clause-capacity : goal.returns-in_err-extend_from_slice-clause-capacity
-returns-in_err-extend_from_slice-clause-capacity c = omega (arith, c.loop-line.invariant.2, c.in_ok-put_stuffing.ensures.capacity, c.in_err-extend_from_slice.ensures.capacity)
-
-pub returns-in_err-extend_from_slice-clause-room : goal.returns-in_err-extend_from_slice-clause-room
-returns-in_err-extend_from_slice-clause-room c = λ fits.
-    let line = cut_length c.loop-line.rest.now c.in-Some.line.now c.in-Some.after.now c.in-Some.ensures.cut.1 in
-    let stuffed = stuffing_length c.loop-line.self.in_line c.in-Some.line.now in
-    absurd (let none : false ≡ true = c.in_err-extend_from_slice.ensures.succeeds
-    (omega (arith, fits, line, stuffed.1, c.loop-line.invariant.2, c.loop-line.invariant.3, c.in_ok-put_stuffing.ensures.len, c.in_ok-put_stuffing.ensures.capacity)) in cc)
-
-pub returns-in_err-extend_from_slice-2-clause-capacity : goal.returns-in_err-extend_from_slice-2-clause-capacity
-returns-in_err-extend_from_slice-2-clause-capacity c =
-    omega (arith, c.loop-line.invariant.2, c.in_ok-put_stuffing.ensures.capacity, c.in_ok-extend_from_slice.ensures.capacity, c.in_err-extend_from_slice-2.ensures.capacity)
-
-pub returns-in_err-extend_from_slice-2-clause-room : goal.returns-in_err-extend_from_slice-2-clause-room
-returns-in_err-extend_from_slice-2-clause-room c = λ fits.
-    let line = cut_length c.loop-line.rest.now c.in-Some.line.now c.in-Some.after.now c.in-Some.ensures.cut.1 in
-    let stuffed = stuffing_length c.loop-line.self.in_line c.in-Some.line.now in
-    absurd (let none : false ≡ true = c.in_err-extend_from_slice-2.ensures.succeeds
-    (omega (
-      arith,
-      fits,
-      line,
-      stuffed.1,
-      c.loop-line.invariant.2,
-      c.loop-line.invariant.3,
-      c.in_ok-put_stuffing.ensures.len,
-      c.in_ok-put_stuffing.ensures.capacity,
-      c.in_ok-extend_from_slice.ensures.len,
-      c.in_ok-extend_from_slice.ensures.capacity,
-    )) in cc)
-
-pub returns-then-is_empty-clause-capacity : goal.returns-then-is_empty-clause-capacity
-returns-then-is_empty-clause-capacity c = c.loop-line.invariant.2
-
-pub returns-in_err-put_stuffing-2-clause-capacity : goal.returns-in_err-put_stuffing-2-clause-capacity
-returns-in_err-put_stuffing-2-clause-capacity c = omega (arith, c.loop-line.invariant.2, c.in_err-put_stuffing-2.ensures.capacity)
-
-pub returns-in_err-put_stuffing-2-clause-room : goal.returns-in_err-put_stuffing-2-clause-room
-returns-in_err-put_stuffing-2-clause-room c = λ fits. absurd (let none : false ≡ true = c.in_err-put_stuffing-2.ensures.room (omega (arith, fits, c.loop-line.invariant.2, c.loop-line.invariant.3)) in cc)
-
-pub returns-in_err-extend_from_slice-3-clause-capacity : goal.returns-in_err-extend_from_slice-3-clause-capacity
-returns-in_err-extend_from_slice-3-clause-capacity c = omega (arith, c.loop-line.invariant.2, c.in_ok-put_stuffing-2.ensures.capacity, c.in_err-extend_from_slice-3.ensures.capacity)
-
-pub returns-in_err-extend_from_slice-3-clause-room : goal.returns-in_err-extend_from_slice-3-clause-room
-returns-in_err-extend_from_slice-3-clause-room c = λ fits.
-    let stuffed = stuffing_length c.loop-line.self.in_line c.loop-line.rest.now in
-    absurd (let none : false ≡ true = c.in_err-extend_from_slice-3.ensures.succeeds
-    (omega (arith, fits, stuffed.1, c.loop-line.invariant.2, c.loop-line.invariant.3, c.in_ok-put_stuffing-2.ensures.len, c.in_ok-put_stuffing-2.ensures.capacity)) in cc)
-
-pub returns-clause-capacity : goal.returns-clause-capacity
-returns-clause-capacity c = omega (arith, c.loop-line.invariant.2, c.in_ok-put_stuffing-2.ensures.capacity, c.in_ok-extend_from_slice-3.ensures.capacity)
-
 pub returns-clause-body : goal.returns-clause-body
 returns-clause-body c =
     let rest = c.loop-line.rest.now in
@@ -108,9 +47,3 @@ returns-clause-body c =
     c.in_ok-extend_from_slice-3.ensures.items ∙ ap (λ (l : List ℕ). l ++ rest) c.in_ok-put_stuffing-2.ensures.body
     ∙ append_assoc body (stuffing in_line rest) rest ∙ ap (λ (l : List ℕ). body ++ l) (sym (sent_rest in_line rest c.in_default.ensures.cut))
     ∙ c.loop-line.invariant.0
-
-pub returns-clause-in_line : goal.returns-clause-in_line
-returns-clause-in_line c =
-    let rest = c.loop-line.rest.now in
-    let some : rest ≢ [] = search rules in
-    sym (open_some c.loop-line.self.in_line rest c.in_default.ensures.cut some) ∙ c.loop-line.invariant.1

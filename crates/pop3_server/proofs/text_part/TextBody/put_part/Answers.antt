@@ -1,8 +1,7 @@
-use Rattle.std.proofs.Common.{◌≡◌, ◌+◌, ◌++◌, Bool, ap, ◌∙◌, arith, true, false}
-use Rattle.std.proofs.lemmas.Result.{err_from_is_err_and}
+use Rattle.std.proofs.Common.{◌≡◌, ◌+◌, ◌++◌, Bool, ap, ◌∙◌, arith}
 use Rattle.pop3_server.specs.declared.text_part.TextBody.{TextBody}
 use Rattle.pop3_server.specs.TextPiece.{is_open_after, sent_piece}
-use Rattle.pop3_server.proofs.TextAnswerLemmas.{begins_on, ends_empty, ends_whole, reads_none, reads_part}
+use Rattle.pop3_server.proofs.TextAnswerLemmas.{begins_on, ends_empty, ends_whole, reads_part}
 use Rattle.pop3_server.proofs.text_part.TextBody.put_part.Goals as goal
 
 pub returns-then-is_whole-clause-goes_on : goal.returns-then-is_whole-clause-goes_on
@@ -32,37 +31,3 @@ returns-clause-goes_on g c = λ asked old sent next.
     (reads_part g.D.Maildrop.sound g.D.Maildrop.mail c.args.drop.now c.part.new.self text.place text.start c.in_ok-n.n c.part.new.piece
     c.in_ok-n.ensures.tally c.in_ok-n.ensures.removes_none c.in_ok-n.ensures.gives)
     c.in_ok-n.ensures.gives (c.in_ok-put.ensures.body ∙ ap (λ (b : Bool). c.args.reply.now.items ++ sent_piece b octets) line)
-
-pub returns-in_err-end-clause-reads : goal.returns-in_err-end-clause-reads
-returns-in_err-end-clause-reads g c =
-    let p = err_from_is_err_and c.from_residual.result c.from_residual.ensures.1 in
-    rw (p.1, p.2) (reads_none g.D.Maildrop.sound g.D.Maildrop.mail c.args.drop.now)
-
-pub returns-in_err-end-2-clause-reads : goal.returns-in_err-end-2-clause-reads
-returns-in_err-end-2-clause-reads g c =
-    let p = err_from_is_err_and c.from_residual-in_err-end-2.result c.from_residual-in_err-end-2.ensures.1 in
-    rw (p.1, p.2) (reads_part g.D.Maildrop.sound g.D.Maildrop.mail c.args.drop.now c.part.new.self c.args.self.place c.args.self.start c.in_ok-n.n c.part.new.piece
-    c.in_ok-n.ensures.tally c.in_ok-n.ensures.removes_none c.in_ok-n.ensures.gives)
-
-pub returns-in_err-put-clause-reads : goal.returns-in_err-put-clause-reads
-returns-in_err-put-clause-reads g c =
-    let p = err_from_is_err_and c.from_residual-in_err-put.result c.from_residual-in_err-put.ensures.1 in
-    rw (p.1, p.2) (reads_part g.D.Maildrop.sound g.D.Maildrop.mail c.args.drop.now c.part.new.self c.args.self.place c.args.self.start c.in_ok-n.n c.part.new.piece
-    c.in_ok-n.ensures.tally c.in_ok-n.ensures.removes_none c.in_ok-n.ensures.gives)
-
-pub returns-then-is_whole-clause-reads : goal.returns-then-is_whole-clause-reads
-returns-then-is_whole-clause-reads g c = reads_none g.D.Maildrop.sound g.D.Maildrop.mail c.args.drop.now
-
-pub returns-then-n-eq0-clause-reads : goal.returns-then-n-eq0-clause-reads
-returns-then-n-eq0-clause-reads g c = reads_part g.D.Maildrop.sound g.D.Maildrop.mail c.args.drop.now c.part.new.self c.args.self.place c.args.self.start c.in_ok-n.n c.part.new.piece
-    c.in_ok-n.ensures.tally c.in_ok-n.ensures.removes_none c.in_ok-n.ensures.gives
-
-pub returns-clause-reads : goal.returns-clause-reads
-returns-clause-reads g c = reads_part g.D.Maildrop.sound g.D.Maildrop.mail c.args.drop.now c.part.new.self c.args.self.place c.args.self.start c.in_ok-n.n c.part.new.piece
-    c.in_ok-n.ensures.tally c.in_ok-n.ensures.removes_none c.in_ok-n.ensures.gives
-
-pub returns-in_err-end-clause-room : goal.returns-in_err-end-clause-room
-returns-in_err-end-clause-room g c = λ fits begun. absurd (let none : false ≡ true = c.in_err-end.ensures.room (omega (arith, fits)) in cc)
-
-pub returns-in_err-end-2-clause-room : goal.returns-in_err-end-2-clause-room
-returns-in_err-end-2-clause-room g c = λ fits begun. absurd (let none : false ≡ true = c.in_err-end-2.ensures.room (omega (arith, fits)) in cc)
