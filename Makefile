@@ -2,8 +2,8 @@
 #
 #   make demo       serves a message with popd, fetches it with getmail, and shows each step: within two minutes, also
 #                   before the programs are built
-#   make            proves and builds the programs into bin/: half an hour to an hour on four cores the first time, seconds
-#                   if nothing has changed
+#   make            proves and builds the programs into bin/: twenty to forty minutes on four cores the first time,
+#                   seconds if nothing has changed
 #   make check      the gate: every proof, then every test; its last line is 'N passed, 0 failed'
 #   make quick      what can be checked in seconds: the layout, the wrong bodies' texts, the documents
 #   make test       builds the programs and the tests of the libraries, and runs these and the tests from outside;
