@@ -1,5 +1,5 @@
 -- What follows once a record is ready, and what of it outlives a loss of power.
-use Rattle.std.proofs.Common.{◌≡◌, ℕ, Bool, true, false, List, [], ◌∷◌, ◌++◌, length, None, Option, refl, sym, ap, subst, ◌∙◌, inl, inr, arith, Result, Ok, Err}
+use Rattle.std.proofs.Common.{◌≡◌, ℕ, Bool, true, false, List, [], ◌∷◌, ◌++◌, length, None, Option, refl, sym, ap, subst, ◌∙◌, inl, inr, arith, Result, Ok, Err, ◌⊎◌, All, Contains}
 use Rattle.std.proofs.lemmas.List.{length-map}
 use Rattle.std.proofs.lemmas.List.FromFn.{length-enumerate_from}
 use Rattle.pop3_wire.specs.Place.{Place}
@@ -22,7 +22,6 @@ use Rattle.fetch_session.specs.declared.report.Skips.{Skips}
 use Rattle.fetch_session.specs.Report.{skips_of}
 use Rattle.fetch_session.specs.Scene.{Scene, scene}
 use Rattle.fetch_session.specs.Plan.{Carried, Carries, tasks_ahead, Unprepared}
-use Rattle.std.specs.Prelude.{◌⊎◌, All, Contains}
 use Rattle.mail_store.specs.Maildir.{File, Maildir, names_of}
 use Rattle.mail_store.specs.declared.maildir.disk.MaildirDisk.{Ghosts as DiskGhosts}
 use Rattle.mail_store.specs.declared.file.flat_file.FlatFile.{Ghosts as FileGhosts}

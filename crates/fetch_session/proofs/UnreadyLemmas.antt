@@ -1,6 +1,5 @@
 -- What outlives a loss of power once a record was made ready, or wasn't.
-use Rattle.std.proofs.Common.{◌≡◌, ◌⊎◌, inl, inr, ℕ, List, Option, Result, Ok, Err, sym, ap, subst, ◌∙◌}
-use Rattle.std.specs.Prelude.{All, IfOk}
+use Rattle.std.proofs.Common.{◌≡◌, ◌⊎◌, inl, inr, ℕ, List, Option, Result, Ok, Err, sym, ap, subst, ◌∙◌, All, IfOk}
 use Rattle.fetch_rules.specs.Plan.{IsQuiet}
 use Rattle.fetch_rules.specs.Record.{Intent, Loaded, Row}
 use Rattle.fetch_rules.specs.declared.steps.Step.{Step}

@@ -1,5 +1,4 @@
-use Rattle.std.proofs.Common.{◌≡◌, List, [], ◌∷◌, ◌++◌, Vec, Ok, length, arith, sym, ap, subst, ◌∙◌, refl}
-use Rattle.std.proofs.lemmas.Bool.{true≢false}
+use Rattle.std.proofs.Common.{◌≡◌, List, [], ◌∷◌, ◌++◌, Vec, Ok, length, arith, sym, ap, subst, ◌∙◌, refl, true≢false}
 use Rattle.mail_terms.specs.Text.{IsWhole}
 use Rattle.fetch_rules.specs.Record.{Row, has_row, marked}
 use Rattle.pop3_wire.specs.Link.{WhereSound}
@@ -63,9 +62,6 @@ pub returns-then-not-is_whole-clause-takes : goal.returns-then-not-is_whole-clau
 returns-then-not-is_whole-clause-takes g c = λ w m f.
     let fetched = (read g (goal.at.returns-then-not-is_whole-clause-takes g c).In-Ok-read_text w).2 in
     absurd (true≢false (sym (c.is_whole.ensures.1 (rw (c.deref.ensures.value, fetched.2) (body_whole fetched.0.body))) ∙ c.if-not-is_whole.true))
-
-pub append_text-requires-clause-whole : goal.append_text-requires-clause-whole
-append_text-requires-clause-whole g c = subst IsWhole c.deref.ensures.value (c.is_whole.ensures.0 c.if-not-is_whole.false)
 
 pub returns-in-Err-append_text-clause-takes : goal.returns-in-Err-append_text-clause-takes
 returns-in-Err-append_text-clause-takes g c = λ w m f.

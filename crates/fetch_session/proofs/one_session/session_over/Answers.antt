@@ -62,9 +62,3 @@ returns-clause-bounded g c = λ w.
 pub returns-in-Err-clause-counted : goal.returns-in-Err-clause-counted
 returns-in-Err-clause-counted g c =
     left_alone c.in-Err.cut (g.W.Wire.history c.args.client.now.wire.now) (g.W.Wire.history c.proceed.new.client.wire.now) (g.W.Wire.history c.leave.new.client.wire.now) c.reported.result.outcome c.reported.ensures.outcome_is c.in-Err.ensures.link.counted c.leave.ensures.counted c.leave.ensures.silent
-
-pub returns-in-Err-clause-same : goal.returns-in-Err-clause-same
-returns-in-Err-clause-same g c = record { settings = ap (λ h. h.settings) c.account.view_is; kind = c.proceed.ensures.store.kind ∙ ap (λ h. kind_of h.store) c.account.view_is }
-
-pub returns-clause-same : goal.returns-clause-same
-returns-clause-same g c = record { settings = ap (λ h. h.settings) c.account.view_is; kind = c.proceed.ensures.store.kind ∙ ap (λ h. kind_of h.store) c.account.view_is }

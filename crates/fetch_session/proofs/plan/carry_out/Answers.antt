@@ -1,5 +1,4 @@
-use Rattle.std.proofs.Common.{◌≡◌, ◌+◌, ◌*◌, ℕ, List, [], ◌∷◌, true, inl, arith, length, Ok, Err, refl, sym, ap, subst, ◌∙◌}
-use Rattle.std.proofs.lemmas.List.{append-nil}
+use Rattle.std.proofs.Common.{◌≡◌, ◌+◌, ◌*◌, ℕ, List, [], ◌∷◌, true, inl, arith, length, Ok, Err, refl, sym, ap, subst, ◌∙◌, append-nil}
 use Rattle.mail_terms.specs.UniqueId.{IsLegalId}
 use Rattle.fetch_rules.specs.Plan.{planned}
 use Rattle.fetch_rules.specs.Record.{has_row}
@@ -155,12 +154,3 @@ pub returns-in-Err-clause-link : goal.returns-in-Err-clause-link
 returns-in-Err-clause-link g c = link_with_tail (link_idle {limit = length c.args.listing.now * step_limit} c.plain.ensures)
 
 -- ---- what the listener heard
-
-pub returns-in-Err-do_steps-clause-heard : goal.returns-in-Err-do_steps-clause-heard
-returns-in-Err-do_steps-clause-heard g c = g.met.L.Listener.goes_further _ _ _ c.tell_plan.ensures c.do_steps.ensures.heard
-
-pub returns-in-Ok-end-clause-heard : goal.returns-in-Ok-end-clause-heard
-returns-in-Ok-end-clause-heard g c = g.met.L.Listener.goes_further _ _ _ c.tell_plan.ensures c.do_steps.ensures.heard
-
-pub returns-clause-heard : goal.returns-clause-heard
-returns-clause-heard g c = g.met.L.Listener.goes_further _ _ _ c.tell_plan.ensures c.do_steps.ensures.heard

@@ -39,10 +39,3 @@ returns-in-Err-clause-previews g c = λ w d f.
       entered.1,
       (files, part_same files, (inl (record { why = c.in-Err.fault; is = c.broken.ensures; enters = entered.2; nothing = search rules }), search rules)),
     )
-
-pub returns-in-Ok-quit-clause-previews : goal.returns-in-Ok-quit-clause-previews
-returns-in-Ok-quit-clause-previews g c = λ w d f.
-    let completes = c.in-Ok-quit.ensures.completes w in
-    let entered = c.in-Ok.ensures.enters completes.0 in
-    let ahead = c.in-Ok-preview_work.ensures.previews d f in
-    (entered.0, ahead.0, ahead.1, g.met.W.Wire.leads_on _ _ _ entered.1 completes.1, (ahead.2.0, ahead.2.1, search rules))

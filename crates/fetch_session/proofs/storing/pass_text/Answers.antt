@@ -29,7 +29,3 @@ pieces-preserved g c = (
   c.in-Ok.ensures.counted ∙ c.pieces.invariant.3,
   c.in-Ok.ensures.link ∙ c.pieces.invariant.4,
 )
-
-pub returns-in-Err-clause-counted : goal.returns-in-Err-clause-counted
-returns-in-Err-clause-counted g c =
-    subst (λ (n : ℕ). Tallies (is_refusal c.in-Err.fault) n (g.W.Wire.history c.next_piece.new.self.wire.now).failures) c.pieces.invariant.3 c.in-Err.ensures.counted

@@ -166,12 +166,6 @@ returns-in-Ok-remember-clause-lasts g c = λ d f safe.
       tt,
     )
 
-pub returns-in-Err-remember-clause-lasts : goal.returns-in-Err-remember-clause-lasts
-returns-in-Err-remember-clause-lasts g c = λ d f safe.
-    let stores = c.in-Ok-store_text.ensures.stores in
-    let is = (stores.1 d).1.0 in
-    (tt, inr (sized_file (string_bytes c.in-Ok.stem) stores.0, ap (λ (m : Maildir). m.files) is, c.in-Ok-store_text.ensures.lasts d stores.0 is))
-
 pub returns-in-Err-clause-lasts : goal.returns-in-Err-clause-lasts
 returns-in-Err-clause-lasts g c = λ d f safe.
     let ledger = c.args.ledger.now in
