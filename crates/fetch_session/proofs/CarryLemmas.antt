@@ -1,6 +1,7 @@
 -- What follows once a record is ready, and what of it outlives a loss of power.
-use Rattle.std.proofs.Common.{◌≡◌, ℕ, Bool, true, false, List, [], ◌∷◌, ◌++◌, length, None, Option, refl, sym, ap, subst, ◌∙◌, inl, inr, arith, Result, Ok, Err, ◌⊎◌, All, Contains}
+use Rattle.std.proofs.Common.{◌≡◌, ℕ, Bool, true, false, List, [], ◌∷◌, ◌++◌, append-nil, length, None, Option, refl, sym, ap, subst, ◌∙◌, inl, inr, arith, Result, Ok, Err, ◌⊎◌, All, Contains}
 use Rattle.std.proofs.lemmas.List.{length-map}
+use Rattle.std.proofs.lemmas.Grind.{flat_map-append}
 use Rattle.std.proofs.lemmas.List.FromFn.{length-enumerate_from}
 use Rattle.pop3_wire.specs.Place.{Place}
 use Rattle.mail_terms.specs.Listing.{Item, numbered}
@@ -15,7 +16,7 @@ use Rattle.fetch_session.specs.declared.readiness.Ready.{Ready}
 use Rattle.fetch_session.specs.declared.fault.Cut.{Cut}
 use Rattle.fetch_session.specs.declared.report.ReportLine.{ReportLine}
 use Rattle.fetch_session.specs.Fault.{cut_of}
-use Rattle.fetch_session.specs.Task.{fetching, ids_ahead, says, tasks_planned}
+use Rattle.fetch_session.specs.Task.{fetching, ids_ahead, ids_in, says, tasks_planned}
 use Rattle.fetch_session.specs.Readiness.{IsReady, Unready, Settles}
 use Rattle.fetch_session.specs.Target.{Target, Stores, AsFiles, AsEntries, in_mbox, stores_of}
 use Rattle.fetch_session.specs.declared.report.Skips.{Skips}
@@ -86,7 +87,7 @@ pub carried : {D F : Type 0} (disk : DiskGhosts D) (files : FileGhosts F) {safe 
     → mid_lines ≡ lines → IsReady settings target items now store file ready after (stores_of disk files before) file' → steps ≡ ready.steps.items → held ≡ ready.held.items → skipped ≡ skips_of settings after items now ready.steps.items
     → (AreSure files was from → (All IsQuiet ready.steps.items × IsUntouched disk files was before from mid_file)
     ⊎ (safe × AllStayIn disk before × KeepsLeftIn disk files was store.maildir.files before × NewsLast disk target file.content items store before)) → KeepsMailIn disk before end
-    → (ids_ahead (tasks_planned steps items held) ≡ [] → f ≡ mid_file)
+    → (ids_ahead (tasks_planned steps items held ++ says quit ∷ []) ≡ [] → f ≡ mid_file)
     → DoesAndLasts disk files safe target (tasks_planned steps items held ++ says quit ∷ []) (scene place (stores_of disk files before) file' after mid_lines) r new end f
     → (is : Carries settings target items now place store file lines r new.place new.store new.file new.lines skipped) × CarriesLast disk files was from _ _ _ _ _ _ _ _ _ _ _ _ _ _ is end f
 carried {D} {F} disk files {safe} {settings} {target} {items} {now} {place} {store} {file} {lines} {ready} {after} was before {end} from mid_file {f} {file'} mid_lines steps held {skipped} {r} {new} lines_are is steps_are held_are skipped_is firm keeps same_file does =
@@ -111,7 +112,7 @@ carried {D} {F} disk files {safe} {settings} {target} {items} {now} {place} {sto
         ⊎ (safe × AllStayIn disk before × KeepsLeftIn disk files was store.maildir.files before × NewsLast disk target file.content items store before)
         → (All IsQuiet (planned settings after items now) × IsUntouched disk files was end from f) ⊎ (P × MailLasts disk files was target store file.content items end)
     by P good (inl (quiet, still)) =
-        let same = same_file (quiet_ids steps items held (subst (λ (ss : List Step). AllByRecursion IsQuiet ss) (sym steps_are) (recursion_from_All IsQuiet ready.steps.items quiet))) in
+        let same = same_file (flat_map-append ids_in (tasks_planned steps items held) (says quit ∷ []) ∙ append-nil _ ∙ quiet_ids steps items held (subst (λ (ss : List Step). AllByRecursion IsQuiet ss) (sym steps_are) (recursion_from_All IsQuiet ready.steps.items quiet))) in
         inl (
           subst (λ (ss : List Step). All IsQuiet ss) is.steps quiet,
           subst (λ (g : F). IsUntouched disk files was end from g) (sym same) (record { mail = keeps_mail_on still.mail keeps; no_more = still.no_more; same = still.same }),
