@@ -71,15 +71,13 @@ news_on disk AsEntries content items old mid end keeps news = tt
 
 -- steps that fetch nothing mark nothing
 quiet_ids : (steps : List Step) (items : List Item) (held : List Bool) → AllByRecursion IsQuiet steps → ids_ahead (tasks_planned steps items held) ≡ []
-quiet_ids [] items held quiet = refl
-quiet_ids (s ∷ ss) [] held quiet = refl
-quiet_ids (s ∷ ss) (i ∷ is) [] quiet = refl
 quiet_ids (s ∷ ss) (i ∷ is) (h ∷ hs) quiet =
     ahead s i h (tasks_planned ss is hs) ∙ ap (λ (ids : List (List ℕ)). ids ++ ids_ahead (tasks_planned ss is hs)) (by s.retrieve quiet.0.0) ∙ quiet_ids ss is hs quiet.1
   where
     by : (retrieve : Bool) → retrieve ≡ false → ids_ahead (fetching retrieve h s.number i.uid i.size) ≡ []
     by true is = absurd (cc is)
     by false is = refl
+quiet_ids _ _ _ quiet = refl
 
 -- the planned tasks and QUIT were done once the record was ready, or as far as went well
 pub carried : {D F : Type 0} (disk : DiskGhosts D) (files : FileGhosts F) {safe : Type 0} {settings : Settings} {target : Target} {items : List Item} {now : ℕ} {place : Place} {store : Stores} {file : Stored} {lines : List ReportLine} {ready : Ready} {after : List Row}

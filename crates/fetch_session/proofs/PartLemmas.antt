@@ -68,8 +68,7 @@ most_ahead xs ys = ap most_of (flat_map-append turns_in xs ys) ∙ most_append (
 most_fetching : (retrieve held : Bool) (number : ℕ) (uid : List ℕ) (size : ℕ)
     → (most_of (turns_ahead (fetching retrieve held number uid size)) ≤ line_limit + text_limit) × (length (fetching retrieve held number uid size) ≤ 1)
 most_fetching true true number uid size = (omega arith, omega arith)
-most_fetching true false number uid size = (omega arith, omega arith)
-most_fetching false held number uid size = (omega arith, omega arith)
+most_fetching _ _ number uid size = (omega arith, omega arith)
 
 most_deleting : (delete : Bool) (number : ℕ) → (most_of (turns_ahead (deleting delete number)) ≤ line_limit) × (length (deleting delete number) ≤ 1)
 most_deleting true number = (omega arith, omega arith)
@@ -78,9 +77,6 @@ most_deleting false number = (omega arith, omega arith)
 -- the tasks of steps
 pub most_planned : (steps : List Step) (items : List Item) (held : List Bool)
     → (most_of (turns_ahead (tasks_planned steps items held)) ≤ length items * step_limit) × (length (tasks_planned steps items held) ≤ 2 * length items)
-most_planned [] items held = (omega arith, omega arith)
-most_planned (s ∷ ss) [] held = (omega arith, omega arith)
-most_planned (s ∷ ss) (i ∷ is) [] = (omega arith, omega arith)
 most_planned (s ∷ ss) (i ∷ is) (h ∷ hs) =
     let first = fetching s.retrieve h s.number i.uid i.size in
     let then = deleting s.delete s.number in
@@ -89,21 +85,19 @@ most_planned (s ∷ ss) (i ∷ is) (h ∷ hs) =
     let b = most_deleting s.delete s.number in
     let more = most_planned ss is hs in
     (omega (arith, most_ahead (first ++ then) later, most_ahead first then, a.0, b.0, more.0), omega (arith, length-append (first ++ then) later, length-append first then, a.1, b.1, more.1))
+most_planned _ _ _ = (omega arith, omega arith)
 
 fetched_all : (P : List ℕ → Type 0) (retrieve held : Bool) (number : ℕ) (uid : List ℕ) (size : ℕ) → (retrieve ≡ true → P uid) → AllByRecursion P (ids_ahead (fetching retrieve held number uid size))
-fetched_all P true true number uid size p = tt
 fetched_all P true false number uid size p = (p refl, tt)
-fetched_all P false held number uid size p = tt
+fetched_all P _ _ number uid size p = tt
 
 -- what holds of each listed id holds of each that will be marked
 pub planned_all : (P : List ℕ → Type 0) (steps : List Step) (items : List Item) (held : List Bool) → AllByRecursion (λ (item : Item). P item.uid) items
     → AllByRecursion P (ids_ahead (tasks_planned steps items held))
-planned_all P [] items held all = tt
-planned_all P (s ∷ ss) [] held all = tt
-planned_all P (s ∷ ss) (i ∷ is) [] all = tt
 planned_all P (s ∷ ss) (i ∷ is) (h ∷ hs) all =
     subst (λ (ids : List (List ℕ)). AllByRecursion P ids) (sym (ahead s i h (tasks_planned ss is hs)))
     (all_append P (ids_ahead (fetching s.retrieve h s.number i.uid i.size)) (ids_ahead (tasks_planned ss is hs)) (fetched_all P s.retrieve h s.number i.uid i.size (λ _. all.0)) (planned_all P ss is hs all.1))
+planned_all P _ _ _ all = tt
 
 -- ---- the first of these tasks
 

@@ -52,10 +52,9 @@ settled_at_most items file store store' was kept (bytes, is, now, goes_on) =
 pub unread : (target : Target) (items : List Item) (now : ℕ) (store : Stores) (file new : Stored) (loaded : Loaded) (fault : Fault) → Reads file loaded (Err fault) new → Unready target items now store file fault store new
 unread (AsFiles account) items now store file new loaded SeenRefused is = record { cause = (omega (arith, ap (λ (s : Stored). s.failures) is), refl); content = inl (rw is) }
 unread AsEntries items now store file new loaded SeenRefused is = record { cause = (omega (arith, ap (λ (s : Stored). s.failures) is), inl refl); content = inl (rw is) }
-unread (AsFiles account) items now store file new loaded (BadSeen line) is = record { cause = (is, refl); content = inl (rw is.3) }
-unread AsEntries items now store file new loaded (BadSeen line) is = record { cause = (is, refl); content = inl (rw is.3) }
 unread (AsFiles account) items now store file new loaded NoMemory is = record { cause = refl; content = inl (rw is) }
 unread AsEntries items now store file new loaded NoMemory is = record { cause = inl refl; content = inl (rw is) }
+unread _ items now store file new loaded (BadSeen line) is = record { cause = (is, refl); content = inl (rw is.3) }
 unread _ items now store file new loaded _ never = absurd never
 
 files_refused : (fault : Fault) (maildir : Maildir) (file : Stored) (maildir' : Maildir) (file' : Stored) → FindsRefused maildir fault maildir' → UnreadyCause fault maildir file maildir' file'
