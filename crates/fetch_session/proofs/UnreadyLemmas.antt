@@ -18,9 +18,10 @@ use Rattle.fetch_session.specs.declared.fault.Why.TheVariants as why
 use Rattle.fetch_session.specs.declared.readiness.Found.{Found}
 use Rattle.fetch_session.specs.declared.readiness.Ready.{Ready}
 use Rattle.fetch_session.specs.Lasting.{KeepsLeftIn, KeepsMailIn, MergeLasts, NewsLast, ReadiesAndLasts, ReadyLasts, UnreadyLasts}
-use Rattle.fetch_session.specs.Readiness.{FindsIn}
+use Rattle.fetch_session.specs.Readiness.{FindsIn, Unready}
 use Rattle.fetch_session.specs.Record.{IsSecured, Reads}
-use Rattle.fetch_session.specs.Target.{AsFiles, Stores, Target, in_maildir, left_in, stores_of, target_of}
+use Rattle.fetch_session.specs.Target.{AfterTakingIn, AsFiles, Stores, Target, in_maildir, left_in, stores_of, target_of}
+use Rattle.fetch_session.proofs.SessionLemmas.{part_same}
 
 -- a record's file that couldn't be read or flushed has the same bytes
 pub misread_same : (old new : Stored) (loaded : Loaded) (fault : Fault) → Reads old loaded (Err fault) new → new.content ≡ old.content
@@ -39,6 +40,15 @@ module _ {D F : Type 0} (disk : DiskGhosts D) (files : FileGhosts F) where
   -- no name was told
   pub left_same : (was store : Store D F) (left : List File) → KeepsMailIn disk was store → KeepsLeftIn disk files was left store
   left_same was store left keeps = (λ name is. inl (keeps.0 name is), λ f is. inl (keeps.1 f is))
+
+  -- the store wasn't asked, and the record's file has the same bytes
+  pub unasked : {safe : Type 0} {settings : Settings} {items : List Item} {now : ℕ} {fault : Fault} {after : List Row} (was : Store D F) (from f : F)
+      (target : Target) → Unready target items now (stores_of disk files was) (files.stored from) fault (stores_of disk files was) (files.stored f)
+      → LeavesNoMore (files.may_leave from) (files.may_leave f) → (files.stored f).content ≡ (files.stored from).content
+      → AfterTakingIn (stores_of disk files was) (λ left. ReadiesAndLasts disk files safe was from settings target items now left (Err fault) after was f)
+  unasked was from f target why no_more same =
+      let left = (stores_of disk files was).maildir.files in
+      (left, part_same left, record { readies = why; lasts = λ sure. record { mail = left_same was was left (λ name is. is, λ one is. is); rows = inl (no_more, same) } })
 
   pub left_on : (was mid end : Store D F) (left : List File) → KeepsLeftIn disk files was left mid → KeepsMailIn disk mid end → KeepsLeftIn disk files was left end
   left_on was mid end left first then = (
