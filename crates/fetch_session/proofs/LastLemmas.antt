@@ -268,10 +268,11 @@ nothing_cut disk file (AsFiles account) cut old new store f left same = inl (lef
 nothing_cut disk file AsEntries cut old new store f left same = tt
 
 -- no file came
-pub none_came : {D F : Type 0} (disk : DiskGhosts D) (file : FileGhosts F) (store : Store D F) → NewOutlive disk file store store
-none_came disk file store = λ files is.
-    let was = (stores_of disk file store).maildir.files in
-    subst (λ (fs : List File). AllByRecursion (outlives_in disk store) fs) (append_cancel_left was [] files (append-nil was ∙ is)) tt
+pub none_came : {D F : Type 0} (disk : DiskGhosts D) (file : FileGhosts F) (old new : Store D F) → (stores_of disk file new).maildir ≡ (stores_of disk file old).maildir
+    → NewOutlive disk file old new
+none_came disk file old new same = λ files is.
+    let was = (stores_of disk file old).maildir.files in
+    subst (λ (fs : List File). AllByRecursion (outlives_in disk new) fs) (append_cancel_left was [] files (append-nil was ∙ ap (λ (m : Maildir). m.files) (sym same) ∙ is)) tt
 
 pub keeps_same : {D F H Z : Type 0} (disk : DiskGhosts D) (file : FileGhosts F) (work : Work D F H Z) → KeepsWork disk file work work
 keeps_same disk file work = ((λ name is. is, λ f is. is), λ bytes has is. is, λ last. last)

@@ -11,7 +11,7 @@ use Rattle.fetch_session.specs.declared.message_preview.MessagePreview.{MessageP
 use mir.Val.{bool_byte}
 use Rattle.fetch_session.proofs.FreshLemmas.{no_item, step_at}
 use Rattle.fetch_session.specs.declared.message_preview.Fate.{Fate}
-use Rattle.fetch_session.specs.declared.message_preview.Fate.TheVariants.{Fetched, FetchedAndDeleted, Deleted, Held, DeliveredBefore, TooLarge, PastLimit, SameId}
+use Rattle.fetch_session.specs.declared.message_preview.Fate.TheVariants.{Fetched, FetchedAndDeleted, Deleted, DeliveredBefore, TooLarge}
 use Rattle.fetch_session.specs.declared.report.LeftOut.{LeftOut}
 use Rattle.fetch_session.specs.MessagePreview.{fate_of, fetched_by, known_of, message_preview_of, message_previews}
 use Rattle.fetch_session.specs.Report.{count_fates, is_for_id, is_for_limit, is_for_size, left_out_of, with_fate}

@@ -331,6 +331,6 @@ module _ {D F H Z : Type 0} {disk : DiskGhosts D} {file : FileGhosts F} where
       (scene b (stores_of disk file work.store) (file.stored work.ledger.file) work.ledger.seen.rows new.ledger.lines.items) work.store work.ledger.file
   good_talking target task a b work new r took ready f =
       good_task target task a b work (record work { ledger = record work.ledger { lines = new.ledger.lines } }) r took (keeps_same disk file work) (ready.written.steady f) (on_any r (ready.written.steady f))
-      (λ safe. on_any r (safe, none_came disk file work.store))
+      (λ safe. on_any r (safe, none_came disk file work.store work.store refl))
       (λ safe. same_left file work.ledger.file work.ledger.seen.rows _ None safe.0 (ready.written.steady f))
       (λ safe. if_err r (λ cut. nothing_cut disk file target cut _ _ work.store work.ledger.file (same_left file work.ledger.file work.ledger.seen.rows work.ledger.seen.rows None safe.0 (ready.written.steady f)) refl))

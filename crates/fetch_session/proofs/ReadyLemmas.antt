@@ -1,5 +1,5 @@
 -- What a session has ready, or why it isn't ready.
-use Rattle.std.proofs.Common.{◌≡◌, ◌⊎◌, inl, inr, ◌<◌, ℕ, Bool, true, List, [], ◌∷◌, ◌++◌, append_assoc, Ok, Err, refl, sym, ap, subst, ◌∙◌, arith, ◌||◌, bytes_eq, Result}
+use Rattle.std.proofs.Common.{◌≡◌, inl, inr, ◌<◌, ℕ, Bool, true, List, [], ◌∷◌, ◌++◌, append_assoc, Ok, Err, refl, sym, ap, subst, ◌∙◌, arith, ◌||◌, bytes_eq, Result}
 use Rattle.mail_terms.specs.Listing.{Item, has_item}
 use Rattle.std.proofs.Math.Bool.{or-true}
 use Rattle.std.specs.List.{AllByRecursion}
@@ -22,9 +22,9 @@ use Rattle.mail_store.specs.declared.file.flat_file.FlatFile.{Ghosts as FileGhos
 use Rattle.mail_store.specs.declared.maildir.disk.MaildirDisk.{Ghosts as DiskGhosts}
 use Rattle.fetch_session.specs.declared.account.Store.{Store}
 use Rattle.fetch_session.specs.Lasting.{AllStayIn, FoundLastIn, IsSafe, IsSafeStore, KeepsLeftIn, LeavesMerged, NewsLast, ReadiesAndLasts}
-use Rattle.fetch_session.specs.Readiness.{CausesUnready, FindsIn, FindsRefused, IsReady, IsSettledBy, MboxUnready, Settles, Unready, UnreadyCause, merged_in}
+use Rattle.fetch_session.specs.Readiness.{CausesUnready, FindsIn, FindsRefused, IsSettledBy, MboxUnready, Settles, Unready, UnreadyCause, merged_in}
 use Rattle.fetch_session.specs.Task.{tasks_planned}
-use Rattle.fetch_session.specs.Record.{Keeps, Steady, ReadAs, Reads, Merges, record_state_in}
+use Rattle.fetch_session.specs.Record.{Keeps, ReadAs, Reads, Merges, record_state_in}
 use Rattle.fetch_session.specs.Target.{Target, AsFiles, AsEntries, Stores, closed_file, flags_in, kind_of, left_in, rows_in, stores_of, target_of}
 use Rattle.fetch_session.proofs.NewsLemmas.{news_found}
 use Rattle.fetch_session.proofs.RecordLemmas.{read_keeps, steady_keeps, not_whole}

@@ -1,4 +1,4 @@
-use Rattle.std.proofs.Common.{◌≡◌, List, ℕ, None, Some, Ok, Err, length, refl, subst, sym, ap, ◌∙◌}
+use Rattle.std.proofs.Common.{◌≡◌, List, ℕ, None, Some, Ok, Err, length, refl, subst, ap, ◌∙◌}
 use Rattle.fetch_rules.specs.Record.{RecordState, Row}
 use Rattle.mail_store.specs.FlatFile.{Stored}
 use Rattle.mail_store.specs.MboxCalls.{AppendsEntry}

@@ -1,5 +1,4 @@
 use Rattle.std.proofs.Common.{◌≡◌, List, [], ◌∷◌, ◌++◌, Vec, Ok, length, arith, sym, ap, subst, ◌∙◌, refl, true≢false}
-use Rattle.mail_terms.specs.Text.{IsWhole}
 use Rattle.fetch_rules.specs.Record.{Row, has_row, marked}
 use Rattle.pop3_wire.specs.Link.{WhereSound}
 use Rattle.pop3_client.specs.Client.{link_of, place_of}

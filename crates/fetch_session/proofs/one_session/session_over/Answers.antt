@@ -1,7 +1,7 @@
-use Rattle.std.proofs.Common.{ℕ, List, Ok, Err, refl, ap, ◌∙◌}
+use Rattle.std.proofs.Common.{ℕ, List, Ok, Err, refl, ap}
 use Rattle.pop3_client.specs.Client.{place_of}
 use Rattle.fetch_session.specs.Session.{keeping, noted}
-use Rattle.fetch_session.specs.Target.{kind_of, stores_of, target_of}
+use Rattle.fetch_session.specs.Target.{stores_of, target_of}
 use Rattle.fetch_session.proofs.IntakeLemmas.{cut_within, ended_within}
 use Rattle.fetch_session.proofs.SessionLemmas.{left_session}
 use Rattle.fetch_session.proofs.RefusalLemmas.{left_alone}

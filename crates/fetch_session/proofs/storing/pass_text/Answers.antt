@@ -1,6 +1,4 @@
-use Rattle.std.proofs.Common.{◌≡◌, inl, inr, ◌<◌, ◌++◌, ℕ, length, take, arith, sym, ◌∙◌, ap, subst}
-use Rattle.mail_terms.specs.FailureCount.{Tallies}
-use Rattle.pop3_client.specs.Conversation.{is_refusal}
+use Rattle.std.proofs.Common.{◌≡◌, inl, inr, ◌<◌, ◌++◌, length, take, arith, sym, ◌∙◌, ap}
 use Rattle.fetch_session.proofs.LinkLemmas.{and_then}
 use Rattle.std.proofs.lemmas.Bool.{false≢true}
 use Rattle.fetch_session.proofs.StoreLemmas.{longer}

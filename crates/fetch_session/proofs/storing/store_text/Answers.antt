@@ -1,4 +1,4 @@
-use Rattle.std.proofs.Common.{rules, ◌≡◌, List, ℕ, ◌≢◌, Ok, inr, ◌<◌, ◌+◌, [], ◌++◌, length, take, arith, sym, ap, subst, ◌∙◌, inl, refl, is_some, string_bytes}
+use Rattle.std.proofs.Common.{◌≡◌, ◌≢◌, Ok, inr, ◌<◌, ◌+◌, [], ◌++◌, length, take, arith, sym, ap, subst, ◌∙◌, inl, is_some, string_bytes}
 use Rattle.std.proofs.lemmas.Bool.{false≢true}
 use Rattle.pop3_client.specs.Client.{place_of}
 use Rattle.mail_store.specs.Maildir.{Maildir, IsThere, file}

@@ -1,10 +1,10 @@
-use Rattle.std.proofs.Common.{List, ℕ, None, Ok, Err, inl, inr, arith, refl, sym, ap, subst, ◌∙◌, string_bytes}
+use Rattle.std.proofs.Common.{List, ℕ, None, Ok, Err, inl, arith, refl, sym, ap, subst, ◌∙◌, string_bytes}
 use Rattle.fetch_rules.specs.Record.{Row, RecordState, has_row, none_open, marked}
 use Rattle.fetch_session.specs.Record.{Saves, Steady}
 use Rattle.fetch_session.proofs.RecordLemmas.{held_is}
 use Rattle.pop3_client.specs.Turns.{most, retr}
 use Rattle.pop3_client.specs.Client.{link_of, place_of}
-use Rattle.mail_store.specs.Maildir.{IsThere, Maildir}
+use Rattle.mail_store.specs.Maildir.{IsThere}
 use Rattle.mail_store.specs.FileName.{sized, sized_file, stem_of}
 use Rattle.fetch_session.specs.Store.{MayGain}
 use Rattle.fetch_session.specs.Target.{AsFiles, in_maildir}

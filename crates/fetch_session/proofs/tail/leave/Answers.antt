@@ -1,8 +1,4 @@
-use Rattle.std.proofs.Common.{subst, Result, ◌∙◌}
 use Rattle.pop3_client.specs.Client.{place_of}
-use Rattle.pop3_wire.specs.Link.{CountsRefusal}
-use Rattle.pop3_client.specs.Conversation.{is_refusal}
-use Rattle.pop3_client.specs.declared.fault.ClientFault.{ClientFault}
 use Rattle.fetch_session.proofs.TailLemmas.{left_dropped, left_broken}
 use Rattle.fetch_session.proofs.tail.leave.Goals as goal
 
