@@ -37,6 +37,11 @@ pub asked : {A B : Type 0} {Part P Q : List File → Type 0} → A × ((left : L
     → A × B × ((left : List File) × Part left × Q left)
 asked told sound both = (told.0, sound, (told.1.0, told.1.1, both told.1.0 told.1.2))
 
+-- the same of a part of a session, which leads its link from another place
+pub followed : {A A' B C L L' : Type 0} {Part P Q : List File → Type 0} → A × B × C × L × ((left : List File) × Part left × P left) → A' → L'
+    → ((left : List File) → P left → Q left) → A' × B × C × L' × ((left : List File) × Part left × Q left)
+followed went sound leads both = (sound, went.1, went.2, leads, (went.4.0, went.4.1, both went.4.0 went.4.2))
+
 -- the rows once the open intent was ended by what was found, which messages are held, and the store
 found_is : (target : Target) (store store' : Stores) (items : List Item) (was : RecordState) (found : Found) → FindsIn target was.intent store items (Ok found) store'
     → (closed_rows found.stored was.rows was.intent ≡ rows_in target store was items) × (found.held.items ≡ flags_in target store items) × Settles target was items store store'

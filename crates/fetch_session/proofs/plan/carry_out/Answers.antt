@@ -16,6 +16,7 @@ use Rattle.fetch_session.specs.Intake.{TookTillCut, step_limit, tail_limit}
 use Rattle.fetch_session.specs.Parts.{DoesTasks, IsReadyFor, KeepsLink, KeepsSession, KeepsStore}
 use Rattle.fetch_session.proofs.PlanLemmas.{flags_same, fresh_firsts}
 use Rattle.fetch_session.proofs.CarryLemmas.{carried, unprepared}
+use Rattle.fetch_session.proofs.ReadyLemmas.{followed}
 use Rattle.fetch_session.proofs.PartLemmas.{does_before, does_on, kept_before, kept_on, link_idle, link_less, link_on_tail, link_with_tail, most_planned, planned_all, store_less, store_on}
 use Rattle.fetch_session.proofs.LastLemmas.{in_kind}
 use Rattle.fetch_session.proofs.plan.carry_out.Given.{Over}
@@ -77,21 +78,12 @@ carries g c r keeps does = λ w d f.
     let done = does w d f in
     let ready = c.in-Ok.ensures.readies done.1 done.2 in
     let before = c.prepare.new.work in
-    let was = c.args.work.now in (
-      done.0,
-      ready.0,
-      ready.1,
-      done.3,
-      (
-        ready.2.0,
-        ready.2.1,
-        carried g.D.MaildirDisk g.F.FlatFile was.store before.store was.ledger.file before.ledger.file before.ledger.lines.items c.deref-2.result.now
-            c.deref-3.result.now (ap (λ lines. lines.items) c.prepare.ensures.store.lines) ready.2.2.readies c.deref-2.ensures.value c.deref-3.ensures.value
-            (c.skips_of.ensures ∙ ap (skips_of c.args.terms.settings.now before.ledger.seen.rows c.args.listing.now c.args.terms.now) c.deref.ensures.value)
-            ready.2.2.lasts (keeps.lasts d f).1 keeps.idle
-            (in_kind before.store was.store c.args.terms.account.now c.prepare.ensures.store.kind done.4 (λ safe. safe)),
-      ),
-    )
+    let was = c.args.work.now in
+    followed (done.0, ready.0, ready.1, done.3, ready.2) done.0 done.3 (λ left is.
+    carried g.D.MaildirDisk g.F.FlatFile was.store before.store was.ledger.file before.ledger.file before.ledger.lines.items c.deref-2.result.now
+    c.deref-3.result.now (ap (λ lines. lines.items) c.prepare.ensures.store.lines) is.readies c.deref-2.ensures.value c.deref-3.ensures.value
+    (c.skips_of.ensures ∙ ap (skips_of c.args.terms.settings.now before.ledger.seen.rows c.args.listing.now c.args.terms.now) c.deref.ensures.value)
+    is.lasts (keeps.lasts d f).1 keeps.idle (in_kind before.store was.store c.args.terms.account.now c.prepare.ensures.store.kind done.4 (λ safe. safe)))
 
 pub returns-in-Err-do_steps-clause-carries : goal.returns-in-Err-do_steps-clause-carries
 returns-in-Err-do_steps-clause-carries g c =
