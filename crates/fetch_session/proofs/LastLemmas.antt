@@ -1,5 +1,5 @@
 -- What a list of tasks leaves that outlives a loss of power, by what its single tasks leave.
-use Rattle.std.proofs.Common.{◌≡◌, ◌≢◌, ◌⊎◌, ℕ, List, [], ◌∷◌, ◌++◌, Option, None, Some, Result, Ok, Err, IfErr, refl, sym, ap, subst, ◌∙◌, inl, inr, append_assoc, length, option_map}
+use Rattle.std.proofs.Common.{◌≡◌, ◌≢◌, ◌⊎◌, ℕ, List, [], ◌∷◌, ◌++◌, Option, None, Some, Result, Ok, Err, IfErr, refl, sym, ap, subst, ◌∙◌, inl, inr, append_assoc, length, option_map, ⊎_elim}
 use Rattle.std.proofs.lemmas.List.{append-nil, append_cancel_left}
 use Rattle.std.proofs.lemmas.Grind.{flat_map-append}
 use Rattle.std.proofs.lemmas.Option.{none-some, same_Some}
@@ -201,13 +201,10 @@ whole_left rows others bytes left stands all = record {
 -- the file was replaced, or may have been, by bytes that stand for the rows
 module _ {F : Type 0} (file : FileGhosts F) (f f' : F) (rows : List Row) (bytes : List ℕ) (stands : Steady (Some bytes) (none_open rows))
     (either : LeavesEither (file.may_leave f) bytes (file.may_leave f')) where
-  all_of : (left : Option (List ℕ)) → left ≡ Some bytes → left ≡ Some (bytes ++ [])
-  all_of left is = is ∙ ap (λ (l : List ℕ). Some l) (sym (append-nil bytes))
-
   pub either_rows : RowsStillLast file rows f f'
   either_rows last left may = elim (either left may) [
     | inl before ↦ last left before
-    | inr is ↦ (bytes, [], inr (all_of left is), stands)
+    | inr is ↦ (bytes, [], inr (is ∙ ap (λ (l : List ℕ). Some l) (sym (append-nil bytes))), stands)
   ]
 
   pub either_left : (content : List ℕ) → (file.stored f).content ≡ Some content → (others : List Row) → Leaves file f (AreLeft rows others) → Leaves file f' (AreLeft rows others)
@@ -221,10 +218,7 @@ module _ {F : Type 0} (file : FileGhosts F) (f f' : F) (rows : List Row) (bytes 
 module _ {F : Type 0} (files : FileGhosts F) (rows others : List Row) (from f : F) where
   -- it was written whole
   pub written_merged : (bytes : List ℕ) → Steady (Some bytes) (none_open others) → LeavesEither (files.may_leave from) bytes (files.may_leave f) → LeavesMerged files rows others from f
-  written_merged bytes stands either left may = elim (either left may) [
-    | inl before ↦ inl before
-    | inr all ↦ inr (inr (whole_left others others bytes left stands all))
-  ]
+  written_merged bytes stands either left may = ⊎_elim inl (λ all. inr (inr (whole_left others others bytes left stands all))) (either left may)
 
   -- a group was appended
   pub grown_merged : (group : List ℕ) → Updates rows None group others None → LeavesLeft files (none_open rows) group from f → LeavesMerged files rows others from f

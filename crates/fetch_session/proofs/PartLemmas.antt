@@ -29,11 +29,12 @@ use Rattle.fetch_session.specs.Parts.{DoesTasks, IsReadyFor, KeepsLedger, KeepsL
 use Rattle.fetch_session.specs.Record.{Steady}
 use Rattle.fetch_session.specs.Scene.{scene, TakesTask}
 use Rattle.fetch_session.specs.Store.{MayGain}
+use Rattle.fetch_session.specs.Tail.{tail}
 use Rattle.fetch_session.specs.Target.{Target, is_sound, kind_of, stores_of, target_of}
 use Rattle.fetch_session.specs.Task.{Task, stores, ids_in, ids_ahead, turns_in, turns_ahead, AreFresh, fetching, deleting, tasks_planned}
 use Rattle.fetch_session.specs.Work.{IsReady, IsWritten}
 use Rattle.fetch_session.proofs.FreshLemmas.{OneMore, ahead, fresh_grows}
-use Rattle.fetch_session.proofs.IntakeLemmas.{takes_on, takes_plain, took_less, took_nothing, with_any_tail, with_tail_on}
+use Rattle.fetch_session.proofs.IntakeLemmas.{most_tail, takes_on, takes_plain, took_less, took_nothing, with_tail_on}
 use Rattle.fetch_session.proofs.LastLemmas.{good_before, good_more, if_err, in_kind, keeps_mail_on, keeps_same, none_came, none_lasts, nothing_cut, rows_last, same_left, texts_ok}
 use Rattle.fetch_session.proofs.RefusalLemmas.{cut_by, till_cut}
 use Rattle.fetch_session.proofs.SceneLemmas.{all_append, all_none, all_weaker, fell_first, on_any}
@@ -126,10 +127,6 @@ ready_front {D} {F} {H} {Z} {disk} {file} {account} {work} xs ys ready =
 
 -- ---- the link
 
--- refused calls are counted, after none was
-pub tallies_after : (refused : Bool) (a b c : ℕ) → b ≡ a → Tallies refused b c → Tallies refused a c
-tallies_after refused a b c same counts = rw same at counts
-
 module _ {W : Type 0} {link : WireGhosts W} where
   link_on : {m n : ℕ} (limit : ℕ) {a b c : Client W} {r : Result (Unit {0}) Cut} → m + n ≤ limit → KeepsLink link (TookTillCut m) a (Ok tt) b
       → KeepsLink link (TookTillCut n) b r c → KeepsLink link (TookTillCut limit) a r c
@@ -163,7 +160,7 @@ module _ {W : Type 0} {link : WireGhosts W} where
   -- with what is said after the fault
   pub link_with_tail : {limit : ℕ} {a b : Client W} {cut : Cut} → KeepsLink link (TookTillCut limit) a (Err cut) b → KeepsLink link (TookWithTail (limit + tail_limit)) a (Err cut) b
   link_with_tail {limit} {a} {b} {cut} kept =
-      record { same = kept.same; counted = kept.counted; took = λ s. ((kept.took s).0, with_any_tail limit (place_of link a) (place_of link b) cut (kept.took s).1) }
+      record { same = kept.same; counted = kept.counted; took = λ s. ((kept.took s).0, (limit, (kept.took s).1, omega (arith, most_tail (tail cut.fault)))) }
 
   pub link_cut : (fault : ClientFault) {limit : ℕ} {a b : Client W} {cut : Cut} → HasSameLink a b → cut ≡ cut_of (fault_of fault) None
       → Tallies (is_refusal fault) (link_of link a).failures (link_of link b).failures → (link.sound b.wire.now → link.sound a.wire.now × Took limit (place_of link a) (place_of link b))

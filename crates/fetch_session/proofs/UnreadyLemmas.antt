@@ -1,5 +1,5 @@
 -- What outlives a loss of power once a record was made ready, or wasn't.
-use Rattle.std.proofs.Common.{◌≡◌, ◌⊎◌, inl, inr, ℕ, List, Option, Result, Ok, Err, sym, ap, subst, ◌∙◌, All, IfOk}
+use Rattle.std.proofs.Common.{◌≡◌, ◌⊎◌, inl, inr, ℕ, List, Option, Result, Ok, Err, sym, ap, subst, ◌∙◌, All, IfOk, ⊎_elim}
 use Rattle.fetch_rules.specs.Plan.{IsQuiet}
 use Rattle.fetch_rules.specs.Record.{Intent, Loaded, Row}
 use Rattle.fetch_rules.specs.declared.steps.Step.{Step}
@@ -21,7 +21,7 @@ use Rattle.fetch_session.specs.Lasting.{KeepsLeftIn, KeepsMailIn, MergeLasts, Ne
 use Rattle.fetch_session.specs.Readiness.{FindsIn, Unready}
 use Rattle.fetch_session.specs.Record.{IsSecured, Reads}
 use Rattle.fetch_session.specs.Target.{AfterTakingIn, AsFiles, Stores, Target, in_maildir, left_in, stores_of, target_of}
-use Rattle.fetch_session.proofs.SessionLemmas.{part_same}
+use Rattle.fetch_session.proofs.SessionLemmas.{untaken}
 
 -- a record's file that couldn't be read or flushed has the same bytes
 pub misread_same : (old new : Stored) (loaded : Loaded) (fault : Fault) → Reads old loaded (Err fault) new → new.content ≡ old.content
@@ -47,19 +47,12 @@ module _ {D F : Type 0} (disk : DiskGhosts D) (files : FileGhosts F) where
       → LeavesNoMore (files.may_leave from) (files.may_leave f) → (files.stored f).content ≡ (files.stored from).content
       → AfterTakingIn (stores_of disk files was) (λ left. ReadiesAndLasts disk files safe was from settings target items now left (Err fault) after was f)
   unasked was from f target why no_more same =
-      let left = (stores_of disk files was).maildir.files in
-      (left, part_same left, record { readies = why; lasts = λ sure. record { mail = left_same was was left (λ name is. is, λ one is. is); rows = inl (no_more, same) } })
+      untaken _ (record { readies = why; lasts = λ sure. record { mail = left_same was was _ (λ name is. is, λ one is. is); rows = inl (no_more, same) } })
 
   pub left_on : (was mid end : Store D F) (left : List File) → KeepsLeftIn disk files was left mid → KeepsMailIn disk mid end → KeepsLeftIn disk files was left end
   left_on was mid end left first then = (
-    λ name is. elim (first.0 name is) [
-      | inl stays ↦ inl (then.0 name stays)
-      | inr took ↦ inr took
-    ],
-    λ f is. elim (first.1 f is) [
-      | inl outlives ↦ inl (then.1 f outlives)
-      | inr took ↦ inr took
-    ],
+    λ name is. ⊎_elim (λ stays. inl (then.0 name stays)) inr (first.0 name is),
+    λ f is. ⊎_elim (λ outlives. inl (then.1 f outlives)) inr (first.1 f is),
   )
 
   -- the files that are left are those that are there now
@@ -103,10 +96,7 @@ module _ {D F : Type 0} (disk : DiskGhosts D) (files : FileGhosts F) where
             stay = merge.stay;
             was = merge.was;
             stood = rw same at merge.stood;
-            leaves = λ left may. elim (merge.leaves left may) [
-              | inl before ↦ inl (no_more left before)
-              | inr here ↦ inr here
-            ];
+            leaves = λ left may. ⊎_elim (λ before. inl (no_more left before)) inr (merge.leaves left may);
             news = subst (λ (s : Stored). NewsLast disk target s.content items old store) same merge.news;
           })
         ]

@@ -4,7 +4,7 @@ use Rattle.fetch_session.specs.Intake.{opening_limit, step_limit, tail_limit}
 use Rattle.fetch_session.specs.Session.{keeping, noted}
 use Rattle.fetch_session.specs.Target.{left_in, stores_of, target_of}
 use Rattle.fetch_session.proofs.ReadyLemmas.{followed}
-use Rattle.fetch_session.proofs.SessionLemmas.{dealt, part_same}
+use Rattle.fetch_session.proofs.SessionLemmas.{dealt, untaken}
 use Rattle.fetch_session.proofs.IntakeLemmas.{took_entering, with_plain_tail, with_tail_on}
 use Rattle.fetch_session.proofs.RefusalLemmas.{cut_by, till_cut}
 use Rattle.fetch_session.proofs.LastLemmas.{untouched}
@@ -24,20 +24,19 @@ returns-clause-proceeds g c = λ w d f.
 
 pub returns-in-Err-clause-proceeds : goal.returns-in-Err-clause-proceeds
 returns-in-Err-clause-proceeds g c = λ w d f.
-    let entered = c.in-Err.ensures.enters w in
-    let files = (stores_of g.D.MaildirDisk g.F.FlatFile c.args.work.now.store).maildir.files in (
+    let entered = c.in-Err.ensures.enters w in (
       entered.0,
       d,
       f,
       entered.1,
-      (files, part_same files, (inl (record { why = c.in-Err.fault; is = c.broken.ensures; enters = entered.2; same = search rules; nothing = search rules }), untouched g.D.MaildirDisk g.F.FlatFile c.args.work.now.store c.args.work.now.ledger.file)),
+      untaken _
+          (inl (record { why = c.in-Err.fault; is = c.broken.ensures; enters = entered.2; same = search rules; nothing = search rules }), untouched g.D.MaildirDisk g.F.FlatFile c.args.work.now.store c.args.work.now.ledger.file),
     )
 
 pub returns-in-Err-reserve-clause-proceeds : goal.returns-in-Err-reserve-clause-proceeds
 returns-in-Err-reserve-clause-proceeds g c = λ w d f.
     let entered = c.in-Ok.ensures.enters w in
-    let files = (stores_of g.D.MaildirDisk g.F.FlatFile c.args.work.now.store).maildir.files in
-    (entered.0, d, f, entered.1, (files, part_same files, (inr (inl (search rules)), untouched g.D.MaildirDisk g.F.FlatFile c.args.work.now.store c.args.work.now.ledger.file)))
+    (entered.0, d, f, entered.1, untaken _ (inr (inl (search rules)), untouched g.D.MaildirDisk g.F.FlatFile c.args.work.now.store c.args.work.now.ledger.file))
 
 -- ---- what calls leave as it was
 

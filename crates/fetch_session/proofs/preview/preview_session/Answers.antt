@@ -1,6 +1,6 @@
 use Rattle.std.proofs.Common.{rules, inl, Err}
 use Rattle.fetch_session.proofs.ReadyLemmas.{followed}
-use Rattle.fetch_session.proofs.SessionLemmas.{part_same}
+use Rattle.fetch_session.proofs.SessionLemmas.{untaken}
 use Rattle.pop3_client.specs.Client.{place_of}
 use Rattle.pop3_client.specs.Turns.{quit}
 use Rattle.fetch_session.proofs.TalkLemmas.{completes_talks}
@@ -25,10 +25,4 @@ returns-clause-previews g c = λ w d f.
 pub returns-in-Err-clause-previews : goal.returns-in-Err-clause-previews
 returns-in-Err-clause-previews g c = λ w d f.
     let entered = c.in-Err.ensures.enters w in
-    let files = (stores_of g.D.MaildirDisk g.F.FlatFile c.args.work.now.store).maildir.files in (
-      entered.0,
-      d,
-      f,
-      entered.1,
-      (files, part_same files, (inl (record { why = c.in-Err.fault; is = c.broken.ensures; enters = entered.2; nothing = search rules }), search rules)),
-    )
+    (entered.0, d, f, entered.1, untaken _ (inl (record { why = c.in-Err.fault; is = c.broken.ensures; enters = entered.2; nothing = search rules }), search rules))

@@ -1,6 +1,6 @@
 use Rattle.std.proofs.Common.{rules, List, Bool, ap, ◌∙◌}
 use Rattle.fetch_session.proofs.ReadyLemmas.{asked}
-use Rattle.fetch_session.proofs.SessionLemmas.{part_same}
+use Rattle.fetch_session.proofs.SessionLemmas.{untaken}
 use Rattle.fetch_rules.specs.Record.{merged}
 use Rattle.fetch_session.specs.Pretend.{previews_of}
 use Rattle.fetch_session.specs.Target.{left_in, stores_of, target_of}
@@ -22,8 +22,7 @@ returns-in-Ok-preview_merged-clause-previews g c = λ d f.
 pub returns-in-Err-clause-previews : goal.returns-in-Err-clause-previews
 returns-in-Err-clause-previews g c = λ d f.
     let reads = c.in-Err.ensures.reads f in
-    let files = (stores_of g.D.MaildirDisk g.F.FlatFile c.args.store.now).maildir.files in
-    (d, reads.0, (files, part_same files, search rules))
+    (d, reads.0, untaken _ (search rules))
 
 pub returns-in-Err-look-clause-previews : goal.returns-in-Err-look-clause-previews
 returns-in-Err-look-clause-previews g c = λ d f.
