@@ -1,5 +1,5 @@
 -- What parts of a session keep and do, one after the other.
-use Rattle.std.proofs.Common.{◌≡◌, ◌≤◌, ◌+◌, ◌*◌, ℕ, Bool, true, false, List, [], ◌∷◌, ◌++◌, length, None, Result, Ok, Err, IfErr, OnOk, refl, sym, ap, subst, ◌∙◌, inl, arith, append_assoc, length-append}
+use Rattle.std.proofs.Common.{◌≡◌, ◌≤◌, ◌+◌, ◌*◌, ℕ, Bool, true, false, List, [], ◌∷◌, ◌++◌, length, None, Result, Ok, Err, IfErr, OnOk, refl, sym, ap, subst, ◌∙◌, inl, arith, append_assoc, length-append, Vec, Global}
 use Rattle.std.proofs.lemmas.Grind.{flat_map-append}
 use Rattle.std.specs.List.{AllByRecursion}
 use Rattle.mail_terms.specs.Listing.{Item}
@@ -18,8 +18,10 @@ use Rattle.fetch_session.specs.declared.fault.Fault.{Fault}
 use Rattle.pop3_client.specs.Turns.{Turn, line_limit, text_limit}
 use Rattle.pop3_client.specs.declared.client.Client.{Client}
 use Rattle.pop3_wire.specs.declared.wire.Wire.{Ghosts as WireGhosts}
+use Rattle.pop3_wire.specs.Link.{WhereSound}
 use Rattle.pop3_wire.specs.Place.{Place}
 use Rattle.fetch_session.specs.declared.fault.Cut.{Cut}
+use Rattle.fetch_session.specs.declared.report.ReportLine.{ReportLine}
 use Rattle.fetch_session.specs.declared.work.Ledger.{Ledger}
 use Rattle.fetch_session.specs.declared.work.Work.{Work}
 use Rattle.fetch_session.specs.Fault.{cut_of, fault_of}
@@ -32,12 +34,12 @@ use Rattle.fetch_session.specs.Store.{MayGain}
 use Rattle.fetch_session.specs.Tail.{tail}
 use Rattle.fetch_session.specs.Target.{Target, is_sound, kind_of, stores_of, target_of}
 use Rattle.fetch_session.specs.Task.{Task, stores, ids_in, ids_ahead, turns_in, turns_ahead, AreFresh, fetching, deleting, tasks_planned}
-use Rattle.fetch_session.specs.Work.{IsReady, IsWritten}
+use Rattle.fetch_session.specs.Work.{IsReady, IsWritten, scene_of}
 use Rattle.fetch_session.proofs.FreshLemmas.{OneMore, ahead, fresh_grows}
 use Rattle.fetch_session.proofs.IntakeLemmas.{most_tail, takes_on, takes_plain, took_less, took_nothing, with_tail_on}
 use Rattle.fetch_session.proofs.LastLemmas.{good_before, good_more, if_err, in_kind, keeps_mail_on, keeps_same, none_came, none_lasts, nothing_cut, rows_last, same_left, texts_ok}
 use Rattle.fetch_session.proofs.RefusalLemmas.{cut_by, till_cut}
-use Rattle.fetch_session.proofs.SceneLemmas.{all_append, all_none, all_weaker, fell_first, on_any}
+use Rattle.fetch_session.proofs.SceneLemmas.{all_append, all_sound, all_none, all_weaker, fell_first, on_any}
 
 pub on_map : {T E P Q : Type 0} (result : Result T E) → (P → Q) → OnOk result P → OnOk result Q
 on_map (Ok done) to p = to p
@@ -320,14 +322,15 @@ module _ {D F H Z : Type 0} {disk : DiskGhosts D} {file : FileGhosts F} where
   }
 
   -- the same for a task that stores nothing
-  pub good_talking : (target : Target) (task : Task) (a b : Place) (work new : Work D F H Z) (r : Result (Unit {0}) Cut)
-      → TakesTask target task (scene a (stores_of disk file work.store) (file.stored work.ledger.file) work.ledger.seen.rows work.ledger.lines.items) r
-      (scene b (stores_of disk file work.store) (file.stored work.ledger.file) work.ledger.seen.rows new.ledger.lines.items)
-      → IsReady disk file work → file.sound work.ledger.file
-      → DoesAndLasts disk file (IsSafeWork file work) target (task ∷ []) (scene a (stores_of disk file work.store) (file.stored work.ledger.file) work.ledger.seen.rows work.ledger.lines.items) r
-      (scene b (stores_of disk file work.store) (file.stored work.ledger.file) work.ledger.seen.rows new.ledger.lines.items) work.store work.ledger.file
-  good_talking target task a b work new r took ready f =
-      good_task target task a b work (record work { ledger = record work.ledger { lines = new.ledger.lines } }) r took (keeps_same disk file work) (ready.written.steady f) (on_any r (ready.written.steady f))
+  pub does_talking : {W : Type 0} (link : WireGhosts W) (account : List ℕ) (task : Task) (client client' : Client W) (work : Work D F H Z) (lines : Vec ReportLine Global)
+      (r : Result (Unit {0}) Cut) → WhereSound link.sound link.leads_to client.wire.now client'.wire.now
+      (TakesTask (target_of work.store account) task (scene_of link disk file client work) r
+      (scene (place_of link client') (stores_of disk file work.store) (file.stored work.ledger.file) work.ledger.seen.rows lines.items))
+      → IsReady disk file work → DoesTasks link disk file account (task ∷ []) client work r client' (record work { ledger = record work.ledger { lines = lines } })
+  does_talking link account task client client' work lines r talked ready = all_sound talked (λ d. (d, tt {0})) (λ f. (f, f)) (λ took _ f.
+      good_task (target_of work.store account) task (place_of link client) (place_of link client') work (record work { ledger = record work.ledger { lines = lines } }) r took
+      (keeps_same disk file work) (ready.written.steady f) (on_any r (ready.written.steady f))
       (λ safe. on_any r (safe, none_came disk file work.store work.store refl))
       (λ safe. same_left file work.ledger.file work.ledger.seen.rows _ None safe.0 (ready.written.steady f))
-      (λ safe. if_err r (λ cut. nothing_cut disk file target cut _ _ work.store work.ledger.file (same_left file work.ledger.file work.ledger.seen.rows work.ledger.seen.rows None safe.0 (ready.written.steady f)) refl))
+      (λ safe. if_err r (λ cut. nothing_cut disk file (target_of work.store account) cut _ _ work.store work.ledger.file
+      (same_left file work.ledger.file work.ledger.seen.rows work.ledger.seen.rows None safe.0 (ready.written.steady f)) refl)))

@@ -136,3 +136,7 @@ all_sound link disk file did w d f =
     let s = disk d in
     let r = file f in
     (l.0, s.0, r.0, l.1, did l.2 s.1 r.1)
+
+-- the same if only the link was used
+pub link_alone : {W W' L D F P : Type 0} → (W → W' × L × P) → W → D → F → W' × D × F × L × P
+link_alone link w d f = let l = link w in (l.0, d, f, l.1, l.2)

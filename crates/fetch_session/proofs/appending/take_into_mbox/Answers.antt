@@ -17,7 +17,8 @@ use Rattle.fetch_session.specs.Lasting.{AreLeft, Leaves}
 use Rattle.fetch_session.specs.Parts.{KeepsLink}
 use Rattle.fetch_session.specs.Report.{Adds}
 use Rattle.fetch_session.proofs.RefusalLemmas.{before_cut}
-use Rattle.fetch_session.proofs.LinkLemmas.{and_then, did_both, did_so}
+use Rattle.fetch_session.proofs.LinkLemmas.{and_then, did_both, did_so, in_words}
+use Rattle.fetch_session.proofs.SceneLemmas.{link_alone}
 use Rattle.fetch_session.proofs.appending.take_into_mbox.Given.{Over}
 use Rattle.fetch_session.proofs.appending.take_into_mbox.Goals.{After-len-length, After-note, In-Ok-read_text}
 use Rattle.fetch_session.proofs.appending.take_into_mbox.Goals as goal
@@ -30,27 +31,13 @@ told : (g : Over) (c : After-note g) → c.note.new.lines.items ≡ c.args.ledge
 told g c = c.note.ensures.items ∙ ap (λ (v : Vec ReportLine _). v.items ++ Delivered c.args.number c.len-length.result ∷ []) c.append_text.ensures.ledger.lines
 
 pub returns-in-Err-clause-takes : goal.returns-in-Err-clause-takes
-returns-in-Err-clause-takes g c = λ w m f.
-    let opened = c.in-Err.ensures.opens w in (
-      opened.0,
-      m,
-      f,
-      opened.1,
-      text_broken AsEntries (stores c.args.number c.args.uid.now) _ (place_of g.W.Wire c.args.client.now) (place_of g.W.Wire c.open.new.self) (in_mbox (g.F.FlatFile.stored c.args.mbox.now)) (g.F.FlatFile.stored c.args.ledger.now.file) c.args.ledger.now.seen.rows c.args.ledger.now.lines.items
-          c.in-Err.fault c.broken.result refl c.broken.ensures opened.2,
-    )
+returns-in-Err-clause-takes g c = link_alone (in_words g.W.Wire c.in-Err.ensures.opens (λ broke.
+    text_broken AsEntries (stores c.args.number c.args.uid.now) _ (place_of g.W.Wire c.args.client.now) (place_of g.W.Wire c.open.new.self) (in_mbox (g.F.FlatFile.stored c.args.mbox.now))
+    (g.F.FlatFile.stored c.args.ledger.now.file) c.args.ledger.now.seen.rows c.args.ledger.now.lines.items c.in-Err.fault c.broken.result refl c.broken.ensures broke))
 
 pub returns-in-Err-read_text-clause-takes : goal.returns-in-Err-read_text-clause-takes
-returns-in-Err-read_text-clause-takes g c = λ w m f.
-    let held = c.in-Err-read_text.ensures.holds w in
-    let opened = c.in-Ok.ensures.opens held.0 in
-    let old = place_of g.W.Wire c.args.client.now in (
-      opened.0,
-      m,
-      f,
-      g.met.W.Wire.leads_on _ _ _ opened.1 held.1,
-      not_held (held.2 c.args.number old opened.2),
-    )
+returns-in-Err-read_text-clause-takes g c = link_alone (and_then g.W.Wire g.met.W.Wire.leads_on c.in-Ok.ensures.opens c.in-Err-read_text.ensures.holds (λ opened held.
+    not_held (held c.args.number (place_of g.W.Wire c.args.client.now) opened)))
 
 -- the text was read
 read : (g : Over) (c : In-Ok-read_text g) → WhereSound g.W.Wire.sound g.W.Wire.leads_to c.args.client.now.wire.now c.read_text.new.client.wire.now
