@@ -18,7 +18,7 @@ use Rattle.fetch_session.specs.Parts.{KeepsLink}
 use Rattle.fetch_session.specs.Report.{Adds}
 use Rattle.fetch_session.proofs.RefusalLemmas.{before_cut}
 use Rattle.fetch_session.proofs.LinkLemmas.{and_then, did_both, did_so, in_words}
-use Rattle.fetch_session.proofs.SceneLemmas.{link_alone}
+use Rattle.fetch_session.proofs.SceneLemmas.{both_sound, link_alone}
 use Rattle.fetch_session.proofs.appending.take_into_mbox.Given.{Over}
 use Rattle.fetch_session.proofs.appending.take_into_mbox.Goals.{After-len-length, After-note, In-Ok-read_text}
 use Rattle.fetch_session.proofs.appending.take_into_mbox.Goals as goal
@@ -50,42 +50,24 @@ returns-then-not-is_whole-clause-takes g c = λ w m f.
     absurd (true≢false (sym (c.is_whole.ensures.1 (rw (c.deref.ensures.value, fetched.2) (body_whole fetched.0.body))) ∙ c.if-not-is_whole.true))
 
 pub returns-in-Err-append_text-clause-takes : goal.returns-in-Err-append_text-clause-takes
-returns-in-Err-append_text-clause-takes g c = λ w m f.
-    let appends = c.in-Err-append_text.ensures.appends m f in
-    let text = read g (goal.at.returns-in-Err-append_text-clause-takes g c).In-Ok-read_text w in (
-      text.0,
-      appends.0,
-      appends.1,
-      text.1,
-      text_refused c.in-Ok-read_text.text.items c.in-Err-append_text.fault text.2 c.plain-in-Err-append_text.ensures appends.2
-          c.append_text.ensures.ledger.rows (ap (λ (v : Vec ReportLine _). v.items) c.append_text.ensures.ledger.lines),
-    )
+returns-in-Err-append_text-clause-takes g c =
+    both_sound (read g (goal.at.returns-in-Err-append_text-clause-takes g c).In-Ok-read_text) c.in-Err-append_text.ensures.appends (λ text _ refuses.
+    text_refused c.in-Ok-read_text.text.items c.in-Err-append_text.fault text c.plain-in-Err-append_text.ensures refuses
+    c.append_text.ensures.ledger.rows (ap (λ (v : Vec ReportLine _). v.items) c.append_text.ensures.ledger.lines))
 
 pub returns-in-Ok-remember-clause-takes : goal.returns-in-Ok-remember-clause-takes
-returns-in-Ok-remember-clause-takes g c = λ w m f.
-    let saved = c.in-Ok-remember.ensures.saves f in
-    let appends = c.in_default.ensures.appends m saved.0 in
-    let text = read g (goal.at.returns-in-Ok-remember-clause-takes g c).In-Ok-read_text w in (
-      text.0,
-      appends.0,
-      appends.1,
-      text.1,
-      entry_stored c.len-length.result c.in-Ok-read_text.text.items (g.F.FlatFile.stored c.append_text.new.ledger.file) c.args.ledger.now.seen c.append_text.new.ledger.seen text.2
-          (long g (goal.at.returns-in-Ok-remember-clause-takes g c).After-len-length) appends.2 c.append_text.ensures.ledger.rows c.in-Ok-remember.ensures.rows saved.1 (told g (goal.at.returns-in-Ok-remember-clause-takes g c).After-note),
-    )
+returns-in-Ok-remember-clause-takes g c =
+    both_sound (read g (goal.at.returns-in-Ok-remember-clause-takes g c).In-Ok-read_text) (λ m f. c.in_default.ensures.appends m (c.in-Ok-remember.ensures.saves f).0) (λ text f appends.
+    entry_stored c.len-length.result c.in-Ok-read_text.text.items (g.F.FlatFile.stored c.append_text.new.ledger.file) c.args.ledger.now.seen c.append_text.new.ledger.seen text
+    (long g (goal.at.returns-in-Ok-remember-clause-takes g c).After-len-length) appends c.append_text.ensures.ledger.rows c.in-Ok-remember.ensures.rows (c.in-Ok-remember.ensures.saves f).1
+    (told g (goal.at.returns-in-Ok-remember-clause-takes g c).After-note))
 
 pub returns-in-Err-remember-clause-takes : goal.returns-in-Err-remember-clause-takes
-returns-in-Err-remember-clause-takes g c = λ w m f.
-    let saved = c.in-Err-remember.ensures.saves f in
-    let appends = c.in_default.ensures.appends m saved.0 in
-    let text = read g (goal.at.returns-in-Err-remember-clause-takes g c).In-Ok-read_text w in (
-      text.0,
-      appends.0,
-      appends.1,
-      text.1,
-      entry_not_saved c.len-length.result c.in-Ok-read_text.text.items (g.F.FlatFile.stored c.append_text.new.ledger.file) c.args.ledger.now.seen c.append_text.new.ledger.seen c.in-Err-remember.fault text.2
-          (long g (goal.at.returns-in-Err-remember-clause-takes g c).After-len-length) c.plain-in-Err-remember.ensures appends.2 c.append_text.ensures.ledger.rows saved.1 (told g (goal.at.returns-in-Err-remember-clause-takes g c).After-note),
-    )
+returns-in-Err-remember-clause-takes g c =
+    both_sound (read g (goal.at.returns-in-Err-remember-clause-takes g c).In-Ok-read_text) (λ m f. c.in_default.ensures.appends m (c.in-Err-remember.ensures.saves f).0) (λ text f appends.
+    entry_not_saved c.len-length.result c.in-Ok-read_text.text.items (g.F.FlatFile.stored c.append_text.new.ledger.file) c.args.ledger.now.seen c.append_text.new.ledger.seen c.in-Err-remember.fault text
+    (long g (goal.at.returns-in-Err-remember-clause-takes g c).After-len-length) c.plain-in-Err-remember.ensures appends c.append_text.ensures.ledger.rows (c.in-Err-remember.ensures.saves f).1
+    (told g (goal.at.returns-in-Err-remember-clause-takes g c).After-note))
 
 -- ---- what is written down
 
