@@ -110,7 +110,9 @@ carried {D} {F} disk files {safe} {settings} {target} {items} {now} {place} {sto
         ⊎ (safe × AllStayIn disk before × KeepsLeftIn disk files was store.maildir.files before × NewsLast disk target file.content items store before)
         → (All IsQuiet (planned settings after items now) × IsUntouched disk files was end from f) ⊎ (P × MailLasts disk files was target store file.content items end)
     by P good (inl (quiet, still)) =
-        let same = same_file (flat_map-append ids_in (tasks_planned steps items held) (says quit ∷ []) ∙ append-nil _ ∙ quiet_ids steps items held (subst (λ (ss : List Step). AllByRecursion IsQuiet ss) (sym steps_are) (recursion_from_All IsQuiet ready.steps.items quiet))) in
+        let same = same_file (flat_map-append ids_in (tasks_planned steps items held) (says quit ∷ []) ∙ append-nil _ ∙ quiet_ids steps
+        items held (subst (λ (ss : List Step). AllByRecursion IsQuiet ss) (sym steps_are)
+        (recursion_from_All IsQuiet ready.steps.items quiet))) in
         inl (
           subst (λ (ss : List Step). All IsQuiet ss) is.steps quiet,
           subst (λ (g : F). IsUntouched disk files was end from g) (sym same) (record { mail = keeps_mail_on still.mail keeps; no_more = still.no_more; same = still.same }),

@@ -218,7 +218,8 @@ module _ {F : Type 0} (file : FileGhosts F) (f f' : F) (rows : List Row) (bytes 
 module _ {F : Type 0} (files : FileGhosts F) (rows others : List Row) (from f : F) where
   -- it was written whole
   pub written_merged : (bytes : List ℕ) → Steady (Some bytes) (none_open others) → LeavesEither (files.may_leave from) bytes (files.may_leave f) → LeavesMerged files rows others from f
-  written_merged bytes stands either left may = ⊎_elim inl (λ all. inr (inr (whole_left others others bytes left stands all))) (either left may)
+  written_merged bytes stands either left may = ⊎_elim inl (λ all. inr (inr (whole_left others others bytes left stands all)))
+      (either left may)
 
   -- a group was appended
   pub grown_merged : (group : List ℕ) → Updates rows None group others None → LeavesLeft files (none_open rows) group from f → LeavesMerged files rows others from f

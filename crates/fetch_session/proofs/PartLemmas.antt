@@ -322,13 +322,15 @@ module _ {D F H Z : Type 0} {disk : DiskGhosts D} {file : FileGhosts F} where
   }
 
   -- the same for a task that stores nothing
-  pub does_talking : {W : Type 0} (link : WireGhosts W) (account : List ℕ) (task : Task) (client client' : Client W) (work : Work D F H Z) (lines : Vec ReportLine Global)
-      (r : Result (Unit {0}) Cut) → WhereSound link.sound link.leads_to client.wire.now client'.wire.now
+  pub does_talking : {W : Type 0} (link : WireGhosts W) (account : List ℕ) (task : Task) (client client' : Client W) (work : Work D F H Z)
+      (lines : Vec ReportLine Global) (r : Result (Unit {0}) Cut) → WhereSound link.sound link.leads_to client.wire.now client'.wire.now
       (TakesTask (target_of work.store account) task (scene_of link disk file client work) r
       (scene (place_of link client') (stores_of disk file work.store) (file.stored work.ledger.file) work.ledger.seen.rows lines.items))
-      → IsReady disk file work → DoesTasks link disk file account (task ∷ []) client work r client' (record work { ledger = record work.ledger { lines = lines } })
+      → IsReady disk file work → DoesTasks link disk file account (task ∷ []) client work r client'
+      (record work { ledger = record work.ledger { lines = lines } })
   does_talking link account task client client' work lines r talked ready = all_sound talked (λ d. (d, tt {0})) (λ f. (f, f)) (λ took _ f.
-      good_task (target_of work.store account) task (place_of link client) (place_of link client') work (record work { ledger = record work.ledger { lines = lines } }) r took
+      good_task (target_of work.store account) task (place_of link client) (place_of link client') work
+      (record work { ledger = record work.ledger { lines = lines } }) r took
       (keeps_same disk file work) (ready.written.steady f) (on_any r (ready.written.steady f))
       (λ safe. on_any r (safe, none_came disk file work.store work.store refl))
       (λ safe. same_left file work.ledger.file work.ledger.seen.rows _ None safe.0 (ready.written.steady f))

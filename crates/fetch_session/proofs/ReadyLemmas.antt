@@ -33,13 +33,13 @@ use Rattle.fetch_session.proofs.UnreadyLemmas.{left_found}
 -- ---- what was found
 
 -- what follows from what the store told, of what readers have left of it
-pub asked : {A B : Type 0} {Part P Q : List File → Type 0} → A × ((left : List File) × Part left × P left) → B → ((left : List File) → P left → Q left)
-    → A × B × ((left : List File) × Part left × Q left)
+pub asked : {A B : Type 0} {Part P Q : List File → Type 0} → A × ((left : List File) × Part left × P left) → B
+    → ((left : List File) → P left → Q left) → A × B × ((left : List File) × Part left × Q left)
 asked told sound both = (told.0, sound, (told.1.0, told.1.1, both told.1.0 told.1.2))
 
 -- the same of a part of a session, which leads its link from another place
-pub followed : {A A' B C L L' : Type 0} {Part P Q : List File → Type 0} → A × B × C × L × ((left : List File) × Part left × P left) → A' → L'
-    → ((left : List File) → P left → Q left) → A' × B × C × L' × ((left : List File) × Part left × Q left)
+pub followed : {A A' B C L L' : Type 0} {Part P Q : List File → Type 0} → A × B × C × L × ((left : List File) × Part left × P left)
+    → A' → L' → ((left : List File) → P left → Q left) → A' × B × C × L' × ((left : List File) × Part left × Q left)
 followed went sound leads both = (sound, went.1, went.2, leads, (went.4.0, went.4.1, both went.4.0 went.4.2))
 
 -- the rows once the open intent was ended by what was found, which messages are held, and the store
@@ -92,9 +92,11 @@ abbrev pub stop_of : Result (Unit {0}) Fault → Fault
 stop_of (Ok done) = NoMemory
 stop_of (Err fault) = fault
 
-module _ {D F : Type 0} (disk : DiskGhosts D) (files : FileGhosts F) (was place : Store D F) (from f : F) (account : List ℕ) (settings : Settings)
-    (items : List Item) (now : ℕ) (left : List File) (loaded : Loaded) (found : Found) (stood : ReadAs (files.stored from).content loaded)
-    (finds : FindsIn (target_of was account) loaded.intent (left_in (stores_of disk files was) left) items (Ok found) (stores_of disk files place)) where
+module _ {D F : Type 0} (disk : DiskGhosts D) (files : FileGhosts F) (was place : Store D F) (from f : F) (account : List ℕ)
+    (settings : Settings) (items : List Item) (now : ℕ) (left : List File) (loaded : Loaded) (found : Found)
+    (stood : ReadAs (files.stored from).content loaded)
+    (finds : FindsIn (target_of was account) loaded.intent (left_in (stores_of disk files was) left) items (Ok found)
+    (stores_of disk files place)) where
   abbrev store : Stores
   store = left_in (stores_of disk files was) left
 
@@ -108,13 +110,15 @@ module _ {D F : Type 0} (disk : DiskGhosts D) (files : FileGhosts F) (was place 
   here = merged (closed_rows found.stored loaded.rows loaded.intent) items found.held.items now
 
   is : (closed_rows found.stored loaded.rows loaded.intent ≡ rows_in (target_of was account) store state items)
-      × (found.held.items ≡ flags_in (target_of was account) store items) × Settles (target_of was account) state items store (stores_of disk files place)
+      × (found.held.items ≡ flags_in (target_of was account) store items)
+      × Settles (target_of was account) state items store (stores_of disk files place)
   is = found_is (target_of was account) store (stores_of disk files place) items state found finds
 
   as_now : here ≡ merged_in (target_of was account) store state items now
   as_now = rw (is.1, is.0)
 
-  risen_cause : (files.stored from).failures < (files.stored f).failures → (t : Target) → Settles t state items store (stores_of disk files place)
+  risen_cause : (files.stored from).failures < (files.stored f).failures → (t : Target)
+      → Settles t state items store (stores_of disk files place)
       → CausesUnready t items SeenRefused store (files.stored from) (stores_of disk files place) (files.stored f)
   risen_cause risen (AsFiles account) same = (risen, ap (λ (s : Stores). s.maildir) same)
   risen_cause risen AsEntries same = (risen, settled_at_most items (files.stored from) store (stores_of disk files place) state kept same)
@@ -138,12 +142,14 @@ module _ {D F : Type 0} (disk : DiskGhosts D) (files : FileGhosts F) (was place 
   unmade (Err NoMemory) merges = record { cause = wants_cause (target_of was account) is.2; content = inl (ap (λ (s : Stored). s.content) merges) }
   unmade (Err _) never = absurd never
 
-  module _ (law : OneRecord) {safe : Type 0} (kind : kind_of place ≡ kind_of was) (keeps : KeepsLeftIn disk files was (stores_of disk files place).maildir.files place)
+  module _ (law : OneRecord) {safe : Type 0} (kind : kind_of place ≡ kind_of was)
+      (keeps : KeepsLeftIn disk files was (stores_of disk files place).maildir.files place)
       (lasts : safe → IsSafeStore files place × AllStayIn disk place × FoundLastIn disk account loaded.rows items place) where
     mail : KeepsLeftIn disk files was left place
     mail = left_found disk files was place account loaded.intent items (Ok found) left finds keeps
 
-    news : FoundLastIn disk account loaded.rows items place → NewsLast disk (target_of was account) (files.stored from).content items store place
+    news : FoundLastIn disk account loaded.rows items place
+        → NewsLast disk (target_of was account) (files.stored from).content items store place
     news = news_found law disk files was place account (files.stored from).content loaded items found left stood kind finds
 
     pub unready : {after : List Row} (r : Result (Unit {0}) Fault) → Merges (files.stored from) state (none_open here) r (files.stored f)
@@ -157,7 +163,8 @@ module _ {D F : Type 0} (disk : DiskGhosts D) (files : FileGhosts F) (was place 
       };
     }
 
-    pub ready : (plan : Ready) {after : List Row} → Merges (files.stored from) state (none_open here) (Ok tt) (files.stored f) → after ≡ here
+    pub ready : (plan : Ready) {after : List Row} → Merges (files.stored from) state (none_open here) (Ok tt) (files.stored f)
+        → after ≡ here
         → plan.held.items ≡ found.held.items → plan.steps.items ≡ planned settings after items now → (safe → IsSafe files f)
         → ReadiesAndLasts disk files safe was from settings (target_of was account) items now store (Ok plan) after place f
     ready plan merges rows_are flags_are steps_are firm = record {

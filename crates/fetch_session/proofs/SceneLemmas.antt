@@ -138,7 +138,8 @@ all_sound link disk file did w d f =
     (l.0, s.0, r.0, l.1, did l.2 s.1 r.1)
 
 -- the same if one call used the store and the record's file
-pub both_sound : {W W' L D D' F F' P Q S : Type 0} → (W → W' × L × P) → (D → F → D' × F' × Q) → (P → F → Q → S) → W → D → F → W' × D' × F' × L × S
+pub both_sound : {W W' L D D' F F' P Q S : Type 0} → (W → W' × L × P) → (D → F → D' × F' × Q) → (P → F → Q → S)
+    → W → D → F → W' × D' × F' × L × S
 both_sound link files did w d f =
     let l = link w in
     let s = files d f in

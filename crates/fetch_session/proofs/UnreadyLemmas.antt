@@ -42,10 +42,12 @@ module _ {D F : Type 0} (disk : DiskGhosts D) (files : FileGhosts F) where
   left_same was store left keeps = (λ name is. inl (keeps.0 name is), λ f is. inl (keeps.1 f is))
 
   -- the store wasn't asked, and the record's file has the same bytes
-  pub unasked : {safe : Type 0} {settings : Settings} {items : List Item} {now : ℕ} {fault : Fault} {after : List Row} (was : Store D F) (from f : F)
-      (target : Target) → Unready target items now (stores_of disk files was) (files.stored from) fault (stores_of disk files was) (files.stored f)
+  pub unasked : {safe : Type 0} {settings : Settings} {items : List Item} {now : ℕ} {fault : Fault} {after : List Row} (was : Store D F)
+      (from f : F) (target : Target)
+      → Unready target items now (stores_of disk files was) (files.stored from) fault (stores_of disk files was) (files.stored f)
       → LeavesNoMore (files.may_leave from) (files.may_leave f) → (files.stored f).content ≡ (files.stored from).content
-      → AfterTakingIn (stores_of disk files was) (λ left. ReadiesAndLasts disk files safe was from settings target items now left (Err fault) after was f)
+      → AfterTakingIn (stores_of disk files was) (λ left. ReadiesAndLasts disk files safe was from settings target items now left
+      (Err fault) after was f)
   unasked was from f target why no_more same =
       untaken _ (record { readies = why; lasts = λ sure. record { mail = left_same was was _ (λ name is. is, λ one is. is); rows = inl (no_more, same) } })
 

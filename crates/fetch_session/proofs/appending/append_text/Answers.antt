@@ -113,7 +113,8 @@ returns-in-Err-Front-clause-ledger g c = record { lines = refl; rows = c.intend.
 
 -- the intent was closed, or that was refused, or memory ran out
 closed_ledger : (g : Over) (c : After-take_back g) (fault : Fault)
-    → KeepsRecord g.F.FlatFile c.args.uid.now c.args.ledger.now (Err fault) (record c.args.ledger.now { file = c.take_back.new.file; seen = c.take_back.new.seen })
+    → KeepsRecord g.F.FlatFile c.args.uid.now c.args.ledger.now (Err fault)
+    (record c.args.ledger.now { file = c.take_back.new.file; seen = c.take_back.new.seen })
 closed_ledger g c fault = record {
   lines = refl;
   rows = c.take_back.ensures.rows ∙ c.intend.ensures.rows;

@@ -32,11 +32,14 @@ told g c = c.note.ensures.items ∙ ap (λ (v : Vec ReportLine _). v.items ++ De
 
 pub returns-in-Err-clause-takes : goal.returns-in-Err-clause-takes
 returns-in-Err-clause-takes g c = link_alone (in_words g.W.Wire c.in-Err.ensures.opens (λ broke.
-    text_broken AsEntries (stores c.args.number c.args.uid.now) _ (place_of g.W.Wire c.args.client.now) (place_of g.W.Wire c.open.new.self) (in_mbox (g.F.FlatFile.stored c.args.mbox.now))
-    (g.F.FlatFile.stored c.args.ledger.now.file) c.args.ledger.now.seen.rows c.args.ledger.now.lines.items c.in-Err.fault c.broken.result refl c.broken.ensures broke))
+    text_broken AsEntries (stores c.args.number c.args.uid.now) _ (place_of g.W.Wire c.args.client.now) (place_of g.W.Wire c.open.new.self)
+    (in_mbox (g.F.FlatFile.stored c.args.mbox.now))
+    (g.F.FlatFile.stored c.args.ledger.now.file) c.args.ledger.now.seen.rows c.args.ledger.now.lines.items c.in-Err.fault c.broken.result
+    refl c.broken.ensures broke))
 
 pub returns-in-Err-read_text-clause-takes : goal.returns-in-Err-read_text-clause-takes
-returns-in-Err-read_text-clause-takes g c = link_alone (and_then g.W.Wire g.met.W.Wire.leads_on c.in-Ok.ensures.opens c.in-Err-read_text.ensures.holds (λ opened held.
+returns-in-Err-read_text-clause-takes g c = link_alone
+    (and_then g.W.Wire g.met.W.Wire.leads_on c.in-Ok.ensures.opens c.in-Err-read_text.ensures.holds (λ opened held.
     not_held (held c.args.number (place_of g.W.Wire c.args.client.now) opened)))
 
 -- the text was read
@@ -51,22 +54,27 @@ returns-then-not-is_whole-clause-takes g c = λ w m f.
 
 pub returns-in-Err-append_text-clause-takes : goal.returns-in-Err-append_text-clause-takes
 returns-in-Err-append_text-clause-takes g c =
-    both_sound (read g (goal.at.returns-in-Err-append_text-clause-takes g c).In-Ok-read_text) c.in-Err-append_text.ensures.appends (λ text _ refuses.
+    both_sound (read g (goal.at.returns-in-Err-append_text-clause-takes g c).In-Ok-read_text) c.in-Err-append_text.ensures.appends
+    (λ text _ refuses.
     text_refused c.in-Ok-read_text.text.items c.in-Err-append_text.fault text c.plain-in-Err-append_text.ensures refuses
     c.append_text.ensures.ledger.rows (ap (λ (v : Vec ReportLine _). v.items) c.append_text.ensures.ledger.lines))
 
 pub returns-in-Ok-remember-clause-takes : goal.returns-in-Ok-remember-clause-takes
 returns-in-Ok-remember-clause-takes g c =
-    both_sound (read g (goal.at.returns-in-Ok-remember-clause-takes g c).In-Ok-read_text) (λ m f. c.in_default.ensures.appends m (c.in-Ok-remember.ensures.saves f).0) (λ text f appends.
+    both_sound (read g (goal.at.returns-in-Ok-remember-clause-takes g c).In-Ok-read_text)
+    (λ m f. c.in_default.ensures.appends m (c.in-Ok-remember.ensures.saves f).0) (λ text f appends.
     entry_stored c.len-length.result c.in-Ok-read_text.text.items (g.F.FlatFile.stored c.append_text.new.ledger.file) c.args.ledger.now.seen c.append_text.new.ledger.seen text
-    (long g (goal.at.returns-in-Ok-remember-clause-takes g c).After-len-length) appends c.append_text.ensures.ledger.rows c.in-Ok-remember.ensures.rows (c.in-Ok-remember.ensures.saves f).1
+    (long g (goal.at.returns-in-Ok-remember-clause-takes g c).After-len-length) appends c.append_text.ensures.ledger.rows
+    c.in-Ok-remember.ensures.rows (c.in-Ok-remember.ensures.saves f).1
     (told g (goal.at.returns-in-Ok-remember-clause-takes g c).After-note))
 
 pub returns-in-Err-remember-clause-takes : goal.returns-in-Err-remember-clause-takes
 returns-in-Err-remember-clause-takes g c =
-    both_sound (read g (goal.at.returns-in-Err-remember-clause-takes g c).In-Ok-read_text) (λ m f. c.in_default.ensures.appends m (c.in-Err-remember.ensures.saves f).0) (λ text f appends.
+    both_sound (read g (goal.at.returns-in-Err-remember-clause-takes g c).In-Ok-read_text)
+    (λ m f. c.in_default.ensures.appends m (c.in-Err-remember.ensures.saves f).0) (λ text f appends.
     entry_not_saved c.len-length.result c.in-Ok-read_text.text.items (g.F.FlatFile.stored c.append_text.new.ledger.file) c.args.ledger.now.seen c.append_text.new.ledger.seen c.in-Err-remember.fault text
-    (long g (goal.at.returns-in-Err-remember-clause-takes g c).After-len-length) c.plain-in-Err-remember.ensures appends c.append_text.ensures.ledger.rows (c.in-Err-remember.ensures.saves f).1
+    (long g (goal.at.returns-in-Err-remember-clause-takes g c).After-len-length) c.plain-in-Err-remember.ensures appends
+    c.append_text.ensures.ledger.rows (c.in-Err-remember.ensures.saves f).1
     (told g (goal.at.returns-in-Err-remember-clause-takes g c).After-note))
 
 -- ---- what is written down

@@ -43,7 +43,8 @@ pub returns-in-Err-clause-does : goal.returns-in-Err-clause-does
 returns-in-Err-clause-does g c = λ account.
     let here = place_of g.W.Wire c.args.client.now in
     let work = c.args.work.now in
-    all_sound (λ w. (w, g.met.W.Wire.leads_same c.args.client.now.wire.now, tt {0})) (λ d. ((c.in-Err.ensures.looks d).0, d)) (λ f. (f, f)) (λ _ d f.
+    all_sound (λ w. (w, g.met.W.Wire.leads_same c.args.client.now.wire.now, tt {0})) (λ d. ((c.in-Err.ensures.looks d).0, d)) (λ f. (f, f))
+    (λ _ d f.
     does_quitting work c.look_again.new.store c.requires account here here (Err c.plain.result) f
     (not_left (kind_of work.store) account here (stores_of g.D.MaildirDisk g.F.FlatFile work.store) (stores_of g.D.MaildirDisk g.F.FlatFile c.look_again.new.store) (g.F.FlatFile.stored work.ledger.file) work.ledger.seen.rows
     work.ledger.lines.items _ c.in-Err.fault c.plain.result c.deref.ensures.value c.plain.ensures (c.in-Err.ensures.looks d).1)

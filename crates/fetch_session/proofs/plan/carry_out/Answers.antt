@@ -67,23 +67,30 @@ abbrev tasks_on : (g : Over) (c : After-deref-3 g) → List Task
 tasks_on g c = tasks_planned c.deref-2.result.now c.args.listing.now c.deref-3.result.now ++ says quit ∷ []
 
 -- what was done once all was ready, up to a fault or QUIT's reply
-carries : (g : Over) (c : After-deref-3 g) (r : Result (Unit {0}) Cut) {client : Client g.row.W.Denot} {work : Work g.row.D.Denot g.row.F.Denot _ _}
-    → KeepsSession g.W.Wire g.D.MaildirDisk g.F.FlatFile c.args.terms.account.now (tasks_on g c) c.args.client.now c.prepare.new.work r client work
-    → DoesTasks g.W.Wire g.D.MaildirDisk g.F.FlatFile c.args.terms.account.now (tasks_on g c) c.args.client.now c.prepare.new.work r client work
-    → WhereWorkSound g.W.Wire g.D.MaildirDisk g.F.FlatFile c.args.client.now c.args.work.now client work (λ old new. AfterTakingIn old.store (λ left.
+carries : (g : Over) (c : After-deref-3 g) (r : Result (Unit {0}) Cut) {client : Client g.row.W.Denot}
+    {work : Work g.row.D.Denot g.row.F.Denot _ _}
+    → KeepsSession g.W.Wire g.D.MaildirDisk g.F.FlatFile c.args.terms.account.now (tasks_on g c) c.args.client.now c.prepare.new.work r
+    client work
+    → DoesTasks g.W.Wire g.D.MaildirDisk g.F.FlatFile c.args.terms.account.now (tasks_on g c) c.args.client.now c.prepare.new.work r client
+    work
+    → WhereWorkSound g.W.Wire g.D.MaildirDisk g.F.FlatFile c.args.client.now c.args.work.now client work
+    (λ old new. AfterTakingIn old.store (λ left.
     (is : Carries c.args.terms.settings.now (target_of c.args.work.now.store c.args.terms.account.now) c.args.listing.now c.args.terms.now
     old.place left old.file old.lines r new.place new.store new.file new.lines c.skips_of.result)
-    × CarriesLast g.D.MaildirDisk g.F.FlatFile c.args.work.now.store c.args.work.now.ledger.file _ _ _ _ _ _ _ _ _ _ _ _ _ _ is work.store work.ledger.file))
+    × CarriesLast g.D.MaildirDisk g.F.FlatFile c.args.work.now.store c.args.work.now.ledger.file _ _ _ _ _ _ _ _ _ _ _ _ _ _ is work.store
+    work.ledger.file))
 carries g c r keeps does = λ w d f.
     let done = does w d f in
     let ready = c.in-Ok.ensures.readies done.1 done.2 in
     let before = c.prepare.new.work in
     let was = c.args.work.now in
     followed (done.0, ready.0, ready.1, done.3, ready.2) done.0 done.3 (λ left is.
-    carried g.D.MaildirDisk g.F.FlatFile was.store before.store was.ledger.file before.ledger.file before.ledger.lines.items c.deref-2.result.now
-    c.deref-3.result.now (ap (λ lines. lines.items) c.prepare.ensures.store.lines) is.readies c.deref-2.ensures.value c.deref-3.ensures.value
+    carried g.D.MaildirDisk g.F.FlatFile was.store before.store was.ledger.file before.ledger.file before.ledger.lines.items
+    c.deref-2.result.now c.deref-3.result.now (ap (λ lines. lines.items) c.prepare.ensures.store.lines)
+    is.readies c.deref-2.ensures.value c.deref-3.ensures.value
     (c.skips_of.ensures ∙ ap (skips_of c.args.terms.settings.now before.ledger.seen.rows c.args.listing.now c.args.terms.now) c.deref.ensures.value)
-    is.lasts (keeps.lasts d f).1 keeps.idle (in_kind before.store was.store c.args.terms.account.now c.prepare.ensures.store.kind done.4 (λ safe. safe)))
+    is.lasts (keeps.lasts d f).1 keeps.idle (in_kind before.store was.store c.args.terms.account.now c.prepare.ensures.store.kind done.4
+    (λ safe. safe)))
 
 pub returns-in-Err-do_steps-clause-carries : goal.returns-in-Err-do_steps-clause-carries
 returns-in-Err-do_steps-clause-carries g c =

@@ -15,7 +15,9 @@ returns-in-Ok-preview_merged-clause-previews g c = λ d f.
     let items = c.args.listing.now in
     let now = c.args.terms.now in
     asked looks reads.0 (λ left is.
-    work_preview settings (target_of c.args.store.now c.args.terms.account.now) items now (left_in (stores_of g.D.MaildirDisk g.F.FlatFile c.args.store.now) left) (g.F.FlatFile.stored c.args.file.now) (g.F.FlatFile.stored c.read.new.file) c.read.new.seen
+    work_preview settings (target_of c.args.store.now c.args.terms.account.now) items now
+    (left_in (stores_of g.D.MaildirDisk g.F.FlatFile c.args.store.now) left) (g.F.FlatFile.stored c.args.file.now)
+    (g.F.FlatFile.stored c.read.new.file) c.read.new.seen
     (stores_of g.D.MaildirDisk g.F.FlatFile c.look.new.store) c.in-Ok.looked c.in-Ok-preview_merged.message_previews.items reads.1.0 reads.1.2 is
     (c.in-Ok-preview_merged.ensures ∙ ap (λ (flags : List Bool). previews_of settings (merged c.read.new.seen.rows items flags now) items flags now) c.deref.ensures.value))
 

@@ -9,9 +9,11 @@ use Rattle.fetch_session.proofs.step.do_task.Goals as goal
 pub returns-in-Reread-clause-does : goal.returns-in-Reread-clause-does
 returns-in-Reread-clause-does g c =
     let work = c.args.work.now in
-    let took = c.reread.ensures.rereads (target_of work.store c.args.account.now) c.in-Reread.uid.now (stores_of g.D.MaildirDisk g.F.FlatFile work.store)
+    let took = c.reread.ensures.rereads (target_of work.store c.args.account.now) c.in-Reread.uid.now
+    (stores_of g.D.MaildirDisk g.F.FlatFile work.store)
     (g.F.FlatFile.stored work.ledger.file) work.ledger.seen.rows in
-    rw c.in-Reread.is (does_talking g.W.Wire c.args.account.now (rereads c.in-Reread.number c.in-Reread.uid.now) c.args.client.now c.reread.new.client work
+    rw c.in-Reread.is (does_talking g.W.Wire c.args.account.now (rereads c.in-Reread.number c.in-Reread.uid.now) c.args.client.now
+    c.reread.new.client work
     c.reread.new.lines c.reread.result took c.requires.ready)
 
 pub returns-in-Delete-clause-does : goal.returns-in-Delete-clause-does
@@ -26,11 +28,13 @@ pub returns-in-Skip-clause-does : goal.returns-in-Skip-clause-does
 returns-in-Skip-clause-does g c =
     let work = c.args.work.now in
     let client = c.args.client.now in
-    rw c.in-Skip.is (does_talking g.W.Wire c.args.account.now (skips c.in-Skip.number c.in-Skip.size) client client work c.note.new.lines (Ok tt)
+    rw c.in-Skip.is (does_talking g.W.Wire c.args.account.now (skips c.in-Skip.number c.in-Skip.size) client client work c.note.new.lines
+    (Ok tt)
     (λ w. (
       w,
       g.met.W.Wire.leads_same client.wire.now,
       skipped (target_of work.store c.args.account.now) c.in-Skip.number c.in-Skip.size (place_of g.W.Wire client)
-          (stores_of g.D.MaildirDisk g.F.FlatFile work.store) (g.F.FlatFile.stored work.ledger.file) work.ledger.seen.rows work.ledger.lines.items c.note.new.lines.items
+          (stores_of g.D.MaildirDisk g.F.FlatFile work.store) (g.F.FlatFile.stored work.ledger.file) work.ledger.seen.rows
+          work.ledger.lines.items c.note.new.lines.items
           c.note.ensures.items,
     )) c.requires.ready)

@@ -32,7 +32,9 @@ returns-in-Err-next_piece-clause-stores g c =
             stopped_store (g.D.MaildirDisk.maildir c.args.disk.now) (g.D.MaildirDisk.maildir c.pieces.disk) (g.D.MaildirDisk.maildir c.abandon.new.self) (string_bytes c.args.stem) inv.0
                 c.broken.result c.in-Err-next_piece.fault (c.requires.none_begun was.0) was.1 drops.1 c.broken.ensures,
           ),
-      and_then g.W.Wire g.met.W.Wire.leads_on inv.3 c.in-Err-next_piece.ensures.takes (λ before took number start now. rw c.broken.ensures (c.in-Err-next_piece.fault, refl, inr (inl (took number start inv.0 (before number start now))))),
+      and_then g.W.Wire g.met.W.Wire.leads_on inv.3 c.in-Err-next_piece.ensures.takes
+          (λ before took number start now. rw c.broken.ensures
+          (c.in-Err-next_piece.fault, refl, inr (inl (took number start inv.0 (before number start now))))),
     )
 
 pub returns-in-Err-put_piece-clause-stores : goal.returns-in-Err-put_piece-clause-stores

@@ -116,8 +116,10 @@ returns-in-Err-store_text-clause-ledger g c = same_ledger c.args.uid.now c.args.
 
 pub returns-in-Err-open-clause-takes : goal.returns-in-Err-open-clause-takes
 returns-in-Err-open-clause-takes g c = link_alone (in_words g.W.Wire c.in-Err-open.ensures.opens (λ broke.
-    text_broken (AsFiles c.args.account.now) (stores c.args.number c.args.uid.now) (retr c.args.number) (place_of g.W.Wire c.args.client.now) (place_of g.W.Wire c.open.new.self)
-    (in_maildir (g.D.MaildirDisk.maildir c.args.disk.now)) (g.F.FlatFile.stored c.args.ledger.now.file) c.args.ledger.now.seen.rows c.args.ledger.now.lines.items
+    text_broken (AsFiles c.args.account.now) (stores c.args.number c.args.uid.now) (retr c.args.number)
+    (place_of g.W.Wire c.args.client.now) (place_of g.W.Wire c.open.new.self)
+    (in_maildir (g.D.MaildirDisk.maildir c.args.disk.now)) (g.F.FlatFile.stored c.args.ledger.now.file) c.args.ledger.now.seen.rows
+    c.args.ledger.now.lines.items
     c.in-Err-open.fault c.broken.result refl c.broken.ensures broke))
 
 pub returns-in-Err-store_text-clause-link : goal.returns-in-Err-store_text-clause-link
