@@ -1,6 +1,7 @@
 -- What follows once a record is ready, and what of it outlives a loss of power.
-use Rattle.std.proofs.Common.{◌≡◌, ℕ, Bool, true, false, List, [], ◌∷◌, ◌++◌, length, None, Option, refl, sym, ap, subst, ◌∙◌, inl, inr, arith, Result, Ok, Err}
+use Rattle.std.proofs.Common.{◌≡◌, ℕ, Bool, true, false, List, [], ◌∷◌, ◌++◌, append-nil, length, None, Option, refl, sym, ap, subst, ◌∙◌, inl, inr, arith, Result, Ok, Err, ◌⊎◌, All, Contains}
 use Rattle.std.proofs.lemmas.List.{length-map}
+use Rattle.std.proofs.lemmas.Grind.{flat_map-append}
 use Rattle.std.proofs.lemmas.List.FromFn.{length-enumerate_from}
 use Rattle.pop3_wire.specs.Place.{Place}
 use Rattle.mail_terms.specs.Listing.{Item, numbered}
@@ -15,14 +16,13 @@ use Rattle.fetch_session.specs.declared.readiness.Ready.{Ready}
 use Rattle.fetch_session.specs.declared.fault.Cut.{Cut}
 use Rattle.fetch_session.specs.declared.report.ReportLine.{ReportLine}
 use Rattle.fetch_session.specs.Fault.{cut_of}
-use Rattle.fetch_session.specs.Task.{fetching, ids_ahead, says, tasks_planned}
+use Rattle.fetch_session.specs.Task.{fetching, ids_ahead, ids_in, says, tasks_planned}
 use Rattle.fetch_session.specs.Readiness.{IsReady, Unready, Settles}
 use Rattle.fetch_session.specs.Target.{Target, Stores, AsFiles, AsEntries, in_mbox, stores_of}
 use Rattle.fetch_session.specs.declared.report.Skips.{Skips}
 use Rattle.fetch_session.specs.Report.{skips_of}
 use Rattle.fetch_session.specs.Scene.{Scene, scene}
 use Rattle.fetch_session.specs.Plan.{Carried, Carries, tasks_ahead, Unprepared}
-use Rattle.std.specs.Prelude.{◌⊎◌, All, Contains}
 use Rattle.mail_store.specs.Maildir.{File, Maildir, names_of}
 use Rattle.mail_store.specs.declared.maildir.disk.MaildirDisk.{Ghosts as DiskGhosts}
 use Rattle.mail_store.specs.declared.file.flat_file.FlatFile.{Ghosts as FileGhosts}
@@ -71,15 +71,13 @@ news_on disk AsEntries content items old mid end keeps news = tt
 
 -- steps that fetch nothing mark nothing
 quiet_ids : (steps : List Step) (items : List Item) (held : List Bool) → AllByRecursion IsQuiet steps → ids_ahead (tasks_planned steps items held) ≡ []
-quiet_ids [] items held quiet = refl
-quiet_ids (s ∷ ss) [] held quiet = refl
-quiet_ids (s ∷ ss) (i ∷ is) [] quiet = refl
 quiet_ids (s ∷ ss) (i ∷ is) (h ∷ hs) quiet =
     ahead s i h (tasks_planned ss is hs) ∙ ap (λ (ids : List (List ℕ)). ids ++ ids_ahead (tasks_planned ss is hs)) (by s.retrieve quiet.0.0) ∙ quiet_ids ss is hs quiet.1
   where
     by : (retrieve : Bool) → retrieve ≡ false → ids_ahead (fetching retrieve h s.number i.uid i.size) ≡ []
     by true is = absurd (cc is)
     by false is = refl
+quiet_ids _ _ _ quiet = refl
 
 -- the planned tasks and QUIT were done once the record was ready, or as far as went well
 pub carried : {D F : Type 0} (disk : DiskGhosts D) (files : FileGhosts F) {safe : Type 0} {settings : Settings} {target : Target} {items : List Item} {now : ℕ} {place : Place} {store : Stores} {file : Stored} {lines : List ReportLine} {ready : Ready} {after : List Row}
@@ -87,7 +85,7 @@ pub carried : {D F : Type 0} (disk : DiskGhosts D) (files : FileGhosts F) {safe 
     → mid_lines ≡ lines → IsReady settings target items now store file ready after (stores_of disk files before) file' → steps ≡ ready.steps.items → held ≡ ready.held.items → skipped ≡ skips_of settings after items now ready.steps.items
     → (AreSure files was from → (All IsQuiet ready.steps.items × IsUntouched disk files was before from mid_file)
     ⊎ (safe × AllStayIn disk before × KeepsLeftIn disk files was store.maildir.files before × NewsLast disk target file.content items store before)) → KeepsMailIn disk before end
-    → (ids_ahead (tasks_planned steps items held) ≡ [] → f ≡ mid_file)
+    → (ids_ahead (tasks_planned steps items held ++ says quit ∷ []) ≡ [] → f ≡ mid_file)
     → DoesAndLasts disk files safe target (tasks_planned steps items held ++ says quit ∷ []) (scene place (stores_of disk files before) file' after mid_lines) r new end f
     → (is : Carries settings target items now place store file lines r new.place new.store new.file new.lines skipped) × CarriesLast disk files was from _ _ _ _ _ _ _ _ _ _ _ _ _ _ is end f
 carried {D} {F} disk files {safe} {settings} {target} {items} {now} {place} {store} {file} {lines} {ready} {after} was before {end} from mid_file {f} {file'} mid_lines steps held {skipped} {r} {new} lines_are is steps_are held_are skipped_is firm keeps same_file does =
@@ -112,7 +110,9 @@ carried {D} {F} disk files {safe} {settings} {target} {items} {now} {place} {sto
         ⊎ (safe × AllStayIn disk before × KeepsLeftIn disk files was store.maildir.files before × NewsLast disk target file.content items store before)
         → (All IsQuiet (planned settings after items now) × IsUntouched disk files was end from f) ⊎ (P × MailLasts disk files was target store file.content items end)
     by P good (inl (quiet, still)) =
-        let same = same_file (quiet_ids steps items held (subst (λ (ss : List Step). AllByRecursion IsQuiet ss) (sym steps_are) (recursion_from_All IsQuiet ready.steps.items quiet))) in
+        let same = same_file (flat_map-append ids_in (tasks_planned steps items held) (says quit ∷ []) ∙ append-nil _ ∙ quiet_ids steps
+        items held (subst (λ (ss : List Step). AllByRecursion IsQuiet ss) (sym steps_are)
+        (recursion_from_All IsQuiet ready.steps.items quiet))) in
         inl (
           subst (λ (ss : List Step). All IsQuiet ss) is.steps quiet,
           subst (λ (g : F). IsUntouched disk files was end from g) (sym same) (record { mail = keeps_mail_on still.mail keeps; no_more = still.no_more; same = still.same }),

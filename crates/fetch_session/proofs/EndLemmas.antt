@@ -1,11 +1,10 @@
 -- The end of a session whose planned steps were done.
 use Rattle.std.proofs.Common.{◌≡◌, ℕ, List, [], ◌∷◌, Option, None, Result, Ok, Err, OnOk, refl, sym, ap, subst, ◌∙◌, inl, inr, arith}
-use Rattle.std.proofs.lemmas.List.{append-nil, append_cancel_left}
-use Rattle.std.specs.List.{AllByRecursion}
+use Rattle.std.proofs.lemmas.List.{append-nil}
 use Rattle.fetch_rules.specs.Record.{Row}
 use Rattle.mail_store.specs.FlatFile.{Stored}
 use Rattle.mail_store.specs.declared.file.flat_file.Edges.{Edges}
-use Rattle.mail_store.specs.Maildir.{File, Maildir}
+use Rattle.mail_store.specs.Maildir.{Maildir}
 use Rattle.mail_store.specs.declared.file.flat_file.FlatFile.{Ghosts as FileGhosts}
 use Rattle.mail_store.specs.declared.maildir.disk.MaildirDisk.{Ghosts as DiskGhosts}
 use Rattle.pop3_wire.specs.Place.{Place}
@@ -22,14 +21,14 @@ use Rattle.fetch_session.specs.declared.work.Work.{Work}
 use Rattle.fetch_session.specs.Ending.{IsTold, LooksAgain}
 use Rattle.fetch_session.specs.Fault.{cut_of}
 use Rattle.fetch_session.specs.Intake.{TookTillCut}
-use Rattle.fetch_session.specs.Lasting.{DoesAndLasts, IsSafeStore, IsSafeWork, KeepsMailIn, KeepsMboxIn, NewOutlive, outlives_in}
+use Rattle.fetch_session.specs.Lasting.{DoesAndLasts, IsSafeStore, IsSafeWork, KeepsMailIn, KeepsMboxIn}
 use Rattle.fetch_session.specs.Parts.{KeepsLink, KeepsSession, KeepsStore}
 use Rattle.fetch_session.specs.Scene.{scene, Stops, TakesTask}
 use Rattle.fetch_session.specs.Target.{Kind, Files, Entries, Target, Stores, is_sound, kind_of, stores_of, target, target_of}
 use Rattle.fetch_session.specs.Task.{AreFresh, ids_ahead, says}
 use Rattle.fetch_session.specs.Work.{IsReady}
-use Rattle.fetch_session.proofs.LastLemmas.{if_err, nothing_cut, same_left}
-use Rattle.fetch_session.proofs.PartLemmas.{good_task, on_map}
+use Rattle.fetch_session.proofs.LastLemmas.{if_err, none_came, nothing_cut, same_left}
+use Rattle.fetch_session.proofs.PartLemmas.{good_task, on_map, store_less}
 use Rattle.fetch_session.proofs.SceneLemmas.{brings_same, on_any}
 
 -- ---- what the look left
@@ -74,12 +73,6 @@ quit_said target reply a b old new file rows lines same talked =
 
 -- ---- what QUIT keeps and does
 
--- no file came
-none_new : {D F : Type 0} (disk : DiskGhosts D) (file : FileGhosts F) (old new : Store D F) → (stores_of disk file new).maildir ≡ (stores_of disk file old).maildir → NewOutlive disk file old new
-none_new disk file old new same = λ files is.
-    let was = (stores_of disk file old).maildir.files in
-    subst (λ (fs : List File). AllByRecursion (outlives_in disk new) fs) (append_cancel_left was [] files (append-nil was ∙ ap (λ (m : Maildir). m.files) (sym same) ∙ is)) tt
-
 module _ {D F H Z : Type 0} {disk : DiskGhosts D} {file : FileGhosts F} (work : Work D F H Z) (store : Store D F) (ready : IsReady disk file work) where
   abbrev pub left : Work D F H Z
   left = record work { store = store }
@@ -99,17 +92,13 @@ module _ {D F H Z : Type 0} {disk : DiskGhosts D} {file : FileGhosts F} (work : 
       → KeepsSession link disk file account (says quit ∷ []) c work r c' left
   kept_quitting {account = account} {r = r} talk kind same mail safe = record {
     talk = talk;
-    store = record {
-      lines = (omega arith, omega arith);
-      kind = kind;
-      none_begun = λ d. ((same d).0, ap (λ (m : Maildir). m.begun) (same d).1 ∙ ready.none_begun (same d).0);
-    };
+    store = store_less (omega arith) (quitting_store kind same);
     lasts = λ d f. (f, mail d, λ sure. on_map r (λ s. (sure.0, s)) (safe d sure.1));
     idle = λ none. refl;
     next = on_any r (λ later before. record {
       digits = before.digits;
       room = omega (arith, before.room);
-      ready = record { none_begun = λ d. ap (λ (m : Maildir). m.begun) (same d).1 ∙ ready.none_begun (same d).0; written = ready.written };
+      ready = record { none_begun = λ d. ((quitting_store kind same).none_begun d).1; written = ready.written };
       legal = before.legal;
       rows = before.rows;
       free = λ d. subst (λ (m : Maildir). AreFresh account m (ids_ahead later)) (sym (same d).1) (before.free (same d).0);
@@ -125,7 +114,7 @@ module _ {D F H Z : Type 0} {disk : DiskGhosts D} {file : FileGhosts F} (work : 
       (scene b (stores_of disk file store) (file.stored work.ledger.file) work.ledger.seen.rows work.ledger.lines.items) store work.ledger.file
   does_quitting account a b r f took keeps same safe =
       good_task (target_of work.store account) (says quit) a b work left r took (keeps.0, keeps.1, λ last. last) (ready.written.steady f) (on_any r (ready.written.steady f))
-      (λ sure. on_map r (λ s. ((sure.0, s), none_new disk file work.store store same)) (safe sure.1))
+      (λ sure. on_map r (λ s. ((sure.0, s), none_came disk file work.store store same)) (safe sure.1))
       (λ sure. same_left file work.ledger.file work.ledger.seen.rows work.ledger.seen.rows None sure.0 (ready.written.steady f))
       (λ sure. if_err r (λ cut. nothing_cut disk file (target_of work.store account) cut _ _ store work.ledger.file
       (same_left file work.ledger.file work.ledger.seen.rows work.ledger.seen.rows None sure.0 (ready.written.steady f)) (ap (λ (m : Maildir). m.files) same)))

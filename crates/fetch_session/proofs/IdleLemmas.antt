@@ -1,6 +1,5 @@
 -- What is ready if the store needn't be asked what it holds.
-use Rattle.std.proofs.Common.{◌≡◌, ℕ, suc, Bool, true, false, List, [], ◌∷◌, ◌++◌, length, Option, None, Some, Ok, Err, refl, sym, ap, subst, ◌∙◌, arith}
-use Rattle.std.specs.Prelude.{All, Result, IfOk, IfSome}
+use Rattle.std.proofs.Common.{◌≡◌, ℕ, suc, Bool, true, false, List, [], ◌∷◌, ◌++◌, length, Option, None, Some, Ok, Err, refl, sym, ap, subst, ◌∙◌, arith, All, Result, IfOk, IfSome}
 use Rattle.std.specs.List.{AllByRecursion}
 use Rattle.std.proofs.lemmas.List.{length-map}
 use Rattle.mail_terms.specs.Listing.{Item}
@@ -38,14 +37,13 @@ quiet_step step item x y quiet = ap (λ (tasks : List Task). tasks ++ deleting s
     by false is = refl
 
 pub quiet_same : (steps : List Step) (items : List Item) (xs ys : List Bool) → All IsQuiet steps → length xs ≡ length items → length ys ≡ length items → AreAsHeld steps items xs ys
-quiet_same [] items xs ys quiet ones others = refl
-quiet_same (s ∷ ss) [] xs ys quiet ones others = refl
 quiet_same (s ∷ ss) (i ∷ is) [] ys quiet ones others = absurd (omega (arith, ones))
 quiet_same (s ∷ ss) (i ∷ is) (x ∷ xs) [] quiet ones others = absurd (omega (arith, others))
 quiet_same (s ∷ ss) (i ∷ is) (x ∷ xs) (y ∷ ys) quiet ones others =
     ap (λ (tasks : List Task). tasks ++ tasks_planned ss is xs) (quiet_step s i x y (quiet 0 s (omega arith)).0)
     ∙ ap (λ (tasks : List Task). tasks_in s i y ++ tasks)
     (quiet_same ss is xs ys (λ k d inside. quiet (suc k) d (omega (arith, inside))) (omega (arith, ones)) (omega (arith, others)))
+quiet_same _ _ xs ys quiet ones others = refl
 
 flags_length : (target : Target) (store : Stores) (items : List Item) → length (flags_in target store items) ≡ length items
 flags_length (AsFiles account) store items = length-map items (λ (item : Item). is_held account store.maildir item.uid)
@@ -62,8 +60,7 @@ pub no_place : (kind : Kind) (items : List Item) (old new : Stores) (refusal : S
     → Rests kind old items (Err fault) new
 no_place Files items old new refused.Missing fault is told = rw told is.0
 no_place Files items old new refused.Refused fault is told = rw told is.0
-no_place Files items old new refused.NotMbox fault is told = absurd is.0
-no_place Files items old new refused.NoMemory fault is told = absurd is.0
+no_place Files items old new _ fault is told = absurd is.0
 no_place Entries items old new refusal fault is told = (asks_refused None old.mbox old.mbox new.mbox false items refusal fault (refl, refl) is.0 told, is.1)
 
 module _ {D F : Type 0} (disk : DiskGhosts D) (files : FileGhosts F) (account : List ℕ) where

@@ -1,6 +1,5 @@
 -- How much a session takes from its link.
-use Rattle.std.proofs.Common.{◌≡◌, inl, inr, ◌≤◌, ◌+◌, ◌*◌, ℕ, List, [], ◌∷◌, ◌++◌, length, Option, None, Some, Result, Ok, Err, refl, sym, ap, arith, append_assoc, length-append}
-use Rattle.std.proofs.lemmas.List.{append-nil}
+use Rattle.std.proofs.Common.{◌≡◌, inl, inr, ◌≤◌, ◌+◌, ◌*◌, ℕ, List, [], ◌∷◌, ◌++◌, length, Option, None, Some, Result, Ok, Err, refl, sym, ap, arith, append_assoc, length-append, append-nil}
 use Rattle.pop3_wire.specs.Reading.{WholeReply}
 use Rattle.pop3_wire.specs.Link.{Link}
 use Rattle.pop3_wire.specs.Place.{Place, at}
@@ -65,7 +64,7 @@ takes_plain plain took = rw plain took
 
 -- ---- the most of tails
 
-most_tail : (kind : Tail) → most_of (tail_turns kind) ≤ tail_limit
+pub most_tail : (kind : Tail) → most_of (tail_turns kind) ≤ tail_limit
 most_tail Nothing = omega arith
 most_tail Leave = omega arith
 most_tail Undo = omega arith
@@ -88,10 +87,6 @@ quit_tail fault a b (inr (inl bad)) = quit_caused fault a.link b.link (a.waiting
 quit_tail fault a b (inr (inr none)) = ap (λ (why : ClientFault). tail (fault_of why)) none.0
 
 -- ---- with what is said after a fault
-
--- whatever the tail is
-pub with_any_tail : (limit : ℕ) (a b : Place) (cut : Cut) → TookTillCut limit a (Err cut) b → TookWithTail (limit + tail_limit) a (Err cut) b
-with_any_tail limit a b cut took = (limit, took, omega (arith, most_tail (tail cut.fault)))
 
 -- with no reply under way
 pub with_plain_tail : {limit most : ℕ} {a b : Place} {fault : Fault} {cut : Cut} → cut ≡ cut_of fault None → Took most a b → most + tail_limit ≤ limit → TookWithTail limit a (Err cut) b

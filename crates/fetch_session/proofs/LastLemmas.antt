@@ -1,10 +1,9 @@
 -- What a list of tasks leaves that outlives a loss of power, by what its single tasks leave.
-use Rattle.std.proofs.Common.{◌≡◌, ◌≢◌, ◌⊎◌, ℕ, List, [], ◌∷◌, ◌++◌, Option, None, Some, Result, Ok, Err, IfErr, refl, sym, ap, subst, ◌∙◌, inl, inr, append_assoc, length}
+use Rattle.std.proofs.Common.{◌≡◌, ◌≢◌, ◌⊎◌, ℕ, List, [], ◌∷◌, ◌++◌, Option, None, Some, Result, Ok, Err, IfErr, refl, sym, ap, subst, ◌∙◌, inl, inr, append_assoc, length, option_map, ⊎_elim}
 use Rattle.std.proofs.lemmas.List.{append-nil, append_cancel_left}
 use Rattle.std.proofs.lemmas.Grind.{flat_map-append}
 use Rattle.std.proofs.lemmas.Option.{none-some, same_Some}
 use Rattle.std.specs.List.{flat_map, AllByRecursion}
-use Rattle.std.specs.Prelude.{option_map}
 use Rattle.pop3_wire.specs.Place.{Place}
 use Rattle.fetch_rules.specs.Record.{Row, RecordState, Intent, none_open, marked_all}
 use Rattle.fetch_rules.specs.RecordGrowth.{Grows, Updates}
@@ -202,13 +201,10 @@ whole_left rows others bytes left stands all = record {
 -- the file was replaced, or may have been, by bytes that stand for the rows
 module _ {F : Type 0} (file : FileGhosts F) (f f' : F) (rows : List Row) (bytes : List ℕ) (stands : Steady (Some bytes) (none_open rows))
     (either : LeavesEither (file.may_leave f) bytes (file.may_leave f')) where
-  all_of : (left : Option (List ℕ)) → left ≡ Some bytes → left ≡ Some (bytes ++ [])
-  all_of left is = is ∙ ap (λ (l : List ℕ). Some l) (sym (append-nil bytes))
-
   pub either_rows : RowsStillLast file rows f f'
   either_rows last left may = elim (either left may) [
     | inl before ↦ last left before
-    | inr is ↦ (bytes, [], inr (all_of left is), stands)
+    | inr is ↦ (bytes, [], inr (is ∙ ap (λ (l : List ℕ). Some l) (sym (append-nil bytes))), stands)
   ]
 
   pub either_left : (content : List ℕ) → (file.stored f).content ≡ Some content → (others : List Row) → Leaves file f (AreLeft rows others) → Leaves file f' (AreLeft rows others)
@@ -222,10 +218,8 @@ module _ {F : Type 0} (file : FileGhosts F) (f f' : F) (rows : List Row) (bytes 
 module _ {F : Type 0} (files : FileGhosts F) (rows others : List Row) (from f : F) where
   -- it was written whole
   pub written_merged : (bytes : List ℕ) → Steady (Some bytes) (none_open others) → LeavesEither (files.may_leave from) bytes (files.may_leave f) → LeavesMerged files rows others from f
-  written_merged bytes stands either left may = elim (either left may) [
-    | inl before ↦ inl before
-    | inr all ↦ inr (inr (whole_left others others bytes left stands all))
-  ]
+  written_merged bytes stands either left may = ⊎_elim inl (λ all. inr (inr (whole_left others others bytes left stands all)))
+      (either left may)
 
   -- a group was appended
   pub grown_merged : (group : List ℕ) → Updates rows None group others None → LeavesLeft files (none_open rows) group from f → LeavesMerged files rows others from f
@@ -269,10 +263,11 @@ nothing_cut disk file (AsFiles account) cut old new store f left same = inl (lef
 nothing_cut disk file AsEntries cut old new store f left same = tt
 
 -- no file came
-pub none_came : {D F : Type 0} (disk : DiskGhosts D) (file : FileGhosts F) (store : Store D F) → NewOutlive disk file store store
-none_came disk file store = λ files is.
-    let was = (stores_of disk file store).maildir.files in
-    subst (λ (fs : List File). AllByRecursion (outlives_in disk store) fs) (append_cancel_left was [] files (append-nil was ∙ is)) tt
+pub none_came : {D F : Type 0} (disk : DiskGhosts D) (file : FileGhosts F) (old new : Store D F) → (stores_of disk file new).maildir ≡ (stores_of disk file old).maildir
+    → NewOutlive disk file old new
+none_came disk file old new same = λ files is.
+    let was = (stores_of disk file old).maildir.files in
+    subst (λ (fs : List File). AllByRecursion (outlives_in disk new) fs) (append_cancel_left was [] files (append-nil was ∙ ap (λ (m : Maildir). m.files) (sym same) ∙ is)) tt
 
 pub keeps_same : {D F H Z : Type 0} (disk : DiskGhosts D) (file : FileGhosts F) (work : Work D F H Z) → KeepsWork disk file work work
 keeps_same disk file work = ((λ name is. is, λ f is. is), λ bytes has is. is, λ last. last)

@@ -1,9 +1,7 @@
 -- What a preview says of a listing, message by message.
-use Rattle.std.specs.Prelude.{All, ◌&&◌, if◌then◌else◌}
-use Rattle.std.proofs.Common.{◌≡◌, ◌<◌, ◌≤◌, ◌+◌, ℕ, suc, Bool, true, false, List, [], ◌∷◌, ◌++◌, append_assoc, append-nil, drop, get_or, length, cond, add-one, refl, sym, ap, ap₂, ◌∙◌, arith}
+use Rattle.std.proofs.Common.{◌≡◌, ◌<◌, ◌≤◌, ◌+◌, ℕ, suc, Bool, true, false, List, [], ◌∷◌, ◌++◌, append_assoc, append-nil, drop, get_or, length, cond, add-one, zero-add, refl, sym, ap, ap₂, ◌∙◌, arith, All, ◌&&◌, if◌then◌else◌, drop-cons}
 use Rattle.std.proofs.lemmas.List.{drop_all, get_or-map, length-map}
 use Rattle.std.proofs.lemmas.List.Sums.{sum_by-append}
-use Rattle.std.proofs.Math.Seq.{drop-cons}
 use Rattle.mail_terms.specs.Listing.{Item}
 use Rattle.rc_file.specs.declared.settings.Settings.{Settings}
 use Rattle.fetch_rules.specs.Record.{Row, is_delivered}
@@ -13,7 +11,7 @@ use Rattle.fetch_session.specs.declared.message_preview.MessagePreview.{MessageP
 use mir.Val.{bool_byte}
 use Rattle.fetch_session.proofs.FreshLemmas.{no_item, step_at}
 use Rattle.fetch_session.specs.declared.message_preview.Fate.{Fate}
-use Rattle.fetch_session.specs.declared.message_preview.Fate.TheVariants.{Fetched, FetchedAndDeleted, Deleted, Held, DeliveredBefore, TooLarge, PastLimit, SameId}
+use Rattle.fetch_session.specs.declared.message_preview.Fate.TheVariants.{Fetched, FetchedAndDeleted, Deleted, DeliveredBefore, TooLarge}
 use Rattle.fetch_session.specs.declared.report.LeftOut.{LeftOut}
 use Rattle.fetch_session.specs.MessagePreview.{fate_of, fetched_by, known_of, message_preview_of, message_previews}
 use Rattle.fetch_session.specs.Report.{count_fates, is_for_id, is_for_limit, is_for_size, left_out_of, with_fate}
@@ -27,34 +25,19 @@ byte_of : (b : Bool) → bool_byte b ≡ cond b 1 0
 byte_of true = refl
 byte_of false = refl
 
+plus_fate : (left : LeftOut) (fate : Fate) → with_fate left fate
+    ≡ record { too_large = left.too_large + cond (is_for_size fate) 1 0; past_limit = left.past_limit + cond (is_for_limit fate) 1 0; repeated = left.repeated + cond (is_for_id fate) 1 0 }
+plus_fate left TooLarge = grind arith
+plus_fate left _ = grind arith
+
 -- a count grows by one at most
 with_at_most : (left : LeftOut) (fate : Fate) → ((with_fate left fate).too_large ≤ left.too_large + 1) × ((with_fate left fate).past_limit ≤ left.past_limit + 1)
     × ((with_fate left fate).repeated ≤ left.repeated + 1)
-with_at_most left Fetched = (omega arith, omega arith, omega arith)
-with_at_most left FetchedAndDeleted = (omega arith, omega arith, omega arith)
-with_at_most left Deleted = (omega arith, omega arith, omega arith)
-with_at_most left Held = (omega arith, omega arith, omega arith)
-with_at_most left DeliveredBefore = (omega arith, omega arith, omega arith)
 with_at_most left TooLarge = (omega arith, omega arith, omega arith)
-with_at_most left PastLimit = (omega arith, omega arith, omega arith)
-with_at_most left SameId = (omega arith, omega arith, omega arith)
-
-plus_fate : (left : LeftOut) (fate : Fate) → with_fate left fate
-    ≡ record { too_large = left.too_large + cond (is_for_size fate) 1 0; past_limit = left.past_limit + cond (is_for_limit fate) 1 0; repeated = left.repeated + cond (is_for_id fate) 1 0 }
-plus_fate left Fetched = grind arith
-plus_fate left FetchedAndDeleted = grind arith
-plus_fate left Deleted = grind arith
-plus_fate left Held = grind arith
-plus_fate left DeliveredBefore = grind arith
-plus_fate left TooLarge = grind arith
-plus_fate left PastLimit = grind arith
-plus_fate left SameId = grind arith
-
-from_zero : (n : ℕ) → 0 + n ≡ n
-from_zero n = omega arith
+with_at_most left _ = (omega arith, omega arith, omega arith)
 
 count_one : (test : Fate → Bool) (told : List MessagePreview) (p : MessagePreview) → count_fates test (told ++ p ∷ []) ≡ count_fates test told + cond (test p.fate) 1 0
-count_one test told p = sum_by-append (λ (q : MessagePreview). cond (test q.fate) 1 0) told (p ∷ []) ∙ ap (λ n. count_fates test told + n) (from_zero (cond (test p.fate) 1 0))
+count_one test told p = sum_by-append (λ (q : MessagePreview). cond (test q.fate) 1 0) told (p ∷ []) ∙ ap (λ n. count_fates test told + n) (zero-add (cond (test p.fate) 1 0))
 
 one_more : (told : List MessagePreview) (p : MessagePreview) → with_fate (left_out_of told) p.fate ≡ left_out_of (told ++ p ∷ [])
 one_more told p = rw (count_one is_for_size told p, count_one is_for_limit told p, count_one is_for_id told p) (plus_fate (left_out_of told) p.fate)
@@ -144,9 +127,8 @@ uncounted : (told : List MessagePreview) (p : MessagePreview) (retrieve delete :
     → p.fate ≡ (if retrieve && delete then FetchedAndDeleted else if retrieve then Fetched else if delete then Deleted else DeliveredBefore)
     → left_out_of (p ∷ told) ≡ left_out_of told
 uncounted told p true true is = rw is refl
-uncounted told p true false is = rw is refl
 uncounted told p false true is = rw is refl
-uncounted told p false false is = rw is refl
+uncounted told p _ _ is = rw is refl
 
 known_fate : (settings : Settings) (step : Step) (known : Known) (fetched : ℕ) → settings.read_all ≡ false → known.held ≡ false → known.delivered ≡ true
     → fate_of settings step known fetched
@@ -155,8 +137,7 @@ known_fate settings step known fetched new unheld is = rw (new, unheld, is) refl
 
 pub none_left : (settings : Settings) (rows : List Row) (now fetched : ℕ) (steps : List Step) (items : List Item) → settings.read_all ≡ false
     → All (λ (item : Item). is_delivered rows item.uid ≡ true) items → left_out_of (message_previews settings rows now fetched steps items (none_held items)) ≡ left_out_of []
-none_left settings rows now fetched [] items new all = refl
-none_left settings rows now fetched (s ∷ ss) [] new all = refl
 none_left settings rows now fetched (s ∷ ss) (i ∷ is) new all =
     uncounted (message_previews settings rows now (fetched + fetched_by s) ss is (none_held is)) (message_preview_of settings now fetched s (known_of rows now false i)) s.retrieve s.delete (known_fate settings s (known_of rows now false i) fetched new refl (all 0 i (omega arith)))
     ∙ none_left settings rows now (fetched + fetched_by s) ss is new (λ k d inside. all (suc k) d (omega (arith, inside)))
+none_left settings rows now fetched _ _ new all = refl

@@ -2,7 +2,7 @@
 use Rattle.std.proofs.Common.{◌≡◌, ℕ, ◌+◌, ◌<◌, Bool, not, List, [], ◌∷◌, ◌++◌, length, map, get_or, take, Option, Ok, sym, ap, subst, ◌∙◌, HoldsAt}
 use Rattle.std.proofs.lemmas.List.{map-append, take_more}
 use Rattle.mail_terms.specs.Listing.{Item}
-use Rattle.fetch_rules.specs.Record.{Intent, Loaded, Row, is_delivered}
+use Rattle.fetch_rules.specs.Record.{Loaded, Row, is_delivered}
 use Rattle.fetch_rules.specs.RecordGrowth.{OneRecord}
 use Rattle.mail_store.specs.Held.{FoundOutlive}
 use Rattle.mail_store.specs.Maildir.{File, Maildir}

@@ -1,5 +1,5 @@
 -- What parts of a session keep and do, one after the other.
-use Rattle.std.proofs.Common.{◌≡◌, ◌≤◌, ◌+◌, ◌*◌, ℕ, Bool, true, false, List, [], ◌∷◌, ◌++◌, length, None, Result, Ok, Err, IfErr, OnOk, refl, sym, ap, subst, ◌∙◌, inl, arith, append_assoc, length-append}
+use Rattle.std.proofs.Common.{◌≡◌, ◌≤◌, ◌+◌, ◌*◌, ℕ, Bool, true, false, List, [], ◌∷◌, ◌++◌, length, None, Result, Ok, Err, IfErr, OnOk, refl, sym, ap, subst, ◌∙◌, inl, arith, append_assoc, length-append, Vec, Global}
 use Rattle.std.proofs.lemmas.Grind.{flat_map-append}
 use Rattle.std.specs.List.{AllByRecursion}
 use Rattle.mail_terms.specs.Listing.{Item}
@@ -18,8 +18,10 @@ use Rattle.fetch_session.specs.declared.fault.Fault.{Fault}
 use Rattle.pop3_client.specs.Turns.{Turn, line_limit, text_limit}
 use Rattle.pop3_client.specs.declared.client.Client.{Client}
 use Rattle.pop3_wire.specs.declared.wire.Wire.{Ghosts as WireGhosts}
+use Rattle.pop3_wire.specs.Link.{WhereSound}
 use Rattle.pop3_wire.specs.Place.{Place}
 use Rattle.fetch_session.specs.declared.fault.Cut.{Cut}
+use Rattle.fetch_session.specs.declared.report.ReportLine.{ReportLine}
 use Rattle.fetch_session.specs.declared.work.Ledger.{Ledger}
 use Rattle.fetch_session.specs.declared.work.Work.{Work}
 use Rattle.fetch_session.specs.Fault.{cut_of, fault_of}
@@ -29,14 +31,15 @@ use Rattle.fetch_session.specs.Parts.{DoesTasks, IsReadyFor, KeepsLedger, KeepsL
 use Rattle.fetch_session.specs.Record.{Steady}
 use Rattle.fetch_session.specs.Scene.{scene, TakesTask}
 use Rattle.fetch_session.specs.Store.{MayGain}
+use Rattle.fetch_session.specs.Tail.{tail}
 use Rattle.fetch_session.specs.Target.{Target, is_sound, kind_of, stores_of, target_of}
 use Rattle.fetch_session.specs.Task.{Task, stores, ids_in, ids_ahead, turns_in, turns_ahead, AreFresh, fetching, deleting, tasks_planned}
-use Rattle.fetch_session.specs.Work.{IsReady, IsWritten}
+use Rattle.fetch_session.specs.Work.{IsReady, IsWritten, scene_of}
 use Rattle.fetch_session.proofs.FreshLemmas.{OneMore, ahead, fresh_grows}
-use Rattle.fetch_session.proofs.IntakeLemmas.{takes_on, takes_plain, took_less, took_nothing, with_any_tail, with_tail_on}
+use Rattle.fetch_session.proofs.IntakeLemmas.{most_tail, takes_on, takes_plain, took_less, took_nothing, with_tail_on}
 use Rattle.fetch_session.proofs.LastLemmas.{good_before, good_more, if_err, in_kind, keeps_mail_on, keeps_same, none_came, none_lasts, nothing_cut, rows_last, same_left, texts_ok}
 use Rattle.fetch_session.proofs.RefusalLemmas.{cut_by, till_cut}
-use Rattle.fetch_session.proofs.SceneLemmas.{all_append, all_none, all_weaker, fell_first, on_any}
+use Rattle.fetch_session.proofs.SceneLemmas.{all_append, all_sound, all_none, all_weaker, fell_first, on_any}
 
 pub on_map : {T E P Q : Type 0} (result : Result T E) → (P → Q) → OnOk result P → OnOk result Q
 on_map (Ok done) to p = to p
@@ -68,8 +71,7 @@ most_ahead xs ys = ap most_of (flat_map-append turns_in xs ys) ∙ most_append (
 most_fetching : (retrieve held : Bool) (number : ℕ) (uid : List ℕ) (size : ℕ)
     → (most_of (turns_ahead (fetching retrieve held number uid size)) ≤ line_limit + text_limit) × (length (fetching retrieve held number uid size) ≤ 1)
 most_fetching true true number uid size = (omega arith, omega arith)
-most_fetching true false number uid size = (omega arith, omega arith)
-most_fetching false held number uid size = (omega arith, omega arith)
+most_fetching _ _ number uid size = (omega arith, omega arith)
 
 most_deleting : (delete : Bool) (number : ℕ) → (most_of (turns_ahead (deleting delete number)) ≤ line_limit) × (length (deleting delete number) ≤ 1)
 most_deleting true number = (omega arith, omega arith)
@@ -78,9 +80,6 @@ most_deleting false number = (omega arith, omega arith)
 -- the tasks of steps
 pub most_planned : (steps : List Step) (items : List Item) (held : List Bool)
     → (most_of (turns_ahead (tasks_planned steps items held)) ≤ length items * step_limit) × (length (tasks_planned steps items held) ≤ 2 * length items)
-most_planned [] items held = (omega arith, omega arith)
-most_planned (s ∷ ss) [] held = (omega arith, omega arith)
-most_planned (s ∷ ss) (i ∷ is) [] = (omega arith, omega arith)
 most_planned (s ∷ ss) (i ∷ is) (h ∷ hs) =
     let first = fetching s.retrieve h s.number i.uid i.size in
     let then = deleting s.delete s.number in
@@ -89,21 +88,19 @@ most_planned (s ∷ ss) (i ∷ is) (h ∷ hs) =
     let b = most_deleting s.delete s.number in
     let more = most_planned ss is hs in
     (omega (arith, most_ahead (first ++ then) later, most_ahead first then, a.0, b.0, more.0), omega (arith, length-append (first ++ then) later, length-append first then, a.1, b.1, more.1))
+most_planned _ _ _ = (omega arith, omega arith)
 
 fetched_all : (P : List ℕ → Type 0) (retrieve held : Bool) (number : ℕ) (uid : List ℕ) (size : ℕ) → (retrieve ≡ true → P uid) → AllByRecursion P (ids_ahead (fetching retrieve held number uid size))
-fetched_all P true true number uid size p = tt
 fetched_all P true false number uid size p = (p refl, tt)
-fetched_all P false held number uid size p = tt
+fetched_all P _ _ number uid size p = tt
 
 -- what holds of each listed id holds of each that will be marked
 pub planned_all : (P : List ℕ → Type 0) (steps : List Step) (items : List Item) (held : List Bool) → AllByRecursion (λ (item : Item). P item.uid) items
     → AllByRecursion P (ids_ahead (tasks_planned steps items held))
-planned_all P [] items held all = tt
-planned_all P (s ∷ ss) [] held all = tt
-planned_all P (s ∷ ss) (i ∷ is) [] all = tt
 planned_all P (s ∷ ss) (i ∷ is) (h ∷ hs) all =
     subst (λ (ids : List (List ℕ)). AllByRecursion P ids) (sym (ahead s i h (tasks_planned ss is hs)))
     (all_append P (ids_ahead (fetching s.retrieve h s.number i.uid i.size)) (ids_ahead (tasks_planned ss is hs)) (fetched_all P s.retrieve h s.number i.uid i.size (λ _. all.0)) (planned_all P ss is hs all.1))
+planned_all P _ _ _ all = tt
 
 -- ---- the first of these tasks
 
@@ -131,10 +128,6 @@ ready_front {D} {F} {H} {Z} {disk} {file} {account} {work} xs ys ready =
     }
 
 -- ---- the link
-
--- refused calls are counted, after none was
-pub tallies_after : (refused : Bool) (a b c : ℕ) → b ≡ a → Tallies refused b c → Tallies refused a c
-tallies_after refused a b c same counts = rw same at counts
 
 module _ {W : Type 0} {link : WireGhosts W} where
   link_on : {m n : ℕ} (limit : ℕ) {a b c : Client W} {r : Result (Unit {0}) Cut} → m + n ≤ limit → KeepsLink link (TookTillCut m) a (Ok tt) b
@@ -169,7 +162,7 @@ module _ {W : Type 0} {link : WireGhosts W} where
   -- with what is said after the fault
   pub link_with_tail : {limit : ℕ} {a b : Client W} {cut : Cut} → KeepsLink link (TookTillCut limit) a (Err cut) b → KeepsLink link (TookWithTail (limit + tail_limit)) a (Err cut) b
   link_with_tail {limit} {a} {b} {cut} kept =
-      record { same = kept.same; counted = kept.counted; took = λ s. ((kept.took s).0, with_any_tail limit (place_of link a) (place_of link b) cut (kept.took s).1) }
+      record { same = kept.same; counted = kept.counted; took = λ s. ((kept.took s).0, (limit, (kept.took s).1, omega (arith, most_tail (tail cut.fault)))) }
 
   pub link_cut : (fault : ClientFault) {limit : ℕ} {a b : Client W} {cut : Cut} → HasSameLink a b → cut ≡ cut_of (fault_of fault) None
       → Tallies (is_refusal fault) (link_of link a).failures (link_of link b).failures → (link.sound b.wire.now → link.sound a.wire.now × Took limit (place_of link a) (place_of link b))
@@ -329,14 +322,17 @@ module _ {D F H Z : Type 0} {disk : DiskGhosts D} {file : FileGhosts F} where
   }
 
   -- the same for a task that stores nothing
-  pub good_talking : (target : Target) (task : Task) (a b : Place) (work new : Work D F H Z) (r : Result (Unit {0}) Cut)
-      → TakesTask target task (scene a (stores_of disk file work.store) (file.stored work.ledger.file) work.ledger.seen.rows work.ledger.lines.items) r
-      (scene b (stores_of disk file work.store) (file.stored work.ledger.file) work.ledger.seen.rows new.ledger.lines.items)
-      → IsReady disk file work → file.sound work.ledger.file
-      → DoesAndLasts disk file (IsSafeWork file work) target (task ∷ []) (scene a (stores_of disk file work.store) (file.stored work.ledger.file) work.ledger.seen.rows work.ledger.lines.items) r
-      (scene b (stores_of disk file work.store) (file.stored work.ledger.file) work.ledger.seen.rows new.ledger.lines.items) work.store work.ledger.file
-  good_talking target task a b work new r took ready f =
-      good_task target task a b work (record work { ledger = record work.ledger { lines = new.ledger.lines } }) r took (keeps_same disk file work) (ready.written.steady f) (on_any r (ready.written.steady f))
-      (λ safe. on_any r (safe, none_came disk file work.store))
+  pub does_talking : {W : Type 0} (link : WireGhosts W) (account : List ℕ) (task : Task) (client client' : Client W) (work : Work D F H Z)
+      (lines : Vec ReportLine Global) (r : Result (Unit {0}) Cut) → WhereSound link.sound link.leads_to client.wire.now client'.wire.now
+      (TakesTask (target_of work.store account) task (scene_of link disk file client work) r
+      (scene (place_of link client') (stores_of disk file work.store) (file.stored work.ledger.file) work.ledger.seen.rows lines.items))
+      → IsReady disk file work → DoesTasks link disk file account (task ∷ []) client work r client'
+      (record work { ledger = record work.ledger { lines = lines } })
+  does_talking link account task client client' work lines r talked ready = all_sound talked (λ d. (d, tt {0})) (λ f. (f, f)) (λ took _ f.
+      good_task (target_of work.store account) task (place_of link client) (place_of link client') work
+      (record work { ledger = record work.ledger { lines = lines } }) r took
+      (keeps_same disk file work) (ready.written.steady f) (on_any r (ready.written.steady f))
+      (λ safe. on_any r (safe, none_came disk file work.store work.store refl))
       (λ safe. same_left file work.ledger.file work.ledger.seen.rows _ None safe.0 (ready.written.steady f))
-      (λ safe. if_err r (λ cut. nothing_cut disk file target cut _ _ work.store work.ledger.file (same_left file work.ledger.file work.ledger.seen.rows work.ledger.seen.rows None safe.0 (ready.written.steady f)) refl))
+      (λ safe. if_err r (λ cut. nothing_cut disk file (target_of work.store account) cut _ _ work.store work.ledger.file
+      (same_left file work.ledger.file work.ledger.seen.rows work.ledger.seen.rows None safe.0 (ready.written.steady f)) refl)))

@@ -1,13 +1,11 @@
 -- The tasks of a plan store each id once, and only ids that aren't held.
-use Rattle.std.proofs.Common.{◌≡◌, ◌≢◌, ℕ, Bool, true, false, List, [], ◌∷◌, ◌++◌, refl, sym, subst, ◌∙◌}
-use Rattle.std.specs.Prelude.{◌||◌, bytes_eq}
+use Rattle.std.proofs.Common.{◌≡◌, ◌≢◌, ℕ, Bool, true, false, List, [], ◌∷◌, ◌++◌, refl, sym, subst, ◌∙◌, ◌||◌, bytes_eq}
 use Rattle.std.specs.List.{AllByRecursion}
 use Rattle.std.proofs.lemmas.Bool.{true≢false, or_parts}
 use Rattle.std.proofs.lemmas.List.Folds.{list_any-append}
 use Rattle.std.proofs.lemmas.Slice.Eq.{bytes_eq-Decides}
 use Rattle.mail_terms.specs.UniqueId.{IsLegalId}
-use Rattle.mail_terms.specs.Listing.{Item}
-use Rattle.mail_terms.specs.Listing.{has_item}
+use Rattle.mail_terms.specs.Listing.{Item, has_item}
 use Rattle.mail_store.specs.declared.maildir.disk.MaildirDisk.{Ghosts as DiskGhosts}
 use Rattle.mail_store.specs.declared.file.flat_file.FlatFile.{Ghosts as FileGhosts}
 use Rattle.fetch_session.specs.declared.account.Store.{Store}
@@ -30,32 +28,26 @@ has_item-last front item uid none =
 
 fetched_apart : (front : List Item) (retrieve held : Bool) (number : ℕ) (uid : List ℕ) (size : ℕ) → (retrieve ≡ true → has_item front uid ≡ false)
     → AllByRecursion (λ (id : List ℕ). has_item front id ≡ false) (ids_ahead (fetching retrieve held number uid size))
-fetched_apart front true true number uid size first = tt
 fetched_apart front true false number uid size first = (first refl, tt)
-fetched_apart front false held number uid size first = tt
+fetched_apart front _ _ number uid size first = tt
 
 not_in : (front : List Item) (steps : List Step) (items : List Item) (held : List Bool) → FetchesFirsts front steps items
     → AllByRecursion (λ (id : List ℕ). has_item front id ≡ false) (ids_ahead (tasks_planned steps items held))
-not_in front [] items held firsts = tt
-not_in front (s ∷ ss) [] held firsts = tt
-not_in front (s ∷ ss) (i ∷ is) [] firsts = tt
 not_in front (s ∷ ss) (i ∷ is) (h ∷ hs) firsts =
     subst (λ (ids : List (List ℕ)). AllByRecursion (λ (id : List ℕ). has_item front id ≡ false) ids) (sym (ahead s i h (tasks_planned ss is hs)))
     (all_append (λ (id : List ℕ). has_item front id ≡ false) (ids_ahead (fetching s.retrieve h s.number i.uid i.size)) (ids_ahead (tasks_planned ss is hs))
     (fetched_apart front s.retrieve h s.number i.uid i.size firsts.0)
     (all_weaker (λ (id : List ℕ). has_item (front ++ i ∷ []) id ≡ false) (λ (id : List ℕ). has_item front id ≡ false) (ids_ahead (tasks_planned ss is hs))
     (λ id none. (has_item-last front i id none).0) (not_in (front ++ i ∷ []) ss is hs firsts.1)))
+not_in front _ _ _ firsts = tt
 
 fresh_head : (account : List ℕ) (maildir : Maildir) (retrieve held : Bool) (number size : ℕ) (uid : List ℕ) (ids : List (List ℕ)) → IsLegalId uid → held ≡ is_held account maildir uid
     → AllByRecursion (λ (other : List ℕ). other ≢ uid) ids → AreFresh account maildir ids → AreFresh account maildir (ids_ahead (fetching retrieve held number uid size) ++ ids)
-fresh_head account maildir true true number size uid ids legal is apart fresh = fresh
 fresh_head account maildir true false number size uid ids legal is apart fresh = (legal, sym is, apart, fresh)
-fresh_head account maildir false held number size uid ids legal is apart fresh = fresh
+fresh_head account maildir _ _ number size uid ids legal is apart fresh = fresh
 
 pub fresh_firsts : (account : List ℕ) (maildir : Maildir) (front : List Item) (steps : List Step) (items : List Item) → FetchesFirsts front steps items
     → AllByRecursion (λ (item : Item). IsLegalId item.uid) items → AreFresh account maildir (ids_ahead (tasks_planned steps items (flags_of account maildir items)))
-fresh_firsts account maildir front [] items firsts legal = tt
-fresh_firsts account maildir front (s ∷ ss) [] firsts legal = tt
 fresh_firsts account maildir front (s ∷ ss) (i ∷ is) firsts legal =
     let later = tasks_planned ss is (flags_of account maildir is) in
     subst (AreFresh account maildir) (sym (ahead s i (is_held account maildir i.uid) later))
@@ -63,6 +55,7 @@ fresh_firsts account maildir front (s ∷ ss) (i ∷ is) firsts legal =
     (all_weaker (λ (id : List ℕ). has_item (front ++ i ∷ []) id ≡ false) (λ (other : List ℕ). other ≢ i.uid) (ids_ahead later)
     (λ id none. (has_item-last front i id none).1) (not_in (front ++ i ∷ []) ss is (flags_of account maildir is) firsts.1))
     (fresh_firsts account maildir (front ++ i ∷ []) ss is firsts.1 legal.1))
+fresh_firsts account maildir front _ _ firsts legal = tt
 
 -- the flags are those of the Maildir, if there is one: none is held in an mboxrd file
 pub flags_same : {D F : Type 0} (disk : DiskGhosts D) (file : FileGhosts F) (store : Store D F) (account : List ℕ) (items : List Item)

@@ -1,18 +1,16 @@
 -- What a session has ready, or why it isn't ready.
-use Rattle.std.proofs.Common.{◌≡◌, ◌⊎◌, inl, inr, ◌<◌, ℕ, Bool, true, List, [], ◌∷◌, ◌++◌, append_assoc, Ok, Err, refl, sym, ap, subst, ◌∙◌, arith}
-use Rattle.mail_terms.specs.Listing.{Item}
-use Rattle.std.specs.Prelude.{◌||◌}
+use Rattle.std.proofs.Common.{◌≡◌, inl, inr, ◌<◌, ℕ, Bool, true, List, [], ◌∷◌, ◌++◌, append_assoc, Ok, Err, refl, sym, ap, subst, ◌∙◌, arith, ◌||◌, bytes_eq, Result}
+use Rattle.mail_terms.specs.Listing.{Item, has_item}
 use Rattle.std.proofs.Math.Bool.{or-true}
 use Rattle.std.specs.List.{AllByRecursion}
-use Rattle.std.specs.Prelude.{bytes_eq}
 use Rattle.std.proofs.lemmas.List.Folds.{list_any-append}
 use Rattle.std.proofs.lemmas.Slice.Eq.{bytes_eq-Decides}
-use Rattle.mail_terms.specs.Listing.{has_item}
 use Rattle.fetch_rules.specs.Record.{Row, RecordState, Loaded, has_row, none_open, merged}
 use Rattle.fetch_rules.specs.Intents.{closed_rows}
 use Rattle.fetch_rules.specs.Plan.{planned}
+use Rattle.fetch_rules.specs.RecordGrowth.{OneRecord}
 use Rattle.rc_file.specs.declared.settings.Settings.{Settings}
-use Rattle.mail_store.specs.Maildir.{Maildir}
+use Rattle.mail_store.specs.Maildir.{File, Maildir}
 use Rattle.mail_store.specs.FlatFile.{Stored}
 use Rattle.fetch_session.specs.declared.fault.Fault.{Fault}
 use Rattle.fetch_session.specs.declared.fault.Fault.TheVariants.{StoreRefused, SeenRefused, NoMemory, BadSeen}
@@ -23,14 +21,26 @@ use Rattle.fetch_session.specs.Mbox.{AsksMbox}
 use Rattle.mail_store.specs.declared.file.flat_file.FlatFile.{Ghosts as FileGhosts}
 use Rattle.mail_store.specs.declared.maildir.disk.MaildirDisk.{Ghosts as DiskGhosts}
 use Rattle.fetch_session.specs.declared.account.Store.{Store}
-use Rattle.fetch_session.specs.Lasting.{AllStayIn, LeavesMerged, MergeLasts, NewsLast}
-use Rattle.fetch_session.specs.Readiness.{CausesUnready, FindsIn, FindsRefused, IsReady, IsSettledBy, MboxUnready, Settles, Unready, UnreadyCause, merged_in}
+use Rattle.fetch_session.specs.Lasting.{AllStayIn, FoundLastIn, IsSafe, IsSafeStore, KeepsLeftIn, LeavesMerged, NewsLast, ReadiesAndLasts}
+use Rattle.fetch_session.specs.Readiness.{CausesUnready, FindsIn, FindsRefused, IsSettledBy, MboxUnready, Settles, Unready, UnreadyCause, merged_in}
 use Rattle.fetch_session.specs.Task.{tasks_planned}
-use Rattle.fetch_session.specs.Record.{Keeps, Steady, ReadAs, Reads, Merges, record_state_in}
-use Rattle.fetch_session.specs.Target.{Target, AsFiles, AsEntries, Stores, closed_file, flags_in, rows_in}
+use Rattle.fetch_session.specs.Record.{Keeps, ReadAs, Reads, Merges, record_state_in}
+use Rattle.fetch_session.specs.Target.{Target, AsFiles, AsEntries, Stores, closed_file, flags_in, kind_of, left_in, rows_in, stores_of, target_of}
+use Rattle.fetch_session.proofs.NewsLemmas.{news_found}
 use Rattle.fetch_session.proofs.RecordLemmas.{read_keeps, steady_keeps, not_whole}
+use Rattle.fetch_session.proofs.UnreadyLemmas.{left_found}
 
 -- ---- what was found
+
+-- what follows from what the store told, of what readers have left of it
+pub asked : {A B : Type 0} {Part P Q : List File → Type 0} → A × ((left : List File) × Part left × P left) → B
+    → ((left : List File) → P left → Q left) → A × B × ((left : List File) × Part left × Q left)
+asked told sound both = (told.0, sound, (told.1.0, told.1.1, both told.1.0 told.1.2))
+
+-- the same of a part of a session, which leads its link from another place
+pub followed : {A A' B C L L' : Type 0} {Part P Q : List File → Type 0} → A × B × C × L × ((left : List File) × Part left × P left)
+    → A' → L' → ((left : List File) → P left → Q left) → A' × B × C × L' × ((left : List File) × Part left × Q left)
+followed went sound leads both = (sound, went.1, went.2, leads, (went.4.0, went.4.1, both went.4.0 went.4.2))
 
 -- the rows once the open intent was ended by what was found, which messages are held, and the store
 found_is : (target : Target) (store store' : Stores) (items : List Item) (was : RecordState) (found : Found) → FindsIn target was.intent store items (Ok found) store'
@@ -47,10 +57,9 @@ settled_at_most items file store store' was kept (bytes, is, now, goes_on) =
 pub unread : (target : Target) (items : List Item) (now : ℕ) (store : Stores) (file new : Stored) (loaded : Loaded) (fault : Fault) → Reads file loaded (Err fault) new → Unready target items now store file fault store new
 unread (AsFiles account) items now store file new loaded SeenRefused is = record { cause = (omega (arith, ap (λ (s : Stored). s.failures) is), refl); content = inl (rw is) }
 unread AsEntries items now store file new loaded SeenRefused is = record { cause = (omega (arith, ap (λ (s : Stored). s.failures) is), inl refl); content = inl (rw is) }
-unread (AsFiles account) items now store file new loaded (BadSeen line) is = record { cause = (is, refl); content = inl (rw is.3) }
-unread AsEntries items now store file new loaded (BadSeen line) is = record { cause = (is, refl); content = inl (rw is.3) }
 unread (AsFiles account) items now store file new loaded NoMemory is = record { cause = refl; content = inl (rw is) }
 unread AsEntries items now store file new loaded NoMemory is = record { cause = inl refl; content = inl (rw is) }
+unread _ items now store file new loaded (BadSeen line) is = record { cause = (is, refl); content = inl (rw is.3) }
 unread _ items now store file new loaded _ never = absurd never
 
 files_refused : (fault : Fault) (maildir : Maildir) (file : Stored) (maildir' : Maildir) (file' : Stored) → FindsRefused maildir fault maildir' → UnreadyCause fault maildir file maildir' file'
@@ -78,69 +87,99 @@ not_found AsEntries items now store store' file new loaded fault stood same find
 
 -- ---- the listing was merged
 
-module _ (settings : Settings) (target : Target) (items : List Item) (now : ℕ) (store store' : Stores) (file read new : Stored) (loaded : Loaded) (found : Found)
-    (stood : ReadAs file.content loaded) (same : read ≡ file) (finds : FindsIn target loaded.intent store items (Ok found) store') where
-  kept : Keeps file.content (record_state_in loaded)
-  kept = read_keeps file.content loaded stood
+-- what a merge that wasn't followed by a plan is told as
+abbrev pub stop_of : Result (Unit {0}) Fault → Fault
+stop_of (Ok done) = NoMemory
+stop_of (Err fault) = fault
+
+module _ {D F : Type 0} (disk : DiskGhosts D) (files : FileGhosts F) (was place : Store D F) (from f : F) (account : List ℕ)
+    (settings : Settings) (items : List Item) (now : ℕ) (left : List File) (loaded : Loaded) (found : Found)
+    (stood : ReadAs (files.stored from).content loaded)
+    (finds : FindsIn (target_of was account) loaded.intent (left_in (stores_of disk files was) left) items (Ok found)
+    (stores_of disk files place)) where
+  abbrev store : Stores
+  store = left_in (stores_of disk files was) left
+
+  abbrev state : RecordState
+  state = record_state_in loaded
+
+  kept : Keeps (files.stored from).content state
+  kept = read_keeps (files.stored from).content loaded stood
 
   abbrev here : List Row
   here = merged (closed_rows found.stored loaded.rows loaded.intent) items found.held.items now
 
-  as_now : here ≡ merged_in target store (record_state_in loaded) items now
-  as_now = rw ((found_is target store store' items (record_state_in loaded) found finds).1, (found_is target store store' items (record_state_in loaded) found finds).0)
+  is : (closed_rows found.stored loaded.rows loaded.intent ≡ rows_in (target_of was account) store state items)
+      × (found.held.items ≡ flags_in (target_of was account) store items)
+      × Settles (target_of was account) state items store (stores_of disk files place)
+  is = found_is (target_of was account) store (stores_of disk files place) items state found finds
 
-  failures_same : read.failures ≡ file.failures
-  failures_same = ap (λ (s : Stored). s.failures) same
+  as_now : here ≡ merged_in (target_of was account) store state items now
+  as_now = rw (is.1, is.0)
 
-  settles : Settles target (record_state_in loaded) items store store'
-  settles = (found_is target store store' items (record_state_in loaded) found finds).2
+  risen_cause : (files.stored from).failures < (files.stored f).failures → (t : Target)
+      → Settles t state items store (stores_of disk files place)
+      → CausesUnready t items SeenRefused store (files.stored from) (stores_of disk files place) (files.stored f)
+  risen_cause risen (AsFiles account) same = (risen, ap (λ (s : Stores). s.maildir) same)
+  risen_cause risen AsEntries same = (risen, settled_at_most items (files.stored from) store (stores_of disk files place) state kept same)
 
-  risen_cause : file.failures < new.failures → (t : Target) → Settles t (record_state_in loaded) items store store' → CausesUnready t items SeenRefused store file store' new
-  risen_cause risen (AsFiles account) is = (risen, ap (λ (s : Stores). s.maildir) is)
-  risen_cause risen AsEntries is = (risen, settled_at_most items file store store' (record_state_in loaded) kept is)
+  wants_cause : (t : Target) → Settles t state items store (stores_of disk files place)
+      → CausesUnready t items NoMemory store (files.stored from) (stores_of disk files place) (files.stored f)
+  wants_cause (AsFiles account) same = ap (λ (s : Stores). s.maildir) same
+  wants_cause AsEntries same = settled_at_most items (files.stored from) store (stores_of disk files place) state kept same
 
-  wants_cause : (t : Target) → Settles t (record_state_in loaded) items store store' → CausesUnready t items NoMemory store file store' new
-  wants_cause (AsFiles account) is = ap (λ (s : Stores). s.maildir) is
-  wants_cause AsEntries is = settled_at_most items file store store' (record_state_in loaded) kept is
-
-  pub unsaved_merge : (fault : Fault) → Merges read (record_state_in loaded) (none_open here) (Err fault) new → Unready target items now store file fault store' new
-  unsaved_merge SeenRefused merges = record {
-    cause = risen_cause (omega (arith, merges.0, failures_same)) target settles;
-    content = inr (record_state_in loaded, kept, settles, subst (λ (rows : List Row). Keeps new.content (record_state_in loaded) ⊎ Keeps new.content (none_open rows)) as_now merges.1);
+  -- it wasn't saved, or memory ran out for the plan
+  unmade : (r : Result (Unit {0}) Fault) → Merges (files.stored from) state (none_open here) r (files.stored f)
+      → Unready (target_of was account) items now store (files.stored from) (stop_of r) (stores_of disk files place) (files.stored f)
+  unmade (Ok done) merges = record {
+    cause = wants_cause (target_of was account) is.2;
+    content = inr (state, kept, is.2, inr (rw as_now at (steady_keeps (files.stored f).content (none_open here) merges.1)));
   }
-  unsaved_merge NoMemory merges = record { cause = wants_cause target settles; content = inl (ap (λ (s : Stored). s.content) (merges ∙ same)) }
-  unsaved_merge _ never = absurd never
-
-  pub saved_merge : (ready : Ready) (after : List Row) → Merges read (record_state_in loaded) (none_open here) (Ok tt) new → after ≡ here
-      → ready.held.items ≡ found.held.items → ready.steps.items ≡ planned settings after items now → IsReady settings target items now store file ready after store' new
-  saved_merge ready after merges rows_are flags_are steps_are = record {
-    was = record_state_in loaded;
-    stood = kept;
-    held = ap (tasks_planned ready.steps.items items) (flags_are ∙ (found_is target store store' items (record_state_in loaded) found finds).1);
-    rows = rows_are ∙ as_now;
-    steps = steps_are;
-    saved = subst (λ (rows : List Row). Steady new.content (none_open rows)) (sym rows_are) merges.1;
-    file_count = merges.0 ∙ failures_same;
-    settles = settles;
+  unmade (Err SeenRefused) merges = record {
+    cause = risen_cause (omega (arith, merges.0)) (target_of was account) is.2;
+    content = inr (state, kept, is.2, rw as_now at merges.1);
   }
+  unmade (Err NoMemory) merges = record { cause = wants_cause (target_of was account) is.2; content = inl (ap (λ (s : Stored). s.content) merges) }
+  unmade (Err _) never = absurd never
 
-  -- saved, and memory ran out for the plan
-  pub no_plan : Merges read (record_state_in loaded) (none_open here) (Ok tt) new → Unready target items now store file NoMemory store' new
-  no_plan merges = record {
-    cause = wants_cause target settles;
-    content = inr (record_state_in loaded, kept, settles, inr (subst (λ (rows : List Row). Keeps new.content (none_open rows)) as_now (steady_keeps new.content (none_open here) merges.1)));
-  }
+  module _ (law : OneRecord) {safe : Type 0} (kind : kind_of place ≡ kind_of was)
+      (keeps : KeepsLeftIn disk files was (stores_of disk files place).maildir.files place)
+      (lasts : safe → IsSafeStore files place × AllStayIn disk place × FoundLastIn disk account loaded.rows items place) where
+    mail : KeepsLeftIn disk files was left place
+    mail = left_found disk files was place account loaded.intent items (Ok found) left finds keeps
 
-  -- what may be left of the record's file
-  pub merge_lasts : {D F : Type 0} (disk : DiskGhosts D) (files : FileGhosts F) (place : Store D F) (from f : F) → AllStayIn disk place → LeavesMerged files loaded.rows here from f
-      → NewsLast disk target file.content items store place → MergeLasts disk files target items now store file place from f
-  merge_lasts disk files place from f stay leaves news = record {
-    stay = stay;
-    was = record_state_in loaded;
-    stood = kept;
-    leaves = subst (λ (rows : List Row). LeavesMerged files loaded.rows rows from f) as_now leaves;
-    news = news;
-  }
+    news : FoundLastIn disk account loaded.rows items place
+        → NewsLast disk (target_of was account) (files.stored from).content items store place
+    news = news_found law disk files was place account (files.stored from).content loaded items found left stood kind finds
+
+    pub unready : {after : List Row} (r : Result (Unit {0}) Fault) → Merges (files.stored from) state (none_open here) r (files.stored f)
+        → (safe → LeavesMerged files loaded.rows here from f)
+        → ReadiesAndLasts disk files safe was from settings (target_of was account) items now store (Err (stop_of r)) after place f
+    unready r merges leaves = record {
+      readies = unmade r merges;
+      lasts = λ sure. record {
+        mail = mail;
+        rows = inr (record { stay = (lasts sure).1; was = state; stood = kept; leaves = rw as_now at (leaves sure); news = news (lasts sure).2 });
+      };
+    }
+
+    pub ready : (plan : Ready) {after : List Row} → Merges (files.stored from) state (none_open here) (Ok tt) (files.stored f)
+        → after ≡ here
+        → plan.held.items ≡ found.held.items → plan.steps.items ≡ planned settings after items now → (safe → IsSafe files f)
+        → ReadiesAndLasts disk files safe was from settings (target_of was account) items now store (Ok plan) after place f
+    ready plan merges rows_are flags_are steps_are firm = record {
+      readies = record {
+        was = state;
+        stood = kept;
+        held = ap (tasks_planned plan.steps.items items) (flags_are ∙ is.1);
+        rows = rows_are ∙ as_now;
+        steps = steps_are;
+        saved = rw rows_are merges.1;
+        file_count = merges.0;
+        settles = is.2;
+      };
+      lasts = λ sure. inr ((firm sure, (lasts sure).0), (lasts sure).1, mail, news (lasts sure).2);
+    }
 
 -- ---- every listed id has a row
 

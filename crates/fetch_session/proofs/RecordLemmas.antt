@@ -1,8 +1,6 @@
 -- What saving the record leaves.
-use Rattle.std.proofs.Common.{◌≡◌, ◌≢◌, ◌⊎◌, inl, inr, ℕ, Bool, false, List, [], ◌∷◌, ◌++◌, Option, None, Some, Result, Ok, Err, ◌≤◌, refl, sym, ap, arith, ◌∙◌}
-use Rattle.std.specs.Prelude.{OnOk, ◌==◌, ◌||◌, true, if◌then◌else◌, length}
+use Rattle.std.proofs.Common.{◌≡◌, ◌≢◌, ◌⊎◌, inl, inr, ℕ, Bool, false, List, [], ◌∷◌, ◌++◌, Option, None, Some, Result, Ok, Err, ◌≤◌, refl, sym, ap, arith, ◌∙◌, OnOk, ◌==◌, ◌||◌, true, if◌then◌else◌, length, append-nil}
 use Rattle.std.proofs.lemmas.Bool.{true≢false, or_parts}
-use Rattle.std.proofs.lemmas.List.{append-nil}
 use Rattle.fetch_rules.specs.Record.{Row, Intent, RecordState, Loaded, none_open, IntentHasRow, IsIntent, has_row, marked}
 use Rattle.fetch_rules.specs.RecordFile.{Version, One, Two, header, file_of, intent_line}
 use Rattle.fetch_rules.specs.RecordMeaning.{Rows, Means, has_bytes, taken}

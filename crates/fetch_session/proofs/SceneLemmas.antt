@@ -1,9 +1,8 @@
 -- How what single tasks do makes what lists of tasks do.
-use Rattle.std.proofs.Common.{◌≡◌, ℕ, List, [], ◌∷◌, ◌++◌, Option, None, Some, Result, Ok, Err, OnOk, refl, sym, ap, ◌∙◌, arith, append_assoc}
+use Rattle.std.proofs.Common.{◌≡◌, ℕ, List, [], ◌∷◌, ◌++◌, Option, None, Some, Result, Ok, Err, OnOk, refl, sym, ap, ◌∙◌, arith, append_assoc, option_map}
 use Rattle.std.proofs.lemmas.List.{append-nil, map-append}
 use Rattle.std.proofs.lemmas.Grind.{flat_map-append}
 use Rattle.std.specs.List.{flat_map, AllByRecursion}
-use Rattle.std.specs.Prelude.{option_map}
 use Rattle.mail_store.specs.FlatFile.{Stored}
 use Rattle.mail_store.specs.Mboxrd.{entry_of}
 use Rattle.fetch_rules.specs.Record.{Row, marked, marked_all}
@@ -137,3 +136,15 @@ all_sound link disk file did w d f =
     let s = disk d in
     let r = file f in
     (l.0, s.0, r.0, l.1, did l.2 s.1 r.1)
+
+-- the same if one call used the store and the record's file
+pub both_sound : {W W' L D D' F F' P Q S : Type 0} → (W → W' × L × P) → (D → F → D' × F' × Q) → (P → F → Q → S)
+    → W → D → F → W' × D' × F' × L × S
+both_sound link files did w d f =
+    let l = link w in
+    let s = files d f in
+    (l.0, s.0, s.1, l.1, did l.2 f s.2)
+
+-- the same if only the link was used
+pub link_alone : {W W' L D F P : Type 0} → (W → W' × L × P) → W → D → F → W' × D × F × L × P
+link_alone link w d f = let l = link w in (l.0, d, f, l.1, l.2)

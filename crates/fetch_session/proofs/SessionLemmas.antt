@@ -23,6 +23,9 @@ pub part_same : (files : List File) → IsPart files files
 part_same [] = refl
 part_same (f ∷ files) = inr (files, refl, part_same files)
 
+pub untaken : {Q : List File → Type 0} (files : List File) → Q files → (left : List File) × IsPart files left × Q left
+untaken files is = (files, part_same files, is)
+
 pub dealt : {D F : Type 0} (disk : DiskGhosts D) (files : FileGhosts F) (was : Store D F) (from : F) (settings : Settings) (target : Target) (now : ℕ) (old : Place) (before : Keeping)
     (result : Result (Unit {0}) Cut) (new : Place) (after : Keeping) (notes : Noted) (items : List Item) (mid : Place) (start : List ReportLine) (store : Store D F) (f : F)
     → start ≡ [] → Enters_with settings old (Ok items) mid → notes.total ≡ length items

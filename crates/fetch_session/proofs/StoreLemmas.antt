@@ -7,12 +7,9 @@ use Rattle.pop3_client.specs.declared.fault.ClientFault.{ClientFault}
 use Rattle.fetch_session.specs.declared.fault.Fault.{Fault}
 use Rattle.fetch_session.specs.declared.fault.Cut.{Cut}
 use Rattle.fetch_session.specs.Fault.{cut_of, fault_of}
-use Rattle.pop3_wire.specs.Place.{Place}
 use Rattle.pop3_wire.specs.Bodies.{Rest}
 use Rattle.pop3_wire.specs.declared.unstuffer.Spot.TheVariants.{Done}
-use Rattle.pop3_client.specs.Conversation.{Broke}
-use Rattle.pop3_client.specs.Turns.{retr}
-use Rattle.fetch_session.specs.Store.{Gained, MayGain, begun_with, Starts, Puts, Ends, RefusesText, StopsStoring, StoresText, StopsReading}
+use Rattle.fetch_session.specs.Store.{Gained, MayGain, begun_with, Starts, Puts, Ends, RefusesText, StopsStoring, StoresText}
 
 pub gained_file : (old new : Maildir) (f : File) → new ≡ with_file old f → Gained old new (f ∷ [])
 gained_file old new f is = rw is (record { came = refl; there = refl; none_begun = λ none_begun. refl; failures = omega arith })
@@ -33,10 +30,6 @@ pub stopped_store : (old now new : Maildir) (name text : List ℕ) (cut : Cut) (
     → StopsStoring name old text cut.fault cut.rest new
 stopped_store old now new name text cut fault none_begun was is plain =
     rw plain (is ∙ ap dropped was ∙ dropped_none_begun old none_begun)
-
-pub stopped_read : (n : ℕ) (start new : Place) (text : List ℕ) (cut : Cut) (fault : ClientFault) → cut ≡ cut_of (fault_of fault) None → Broke (retr n) start new fault
-    → StopsReading n start text cut.fault cut.rest new
-stopped_read n start new text cut fault plain broke = rw plain (fault, refl, broke)
 
 pub refused_piece : (old now new : Maildir) (name text bytes more : List ℕ) (rest : Rest) (fault : Fault) → now ≡ begun_with old (file name text) → Puts now bytes (Err fault) new → RefusesText old name rest more fault new
 refused_piece old now new name text bytes more rest fault was puts =

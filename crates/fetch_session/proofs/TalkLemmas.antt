@@ -1,6 +1,5 @@
 -- Conversations of no turn, and of one.
-use Rattle.std.proofs.Common.{List, [], ◌∷◌, Result, Ok, Err, refl, sym}
-use Rattle.std.proofs.lemmas.List.{append-nil}
+use Rattle.std.proofs.Common.{List, [], ◌∷◌, Result, Ok, Err, refl, sym, append-nil}
 use Rattle.pop3_wire.specs.Place.{Place}
 use Rattle.pop3_client.specs.Turns.{Turn}
 use Rattle.pop3_client.specs.Conversation.{Talked, Broke, Stopped, Completes, Talks}

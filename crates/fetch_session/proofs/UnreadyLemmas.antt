@@ -1,6 +1,5 @@
 -- What outlives a loss of power once a record was made ready, or wasn't.
-use Rattle.std.proofs.Common.{◌≡◌, ◌⊎◌, inl, inr, ℕ, List, Option, Result, Ok, Err, sym, ap, subst, ◌∙◌}
-use Rattle.std.specs.Prelude.{All, IfOk}
+use Rattle.std.proofs.Common.{◌≡◌, ◌⊎◌, inl, inr, ℕ, List, Option, Result, Ok, Err, sym, ap, subst, ◌∙◌, All, IfOk, ⊎_elim}
 use Rattle.fetch_rules.specs.Plan.{IsQuiet}
 use Rattle.fetch_rules.specs.Record.{Intent, Loaded, Row}
 use Rattle.fetch_rules.specs.declared.steps.Step.{Step}
@@ -19,9 +18,10 @@ use Rattle.fetch_session.specs.declared.fault.Why.TheVariants as why
 use Rattle.fetch_session.specs.declared.readiness.Found.{Found}
 use Rattle.fetch_session.specs.declared.readiness.Ready.{Ready}
 use Rattle.fetch_session.specs.Lasting.{KeepsLeftIn, KeepsMailIn, MergeLasts, NewsLast, ReadiesAndLasts, ReadyLasts, UnreadyLasts}
-use Rattle.fetch_session.specs.Readiness.{FindsIn}
+use Rattle.fetch_session.specs.Readiness.{FindsIn, Unready}
 use Rattle.fetch_session.specs.Record.{IsSecured, Reads}
-use Rattle.fetch_session.specs.Target.{AsFiles, Stores, Target, in_maildir, left_in, stores_of, target_of}
+use Rattle.fetch_session.specs.Target.{AfterTakingIn, AsFiles, Stores, Target, in_maildir, left_in, stores_of, target_of}
+use Rattle.fetch_session.proofs.SessionLemmas.{untaken}
 
 -- a record's file that couldn't be read or flushed has the same bytes
 pub misread_same : (old new : Stored) (loaded : Loaded) (fault : Fault) → Reads old loaded (Err fault) new → new.content ≡ old.content
@@ -41,16 +41,20 @@ module _ {D F : Type 0} (disk : DiskGhosts D) (files : FileGhosts F) where
   pub left_same : (was store : Store D F) (left : List File) → KeepsMailIn disk was store → KeepsLeftIn disk files was left store
   left_same was store left keeps = (λ name is. inl (keeps.0 name is), λ f is. inl (keeps.1 f is))
 
+  -- the store wasn't asked, and the record's file has the same bytes
+  pub unasked : {safe : Type 0} {settings : Settings} {items : List Item} {now : ℕ} {fault : Fault} {after : List Row} (was : Store D F)
+      (from f : F) (target : Target)
+      → Unready target items now (stores_of disk files was) (files.stored from) fault (stores_of disk files was) (files.stored f)
+      → LeavesNoMore (files.may_leave from) (files.may_leave f) → (files.stored f).content ≡ (files.stored from).content
+      → AfterTakingIn (stores_of disk files was) (λ left. ReadiesAndLasts disk files safe was from settings target items now left
+      (Err fault) after was f)
+  unasked was from f target why no_more same =
+      untaken _ (record { readies = why; lasts = λ sure. record { mail = left_same was was _ (λ name is. is, λ one is. is); rows = inl (no_more, same) } })
+
   pub left_on : (was mid end : Store D F) (left : List File) → KeepsLeftIn disk files was left mid → KeepsMailIn disk mid end → KeepsLeftIn disk files was left end
   left_on was mid end left first then = (
-    λ name is. elim (first.0 name is) [
-      | inl stays ↦ inl (then.0 name stays)
-      | inr took ↦ inr took
-    ],
-    λ f is. elim (first.1 f is) [
-      | inl outlives ↦ inl (then.1 f outlives)
-      | inr took ↦ inr took
-    ],
+    λ name is. ⊎_elim (λ stays. inl (then.0 name stays)) inr (first.0 name is),
+    λ f is. ⊎_elim (λ outlives. inl (then.1 f outlives)) inr (first.1 f is),
   )
 
   -- the files that are left are those that are there now
@@ -94,10 +98,7 @@ module _ {D F : Type 0} (disk : DiskGhosts D) (files : FileGhosts F) where
             stay = merge.stay;
             was = merge.was;
             stood = rw same at merge.stood;
-            leaves = λ left may. elim (merge.leaves left may) [
-              | inl before ↦ inl (no_more left before)
-              | inr here ↦ inr here
-            ];
+            leaves = λ left may. ⊎_elim (λ before. inl (no_more left before)) inr (merge.leaves left may);
             news = subst (λ (s : Stored). NewsLast disk target s.content items old store) same merge.news;
           })
         ]

@@ -1,11 +1,13 @@
-use Rattle.std.proofs.Common.{◌≡◌, List, ℕ, None, Some, Ok, Err, length, refl, subst, sym, ap, ◌∙◌}
+use Rattle.std.proofs.Common.{◌≡◌, List, ℕ, None, Some, Ok, Err, length, refl, subst, ap, ◌∙◌}
 use Rattle.fetch_rules.specs.Record.{RecordState, Row}
 use Rattle.mail_store.specs.FlatFile.{Stored}
 use Rattle.mail_store.specs.MboxCalls.{AppendsEntry}
 use Rattle.mail_store.specs.declared.fault.EntryFault.{EntryFault}
 use Rattle.mail_store.specs.Mboxrd.{entry_of}
 use Rattle.mail_store.specs.Power.{KeepsWhole}
-use Rattle.fetch_session.specs.Lasting.{AreLeft, IsSafe, RowsStillLast, Leaves}
+use Rattle.fetch_session.specs.declared.fault.Fault.{Fault}
+use Rattle.fetch_session.specs.Lasting.{RowsStillLast}
+use Rattle.fetch_session.specs.Parts.{KeepsRecord}
 use Rattle.fetch_session.specs.Mbox.{IsIntended}
 use Rattle.fetch_session.specs.Record.{TakesBack, record_state_in, intent_at, with_open}
 use Rattle.fetch_session.proofs.LastLemmas.{no_more_keeps, same_left}
@@ -13,7 +15,7 @@ use Rattle.fetch_session.proofs.MboxLemmas.{appended_all, entry_left_open, entry
 use Rattle.fetch_session.proofs.appending.append_text.Given.{Over}
 use Rattle.fetch_session.proofs.appending.append_text.Goals as goal
 use Rattle.fetch_session.proofs.RecordLemmas.{row_begun}
-use Rattle.fetch_session.proofs.appending.append_text.Goals.{After-append_entry, After-entry_len-len, After-take_back, In-Err-Nothing, In_default}
+use Rattle.fetch_session.proofs.appending.append_text.Goals.{After-append_entry, After-entry_len-len, After-take_back, In_default}
 
 long : (g : Over) (c : After-entry_len-len g) → c.entry_len-len.result ≡ length (entry_of c.args.text.items)
 long g c = c.entry_len-len.ensures ∙ ap (λ (l : List ℕ). length (entry_of l)) c.deref.ensures.value
@@ -110,35 +112,26 @@ pub returns-in-Err-Front-clause-ledger : goal.returns-in-Err-Front-clause-ledger
 returns-in-Err-Front-clause-ledger g c = record { lines = refl; rows = c.intend.ensures.rows; opened = tt; steady = λ f. ((c.in_default.ensures.steady f).0, tt); lasts = λ f safe. (tt, (c.intend.ensures.keeps f).1 safe) }
 
 -- the intent was closed, or that was refused, or memory ran out
-left : (g : Over) (c : In-Err-Nothing g) → (f : g.F.FlatFile.sound c.intend.new.file) → IsSafe g.F.FlatFile c.args.ledger.now.file
-    → (others : List Row) → Leaves g.F.FlatFile c.intend.new.file (AreLeft c.intend.new.seen.rows others)
-left g c f safe others = subst (λ (r : List Row). Leaves g.F.FlatFile c.intend.new.file (AreLeft r others)) (sym c.intend.ensures.rows) ((c.intend.ensures.keeps f).1 safe others)
+closed_ledger : (g : Over) (c : After-take_back g) (fault : Fault)
+    → KeepsRecord g.F.FlatFile c.args.uid.now c.args.ledger.now (Err fault)
+    (record c.args.ledger.now { file = c.take_back.new.file; seen = c.take_back.new.seen })
+closed_ledger g c fault = record {
+  lines = refl;
+  rows = c.take_back.ensures.rows ∙ c.intend.ensures.rows;
+  opened = tt;
+  steady = λ f. ((c.in_default.ensures.steady (c.take_back.ensures.closes f).0).0, tt);
+  lasts = λ f safe. (
+    tt,
+    λ others. rw c.intend.ensures.rows at (c.take_back.ensures.leaves f others
+        (rw c.intend.ensures.rows ((c.intend.ensures.keeps (c.take_back.ensures.closes f).0).1 safe others))),
+  );
+}
 
 pub returns-in_default-take_back-clause-ledger : goal.returns-in_default-take_back-clause-ledger
-returns-in_default-take_back-clause-ledger g c = record {
-  lines = refl;
-  rows = c.take_back.ensures.rows ∙ c.intend.ensures.rows;
-  opened = tt;
-  steady = λ f. ((c.in_default.ensures.steady (c.in_default-take_back.ensures.closes f).0).0, tt);
-  lasts = λ f safe. (
-    tt,
-    λ others. subst (λ (r : List Row). Leaves g.F.FlatFile c.take_back.new.file (AreLeft r others)) c.intend.ensures.rows
-        (c.take_back.ensures.leaves f others (left g (goal.at.returns-in_default-take_back-clause-ledger g c).In-Err-Nothing (c.in_default-take_back.ensures.closes f).0 safe others)),
-  );
-}
+returns-in_default-take_back-clause-ledger g c = closed_ledger g (goal.at.returns-in_default-take_back-clause-ledger g c).After-take_back _
 
 pub returns-in-Err-take_back-clause-ledger : goal.returns-in-Err-take_back-clause-ledger
-returns-in-Err-take_back-clause-ledger g c = record {
-  lines = refl;
-  rows = c.take_back.ensures.rows ∙ c.intend.ensures.rows;
-  opened = tt;
-  steady = λ f. ((c.in_default.ensures.steady (c.in-Err-take_back.ensures.closes f).0).0, tt);
-  lasts = λ f safe. (
-    tt,
-    λ others. subst (λ (r : List Row). Leaves g.F.FlatFile c.take_back.new.file (AreLeft r others)) c.intend.ensures.rows
-        (c.take_back.ensures.leaves f others (left g (goal.at.returns-in-Err-take_back-clause-ledger g c).In-Err-Nothing (c.in-Err-take_back.ensures.closes f).0 safe others)),
-  );
-}
+returns-in-Err-take_back-clause-ledger g c = closed_ledger g (goal.at.returns-in-Err-take_back-clause-ledger g c).After-take_back _
 
 pub returns-in-Ok-append_entry-clause-ledger : goal.returns-in-Ok-append_entry-clause-ledger
 returns-in-Ok-append_entry-clause-ledger g c = record {

@@ -1,6 +1,4 @@
-use Rattle.std.proofs.Common.{◌≡◌, List, [], ◌∷◌, ◌++◌, Vec, Ok, length, arith, sym, ap, subst, ◌∙◌, refl}
-use Rattle.std.proofs.lemmas.Bool.{true≢false}
-use Rattle.mail_terms.specs.Text.{IsWhole}
+use Rattle.std.proofs.Common.{◌≡◌, List, [], ◌∷◌, ◌++◌, Vec, Ok, length, arith, sym, ap, subst, ◌∙◌, refl, true≢false}
 use Rattle.fetch_rules.specs.Record.{Row, has_row, marked}
 use Rattle.pop3_wire.specs.Link.{WhereSound}
 use Rattle.pop3_client.specs.Client.{link_of, place_of}
@@ -19,7 +17,8 @@ use Rattle.fetch_session.specs.Lasting.{AreLeft, Leaves}
 use Rattle.fetch_session.specs.Parts.{KeepsLink}
 use Rattle.fetch_session.specs.Report.{Adds}
 use Rattle.fetch_session.proofs.RefusalLemmas.{before_cut}
-use Rattle.fetch_session.proofs.LinkLemmas.{and_then, did_both, did_so}
+use Rattle.fetch_session.proofs.LinkLemmas.{and_then, did_both, did_so, in_words}
+use Rattle.fetch_session.proofs.SceneLemmas.{both_sound, link_alone}
 use Rattle.fetch_session.proofs.appending.take_into_mbox.Given.{Over}
 use Rattle.fetch_session.proofs.appending.take_into_mbox.Goals.{After-len-length, After-note, In-Ok-read_text}
 use Rattle.fetch_session.proofs.appending.take_into_mbox.Goals as goal
@@ -32,27 +31,16 @@ told : (g : Over) (c : After-note g) → c.note.new.lines.items ≡ c.args.ledge
 told g c = c.note.ensures.items ∙ ap (λ (v : Vec ReportLine _). v.items ++ Delivered c.args.number c.len-length.result ∷ []) c.append_text.ensures.ledger.lines
 
 pub returns-in-Err-clause-takes : goal.returns-in-Err-clause-takes
-returns-in-Err-clause-takes g c = λ w m f.
-    let opened = c.in-Err.ensures.opens w in (
-      opened.0,
-      m,
-      f,
-      opened.1,
-      text_broken AsEntries (stores c.args.number c.args.uid.now) _ (place_of g.W.Wire c.args.client.now) (place_of g.W.Wire c.open.new.self) (in_mbox (g.F.FlatFile.stored c.args.mbox.now)) (g.F.FlatFile.stored c.args.ledger.now.file) c.args.ledger.now.seen.rows c.args.ledger.now.lines.items
-          c.in-Err.fault c.broken.result refl c.broken.ensures opened.2,
-    )
+returns-in-Err-clause-takes g c = link_alone (in_words g.W.Wire c.in-Err.ensures.opens (λ broke.
+    text_broken AsEntries (stores c.args.number c.args.uid.now) _ (place_of g.W.Wire c.args.client.now) (place_of g.W.Wire c.open.new.self)
+    (in_mbox (g.F.FlatFile.stored c.args.mbox.now))
+    (g.F.FlatFile.stored c.args.ledger.now.file) c.args.ledger.now.seen.rows c.args.ledger.now.lines.items c.in-Err.fault c.broken.result
+    refl c.broken.ensures broke))
 
 pub returns-in-Err-read_text-clause-takes : goal.returns-in-Err-read_text-clause-takes
-returns-in-Err-read_text-clause-takes g c = λ w m f.
-    let held = c.in-Err-read_text.ensures.holds w in
-    let opened = c.in-Ok.ensures.opens held.0 in
-    let old = place_of g.W.Wire c.args.client.now in (
-      opened.0,
-      m,
-      f,
-      g.met.W.Wire.leads_on _ _ _ opened.1 held.1,
-      not_held (held.2 c.args.number old opened.2),
-    )
+returns-in-Err-read_text-clause-takes g c = link_alone
+    (and_then g.W.Wire g.met.W.Wire.leads_on c.in-Ok.ensures.opens c.in-Err-read_text.ensures.holds (λ opened held.
+    not_held (held c.args.number (place_of g.W.Wire c.args.client.now) opened)))
 
 -- the text was read
 read : (g : Over) (c : In-Ok-read_text g) → WhereSound g.W.Wire.sound g.W.Wire.leads_to c.args.client.now.wire.now c.read_text.new.client.wire.now
@@ -64,46 +52,30 @@ returns-then-not-is_whole-clause-takes g c = λ w m f.
     let fetched = (read g (goal.at.returns-then-not-is_whole-clause-takes g c).In-Ok-read_text w).2 in
     absurd (true≢false (sym (c.is_whole.ensures.1 (rw (c.deref.ensures.value, fetched.2) (body_whole fetched.0.body))) ∙ c.if-not-is_whole.true))
 
-pub append_text-requires-clause-whole : goal.append_text-requires-clause-whole
-append_text-requires-clause-whole g c = subst IsWhole c.deref.ensures.value (c.is_whole.ensures.0 c.if-not-is_whole.false)
-
 pub returns-in-Err-append_text-clause-takes : goal.returns-in-Err-append_text-clause-takes
-returns-in-Err-append_text-clause-takes g c = λ w m f.
-    let appends = c.in-Err-append_text.ensures.appends m f in
-    let text = read g (goal.at.returns-in-Err-append_text-clause-takes g c).In-Ok-read_text w in (
-      text.0,
-      appends.0,
-      appends.1,
-      text.1,
-      text_refused c.in-Ok-read_text.text.items c.in-Err-append_text.fault text.2 c.plain-in-Err-append_text.ensures appends.2
-          c.append_text.ensures.ledger.rows (ap (λ (v : Vec ReportLine _). v.items) c.append_text.ensures.ledger.lines),
-    )
+returns-in-Err-append_text-clause-takes g c =
+    both_sound (read g (goal.at.returns-in-Err-append_text-clause-takes g c).In-Ok-read_text) c.in-Err-append_text.ensures.appends
+    (λ text _ refuses.
+    text_refused c.in-Ok-read_text.text.items c.in-Err-append_text.fault text c.plain-in-Err-append_text.ensures refuses
+    c.append_text.ensures.ledger.rows (ap (λ (v : Vec ReportLine _). v.items) c.append_text.ensures.ledger.lines))
 
 pub returns-in-Ok-remember-clause-takes : goal.returns-in-Ok-remember-clause-takes
-returns-in-Ok-remember-clause-takes g c = λ w m f.
-    let saved = c.in-Ok-remember.ensures.saves f in
-    let appends = c.in_default.ensures.appends m saved.0 in
-    let text = read g (goal.at.returns-in-Ok-remember-clause-takes g c).In-Ok-read_text w in (
-      text.0,
-      appends.0,
-      appends.1,
-      text.1,
-      entry_stored c.len-length.result c.in-Ok-read_text.text.items (g.F.FlatFile.stored c.append_text.new.ledger.file) c.args.ledger.now.seen c.append_text.new.ledger.seen text.2
-          (long g (goal.at.returns-in-Ok-remember-clause-takes g c).After-len-length) appends.2 c.append_text.ensures.ledger.rows c.in-Ok-remember.ensures.rows saved.1 (told g (goal.at.returns-in-Ok-remember-clause-takes g c).After-note),
-    )
+returns-in-Ok-remember-clause-takes g c =
+    both_sound (read g (goal.at.returns-in-Ok-remember-clause-takes g c).In-Ok-read_text)
+    (λ m f. c.in_default.ensures.appends m (c.in-Ok-remember.ensures.saves f).0) (λ text f appends.
+    entry_stored c.len-length.result c.in-Ok-read_text.text.items (g.F.FlatFile.stored c.append_text.new.ledger.file) c.args.ledger.now.seen c.append_text.new.ledger.seen text
+    (long g (goal.at.returns-in-Ok-remember-clause-takes g c).After-len-length) appends c.append_text.ensures.ledger.rows
+    c.in-Ok-remember.ensures.rows (c.in-Ok-remember.ensures.saves f).1
+    (told g (goal.at.returns-in-Ok-remember-clause-takes g c).After-note))
 
 pub returns-in-Err-remember-clause-takes : goal.returns-in-Err-remember-clause-takes
-returns-in-Err-remember-clause-takes g c = λ w m f.
-    let saved = c.in-Err-remember.ensures.saves f in
-    let appends = c.in_default.ensures.appends m saved.0 in
-    let text = read g (goal.at.returns-in-Err-remember-clause-takes g c).In-Ok-read_text w in (
-      text.0,
-      appends.0,
-      appends.1,
-      text.1,
-      entry_not_saved c.len-length.result c.in-Ok-read_text.text.items (g.F.FlatFile.stored c.append_text.new.ledger.file) c.args.ledger.now.seen c.append_text.new.ledger.seen c.in-Err-remember.fault text.2
-          (long g (goal.at.returns-in-Err-remember-clause-takes g c).After-len-length) c.plain-in-Err-remember.ensures appends.2 c.append_text.ensures.ledger.rows saved.1 (told g (goal.at.returns-in-Err-remember-clause-takes g c).After-note),
-    )
+returns-in-Err-remember-clause-takes g c =
+    both_sound (read g (goal.at.returns-in-Err-remember-clause-takes g c).In-Ok-read_text)
+    (λ m f. c.in_default.ensures.appends m (c.in-Err-remember.ensures.saves f).0) (λ text f appends.
+    entry_not_saved c.len-length.result c.in-Ok-read_text.text.items (g.F.FlatFile.stored c.append_text.new.ledger.file) c.args.ledger.now.seen c.append_text.new.ledger.seen c.in-Err-remember.fault text
+    (long g (goal.at.returns-in-Err-remember-clause-takes g c).After-len-length) c.plain-in-Err-remember.ensures appends
+    c.append_text.ensures.ledger.rows (c.in-Err-remember.ensures.saves f).1
+    (told g (goal.at.returns-in-Err-remember-clause-takes g c).After-note))
 
 -- ---- what is written down
 

@@ -12,6 +12,7 @@ use Rattle.fetch_session.proofs.EndLemmas.{does_quitting, kept_quitting, look_ma
 use Rattle.fetch_session.proofs.IntakeLemmas.{quit_broke, took_broke, took_completing, took_less, took_nothing, with_tail_on}
 use Rattle.fetch_session.proofs.PartLemmas.{link_cut, link_idle, link_with_tail}
 use Rattle.fetch_session.proofs.RefusalLemmas.{cut_by}
+use Rattle.fetch_session.proofs.SceneLemmas.{all_sound}
 use Rattle.fetch_session.proofs.TakeLemmas.{text_broken}
 use Rattle.fetch_session.proofs.ending.end.Given.{Over}
 use Rattle.fetch_session.proofs.ending.end.Goals.{After-look_again}
@@ -39,19 +40,15 @@ returns-in-Err-clause-keeps g c = λ account.
     (λ d. (c.look_again.ensures.keeps d).0) (λ d safe. tt)
 
 pub returns-in-Err-clause-does : goal.returns-in-Err-clause-does
-returns-in-Err-clause-does g c = λ account w d f.
-    let looked = c.in-Err.ensures.looks d in
+returns-in-Err-clause-does g c = λ account.
     let here = place_of g.W.Wire c.args.client.now in
-    let work = c.args.work.now in (
-      w,
-      looked.0,
-      f,
-      g.met.W.Wire.leads_same c.args.client.now.wire.now,
-      does_quitting work c.look_again.new.store c.requires account here here (Err c.plain.result) f
-          (not_left (kind_of work.store) account here (stores_of g.D.MaildirDisk g.F.FlatFile work.store) (stores_of g.D.MaildirDisk g.F.FlatFile c.look_again.new.store) (g.F.FlatFile.stored work.ledger.file) work.ledger.seen.rows
-          work.ledger.lines.items _ c.in-Err.fault c.plain.result c.deref.ensures.value c.plain.ensures looked.1)
-          (c.look_again.ensures.keeps d) ((same g (goal.at.returns-in-Err-clause-does g c).After-look_again) d).1 (λ safe. tt),
-    )
+    let work = c.args.work.now in
+    all_sound (λ w. (w, g.met.W.Wire.leads_same c.args.client.now.wire.now, tt {0})) (λ d. ((c.in-Err.ensures.looks d).0, d)) (λ f. (f, f))
+    (λ _ d f.
+    does_quitting work c.look_again.new.store c.requires account here here (Err c.plain.result) f
+    (not_left (kind_of work.store) account here (stores_of g.D.MaildirDisk g.F.FlatFile work.store) (stores_of g.D.MaildirDisk g.F.FlatFile c.look_again.new.store) (g.F.FlatFile.stored work.ledger.file) work.ledger.seen.rows
+    work.ledger.lines.items _ c.in-Err.fault c.plain.result c.deref.ensures.value c.plain.ensures (c.in-Err.ensures.looks d).1)
+    (c.look_again.ensures.keeps d) ((same g (goal.at.returns-in-Err-clause-does g c).After-look_again) d).1 (λ safe. tt))
 
 -- ---- QUIT was answered well
 
@@ -72,22 +69,16 @@ returns-in-Ok-quit-clause-keeps g c = λ account.
     c.look_again.ensures.kind (same g (goal.at.returns-in-Ok-quit-clause-keeps g c).After-look_again) (λ d. (c.look_again.ensures.keeps d).0) (λ d safe. c.in-Ok.ensures.safe d safe)
 
 pub returns-in-Ok-quit-clause-does : goal.returns-in-Ok-quit-clause-does
-returns-in-Ok-quit-clause-does g c = λ account w d f.
-    let completes = c.in-Ok-quit.ensures.completes w in
-    let looked = c.in-Ok.ensures.looks d in
+returns-in-Ok-quit-clause-does g c = λ account.
     let work = c.args.work.now in
     let old = stores_of g.D.MaildirDisk g.F.FlatFile work.store in
     let new = stores_of g.D.MaildirDisk g.F.FlatFile c.look_again.new.store in
     let here = place_of g.W.Wire c.args.client.now in
-    let there = place_of g.W.Wire c.quit.new.self in (
-      completes.0,
-      looked.0,
-      f,
-      completes.1,
-      does_quitting work c.look_again.new.store c.requires account here there (Ok tt) f
-          (quit_said (target_of work.store account) completes.2.0 here there old new (g.F.FlatFile.stored work.ledger.file) work.ledger.seen.rows work.ledger.lines.items (look_same (kind_of work.store) _ old new c.in-Ok.told looked.1) completes.2.1)
-          (c.look_again.ensures.keeps d) ((same g (goal.at.returns-in-Ok-quit-clause-does g c).After-look_again) d).1 (λ safe. c.in-Ok.ensures.safe d safe),
-    )
+    let there = place_of g.W.Wire c.quit.new.self in
+    all_sound c.in-Ok-quit.ensures.completes (λ d. ((c.in-Ok.ensures.looks d).0, d)) (λ f. (f, f)) (λ said d f.
+    does_quitting work c.look_again.new.store c.requires account here there (Ok tt) f
+    (quit_said (target_of work.store account) said.0 here there old new (g.F.FlatFile.stored work.ledger.file) work.ledger.seen.rows work.ledger.lines.items (look_same (kind_of work.store) _ old new c.in-Ok.told (c.in-Ok.ensures.looks d).1) said.1)
+    (c.look_again.ensures.keeps d) ((same g (goal.at.returns-in-Ok-quit-clause-does g c).After-look_again) d).1 (λ safe. c.in-Ok.ensures.safe d safe))
 
 -- ---- it wasn't
 
@@ -114,26 +105,20 @@ returns-in-Err-quit-clause-keeps g c = λ account.
     c.look_again.ensures.kind (same g (goal.at.returns-in-Err-quit-clause-keeps g c).After-look_again) (λ d. (c.look_again.ensures.keeps d).0) (λ d safe. tt)
 
 pub returns-in-Err-quit-clause-does : goal.returns-in-Err-quit-clause-does
-returns-in-Err-quit-clause-does g c = λ account w d f.
-    let completes = c.in-Err-quit.ensures.completes w in
-    let looked = c.in-Ok.ensures.looks d in
+returns-in-Err-quit-clause-does g c = λ account.
     let work = c.args.work.now in
     let file = g.F.FlatFile.stored work.ledger.file in
     let old = stores_of g.D.MaildirDisk g.F.FlatFile work.store in
     let new = stores_of g.D.MaildirDisk g.F.FlatFile c.look_again.new.store in
     let here = place_of g.W.Wire c.args.client.now in
     let there = place_of g.W.Wire c.quit.new.self in
-    let cut = c.broken.result in (
-      completes.0,
-      looked.0,
-      f,
-      completes.1,
-      does_quitting work c.look_again.new.store c.requires account here there (Err cut) f
-          (subst (λ (s : Stores). Stops (target_of work.store account) (says quit) (scene here old file work.ledger.seen.rows work.ledger.lines.items) cut (scene there s file work.ledger.seen.rows work.ledger.lines.items))
-          (sym (look_same (kind_of work.store) _ old new c.in-Ok.told looked.1))
-          (text_broken (target_of work.store account) (says quit) quit here there old file work.ledger.seen.rows work.ledger.lines.items c.in-Err-quit.fault cut refl c.broken.ensures completes.2))
-          (c.look_again.ensures.keeps d) ((same g (goal.at.returns-in-Err-quit-clause-does g c).After-look_again) d).1 (λ safe. tt),
-    )
+    let cut = c.broken.result in
+    all_sound c.in-Err-quit.ensures.completes (λ d. ((c.in-Ok.ensures.looks d).0, d)) (λ f. (f, f)) (λ broke d f.
+    does_quitting work c.look_again.new.store c.requires account here there (Err cut) f
+    (subst (λ (s : Stores). Stops (target_of work.store account) (says quit) (scene here old file work.ledger.seen.rows work.ledger.lines.items) cut (scene there s file work.ledger.seen.rows work.ledger.lines.items))
+    (sym (look_same (kind_of work.store) _ old new c.in-Ok.told (c.in-Ok.ensures.looks d).1))
+    (text_broken (target_of work.store account) (says quit) quit here there old file work.ledger.seen.rows work.ledger.lines.items c.in-Err-quit.fault cut refl c.broken.ensures broke))
+    (c.look_again.ensures.keeps d) ((same g (goal.at.returns-in-Err-quit-clause-does g c).After-look_again) d).1 (λ safe. tt))
 
 -- ---- what was told
 

@@ -3,7 +3,8 @@ use Rattle.pop3_client.specs.Client.{link_of, place_of}
 use Rattle.fetch_session.specs.Intake.{opening_limit, step_limit, tail_limit}
 use Rattle.fetch_session.specs.Session.{keeping, noted}
 use Rattle.fetch_session.specs.Target.{left_in, stores_of, target_of}
-use Rattle.fetch_session.proofs.SessionLemmas.{dealt, part_same}
+use Rattle.fetch_session.proofs.ReadyLemmas.{followed}
+use Rattle.fetch_session.proofs.SessionLemmas.{dealt, untaken}
 use Rattle.fetch_session.proofs.IntakeLemmas.{took_entering, with_plain_tail, with_tail_on}
 use Rattle.fetch_session.proofs.RefusalLemmas.{cut_by, till_cut}
 use Rattle.fetch_session.proofs.LastLemmas.{untouched}
@@ -14,37 +15,28 @@ returns-clause-proceeds g c = λ w d f.
     let does = c.carry_out.ensures.carries w d f in
     let entered = c.in-Ok.ensures.enters does.0 in
     let old = c.args.work.now in
-    let new = c.carry_out.new in (
-      entered.0,
-      does.1,
-      does.2,
-      g.met.W.Wire.leads_on _ _ _ entered.1 does.3,
-      (
-        does.4.0,
-        does.4.1,
-        dealt g.D.MaildirDisk g.F.FlatFile old.store old.ledger.file c.args.terms.settings.now (target_of old.store c.args.terms.account.now) c.args.terms.now
-            (place_of g.W.Wire c.args.client.now) (keeping (left_in (stores_of g.D.MaildirDisk g.F.FlatFile old.store) does.4.0) (g.F.FlatFile.stored old.ledger.file)) c.carry_out.result
-            (place_of g.W.Wire new.client) (keeping (stores_of g.D.MaildirDisk g.F.FlatFile new.work.store) (g.F.FlatFile.stored new.work.ledger.file)) (noted c.len-counts.result new.skipped new.work.ledger.lines.items)
-            c.in-Ok.listing (place_of g.W.Wire c.enter.new.client) c.reserve.new.self.items new.work.store new.work.ledger.file (c.reserve.ensures.items ∙ c.requires.nothing.2) entered.2 c.len-counts.ensures.count does.4.2,
-      ),
-    )
+    let new = c.carry_out.new in
+    followed does entered.0 (g.met.W.Wire.leads_on _ _ _ entered.1 does.3) (λ left is.
+    dealt g.D.MaildirDisk g.F.FlatFile old.store old.ledger.file c.args.terms.settings.now (target_of old.store c.args.terms.account.now) c.args.terms.now
+    (place_of g.W.Wire c.args.client.now) (keeping (left_in (stores_of g.D.MaildirDisk g.F.FlatFile old.store) left) (g.F.FlatFile.stored old.ledger.file)) c.carry_out.result
+    (place_of g.W.Wire new.client) (keeping (stores_of g.D.MaildirDisk g.F.FlatFile new.work.store) (g.F.FlatFile.stored new.work.ledger.file)) (noted c.len-counts.result new.skipped new.work.ledger.lines.items)
+    c.in-Ok.listing (place_of g.W.Wire c.enter.new.client) c.reserve.new.self.items new.work.store new.work.ledger.file (c.reserve.ensures.items ∙ c.requires.nothing.2) entered.2 c.len-counts.ensures.count is)
 
 pub returns-in-Err-clause-proceeds : goal.returns-in-Err-clause-proceeds
 returns-in-Err-clause-proceeds g c = λ w d f.
-    let entered = c.in-Err.ensures.enters w in
-    let files = (stores_of g.D.MaildirDisk g.F.FlatFile c.args.work.now.store).maildir.files in (
+    let entered = c.in-Err.ensures.enters w in (
       entered.0,
       d,
       f,
       entered.1,
-      (files, part_same files, (inl (record { why = c.in-Err.fault; is = c.broken.ensures; enters = entered.2; same = search rules; nothing = search rules }), untouched g.D.MaildirDisk g.F.FlatFile c.args.work.now.store c.args.work.now.ledger.file)),
+      untaken _
+          (inl (record { why = c.in-Err.fault; is = c.broken.ensures; enters = entered.2; same = search rules; nothing = search rules }), untouched g.D.MaildirDisk g.F.FlatFile c.args.work.now.store c.args.work.now.ledger.file),
     )
 
 pub returns-in-Err-reserve-clause-proceeds : goal.returns-in-Err-reserve-clause-proceeds
 returns-in-Err-reserve-clause-proceeds g c = λ w d f.
     let entered = c.in-Ok.ensures.enters w in
-    let files = (stores_of g.D.MaildirDisk g.F.FlatFile c.args.work.now.store).maildir.files in
-    (entered.0, d, f, entered.1, (files, part_same files, (inr (inl (search rules)), untouched g.D.MaildirDisk g.F.FlatFile c.args.work.now.store c.args.work.now.ledger.file)))
+    (entered.0, d, f, entered.1, untaken _ (inr (inl (search rules)), untouched g.D.MaildirDisk g.F.FlatFile c.args.work.now.store c.args.work.now.ledger.file))
 
 -- ---- what calls leave as it was
 

@@ -1,8 +1,9 @@
-use Rattle.std.proofs.Common.{ℕ, List, Ok, Err, refl, ap, ◌∙◌}
+use Rattle.std.proofs.Common.{ℕ, List, Ok, Err, refl, ap}
 use Rattle.pop3_client.specs.Client.{place_of}
-use Rattle.fetch_session.specs.Session.{keeping, noted}
-use Rattle.fetch_session.specs.Target.{kind_of, stores_of, target_of}
+use Rattle.fetch_session.specs.Session.{noted}
+use Rattle.fetch_session.specs.Target.{target_of}
 use Rattle.fetch_session.proofs.IntakeLemmas.{cut_within, ended_within}
+use Rattle.fetch_session.proofs.ReadyLemmas.{followed}
 use Rattle.fetch_session.proofs.SessionLemmas.{left_session}
 use Rattle.fetch_session.proofs.RefusalLemmas.{left_alone}
 use Rattle.fetch_session.proofs.one_session.session_over.Goals as goal
@@ -13,38 +14,18 @@ returns-in-Err-clause-session g c = λ w d f.
     let went = c.in-Err.ensures.proceeds says.0 d f in
     let done = c.proceed.new in
     let inside = c.account.inside in
-    let after = keeping (stores_of g.D.MaildirDisk g.F.FlatFile done.work.store) (g.F.FlatFile.stored done.work.ledger.file) in
-    rw (← c.account.view_is) (
-      went.0,
-      went.1,
-      went.2,
-      g.met.W.Wire.leads_on _ _ _ went.3 says.1,
-      (
-        went.4.0,
-        went.4.1,
-        left_session (target_of inside.work.store inside.id) c.args.client.now.reader (Err c.in-Err.cut) (place_of g.W.Wire done.client) (noted done.counts.total done.counts.skipped done.work.ledger.lines.items)
-            (ap (λ (digits : List ℕ). target_of inside.work.store digits) c.account.invariant.1) c.requires went.4.2 (place_of g.W.Wire c.leave.new.client, says.2, refl) (rw c.replace-lines.ensures.value at c.reported.ensures),
-      ),
-    )
+    rw (← c.account.view_is) (followed went went.0 (g.met.W.Wire.leads_on _ _ _ went.3 says.1) (λ left is.
+    left_session (target_of inside.work.store inside.id) c.args.client.now.reader (Err c.in-Err.cut) (place_of g.W.Wire done.client) (noted done.counts.total done.counts.skipped done.work.ledger.lines.items)
+    (ap (λ (digits : List ℕ). target_of inside.work.store digits) c.account.invariant.1) c.requires is (place_of g.W.Wire c.leave.new.client, says.2, refl) (rw c.replace-lines.ensures.value at c.reported.ensures)))
 
 pub returns-clause-session : goal.returns-clause-session
 returns-clause-session g c = λ w d f.
     let went = c.in_default.ensures.proceeds w d f in
     let done = c.proceed.new in
     let inside = c.account.inside in
-    let after = keeping (stores_of g.D.MaildirDisk g.F.FlatFile done.work.store) (g.F.FlatFile.stored done.work.ledger.file) in
-    rw (← c.account.view_is) (
-      went.0,
-      went.1,
-      went.2,
-      went.3,
-      (
-        went.4.0,
-        went.4.1,
-        left_session (target_of inside.work.store inside.id) c.args.client.now.reader (Ok tt) (place_of g.W.Wire done.client) (noted done.counts.total done.counts.skipped done.work.ledger.lines.items)
-            (ap (λ (digits : List ℕ). target_of inside.work.store digits) c.account.invariant.1) c.requires went.4.2 refl (rw c.replace-lines-2.ensures.value at c.reported-2.ensures),
-      ),
-    )
+    rw (← c.account.view_is) (followed went went.0 went.3 (λ left is.
+    left_session (target_of inside.work.store inside.id) c.args.client.now.reader (Ok tt) (place_of g.W.Wire done.client) (noted done.counts.total done.counts.skipped done.work.ledger.lines.items)
+    (ap (λ (digits : List ℕ). target_of inside.work.store digits) c.account.invariant.1) c.requires is refl (rw c.replace-lines-2.ensures.value at c.reported-2.ensures)))
 
 pub returns-in-Err-clause-bounded : goal.returns-in-Err-clause-bounded
 returns-in-Err-clause-bounded g c = λ w.
@@ -62,9 +43,3 @@ returns-clause-bounded g c = λ w.
 pub returns-in-Err-clause-counted : goal.returns-in-Err-clause-counted
 returns-in-Err-clause-counted g c =
     left_alone c.in-Err.cut (g.W.Wire.history c.args.client.now.wire.now) (g.W.Wire.history c.proceed.new.client.wire.now) (g.W.Wire.history c.leave.new.client.wire.now) c.reported.result.outcome c.reported.ensures.outcome_is c.in-Err.ensures.link.counted c.leave.ensures.counted c.leave.ensures.silent
-
-pub returns-in-Err-clause-same : goal.returns-in-Err-clause-same
-returns-in-Err-clause-same g c = record { settings = ap (λ h. h.settings) c.account.view_is; kind = c.proceed.ensures.store.kind ∙ ap (λ h. kind_of h.store) c.account.view_is }
-
-pub returns-clause-same : goal.returns-clause-same
-returns-clause-same g c = record { settings = ap (λ h. h.settings) c.account.view_is; kind = c.proceed.ensures.store.kind ∙ ap (λ h. kind_of h.store) c.account.view_is }

@@ -4,8 +4,5 @@ use Rattle.fetch_session.proofs.LastLemmas.{safe_store}
 use Rattle.fetch_session.proofs.PartLemmas.{on_map}
 use Rattle.fetch_session.proofs.readiness.ask_store.Goals as goal
 
-pub returns-in-Ok-clause-lasts : goal.returns-in-Ok-clause-lasts
-returns-in-Ok-clause-lasts g c = λ d sure. (tt, (c.in-Ok.ensures.lasts d).1.0, (c.in-Ok.ensures.lasts d).1.1)
-
 pub returns-in-Mboxrd-clause-lasts : goal.returns-in-Mboxrd-clause-lasts
 returns-in-Mboxrd-clause-lasts g c = λ d sure. on_map c.ask_mbox.result (λ safe. (safe_store g.F.FlatFile c.ask_mbox.new.mbox safe, tt, tt)) (c.ask_mbox.ensures.lasts d (subst (λ store. is_sure g.F.FlatFile store) c.in-Mboxrd.is sure))

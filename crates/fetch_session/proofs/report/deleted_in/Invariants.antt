@@ -1,5 +1,4 @@
-use Rattle.std.proofs.Common.{◌≡◌, ◌≤◌, take}
-use Rattle.std.specs.List.{count_by}
+use Rattle.std.proofs.Common.{◌≡◌, ◌≤◌, take, count_by}
 use Rattle.fetch_session.specs.Report.{is_deletion}
 use Rattle.fetch_session.proofs.report.deleted_in.Given as goal
 

@@ -1,5 +1,4 @@
-use Rattle.std.proofs.Common.{◌≡◌, take}
-use Rattle.std.specs.List.{sum_by}
+use Rattle.std.proofs.Common.{◌≡◌, take, sum_by}
 use Rattle.fetch_session.specs.Report.{length_in, most_bytes}
 use Rattle.fetch_session.proofs.report.length_of.Given as goal
 

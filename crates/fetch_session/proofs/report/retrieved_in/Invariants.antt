@@ -1,5 +1,4 @@
-use Rattle.std.proofs.Common.{◌≡◌, ◌≤◌, take}
-use Rattle.std.specs.List.{count_by}
+use Rattle.std.proofs.Common.{◌≡◌, ◌≤◌, take, count_by}
 use Rattle.fetch_session.specs.Report.{is_taken}
 use Rattle.fetch_session.proofs.report.retrieved_in.Given as goal
 

@@ -58,6 +58,6 @@ returns-in-Mboxrd-clause-does g c =
       good_task AsEntries (stores c.args.number c.args.uid.now) (place_of g.W.Wire c.args.client.now) (place_of g.W.Wire took.new.client)
           (record { store = Mboxrd c.in-Mboxrd.mbox; ledger = c.args.work.now.ledger }) (record { store = Mboxrd took.new.mbox; ledger = took.new.ledger }) took.result takes.4
           ((λ name is. is, λ g is. is), keeps.0, keeps.1) (c.requires.ready.written.steady takes.2) (on_map took.result (λ written. written.steady f) took.ensures.ledger.written)
-          (λ safe. on_map took.result (λ lasts. ((lasts.1, safe_store g.F.FlatFile took.new.mbox lasts.0), none_came g.D.MaildirDisk g.F.FlatFile (Mboxrd took.new.mbox))) (took.ensures.lasts d f safe.1.0 safe.0)) (λ safe. took.ensures.ledger.left f safe.0)
+          (λ safe. on_map took.result (λ lasts. ((lasts.1, safe_store g.F.FlatFile took.new.mbox lasts.0), none_came g.D.MaildirDisk g.F.FlatFile (Mboxrd c.in-Mboxrd.mbox) (Mboxrd took.new.mbox) refl)) (took.ensures.lasts d f safe.1.0 safe.0)) (λ safe. took.ensures.ledger.left f safe.0)
           (λ safe. if_err took.result (λ cut. tt)),
     ))

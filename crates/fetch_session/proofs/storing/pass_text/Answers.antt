@@ -1,6 +1,4 @@
-use Rattle.std.proofs.Common.{◌≡◌, inl, inr, ◌<◌, ◌++◌, ℕ, length, take, arith, sym, ◌∙◌, ap, subst}
-use Rattle.mail_terms.specs.FailureCount.{Tallies}
-use Rattle.pop3_client.specs.Conversation.{is_refusal}
+use Rattle.std.proofs.Common.{◌≡◌, inl, inr, ◌<◌, ◌++◌, length, take, arith, sym, ◌∙◌, ap}
 use Rattle.fetch_session.proofs.LinkLemmas.{and_then}
 use Rattle.std.proofs.lemmas.Bool.{false≢true}
 use Rattle.fetch_session.proofs.StoreLemmas.{longer}
@@ -29,7 +27,3 @@ pieces-preserved g c = (
   c.in-Ok.ensures.counted ∙ c.pieces.invariant.3,
   c.in-Ok.ensures.link ∙ c.pieces.invariant.4,
 )
-
-pub returns-in-Err-clause-counted : goal.returns-in-Err-clause-counted
-returns-in-Err-clause-counted g c =
-    subst (λ (n : ℕ). Tallies (is_refusal c.in-Err.fault) n (g.W.Wire.history c.next_piece.new.self.wire.now).failures) c.pieces.invariant.3 c.in-Err.ensures.counted

@@ -5,8 +5,7 @@ use Rattle.fetch_session.proofs.LinkLemmas.{in_words, and_then, did_so, did_both
 use Rattle.fetch_session.specs.Task.{rereads}
 use Rattle.fetch_session.proofs.TakeLemmas.{reread_taken, text_broken}
 use Rattle.fetch_session.proofs.IntakeLemmas.{took_broke, took_passing}
-use Rattle.fetch_session.proofs.PartLemmas.{link_cut, tallies_after}
-use Rattle.pop3_client.specs.Conversation.{is_refusal}
+use Rattle.fetch_session.proofs.PartLemmas.{link_cut}
 use Rattle.fetch_session.proofs.storing.reread.Goals as goal
 
 pub returns-in-Ok-pass_text-clause-rereads : goal.returns-in-Ok-pass_text-clause-rereads
@@ -45,6 +44,6 @@ pub returns-in-Err-pass_text-clause-link : goal.returns-in-Err-pass_text-clause-
 returns-in-Err-pass_text-clause-link g c =
     let old = place_of g.W.Wire c.args.client.now in
     link_cut c.in-Err-pass_text.fault (c.pass_text.ensures.link ∙ c.open.ensures.link) c.broken-in-Err-pass_text.ensures
-    (tallies_after (is_refusal c.in-Err-pass_text.fault) _ _ _ c.in-Ok.ensures.counted c.in-Err-pass_text.ensures.counted)
+    (rw c.in-Ok.ensures.counted at c.in-Err-pass_text.ensures.counted)
     (did_both g.W.Wire c.in-Ok.ensures.opens c.in-Err-pass_text.ensures.passes (λ opened passed.
     took_passing c.conversations_are_paced.ensures c.args.number old (Err c.in-Err-pass_text.fault) (place_of g.W.Wire c.pass_text.new.client) (passed c.args.number old opened)))

@@ -1,34 +1,16 @@
-use Rattle.std.proofs.Common.{rules, ◌≡◌, List, ℕ, ◌≢◌, Ok, inr, ◌<◌, ◌+◌, [], ◌++◌, length, take, arith, sym, ap, subst, ◌∙◌, inl, refl}
+use Rattle.std.proofs.Common.{◌≡◌, ◌≢◌, Ok, inr, ◌<◌, ◌+◌, [], ◌++◌, length, take, arith, sym, ap, subst, ◌∙◌, inl, is_some, string_bytes, refl}
 use Rattle.std.proofs.lemmas.Bool.{false≢true}
-use Rattle.pop3_client.specs.Client.{place_of}
 use Rattle.mail_store.specs.Maildir.{Maildir, IsThere, file}
 use Rattle.pop3_wire.specs.declared.unstuffer.Spot.TheVariants.{Done}
 use Rattle.fetch_session.specs.Store.{Puts, begun_with}
 use Rattle.mail_store.specs.FileName.{sized}
-use Rattle.std.specs.Prelude.{is_some, string_bytes}
-use Rattle.fetch_session.proofs.StoreLemmas.{refused_start, stopped_store, stopped_read, refused_piece, put_on, settled, refused_end, longer}
+use Rattle.fetch_session.proofs.StoreLemmas.{refused_start, stopped_store, refused_piece, put_on, settled, refused_end, longer}
 use Rattle.fetch_session.proofs.LastLemmas.{keeps_mail_on, lasts_settled}
 use Rattle.fetch_session.proofs.LinkLemmas.{and_then}
 use Rattle.fetch_session.proofs.RefusalLemmas.{before_cut, cut_by}
 use Rattle.fetch_session.proofs.storing.store_text.Given.{Over}
 use Rattle.fetch_session.proofs.storing.store_text.Goals.{After-put_piece}
 use Rattle.fetch_session.proofs.storing.store_text.Goals as goal
-
-pub pieces-init : goal.pieces-init
-pieces-init g c =
-    let name_is : c.as_str.result.now ≡ string_bytes c.args.stem = first_of (search rules, cc) in (
-      c.requires.open,
-      omega (arith, c.requires.within),
-      (
-        [],
-        refl,
-        λ d. let starts = c.in_default.ensures.starts d in (starts.0, starts.1 ∙ ap (λ (name : List ℕ). begun_with (g.D.MaildirDisk.maildir c.args.disk.now) (file name [])) name_is),
-        λ w. (w, g.met.W.Wire.leads_same c.args.client.now.wire.now, λ number start now. now),
-      ),
-      refl,
-      refl,
-      c.begin_file.ensures.keeps,
-    )
 
 pub returns-in-Err-clause-stores : goal.returns-in-Err-clause-stores
 returns-in-Err-clause-stores g c = (
@@ -50,7 +32,9 @@ returns-in-Err-next_piece-clause-stores g c =
             stopped_store (g.D.MaildirDisk.maildir c.args.disk.now) (g.D.MaildirDisk.maildir c.pieces.disk) (g.D.MaildirDisk.maildir c.abandon.new.self) (string_bytes c.args.stem) inv.0
                 c.broken.result c.in-Err-next_piece.fault (c.requires.none_begun was.0) was.1 drops.1 c.broken.ensures,
           ),
-      and_then g.W.Wire g.met.W.Wire.leads_on inv.3 c.in-Err-next_piece.ensures.takes (λ before took number start now. stopped_read number start (place_of g.W.Wire c.next_piece.new.self) inv.0 c.broken.result c.in-Err-next_piece.fault c.broken.ensures (inr (inl (took number start inv.0 (before number start now))))),
+      and_then g.W.Wire g.met.W.Wire.leads_on inv.3 c.in-Err-next_piece.ensures.takes
+          (λ before took number start now. rw c.broken.ensures
+          (c.in-Err-next_piece.fault, refl, inr (inl (took number start inv.0 (before number start now))))),
     )
 
 pub returns-in-Err-put_piece-clause-stores : goal.returns-in-Err-put_piece-clause-stores

@@ -1,10 +1,10 @@
-use Rattle.std.proofs.Common.{List, ℕ, None, Ok, Err, inl, inr, arith, refl, sym, ap, subst, ◌∙◌, string_bytes}
+use Rattle.std.proofs.Common.{List, ℕ, None, Ok, Err, inl, arith, refl, sym, ap, subst, ◌∙◌, string_bytes}
 use Rattle.fetch_rules.specs.Record.{Row, RecordState, has_row, none_open, marked}
 use Rattle.fetch_session.specs.Record.{Saves, Steady}
 use Rattle.fetch_session.proofs.RecordLemmas.{held_is}
 use Rattle.pop3_client.specs.Turns.{most, retr}
 use Rattle.pop3_client.specs.Client.{link_of, place_of}
-use Rattle.mail_store.specs.Maildir.{IsThere, Maildir}
+use Rattle.mail_store.specs.Maildir.{IsThere}
 use Rattle.mail_store.specs.FileName.{sized, sized_file, stem_of}
 use Rattle.fetch_session.specs.Store.{MayGain}
 use Rattle.fetch_session.specs.Target.{AsFiles, in_maildir}
@@ -17,22 +17,20 @@ use Rattle.fetch_session.proofs.PartLemmas.{link_cut, link_then_cut, same_ledger
 use Rattle.fetch_session.specs.Intake.{TookTillCut}
 use Rattle.fetch_session.specs.Parts.{KeepsLink}
 use Rattle.fetch_session.specs.Report.{Adds}
-use Rattle.fetch_session.proofs.SceneLemmas.{all_sound}
+use Rattle.fetch_session.proofs.SceneLemmas.{all_sound, link_alone}
 use Rattle.fetch_session.proofs.RefusalLemmas.{before_cut}
-use Rattle.fetch_session.proofs.LinkLemmas.{and_then, did_both, did_so}
+use Rattle.fetch_session.proofs.LinkLemmas.{and_then, did_both, did_so, in_words}
 use Rattle.fetch_session.proofs.storing.take_into_maildir.Given.{Over}
 use Rattle.fetch_session.proofs.storing.take_into_maildir.Goals.{After-note, After-store_text, In-Ok-store_text}
 use Rattle.fetch_session.proofs.storing.take_into_maildir.Goals as goal
 
 pub returns-in-Err-clause-takes : goal.returns-in-Err-clause-takes
-returns-in-Err-clause-takes g c = λ w d f. (
+returns-in-Err-clause-takes g c = link_alone (λ w. (
   w,
-  d,
-  f,
   g.met.W.Wire.leads_same c.args.client.now.wire.now,
   text_wanting c.args.account.now c.args.number c.args.uid.now (place_of g.W.Wire c.args.client.now) (g.D.MaildirDisk.maildir c.args.disk.now)
       (g.F.FlatFile.stored c.args.ledger.now.file) c.args.ledger.now.seen.rows c.args.ledger.now.lines.items c.plain.result c.plain.ensures,
-)
+))
 
 pub store_text-requires-clause-not_there : goal.store_text-requires-clause-not_there
 store_text-requires-clause-not_there g c = λ kept size there.
@@ -117,15 +115,12 @@ returns-in-Err-store_text-clause-ledger g c = same_ledger c.args.uid.now c.args.
 -- ---- what was taken from the link
 
 pub returns-in-Err-open-clause-takes : goal.returns-in-Err-open-clause-takes
-returns-in-Err-open-clause-takes g c = λ w m f.
-    let opened = c.in-Err-open.ensures.opens w in (
-      opened.0,
-      m,
-      f,
-      opened.1,
-      text_broken (AsFiles c.args.account.now) (stores c.args.number c.args.uid.now) (retr c.args.number) (place_of g.W.Wire c.args.client.now) (place_of g.W.Wire c.open.new.self) (in_maildir (g.D.MaildirDisk.maildir c.args.disk.now)) (g.F.FlatFile.stored c.args.ledger.now.file) c.args.ledger.now.seen.rows c.args.ledger.now.lines.items
-          c.in-Err-open.fault c.broken.result refl c.broken.ensures opened.2,
-    )
+returns-in-Err-open-clause-takes g c = link_alone (in_words g.W.Wire c.in-Err-open.ensures.opens (λ broke.
+    text_broken (AsFiles c.args.account.now) (stores c.args.number c.args.uid.now) (retr c.args.number)
+    (place_of g.W.Wire c.args.client.now) (place_of g.W.Wire c.open.new.self)
+    (in_maildir (g.D.MaildirDisk.maildir c.args.disk.now)) (g.F.FlatFile.stored c.args.ledger.now.file) c.args.ledger.now.seen.rows
+    c.args.ledger.now.lines.items
+    c.in-Err-open.fault c.broken.result refl c.broken.ensures broke))
 
 pub returns-in-Err-store_text-clause-link : goal.returns-in-Err-store_text-clause-link
 returns-in-Err-store_text-clause-link g c =
@@ -165,12 +160,6 @@ returns-in-Ok-remember-clause-lasts g c = λ d f safe.
       ),
       tt,
     )
-
-pub returns-in-Err-remember-clause-lasts : goal.returns-in-Err-remember-clause-lasts
-returns-in-Err-remember-clause-lasts g c = λ d f safe.
-    let stores = c.in-Ok-store_text.ensures.stores in
-    let is = (stores.1 d).1.0 in
-    (tt, inr (sized_file (string_bytes c.in-Ok.stem) stores.0, ap (λ (m : Maildir). m.files) is, c.in-Ok-store_text.ensures.lasts d stores.0 is))
 
 pub returns-in-Err-clause-lasts : goal.returns-in-Err-clause-lasts
 returns-in-Err-clause-lasts g c = λ d f safe.

@@ -1,8 +1,4 @@
-use Rattle.std.proofs.Common.{subst, Result, ◌∙◌}
 use Rattle.pop3_client.specs.Client.{place_of}
-use Rattle.pop3_wire.specs.Link.{CountsRefusal}
-use Rattle.pop3_client.specs.Conversation.{is_refusal}
-use Rattle.pop3_client.specs.declared.fault.ClientFault.{ClientFault}
 use Rattle.fetch_session.proofs.TailLemmas.{left_dropped, left_broken}
 use Rattle.fetch_session.proofs.tail.leave.Goals as goal
 
@@ -20,7 +16,3 @@ returns-clause-leaves g c = λ w.
       left_dropped c.turns_join.ensures c.conversations_are_paced.ensures c.args.cut.fault c.args.cut.rest (place_of g.W.Wire c.args.client.now)
           (place_of g.W.Wire c.drop_under_way.new.client) _ c.say_tail.result drops.2 (rw c.tail_of.ensures at says.2),
     )
-
-pub returns-clause-silent : goal.returns-clause-silent
-returns-clause-silent g c =
-    λ none nothing. subst (λ (r : Result (Unit {0}) ClientFault). CountsRefusal is_refusal (g.W.Wire.history c.drop_under_way.new.client.wire.now) r (g.W.Wire.history c.say_tail.new.client.wire.now)) (c.say_tail.ensures.nothing (c.tail_of.ensures ∙ nothing)) c.say_tail.ensures.counted ∙ c.in_default.ensures.counted
