@@ -58,10 +58,14 @@ cut_keeps m m' m'' was outlives longer fronts = λ left may.
 abbrev pub Extends : Option (List ℕ) → Type 0 → List ℕ → (Option (List ℕ) → Type 0) → (Option (List ℕ) → Type 0) → Type 0
 Extends content on_disk bytes m m' = LeavesLonger m m' × (LastsWhole content on_disk m → LeavesPart content bytes m')
 
-part_left : (place : ℕ) (part rest left : List ℕ) → MayBeLeft place part left → MayBeLeft place (part ++ rest) left
+pub part_left : (place : ℕ) (part rest left : List ℕ) → MayBeLeft place part left → MayBeLeft place (part ++ rest) left
 part_left place part rest [] may = tt
 part_left place [] rest (byte ∷ left) may = absurd may
 part_left place (word ∷ words) rest (byte ∷ left) may = (may.0, part_left (place + 1) words rest left may.1)
+
+pub all_left : (place : ℕ) (words : List ℕ) → MayBeLeft place words words
+all_left place [] = tt
+all_left place (word ∷ words) = (inl refl, all_left (place + 1) words)
 
 -- a part of the bytes was appended
 pub part_extends : (content : Option (List ℕ)) (on_disk : Type 0) (bytes part rest : List ℕ) (m m' : Option (List ℕ) → Type 0) → bytes ≡ part ++ rest
@@ -84,7 +88,3 @@ memory_extends content content' bytes was is is' = (
     all_left (length was') bytes,
   ),
 )
-  where
-    all_left : (place : ℕ) (words : List ℕ) → MayBeLeft place words words
-    all_left place [] = tt
-    all_left place (word ∷ words) = (inl refl, all_left (place + 1) words)

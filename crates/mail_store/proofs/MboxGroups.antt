@@ -167,17 +167,15 @@ pub joined_whole : (lines : List (List ℕ)) → AllByRecursion IsLine lines →
 joined_whole [] all = inl refl
 joined_whole (line ∷ lines) all = inr (lines_end line lines all.0 all.1)
 
-EndsTwice : List ℕ → Type 0
+abbrev EndsTwice : List ℕ → Type 0
 EndsTwice bytes = (front : List ℕ) × (bytes ≡ front ++ 10 ∷ 10 ∷ [])
 
 group_ends : (group : Group) → IsGroup group → EndsTwice (group_bytes group)
-unfolding EndsTwice
 group_ends group is =
     let ended = lines_end group.head group.lines is.0.0 (inner_lines group.lines is.1) in
     (ended.0, sym (append_assoc group.head (joined group.lines) (10 ∷ [])) ∙ ap (λ (l : List ℕ). l ++ 10 ∷ []) ended.1 ∙ append_assoc ended.0 (10 ∷ []) (10 ∷ []))
 
 groups_end : (group : Group) (groups : List Group) → IsGroup group → AllByRecursion IsGroup groups → EndsTwice (flat_map group_bytes (group ∷ groups))
-unfolding EndsTwice
 groups_end group [] is are = let end = group_ends group is in (end.0, append-nil (group_bytes group) ∙ end.1)
 groups_end group (next ∷ groups) is are =
     let later = groups_end next groups are.0 are.1 in
@@ -189,7 +187,6 @@ head_first head more rest begins =
     (append_assoc head more rest ∙ ap (λ (l : List ℕ). l ++ (more ++ rest)) (begins_with head begins) ∙ append_assoc from_words (drop 5 head) (more ++ rest))
 
 groups_go_on : (groups : List Group) → AllByRecursion IsGroup groups → MayGoOn (flat_map group_bytes groups)
-unfolding EndsTwice
 groups_go_on [] are = inl refl
 groups_go_on (group ∷ groups) are =
     inr (head_first group.head (joined group.lines ++ 10 ∷ []) (flat_map group_bytes groups) are.0.0.1, groups_end group groups are.0 are.1)

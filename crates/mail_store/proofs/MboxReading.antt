@@ -36,13 +36,6 @@ passes_more bytes rest line after was cut apart = record {
   apart = all_append IsApart was.inner (line ∷ []) was.apart (apart, tt);
 }
 
-pub passed : (bytes rest group : List ℕ) → Passes bytes rest → OpensEntry (lines_of rest) → bytes ≡ group ++ rest → CutsGroup bytes group rest
-passed bytes rest group was opens split = record { head = was.head; inner = was.inner; lines = was.lines; apart = was.apart; opens = opens; whole = split }
-
--- the rest begins with this line
-pub opens_at : (rest line : List ℕ) (lines : List (List ℕ)) → lines_of rest ≡ line ∷ lines → begins_entry line ≡ true → OpensEntry (lines_of rest)
-opens_at rest line lines e begins = subst OpensEntry (sym e) begins
-
 -- the group ends where the rest begins
 pub cut_at : (bytes rest group back : List ℕ) → Passes bytes rest → OpensEntry (lines_of rest) → group ≡ take (length bytes - length rest) bytes
     → back ≡ drop (length bytes - length rest) bytes → CutsGroup bytes group back
@@ -51,7 +44,9 @@ cut_at bytes rest group back was opens front-is back-is =
     let front : take n bytes ≡ was.front = front_taken bytes was.front rest was.whole in
     let both : was.front ++ drop n bytes ≡ was.front ++ rest = ap (λ (l : List ℕ). l ++ drop n bytes) (sym front) ∙ take-append-drop n bytes ∙ was.whole in
     let same : back ≡ rest = back-is ∙ append_cancel_left was.front (drop n bytes) rest both in
-    subst (λ (l : List ℕ). CutsGroup bytes group l) (sym same) (passed bytes rest group was opens (was.whole ∙ ap (λ (l : List ℕ). l ++ rest) (sym front ∙ sym front-is)))
+    let whole : bytes ≡ group ++ rest = was.whole ∙ ap (λ (l : List ℕ). l ++ rest) (sym front ∙ sym front-is) in
+    subst (λ (l : List ℕ). CutsGroup bytes group l) (sym same)
+    (record { head = was.head; inner = was.inner; lines = was.lines; apart = was.apart; opens = opens; whole = whole })
 
 -- ---- the quoted text of a group
 

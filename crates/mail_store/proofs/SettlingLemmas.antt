@@ -13,6 +13,7 @@ use Rattle.mail_terms.specs.Text.{IsWhole}
 use Rattle.mail_store.specs.Mboxrd.{separator, begins_entry, quoted_text, unquoted_text, entry_of, text_in, MboxFile}
 use Rattle.mail_store.specs.MboxScan.{IsApart}
 use Rattle.mail_store.specs.Settling.{block_size, is_lost, is_torn, MayBeLeft, begin_with, is_one_entry, ends_empty, is_ours, is_entry, listed_size, has_size, is_whole, stands_whole, settled_file, CountsWhole, IsCutOff, LeftoversAreSettled, FrontsAreSettled, WholeEntriesCount}
+use Rattle.mail_store.proofs.Leavings.{all_left, part_left}
 use Rattle.mail_store.proofs.OneEntry.{holds_needle, needle, needle_there, one_entry_is}
 use Rattle.mail_store.proofs.MboxQuoting.{begins_with, unquotes_quoted}
 use Rattle.mail_store.proofs.MboxGroups.{inner_apart, entry_group, entry_lines, entry_is_group, entry_adds_text, texts_go_on}
@@ -65,10 +66,6 @@ not_empty_last (a ∷ b ∷ more) =
     rw step (not_empty_last (b ∷ more))
 
 -- ---- what is left of an entry
-
-pub front_left : (place : ℕ) (front rest : List ℕ) → MayBeLeft place (front ++ rest) front
-front_left place [] rest = tt
-front_left place (byte ∷ front) rest = (inl refl, front_left (place + 1) front rest)
 
 left_short : (place : ℕ) (words left : List ℕ) → MayBeLeft place words left → length left ≤ length words
 left_short place words [] is = omega arith
@@ -257,7 +254,7 @@ left_settled file text left listed whole is = elim (cases_Bool (stands_whole sta
 
 pub fronts_settled : FrontsAreSettled
 fronts_settled file text front rest listed whole e =
-    left_settled file text front listed whole (subst (λ (l : List ℕ). MayBeLeft (length file) l front) (sym e) (front_left (length file) front rest))
+    left_settled file text front listed whole (subst (λ (l : List ℕ). MayBeLeft (length file) l front) (sym e) (part_left (length file) front rest front (all_left (length file) front)))
 
 -- an entry has its text
 entry_text : (text : List ℕ) → IsWhole text → text_in (entry_of text) ≡ text
@@ -270,10 +267,6 @@ entry_text text whole =
     ∙ ap (λ (l : List ℕ). unquoted_text (take (length (quoted_text text)) l)) (drop-append_seam separator behind)
     ∙ ap unquoted_text (take-append_seam (quoted_text text) (10 ∷ []))
     ∙ unquotes_quoted text whole
-
-all_left : (file text : List ℕ) → MayBeLeft (length file) (entry_of text) (entry_of text)
-all_left file text =
-    subst (λ (l : List ℕ). MayBeLeft (length file) l (entry_of text)) (append-nil (entry_of text)) (front_left (length file) (entry_of text) [])
 
 all_five : (a b c d e : Bool) → a ≡ true → b ≡ true → c ≡ true → d ≡ true → e ≡ true → (a && ((b && (c && d)) && e)) ≡ true
 all_five a b c d e p q r t u = rw (p, q, r, t, u) refl
@@ -300,14 +293,14 @@ whole_counts file text listed whole = (counts, cut)
     counts sized unbroken =
         let stands : stands_whole start (length entry) listed (file ++ entry) ≡ true =
         seam ∙ all_five (length entry == length entry) (is_ours start entry) (not (is_torn start entry)) (ends_empty entry) (has_size listed (text_in entry)) (eq-eqb (length entry) (length entry) refl)
-        (left_ours start text entry whole (all_left file text)) (ap not unbroken) (entry_ends text whole) (size_is ∙ sized) in
+        (left_ours start text entry whole (all_left start entry)) (ap not unbroken) (entry_ends text whole) (size_is ∙ sized) in
         (stands, settles_whole start (length entry) listed (file ++ entry) stands, refl)
 
     cut : has_size listed text ≡ false → IsCutOff file text listed entry
     cut other =
         let fails : stands_whole start (length entry) listed (file ++ entry) ≡ false =
         seam ∙ none_of (length entry == length entry) (is_entry start entry) (has_size listed (text_in entry)) (size_is ∙ other) in
-        elim (left_settled file text entry listed whole (all_left file text)) [
+        elim (left_settled file text entry listed whole (all_left start entry)) [
           | inl is ↦ absurd (true≢false (sym is.0 ∙ fails))
           | inr is ↦ is
         ]
