@@ -1,17 +1,17 @@
 -- What a set of stems says about the files whose names it came from.
-use Rattle.std.proofs.Common.{◌≡◌, ℕ, ◌+◌, ◌<◌, Bool, true, false, cond, List, [], ◌∷◌, ◌++◌, length, take, get_or, map, refl, sym, ap, ◌∙◌, arith, subst, Ok, Vec, String, string_bytes, ◌||◌, ◌&&◌, bytes_eq, Contains, IsPermutation, HoldsAt}
+use Rattle.std.proofs.Common.{◌≡◌, ℕ, ◌+◌, ◌<◌, Bool, true, false, cond, List, [], ◌∷◌, ◌++◌, length, take, get_or, map, refl, sym, ap, ◌∙◌, subst, Ok, Vec, String, string_bytes, ◌||◌, ◌&&◌, bytes_eq, Contains, IsPermutation, HoldsAt}
 use Rattle.std.specs.List.{list_any}
 use Rattle.std.proofs.lemmas.Cmp.{nat_list_eq_equiv}
 use Rattle.std.proofs.lemmas.Bool.Decides.{same_from_decides}
 use Rattle.std.proofs.Math.Bool.{and_comm, and-false, or_assoc, or-false, or-true}
-use Rattle.std.proofs.lemmas.List.{append_cancel_left, take_more, map-append, length-map, get_or-map}
+use Rattle.std.proofs.lemmas.List.{append_cancel_left, take_more, map-append}
 use Rattle.std.proofs.lemmas.List.Folds.{list_any-append, list_any_at}
 use Rattle.std.proofs.lemmas.List.Sorted.{Contains-permutation, list_any-IsPermutation}
 use Rattle.std.proofs.lemmas.Slice.Eq.{bytes_eq-Decides}
 use Rattle.mail_terms.specs.Listing.{Item, has_item, is_flagged}
 use Rattle.mail_terms.specs.UniqueId.{IsLegalId}
 use Rattle.mail_terms.specs.MaildirName.{base}
-use Rattle.mail_store.specs.Maildir.{Maildir, File, ListsAll, file, bases_told, name_in, names_of, IsThere, with_file}
+use Rattle.mail_store.specs.Maildir.{Maildir, File, ListsAll, bases_told, name_in, names_of, IsThere, with_file}
 use Rattle.mail_store.specs.FileName.{mail_file, name_of, stem, stem_of, names_id, is_held, IsAccountText}
 use Rattle.hex.specs.Hex.{encode_lower}
 use Rattle.mail_store.proofs.NameLemmas.{HaveRanges, stem-base, stem-name_of, stem_of-injective}

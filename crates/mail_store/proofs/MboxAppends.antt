@@ -1,8 +1,8 @@
 -- The ends of a file that an entry may follow, and what appending one does.
-use Rattle.std.proofs.Common.{◌≡◌, inl, inr, ℕ, zero, suc, ◌+◌, Bool, true, List, [], ◌∷◌, ◌++◌, length, take, Option, Some, Ok, Err, refl, sym, ap, subst, ◌∙◌, arith, length-append}
+use Rattle.std.proofs.Common.{◌≡◌, inl, inr, ℕ, suc, ◌+◌, Bool, true, List, [], ◌∷◌, ◌++◌, length, take, Option, Some, Ok, Err, refl, sym, ap, subst, ◌∙◌, arith, length-append}
 use Rattle.std.specs.Prelude.{slice_index, bytes_eq, IsTrue}
 use Rattle.std.proofs.Math.Seq.{get_or-append_seam}
-use Rattle.std.proofs.lemmas.List.{append-nil, take_at}
+use Rattle.std.proofs.lemmas.List.{append-nil, append_assoc, take_all, take_at, take_more}
 use Rattle.std.proofs.lemmas.Slice.Eq.{bytes_eq-Decides}
 use Rattle.mail_store.specs.declared.fault.StoreFault.{StoreFault}
 use Rattle.mail_store.specs.declared.fault.StoreFault.TheVariants.{Refused}
@@ -25,13 +25,10 @@ heads_tell (a ∷ b ∷ c ∷ d ∷ f ∷ rest) e =
     ap (λ (head : List ℕ). begins_entry (head ++ rest)) h
 
 last_two : (xs : List ℕ) (n : ℕ) → length xs ≡ n + 2 → xs ≡ take n xs ++ slice_index xs n ∷ slice_index xs (n + 1) ∷ []
-last_two [] n e = absurd (omega (arith, e))
-last_two (a ∷ []) n e = absurd (omega (arith, e))
-last_two (a ∷ b ∷ []) zero e = refl
-last_two (a ∷ b ∷ c ∷ rest) zero e = absurd (omega (arith, e))
-last_two (a ∷ b ∷ rest) (suc n) e =
-    let step : suc n + 1 ≡ suc (n + 1) = omega arith in
-    rw step (ap (λ (l : List ℕ). a ∷ l) (last_two (b ∷ rest) n (omega (arith, e))))
+last_two xs n e =
+    sym (take_all (n + 1 + 1) xs (omega (arith, e))) ∙ take_more xs (n + 1) 0 (omega (arith, e))
+    ∙ ap (λ (l : List ℕ). l ++ slice_index xs (n + 1) ∷ []) (take_more xs n 0 (omega (arith, e)))
+    ∙ append_assoc (take n xs) (slice_index xs n ∷ []) (slice_index xs (n + 1) ∷ [])
 
 tails_tell : (was : List ℕ) → (edges_of was).tail ≡ 10 ∷ 10 ∷ [] → (front : List ℕ) × (was ≡ front ++ 10 ∷ 10 ∷ [])
 tails_tell [] e = let h : ◌≡◌ {A = List ℕ} (0 ∷ 0 ∷ []) (10 ∷ 10 ∷ []) = e in let no : ◌≡◌ {A = ℕ} 0 10 = cc in absurd (omega (arith, no))

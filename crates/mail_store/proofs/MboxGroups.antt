@@ -1,11 +1,12 @@
 -- Groups of lines in an mboxrd file, and the laws of its texts.
-use Rattle.std.proofs.Common.{◌≡◌, inl, inr, ℕ, Bool, true, false, cond, List, [], ◌∷◌, ◌++◌, drop, map, refl, sym, ap, subst, ◌∙◌, append_assoc}
-use Rattle.std.specs.Prelude.{codes, nat_eq}
+use Rattle.std.proofs.Common.{◌≡◌, inl, inr, ℕ, true, List, [], ◌∷◌, ◌++◌, drop, map, refl, sym, ap, subst, ◌∙◌, append_assoc}
+use Rattle.std.specs.Prelude.{codes, not, ◌==◌, ◌≢◌}
 use Rattle.std.specs.List.{flat_map, AllByRecursion}
 use Rattle.std.proofs.lemmas.Bool.{true≢false}
-use Rattle.std.proofs.lemmas.Bool.Decides.{eqb_tells}
+use Rattle.std.proofs.lemmas.List.Elements.{recursion_from_All}
+use Rattle.std.proofs.lemmas.List.Sums.{AllPass-from_list_all}
 use Rattle.std.proofs.lemmas.List.{append-nil, append_cancel_right, flat_map_more, map-append}
-use Rattle.mail_terms.specs.Text.{IsWhole, HasNoLf}
+use Rattle.mail_terms.specs.Text.{IsWhole}
 use Rattle.mail_store.specs.Mboxrd.{lines_of, IsLine, from_words, begins_entry, quoted, unquoted, separator, entry_of, Group, IsHead, IsInner, IsGroup, group_bytes, group_text, MboxFile, MayGoOn, EntryAddsText, OneReading, TextsMayGoOn}
 use Rattle.mail_store.specs.MboxScan.{IsApart, OpensEntry}
 use Rattle.mail_store.proofs.MboxLines.{all_append, empty_line, joined, lines_kept, lines_joined, whole_lines}
@@ -101,22 +102,13 @@ adds_group file texts group was is = record {
 
 -- ---- entries
 
-abbrev has_no_lf : List ℕ → Bool
-has_no_lf [] = true
-has_no_lf (byte ∷ rest) = cond (nat_eq byte 10) false (has_no_lf rest)
-
-plain_by : (bytes : List ℕ) → has_no_lf bytes ≡ true → HasNoLf bytes
-plain_by [] test = tt
-plain_by (byte ∷ rest) test = elim (eqb_tells byte 10) [
-  | inl p ↦ let e : false ≡ true = (let h = rw p.0 at test in h) in absurd (true≢false (sym e))
-  | inr p ↦ (p.1, plain_by rest (let h = rw p.0 at test in h))
-]
-
 separator_head : IsHead separator
 separator_head = (
   record {
     words = codes "From MAILER-DAEMON Thu Jan  1 00:00:00 1970";
-    plain = plain_by (codes "From MAILER-DAEMON Thu Jan  1 00:00:00 1970") refl;
+    plain = recursion_from_All (λ byte. byte ≢ 10) (codes "From MAILER-DAEMON Thu Jan  1 00:00:00 1970")
+        (λ k d inside at. true≢false (sym (AllPass-from_list_all (λ byte. not (byte == 10)) (codes "From MAILER-DAEMON Thu Jan  1 00:00:00 1970") refl k d inside)
+        ∙ ap (λ byte. not (byte == 10)) at));
     ended = refl;
   },
   refl,
@@ -167,10 +159,10 @@ pub joined_whole : (lines : List (List ℕ)) → AllByRecursion IsLine lines →
 joined_whole [] all = inl refl
 joined_whole (line ∷ lines) all = inr (lines_end line lines all.0 all.1)
 
-abbrev EndsTwice : List ℕ → Type 0
+abbrev pub EndsTwice : List ℕ → Type 0
 EndsTwice bytes = (front : List ℕ) × (bytes ≡ front ++ 10 ∷ 10 ∷ [])
 
-group_ends : (group : Group) → IsGroup group → EndsTwice (group_bytes group)
+pub group_ends : (group : Group) → IsGroup group → EndsTwice (group_bytes group)
 group_ends group is =
     let ended = lines_end group.head group.lines is.0.0 (inner_lines group.lines is.1) in
     (ended.0, sym (append_assoc group.head (joined group.lines) (10 ∷ [])) ∙ ap (λ (l : List ℕ). l ++ 10 ∷ []) ended.1 ∙ append_assoc ended.0 (10 ∷ []) (10 ∷ []))

@@ -1,22 +1,22 @@
 -- What a loss of power leaves of an entry, and what settling does to the file that it is in.
 use Rattle.std.proofs.Common.{get_or, ◌≡◌, ◌⊎◌, inl, inr, ℕ, suc, ◌+◌, ◌-◌, ◌<◌, ◌≤◌, ◌%◌, Bool, true, false, cond, ◌&&◌, ◌||◌, List, [], ◌∷◌, ◌++◌, length, take, drop, Option, Some, refl, sym, ap, subst, ◌∙◌, arith, length-append}
-use Rattle.std.specs.Prelude.{bytes_eq, HoldsAt, not, ◌==◌, nat_eq, nat_lt, nat_le, slice_index}
-use Rattle.std.specs.Cmp.Lexicographic.{pointwise}
+use Rattle.std.specs.Prelude.{bytes_eq, HoldsAt, not, ◌==◌, nat_lt, nat_le, slice_index}
 use Rattle.std.specs.List.{list_all, AllByRecursion}
 use Rattle.std.proofs.lemmas.Bool.{and_parts, cases_Bool, cases_lt, or_cases, or_right, true≢false, lt-ltb, le-leb, eq-eqb}
-use Rattle.std.proofs.lemmas.Bool.Decides.{eqb_tells}
+use Rattle.std.proofs.lemmas.Bool.Decides.{Decides-eqb, eqb_tells}
 use Rattle.std.proofs.Math.Bool.{and-false, or-true}
-use Rattle.std.proofs.lemmas.List.{append-nil, nil_from_length}
+use Rattle.std.proofs.lemmas.List.{append-nil, append_assoc, nil_from_length, same_from_push}
+use Rattle.std.proofs.lemmas.Slice.Eq.{ends_is}
 use Rattle.std.proofs.Math.Seq.{drop-append_seam, drop-cons, take-append_seam}
 use Rattle.mail_terms.specs.Listing.{Item}
 use Rattle.mail_terms.specs.Text.{IsWhole}
-use Rattle.mail_store.specs.Mboxrd.{separator, begins_entry, quoted_text, unquoted_text, entry_of, text_in, MboxFile}
+use Rattle.mail_store.specs.Mboxrd.{separator, begins_entry, quoted_text, unquoted_text, entry_of, text_in}
 use Rattle.mail_store.specs.MboxScan.{IsApart}
 use Rattle.mail_store.specs.Settling.{block_size, is_lost, is_torn, MayBeLeft, begin_with, is_one_entry, ends_empty, is_ours, is_entry, listed_size, has_size, is_whole, stands_whole, settled_file, CountsWhole, IsCutOff, LeftoversAreSettled, FrontsAreSettled, WholeEntriesCount}
 use Rattle.mail_store.proofs.Leavings.{all_left, part_left}
 use Rattle.mail_store.proofs.OneEntry.{holds_needle, needle, needle_there, one_entry_is}
 use Rattle.mail_store.proofs.MboxQuoting.{begins_with, unquotes_quoted}
-use Rattle.mail_store.proofs.MboxGroups.{inner_apart, entry_group, entry_lines, entry_is_group, entry_adds_text, texts_go_on}
+use Rattle.mail_store.proofs.MboxGroups.{inner_apart, entry_bytes, entry_group, entry_lines, entry_is_group, group_ends}
 
 -- ---- blocks
 
@@ -56,14 +56,6 @@ lost_tears place byte (next ∷ more) lost = elim (eqb_tells ((place + 1) % bloc
     | inr last ↦ inr (byte ∷ last.0, ap (λ (l : List ℕ). byte ∷ l) last.1)
   ]
 ]
-
-not_empty_last : (front : List ℕ) → ends_empty (front ++ 0 ∷ []) ≡ false
-not_empty_last [] = refl
-not_empty_last (a ∷ []) = and-false (nat_eq 10 a)
-not_empty_last (a ∷ b ∷ more) =
-    let size = length-append more (0 ∷ []) in
-    let step : length (a ∷ b ∷ more ++ 0 ∷ []) - 2 ≡ suc (length (b ∷ more ++ 0 ∷ []) - 2) = omega (arith, size) in
-    rw step (not_empty_last (b ∷ more))
 
 -- ---- what is left of an entry
 
@@ -144,26 +136,10 @@ left_ours place text left whole is = rw (left_begins place separator (quoted_tex
       | inr free ↦ one_entry_is left ∙ ap not free
     ]
 
-ends_by : (front bytes : List ℕ) → bytes ≡ front ++ 10 ∷ 10 ∷ [] → ends_empty bytes ≡ true
-ends_by front bytes e =
-    let size = ap length e ∙ length-append front (10 ∷ 10 ∷ []) in
-    let at : length bytes - 2 ≡ length front = omega (arith, size) in
-    ap (λ (k : ℕ). pointwise nat_eq (10 ∷ 10 ∷ []) (drop k bytes)) at
-    ∙ ap (λ (l : List ℕ). pointwise nat_eq (10 ∷ 10 ∷ []) (drop (length front) l)) e
-    ∙ ap (pointwise nat_eq (10 ∷ 10 ∷ [])) (drop-append_seam front (10 ∷ 10 ∷ []))
-
 entry_ends : (text : List ℕ) → IsWhole text → ends_empty (entry_of text) ≡ true
-entry_ends text whole = elim (texts_go_on (entry_of text) (text ∷ []) (entry_adds_text [] text [] none whole)) [
-  | inl nil ↦
-      let size = length-append separator (quoted_text text ++ 10 ∷ []) in
-      let nothing = ap length nil in
-      let words : length separator ≡ 44 = refl in
-      absurd (omega (arith, size, nothing, words))
-  | inr some ↦ ends_by some.1.0 (entry_of text) some.1.1
-]
-  where
-    none : MboxFile [] []
-    none = record { groups = []; are = tt; whole = refl; read = refl }
+entry_ends text whole =
+    let ends = group_ends (entry_group text) (entry_is_group text whole) in
+    (ends_is Decides-eqb (entry_of text) (10 ∷ 10 ∷ []) (ends_empty (entry_of text)) refl).1 ends.0 (sym (entry_bytes text) ∙ ends.1)
 
 -- ---- settling
 
@@ -171,30 +147,19 @@ entry_ends text whole = elim (texts_go_on (entry_of text) (text ∷ []) (entry_a
 settles_none : (start len : ℕ) (listed : Option ℕ) (was : List ℕ) → length (drop start was) ≡ 0 → (stands_whole start len listed was ≡ false) × (settled_file start len listed was ≡ was)
 settles_none start len listed was none =
     let nil : drop start was ≡ [] = nil_from_length (drop start was) none in
-    let isn't : stands_whole start len listed was ≡ false = ap (λ (l : List ℕ). is_whole start len listed l) nil ∙ and-false (0 == len) in
-    (isn't, ap (λ (l : List ℕ). cond ((nat_lt 0 (length l) && nat_le (length l) len) && (is_ours start l && not (stands_whole start len listed was))) (take start was) was) nil)
+    (ap (is_whole start len listed) nil ∙ and-false (0 == len), rw nil refl)
 
 -- it is whole
 settles_whole : (start len : ℕ) (listed : Option ℕ) (was : List ℕ) → stands_whole start len listed was ≡ true → settled_file start len listed was ≡ was
 settles_whole start len listed was whole =
-    ap (λ (b : Bool). cond ((nat_lt 0 (length rest) && nat_le (length rest) len) && (is_ours start rest && not b)) (take start was) was) whole
-    ∙ ap (λ (b : Bool). cond ((nat_lt 0 (length rest) && nat_le (length rest) len) && b) (take start was) was) (and-false (is_ours start rest))
-    ∙ ap (λ (b : Bool). cond b (take start was) was) (and-false (nat_lt 0 (length rest) && nat_le (length rest) len))
-  where
-    rest : List ℕ
-    rest = drop start was
+    let rest = drop start was in
+    rw (whole, and-false (is_ours start rest), and-false (nat_lt 0 (length rest) && nat_le (length rest) len)) refl
 
 -- it is ours, and not whole
 settles_torn : (start len : ℕ) (listed : Option ℕ) (was : List ℕ) → 0 < length (drop start was) → length (drop start was) ≤ len → is_ours start (drop start was) ≡ true
     → stands_whole start len listed was ≡ false → settled_file start len listed was ≡ take start was
 settles_torn start len listed was some few ours isn't =
-    ap (λ (b : Bool). cond ((b && nat_le (length rest) len) && (is_ours start rest && not (stands_whole start len listed was))) (take start was) was) (lt-ltb 0 (length rest) some)
-    ∙ ap (λ (b : Bool). cond ((true && b) && (is_ours start rest && not (stands_whole start len listed was))) (take start was) was) (le-leb (length rest) len few)
-    ∙ ap (λ (b : Bool). cond ((true && true) && (b && not (stands_whole start len listed was))) (take start was) was) ours
-    ∙ ap (λ (b : Bool). cond ((true && true) && (true && not b)) (take start was) was) isn't
-  where
-    rest : List ℕ
-    rest = drop start was
+    rw (isn't, lt-ltb 0 (length (drop start was)) some, le-leb (length (drop start was)) len few, ours) refl
 
 -- a front that is ours, after a file
 settles_behind : (file front : List ℕ) (len : ℕ) (listed : Option ℕ) → 0 < length front → length front ≤ len → is_ours (length file) front ≡ true → stands_whole (length file) len listed (file ++ front) ≡ false
@@ -217,7 +182,11 @@ whole_parts place len listed bytes is =
         | inr p ↦ absurd (true≢false (sym sized.0 ∙ p.0))
       ],
       (λ torn. true≢false (sym ends.0 ∙ ap not torn)),
-      (λ last. true≢false (sym ends.1 ∙ ap ends_empty last.1 ∙ not_empty_last last.0)),
+      (λ last.
+          let front = take (length bytes - 2) bytes in
+          let twice = (ends_is Decides-eqb bytes (10 ∷ 10 ∷ []) (ends_empty bytes) refl).0 ends.1 in
+          let same = same_from_push last.0 (front ++ 10 ∷ []) 0 10 (sym last.1 ∙ twice ∙ sym (append_assoc front (10 ∷ []) (10 ∷ []))) in
+          omega (arith, same.1)),
     )
 
 pub left_settled : LeftoversAreSettled
@@ -310,24 +279,24 @@ whole_counts file text listed whole = (counts, cut)
 no_item : Item
 no_item = record { uid = []; size = 0 }
 
+-- what the message at this place tells
+listed_at : (items : List Item) (i : ℕ) (uid id : List ℕ) (same : Bool) → listed_size (drop i items) uid ≡ listed_size items uid → i < length items
+    → HoldsAt (λ (item : Item). id ≡ item.uid) items i → same ≡ bytes_eq id uid
+    → cond same (Some (get_or items i no_item).size) (listed_size (drop (suc i) items) uid) ≡ listed_size items uid
+listed_at items i uid id same was within at is =
+    ap (λ (b : Bool). cond b (Some (get_or items i no_item).size) (listed_size (drop (suc i) items) uid)) (is ∙ ap (λ (b : List ℕ). bytes_eq b uid) (at no_item))
+    ∙ ap (λ (l : List Item). listed_size l uid) (sym (drop-cons items i no_item within)) ∙ was
+
 -- this message has another id
 pub listed_later : (items : List Item) (i : ℕ) (uid id : List ℕ) (same : Bool) → listed_size (drop i items) uid ≡ listed_size items uid → i < length items
     → HoldsAt (λ (item : Item). id ≡ item.uid) items i → same ≡ bytes_eq id uid → same ≡ false → listed_size (drop (i + 1) items) uid ≡ listed_size items uid
 listed_later items i uid id same was within at is other =
     let next : i + 1 ≡ suc i = omega arith in
-    let item = get_or items i no_item in
-    let tells : bytes_eq item.uid uid ≡ false = ap (λ (b : List ℕ). bytes_eq b uid) (sym (at no_item)) ∙ sym is ∙ other in
-    ap (λ (k : ℕ). listed_size (drop k items) uid) next
-    ∙ ap (λ (b : Bool). cond b (Some item.size) (listed_size (drop (suc i) items) uid)) (sym tells)
-    ∙ ap (λ (l : List Item). listed_size l uid) (sym (drop-cons items i no_item within)) ∙ was
+    ap (λ (k : ℕ). listed_size (drop k items) uid) next ∙ listed_at items i uid id false was within at (sym other ∙ is)
 
 -- this message has the id
 pub listed_here : (items : List Item) (i : ℕ) (uid id : List ℕ) (size : ℕ) (same : Bool) → listed_size (drop i items) uid ≡ listed_size items uid → i < length items
     → HoldsAt (λ (item : Item). id ≡ item.uid) items i → HoldsAt (λ (item : Item). size ≡ item.size) items i → same ≡ bytes_eq id uid → same ≡ true
     → Some size ≡ listed_size items uid
 listed_here items i uid id size same was within at sized is one =
-    let item = get_or items i no_item in
-    let tells : bytes_eq item.uid uid ≡ true = ap (λ (b : List ℕ). bytes_eq b uid) (sym (at no_item)) ∙ sym is ∙ one in
-    ap (λ (s : ℕ). Some s) (sized no_item)
-    ∙ ap (λ (b : Bool). cond b (Some item.size) (listed_size (drop (suc i) items) uid)) (sym tells)
-    ∙ ap (λ (l : List Item). listed_size l uid) (sym (drop-cons items i no_item within)) ∙ was
+    ap (λ (s : ℕ). Some s) (sized no_item) ∙ listed_at items i uid id true was within at (sym one ∙ is)
