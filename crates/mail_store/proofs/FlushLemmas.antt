@@ -2,6 +2,7 @@
 use Rattle.std.proofs.Common.{◌≡◌, ℕ, suc, ◌+◌, ◌<◌, Bool, true, false, List, [], ◌∷◌, ◌++◌, get_or, length, Result, Ok, Err, inl, inr, refl, sym, ap, subst, ◌∙◌, arith, String, string_bytes, ◌||◌, bytes_eq, Contains, HoldsAt}
 use Rattle.std.specs.Prelude.{◌⊎◌, ◌==◌}
 use Rattle.std.specs.List.{list_any}
+use Rattle.std.proofs.Math.Logic.{⊎_map}
 use Rattle.std.proofs.Math.Bool.{or-true}
 use Rattle.std.proofs.Math.Nat.{eq-or-lt_of_le}
 use Rattle.std.proofs.lemmas.Bool.{true≢false}
@@ -108,14 +109,8 @@ pub after_flush : {A : Type 0} (account : List ℕ) (old mid new : Maildir) (ste
     → KeepsLeft old.files new.files stays outlives stays'' outlives'' × (AllStay new stays'' × FoundOutlive account new outlives'' items flags)
 after_flush account old mid new stems stays stays' stays'' outlives outlives' outlives'' items held flags left all is has same keeps flushed = rw same (
   (
-    λ name s. elim (left.0 name s) [
-      | inl stayed ↦ inl (keeps.0 name stayed)
-      | inr took ↦ inr took
-    ],
-    λ f o. elim (left.1 f o) [
-      | inl outlived ↦ inl (keeps.1 f outlived)
-      | inr took ↦ inr took
-    ],
+    λ name s. ⊎_map (keeps.0 name) (λ took. took) (left.0 name s),
+    λ f o. ⊎_map (keeps.1 f) (λ took. took) (left.1 f o),
   ),
   (
     λ name there. keeps.0 name (all name there),

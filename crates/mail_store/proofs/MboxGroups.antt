@@ -6,6 +6,7 @@ use Rattle.std.proofs.lemmas.Bool.{true≢false}
 use Rattle.std.proofs.lemmas.List.Elements.{recursion_from_All}
 use Rattle.std.proofs.lemmas.List.Sums.{AllPass-from_list_all}
 use Rattle.std.proofs.lemmas.List.{append-nil, append_cancel_right, flat_map_more, map-append}
+use Rattle.std.proofs.lemmas.List.Folds.{flat_map-map}
 use Rattle.mail_terms.specs.Text.{IsWhole}
 use Rattle.mail_store.specs.Mboxrd.{lines_of, IsLine, from_words, begins_entry, quoted, unquoted, separator, entry_of, Group, IsHead, IsInner, IsGroup, group_bytes, group_text, MboxFile, MayGoOn, EntryAddsText, OneReading, TextsMayGoOn}
 use Rattle.mail_store.specs.MboxScan.{IsApart, OpensEntry}
@@ -25,12 +26,8 @@ inner_lines (line ∷ lines) all = (all.0.0, inner_lines lines all.1)
 pub ended_all : (lines : List (List ℕ)) → AllByRecursion IsLine lines → AllByRecursion IsLine (lines ++ (10 ∷ []) ∷ [])
 ended_all lines all = all_append IsLine lines ((10 ∷ []) ∷ []) all (empty_line, tt)
 
-joined_push : (lines : List (List ℕ)) (last : List ℕ) → joined (lines ++ last ∷ []) ≡ joined lines ++ last
-joined_push [] last = append-nil last
-joined_push (line ∷ lines) last = ap (λ (l : List ℕ). line ++ l) (joined_push lines last) ∙ sym (append_assoc line (joined lines) last)
-
 pub group_joined : (group : Group) → joined (group_lines group) ≡ group_bytes group
-group_joined group = ap (λ (l : List ℕ). group.head ++ l) (joined_push group.lines (10 ∷ []))
+group_joined group = ap (λ (l : List ℕ). group.head ++ l) (sym (flat_map_more (λ (line : List ℕ). line) [] group.lines (10 ∷ [])))
 
 -- the lines of bytes that begin with a group
 pub group_first : (group : Group) (rest : List ℕ) → IsLine group.head → AllByRecursion IsLine group.lines
@@ -118,10 +115,6 @@ pub quoted_inner : (lines : List (List ℕ)) → AllByRecursion IsLine lines →
 quoted_inner [] all = tt
 quoted_inner (line ∷ lines) all = ((quoted_line line all.0, quoted_apart line), quoted_inner lines all.1)
 
-quoted_joined : (lines : List (List ℕ)) → joined (map quoted lines) ≡ flat_map quoted lines
-quoted_joined [] = refl
-quoted_joined (line ∷ lines) = ap (λ (l : List ℕ). quoted line ++ l) (quoted_joined lines)
-
 -- the group of a text's entry
 abbrev pub entry_group : List ℕ → Group
 entry_group text = record { head = separator; lines = map quoted (lines_of text) }
@@ -130,7 +123,7 @@ pub entry_is_group : (text : List ℕ) → IsWhole text → IsGroup (entry_group
 entry_is_group text whole = (separator_head, quoted_inner (lines_of text) (whole_lines text whole))
 
 pub entry_bytes : (text : List ℕ) → group_bytes (entry_group text) ≡ entry_of text
-entry_bytes text = ap (λ (l : List ℕ). separator ++ (l ++ 10 ∷ [])) (quoted_joined (lines_of text))
+entry_bytes text = ap (λ (l : List ℕ). separator ++ (l ++ 10 ∷ [])) (flat_map-map (λ (line : List ℕ). line) quoted (lines_of text))
 
 pub entry_text : (text : List ℕ) → group_text (entry_group text) ≡ text
 entry_text text = lines_read (lines_of text) ∙ lines_joined text

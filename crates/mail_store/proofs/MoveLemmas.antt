@@ -103,8 +103,7 @@ module _ {A : Type 0} where
   -- a file came to the first folder
   pub merged_push : (flags : List Bool) (new cur : List A) (f : A) → Fit flags new cur
       → merged (flags ++ true ∷ []) (new ++ f ∷ []) cur ≡ merged flags new cur ++ f ∷ []
-  merged_push [] [] [] f fit = refl
-  merged_push [] [] (g ∷ cur) f fit = absurd (omega (arith, fit.1))
+  merged_push [] [] cur f fit = refl
   merged_push [] (g ∷ new) cur f fit = absurd (omega (arith, fit.0))
   merged_push (true ∷ flags) [] cur f fit = absurd (omega (arith, fit.0))
   merged_push (true ∷ flags) (g ∷ new) cur f fit = ap (λ (fs : List A). g ∷ fs) (merged_push flags new cur f (omega (arith, fit.0), fit.1))
@@ -177,16 +176,16 @@ module _ {Z Y : Type 0} where
       get_or-map file_of pairs i p d inside ∙ ap file_of (sym at) ∙ ap (λ (n : List ℕ). file n p.1.items) (ap (λ (q : String Z × Vec ℕ Y). string_bytes q.0) at ∙ named p)
 
   -- a file went from `new` to `cur`
-  pub taken_to_cur : (flags : List Bool) (new cur : List (String Z × Vec ℕ Y)) {flags' : List Bool} {new' cur' : List (String Z × Vec ℕ Y)} (place i : ℕ) (found made : String Z × Vec ℕ Y)
-      (name moved : List ℕ) → Fit flags new cur → i < length new → HoldsAt (λ p. string_bytes p.0 ≡ name) new i → found ≡ get_or new i found
+  pub taken_to_cur : (flags : List Bool) (new cur : List (String Z × Vec ℕ Y)) (place i : ℕ) (found made : String Z × Vec ℕ Y) (name moved : List ℕ)
+      → Fit flags new cur → i < length new → HoldsAt (λ p. string_bytes p.0 ≡ name) new i → found ≡ get_or new i found
       → place < length flags → HoldsAt (λ b. b ≡ true) flags place → count true (take place flags) ≡ i
-      → flags' ≡ set flags place false → new' ≡ remove new i → cur' ≡ insert cur (place - i) made
       → string_bytes made.0 ≡ moved → made.1.items ≡ found.1.items → base moved ≡ base name
       → (Contains (names_of (map file_of cur)) moved → ⊥)
-      → (map shown (merged flags' (map file_of new') (map file_of cur')) ≡ map shown (merged flags (map file_of new) (map file_of cur)))
-      × Takes (map file_of new) (map file_of cur) name moved (map file_of new') (map file_of cur') × Fit flags' new' cur'
-  taken_to_cur flags new cur {flags'} {new'} {cur'} place i found made name moved fit inside titled_at at below is_new counted flagged removed inserted titled same alike free =
-      let i_is : count true (take place flags) ≡ i = counted in
+      → (map shown (merged (set flags place false) (map file_of (remove new i)) (map file_of (insert cur (place - i) made)))
+      ≡ map shown (merged flags (map file_of new) (map file_of cur)))
+      × Takes (map file_of new) (map file_of cur) name moved (map file_of (remove new i)) (map file_of (insert cur (place - i) made))
+      × Fit (set flags place false) (remove new i) (insert cur (place - i) made)
+  taken_to_cur flags new cur place i found made name moved fit inside titled_at at below is_new counted titled same alike free =
       let total = before_place flags place below in
       let others : place - i ≡ count false (take place flags) = omega (arith, total, counted) in
       let room = within false flags place in
@@ -196,20 +195,15 @@ module _ {Z Y : Type 0} where
       (fit.0 ∙ sym (length-map new file_of), fit.1 ∙ sym (length-map cur file_of)) below is_new
       (ap (λ (n : List ℕ). file n found.1.items) alike ∙ ap shown (sym (file_at new i found name inside at titled_at (file name found.1.items)))
       ∙ ap (λ (k : ℕ). shown (get_or (map file_of new) k (file name found.1.items))) (sym counted)) in
-      let new_is : map file_of new' ≡ remove (map file_of new) i = ap (map file_of) removed ∙ map_remove file_of new i in
-      let cur_is : map file_of cur' ≡ insert (map file_of cur) (place - i) g =
-      ap (map file_of) inserted ∙ map_insert file_of cur (place - i) made ∙ ap (λ (f : File). insert (map file_of cur) (place - i) f) g_is in
+      let cur_is : map file_of (insert cur (place - i) made) ≡ insert (map file_of cur) (place - i) g =
+      map_insert file_of cur (place - i) made ∙ ap (λ (f : File). insert (map file_of cur) (place - i) f) g_is in
       let flags_are = counts_set flags place below is_new in
-      let left = ap length removed in
       let shorter = length-remove new i inside in
-      let came = ap length inserted in
-      let longer = length-insert cur (place - i) made (omega (arith, others, room, fit.1)) in
-      let trues = ap (count true) flagged in
-      let falses = ap (count false) flagged in (
-        ap (λ (fs : List File). map shown (merged flags' fs (map file_of cur'))) (new_is ∙ ap (remove (map file_of new)) (sym counted))
-            ∙ ap (λ (fs : List File). map shown (merged flags' (remove (map file_of new) (count true (take place flags))) fs))
+      let longer = length-insert cur (place - i) made (omega (arith, others, room, fit.1)) in (
+        ap (λ (fs : List File). map shown (merged (set flags place false) fs (map file_of (insert cur (place - i) made))))
+            (map_remove file_of new i ∙ ap (remove (map file_of new)) (sym counted))
+            ∙ ap (λ (fs : List File). map shown (merged (set flags place false) (remove (map file_of new) (count true (take place flags))) fs))
             (cur_is ∙ ap (λ (k : ℕ). insert (map file_of cur) k g) others)
-            ∙ ap (λ (bs : List Bool). map shown (merged bs (remove (map file_of new) (count true (take place flags))) (insert (map file_of cur) (count false (take place flags)) g))) flagged
             ∙ went,
         record {
           at = i;
@@ -217,11 +211,11 @@ module _ {Z Y : Type 0} where
           content = found.1.items;
           inside = omega (arith, inside, length-map new file_of);
           was = λ d. file_at new i found name inside at titled_at d;
-          left = new_is;
+          left = map_remove file_of new i;
           came = cur_is;
           free = free;
         },
-        (omega (arith, trues, flags_are.0, left, shorter, fit.0), omega (arith, falses, flags_are.1, came, longer, fit.1)),
+        (omega (arith, flags_are.0, shorter, fit.0), omega (arith, flags_are.1, longer, fit.1)),
       )
 
   -- a file came to `new`
@@ -283,26 +277,23 @@ pub shown_iff : {Z Y : Type 0} (files : List File) (new cur : List (String Z × 
     → IsPermutation files (map shown (map file_of new ++ map file_of cur))
     → (Contains (names_of (map shown (map file_of new))) front ⊎ Contains (names_of (map shown (map file_of cur))) front) ↔ Contains (names_of files) front
 shown_iff files new cur front both = (
-  λ either. back (one either),
-  λ there. Contains-append_cases _ _ front (subst (λ (ns : List (List ℕ)). Contains ns front) parts
-      (Contains-permutation (names_of files) (names_of (map shown (map file_of new ++ map file_of cur))) front
-      (IsPermutation-map name_in files (map shown (map file_of new ++ map file_of cur)) both) there)),
+  λ either. Contains-permutation (in_new ++ in_cur) (names_of files) front (IsPermutation-sym (names_of files) (in_new ++ in_cur) all) (elim either [
+    | inl c ↦ Contains-append_left in_new in_cur front c
+    | inr c ↦ Contains-append_right in_new in_cur front c
+  ]),
+  λ there. Contains-append_cases in_new in_cur front (Contains-permutation (names_of files) (in_new ++ in_cur) front all there),
 )
   where
-    parts : names_of (map shown (map file_of new ++ map file_of cur)) ≡ names_of (map shown (map file_of new)) ++ names_of (map shown (map file_of cur))
-    parts = ap names_of (map-append shown (map file_of new) (map file_of cur)) ∙ map-append name_in (map shown (map file_of new)) (map shown (map file_of cur))
+    in_new : List (List ℕ)
+    in_new = names_of (map shown (map file_of new))
 
-    one : Contains (names_of (map shown (map file_of new))) front ⊎ Contains (names_of (map shown (map file_of cur))) front
-        → Contains (names_of (map shown (map file_of new)) ++ names_of (map shown (map file_of cur))) front
-    one (inl c) = Contains-append_left (names_of (map shown (map file_of new))) (names_of (map shown (map file_of cur))) front c
-    one (inr c) = Contains-append_right (names_of (map shown (map file_of new))) (names_of (map shown (map file_of cur))) front c
+    in_cur : List (List ℕ)
+    in_cur = names_of (map shown (map file_of cur))
 
-    back : Contains (names_of (map shown (map file_of new)) ++ names_of (map shown (map file_of cur))) front → Contains (names_of files) front
-    back c =
-        let there = subst (λ (ns : List (List ℕ)). Contains ns front) (sym parts) c in
-        Contains-permutation (names_of (map shown (map file_of new ++ map file_of cur))) (names_of files) front
-        (IsPermutation-sym (names_of files) (names_of (map shown (map file_of new ++ map file_of cur)))
-        (IsPermutation-map name_in files (map shown (map file_of new ++ map file_of cur)) both)) there
+    all : IsPermutation (names_of files) (in_new ++ in_cur)
+    all = subst (IsPermutation (names_of files))
+        (ap names_of (map-append shown (map file_of new) (map file_of cur)) ∙ map-append name_in (map shown (map file_of new)) (map shown (map file_of cur)))
+        (IsPermutation-map name_in files (map shown (map file_of new ++ map file_of cur)) both)
 
 -- what a device in memory is after a file came
 pub came_to : (old : Maildir) (files files' : List File) (begun : Option File) (failures : ℕ) (title name content : List ℕ)
