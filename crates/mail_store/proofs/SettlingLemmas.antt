@@ -5,6 +5,7 @@ use Rattle.std.specs.List.{list_all, AllByRecursion}
 use Rattle.std.proofs.lemmas.Bool.{and_parts, cases_Bool, cases_lt, or_cases, or_right, true≢false, lt-ltb, le-leb, eq-eqb}
 use Rattle.std.proofs.lemmas.Bool.Decides.{Decides-eqb, eqb_tells}
 use Rattle.std.proofs.Math.Bool.{and-false, or-true}
+use Rattle.std.proofs.Math.Logic.{⊎_map}
 use Rattle.std.proofs.lemmas.List.{append-nil, append_assoc, nil_from_length, same_from_push}
 use Rattle.std.proofs.lemmas.Slice.Eq.{ends_is}
 use Rattle.std.proofs.Math.Seq.{drop-append_seam, drop-cons, take-append_seam}
@@ -14,7 +15,7 @@ use Rattle.mail_store.specs.Mboxrd.{separator, begins_entry, quoted_text, unquot
 use Rattle.mail_store.specs.MboxScan.{IsApart}
 use Rattle.mail_store.specs.Settling.{block_size, is_lost, is_torn, MayBeLeft, begin_with, is_one_entry, ends_empty, is_ours, is_entry, listed_size, has_size, is_whole, stands_whole, settled_file, CountsWhole, IsCutOff, LeftoversAreSettled, FrontsAreSettled, WholeEntriesCount}
 use Rattle.mail_store.proofs.Leavings.{all_left, part_left}
-use Rattle.mail_store.proofs.OneEntry.{holds_needle, needle, needle_there, one_entry_is}
+use Rattle.mail_store.proofs.OneEntry.{holds_needle, needle, needle_split, needle_there, one_entry_is}
 use Rattle.mail_store.proofs.MboxQuoting.{begins_with, unquotes_quoted}
 use Rattle.mail_store.proofs.MboxGroups.{inner_apart, entry_bytes, entry_group, entry_lines, entry_is_group, group_ends}
 
@@ -46,15 +47,19 @@ torn_step at k bytes within = let next : k + 1 ≡ suc k = omega arith in rw (ne
 abbrev pub EndsInZero : List ℕ → Type 0
 EndsInZero bytes = (front : List ℕ) × (bytes ≡ front ++ 0 ∷ [])
 
--- what is lost has a zero at the end of a block, or at its own end
-lost_tears : (place byte : ℕ) (rest : List ℕ) → is_lost place (byte ∷ rest) ≡ true → (is_torn place (byte ∷ rest) ≡ true) ⊎ EndsInZero (byte ∷ rest)
-lost_tears place byte [] lost = inr ([], ap (λ (b : ℕ). b ∷ []) (zero_lost place byte [] lost))
-lost_tears place byte (next ∷ more) lost = elim (eqb_tells ((place + 1) % block_size) 0) [
+-- a zero at the end of a block, or at the end of the bytes
+abbrev Breaks : ℕ → List ℕ → Type 0
+Breaks place bytes = (is_torn place bytes ≡ true) ⊎ EndsInZero bytes
+
+breaks_later : (place byte : ℕ) (bytes : List ℕ) → Breaks (place + 1) bytes → Breaks place (byte ∷ bytes)
+breaks_later place byte bytes =
+    ⊎_map (or_right ((place + 1) % block_size == 0 && byte == 0) (is_torn (place + 1) bytes)) (λ last. (byte ∷ last.0, ap (λ (l : List ℕ). byte ∷ l) last.1))
+
+lost_breaks : (place byte : ℕ) (rest : List ℕ) → is_lost place (byte ∷ rest) ≡ true → Breaks place (byte ∷ rest)
+lost_breaks place byte [] lost = inr ([], ap (λ (b : ℕ). b ∷ []) (zero_lost place byte [] lost))
+lost_breaks place byte (next ∷ more) lost = elim (eqb_tells ((place + 1) % block_size) 0) [
   | inl p ↦ inl (rw (p.0, eq-eqb byte 0 (zero_lost place byte (next ∷ more) lost)) refl)
-  | inr p ↦ elim (lost_tears (place + 1) next more (lost_on place byte (next ∷ more) lost p.1)) [
-    | inl torn ↦ inl (or_right ((place + 1) % block_size == 0 && byte == 0) (is_torn (place + 1) (next ∷ more)) torn)
-    | inr last ↦ inr (byte ∷ last.0, ap (λ (l : List ℕ). byte ∷ l) last.1)
-  ]
+  | inr p ↦ breaks_later place byte (next ∷ more) (lost_breaks (place + 1) next more (lost_on place byte (next ∷ more) lost p.1))
 ]
 
 -- ---- what is left of an entry
@@ -64,20 +69,14 @@ left_short place words [] is = omega arith
 left_short place [] (byte ∷ left) is = absurd is
 left_short place (word ∷ words) (byte ∷ left) is = let less = left_short (place + 1) words left is.1 in omega (arith, less)
 
-same_or_torn : (place : ℕ) (words left : List ℕ) → MayBeLeft place words left → length left ≡ length words
-    → (left ≡ words) ⊎ ((is_torn place left ≡ true) ⊎ EndsInZero left)
-same_or_torn place [] [] is size = inl refl
-same_or_torn place (word ∷ words) [] is size = absurd (omega (arith, size))
-same_or_torn place [] (byte ∷ left) is size = absurd is
-same_or_torn place (word ∷ words) (byte ∷ left) is size = elim is.0 [
-  | inr lost ↦ inr (lost_tears place byte left lost)
-  | inl same ↦ elim (same_or_torn (place + 1) words left is.1 (omega (arith, size))) [
-    | inl all ↦ inl (ap (λ (b : ℕ). b ∷ left) same ∙ ap (λ (l : List ℕ). word ∷ l) all)
-    | inr broken ↦ inr (elim broken [
-      | inl torn ↦ inl (or_right ((place + 1) % block_size == 0 && byte == 0) (is_torn (place + 1) left) torn)
-      | inr last ↦ inr (byte ∷ last.0, ap (λ (l : List ℕ). byte ∷ l) last.1)
-    ])
-  ]
+same_or_broken : (place : ℕ) (words left : List ℕ) → MayBeLeft place words left → length left ≡ length words → (left ≡ words) ⊎ Breaks place left
+same_or_broken place [] [] is size = inl refl
+same_or_broken place (word ∷ words) [] is size = absurd (omega (arith, size))
+same_or_broken place [] (byte ∷ left) is size = absurd is
+same_or_broken place (word ∷ words) (byte ∷ left) is size = elim is.0 [
+  | inr lost ↦ inr (lost_breaks place byte left lost)
+  | inl same ↦ ⊎_map (λ all. ap (λ (b : ℕ). b ∷ left) same ∙ ap (λ (l : List ℕ). word ∷ l) all) (breaks_later place byte left)
+      (same_or_broken (place + 1) words left is.1 (omega (arith, size)))
 ]
 
 left_begins : (place : ℕ) (words more left : List ℕ) → MayBeLeft place (words ++ more) left → begin_with place words left ≡ true
@@ -99,21 +98,21 @@ left_from place (byte ∷ front) more (word ∷ words) plain is = elim is.0 [
   | inr lost ↦ absurd (plain.0 (zero_lost place byte (front ++ more) lost))
 ]
 
+-- what is left from some place on is left of the words from there on
+left_behind : (place : ℕ) (words front more : List ℕ) → MayBeLeft place words (front ++ more)
+    → (at : ℕ) × (before : List ℕ) × (behind : List ℕ) × (words ≡ before ++ behind) × MayBeLeft at behind more
+left_behind place words [] more is = (place, [], words, refl, is)
+left_behind place [] (byte ∷ front) more is = absurd is
+left_behind place (word ∷ words) (byte ∷ front) more is =
+    let later = left_behind (place + 1) words front more is.1 in
+    (later.0, word ∷ later.1, later.2, ap (λ (l : List ℕ). word ∷ l) later.3, later.4)
+
 left_needle : (place : ℕ) (words left : List ℕ) → MayBeLeft place words left → holds_needle left ≡ true → holds_needle words ≡ true
-left_needle place words [] is held = absurd (true≢false (sym held))
-left_needle place [] (byte ∷ left) is held = absurd is
-left_needle place (word ∷ words) (byte ∷ left) is held = elim (or_cases (byte == 10 && begins_entry left) (holds_needle left) held) [
-  | inr later ↦ or_right (word == 10 && begins_entry words) (holds_needle words) (left_needle (place + 1) words left is.1 later)
-  | inl here ↦
-      let parts = and_parts (byte == 10) (begins_entry left) here in
-      elim (eqb_tells byte 10) [
-        | inr p ↦ absurd (true≢false (sym parts.0 ∙ p.0))
-        | inl p ↦
-            let all : byte ∷ left ≡ needle ++ drop 5 left = ap (λ (b : ℕ). b ∷ left) p.1 ∙ ap (λ (l : List ℕ). 10 ∷ l) (begins_with left parts.1) in
-            let w = left_from place needle (drop 5 left) (word ∷ words) plain (subst (MayBeLeft place (word ∷ words)) all is) in
-            ap holds_needle w.1 ∙ needle_there [] w.0
-      ]
-]
+left_needle place words left is held =
+    let found = needle_split left held in
+    let at = left_behind place words found.0 (needle ++ found.1) (subst (MayBeLeft place words) found.2 is) in
+    let w = left_from at.0 needle found.1 at.2 plain at.4 in
+    ap holds_needle (at.3 ∙ ap (λ (l : List ℕ). at.1 ++ l) w.1) ∙ needle_there at.1 w.0
   where
     plain : AllByRecursion (λ b. b ≡ 0 → ⊥) needle
     plain = ((λ e. absurd (omega (arith, e))), ((λ e. absurd (omega (arith, e))), ((λ e. absurd (omega (arith, e))), ((λ e. absurd (omega (arith, e))), ((λ e. absurd (omega (arith, e))), ((λ e. absurd (omega (arith, e))), tt))))))
@@ -171,7 +170,7 @@ settles_behind file front len listed some few ours isn't =
     ∙ take-append_seam file front
 
 whole_parts : (place len : ℕ) (listed : Option ℕ) (bytes : List ℕ) → is_whole place len listed bytes ≡ true
-    → (length bytes ≡ len) × (is_torn place bytes ≡ true → ⊥) × (EndsInZero bytes → ⊥)
+    → (length bytes ≡ len) × (Breaks place bytes → ⊥)
 whole_parts place len listed bytes is =
     let sized = and_parts (length bytes == len) (is_entry place bytes && has_size listed (text_in bytes)) is in
     let told = and_parts (is_entry place bytes) (has_size listed (text_in bytes)) sized.1 in
@@ -181,24 +180,23 @@ whole_parts place len listed bytes is =
         | inl p ↦ p.1
         | inr p ↦ absurd (true≢false (sym sized.0 ∙ p.0))
       ],
-      (λ torn. true≢false (sym ends.0 ∙ ap not torn)),
-      (λ last.
-          let front = take (length bytes - 2) bytes in
-          let twice = (ends_is Decides-eqb bytes (10 ∷ 10 ∷ []) (ends_empty bytes) refl).0 ends.1 in
-          let same = same_from_push last.0 (front ++ 10 ∷ []) 0 10 (sym last.1 ∙ twice ∙ sym (append_assoc front (10 ∷ []) (10 ∷ []))) in
-          omega (arith, same.1)),
+      λ breaks. elim breaks [
+        | inl torn ↦ true≢false (sym ends.0 ∙ ap not torn)
+        | inr last ↦
+            let front = take (length bytes - 2) bytes in
+            let twice = (ends_is Decides-eqb bytes (10 ∷ 10 ∷ []) (ends_empty bytes) refl).0 ends.1 in
+            let same = same_from_push last.0 (front ++ 10 ∷ []) 0 10 (sym last.1 ∙ twice ∙ sym (append_assoc front (10 ∷ []) (10 ∷ []))) in
+            omega (arith, same.1)
+      ],
     )
 
 pub left_settled : LeftoversAreSettled
 left_settled file text left listed whole is = elim (cases_Bool (stands_whole start len listed (file ++ left))) [
   | inl stands ↦
       let parts = whole_parts start len listed left (ap (λ (l : List ℕ). is_whole start len listed l) (sym seam) ∙ stands) in
-      elim (same_or_torn start (entry_of text) left is parts.0) [
+      elim (same_or_broken start (entry_of text) left is parts.0) [
         | inl same ↦ inl (stands, settles_whole start len listed (file ++ left) stands, same)
-        | inr broken ↦ elim broken [
-          | inl torn ↦ absurd (parts.1 torn)
-          | inr last ↦ absurd (parts.2 last)
-        ]
+        | inr broken ↦ absurd (parts.1 broken)
       ]
   | inr fails ↦ inr (
     fails,

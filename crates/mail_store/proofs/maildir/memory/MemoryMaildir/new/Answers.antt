@@ -3,12 +3,6 @@ use Rattle.mail_store.specs.Maildir.{all_there, file_of}
 use Rattle.mail_store.specs.MemoryMaildir.{TwoFolders, count, merged, shown}
 use Rattle.mail_store.proofs.maildir.memory.MemoryMaildir.new.Goals as goal
 
-pub invariant_of-result : goal.invariant_of-result
-invariant_of-result c = (
-  ap (count true) c.new-3.ensures.items ∙ sym (ap length c.new.ensures.items),
-  ap (count false) c.new-3.ensures.items ∙ sym (ap length c.new-2.ensures.items),
-)
-
 -- what is known of a device with these fields
 kept_of : List Bool → List (String Global × Vec ℕ Global) → List (String Global × Vec ℕ Global) → ℕ → TwoFolders
 kept_of flags new cur failures = record {
