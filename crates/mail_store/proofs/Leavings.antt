@@ -17,16 +17,6 @@ begins_longer bytes was left begins (inr (some, behind, is, longer)) = (
   longer ∙ ap (λ (l : List ℕ). Some (l ++ behind)) (same_Some some (bytes ++ begins.0) (sym is ∙ begins.1)) ∙ ap Some (append_assoc bytes begins.0 behind),
 )
 
-pub longer_on : (a b c : Option (List ℕ)) → IsLonger a b → IsLonger b c → IsLonger a c
-longer_on a b c (inl same) on = subst (λ (o : Option (List ℕ)). IsLonger o c) same on
-longer_on a b c (inr (bytes, behind, was, is)) (inl same) = inr (bytes, behind, was, same ∙ is)
-longer_on a b c (inr (bytes, behind, was, is)) (inr (more, last, was', is')) = inr (
-  bytes,
-  behind ++ last,
-  was,
-  is' ∙ ap (λ (l : List ℕ). Some (l ++ last)) (same_Some more (bytes ++ behind) (sym was' ∙ is)) ∙ ap Some (append_assoc bytes behind last),
-)
-
 pub longer_keeps : (m m' : Option (List ℕ) → Type 0) → LeavesLonger m m' → KeepsBytes m m'
 longer_keeps m m' longer = λ bytes held left may. let was = longer left may in begins_longer bytes was.0 left (held was.0 was.1) was.2
 

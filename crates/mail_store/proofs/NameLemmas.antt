@@ -3,7 +3,6 @@ use Rattle.std.proofs.Common.{◌≡◌, ℕ, zero, suc, ◌/◌, ◌%◌, ◌^�
 use Rattle.std.specs.List.{AllPass, before_first, position_or_len}
 use Rattle.std.specs.Fmt.{decimal, digits, digits_onto, digit_glyph}
 use Rattle.std.proofs.lemmas.Fmt.{length-decimal-le}
-use Rattle.std.specs.Str.Pattern.{FindsTextPrefix, StripsPrefix}
 use Rattle.std.proofs.lemmas.Bool.{cases_lt, cond_both}
 use Rattle.std.proofs.lemmas.List.{append_cancel_left, take_all, get_or_past, length-append, append_assoc}
 use Rattle.std.proofs.lemmas.List.Elements.{All-nil, All-cons, All-append, All-from_recursion}
@@ -216,13 +215,6 @@ no_reading ranges e uid digits read legal same =
     let both : Ok uid ≡ Err e = sym (decode_of-legal ranges uid digits legal same) ∙ read in
     cc
 
--- a name put together from its parts
-pub put_together : (name stem front text digits account code : List ℕ) → name ≡ front ++ text → front ≡ stem ++ code → code ≡ 46 ∷ []
-    → stem ≡ account → text ≡ digits → name ≡ account ++ 46 ∷ digits
-put_together name stem front text digits account code n f s a t =
-    n ∙ ap (λ (xs : List ℕ). xs ++ text) (f ∙ ap (λ (xs : List ℕ). stem ++ xs) s ∙ ap (λ (xs : List ℕ). xs ++ 46 ∷ []) a)
-    ∙ append_assoc account (46 ∷ []) text ∙ ap (λ (xs : List ℕ). account ++ 46 ∷ xs) t
-
 -- a name in which no full stop follows the account's text is no file name of the account, and one
 -- in which it does has the digits after it
 pub digits_behind : (account name : List ℕ) (marked : List ℕ) (r : Option (Bor (List ℕ))) → name ≡ account ++ marked
@@ -230,13 +222,6 @@ pub digits_behind : (account name : List ℕ) (marked : List ℕ) (r : Option (B
     → MatchOption r ((digits : List ℕ) → name ≢ account ++ 46 ∷ digits) (λ digits. name ≡ account ++ 46 ∷ digits.now)
 digits_behind account name marked None e h = λ digits same. h digits (append_cancel_left account marked (46 ∷ digits) (sym e ∙ same))
 digits_behind account name marked (Some rest) e h = e ∙ ap (λ (xs : List ℕ). account ++ xs) h
-
--- what follows a front that was taken off a text
-pub text_after_is : (text front : List ℕ) (r : Option (Bor (List ℕ)))
-    → MatchOption r (FindsTextPrefix front text None) (λ rest. StripsPrefix (FindsTextPrefix front) text rest.now)
-    → MatchOption r ((rest : List ℕ) → text ≢ front ++ rest) (λ rest. text ≡ front ++ rest.now)
-text_after_is text front None h = h
-text_after_is text front (Some rest) h = h.1.1 ∙ ap (λ (xs : List ℕ). front ++ xs) (sym h.2)
 
 -- if no id has this text, no id has the stem that ends in it
 pub none_named : {E : Type 0} {B : Type 0} (account name digits : List ℕ) (r : Result (Option (Vec ℕ B)) E) → name ≡ account ++ 46 ∷ digits

@@ -1,8 +1,8 @@
 -- What a loss of power leaves of an entry, and what settling does to the file that it is in.
-use Rattle.std.proofs.Common.{get_or, ◌≡◌, ◌⊎◌, inl, inr, ℕ, suc, ◌+◌, ◌-◌, ◌<◌, ◌≤◌, ◌%◌, Bool, true, false, cond, ◌&&◌, ◌||◌, List, [], ◌∷◌, ◌++◌, length, take, drop, Option, Some, refl, sym, ap, subst, ◌∙◌, arith, length-append}
-use Rattle.std.specs.Prelude.{bytes_eq, HoldsAt, not, ◌==◌, nat_lt, nat_le, slice_index}
+use Rattle.std.proofs.Common.{get_or, ◌≡◌, ◌⊎◌, inl, inr, ℕ, suc, ◌+◌, ◌-◌, ◌<◌, ◌≤◌, ◌%◌, Bool, true, false, cond, ◌&&◌, List, [], ◌∷◌, ◌++◌, length, take, drop, Option, Some, refl, sym, ap, subst, ◌∙◌, arith, length-append}
+use Rattle.std.specs.Prelude.{bytes_eq, HoldsAt, not, ◌==◌, nat_lt, nat_le}
 use Rattle.std.specs.List.{list_all, AllByRecursion}
-use Rattle.std.proofs.lemmas.Bool.{and_parts, cases_Bool, cases_lt, or_cases, or_right, true≢false, lt-ltb, le-leb, eq-eqb}
+use Rattle.std.proofs.lemmas.Bool.{and_parts, cases_Bool, cases_lt, or_right, true≢false, lt-ltb, le-leb, eq-eqb}
 use Rattle.std.proofs.lemmas.Bool.Decides.{Decides-eqb, eqb_tells}
 use Rattle.std.proofs.Math.Bool.{and-false, or-true}
 use Rattle.std.proofs.Math.Logic.{⊎_map}
@@ -16,7 +16,7 @@ use Rattle.mail_store.specs.MboxScan.{IsApart}
 use Rattle.mail_store.specs.Settling.{block_size, is_lost, is_torn, MayBeLeft, begin_with, is_one_entry, ends_empty, is_ours, is_entry, listed_size, has_size, is_whole, stands_whole, settled_file, CountsWhole, IsCutOff, LeftoversAreSettled, FrontsAreSettled, WholeEntriesCount}
 use Rattle.mail_store.proofs.Leavings.{all_left, part_left}
 use Rattle.mail_store.proofs.OneEntry.{holds_needle, needle, needle_split, needle_there, one_entry_is}
-use Rattle.mail_store.proofs.MboxQuoting.{begins_with, unquotes_quoted}
+use Rattle.mail_store.proofs.MboxQuoting.{unquotes_quoted}
 use Rattle.mail_store.proofs.MboxGroups.{inner_apart, entry_bytes, entry_group, entry_lines, entry_is_group, group_ends}
 
 -- ---- blocks
@@ -38,10 +38,6 @@ lost_on place byte rest lost inside =
     let room : block_size - (place + 1) % block_size ≡ 511 - place % block_size = omega (arith, inside) in
     ap (λ (n : ℕ). list_all (λ b. b == 0) (take n rest)) room
     ∙ (and_parts (byte == 0) (list_all (λ b. b == 0) (take (511 - place % block_size) rest)) (sym (lost_step place byte rest) ∙ lost)).1
-
--- one byte further
-pub torn_step : (at k : ℕ) (bytes : List ℕ) → k < length bytes → is_torn at (drop k bytes) ≡ (((at + 1) % block_size == 0 && slice_index bytes k == 0) || is_torn (at + 1) (drop (k + 1) bytes))
-torn_step at k bytes within = let next : k + 1 ≡ suc k = omega arith in rw (next, drop-cons bytes k 0 within) refl
 
 -- the last byte is zero
 abbrev pub EndsInZero : List ℕ → Type 0

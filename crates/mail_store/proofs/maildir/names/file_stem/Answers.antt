@@ -1,7 +1,6 @@
-use Rattle.std.proofs.Common.{◌≡◌, ◌≤◌, ◌∙◌, ◌++◌, ℕ, List, length, string_bytes, sym, ap, subst, lit<, arith, rules, append_assoc}
-use Rattle.hex.specs.Hex.{encode_lower}
+use Rattle.std.proofs.Common.{◌≡◌, ◌≤◌, ◌∙◌, ℕ, List, length, string_bytes, sym, ap, subst, lit<, arith, rules, append_assoc}
 use Rattle.mail_store.specs.FileName.{longest_stem, stem_of}
-use Rattle.mail_store.proofs.NameLemmas.{length-stem_of, length-digits, put_together}
+use Rattle.mail_store.proofs.NameLemmas.{length-stem_of, length-digits}
 use Rattle.mail_store.proofs.maildir.names.file_stem.Goals as goal
 
 pub returns-clause-short : goal.returns-clause-short

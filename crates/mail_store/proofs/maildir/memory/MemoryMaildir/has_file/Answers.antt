@@ -1,4 +1,4 @@
-use Rattle.std.proofs.Common.{List, ℕ, map, sym, subst, inl, inr, String, Vec, Global, ◌⊎◌, IsTrue, Contains, Bool, ◌≡◌, ◌↔◌}
+use Rattle.std.proofs.Common.{List, ℕ, map, subst, inl, inr, String, Vec, Global, IsTrue, Contains, Bool, ◌≡◌, ◌↔◌}
 use Rattle.std.proofs.lemmas.Bool.{both_ways}
 use Rattle.mail_terms.specs.MaildirName.{base}
 use Rattle.mail_store.specs.Maildir.{IsThere, file_of, names_of}

@@ -1,6 +1,6 @@
-use Rattle.std.proofs.Common.{◌∙◌, List, [], Bool, true, false, map, None, length, String, Vec, Global, ℕ, ap, sym}
+use Rattle.std.proofs.Common.{◌∙◌, List, [], Bool, map, None, String, Vec, Global, ℕ, ap}
 use Rattle.mail_store.specs.Maildir.{all_there, file_of}
-use Rattle.mail_store.specs.MemoryMaildir.{TwoFolders, count, merged, shown}
+use Rattle.mail_store.specs.MemoryMaildir.{TwoFolders, merged, shown}
 use Rattle.mail_store.proofs.maildir.memory.MemoryMaildir.new.Goals as goal
 
 -- what is known of a device with these fields
