@@ -99,9 +99,6 @@ held_where_there account uid size maildir a c =
     ∙ list_any_at (names_id account uid) (names_of maildir.files) c.0 (base q) c.1
     (ap (names_id account uid) c.2 ∙ (bytes_eq-Decides (stem_of account uid) (stem (base q))).1 (sym (stem-base q ∙ stem-name_of account uid size a)))
 
-stem_eq : HaveRanges → (account a b : List ℕ) → IsLegalId a → IsLegalId b → bytes_eq (stem_of account b) (stem_of account a) ≡ bytes_eq b a
-stem_eq ranges account a b la lb = bytes_eq-made (stem_of account) b a (stem_of-injective ranges account b a lb la)
-
 -- a file that came under an id's name makes that id held, and no other
 pub held_with_file : HaveRanges → (account a b content : List ℕ) (maildir : Maildir) → IsAccountText account → IsLegalId a → IsLegalId b
     → is_held account (with_file maildir (mail_file account a content)) b ≡ (is_held account maildir b || bytes_eq b a)
@@ -109,7 +106,8 @@ held_with_file ranges account a b content maildir h la lb =
     let test : File → Bool = λ (f : File). names_id account b f.name in
     let f = mail_file account a content in
     let one : test f ≡ bytes_eq b a =
-    ap (bytes_eq (stem_of account b)) (stem-base (name_of account a (length content)) ∙ stem-name_of account a (length content) h) ∙ stem_eq ranges account a b la lb in
+    ap (bytes_eq (stem_of account b)) (stem-base (name_of account a (length content)) ∙ stem-name_of account a (length content) h)
+    ∙ bytes_eq-made (stem_of account) b a (stem_of-injective ranges account b a lb la) in
     list_any-append test maildir.files (f ∷ [])
     ∙ ap (λ e. list_any test maildir.files || (e || false)) one
     ∙ ap (λ e. list_any test maildir.files || e) (or-false (bytes_eq b a))

@@ -23,9 +23,6 @@ pub inner_lines : (lines : List (List ℕ)) → AllByRecursion IsInner lines →
 inner_lines [] all = tt
 inner_lines (line ∷ lines) all = (all.0.0, inner_lines lines all.1)
 
-pub ended_all : (lines : List (List ℕ)) → AllByRecursion IsLine lines → AllByRecursion IsLine (lines ++ (10 ∷ []) ∷ [])
-ended_all lines all = all_append IsLine lines ((10 ∷ []) ∷ []) all (empty_line, tt)
-
 pub group_joined : (group : Group) → joined (group_lines group) ≡ group_bytes group
 group_joined group = ap (λ (l : List ℕ). group.head ++ l) (sym (flat_map_more (λ (line : List ℕ). line) [] group.lines (10 ∷ [])))
 
@@ -33,7 +30,7 @@ group_joined group = ap (λ (l : List ℕ). group.head ++ l) (sym (flat_map_more
 pub group_first : (group : Group) (rest : List ℕ) → IsLine group.head → AllByRecursion IsLine group.lines
     → lines_of (group_bytes group ++ rest) ≡ group_lines group ++ lines_of rest
 group_first group rest head lines =
-    ap (λ (l : List ℕ). lines_of (l ++ rest)) (sym (group_joined group)) ∙ lines_kept (group_lines group) rest (head, ended_all group.lines lines)
+    ap (λ (l : List ℕ). lines_of (l ++ rest)) (sym (group_joined group)) ∙ lines_kept (group_lines group) rest (head, all_append IsLine group.lines ((10 ∷ []) ∷ []) lines (empty_line, tt))
 
 pub groups_lines : (groups : List Group) → AllByRecursion IsGroup groups → lines_of (flat_map group_bytes groups) ≡ flat_map group_lines groups
 groups_lines [] are = refl

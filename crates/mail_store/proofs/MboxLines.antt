@@ -113,12 +113,12 @@ lines_kept (line ∷ lines) rest all =
     ap lines_of (append_assoc line (joined lines) rest) ∙ line_first line (joined lines ++ rest) all.0
     ∙ ap (λ (ls : List (List ℕ)). line ∷ ls) (lines_kept lines rest all.1)
 
-more_first : (byte : ℕ) (line : List ℕ) → byte ≢ 10 → IsLine line → IsLine (byte ∷ line)
-more_first byte line other is = record { words = byte ∷ is.words; plain = (other, is.plain); ended = ap (λ (l : List ℕ). byte ∷ l) is.ended }
-
 all_onto_first : (byte : ℕ) (lines : List (List ℕ)) → byte ≢ 10 → lines ≢ [] → AllByRecursion IsLine lines → AllByRecursion IsLine (onto_first byte lines)
 all_onto_first byte [] other some all = absurd (some refl)
-all_onto_first byte (line ∷ lines) other some all = (more_first byte line other all.0, all.1)
+all_onto_first byte (line ∷ lines) other some all = (
+  record { words = byte ∷ all.0.words; plain = (other, all.0.plain); ended = ap (λ (l : List ℕ). byte ∷ l) all.0.ended },
+  all.1,
+)
 
 some_line : (front : List ℕ) → lines_of (front ++ 10 ∷ []) ≢ []
 some_line front e =

@@ -21,15 +21,19 @@ use Rattle.mail_store.specs.FileName.{is_comma, is_lower_hex_digit, longest_stem
 digit_passes : (k : ℕ) → k < 16 → is_lower_hex_digit (slice_index lower_digits k) ≡ true
 digit_passes k below = AllPass-from_list_all is_lower_hex_digit lower_digits refl k 0 below
 
+-- what the digits of each byte are, all of the hexadecimal text is
+hex_all : (P : ℕ → Type 0) (bytes : List ℕ)
+    → ((k : ℕ) → P (slice_index lower_digits (slice_index bytes k / 16)) × P (slice_index lower_digits (slice_index bytes k % 16))) → All P (encode_lower bytes)
+unfolding encode_with
+hex_all P [] h = All-nil P
+hex_all P (b ∷ rest) h =
+    All-cons P (slice_index lower_digits (b / 16)) (slice_index lower_digits (b % 16) ∷ encode_lower rest) (h 0).0
+    (All-cons P (slice_index lower_digits (b % 16)) (encode_lower rest) (h 0).1 (hex_all P rest (λ k. h (suc k))))
+
 -- the hexadecimal text of bytes has only lower-case digits
 pub digits_pass : (bytes : List ℕ) → IsBytes bytes → AllPass is_lower_hex_digit (encode_lower bytes)
-unfolding encode_with
-digits_pass [] h = All-nil (λ x. is_lower_hex_digit x ≡ true)
-digits_pass (b ∷ rest) h =
-    All-cons (λ x. is_lower_hex_digit x ≡ true) (slice_index lower_digits (b / 16)) (slice_index lower_digits (b % 16) ∷ encode_lower rest)
-    (digit_passes (b / 16) (omega (arith, h 0)))
-    (All-cons (λ x. is_lower_hex_digit x ≡ true) (slice_index lower_digits (b % 16)) (encode_lower rest)
-    (digit_passes (b % 16) (omega arith)) (digits_pass rest (λ k. h (suc k))))
+digits_pass bytes h = hex_all (λ x. is_lower_hex_digit x ≡ true) bytes
+    (λ k. (digit_passes (slice_index bytes k / 16) (omega (arith, h k)), digit_passes (slice_index bytes k % 16) (omega arith)))
 
 -- ---- no colons and no commas
 
@@ -50,13 +54,7 @@ table_is_plain k =
     ]
 
 digits_are_plain : (bytes : List ℕ) → All IsPlain (encode_lower bytes)
-unfolding encode_with
-digits_are_plain [] = All-nil IsPlain
-digits_are_plain (b ∷ rest) =
-    All-cons IsPlain (slice_index lower_digits (b / 16)) (slice_index lower_digits (b % 16) ∷ encode_lower rest)
-    (table_is_plain (b / 16))
-    (All-cons IsPlain (slice_index lower_digits (b % 16)) (encode_lower rest)
-    (table_is_plain (b % 16)) (digits_are_plain rest))
+digits_are_plain bytes = hex_all IsPlain bytes (λ k. (table_is_plain (slice_index bytes k / 16), table_is_plain (slice_index bytes k % 16)))
 
 -- a name in which no byte passes is whole before the first that does
 all_before : (p : ℕ → Bool) (name : List ℕ) → All (λ byte. p byte ≡ false) name → before_first p name ≡ name
