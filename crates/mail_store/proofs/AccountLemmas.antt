@@ -23,7 +23,8 @@ word_bytes n = (below _, (below _, (below _, (below _, tt))))
 digest_is_bytes : (h : List ℕ) (n : ℕ) → AreBytes (digest_bytes h n)
 unfolding digest_bytes
 digest_is_bytes h zero = tt
-digest_is_bytes h (suc n) = all_append (λ (x : ℕ). x < 256) (digest_bytes h n) (to_be_bytes w32 (slice_index h n)) (digest_is_bytes h n) (word_bytes (slice_index h n))
+digest_is_bytes h (suc n) = all_append (λ (x : ℕ). x < 256) (digest_bytes h n) (to_be_bytes w32 (slice_index h n)) (digest_is_bytes h n)
+    (word_bytes (slice_index h n))
 
 sha256_is_bytes : (m : List ℕ) → AreBytes (sha256 m)
 unfolding sha256

@@ -126,6 +126,11 @@ pub all_outlive : {A T : Type 0} (maildir : Maildir) (stems : List (String A)) (
     → ((f : File) → outlives f) → FlushedOutlive maildir stems r stays outlives
 all_outlive maildir stems (Ok done) stays outlives all = λ name there among here.
     let f = get_or maildir.files there.0 (file [] []) in
-    let inside : there.0 < length maildir.files = omega (arith, there.1, length-map maildir.files name_in) in
-    (f, Contains-get_or maildir.files there.0 (file [] []) inside, sym (get_or-map name_in maildir.files there.0 (file [] []) name inside) ∙ there.2, all f)
+    let inside : there.0 < length maildir.files = omega (arith, there.1, length-map maildir.files name_in) in (
+      f,
+      Contains-get_or maildir.files there.0 (file [] []) inside,
+      sym (get_or-map name_in maildir.files there.0 (file [] []) name inside)
+          ∙ there.2,
+      all f,
+    )
 all_outlive maildir stems (Err fault) stays outlives all = tt

@@ -97,7 +97,8 @@ held_where_there account uid size maildir a c =
     let q = name_of account uid size in
     sym (any_map (names_id account uid) name_in (λ f. names_id account uid f.name) maildir.files (λ f. refl))
     ∙ list_any_at (names_id account uid) (names_of maildir.files) c.0 (base q) c.1
-    (ap (names_id account uid) c.2 ∙ (bytes_eq-Decides (stem_of account uid) (stem (base q))).1 (sym (stem-base q ∙ stem-name_of account uid size a)))
+    (ap (names_id account uid) c.2
+    ∙ (bytes_eq-Decides (stem_of account uid) (stem (base q))).1 (sym (stem-base q ∙ stem-name_of account uid size a)))
 
 -- a file that came under an id's name makes that id held, and no other
 pub held_with_file : HaveRanges → (account a b content : List ℕ) (maildir : Maildir) → IsAccountText account → IsLegalId a → IsLegalId b

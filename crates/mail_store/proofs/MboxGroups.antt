@@ -30,7 +30,8 @@ group_joined group = ap (λ (l : List ℕ). group.head ++ l) (sym (flat_map_more
 pub group_first : (group : Group) (rest : List ℕ) → IsLine group.head → AllByRecursion IsLine group.lines
     → lines_of (group_bytes group ++ rest) ≡ group_lines group ++ lines_of rest
 group_first group rest head lines =
-    ap (λ (l : List ℕ). lines_of (l ++ rest)) (sym (group_joined group)) ∙ lines_kept (group_lines group) rest (head, all_append IsLine group.lines ((10 ∷ []) ∷ []) lines (empty_line, tt))
+    ap (λ (l : List ℕ). lines_of (l ++ rest)) (sym (group_joined group))
+    ∙ lines_kept (group_lines group) rest (head, all_append IsLine group.lines ((10 ∷ []) ∷ []) lines (empty_line, tt))
 
 pub groups_lines : (groups : List Group) → AllByRecursion IsGroup groups → lines_of (flat_map group_bytes groups) ≡ flat_map group_lines groups
 groups_lines [] are = refl
@@ -101,7 +102,8 @@ separator_head = (
   record {
     words = codes "From MAILER-DAEMON Thu Jan  1 00:00:00 1970";
     plain = recursion_from_All (λ byte. byte ≢ 10) (codes "From MAILER-DAEMON Thu Jan  1 00:00:00 1970")
-        (λ k d inside at. true≢false (sym (AllPass-from_list_all (λ byte. not (byte == 10)) (codes "From MAILER-DAEMON Thu Jan  1 00:00:00 1970") refl k d inside)
+        (λ k d inside at. true≢false
+        (sym (AllPass-from_list_all (λ byte. not (byte == 10)) (codes "From MAILER-DAEMON Thu Jan  1 00:00:00 1970") refl k d inside)
         ∙ ap (λ byte. not (byte == 10)) at));
     ended = refl;
   },

@@ -35,7 +35,8 @@ module _ {A : Type 0} (read : A → List ℕ) where
 pub names_read : {Z Y : Type 0} (pairs : List (String Z × Vec ℕ Y)) → names_of (map file_of pairs) ≡ map (λ p. string_bytes p.0) pairs
 names_read pairs = map-map name_in file_of pairs
 
-pub bases_read : {Z Y : Type 0} (pairs : List (String Z × Vec ℕ Y)) → names_of (map shown (map file_of pairs)) ≡ map (λ p. base (string_bytes p.0)) pairs
+pub bases_read : {Z Y : Type 0} (pairs : List (String Z × Vec ℕ Y))
+    → names_of (map shown (map file_of pairs)) ≡ map (λ p. base (string_bytes p.0)) pairs
 bases_read pairs = map-map name_in shown (map file_of pairs) ∙ map-map (λ f. base (name_in f)) file_of pairs
 
 -- a look-up finds a place exactly if a file has the name
@@ -44,7 +45,8 @@ pub found_iff : {Z Y : Type 0} (pairs : List (String Z × Vec ℕ Y)) (name : Li
     → IfNone place (Contains (names_of (map file_of pairs)) name → ⊥)
     → IsTrue b ↔ Contains (names_of (map file_of pairs)) name
 found_iff pairs name (Some i) b e some none = (
-  λ _. subst (λ (names : List (List ℕ)). Contains names name) (sym (names_read pairs)) (is_read (λ p. string_bytes p.0) pairs name i some.0 some.1),
+  λ _. subst (λ (names : List (List ℕ)). Contains names name) (sym (names_read pairs))
+      (is_read (λ p. string_bytes p.0) pairs name i some.0 some.1),
   λ _. e,
 )
 found_iff pairs name None b e some none = (λ t. absurd (both_ways b e t), λ h. absurd (none h))
@@ -176,7 +178,8 @@ module _ {Z Y : Type 0} where
       get_or-map file_of pairs i p d inside ∙ ap file_of (sym at) ∙ ap (λ (n : List ℕ). file n p.1.items) (ap (λ (q : String Z × Vec ℕ Y). string_bytes q.0) at ∙ named p)
 
   -- a file went from `new` to `cur`
-  pub taken_to_cur : (flags : List Bool) (new cur : List (String Z × Vec ℕ Y)) (place i : ℕ) (found made : String Z × Vec ℕ Y) (name moved : List ℕ)
+  pub taken_to_cur : (flags : List Bool) (new cur : List (String Z × Vec ℕ Y)) (place i : ℕ) (found made : String Z × Vec ℕ Y)
+      (name moved : List ℕ)
       → Fit flags new cur → i < length new → HoldsAt (λ p. string_bytes p.0 ≡ name) new i → found ≡ get_or new i found
       → place < length flags → HoldsAt (λ b. b ≡ true) flags place → count true (take place flags) ≡ i
       → string_bytes made.0 ≡ moved → made.1.items ≡ found.1.items → base moved ≡ base name
@@ -202,7 +205,8 @@ module _ {Z Y : Type 0} where
       let longer = length-insert cur (place - i) made (omega (arith, others, room, fit.1)) in (
         ap (λ (fs : List File). map shown (merged (set flags place false) fs (map file_of (insert cur (place - i) made))))
             (map_remove file_of new i ∙ ap (remove (map file_of new)) (sym counted))
-            ∙ ap (λ (fs : List File). map shown (merged (set flags place false) (remove (map file_of new) (count true (take place flags))) fs))
+            ∙ ap
+            (λ (fs : List File). map shown (merged (set flags place false) (remove (map file_of new) (count true (take place flags))) fs))
             (cur_is ∙ ap (λ (k : ℕ). insert (map file_of cur) k g) others)
             ∙ went,
         record {
@@ -277,10 +281,11 @@ pub shown_iff : {Z Y : Type 0} (files : List File) (new cur : List (String Z × 
     → IsPermutation files (map shown (map file_of new ++ map file_of cur))
     → (Contains (names_of (map shown (map file_of new))) front ⊎ Contains (names_of (map shown (map file_of cur))) front) ↔ Contains (names_of files) front
 shown_iff files new cur front both = (
-  λ either. Contains-permutation (in_new ++ in_cur) (names_of files) front (IsPermutation-sym (names_of files) (in_new ++ in_cur) all) (elim either [
-    | inl c ↦ Contains-append_left in_new in_cur front c
-    | inr c ↦ Contains-append_right in_new in_cur front c
-  ]),
+  λ either. Contains-permutation (in_new ++ in_cur) (names_of files) front (IsPermutation-sym (names_of files) (in_new ++ in_cur) all)
+      (elim either [
+        | inl c ↦ Contains-append_left in_new in_cur front c
+        | inr c ↦ Contains-append_right in_new in_cur front c
+      ]),
   λ there. Contains-append_cases in_new in_cur front (Contains-permutation (names_of files) (in_new ++ in_cur) front all there),
 )
   where
@@ -292,7 +297,8 @@ shown_iff files new cur front both = (
 
     all : IsPermutation (names_of files) (in_new ++ in_cur)
     all = subst (IsPermutation (names_of files))
-        (ap names_of (map-append shown (map file_of new) (map file_of cur)) ∙ map-append name_in (map shown (map file_of new)) (map shown (map file_of cur)))
+        (ap names_of (map-append shown (map file_of new) (map file_of cur))
+        ∙ map-append name_in (map shown (map file_of new)) (map shown (map file_of cur)))
         (IsPermutation-map name_in files (map shown (map file_of new ++ map file_of cur)) both)
 
 -- what a device in memory is after a file came

@@ -23,7 +23,8 @@ digit_passes k below = AllPass-from_list_all is_lower_hex_digit lower_digits ref
 
 -- what the digits of each byte are, all of the hexadecimal text is
 hex_all : (P : ℕ → Type 0) (bytes : List ℕ)
-    → ((k : ℕ) → P (slice_index lower_digits (slice_index bytes k / 16)) × P (slice_index lower_digits (slice_index bytes k % 16))) → All P (encode_lower bytes)
+    → ((k : ℕ) → P (slice_index lower_digits (slice_index bytes k / 16)) × P (slice_index lower_digits (slice_index bytes k % 16)))
+    → All P (encode_lower bytes)
 unfolding encode_with
 hex_all P [] h = All-nil P
 hex_all P (b ∷ rest) h =
@@ -84,7 +85,8 @@ onto_has_no_colon : (k n : ℕ) (acc : List ℕ) → All (λ byte. is_colon byte
 onto_has_no_colon zero n acc h = h
 onto_has_no_colon (suc k) n acc h =
     let more = All-cons (λ byte. is_colon byte ≡ false) (digit_glyph false (n % 10)) acc (glyph_is_no_colon (n % 10) (omega arith)) h in
-    cond_both (n / 10 == 0) _ _ (All (λ byte. is_colon byte ≡ false)) (λ _. more) (λ _. onto_has_no_colon k (n / 10) (digit_glyph false (n % 10) ∷ acc) more)
+    cond_both (n / 10 == 0) _ _ (All (λ byte. is_colon byte ≡ false)) (λ _. more)
+    (λ _. onto_has_no_colon k (n / 10) (digit_glyph false (n % 10) ∷ acc) more)
 
 decimal_has_no_colon : (n : ℕ) → All (λ byte. is_colon byte ≡ false) (decimal n)
 unfolding digits

@@ -49,7 +49,8 @@ Breaks place bytes = (is_torn place bytes ≡ true) ⊎ EndsInZero bytes
 
 breaks_later : (place byte : ℕ) (bytes : List ℕ) → Breaks (place + 1) bytes → Breaks place (byte ∷ bytes)
 breaks_later place byte bytes =
-    ⊎_map (or_right ((place + 1) % block_size == 0 && byte == 0) (is_torn (place + 1) bytes)) (λ last. (byte ∷ last.0, ap (λ (l : List ℕ). byte ∷ l) last.1))
+    ⊎_map (or_right ((place + 1) % block_size == 0 && byte == 0) (is_torn (place + 1) bytes))
+    (λ last. (byte ∷ last.0, ap (λ (l : List ℕ). byte ∷ l) last.1))
 
 lost_breaks : (place byte : ℕ) (rest : List ℕ) → is_lost place (byte ∷ rest) ≡ true → Breaks place (byte ∷ rest)
 lost_breaks place byte [] lost = inr ([], ap (λ (b : ℕ). b ∷ []) (zero_lost place byte [] lost))
@@ -65,7 +66,8 @@ left_short place words [] is = omega arith
 left_short place [] (byte ∷ left) is = absurd is
 left_short place (word ∷ words) (byte ∷ left) is = let less = left_short (place + 1) words left is.1 in omega (arith, less)
 
-same_or_broken : (place : ℕ) (words left : List ℕ) → MayBeLeft place words left → length left ≡ length words → (left ≡ words) ⊎ Breaks place left
+same_or_broken : (place : ℕ) (words left : List ℕ) → MayBeLeft place words left → length left ≡ length words
+    → (left ≡ words) ⊎ Breaks place left
 same_or_broken place [] [] is size = inl refl
 same_or_broken place (word ∷ words) [] is size = absurd (omega (arith, size))
 same_or_broken place [] (byte ∷ left) is size = absurd is
@@ -217,7 +219,8 @@ left_settled file text left listed whole is = elim (cases_Bool (stands_whole sta
 
 pub fronts_settled : FrontsAreSettled
 fronts_settled file text front rest listed whole e =
-    left_settled file text front listed whole (subst (λ (l : List ℕ). MayBeLeft (length file) l front) (sym e) (part_left (length file) front rest front (all_left (length file) front)))
+    left_settled file text front listed whole (subst (λ (l : List ℕ). MayBeLeft (length file) l front) (sym e)
+    (part_left (length file) front rest front (all_left (length file) front)))
 
 -- an entry has its text
 entry_text : (text : List ℕ) → IsWhole text → text_in (entry_of text) ≡ text
@@ -274,11 +277,13 @@ no_item : Item
 no_item = record { uid = []; size = 0 }
 
 -- what the message at this place tells
-listed_at : (items : List Item) (i : ℕ) (uid id : List ℕ) (same : Bool) → listed_size (drop i items) uid ≡ listed_size items uid → i < length items
+listed_at : (items : List Item) (i : ℕ) (uid id : List ℕ) (same : Bool) → listed_size (drop i items) uid ≡ listed_size items uid
+    → i < length items
     → HoldsAt (λ (item : Item). id ≡ item.uid) items i → same ≡ bytes_eq id uid
     → cond same (Some (get_or items i no_item).size) (listed_size (drop (suc i) items) uid) ≡ listed_size items uid
 listed_at items i uid id same was within at is =
-    ap (λ (b : Bool). cond b (Some (get_or items i no_item).size) (listed_size (drop (suc i) items) uid)) (is ∙ ap (λ (b : List ℕ). bytes_eq b uid) (at no_item))
+    ap (λ (b : Bool). cond b (Some (get_or items i no_item).size) (listed_size (drop (suc i) items) uid))
+    (is ∙ ap (λ (b : List ℕ). bytes_eq b uid) (at no_item))
     ∙ ap (λ (l : List Item). listed_size l uid) (sym (drop-cons items i no_item within)) ∙ was
 
 -- this message has another id

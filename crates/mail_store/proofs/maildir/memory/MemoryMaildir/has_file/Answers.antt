@@ -14,7 +14,8 @@ Has pairs front = Contains (names_of (map shown (map file_of pairs))) front
 told : (r : Bool) {given pairs : List (String Global × Vec ℕ Global)} {front name : List ℕ} → given ≡ pairs → front ≡ name
     → IsTrue r ↔ Has given front → IsTrue r ↔ Has pairs name
 told r {given} {pairs} {front} {name} are is tells =
-    subst (λ (n : List ℕ). IsTrue r ↔ Has pairs n) is (subst (λ (ps : List (String Global × Vec ℕ Global)). IsTrue r ↔ Has ps front) are tells)
+    subst (λ (n : List ℕ). IsTrue r ↔ Has pairs n) is
+    (subst (λ (ps : List (String Global × Vec ℕ Global)). IsTrue r ↔ Has ps front) are tells)
 
 pub returns-then-has_base : goal.returns-then-has_base
 returns-then-has_base c =
@@ -29,7 +30,8 @@ returns-else-has_base c =
     let either = shown_iff _ c.self.inside.in_new.items c.self.inside.in_cur.items (base c.args.name.now)
     (shown_all c.self.inside.are_new.items c.self.inside.in_new.items c.self.inside.in_cur.items c.self.invariant) in
     let new = told c.has_base.result c.deref.ensures.value c.base-front.ensures c.has_base.ensures in
-    let cur = told c.has_base-else-has_base.result c.deref-else-has_base.ensures.value c.base-front.ensures c.has_base-else-has_base.ensures in
+    let looked = c.has_base-else-has_base in
+    let cur = told looked.result c.deref-else-has_base.ensures.value c.base-front.ensures looked.ensures in
     subst (λ (kept : TwoFolders). (IsTrue c.has_base-else-has_base.result → IsThere kept.maildir c.args.name.now)
     × (IsThere kept.maildir c.args.name.now → IsTrue c.has_base-else-has_base.result)) c.self.view_is (
       λ t. either.0 (inr (cur.0 t)),
