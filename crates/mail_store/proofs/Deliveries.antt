@@ -14,18 +14,9 @@ delivered old m new title name bytes (Err Refused) e fault s =
       | inl h ↦ inl (h ∙ ap (λ (d : Maildir). counted (dropped d)) e)
       | inr h ↦ inr (h ∙ ap (λ (d : Maildir). counted (with_file d (mail name bytes))) e)
     ]
-delivered old m new title name bytes (Err Missing) e fault s = absurd (missing_is_not_refused fault)
-  where
-    missing_is_not_refused : Missing ≡ Refused → ⊥
-    missing_is_not_refused h = cc
-delivered old m new title name bytes (Err NotMbox) e fault s = absurd (not_mbox_is_not_refused fault)
-  where
-    not_mbox_is_not_refused : NotMbox ≡ Refused → ⊥
-    not_mbox_is_not_refused h = cc
-delivered old m new title name bytes (Err NoMemory) e fault s = absurd (no_memory_is_not_refused fault)
-  where
-    no_memory_is_not_refused : NoMemory ≡ Refused → ⊥
-    no_memory_is_not_refused h = cc
+delivered old m new title name bytes (Err Missing) e fault s = absurd (cc fault)
+delivered old m new title name bytes (Err NotMbox) e fault s = absurd (cc fault)
+delivered old m new title name bytes (Err NoMemory) e fault s = absurd (cc fault)
 
 -- after a good `begin` and a good `add` of the bytes, the file begun has these bytes
 pub written : (old m new : Maildir) (name bytes : List ℕ) → m ≡ record old { begun = Some (file name []) }

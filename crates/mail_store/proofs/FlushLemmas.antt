@@ -1,18 +1,22 @@
 -- Which stems are flushed, and what of the files outlives a loss of power then.
-use Rattle.std.proofs.Common.{◌≡◌, ℕ, zero, suc, ◌+◌, ◌<◌, Bool, true, false, List, [], ◌∷◌, ◌++◌, get_or, length, Result, Ok, Err, inl, inr, refl, sym, ap, subst, ◌∙◌, arith, String, string_bytes, ◌||◌, bytes_eq, Contains, HoldsAt}
+use Rattle.std.proofs.Common.{◌≡◌, ℕ, suc, ◌+◌, ◌<◌, Bool, true, false, List, [], ◌∷◌, ◌++◌, get_or, length, Result, Ok, Err, inl, inr, refl, sym, ap, subst, ◌∙◌, arith, String, string_bytes, ◌||◌, bytes_eq, Contains, HoldsAt}
 use Rattle.std.specs.Prelude.{◌⊎◌, ◌==◌}
 use Rattle.std.specs.List.{list_any}
+use Rattle.std.proofs.Math.Logic.{⊎_map}
 use Rattle.std.proofs.Math.Bool.{or-true}
 use Rattle.std.proofs.Math.Nat.{eq-or-lt_of_le}
-use Rattle.std.proofs.lemmas.Bool.{cases_Bool, true≢false}
+use Rattle.std.proofs.lemmas.Bool.{true≢false}
 use Rattle.std.proofs.lemmas.Bool.Decides.{Decides-eqb}
-use Rattle.std.proofs.lemmas.List.Folds.{list_any-append}
+use Rattle.std.proofs.lemmas.List.{length-map, get_or-map}
+use Rattle.std.proofs.lemmas.List.Elements.{Contains-get_or}
+use Rattle.std.proofs.lemmas.List.Folds.{Any-from_list_any, list_any-append}
 use Rattle.std.proofs.lemmas.Slice.Eq.{bytes_eq-Decides}
 use Rattle.mail_terms.specs.Listing.{Item}
 use Rattle.mail_store.specs.declared.fault.StoreFault.{StoreFault}
-use Rattle.mail_store.specs.Maildir.{Maildir, File, names_of}
+use Rattle.mail_store.specs.Maildir.{Maildir, File, file, name_in, names_of}
 use Rattle.mail_store.specs.FileName.{is_held, names_id, stem, stem_of}
 use Rattle.mail_store.specs.Held.{FoundOutlive, HasLasting, HasStems, flags_of}
+use Rattle.mail_store.proofs.MoveLemmas.{Contains-map}
 use Rattle.mail_store.specs.Power.{AllStay, FlushedOutlive, KeepsLeft, KeepsMail, is_among}
 
 -- ---- the stems
@@ -60,19 +64,9 @@ not_set flags i d clear set = true≢false (sym (set d) ∙ clear)
 -- one of the names is the id's
 held_name : (account uid : List ℕ) (files : List File) → list_any (λ (f : File). names_id account uid f.name) files ≡ true
     → (name : List ℕ) × Contains (names_of files) name × (names_id account uid name ≡ true)
-held_name account uid [] held = absurd (cc held)
-held_name account uid (f ∷ files) held = by (cases_Bool (names_id account uid f.name)) (held_name account uid files)
-  where
-    Named : List File → Type 0
-    Named fs = (name : List ℕ) × Contains (names_of fs) name × (names_id account uid name ≡ true)
-
-    by : (names_id account uid f.name ≡ true) ⊎ (names_id account uid f.name ≡ false)
-        → (list_any (λ (g : File). names_id account uid g.name) files ≡ true → Named files) → Named (f ∷ files)
-    by (inl is) more = (f.name, (0, omega arith, refl), is)
-    by (inr isnt) more = put (more (sym (ap (λ (b : Bool). b || list_any (λ (g : File). names_id account uid g.name) files) isnt) ∙ held))
-      where
-        put : Named files → Named (f ∷ files)
-        put (name, (k, below, at), is) = (name, (suc k, omega (arith, below), at), is)
+held_name account uid files held =
+    let f = Any-from_list_any (λ (f : File). names_id account uid f.name) files held in
+    (f.1.name, Contains-map name_in files f.1 (f.0, f.2, f.3), f.4)
 
 -- the files of these stems were flushed, so that of each id whose stem is among them a file outlives a loss of power
 pub flushed_lasts : {A : Type 0} (account : List ℕ) (maildir : Maildir) (stems : List (String A)) (stays : List ℕ → Type 0) (outlives : File → Type 0)
@@ -115,14 +109,8 @@ pub after_flush : {A : Type 0} (account : List ℕ) (old mid new : Maildir) (ste
     → KeepsLeft old.files new.files stays outlives stays'' outlives'' × (AllStay new stays'' × FoundOutlive account new outlives'' items flags)
 after_flush account old mid new stems stays stays' stays'' outlives outlives' outlives'' items held flags left all is has same keeps flushed = rw same (
   (
-    λ name s. elim (left.0 name s) [
-      | inl stayed ↦ inl (keeps.0 name stayed)
-      | inr took ↦ inr took
-    ],
-    λ f o. elim (left.1 f o) [
-      | inl outlived ↦ inl (keeps.1 f outlived)
-      | inr took ↦ inr took
-    ],
+    λ name s. ⊎_map (keeps.0 name) (λ took. took) (left.0 name s),
+    λ f o. ⊎_map (keeps.1 f) (λ took. took) (left.1 f o),
   ),
   (
     λ name there. keeps.0 name (all name there),
@@ -133,22 +121,16 @@ after_flush account old mid new stems stays stays' stays'' outlives outlives' ou
 
 -- ---- a device in memory
 
--- a file has the name
-named_file : (files : List File) (name : List ℕ) → Contains (names_of files) name → (f : File) × Contains files f × (f.name ≡ name)
-named_file [] name c = absurd (omega (arith, c.1))
-named_file (f ∷ files) name c = by (named_file files name) c.0 c.1 c.2
-  where
-    by : (Contains (names_of files) name → (g : File) × Contains files g × (g.name ≡ name)) → (k : ℕ) → k < length (names_of (f ∷ files))
-        → get_or (names_of (f ∷ files)) k name ≡ name → (g : File) × Contains (f ∷ files) g × (g.name ≡ name)
-    by later zero below is = (f, (0, omega arith, refl), is)
-    by later (suc k) below is =
-        let there = later (k, omega (arith, below), is) in
-        (there.0, (suc there.1.0, (let inside = there.1.1 in omega (arith, inside)), there.1.2), there.2)
-
 -- all files outlive a loss of power
 pub all_outlive : {A T : Type 0} (maildir : Maildir) (stems : List (String A)) (r : Result T StoreFault) (stays : List ℕ → Type 0) (outlives : File → Type 0)
     → ((f : File) → outlives f) → FlushedOutlive maildir stems r stays outlives
 all_outlive maildir stems (Ok done) stays outlives all = λ name there among here.
-    let file = named_file maildir.files name there in
-    (file.0, file.1, file.2, all file.0)
+    let f = get_or maildir.files there.0 (file [] []) in
+    let inside : there.0 < length maildir.files = omega (arith, there.1, length-map maildir.files name_in) in (
+      f,
+      Contains-get_or maildir.files there.0 (file [] []) inside,
+      sym (get_or-map name_in maildir.files there.0 (file [] []) name inside)
+          ∙ there.2,
+      all f,
+    )
 all_outlive maildir stems (Err fault) stays outlives all = tt

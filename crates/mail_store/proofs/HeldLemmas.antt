@@ -1,17 +1,17 @@
 -- What a set of stems says about the files whose names it came from.
-use Rattle.std.proofs.Common.{◌≡◌, ℕ, ◌+◌, ◌<◌, Bool, true, false, cond, List, [], ◌∷◌, ◌++◌, length, take, get_or, map, refl, sym, ap, ◌∙◌, arith, subst, Ok, Vec, String, string_bytes, ◌||◌, ◌&&◌, bytes_eq, Contains, IsPermutation, HoldsAt}
+use Rattle.std.proofs.Common.{◌≡◌, ℕ, ◌+◌, ◌<◌, Bool, true, false, cond, List, [], ◌∷◌, ◌++◌, length, take, get_or, map, refl, sym, ap, ◌∙◌, subst, Ok, Vec, String, string_bytes, ◌||◌, ◌&&◌, bytes_eq, Contains, IsPermutation, HoldsAt}
 use Rattle.std.specs.List.{list_any}
 use Rattle.std.proofs.lemmas.Cmp.{nat_list_eq_equiv}
 use Rattle.std.proofs.lemmas.Bool.Decides.{same_from_decides}
 use Rattle.std.proofs.Math.Bool.{and_comm, and-false, or_assoc, or-false, or-true}
-use Rattle.std.proofs.lemmas.List.{append_cancel_left, take_more, map-append, length-map, get_or-map}
+use Rattle.std.proofs.lemmas.List.{append_cancel_left, take_more, map-append}
 use Rattle.std.proofs.lemmas.List.Folds.{list_any-append, list_any_at}
 use Rattle.std.proofs.lemmas.List.Sorted.{Contains-permutation, list_any-IsPermutation}
 use Rattle.std.proofs.lemmas.Slice.Eq.{bytes_eq-Decides}
 use Rattle.mail_terms.specs.Listing.{Item, has_item, is_flagged}
 use Rattle.mail_terms.specs.UniqueId.{IsLegalId}
 use Rattle.mail_terms.specs.MaildirName.{base}
-use Rattle.mail_store.specs.Maildir.{Maildir, File, ListsAll, file, bases_told, name_in, names_of, IsThere, with_file}
+use Rattle.mail_store.specs.Maildir.{Maildir, File, ListsAll, bases_told, name_in, names_of, IsThere, with_file}
 use Rattle.mail_store.specs.FileName.{mail_file, name_of, stem, stem_of, names_id, is_held, IsAccountText}
 use Rattle.hex.specs.Hex.{encode_lower}
 use Rattle.mail_store.proofs.NameLemmas.{HaveRanges, stem-base, stem-name_of, stem_of-injective}
@@ -62,25 +62,14 @@ flags_more f items i flags new uid flag before inside at is pushed =
 
 -- ---- all names and all items
 
-any_map : {A B : Type 0} (test : B → Bool) (f : A → B) (xs : List A) → list_any test (map f xs) ≡ list_any (λ x. test (f x)) xs
-any_map test f [] = refl
-any_map test f (x ∷ xs) = ap (λ b. test (f x) || b) (any_map test f xs)
+any_map : {A B : Type 0} (test : B → Bool) (f : A → B) (g : A → Bool) (xs : List A) → ((x : A) → test (f x) ≡ g x)
+    → list_any test (map f xs) ≡ list_any g xs
+any_map test f g [] same = refl
+any_map test f g (x ∷ xs) same = ap (λ b. b || list_any test (map f xs)) (same x) ∙ ap (λ b. g x || b) (any_map test f g xs same)
 
 map_same : {A B : Type 0} (f g : A → B) (xs : List A) → ((x : A) → f x ≡ g x) → map f xs ≡ map g xs
 map_same f g [] same = refl
 map_same f g (x ∷ xs) same = ap (λ y. y ∷ map f xs) (same x) ∙ ap (λ ys. g x ∷ ys) (map_same f g xs same)
-
--- a name that a device told passes a test of its base exactly if one of its files' names does
-names_tell : {Z : Type 0} (test : List ℕ → Bool) (files : List File) (names : List (String Z))
-    → IsPermutation (names_of files) (bases_told names)
-    → list_any (λ name. test (base (string_bytes name))) names ≡ list_any (λ (f : File). test f.name) files
-names_tell test files names p =
-    sym (any_map test (λ name. base (string_bytes name)) names) ∙ sym (list_any-IsPermutation test (names_of files) (bases_told names) p)
-    ∙ any_map test name_in files
-
-any_same : {A : Type 0} (f g : A → Bool) (xs : List A) → ((x : A) → f x ≡ g x) → list_any f xs ≡ list_any g xs
-any_same f g [] same = refl
-any_same f g (x ∷ xs) same = ap (λ b. b || list_any f xs) (same x) ∙ ap (λ b. g x || b) (any_same f g xs same)
 
 -- the digits in the stems of the names show which items are held
 pub flags_found : {Z : Type 0} (account : List ℕ) (maildir : Maildir) (items : List Item) (flags : List Bool) (found : List ℕ → Bool)
@@ -94,9 +83,10 @@ flags_found account maildir items flags found names texts told flagged =
     held uid =
         let test : List ℕ → Bool = λ name. bytes_eq (stem_of account uid) (stem name) in
         texts (encode_lower uid)
-        ∙ any_same (λ name. test (string_bytes name)) (λ name. test (base (string_bytes name))) names
-        (λ name. ap (bytes_eq (stem_of account uid)) (sym (stem-base (string_bytes name))))
-        ∙ names_tell test maildir.files names told
+        ∙ sym (any_map test (λ name. base (string_bytes name)) (λ name. test (string_bytes name)) names
+        (λ name. ap (bytes_eq (stem_of account uid)) (stem-base (string_bytes name))))
+        ∙ sym (list_any-IsPermutation test (names_of maildir.files) (bases_told names) told)
+        ∙ any_map test name_in (λ f. test f.name) maildir.files (λ f. refl)
 
 -- ---- names that are there
 
@@ -105,16 +95,10 @@ pub held_where_there : (account uid : List ℕ) (size : ℕ) (maildir : Maildir)
     → is_held account maildir uid ≡ true
 held_where_there account uid size maildir a c =
     let q = name_of account uid size in
-    let test : File → Bool = λ f. names_id account uid f.name in
-    let nothing : File = file [] [] in
-    let inside : c.0 < length maildir.files = omega (arith, c.1, length-map maildir.files name_in) in
-    let named : (get_or maildir.files c.0 nothing).name ≡ base q = sym (get_or-map name_in maildir.files c.0 nothing (base q) inside) ∙ c.2 in
-    let found : test (get_or maildir.files c.0 nothing) ≡ true =
-    ap (names_id account uid) named ∙ (bytes_eq-Decides (stem_of account uid) (stem (base q))).1 (sym (stem-base q ∙ stem-name_of account uid size a)) in
-    list_any_at test maildir.files c.0 nothing inside found
-
-stem_eq : HaveRanges → (account a b : List ℕ) → IsLegalId a → IsLegalId b → bytes_eq (stem_of account b) (stem_of account a) ≡ bytes_eq b a
-stem_eq ranges account a b la lb = bytes_eq-made (stem_of account) b a (stem_of-injective ranges account b a lb la)
+    sym (any_map (names_id account uid) name_in (λ f. names_id account uid f.name) maildir.files (λ f. refl))
+    ∙ list_any_at (names_id account uid) (names_of maildir.files) c.0 (base q) c.1
+    (ap (names_id account uid) c.2
+    ∙ (bytes_eq-Decides (stem_of account uid) (stem (base q))).1 (sym (stem-base q ∙ stem-name_of account uid size a)))
 
 -- a file that came under an id's name makes that id held, and no other
 pub held_with_file : HaveRanges → (account a b content : List ℕ) (maildir : Maildir) → IsAccountText account → IsLegalId a → IsLegalId b
@@ -123,7 +107,8 @@ held_with_file ranges account a b content maildir h la lb =
     let test : File → Bool = λ (f : File). names_id account b f.name in
     let f = mail_file account a content in
     let one : test f ≡ bytes_eq b a =
-    ap (bytes_eq (stem_of account b)) (stem-base (name_of account a (length content)) ∙ stem-name_of account a (length content) h) ∙ stem_eq ranges account a b la lb in
+    ap (bytes_eq (stem_of account b)) (stem-base (name_of account a (length content)) ∙ stem-name_of account a (length content) h)
+    ∙ bytes_eq-made (stem_of account) b a (stem_of-injective ranges account b a lb la) in
     list_any-append test maildir.files (f ∷ [])
     ∙ ap (λ e. list_any test maildir.files || (e || false)) one
     ∙ ap (λ e. list_any test maildir.files || e) (or-false (bytes_eq b a))

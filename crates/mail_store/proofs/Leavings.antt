@@ -2,7 +2,7 @@
 use Rattle.std.proofs.Common.{◌≡◌, inl, inr, ℕ, ◌+◌, List, [], ◌∷◌, ◌++◌, length, take, Option, Some, option_map, refl, sym, ap, subst, ◌∙◌, append_assoc, append-nil}
 use Rattle.std.proofs.lemmas.Option.{same_Some}
 use Rattle.std.proofs.Math.Seq.{take-append_seam}
-use Rattle.mail_store.specs.Power.{IsLonger, LastsWhole, LeavesFronts, LeavesLonger, LeavesNoMore, LeavesPart, Outlives, KeepsBytes}
+use Rattle.mail_store.specs.Power.{IsLonger, LastsWhole, LeavesFronts, LeavesLonger, LeavesPart, Outlives, KeepsBytes}
 use Rattle.mail_store.specs.Settling.{MayBeLeft}
 
 -- what begins with these bytes
@@ -17,30 +17,8 @@ begins_longer bytes was left begins (inr (some, behind, is, longer)) = (
   longer ∙ ap (λ (l : List ℕ). Some (l ++ behind)) (same_Some some (bytes ++ begins.0) (sym is ∙ begins.1)) ∙ ap Some (append_assoc bytes begins.0 behind),
 )
 
-longer_on : (a b c : Option (List ℕ)) → IsLonger a b → IsLonger b c → IsLonger a c
-longer_on a b c (inl same) on = subst (λ (o : Option (List ℕ)). IsLonger o c) same on
-longer_on a b c (inr (bytes, behind, was, is)) (inl same) = inr (bytes, behind, was, same ∙ is)
-longer_on a b c (inr (bytes, behind, was, is)) (inr (more, last, was', is')) = inr (
-  bytes,
-  behind ++ last,
-  was,
-  is' ∙ ap (λ (l : List ℕ). Some (l ++ last)) (same_Some more (bytes ++ behind) (sym was' ∙ is)) ∙ ap Some (append_assoc bytes behind last),
-)
-
-pub no_more_longer : (m m' : Option (List ℕ) → Type 0) → LeavesNoMore m m' → LeavesLonger m m'
-no_more_longer m m' no_more = λ left may. (left, no_more left may, inl refl)
-
 pub longer_keeps : (m m' : Option (List ℕ) → Type 0) → LeavesLonger m m' → KeepsBytes m m'
 longer_keeps m m' longer = λ bytes held left may. let was = longer left may in begins_longer bytes was.0 left (held was.0 was.1) was.2
-
-pub longer_goes_on : (m m' m'' : Option (List ℕ) → Type 0) → LeavesLonger m m' → LeavesLonger m' m'' → LeavesLonger m m''
-longer_goes_on m m' m'' first second = λ left may.
-    let mid = second left may in
-    let was = first mid.0 mid.1 in (was.0, was.1, longer_on was.0 mid.0 left was.2 mid.2)
-
-pub whole_outlives : (content : Option (List ℕ)) (on_disk : Type 0) (m : Option (List ℕ) → Type 0) → LastsWhole content on_disk m
-    → (bytes : List ℕ) → content ≡ Some bytes → Outlives m bytes
-whole_outlives content on_disk m lasts bytes is = λ left may. ([], (lasts bytes is).1 left may ∙ ap Some (sym (append-nil bytes)))
 
 -- bytes that outlived stay if more are appended and the file is cut back to them
 pub cut_keeps : (m m' m'' : Option (List ℕ) → Type 0) (was : List ℕ) → Outlives m was → LeavesLonger m m' → LeavesFronts (length was) m' m'' → Outlives m'' was
@@ -58,10 +36,14 @@ cut_keeps m m' m'' was outlives longer fronts = λ left may.
 abbrev pub Extends : Option (List ℕ) → Type 0 → List ℕ → (Option (List ℕ) → Type 0) → (Option (List ℕ) → Type 0) → Type 0
 Extends content on_disk bytes m m' = LeavesLonger m m' × (LastsWhole content on_disk m → LeavesPart content bytes m')
 
-part_left : (place : ℕ) (part rest left : List ℕ) → MayBeLeft place part left → MayBeLeft place (part ++ rest) left
+pub part_left : (place : ℕ) (part rest left : List ℕ) → MayBeLeft place part left → MayBeLeft place (part ++ rest) left
 part_left place part rest [] may = tt
 part_left place [] rest (byte ∷ left) may = absurd may
 part_left place (word ∷ words) rest (byte ∷ left) may = (may.0, part_left (place + 1) words rest left may.1)
+
+pub all_left : (place : ℕ) (words : List ℕ) → MayBeLeft place words words
+all_left place [] = tt
+all_left place (word ∷ words) = (inl refl, all_left (place + 1) words)
 
 -- a part of the bytes was appended
 pub part_extends : (content : Option (List ℕ)) (on_disk : Type 0) (bytes part rest : List ℕ) (m m' : Option (List ℕ) → Type 0) → bytes ≡ part ++ rest
@@ -84,7 +66,3 @@ memory_extends content content' bytes was is is' = (
     all_left (length was') bytes,
   ),
 )
-  where
-    all_left : (place : ℕ) (words : List ℕ) → MayBeLeft place words words
-    all_left place [] = tt
-    all_left place (word ∷ words) = (inl refl, all_left (place + 1) words)

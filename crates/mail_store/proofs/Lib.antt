@@ -13,4 +13,3 @@ mod MoveLemmas
 mod NameLemmas
 mod OneEntry
 mod SettlingLemmas
-mod TakingLemmas

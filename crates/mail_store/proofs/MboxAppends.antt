@@ -1,7 +1,8 @@
 -- The ends of a file that an entry may follow, and what appending one does.
-use Rattle.std.proofs.Common.{◌≡◌, inl, inr, ℕ, zero, suc, ◌+◌, Bool, true, List, [], ◌∷◌, ◌++◌, length, take, Option, Some, Ok, Err, refl, sym, ap, subst, ◌∙◌, arith, length-append}
+use Rattle.std.proofs.Common.{◌≡◌, inl, inr, ℕ, suc, ◌+◌, Bool, true, List, [], ◌∷◌, ◌++◌, length, take, Option, Some, Ok, Err, refl, sym, ap, subst, ◌∙◌, arith, length-append}
 use Rattle.std.specs.Prelude.{slice_index, bytes_eq, IsTrue}
-use Rattle.std.proofs.lemmas.List.{append-nil, take_at}
+use Rattle.std.proofs.Math.Seq.{get_or-append_seam}
+use Rattle.std.proofs.lemmas.List.{append-nil, append_assoc, take_all, take_at, take_more}
 use Rattle.std.proofs.lemmas.Slice.Eq.{bytes_eq-Decides}
 use Rattle.mail_store.specs.declared.fault.StoreFault.{StoreFault}
 use Rattle.mail_store.specs.declared.fault.StoreFault.TheVariants.{Refused}
@@ -21,21 +22,13 @@ heads_tell (a ∷ b ∷ c ∷ []) e = let h : a ∷ b ∷ c ∷ 0 ∷ 0 ∷ [] �
 heads_tell (a ∷ b ∷ c ∷ d ∷ []) e = let h : a ∷ b ∷ c ∷ d ∷ 0 ∷ [] ≡ 70 ∷ 114 ∷ 111 ∷ 109 ∷ 32 ∷ [] = e in let no : ◌≡◌ {A = ℕ} 0 32 = cc in absurd (omega (arith, no))
 heads_tell (a ∷ b ∷ c ∷ d ∷ f ∷ rest) e =
     let h : a ∷ b ∷ c ∷ d ∷ f ∷ [] ≡ 70 ∷ 114 ∷ 111 ∷ 109 ∷ 32 ∷ [] = e in
-    let ea : a ≡ 70 = cc in
-    let eb : b ≡ 114 = cc in
-    let ec : c ≡ 111 = cc in
-    let ed : d ≡ 109 = cc in
-    let ef : f ≡ 32 = cc in
-    rw (ea, eb, ec, ed, ef) refl
+    ap (λ (head : List ℕ). begins_entry (head ++ rest)) h
 
 last_two : (xs : List ℕ) (n : ℕ) → length xs ≡ n + 2 → xs ≡ take n xs ++ slice_index xs n ∷ slice_index xs (n + 1) ∷ []
-last_two [] n e = absurd (omega (arith, e))
-last_two (a ∷ []) n e = absurd (omega (arith, e))
-last_two (a ∷ b ∷ []) zero e = refl
-last_two (a ∷ b ∷ c ∷ rest) zero e = absurd (omega (arith, e))
-last_two (a ∷ b ∷ rest) (suc n) e =
-    let step : suc n + 1 ≡ suc (n + 1) = omega arith in
-    rw step (ap (λ (l : List ℕ). a ∷ l) (last_two (b ∷ rest) n (omega (arith, e))))
+last_two xs n e =
+    sym (take_all (n + 1 + 1) xs (omega (arith, e))) ∙ take_more xs (n + 1) 0 (omega (arith, e))
+    ∙ ap (λ (l : List ℕ). l ++ slice_index xs (n + 1) ∷ []) (take_more xs n 0 (omega (arith, e)))
+    ∙ append_assoc (take n xs) (slice_index xs n ∷ []) (slice_index xs (n + 1) ∷ [])
 
 tails_tell : (was : List ℕ) → (edges_of was).tail ≡ 10 ∷ 10 ∷ [] → (front : List ℕ) × (was ≡ front ++ 10 ∷ 10 ∷ [])
 tails_tell [] e = let h : ◌≡◌ {A = List ℕ} (0 ∷ 0 ∷ []) (10 ∷ 10 ∷ []) = e in let no : ◌≡◌ {A = ℕ} 0 10 = cc in absurd (omega (arith, no))
@@ -47,10 +40,6 @@ tails_tell (a ∷ b ∷ rest) e =
     let h : slice_index xs n ∷ slice_index xs (n + 1) ∷ [] ≡ 10 ∷ 10 ∷ [] = (let g = rw step at e in g) in
     (take n xs, last_two xs n (omega arith) ∙ ap (λ (l : List ℕ). take n xs ++ l) h)
 
-at_end : (front : List ℕ) (x : ℕ) (rest : List ℕ) → slice_index (front ++ x ∷ rest) (length front) ≡ x
-at_end [] x rest = refl
-at_end (byte ∷ front) x rest = at_end front x rest
-
 at_last : (front : List ℕ) (x y : ℕ) → slice_index (front ++ x ∷ y ∷ []) (length front + 1) ≡ y
 at_last [] x y = refl
 at_last (byte ∷ front) x y = let step : suc (length front) + 1 ≡ suc (length front + 1) = omega arith in rw step (at_last front x y)
@@ -59,7 +48,7 @@ tail_of : (front : List ℕ) → (edges_of (front ++ 10 ∷ 10 ∷ [])).tail ≡
 tail_of front =
     let size : length (front ++ 10 ∷ 10 ∷ []) ≡ suc (suc (length front)) = (let e = length-append front (10 ∷ 10 ∷ []) in omega (arith, e)) in
     let step : suc (suc (length front)) + 1 ≡ suc (suc (length front + 1)) = omega arith in
-    rw (size, step, at_end front 10 (10 ∷ []), at_last front 10 10) refl
+    rw (size, step, get_or-append_seam front 10 (10 ∷ []) 0, at_last front 10 10) refl
 
 -- if a file isn't empty and begins with `From `, its last two bytes decide whether an entry may follow
 pub ends_decide : (edges : Edges) (was : List ℕ) (test : Bool) → edges ≡ edges_of was → (edges.size ≡ 0 → ⊥) → edges.head ≡ from_words

@@ -1,11 +1,13 @@
 -- Groups of lines in an mboxrd file, and the laws of its texts.
-use Rattle.std.proofs.Common.{◌≡◌, inl, inr, ℕ, Bool, true, false, cond, List, [], ◌∷◌, ◌++◌, drop, map, refl, sym, ap, subst, ◌∙◌, append_assoc}
-use Rattle.std.specs.Prelude.{codes, nat_eq}
+use Rattle.std.proofs.Common.{◌≡◌, inl, inr, ℕ, true, List, [], ◌∷◌, ◌++◌, drop, map, refl, sym, ap, subst, ◌∙◌, append_assoc}
+use Rattle.std.specs.Prelude.{codes, not, ◌==◌, ◌≢◌}
 use Rattle.std.specs.List.{flat_map, AllByRecursion}
 use Rattle.std.proofs.lemmas.Bool.{true≢false}
-use Rattle.std.proofs.lemmas.Bool.Decides.{eqb_tells}
+use Rattle.std.proofs.lemmas.List.Elements.{recursion_from_All}
+use Rattle.std.proofs.lemmas.List.Sums.{AllPass-from_list_all}
 use Rattle.std.proofs.lemmas.List.{append-nil, append_cancel_right, flat_map_more, map-append}
-use Rattle.mail_terms.specs.Text.{IsWhole, HasNoLf}
+use Rattle.std.proofs.lemmas.List.Folds.{flat_map-map}
+use Rattle.mail_terms.specs.Text.{IsWhole}
 use Rattle.mail_store.specs.Mboxrd.{lines_of, IsLine, from_words, begins_entry, quoted, unquoted, separator, entry_of, Group, IsHead, IsInner, IsGroup, group_bytes, group_text, MboxFile, MayGoOn, EntryAddsText, OneReading, TextsMayGoOn}
 use Rattle.mail_store.specs.MboxScan.{IsApart, OpensEntry}
 use Rattle.mail_store.proofs.MboxLines.{all_append, empty_line, joined, lines_kept, lines_joined, whole_lines}
@@ -21,21 +23,15 @@ pub inner_lines : (lines : List (List ℕ)) → AllByRecursion IsInner lines →
 inner_lines [] all = tt
 inner_lines (line ∷ lines) all = (all.0.0, inner_lines lines all.1)
 
-pub ended_all : (lines : List (List ℕ)) → AllByRecursion IsLine lines → AllByRecursion IsLine (lines ++ (10 ∷ []) ∷ [])
-ended_all lines all = all_append IsLine lines ((10 ∷ []) ∷ []) all (empty_line, tt)
-
-joined_push : (lines : List (List ℕ)) (last : List ℕ) → joined (lines ++ last ∷ []) ≡ joined lines ++ last
-joined_push [] last = append-nil last
-joined_push (line ∷ lines) last = ap (λ (l : List ℕ). line ++ l) (joined_push lines last) ∙ sym (append_assoc line (joined lines) last)
-
 pub group_joined : (group : Group) → joined (group_lines group) ≡ group_bytes group
-group_joined group = ap (λ (l : List ℕ). group.head ++ l) (joined_push group.lines (10 ∷ []))
+group_joined group = ap (λ (l : List ℕ). group.head ++ l) (sym (flat_map_more (λ (line : List ℕ). line) [] group.lines (10 ∷ [])))
 
 -- the lines of bytes that begin with a group
 pub group_first : (group : Group) (rest : List ℕ) → IsLine group.head → AllByRecursion IsLine group.lines
     → lines_of (group_bytes group ++ rest) ≡ group_lines group ++ lines_of rest
 group_first group rest head lines =
-    ap (λ (l : List ℕ). lines_of (l ++ rest)) (sym (group_joined group)) ∙ lines_kept (group_lines group) rest (head, ended_all group.lines lines)
+    ap (λ (l : List ℕ). lines_of (l ++ rest)) (sym (group_joined group))
+    ∙ lines_kept (group_lines group) rest (head, all_append IsLine group.lines ((10 ∷ []) ∷ []) lines (empty_line, tt))
 
 pub groups_lines : (groups : List Group) → AllByRecursion IsGroup groups → lines_of (flat_map group_bytes groups) ≡ flat_map group_lines groups
 groups_lines [] are = refl
@@ -101,22 +97,14 @@ adds_group file texts group was is = record {
 
 -- ---- entries
 
-abbrev has_no_lf : List ℕ → Bool
-has_no_lf [] = true
-has_no_lf (byte ∷ rest) = cond (nat_eq byte 10) false (has_no_lf rest)
-
-plain_by : (bytes : List ℕ) → has_no_lf bytes ≡ true → HasNoLf bytes
-plain_by [] test = tt
-plain_by (byte ∷ rest) test = elim (eqb_tells byte 10) [
-  | inl p ↦ let e : false ≡ true = (let h = rw p.0 at test in h) in absurd (true≢false (sym e))
-  | inr p ↦ (p.1, plain_by rest (let h = rw p.0 at test in h))
-]
-
 separator_head : IsHead separator
 separator_head = (
   record {
     words = codes "From MAILER-DAEMON Thu Jan  1 00:00:00 1970";
-    plain = plain_by (codes "From MAILER-DAEMON Thu Jan  1 00:00:00 1970") refl;
+    plain = recursion_from_All (λ byte. byte ≢ 10) (codes "From MAILER-DAEMON Thu Jan  1 00:00:00 1970")
+        (λ k d inside at. true≢false
+        (sym (AllPass-from_list_all (λ byte. not (byte == 10)) (codes "From MAILER-DAEMON Thu Jan  1 00:00:00 1970") refl k d inside)
+        ∙ ap (λ byte. not (byte == 10)) at));
     ended = refl;
   },
   refl,
@@ -126,10 +114,6 @@ pub quoted_inner : (lines : List (List ℕ)) → AllByRecursion IsLine lines →
 quoted_inner [] all = tt
 quoted_inner (line ∷ lines) all = ((quoted_line line all.0, quoted_apart line), quoted_inner lines all.1)
 
-quoted_joined : (lines : List (List ℕ)) → joined (map quoted lines) ≡ flat_map quoted lines
-quoted_joined [] = refl
-quoted_joined (line ∷ lines) = ap (λ (l : List ℕ). quoted line ++ l) (quoted_joined lines)
-
 -- the group of a text's entry
 abbrev pub entry_group : List ℕ → Group
 entry_group text = record { head = separator; lines = map quoted (lines_of text) }
@@ -138,7 +122,7 @@ pub entry_is_group : (text : List ℕ) → IsWhole text → IsGroup (entry_group
 entry_is_group text whole = (separator_head, quoted_inner (lines_of text) (whole_lines text whole))
 
 pub entry_bytes : (text : List ℕ) → group_bytes (entry_group text) ≡ entry_of text
-entry_bytes text = ap (λ (l : List ℕ). separator ++ (l ++ 10 ∷ [])) (quoted_joined (lines_of text))
+entry_bytes text = ap (λ (l : List ℕ). separator ++ (l ++ 10 ∷ [])) (flat_map-map (λ (line : List ℕ). line) quoted (lines_of text))
 
 pub entry_text : (text : List ℕ) → group_text (entry_group text) ≡ text
 entry_text text = lines_read (lines_of text) ∙ lines_joined text
@@ -167,17 +151,15 @@ pub joined_whole : (lines : List (List ℕ)) → AllByRecursion IsLine lines →
 joined_whole [] all = inl refl
 joined_whole (line ∷ lines) all = inr (lines_end line lines all.0 all.1)
 
-EndsTwice : List ℕ → Type 0
+abbrev pub EndsTwice : List ℕ → Type 0
 EndsTwice bytes = (front : List ℕ) × (bytes ≡ front ++ 10 ∷ 10 ∷ [])
 
-group_ends : (group : Group) → IsGroup group → EndsTwice (group_bytes group)
-unfolding EndsTwice
+pub group_ends : (group : Group) → IsGroup group → EndsTwice (group_bytes group)
 group_ends group is =
     let ended = lines_end group.head group.lines is.0.0 (inner_lines group.lines is.1) in
     (ended.0, sym (append_assoc group.head (joined group.lines) (10 ∷ [])) ∙ ap (λ (l : List ℕ). l ++ 10 ∷ []) ended.1 ∙ append_assoc ended.0 (10 ∷ []) (10 ∷ []))
 
 groups_end : (group : Group) (groups : List Group) → IsGroup group → AllByRecursion IsGroup groups → EndsTwice (flat_map group_bytes (group ∷ groups))
-unfolding EndsTwice
 groups_end group [] is are = let end = group_ends group is in (end.0, append-nil (group_bytes group) ∙ end.1)
 groups_end group (next ∷ groups) is are =
     let later = groups_end next groups are.0 are.1 in
@@ -189,7 +171,6 @@ head_first head more rest begins =
     (append_assoc head more rest ∙ ap (λ (l : List ℕ). l ++ (more ++ rest)) (begins_with head begins) ∙ append_assoc from_words (drop 5 head) (more ++ rest))
 
 groups_go_on : (groups : List Group) → AllByRecursion IsGroup groups → MayGoOn (flat_map group_bytes groups)
-unfolding EndsTwice
 groups_go_on [] are = inl refl
 groups_go_on (group ∷ groups) are =
     inr (head_first group.head (joined group.lines ++ 10 ∷ []) (flat_map group_bytes groups) are.0.0.1, groups_end group groups are.0 are.1)

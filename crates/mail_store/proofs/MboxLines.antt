@@ -1,10 +1,10 @@
 -- Texts cut into lines, each with its LF.
-use Rattle.std.proofs.Common.{◌≡◌, ◌≢◌, ◌⊎◌, inl, inr, ℕ, zero, suc, ◌+◌, ◌-◌, ◌<◌, ◌≤◌, List, [], ◌∷◌, ◌++◌, length, take, drop, refl, sym, ap, ◌∙◌, arith, append_assoc}
+use Rattle.std.proofs.Common.{◌≡◌, ◌≢◌, ◌⊎◌, inl, inr, ℕ, zero, suc, ◌+◌, ◌-◌, ◌<◌, ◌≤◌, List, [], ◌∷◌, ◌++◌, length, take, drop, refl, sym, ap, subst, ◌∙◌, arith, append_assoc}
 use Rattle.std.specs.Prelude.{slice_index}
 use Rattle.std.specs.List.{flat_map, onto_first, AllByRecursion}
 use Rattle.std.proofs.lemmas.Bool.Decides.{eqb_tells}
 use Rattle.std.proofs.lemmas.Grind.{common_steps}
-use Rattle.std.proofs.lemmas.List.{drop-append-le, get_or-drop, length-append, length-drop, take-append-drop, take_at}
+use Rattle.std.proofs.lemmas.List.{drop-append-le, get_or-drop, length-append, length-drop, take-append-drop, take_all, take_at, take_more}
 use Rattle.mail_terms.specs.Text.{IsWhole, HasNoLf}
 use Rattle.mail_store.specs.Mboxrd.{lines_of, IsLine}
 
@@ -34,19 +34,15 @@ plain_front (byte ∷ rest) zero none = tt
 plain_front (byte ∷ rest) (suc n) none = (none 0 (omega arith), plain_front rest n (λ k inside. none (suc k) (omega arith)))
 
 pub plain_all : (text : List ℕ) → ((k : ℕ) → k < length text → slice_index text k ≢ 10) → HasNoLf text
-plain_all [] none = tt
-plain_all (byte ∷ rest) none = (none 0 (omega arith), plain_all rest (λ k inside. none (suc k) (omega arith)))
-
-ended_at : (text : List ℕ) (n : ℕ) → n < length text → slice_index text n ≡ 10 → take (n + 1) text ≡ take n text ++ 10 ∷ []
-ended_at [] n inside at = absurd (omega arith)
-ended_at (byte ∷ rest) zero inside at = ap (λ (b : ℕ). b ∷ []) at
-ended_at (byte ∷ rest) (suc n) inside at =
-    let step : suc n + 1 ≡ suc (n + 1) = omega arith in
-    rw step (ap (λ (l : List ℕ). byte ∷ l) (ended_at rest n (omega arith) at))
+plain_all text none = subst HasNoLf (take_all (length text) text (omega arith)) (plain_front text (length text) none)
 
 -- the bytes up to the first LF are a line
 pub line_front : (text : List ℕ) (n : ℕ) → n < length text → ((k : ℕ) → k < n → slice_index text k ≢ 10) → slice_index text n ≡ 10 → IsLine (take (n + 1) text)
-line_front text n inside none at = record { words = take n text; plain = plain_front text n none; ended = ended_at text n inside at }
+line_front text n inside none at = record {
+  words = take n text;
+  plain = plain_front text n none;
+  ended = take_more text n 0 inside ∙ ap (λ (byte : ℕ). take n text ++ byte ∷ []) at;
+}
 
 words_first : (words rest : List ℕ) → HasNoLf words → lines_of ((words ++ 10 ∷ []) ++ rest) ≡ (words ++ 10 ∷ []) ∷ lines_of rest
 words_first [] rest plain = refl
@@ -117,35 +113,26 @@ lines_kept (line ∷ lines) rest all =
     ap lines_of (append_assoc line (joined lines) rest) ∙ line_first line (joined lines ++ rest) all.0
     ∙ ap (λ (ls : List (List ℕ)). line ∷ ls) (lines_kept lines rest all.1)
 
-more_first : (byte : ℕ) (line : List ℕ) → byte ≢ 10 → IsLine line → IsLine (byte ∷ line)
-more_first byte line other is = record { words = byte ∷ is.words; plain = (other, is.plain); ended = ap (λ (l : List ℕ). byte ∷ l) is.ended }
-
 all_onto_first : (byte : ℕ) (lines : List (List ℕ)) → byte ≢ 10 → lines ≢ [] → AllByRecursion IsLine lines → AllByRecursion IsLine (onto_first byte lines)
 all_onto_first byte [] other some all = absurd (some refl)
-all_onto_first byte (line ∷ lines) other some all = (more_first byte line other all.0, all.1)
+all_onto_first byte (line ∷ lines) other some all = (
+  record { words = byte ∷ all.0.words; plain = (other, all.0.plain); ended = ap (λ (l : List ℕ). byte ∷ l) all.0.ended },
+  all.1,
+)
 
-some_onto_first : (byte : ℕ) (lines : List (List ℕ)) → onto_first byte lines ≢ []
-some_onto_first byte [] e = cc
-some_onto_first byte (line ∷ lines) e = cc
-
-some_line : (byte : ℕ) (rest : List ℕ) → lines_of (byte ∷ rest) ≢ []
-some_line byte rest = elim (eqb_tells byte 10) [
-  | inl p ↦ rw p.0 (λ e. cc)
-  | inr p ↦ rw p.0 (some_onto_first byte (lines_of rest))
-]
+some_line : (front : List ℕ) → lines_of (front ++ 10 ∷ []) ≢ []
+some_line front e =
+    let none = ap length (sym (lines_joined (front ++ 10 ∷ [])) ∙ ap joined e) in
+    omega (arith, none, length-append front (10 ∷ []))
 
 pub empty_line : IsLine (10 ∷ [])
 empty_line = record { words = []; plain = tt; ended = refl }
 
 ended_lines : (front : List ℕ) → AllByRecursion IsLine (lines_of (front ++ 10 ∷ []))
 ended_lines [] = (empty_line, tt)
-ended_lines (byte ∷ []) = elim (eqb_tells byte 10) [
-  | inl p ↦ rw p.0 (empty_line, (empty_line, tt))
-  | inr p ↦ rw p.0 (all_onto_first byte (lines_of (10 ∷ [])) p.1 (some_line 10 []) (empty_line, tt))
-]
-ended_lines (byte ∷ next ∷ front) = elim (eqb_tells byte 10) [
-  | inl p ↦ rw p.0 (empty_line, ended_lines (next ∷ front))
-  | inr p ↦ rw p.0 (all_onto_first byte (lines_of ((next ∷ front) ++ 10 ∷ [])) p.1 (some_line next (front ++ 10 ∷ [])) (ended_lines (next ∷ front)))
+ended_lines (byte ∷ front) = elim (eqb_tells byte 10) [
+  | inl p ↦ rw p.0 (empty_line, ended_lines front)
+  | inr p ↦ rw p.0 (all_onto_first byte (lines_of (front ++ 10 ∷ [])) p.1 (some_line front) (ended_lines front))
 ]
 
 pub whole_lines : (text : List ℕ) → IsWhole text → AllByRecursion IsLine (lines_of text)

@@ -1,6 +1,7 @@
 -- Quoting of lines and of texts.
 use Rattle.std.proofs.Common.{◌≡◌, ◌⊎◌, inl, inr, ℕ, suc, ◌+◌, ◌-◌, ◌*◌, ◌<◌, ◌≤◌, true, false, List, [], ◌∷◌, ◌++◌, length, take, drop, map, refl, sym, ap, subst, ◌∙◌, arith, append_assoc}
 use Rattle.std.specs.Prelude.{◌==◌, cond, replicate, slice_range}
+use Rattle.std.proofs.Math.Numerals.{one-add}
 use Rattle.std.specs.List.{flat_map, prefix_len, AllByRecursion}
 use Rattle.std.proofs.lemmas.List.Sums.{sum_by-append}
 use Rattle.std.proofs.lemmas.Bool.{cases_Bool, true≢false}
@@ -14,14 +15,11 @@ use Rattle.mail_store.proofs.MboxLines.{joined, line_first, first_cut, lines_kep
 
 -- ---- marked lines
 
-drop_one_more : (n x : ℕ) (xs : List ℕ) → drop (1 + n) (x ∷ xs) ≡ drop n xs
-drop_one_more n x xs = let step : 1 + n ≡ suc n = omega arith in rw step refl
-
 -- a line is marked exactly if what follows its leading `>`s begins with `From `
 pub marked_behind : (line : List ℕ) → begins_entry (drop (prefix_len is_greater line) line) ≡ is_marked line
 marked_behind [] = refl
 marked_behind (byte ∷ rest) = elim (eqb_tells byte 62) [
-  | inl p ↦ rw p.0 (ap begins_entry (drop_one_more (prefix_len is_greater rest) byte rest) ∙ marked_behind rest)
+  | inl p ↦ rw (p.0, one-add (prefix_len is_greater rest)) (marked_behind rest)
   | inr p ↦ rw p.0 refl
 ]
 

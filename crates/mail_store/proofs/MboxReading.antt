@@ -36,13 +36,6 @@ passes_more bytes rest line after was cut apart = record {
   apart = all_append IsApart was.inner (line ∷ []) was.apart (apart, tt);
 }
 
-pub passed : (bytes rest group : List ℕ) → Passes bytes rest → OpensEntry (lines_of rest) → bytes ≡ group ++ rest → CutsGroup bytes group rest
-passed bytes rest group was opens split = record { head = was.head; inner = was.inner; lines = was.lines; apart = was.apart; opens = opens; whole = split }
-
--- the rest begins with this line
-pub opens_at : (rest line : List ℕ) (lines : List (List ℕ)) → lines_of rest ≡ line ∷ lines → begins_entry line ≡ true → OpensEntry (lines_of rest)
-opens_at rest line lines e begins = subst OpensEntry (sym e) begins
-
 -- the group ends where the rest begins
 pub cut_at : (bytes rest group back : List ℕ) → Passes bytes rest → OpensEntry (lines_of rest) → group ≡ take (length bytes - length rest) bytes
     → back ≡ drop (length bytes - length rest) bytes → CutsGroup bytes group back
@@ -51,7 +44,9 @@ cut_at bytes rest group back was opens front-is back-is =
     let front : take n bytes ≡ was.front = front_taken bytes was.front rest was.whole in
     let both : was.front ++ drop n bytes ≡ was.front ++ rest = ap (λ (l : List ℕ). l ++ drop n bytes) (sym front) ∙ take-append-drop n bytes ∙ was.whole in
     let same : back ≡ rest = back-is ∙ append_cancel_left was.front (drop n bytes) rest both in
-    subst (λ (l : List ℕ). CutsGroup bytes group l) (sym same) (passed bytes rest group was opens (was.whole ∙ ap (λ (l : List ℕ). l ++ rest) (sym front ∙ sym front-is)))
+    let whole : bytes ≡ group ++ rest = was.whole ∙ ap (λ (l : List ℕ). l ++ rest) (sym front ∙ sym front-is) in
+    subst (λ (l : List ℕ). CutsGroup bytes group l) (sym same)
+    (record { head = was.head; inner = was.inner; lines = was.lines; apart = was.apart; opens = opens; whole = whole })
 
 -- ---- the quoted text of a group
 
@@ -96,10 +91,10 @@ pub record Agrees (group after : List ℕ) : Type 0 where
   pub texts : List (List ℕ)
   pub more : MboxFile after texts
 
-agrees_by : (rest group after : List ℕ) (groups : List Group) → CutsGroup rest group after → 0 < length rest → AllByRecursion IsGroup groups
+agrees : (rest group after : List ℕ) (groups : List Group) → CutsGroup rest group after → 0 < length rest → AllByRecursion IsGroup groups
     → rest ≡ flat_map group_bytes groups → Agrees group after
-agrees_by rest group after [] cut some are whole = let none = ap length whole in absurd (omega (arith, none))
-agrees_by rest group after (first ∷ groups) cut some are whole =
+agrees rest group after [] cut some are whole = let none = ap length whole in absurd (omega (arith, none))
+agrees rest group after (first ∷ groups) cut some are whole =
     let lines : cut.head ∷ (cut.inner ++ lines_of after) ≡ first.head ∷ ((first.lines ++ (10 ∷ []) ∷ []) ++ flat_map group_lines groups) =
     sym cut.lines ∙ ap lines_of whole ∙ groups_lines (first ∷ groups) are in
     let tail : cut.inner ++ lines_of after ≡ (first.lines ++ (10 ∷ []) ∷ []) ++ flat_map group_lines groups = cc in
@@ -117,15 +112,12 @@ agrees_by rest group after (first ∷ groups) cut some are whole =
       more = record { groups = groups; are = are.1; whole = rest-is; read = refl };
     }
 
-pub agrees : (rest group after : List ℕ) (texts : List (List ℕ)) → CutsGroup rest group after → 0 < length rest → MboxFile rest texts → Agrees group after
-agrees rest group after texts cut some file = agrees_by rest group after file.groups cut some file.are file.whole
-
 -- the group that is cut off holds no text
 pub no_texts : (bytes rest group after : List ℕ) (texts : List (List ℕ)) → ReadsOn bytes rest texts → CutsGroup rest group after → 0 < length rest
     → ((text : List ℕ) → HoldsText group text → ⊥) → HasNoTexts bytes
 no_texts bytes rest group after texts was cut some none others file =
     let more = was.later others file in
-    let same = agrees rest group after more.0 cut some more.1 in
+    let same = agrees rest group after more.1.groups cut some more.1.are more.1.whole in
     none (joined same.first.lines) (record {
       head = same.first.head;
       begins = same.is.0;
@@ -166,7 +158,7 @@ reads_more bytes rest group after text texts was cut some held =
           (adds_group was.front texts (group_of held.head text) was.read (holds_group rest group after text cut held));
       later = λ others file.
           let more = was.later others file in
-          let next = agrees rest group after more.0 cut some more.1 in
+          let next = agrees rest group after more.1.groups cut some more.1.are more.1.whole in
           (next.texts, next.more);
     }
 

@@ -1,65 +1,54 @@
 -- Files that a Maildir in memory keeps in two folders, and that its calls in a reader's place move.
-use Rattle.std.proofs.Common.{◌≡◌, ℕ, zero, suc, ◌+◌, ◌-◌, ◌<◌, ◌≤◌, List, [], ◌∷◌, ◌++◌, length, take, drop, get_or, map, refl, sym, ap, ◌∙◌, subst, arith, Option, Some, None, Bool, true, false, inl, inr, String, Vec, string_bytes, remove, insert, set, ◌⊎◌, All, HoldsAt, Contains, ◌≢◌, ◌↔◌, IsTrue, is_some, IfSome, IfNone, IsPermutation}
+use Rattle.std.proofs.Common.{◌≡◌, ℕ, zero, suc, ◌+◌, ◌-◌, ◌<◌, ◌≤◌, List, [], ◌∷◌, ◌++◌, length, take, drop, get_or, map, refl, sym, ap, ◌∙◌, subst, arith, Option, Some, None, Bool, true, false, inl, inr, String, Vec, string_bytes, remove, insert, set, ◌⊎◌, All, HoldsAt, Contains, ◌≢◌, ◌↔◌, IsTrue, is_some, IfSome, IfNone, IsPermutation, cond}
 use Rattle.std.proofs.lemmas.Bool.{both_ways}
 use Rattle.std.proofs.Math.Bool.{beq}
-use Rattle.std.proofs.lemmas.List.{map-append, length-map, length-append, take_more, get_or-map, get_or_default, length-take-le, take-append-drop}
+use Rattle.std.proofs.lemmas.List.{map-append, length-map, length-append, get_or-map, get_or_default, length-take-le, take-append-drop}
 use Rattle.std.proofs.lemmas.List.Edits.{length-insert, length-remove}
-use Rattle.std.proofs.lemmas.List.Elements.{Contains-append_left, Contains-append_right, Contains-append_cases}
+use Rattle.std.specs.List.{count_by, drop-map, take-map}
+use Rattle.std.proofs.lemmas.Simd.{map-map}
+use Rattle.std.proofs.lemmas.List.Recursion.{is_count_by}
+use Rattle.std.proofs.lemmas.List.Sums.{count_by_more_no, count_by_more_yes, sum_by-append}
+use Rattle.std.proofs.lemmas.List.Elements.{All-map, Contains-append_left, Contains-append_right, Contains-append_cases}
 use Rattle.std.proofs.lemmas.List.Sorted.{IsPermutation-refl, IsPermutation-cons, IsPermutation-map, IsPermutation-middle, IsPermutation-sym, IsPermutation-trans, Contains-permutation}
 use Rattle.mail_terms.specs.MaildirName.{base}
-use Rattle.mail_store.specs.Maildir.{Maildir, File, file, mail, with_files, file_of, name_in, names_of, bases_told, is_there, all_there, AreTheirs}
+use Rattle.mail_store.specs.Maildir.{Maildir, File, file, mail, with_files, file_of, name_in, names_of, bases_told, is_there, all_there, AreTheirs, IsPart}
 use Rattle.mail_store.specs.declared.maildir.disk.Folder.{Folder}
 use Rattle.mail_store.specs.declared.maildir.disk.Folder.TheVariants.{New, Cur}
 use Rattle.mail_store.specs.MemoryMaildir.{TwoFolders, Takes, count, files_of_folder, merged, shown}
 
 -- ---- names that are looked up
 
-module _ {Z Y : Type 0} where
-  -- if no pair has the name, no file has it
-  pub not_named : (pairs : List (String Z × Vec ℕ Y)) (name : List ℕ) → All (λ p. string_bytes p.0 ≢ name) pairs
-      → Contains (names_of (map file_of pairs)) name → ⊥
-  not_named [] name none c = absurd (omega (arith, c.1))
-  not_named (p ∷ pairs) name none c = by (not_named pairs name (λ j d inside. none (suc j) d (omega arith))) c.0 c.1 c.2
-    where
-      by : (Contains (names_of (map file_of pairs)) name → ⊥)
-          → (k : ℕ) → k < length (names_of (map file_of (p ∷ pairs))) → get_or (names_of (map file_of (p ∷ pairs))) k name ≡ name → ⊥
-      by later zero below is = none 0 p (omega arith) is
-      by later (suc k) below is = later (k, omega arith, is)
+module _ {A : Type 0} (read : A → List ℕ) where
+  -- if nothing reads as the text, it isn't among what is read
+  pub not_read : (xs : List A) (text : List ℕ) → All (λ x. read x ≢ text) xs → Contains (map read xs) text → ⊥
+  not_read xs text none c = All-map (λ t. t ≢ text) read xs none c.0 text c.1 c.2
 
-  -- if a pair has the name, a file has it
-  pub named : (pairs : List (String Z × Vec ℕ Y)) (name : List ℕ) (i : ℕ) → i < length pairs → HoldsAt (λ p. string_bytes p.0 ≡ name) pairs i
-      → Contains (names_of (map file_of pairs)) name
-  named [] name i below at = absurd (omega arith)
-  named (p ∷ pairs) name zero below at = (0, omega arith, at p)
-  named (p ∷ pairs) name (suc i) below at =
-      let rest = named pairs name i (omega arith) at in
+  -- if something does, it is
+  pub is_read : (xs : List A) (text : List ℕ) (i : ℕ) → i < length xs → HoldsAt (λ x. read x ≡ text) xs i → Contains (map read xs) text
+  is_read [] text i below at = absurd (omega arith)
+  is_read (x ∷ xs) text zero below at = (0, omega arith, at x)
+  is_read (x ∷ xs) text (suc i) below at =
+      let rest = is_read xs text i (omega arith) at in
       (suc rest.0, omega (arith, rest.1), rest.2)
 
-  -- the same of a name's base
-  pub not_based : (pairs : List (String Z × Vec ℕ Y)) (front : List ℕ) → All (λ p. base (string_bytes p.0) ≢ front) pairs
-      → Contains (names_of (map shown (map file_of pairs))) front → ⊥
-  not_based [] front none c = absurd (omega (arith, c.1))
-  not_based (p ∷ pairs) front none c = by (not_based pairs front (λ j d inside. none (suc j) d (omega arith))) c.0 c.1 c.2
-    where
-      by : (Contains (names_of (map shown (map file_of pairs))) front → ⊥)
-          → (k : ℕ) → k < length (names_of (map shown (map file_of (p ∷ pairs)))) → get_or (names_of (map shown (map file_of (p ∷ pairs)))) k front ≡ front → ⊥
-      by later zero below is = none 0 p (omega arith) is
-      by later (suc k) below is = later (k, omega arith, is)
+-- the names of files, and of files as they are shown
+pub names_read : {Z Y : Type 0} (pairs : List (String Z × Vec ℕ Y)) → names_of (map file_of pairs) ≡ map (λ p. string_bytes p.0) pairs
+names_read pairs = map-map name_in file_of pairs
 
-  pub based : (pairs : List (String Z × Vec ℕ Y)) (front : List ℕ) (i : ℕ) → i < length pairs → HoldsAt (λ p. base (string_bytes p.0) ≡ front) pairs i
-      → Contains (names_of (map shown (map file_of pairs))) front
-  based [] front i below at = absurd (omega arith)
-  based (p ∷ pairs) front zero below at = (0, omega arith, at p)
-  based (p ∷ pairs) front (suc i) below at =
-      let rest = based pairs front i (omega arith) at in
-      (suc rest.0, omega (arith, rest.1), rest.2)
+pub bases_read : {Z Y : Type 0} (pairs : List (String Z × Vec ℕ Y))
+    → names_of (map shown (map file_of pairs)) ≡ map (λ p. base (string_bytes p.0)) pairs
+bases_read pairs = map-map name_in shown (map file_of pairs) ∙ map-map (λ f. base (name_in f)) file_of pairs
 
 -- a look-up finds a place exactly if a file has the name
 pub found_iff : {Z Y : Type 0} (pairs : List (String Z × Vec ℕ Y)) (name : List ℕ) (place : Option ℕ) (b : Bool) → b ≡ is_some place
     → IfSome place (λ i. (i < length pairs) × HoldsAt (λ p. string_bytes p.0 ≡ name) pairs i)
     → IfNone place (Contains (names_of (map file_of pairs)) name → ⊥)
     → IsTrue b ↔ Contains (names_of (map file_of pairs)) name
-found_iff pairs name (Some i) b e some none = (λ _. named pairs name i some.0 some.1, λ _. e)
+found_iff pairs name (Some i) b e some none = (
+  λ _. subst (λ (names : List (List ℕ)). Contains names name) (sym (names_read pairs))
+      (is_read (λ p. string_bytes p.0) pairs name i some.0 some.1),
+  λ _. e,
+)
 found_iff pairs name None b e some none = (λ t. absurd (both_ways b e t), λ h. absurd (none h))
 
 -- ---- flags and folders
@@ -70,12 +59,19 @@ counts_total [] = refl
 counts_total (true ∷ flags) = let rest = counts_total flags in omega (arith, rest)
 counts_total (false ∷ flags) = let rest = counts_total flags in omega (arith, rest)
 
-pub count-append : (flag : Bool) (front back : List Bool) → count flag (front ++ back) ≡ count flag front + count flag back
-count-append flag [] back = omega arith
-count-append true (true ∷ front) back = let rest = count-append true front back in omega (arith, rest)
-count-append true (false ∷ front) back = count-append true front back
-count-append false (true ∷ front) back = count-append false front back
-count-append false (false ∷ front) back = let rest = count-append false front back in omega (arith, rest)
+counted_by : (flag : Bool) (flags : List Bool) → count flag flags ≡ count_by (λ b. beq b flag) flags
+counted_by flag = is_count_by (count flag) (λ b. beq b flag) refl (step flag)
+  where
+    step : (flag b : Bool) (flags : List Bool) → count flag (b ∷ flags) ≡ cond (beq b flag) (1 + count flag flags) (count flag flags)
+    step true true flags = omega arith
+    step true false flags = refl
+    step false true flags = refl
+    step false false flags = omega arith
+
+count-append : (flag : Bool) (front back : List Bool) → count flag (front ++ back) ≡ count flag front + count flag back
+count-append flag front back =
+    let parts = sum_by-append (λ b. cond (beq b flag) 1 0) front back in
+    omega (arith, parts, counted_by flag front, counted_by flag back, counted_by flag (front ++ back))
 
 -- a true flag became false
 pub counts_set : (flags : List Bool) (i : ℕ) → i < length flags → HoldsAt (λ b. b ≡ true) flags i
@@ -109,8 +105,7 @@ module _ {A : Type 0} where
   -- a file came to the first folder
   pub merged_push : (flags : List Bool) (new cur : List A) (f : A) → Fit flags new cur
       → merged (flags ++ true ∷ []) (new ++ f ∷ []) cur ≡ merged flags new cur ++ f ∷ []
-  merged_push [] [] [] f fit = refl
-  merged_push [] [] (g ∷ cur) f fit = absurd (omega (arith, fit.1))
+  merged_push [] [] cur f fit = refl
   merged_push [] (g ∷ new) cur f fit = absurd (omega (arith, fit.0))
   merged_push (true ∷ flags) [] cur f fit = absurd (omega (arith, fit.0))
   merged_push (true ∷ flags) (g ∷ new) cur f fit = ap (λ (fs : List A). g ∷ fs) (merged_push flags new cur f (omega (arith, fit.0), fit.1))
@@ -140,31 +135,17 @@ shown_all flags new cur fit =
     (merged_all flags (map file_of new) (map file_of cur) (fit.0 ∙ sym (length-map new file_of), fit.1 ∙ sym (length-map cur file_of)))
 
 -- one more flag was counted, or passed over
-counted_at : (flags : List Bool) (flag : Bool) (i : ℕ) → i < length flags
-    → count flag (take (i + 1) flags) ≡ count flag (take i flags) + count flag (get_or flags i false ∷ [])
-counted_at flags flag i below = ap (count flag) (take_more flags i false below) ∙ count-append flag (take i flags) (get_or flags i false ∷ [])
-
-counts_itself : (is flag : Bool) → beq is flag ≡ true → count flag (is ∷ []) ≡ 1
-counts_itself true true same = refl
-counts_itself true false same = absurd (both_ways false refl same)
-counts_itself false true same = absurd (both_ways false refl same)
-counts_itself false false same = refl
-
-counts_no_other : (is flag : Bool) → beq is flag ≡ false → count flag (is ∷ []) ≡ 0
-counts_no_other true true other = absurd (both_ways true other refl)
-counts_no_other true false other = refl
-counts_no_other false true other = refl
-counts_no_other false false other = absurd (both_ways true other refl)
-
 pub one_counted : (flags : List Bool) (flag : Bool) (i before : ℕ) → i < length flags → beq (get_or flags i false) flag ≡ true
     → before ≡ count flag (take i flags) → before + 1 ≡ count flag (take (i + 1) flags)
 one_counted flags flag i before below same so_far =
-    omega (arith, so_far, counted_at flags flag i below, counts_itself (get_or flags i false) flag same)
+    let more = count_by_more_yes (λ b. beq b flag) flags i false below same in
+    omega (arith, so_far, more, counted_by flag (take i flags), counted_by flag (take (i + 1) flags))
 
 pub other_passed : (flags : List Bool) (flag : Bool) (i before : ℕ) → i < length flags → beq (get_or flags i false) flag ≡ false
     → before ≡ count flag (take i flags) → before ≡ count flag (take (i + 1) flags)
 other_passed flags flag i before below other so_far =
-    omega (arith, so_far, counted_at flags flag i below, counts_no_other (get_or flags i false) flag other)
+    let same = count_by_more_no (λ b. beq b flag) flags i false below other in
+    omega (arith, so_far, same, counted_by flag (take i flags), counted_by flag (take (i + 1) flags))
 
 -- ---- what calls leave
 
@@ -173,16 +154,10 @@ is_all_there New = refl
 is_all_there Cur = refl
 
 map_remove : {A B : Type 0} (f : A → B) (xs : List A) (i : ℕ) → map f (remove xs i) ≡ remove (map f xs) i
-map_remove f [] zero = refl
-map_remove f [] (suc i) = refl
-map_remove f (x ∷ xs) zero = refl
-map_remove f (x ∷ xs) (suc i) = ap (λ ys. f x ∷ ys) (map_remove f xs i)
+map_remove f xs i = simp (map-append, take-map, drop-map)
 
 map_insert : {A B : Type 0} (f : A → B) (xs : List A) (i : ℕ) (y : A) → map f (insert xs i y) ≡ insert (map f xs) i (f y)
-map_insert f [] zero y = refl
-map_insert f [] (suc i) y = refl
-map_insert f (x ∷ xs) zero y = refl
-map_insert f (x ∷ xs) (suc i) y = ap (λ ys. f x ∷ ys) (map_insert f xs i y)
+map_insert f xs i y = simp (map-append, take-map, drop-map)
 
 -- how many flags of each kind come before a place
 pub before_place : (flags : List Bool) (place : ℕ) → place < length flags → count true (take place flags) + count false (take place flags) ≡ place
@@ -203,16 +178,17 @@ module _ {Z Y : Type 0} where
       get_or-map file_of pairs i p d inside ∙ ap file_of (sym at) ∙ ap (λ (n : List ℕ). file n p.1.items) (ap (λ (q : String Z × Vec ℕ Y). string_bytes q.0) at ∙ named p)
 
   -- a file went from `new` to `cur`
-  pub taken_to_cur : (flags : List Bool) (new cur : List (String Z × Vec ℕ Y)) {flags' : List Bool} {new' cur' : List (String Z × Vec ℕ Y)} (place i : ℕ) (found made : String Z × Vec ℕ Y)
-      (name moved : List ℕ) → Fit flags new cur → i < length new → HoldsAt (λ p. string_bytes p.0 ≡ name) new i → found ≡ get_or new i found
+  pub taken_to_cur : (flags : List Bool) (new cur : List (String Z × Vec ℕ Y)) (place i : ℕ) (found made : String Z × Vec ℕ Y)
+      (name moved : List ℕ)
+      → Fit flags new cur → i < length new → HoldsAt (λ p. string_bytes p.0 ≡ name) new i → found ≡ get_or new i found
       → place < length flags → HoldsAt (λ b. b ≡ true) flags place → count true (take place flags) ≡ i
-      → flags' ≡ set flags place false → new' ≡ remove new i → cur' ≡ insert cur (place - i) made
       → string_bytes made.0 ≡ moved → made.1.items ≡ found.1.items → base moved ≡ base name
       → (Contains (names_of (map file_of cur)) moved → ⊥)
-      → (map shown (merged flags' (map file_of new') (map file_of cur')) ≡ map shown (merged flags (map file_of new) (map file_of cur)))
-      × Takes (map file_of new) (map file_of cur) name moved (map file_of new') (map file_of cur') × Fit flags' new' cur'
-  taken_to_cur flags new cur {flags'} {new'} {cur'} place i found made name moved fit inside titled_at at below is_new counted flagged removed inserted titled same alike free =
-      let i_is : count true (take place flags) ≡ i = counted in
+      → (map shown (merged (set flags place false) (map file_of (remove new i)) (map file_of (insert cur (place - i) made)))
+      ≡ map shown (merged flags (map file_of new) (map file_of cur)))
+      × Takes (map file_of new) (map file_of cur) name moved (map file_of (remove new i)) (map file_of (insert cur (place - i) made))
+      × Fit (set flags place false) (remove new i) (insert cur (place - i) made)
+  taken_to_cur flags new cur place i found made name moved fit inside titled_at at below is_new counted titled same alike free =
       let total = before_place flags place below in
       let others : place - i ≡ count false (take place flags) = omega (arith, total, counted) in
       let room = within false flags place in
@@ -222,20 +198,16 @@ module _ {Z Y : Type 0} where
       (fit.0 ∙ sym (length-map new file_of), fit.1 ∙ sym (length-map cur file_of)) below is_new
       (ap (λ (n : List ℕ). file n found.1.items) alike ∙ ap shown (sym (file_at new i found name inside at titled_at (file name found.1.items)))
       ∙ ap (λ (k : ℕ). shown (get_or (map file_of new) k (file name found.1.items))) (sym counted)) in
-      let new_is : map file_of new' ≡ remove (map file_of new) i = ap (map file_of) removed ∙ map_remove file_of new i in
-      let cur_is : map file_of cur' ≡ insert (map file_of cur) (place - i) g =
-      ap (map file_of) inserted ∙ map_insert file_of cur (place - i) made ∙ ap (λ (f : File). insert (map file_of cur) (place - i) f) g_is in
+      let cur_is : map file_of (insert cur (place - i) made) ≡ insert (map file_of cur) (place - i) g =
+      map_insert file_of cur (place - i) made ∙ ap (λ (f : File). insert (map file_of cur) (place - i) f) g_is in
       let flags_are = counts_set flags place below is_new in
-      let left = ap length removed in
       let shorter = length-remove new i inside in
-      let came = ap length inserted in
-      let longer = length-insert cur (place - i) made (omega (arith, others, room, fit.1)) in
-      let trues = ap (count true) flagged in
-      let falses = ap (count false) flagged in (
-        ap (λ (fs : List File). map shown (merged flags' fs (map file_of cur'))) (new_is ∙ ap (remove (map file_of new)) (sym counted))
-            ∙ ap (λ (fs : List File). map shown (merged flags' (remove (map file_of new) (count true (take place flags))) fs))
+      let longer = length-insert cur (place - i) made (omega (arith, others, room, fit.1)) in (
+        ap (λ (fs : List File). map shown (merged (set flags place false) fs (map file_of (insert cur (place - i) made))))
+            (map_remove file_of new i ∙ ap (remove (map file_of new)) (sym counted))
+            ∙ ap
+            (λ (fs : List File). map shown (merged (set flags place false) (remove (map file_of new) (count true (take place flags))) fs))
             (cur_is ∙ ap (λ (k : ℕ). insert (map file_of cur) k g) others)
-            ∙ ap (λ (bs : List Bool). map shown (merged bs (remove (map file_of new) (count true (take place flags))) (insert (map file_of cur) (count false (take place flags)) g))) flagged
             ∙ went,
         record {
           at = i;
@@ -243,11 +215,11 @@ module _ {Z Y : Type 0} where
           content = found.1.items;
           inside = omega (arith, inside, length-map new file_of);
           was = λ d. file_at new i found name inside at titled_at d;
-          left = new_is;
+          left = map_remove file_of new i;
           came = cur_is;
           free = free;
         },
-        (omega (arith, trues, flags_are.0, left, shorter, fit.0), omega (arith, falses, flags_are.1, came, longer, fit.1)),
+        (omega (arith, flags_are.0, shorter, fit.0), omega (arith, flags_are.1, longer, fit.1)),
       )
 
   -- a file came to `new`
@@ -268,7 +240,7 @@ module _ {Z Y : Type 0} where
 
 -- ---- names that are told
 
-Contains-map : {A B : Type 0} (f : A → B) (xs : List A) (x : A) → Contains xs x → Contains (map f xs) (f x)
+pub Contains-map : {A B : Type 0} (f : A → B) (xs : List A) (x : A) → Contains xs x → Contains (map f xs) (f x)
 Contains-map f xs x c = (c.0, omega (arith, c.1, length-map xs f), get_or-map f xs c.0 x (f x) c.1 ∙ ap f c.2)
 
 -- names of a folder are those of files that are shown
@@ -295,20 +267,13 @@ theirs_of two folder names both told = λ k d inside.
     in_both New f c = Contains-append_left two.in_new two.in_cur f c
     in_both Cur f c = Contains-append_right two.in_new two.in_cur f c
 
-bases : {Z : Type 0} (names : List (String Z)) → bases_told names ≡ map base (map string_bytes names)
-bases [] = refl
-bases (name ∷ names) = ap (λ (rest : List (List ℕ)). base (string_bytes name) ∷ rest) (bases names)
-
-names_shown : (files : List File) → names_of (map shown files) ≡ map base (names_of files)
-names_shown [] = refl
-names_shown (f ∷ files) = ap (λ (rest : List (List ℕ)). base f.name ∷ rest) (names_shown files)
-
 -- the names of both folders tell all that is shown
 pub names_tell_both : {Z : Type 0} (files in_new in_cur : List File) (names : List (String Z)) → IsPermutation files (map shown (in_new ++ in_cur))
     → map string_bytes names ≡ names_of in_new ++ names_of in_cur → IsPermutation (names_of files) (bases_told names)
 names_tell_both files in_new in_cur names both told =
     subst (λ (bs : List (List ℕ)). IsPermutation (names_of files) bs)
-    (names_shown (in_new ++ in_cur) ∙ ap (map base) (map-append name_in in_new in_cur ∙ sym told) ∙ sym (bases names))
+    (map-map name_in shown (in_new ++ in_cur) ∙ sym (map-map base name_in (in_new ++ in_cur))
+    ∙ ap (map base) (map-append name_in in_new in_cur ∙ sym told) ∙ map-map base string_bytes names)
     (IsPermutation-map name_in files (map shown (in_new ++ in_cur)) both)
 
 -- what is shown under a name is in one of the folders
@@ -316,26 +281,25 @@ pub shown_iff : {Z Y : Type 0} (files : List File) (new cur : List (String Z × 
     → IsPermutation files (map shown (map file_of new ++ map file_of cur))
     → (Contains (names_of (map shown (map file_of new))) front ⊎ Contains (names_of (map shown (map file_of cur))) front) ↔ Contains (names_of files) front
 shown_iff files new cur front both = (
-  λ either. back (one either),
-  λ there. Contains-append_cases _ _ front (subst (λ (ns : List (List ℕ)). Contains ns front) parts
-      (Contains-permutation (names_of files) (names_of (map shown (map file_of new ++ map file_of cur))) front
-      (IsPermutation-map name_in files (map shown (map file_of new ++ map file_of cur)) both) there)),
+  λ either. Contains-permutation (in_new ++ in_cur) (names_of files) front (IsPermutation-sym (names_of files) (in_new ++ in_cur) all)
+      (elim either [
+        | inl c ↦ Contains-append_left in_new in_cur front c
+        | inr c ↦ Contains-append_right in_new in_cur front c
+      ]),
+  λ there. Contains-append_cases in_new in_cur front (Contains-permutation (names_of files) (in_new ++ in_cur) front all there),
 )
   where
-    parts : names_of (map shown (map file_of new ++ map file_of cur)) ≡ names_of (map shown (map file_of new)) ++ names_of (map shown (map file_of cur))
-    parts = ap names_of (map-append shown (map file_of new) (map file_of cur)) ∙ map-append name_in (map shown (map file_of new)) (map shown (map file_of cur))
+    in_new : List (List ℕ)
+    in_new = names_of (map shown (map file_of new))
 
-    one : Contains (names_of (map shown (map file_of new))) front ⊎ Contains (names_of (map shown (map file_of cur))) front
-        → Contains (names_of (map shown (map file_of new)) ++ names_of (map shown (map file_of cur))) front
-    one (inl c) = Contains-append_left (names_of (map shown (map file_of new))) (names_of (map shown (map file_of cur))) front c
-    one (inr c) = Contains-append_right (names_of (map shown (map file_of new))) (names_of (map shown (map file_of cur))) front c
+    in_cur : List (List ℕ)
+    in_cur = names_of (map shown (map file_of cur))
 
-    back : Contains (names_of (map shown (map file_of new)) ++ names_of (map shown (map file_of cur))) front → Contains (names_of files) front
-    back c =
-        let there = subst (λ (ns : List (List ℕ)). Contains ns front) (sym parts) c in
-        Contains-permutation (names_of (map shown (map file_of new ++ map file_of cur))) (names_of files) front
-        (IsPermutation-sym (names_of files) (names_of (map shown (map file_of new ++ map file_of cur)))
-        (IsPermutation-map name_in files (map shown (map file_of new ++ map file_of cur)) both)) there
+    all : IsPermutation (names_of files) (in_new ++ in_cur)
+    all = subst (IsPermutation (names_of files))
+        (ap names_of (map-append shown (map file_of new) (map file_of cur))
+        ∙ map-append name_in (map shown (map file_of new)) (map shown (map file_of cur)))
+        (IsPermutation-map name_in files (map shown (map file_of new ++ map file_of cur)) both)
 
 -- what a device in memory is after a file came
 pub came_to : (old : Maildir) (files files' : List File) (begun : Option File) (failures : ℕ) (title name content : List ℕ)
@@ -346,3 +310,9 @@ came_to old files files' begun failures title name content is came titled =
     ap (λ (fs : List File). record { there = all_there; files = fs; begun = begun; failures = failures })
     (came ∙ ap (λ (n : List ℕ). files ++ mail n content ∷ []) titled)
     ∙ ap (λ (m : Maildir). with_files (m.files ++ mail name content ∷ []) m) is
+
+-- ---- files that readers took away
+
+pub part_same : (files : List File) → IsPart files files
+part_same [] = refl
+part_same (f ∷ files) = inr (files, refl, part_same files)

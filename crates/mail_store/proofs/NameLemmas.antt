@@ -3,10 +3,10 @@ use Rattle.std.proofs.Common.{◌≡◌, ℕ, zero, suc, ◌/◌, ◌%◌, ◌^�
 use Rattle.std.specs.List.{AllPass, before_first, position_or_len}
 use Rattle.std.specs.Fmt.{decimal, digits, digits_onto, digit_glyph}
 use Rattle.std.proofs.lemmas.Fmt.{length-decimal-le}
-use Rattle.std.specs.Str.Pattern.{FindsTextPrefix, StripsPrefix}
-use Rattle.std.proofs.lemmas.Bool.{cases_lt}
+use Rattle.std.proofs.lemmas.Bool.{cases_lt, cond_both}
 use Rattle.std.proofs.lemmas.List.{append_cancel_left, take_all, get_or_past, length-append, append_assoc}
-use Rattle.std.proofs.lemmas.List.Elements.{All-nil, All-cons, All-append}
+use Rattle.std.proofs.lemmas.List.Elements.{All-nil, All-cons, All-append, All-from_recursion}
+use Rattle.std.proofs.lemmas.Str.Ascii.{IsAscii-from_all}
 use Rattle.std.proofs.lemmas.List.Sums.{AllPass-from_list_all, position_or_len_is}
 use Rattle.hex.specs.Hex.{encode_lower, encode_with, lower_digits, IsBytes, decode_of}
 use Rattle.hex.specs.declared.error.FromHexError.{FromHexError}
@@ -17,46 +17,37 @@ use Rattle.mail_store.specs.FileName.{is_comma, is_lower_hex_digit, longest_stem
 
 -- ---- digits
 
-lower_digits_pass : AllPass is_lower_hex_digit lower_digits
-lower_digits_pass = AllPass-from_list_all is_lower_hex_digit lower_digits refl
-
 -- each place of the table below sixteen has a digit
 digit_passes : (k : ℕ) → k < 16 → is_lower_hex_digit (slice_index lower_digits k) ≡ true
-digit_passes k below = lower_digits_pass k 0 below
+digit_passes k below = AllPass-from_list_all is_lower_hex_digit lower_digits refl k 0 below
+
+-- what the digits of each byte are, all of the hexadecimal text is
+hex_all : (P : ℕ → Type 0) (bytes : List ℕ)
+    → ((k : ℕ) → P (slice_index lower_digits (slice_index bytes k / 16)) × P (slice_index lower_digits (slice_index bytes k % 16)))
+    → All P (encode_lower bytes)
+unfolding encode_with
+hex_all P [] h = All-nil P
+hex_all P (b ∷ rest) h =
+    All-cons P (slice_index lower_digits (b / 16)) (slice_index lower_digits (b % 16) ∷ encode_lower rest) (h 0).0
+    (All-cons P (slice_index lower_digits (b % 16)) (encode_lower rest) (h 0).1 (hex_all P rest (λ k. h (suc k))))
 
 -- the hexadecimal text of bytes has only lower-case digits
 pub digits_pass : (bytes : List ℕ) → IsBytes bytes → AllPass is_lower_hex_digit (encode_lower bytes)
-unfolding encode_with
-digits_pass [] h = All-nil (λ x. is_lower_hex_digit x ≡ true)
-digits_pass (b ∷ rest) h =
-    let fits : b < 256 = h 0 in
-    let high : b / 16 < 16 = omega arith in
-    let low : b % 16 < 16 = omega arith in
-    All-cons (λ x. is_lower_hex_digit x ≡ true) (slice_index lower_digits (b / 16)) (slice_index lower_digits (b % 16) ∷ encode_lower rest)
-    (digit_passes (b / 16) high)
-    (All-cons (λ x. is_lower_hex_digit x ≡ true) (slice_index lower_digits (b % 16)) (encode_lower rest)
-    (digit_passes (b % 16) low) (digits_pass rest (λ k. h (suc k))))
+digits_pass bytes h = hex_all (λ x. is_lower_hex_digit x ≡ true) bytes
+    (λ k. (digit_passes (slice_index bytes k / 16) (omega (arith, h k)), digit_passes (slice_index bytes k % 16) (omega arith)))
 
 -- ---- no colons and no commas
 
 -- the byte ends neither a base nor a stem
-IsPlain : ℕ → Type 0
+abbrev IsPlain : ℕ → Type 0
 IsPlain byte = (is_colon byte ≡ false) × (is_comma byte ≡ false)
 
 -- a digit is plain
 digit_is_plain : (byte : ℕ) → is_lower_hex_digit byte ≡ true → IsPlain byte
-unfolding IsPlain
-digit_is_plain byte h = (no_colon, no_comma)
-  where
-    no_colon : is_colon byte ≡ false
-    no_colon = grind arith
-
-    no_comma : is_comma byte ≡ false
-    no_comma = grind arith
+digit_is_plain byte h = (grind arith, grind arith)
 
 -- a byte read from the table is plain, even past its end
 table_is_plain : (k : ℕ) → IsPlain (slice_index lower_digits k)
-unfolding IsPlain
 table_is_plain k =
     elim (cases_lt k 16) [
       | inl below ↦ digit_is_plain (slice_index lower_digits k) (digit_passes k below)
@@ -64,13 +55,7 @@ table_is_plain k =
     ]
 
 digits_are_plain : (bytes : List ℕ) → All IsPlain (encode_lower bytes)
-unfolding encode_with
-digits_are_plain [] = All-nil IsPlain
-digits_are_plain (b ∷ rest) =
-    All-cons IsPlain (slice_index lower_digits (b / 16)) (slice_index lower_digits (b % 16) ∷ encode_lower rest)
-    (table_is_plain (b / 16))
-    (All-cons IsPlain (slice_index lower_digits (b % 16)) (encode_lower rest)
-    (table_is_plain (b % 16)) (digits_are_plain rest))
+digits_are_plain bytes = hex_all IsPlain bytes (λ k. (table_is_plain (slice_index bytes k / 16), table_is_plain (slice_index bytes k % 16)))
 
 -- a name in which no byte passes is whole before the first that does
 all_before : (p : ℕ → Bool) (name : List ℕ) → All (λ byte. p byte ≡ false) name → before_first p name ≡ name
@@ -79,55 +64,41 @@ all_before p name h =
     ∙ take_all (length name) name (omega arith)
 
 stem_is_plain : (account uid : List ℕ) → IsAccountText account → All IsPlain (stem_of account uid)
-unfolding IsPlain
 stem_is_plain account uid h =
     All-append IsPlain account (46 ∷ encode_lower uid)
     (λ k d lt. digit_is_plain (get_or account k d) (h.1 k d lt))
     (All-cons IsPlain 46 (encode_lower uid) (refl, refl) (digits_are_plain uid))
 
 base-stem_of : (account uid : List ℕ) → IsAccountText account → base (stem_of account uid) ≡ stem_of account uid
-unfolding IsPlain
 base-stem_of account uid h = all_before is_colon (stem_of account uid) (λ k d lt. (stem_is_plain account uid h k d lt).0)
 
 pub stem-stem_of : (account uid : List ℕ) → IsAccountText account → stem (stem_of account uid) ≡ stem_of account uid
-unfolding IsPlain
 stem-stem_of account uid h =
     ap (before_first is_comma) (base-stem_of account uid h)
     ∙ all_before is_comma (stem_of account uid) (λ k d lt. (stem_is_plain account uid h k d lt).1)
 
 -- a decimal has only digits
 glyph_is_no_colon : (d : ℕ) → d < 10 → is_colon (digit_glyph false d) ≡ false
-glyph_is_no_colon d small = by (nat_lt d 10)
-  where
-    by : (b : Bool) → is_colon (cond b (48 + d) (87 + d)) ≡ false
-    by true = grind arith
-    by false = grind arith
+glyph_is_no_colon d small = cond_both (nat_lt d 10) (48 + d) (87 + d) (λ byte. is_colon byte ≡ false) (λ _. grind arith) (λ _. grind arith)
 
 onto_has_no_colon : (k n : ℕ) (acc : List ℕ) → All (λ byte. is_colon byte ≡ false) acc → All (λ byte. is_colon byte ≡ false) (digits_onto k 10 false n acc)
 onto_has_no_colon zero n acc h = h
 onto_has_no_colon (suc k) n acc h =
     let more = All-cons (λ byte. is_colon byte ≡ false) (digit_glyph false (n % 10)) acc (glyph_is_no_colon (n % 10) (omega arith)) h in
-    either (n / 10 == 0) _ _ more (onto_has_no_colon k (n / 10) (digit_glyph false (n % 10) ∷ acc) more)
-  where
-    either : (b : Bool) (xs ys : List ℕ) → All (λ byte. is_colon byte ≡ false) xs → All (λ byte. is_colon byte ≡ false) ys
-        → All (λ byte. is_colon byte ≡ false) (cond b xs ys)
-    either true xs ys p q = p
-    either false xs ys p q = q
+    cond_both (n / 10 == 0) _ _ (All (λ byte. is_colon byte ≡ false)) (λ _. more)
+    (λ _. onto_has_no_colon k (n / 10) (digit_glyph false (n % 10) ∷ acc) more)
 
 decimal_has_no_colon : (n : ℕ) → All (λ byte. is_colon byte ≡ false) (decimal n)
 unfolding digits
 decimal_has_no_colon n = onto_has_no_colon 64 n [] (All-nil (λ byte. is_colon byte ≡ false))
 
 pub base-name_of : (account uid : List ℕ) (size : ℕ) → IsAccountText account → base (name_of account uid size) ≡ name_of account uid size
-unfolding IsPlain
 base-name_of account uid size h =
     all_before is_colon (name_of account uid size)
     (All-append (λ byte. is_colon byte ≡ false) (stem_of account uid ++ codes ",S=") (decimal size)
     (All-append (λ byte. is_colon byte ≡ false) (stem_of account uid) (codes ",S=")
     (λ k d lt. (stem_is_plain account uid h k d lt).0)
-    (All-cons (λ byte. is_colon byte ≡ false) 44 (83 ∷ 61 ∷ []) refl
-    (All-cons (λ byte. is_colon byte ≡ false) 83 (61 ∷ []) refl
-    (All-cons (λ byte. is_colon byte ≡ false) 61 [] refl (All-nil (λ byte. is_colon byte ≡ false))))))
+    (All-from_recursion (λ byte. is_colon byte ≡ false) (codes ",S=") (refl, (refl, (refl, tt)))))
     (decimal_has_no_colon size))
 
 -- a first byte that passes leaves nothing, another stays
@@ -148,7 +119,6 @@ before_first-cut p (x ∷ xs) rest mark passes =
     ∙ sym (before_first-cons p x xs)
 
 pub stem-name_of : (account uid : List ℕ) (size : ℕ) → IsAccountText account → stem (name_of account uid size) ≡ stem_of account uid
-unfolding IsPlain
 stem-name_of account uid size h =
     ap (before_first is_comma) (base-name_of account uid size h ∙ append_assoc (stem_of account uid) (codes ",S=") (decimal size))
     ∙ before_first-cut is_comma (stem_of account uid) (83 ∷ 61 ∷ decimal size) 44 refl
@@ -182,13 +152,16 @@ stem-base name = ap (before_first is_comma) (base_base name)
 abbrev pub HaveRanges : Type 0
 HaveRanges = (id : List ℕ) → IsLegalId id → HasIdRanges id
 
--- a legal id is made of bytes
-pub IsBytes-legal : HaveRanges → (uid : List ℕ) → IsLegalId uid → IsBytes uid
-IsBytes-legal ranges uid legal k =
-    elim (cases_lt k (length uid)) [
-      | inl inside ↦ let range = (ranges uid legal).characters k 0 inside in omega (arith, range.1)
-      | inr past ↦ let e = get_or_past uid k 0 past in omega (arith, e)
+pub IsBytes-from_all : (xs : List ℕ) → All (λ x. x < 256) xs → IsBytes xs
+IsBytes-from_all xs all k =
+    elim (cases_lt k (length xs)) [
+      | inl inside ↦ all k 0 inside
+      | inr past ↦ let e = get_or_past xs k 0 past in omega (arith, e)
     ]
+
+-- a legal id is made of bytes
+IsBytes-legal : HaveRanges → (uid : List ℕ) → IsLegalId uid → IsBytes uid
+IsBytes-legal ranges uid legal = IsBytes-from_all uid (λ k d inside. omega (arith, ((ranges uid legal).characters k d inside).1))
 
 pub stem_of-injective : HaveRanges → (account a b : List ℕ) → IsLegalId a → IsLegalId b → stem_of account a ≡ stem_of account b → a ≡ b
 stem_of-injective ranges account a b la lb same =
@@ -200,11 +173,7 @@ stem_of-injective ranges account a b la lb same =
 -- ---- account texts
 
 pub IsAscii-account : (text : List ℕ) → AllPass is_lower_hex_digit text → IsAscii text
-IsAscii-account text h k =
-    elim (cases_lt k (length text)) [
-      | inl inside ↦ digit_is_ascii (slice_index text k) (h k 0 inside)
-      | inr past ↦ let e = get_or_past text k 0 past in omega (arith, e)
-    ]
+IsAscii-account text h = IsAscii-from_all text (λ k d inside. digit_is_ascii (get_or text k d) (h k d inside))
   where
     digit_is_ascii : (byte : ℕ) → is_lower_hex_digit byte ≡ true → byte < 128
     digit_is_ascii byte pass = grind arith
@@ -246,13 +215,6 @@ no_reading ranges e uid digits read legal same =
     let both : Ok uid ≡ Err e = sym (decode_of-legal ranges uid digits legal same) ∙ read in
     cc
 
--- a name put together from its parts
-pub put_together : (name stem front text digits account code : List ℕ) → name ≡ front ++ text → front ≡ stem ++ code → code ≡ 46 ∷ []
-    → stem ≡ account → text ≡ digits → name ≡ account ++ 46 ∷ digits
-put_together name stem front text digits account code n f s a t =
-    n ∙ ap (λ (xs : List ℕ). xs ++ text) (f ∙ ap (λ (xs : List ℕ). stem ++ xs) s ∙ ap (λ (xs : List ℕ). xs ++ 46 ∷ []) a)
-    ∙ append_assoc account (46 ∷ []) text ∙ ap (λ (xs : List ℕ). account ++ 46 ∷ xs) t
-
 -- a name in which no full stop follows the account's text is no file name of the account, and one
 -- in which it does has the digits after it
 pub digits_behind : (account name : List ℕ) (marked : List ℕ) (r : Option (Bor (List ℕ))) → name ≡ account ++ marked
@@ -260,13 +222,6 @@ pub digits_behind : (account name : List ℕ) (marked : List ℕ) (r : Option (B
     → MatchOption r ((digits : List ℕ) → name ≢ account ++ 46 ∷ digits) (λ digits. name ≡ account ++ 46 ∷ digits.now)
 digits_behind account name marked None e h = λ digits same. h digits (append_cancel_left account marked (46 ∷ digits) (sym e ∙ same))
 digits_behind account name marked (Some rest) e h = e ∙ ap (λ (xs : List ℕ). account ++ xs) h
-
--- what follows a front that was taken off a text
-pub text_after_is : (text front : List ℕ) (r : Option (Bor (List ℕ)))
-    → MatchOption r (FindsTextPrefix front text None) (λ rest. StripsPrefix (FindsTextPrefix front) text rest.now)
-    → MatchOption r ((rest : List ℕ) → text ≢ front ++ rest) (λ rest. text ≡ front ++ rest.now)
-text_after_is text front None h = h
-text_after_is text front (Some rest) h = h.1.1 ∙ ap (λ (xs : List ℕ). front ++ xs) (sym h.2)
 
 -- if no id has this text, no id has the stem that ends in it
 pub none_named : {E : Type 0} {B : Type 0} (account name digits : List ℕ) (r : Result (Option (Vec ℕ B)) E) → name ≡ account ++ 46 ∷ digits

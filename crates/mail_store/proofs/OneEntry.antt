@@ -3,7 +3,7 @@ use Rattle.std.proofs.Common.{◌≡◌, inl, inr, ℕ, ◌+◌, ◌≤◌, Bool
 use Rattle.std.specs.Prelude.{not, ◌==◌}
 use Rattle.std.specs.List.{list_all, onto_first}
 use Rattle.std.proofs.lemmas.Bool.{and_parts, cases_Bool, or_cases, or_right, true≢false}
-use Rattle.std.proofs.lemmas.Bool.Decides.{eqb_tells}
+use Rattle.std.proofs.lemmas.Bool.Decides.{eqb_tells, same_from_decides}
 use Rattle.std.proofs.Math.Seq.{drop-append_seam}
 use Rattle.std.proofs.lemmas.List.{take-append-drop}
 use Rattle.memchr.specs.Find.{OccursAt, Nowhere}
@@ -21,11 +21,6 @@ abbrev pub holds_needle : List ℕ → Bool
 holds_needle [] = false
 holds_needle (byte ∷ rest) = (byte == 10 && begins_entry rest) || holds_needle rest
 
-both_ways : (a b : Bool) → (a ≡ true → b ≡ true) → (b ≡ true → a ≡ true) → a ≡ b
-both_ways true b to from = sym (to refl)
-both_ways false true to from = from refl
-both_ways false false to from = refl
-
 -- ---- lines and the needle
 
 from_first : (rest line : List ℕ) (lines : List (List ℕ)) → lines_of (from_words ++ rest) ≡ line ∷ lines → (more : List ℕ) × (line ≡ from_words ++ more)
@@ -37,7 +32,7 @@ from_first rest line lines e = by (lines_of rest) e
 
 -- the first line begins with `From ` exactly if the bytes do
 first_begins : (bytes line : List ℕ) (lines : List (List ℕ)) → lines_of bytes ≡ line ∷ lines → begins_entry line ≡ begins_entry bytes
-first_begins bytes line lines e = both_ways (begins_entry line) (begins_entry bytes) to from
+first_begins bytes line lines e = same_from_decides (begins_entry line) (begins_entry bytes) (to, from) (λ h. h, λ h. h)
   where
     to : begins_entry line ≡ true → begins_entry bytes ≡ true
     to is = begins_entry_by bytes (drop 5 line ++ joined lines) (

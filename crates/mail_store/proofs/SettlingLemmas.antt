@@ -1,21 +1,23 @@
 -- What a loss of power leaves of an entry, and what settling does to the file that it is in.
-use Rattle.std.proofs.Common.{get_or, ◌≡◌, ◌⊎◌, inl, inr, ℕ, suc, ◌+◌, ◌-◌, ◌<◌, ◌≤◌, ◌%◌, Bool, true, false, cond, ◌&&◌, ◌||◌, List, [], ◌∷◌, ◌++◌, length, take, drop, Option, Some, refl, sym, ap, subst, ◌∙◌, arith, length-append}
-use Rattle.std.specs.Prelude.{bytes_eq, HoldsAt, not, ◌==◌, nat_eq, nat_lt, nat_le, slice_index}
-use Rattle.std.specs.Cmp.Lexicographic.{pointwise}
+use Rattle.std.proofs.Common.{get_or, ◌≡◌, ◌⊎◌, inl, inr, ℕ, suc, ◌+◌, ◌-◌, ◌<◌, ◌≤◌, ◌%◌, Bool, true, false, cond, ◌&&◌, List, [], ◌∷◌, ◌++◌, length, take, drop, Option, Some, refl, sym, ap, subst, ◌∙◌, arith, length-append}
+use Rattle.std.specs.Prelude.{bytes_eq, HoldsAt, not, ◌==◌, nat_lt, nat_le}
 use Rattle.std.specs.List.{list_all, AllByRecursion}
-use Rattle.std.proofs.lemmas.Bool.{and_parts, cases_Bool, cases_lt, or_cases, or_right, true≢false, lt-ltb, le-leb, eq-eqb}
-use Rattle.std.proofs.lemmas.Bool.Decides.{eqb_tells}
+use Rattle.std.proofs.lemmas.Bool.{and_parts, cases_Bool, cases_lt, or_right, true≢false, lt-ltb, le-leb, eq-eqb}
+use Rattle.std.proofs.lemmas.Bool.Decides.{Decides-eqb, eqb_tells}
 use Rattle.std.proofs.Math.Bool.{and-false, or-true}
-use Rattle.std.proofs.lemmas.List.{append-nil, nil_from_length}
+use Rattle.std.proofs.Math.Logic.{⊎_map}
+use Rattle.std.proofs.lemmas.List.{append-nil, append_assoc, nil_from_length, same_from_push}
+use Rattle.std.proofs.lemmas.Slice.Eq.{ends_is}
 use Rattle.std.proofs.Math.Seq.{drop-append_seam, drop-cons, take-append_seam}
 use Rattle.mail_terms.specs.Listing.{Item}
 use Rattle.mail_terms.specs.Text.{IsWhole}
-use Rattle.mail_store.specs.Mboxrd.{separator, begins_entry, quoted_text, unquoted_text, entry_of, text_in, MboxFile}
+use Rattle.mail_store.specs.Mboxrd.{separator, begins_entry, quoted_text, unquoted_text, entry_of, text_in}
 use Rattle.mail_store.specs.MboxScan.{IsApart}
 use Rattle.mail_store.specs.Settling.{block_size, is_lost, is_torn, MayBeLeft, begin_with, is_one_entry, ends_empty, is_ours, is_entry, listed_size, has_size, is_whole, stands_whole, settled_file, CountsWhole, IsCutOff, LeftoversAreSettled, FrontsAreSettled, WholeEntriesCount}
-use Rattle.mail_store.proofs.OneEntry.{holds_needle, needle, needle_there, one_entry_is}
-use Rattle.mail_store.proofs.MboxQuoting.{begins_with, unquotes_quoted}
-use Rattle.mail_store.proofs.MboxGroups.{inner_apart, entry_group, entry_lines, entry_is_group, entry_adds_text, texts_go_on}
+use Rattle.mail_store.proofs.Leavings.{all_left, part_left}
+use Rattle.mail_store.proofs.OneEntry.{holds_needle, needle, needle_split, needle_there, one_entry_is}
+use Rattle.mail_store.proofs.MboxQuoting.{unquotes_quoted}
+use Rattle.mail_store.proofs.MboxGroups.{inner_apart, entry_bytes, entry_group, entry_lines, entry_is_group, group_ends}
 
 -- ---- blocks
 
@@ -37,58 +39,42 @@ lost_on place byte rest lost inside =
     ap (λ (n : ℕ). list_all (λ b. b == 0) (take n rest)) room
     ∙ (and_parts (byte == 0) (list_all (λ b. b == 0) (take (511 - place % block_size) rest)) (sym (lost_step place byte rest) ∙ lost)).1
 
--- one byte further
-pub torn_step : (at k : ℕ) (bytes : List ℕ) → k < length bytes → is_torn at (drop k bytes) ≡ (((at + 1) % block_size == 0 && slice_index bytes k == 0) || is_torn (at + 1) (drop (k + 1) bytes))
-torn_step at k bytes within = let next : k + 1 ≡ suc k = omega arith in rw (next, drop-cons bytes k 0 within) refl
-
 -- the last byte is zero
 abbrev pub EndsInZero : List ℕ → Type 0
 EndsInZero bytes = (front : List ℕ) × (bytes ≡ front ++ 0 ∷ [])
 
--- what is lost has a zero at the end of a block, or at its own end
-lost_tears : (place byte : ℕ) (rest : List ℕ) → is_lost place (byte ∷ rest) ≡ true → (is_torn place (byte ∷ rest) ≡ true) ⊎ EndsInZero (byte ∷ rest)
-lost_tears place byte [] lost = inr ([], ap (λ (b : ℕ). b ∷ []) (zero_lost place byte [] lost))
-lost_tears place byte (next ∷ more) lost = elim (eqb_tells ((place + 1) % block_size) 0) [
+-- a zero at the end of a block, or at the end of the bytes
+abbrev Breaks : ℕ → List ℕ → Type 0
+Breaks place bytes = (is_torn place bytes ≡ true) ⊎ EndsInZero bytes
+
+breaks_later : (place byte : ℕ) (bytes : List ℕ) → Breaks (place + 1) bytes → Breaks place (byte ∷ bytes)
+breaks_later place byte bytes =
+    ⊎_map (or_right ((place + 1) % block_size == 0 && byte == 0) (is_torn (place + 1) bytes))
+    (λ last. (byte ∷ last.0, ap (λ (l : List ℕ). byte ∷ l) last.1))
+
+lost_breaks : (place byte : ℕ) (rest : List ℕ) → is_lost place (byte ∷ rest) ≡ true → Breaks place (byte ∷ rest)
+lost_breaks place byte [] lost = inr ([], ap (λ (b : ℕ). b ∷ []) (zero_lost place byte [] lost))
+lost_breaks place byte (next ∷ more) lost = elim (eqb_tells ((place + 1) % block_size) 0) [
   | inl p ↦ inl (rw (p.0, eq-eqb byte 0 (zero_lost place byte (next ∷ more) lost)) refl)
-  | inr p ↦ elim (lost_tears (place + 1) next more (lost_on place byte (next ∷ more) lost p.1)) [
-    | inl torn ↦ inl (or_right ((place + 1) % block_size == 0 && byte == 0) (is_torn (place + 1) (next ∷ more)) torn)
-    | inr last ↦ inr (byte ∷ last.0, ap (λ (l : List ℕ). byte ∷ l) last.1)
-  ]
+  | inr p ↦ breaks_later place byte (next ∷ more) (lost_breaks (place + 1) next more (lost_on place byte (next ∷ more) lost p.1))
 ]
 
-not_empty_last : (front : List ℕ) → ends_empty (front ++ 0 ∷ []) ≡ false
-not_empty_last [] = refl
-not_empty_last (a ∷ []) = and-false (nat_eq 10 a)
-not_empty_last (a ∷ b ∷ more) =
-    let size = length-append more (0 ∷ []) in
-    let step : length (a ∷ b ∷ more ++ 0 ∷ []) - 2 ≡ suc (length (b ∷ more ++ 0 ∷ []) - 2) = omega (arith, size) in
-    rw step (not_empty_last (b ∷ more))
-
 -- ---- what is left of an entry
-
-pub front_left : (place : ℕ) (front rest : List ℕ) → MayBeLeft place (front ++ rest) front
-front_left place [] rest = tt
-front_left place (byte ∷ front) rest = (inl refl, front_left (place + 1) front rest)
 
 left_short : (place : ℕ) (words left : List ℕ) → MayBeLeft place words left → length left ≤ length words
 left_short place words [] is = omega arith
 left_short place [] (byte ∷ left) is = absurd is
 left_short place (word ∷ words) (byte ∷ left) is = let less = left_short (place + 1) words left is.1 in omega (arith, less)
 
-same_or_torn : (place : ℕ) (words left : List ℕ) → MayBeLeft place words left → length left ≡ length words
-    → (left ≡ words) ⊎ ((is_torn place left ≡ true) ⊎ EndsInZero left)
-same_or_torn place [] [] is size = inl refl
-same_or_torn place (word ∷ words) [] is size = absurd (omega (arith, size))
-same_or_torn place [] (byte ∷ left) is size = absurd is
-same_or_torn place (word ∷ words) (byte ∷ left) is size = elim is.0 [
-  | inr lost ↦ inr (lost_tears place byte left lost)
-  | inl same ↦ elim (same_or_torn (place + 1) words left is.1 (omega (arith, size))) [
-    | inl all ↦ inl (ap (λ (b : ℕ). b ∷ left) same ∙ ap (λ (l : List ℕ). word ∷ l) all)
-    | inr broken ↦ inr (elim broken [
-      | inl torn ↦ inl (or_right ((place + 1) % block_size == 0 && byte == 0) (is_torn (place + 1) left) torn)
-      | inr last ↦ inr (byte ∷ last.0, ap (λ (l : List ℕ). byte ∷ l) last.1)
-    ])
-  ]
+same_or_broken : (place : ℕ) (words left : List ℕ) → MayBeLeft place words left → length left ≡ length words
+    → (left ≡ words) ⊎ Breaks place left
+same_or_broken place [] [] is size = inl refl
+same_or_broken place (word ∷ words) [] is size = absurd (omega (arith, size))
+same_or_broken place [] (byte ∷ left) is size = absurd is
+same_or_broken place (word ∷ words) (byte ∷ left) is size = elim is.0 [
+  | inr lost ↦ inr (lost_breaks place byte left lost)
+  | inl same ↦ ⊎_map (λ all. ap (λ (b : ℕ). b ∷ left) same ∙ ap (λ (l : List ℕ). word ∷ l) all) (breaks_later place byte left)
+      (same_or_broken (place + 1) words left is.1 (omega (arith, size)))
 ]
 
 left_begins : (place : ℕ) (words more left : List ℕ) → MayBeLeft place (words ++ more) left → begin_with place words left ≡ true
@@ -110,21 +96,21 @@ left_from place (byte ∷ front) more (word ∷ words) plain is = elim is.0 [
   | inr lost ↦ absurd (plain.0 (zero_lost place byte (front ++ more) lost))
 ]
 
+-- what is left from some place on is left of the words from there on
+left_behind : (place : ℕ) (words front more : List ℕ) → MayBeLeft place words (front ++ more)
+    → (at : ℕ) × (before : List ℕ) × (behind : List ℕ) × (words ≡ before ++ behind) × MayBeLeft at behind more
+left_behind place words [] more is = (place, [], words, refl, is)
+left_behind place [] (byte ∷ front) more is = absurd is
+left_behind place (word ∷ words) (byte ∷ front) more is =
+    let later = left_behind (place + 1) words front more is.1 in
+    (later.0, word ∷ later.1, later.2, ap (λ (l : List ℕ). word ∷ l) later.3, later.4)
+
 left_needle : (place : ℕ) (words left : List ℕ) → MayBeLeft place words left → holds_needle left ≡ true → holds_needle words ≡ true
-left_needle place words [] is held = absurd (true≢false (sym held))
-left_needle place [] (byte ∷ left) is held = absurd is
-left_needle place (word ∷ words) (byte ∷ left) is held = elim (or_cases (byte == 10 && begins_entry left) (holds_needle left) held) [
-  | inr later ↦ or_right (word == 10 && begins_entry words) (holds_needle words) (left_needle (place + 1) words left is.1 later)
-  | inl here ↦
-      let parts = and_parts (byte == 10) (begins_entry left) here in
-      elim (eqb_tells byte 10) [
-        | inr p ↦ absurd (true≢false (sym parts.0 ∙ p.0))
-        | inl p ↦
-            let all : byte ∷ left ≡ needle ++ drop 5 left = ap (λ (b : ℕ). b ∷ left) p.1 ∙ ap (λ (l : List ℕ). 10 ∷ l) (begins_with left parts.1) in
-            let w = left_from place needle (drop 5 left) (word ∷ words) plain (subst (MayBeLeft place (word ∷ words)) all is) in
-            ap holds_needle w.1 ∙ needle_there [] w.0
-      ]
-]
+left_needle place words left is held =
+    let found = needle_split left held in
+    let at = left_behind place words found.0 (needle ++ found.1) (subst (MayBeLeft place words) found.2 is) in
+    let w = left_from at.0 needle found.1 at.2 plain at.4 in
+    ap holds_needle (at.3 ∙ ap (λ (l : List ℕ). at.1 ++ l) w.1) ∙ needle_there at.1 w.0
   where
     plain : AllByRecursion (λ b. b ≡ 0 → ⊥) needle
     plain = ((λ e. absurd (omega (arith, e))), ((λ e. absurd (omega (arith, e))), ((λ e. absurd (omega (arith, e))), ((λ e. absurd (omega (arith, e))), ((λ e. absurd (omega (arith, e))), ((λ e. absurd (omega (arith, e))), tt))))))
@@ -147,26 +133,10 @@ left_ours place text left whole is = rw (left_begins place separator (quoted_tex
       | inr free ↦ one_entry_is left ∙ ap not free
     ]
 
-ends_by : (front bytes : List ℕ) → bytes ≡ front ++ 10 ∷ 10 ∷ [] → ends_empty bytes ≡ true
-ends_by front bytes e =
-    let size = ap length e ∙ length-append front (10 ∷ 10 ∷ []) in
-    let at : length bytes - 2 ≡ length front = omega (arith, size) in
-    ap (λ (k : ℕ). pointwise nat_eq (10 ∷ 10 ∷ []) (drop k bytes)) at
-    ∙ ap (λ (l : List ℕ). pointwise nat_eq (10 ∷ 10 ∷ []) (drop (length front) l)) e
-    ∙ ap (pointwise nat_eq (10 ∷ 10 ∷ [])) (drop-append_seam front (10 ∷ 10 ∷ []))
-
 entry_ends : (text : List ℕ) → IsWhole text → ends_empty (entry_of text) ≡ true
-entry_ends text whole = elim (texts_go_on (entry_of text) (text ∷ []) (entry_adds_text [] text [] none whole)) [
-  | inl nil ↦
-      let size = length-append separator (quoted_text text ++ 10 ∷ []) in
-      let nothing = ap length nil in
-      let words : length separator ≡ 44 = refl in
-      absurd (omega (arith, size, nothing, words))
-  | inr some ↦ ends_by some.1.0 (entry_of text) some.1.1
-]
-  where
-    none : MboxFile [] []
-    none = record { groups = []; are = tt; whole = refl; read = refl }
+entry_ends text whole =
+    let ends = group_ends (entry_group text) (entry_is_group text whole) in
+    (ends_is Decides-eqb (entry_of text) (10 ∷ 10 ∷ []) (ends_empty (entry_of text)) refl).1 ends.0 (sym (entry_bytes text) ∙ ends.1)
 
 -- ---- settling
 
@@ -174,30 +144,19 @@ entry_ends text whole = elim (texts_go_on (entry_of text) (text ∷ []) (entry_a
 settles_none : (start len : ℕ) (listed : Option ℕ) (was : List ℕ) → length (drop start was) ≡ 0 → (stands_whole start len listed was ≡ false) × (settled_file start len listed was ≡ was)
 settles_none start len listed was none =
     let nil : drop start was ≡ [] = nil_from_length (drop start was) none in
-    let isn't : stands_whole start len listed was ≡ false = ap (λ (l : List ℕ). is_whole start len listed l) nil ∙ and-false (0 == len) in
-    (isn't, ap (λ (l : List ℕ). cond ((nat_lt 0 (length l) && nat_le (length l) len) && (is_ours start l && not (stands_whole start len listed was))) (take start was) was) nil)
+    (ap (is_whole start len listed) nil ∙ and-false (0 == len), rw nil refl)
 
 -- it is whole
 settles_whole : (start len : ℕ) (listed : Option ℕ) (was : List ℕ) → stands_whole start len listed was ≡ true → settled_file start len listed was ≡ was
 settles_whole start len listed was whole =
-    ap (λ (b : Bool). cond ((nat_lt 0 (length rest) && nat_le (length rest) len) && (is_ours start rest && not b)) (take start was) was) whole
-    ∙ ap (λ (b : Bool). cond ((nat_lt 0 (length rest) && nat_le (length rest) len) && b) (take start was) was) (and-false (is_ours start rest))
-    ∙ ap (λ (b : Bool). cond b (take start was) was) (and-false (nat_lt 0 (length rest) && nat_le (length rest) len))
-  where
-    rest : List ℕ
-    rest = drop start was
+    let rest = drop start was in
+    rw (whole, and-false (is_ours start rest), and-false (nat_lt 0 (length rest) && nat_le (length rest) len)) refl
 
 -- it is ours, and not whole
 settles_torn : (start len : ℕ) (listed : Option ℕ) (was : List ℕ) → 0 < length (drop start was) → length (drop start was) ≤ len → is_ours start (drop start was) ≡ true
     → stands_whole start len listed was ≡ false → settled_file start len listed was ≡ take start was
 settles_torn start len listed was some few ours isn't =
-    ap (λ (b : Bool). cond ((b && nat_le (length rest) len) && (is_ours start rest && not (stands_whole start len listed was))) (take start was) was) (lt-ltb 0 (length rest) some)
-    ∙ ap (λ (b : Bool). cond ((true && b) && (is_ours start rest && not (stands_whole start len listed was))) (take start was) was) (le-leb (length rest) len few)
-    ∙ ap (λ (b : Bool). cond ((true && true) && (b && not (stands_whole start len listed was))) (take start was) was) ours
-    ∙ ap (λ (b : Bool). cond ((true && true) && (true && not b)) (take start was) was) isn't
-  where
-    rest : List ℕ
-    rest = drop start was
+    rw (isn't, lt-ltb 0 (length (drop start was)) some, le-leb (length (drop start was)) len few, ours) refl
 
 -- a front that is ours, after a file
 settles_behind : (file front : List ℕ) (len : ℕ) (listed : Option ℕ) → 0 < length front → length front ≤ len → is_ours (length file) front ≡ true → stands_whole (length file) len listed (file ++ front) ≡ false
@@ -209,7 +168,7 @@ settles_behind file front len listed some few ours isn't =
     ∙ take-append_seam file front
 
 whole_parts : (place len : ℕ) (listed : Option ℕ) (bytes : List ℕ) → is_whole place len listed bytes ≡ true
-    → (length bytes ≡ len) × (is_torn place bytes ≡ true → ⊥) × (EndsInZero bytes → ⊥)
+    → (length bytes ≡ len) × (Breaks place bytes → ⊥)
 whole_parts place len listed bytes is =
     let sized = and_parts (length bytes == len) (is_entry place bytes && has_size listed (text_in bytes)) is in
     let told = and_parts (is_entry place bytes) (has_size listed (text_in bytes)) sized.1 in
@@ -219,20 +178,23 @@ whole_parts place len listed bytes is =
         | inl p ↦ p.1
         | inr p ↦ absurd (true≢false (sym sized.0 ∙ p.0))
       ],
-      (λ torn. true≢false (sym ends.0 ∙ ap not torn)),
-      (λ last. true≢false (sym ends.1 ∙ ap ends_empty last.1 ∙ not_empty_last last.0)),
+      λ breaks. elim breaks [
+        | inl torn ↦ true≢false (sym ends.0 ∙ ap not torn)
+        | inr last ↦
+            let front = take (length bytes - 2) bytes in
+            let twice = (ends_is Decides-eqb bytes (10 ∷ 10 ∷ []) (ends_empty bytes) refl).0 ends.1 in
+            let same = same_from_push last.0 (front ++ 10 ∷ []) 0 10 (sym last.1 ∙ twice ∙ sym (append_assoc front (10 ∷ []) (10 ∷ []))) in
+            omega (arith, same.1)
+      ],
     )
 
 pub left_settled : LeftoversAreSettled
 left_settled file text left listed whole is = elim (cases_Bool (stands_whole start len listed (file ++ left))) [
   | inl stands ↦
       let parts = whole_parts start len listed left (ap (λ (l : List ℕ). is_whole start len listed l) (sym seam) ∙ stands) in
-      elim (same_or_torn start (entry_of text) left is parts.0) [
+      elim (same_or_broken start (entry_of text) left is parts.0) [
         | inl same ↦ inl (stands, settles_whole start len listed (file ++ left) stands, same)
-        | inr broken ↦ elim broken [
-          | inl torn ↦ absurd (parts.1 torn)
-          | inr last ↦ absurd (parts.2 last)
-        ]
+        | inr broken ↦ absurd (parts.1 broken)
       ]
   | inr fails ↦ inr (
     fails,
@@ -257,7 +219,8 @@ left_settled file text left listed whole is = elim (cases_Bool (stands_whole sta
 
 pub fronts_settled : FrontsAreSettled
 fronts_settled file text front rest listed whole e =
-    left_settled file text front listed whole (subst (λ (l : List ℕ). MayBeLeft (length file) l front) (sym e) (front_left (length file) front rest))
+    left_settled file text front listed whole (subst (λ (l : List ℕ). MayBeLeft (length file) l front) (sym e)
+    (part_left (length file) front rest front (all_left (length file) front)))
 
 -- an entry has its text
 entry_text : (text : List ℕ) → IsWhole text → text_in (entry_of text) ≡ text
@@ -270,10 +233,6 @@ entry_text text whole =
     ∙ ap (λ (l : List ℕ). unquoted_text (take (length (quoted_text text)) l)) (drop-append_seam separator behind)
     ∙ ap unquoted_text (take-append_seam (quoted_text text) (10 ∷ []))
     ∙ unquotes_quoted text whole
-
-all_left : (file text : List ℕ) → MayBeLeft (length file) (entry_of text) (entry_of text)
-all_left file text =
-    subst (λ (l : List ℕ). MayBeLeft (length file) l (entry_of text)) (append-nil (entry_of text)) (front_left (length file) (entry_of text) [])
 
 all_five : (a b c d e : Bool) → a ≡ true → b ≡ true → c ≡ true → d ≡ true → e ≡ true → (a && ((b && (c && d)) && e)) ≡ true
 all_five a b c d e p q r t u = rw (p, q, r, t, u) refl
@@ -300,14 +259,14 @@ whole_counts file text listed whole = (counts, cut)
     counts sized unbroken =
         let stands : stands_whole start (length entry) listed (file ++ entry) ≡ true =
         seam ∙ all_five (length entry == length entry) (is_ours start entry) (not (is_torn start entry)) (ends_empty entry) (has_size listed (text_in entry)) (eq-eqb (length entry) (length entry) refl)
-        (left_ours start text entry whole (all_left file text)) (ap not unbroken) (entry_ends text whole) (size_is ∙ sized) in
+        (left_ours start text entry whole (all_left start entry)) (ap not unbroken) (entry_ends text whole) (size_is ∙ sized) in
         (stands, settles_whole start (length entry) listed (file ++ entry) stands, refl)
 
     cut : has_size listed text ≡ false → IsCutOff file text listed entry
     cut other =
         let fails : stands_whole start (length entry) listed (file ++ entry) ≡ false =
         seam ∙ none_of (length entry == length entry) (is_entry start entry) (has_size listed (text_in entry)) (size_is ∙ other) in
-        elim (left_settled file text entry listed whole (all_left file text)) [
+        elim (left_settled file text entry listed whole (all_left start entry)) [
           | inl is ↦ absurd (true≢false (sym is.0 ∙ fails))
           | inr is ↦ is
         ]
@@ -317,24 +276,26 @@ whole_counts file text listed whole = (counts, cut)
 no_item : Item
 no_item = record { uid = []; size = 0 }
 
+-- what the message at this place tells
+listed_at : (items : List Item) (i : ℕ) (uid id : List ℕ) (same : Bool) → listed_size (drop i items) uid ≡ listed_size items uid
+    → i < length items
+    → HoldsAt (λ (item : Item). id ≡ item.uid) items i → same ≡ bytes_eq id uid
+    → cond same (Some (get_or items i no_item).size) (listed_size (drop (suc i) items) uid) ≡ listed_size items uid
+listed_at items i uid id same was within at is =
+    ap (λ (b : Bool). cond b (Some (get_or items i no_item).size) (listed_size (drop (suc i) items) uid))
+    (is ∙ ap (λ (b : List ℕ). bytes_eq b uid) (at no_item))
+    ∙ ap (λ (l : List Item). listed_size l uid) (sym (drop-cons items i no_item within)) ∙ was
+
 -- this message has another id
 pub listed_later : (items : List Item) (i : ℕ) (uid id : List ℕ) (same : Bool) → listed_size (drop i items) uid ≡ listed_size items uid → i < length items
     → HoldsAt (λ (item : Item). id ≡ item.uid) items i → same ≡ bytes_eq id uid → same ≡ false → listed_size (drop (i + 1) items) uid ≡ listed_size items uid
 listed_later items i uid id same was within at is other =
     let next : i + 1 ≡ suc i = omega arith in
-    let item = get_or items i no_item in
-    let tells : bytes_eq item.uid uid ≡ false = ap (λ (b : List ℕ). bytes_eq b uid) (sym (at no_item)) ∙ sym is ∙ other in
-    ap (λ (k : ℕ). listed_size (drop k items) uid) next
-    ∙ ap (λ (b : Bool). cond b (Some item.size) (listed_size (drop (suc i) items) uid)) (sym tells)
-    ∙ ap (λ (l : List Item). listed_size l uid) (sym (drop-cons items i no_item within)) ∙ was
+    ap (λ (k : ℕ). listed_size (drop k items) uid) next ∙ listed_at items i uid id false was within at (sym other ∙ is)
 
 -- this message has the id
 pub listed_here : (items : List Item) (i : ℕ) (uid id : List ℕ) (size : ℕ) (same : Bool) → listed_size (drop i items) uid ≡ listed_size items uid → i < length items
     → HoldsAt (λ (item : Item). id ≡ item.uid) items i → HoldsAt (λ (item : Item). size ≡ item.size) items i → same ≡ bytes_eq id uid → same ≡ true
     → Some size ≡ listed_size items uid
 listed_here items i uid id size same was within at sized is one =
-    let item = get_or items i no_item in
-    let tells : bytes_eq item.uid uid ≡ true = ap (λ (b : List ℕ). bytes_eq b uid) (sym (at no_item)) ∙ sym is ∙ one in
-    ap (λ (s : ℕ). Some s) (sized no_item)
-    ∙ ap (λ (b : Bool). cond b (Some item.size) (listed_size (drop (suc i) items) uid)) (sym tells)
-    ∙ ap (λ (l : List Item). listed_size l uid) (sym (drop-cons items i no_item within)) ∙ was
+    ap (λ (s : ℕ). Some s) (sized no_item) ∙ listed_at items i uid id true was within at (sym one ∙ is)

@@ -1,17 +1,12 @@
-use Rattle.std.proofs.Common.{◌≡◌, ◌≤◌, ◌∙◌, ◌++◌, ℕ, List, length, string_bytes, sym, ap, subst, lit<, arith}
-use Rattle.hex.specs.Hex.{encode_lower}
+use Rattle.std.proofs.Common.{◌≡◌, ◌≤◌, ◌∙◌, ℕ, List, length, string_bytes, sym, ap, subst, lit<, arith, rules, append_assoc}
 use Rattle.mail_store.specs.FileName.{longest_stem, stem_of}
-use Rattle.mail_store.proofs.NameLemmas.{length-stem_of, length-digits, put_together}
+use Rattle.mail_store.proofs.NameLemmas.{length-stem_of, length-digits}
 use Rattle.mail_store.proofs.maildir.names.file_stem.Goals as goal
 
 pub returns-clause-short : goal.returns-clause-short
 returns-clause-short c =
-    let named : string_bytes c.push_str-2.new.self ≡ stem_of c.args.account.now c.args.uid.now =
-    put_together (string_bytes c.push_str-2.new.self) (string_bytes c.push_str.new.self) (string_bytes c.push.new.self) c.as_str-2.result.now
-    (encode_lower c.args.uid.now) c.args.account.now _
-    c.in_ok-push_str-2.ensures.bytes c.in_ok-push.ensures.bytes (c.in_ok-push.ensures.ascii (lit< tt))
-    (c.in_ok-push_str.ensures.bytes ∙ ap (λ (xs : List ℕ). xs ++ c.as_str.result.now) c.in_ok-text.ensures.bytes ∙ c.as_str.ensures.text)
-    (c.as_str-2.ensures.value ∙ c.in_ok-digits.ensures) in
+    let ascii = c.in_ok-push.ensures.ascii (lit< tt) in
+    let named : string_bytes c.push_str-2.new.self ≡ stem_of c.args.account.now c.args.uid.now = search (rules, append_assoc) in
     subst (λ (bytes : List ℕ). length bytes ≤ longest_stem) (sym named)
     (length-stem_of c.legal_ids_have_ranges.ensures c.args.account.now c.args.uid.now c.as_str.ensures.digits c.requires)
 

@@ -11,10 +11,3 @@ returns-in-Some-clause-line c =
     let found = c.in-Some.ensures in
     line_back text hay (c.in-Some.place + 1) c.requires.whole c.requires.some refl (omega (arith, found.0.high))
     (λ k behind below at. found.0.after k behind below ((Decides-eqb (slice_index hay k) 10).1 at))
-
-pub returns-in-None-clause-line : goal.returns-in-None-clause-line
-returns-in-None-clause-line c =
-    let text = c.args.text.now in
-    let hay = take (length text - 1) text in
-    line_back text hay 0 c.requires.whole c.requires.some refl (omega arith)
-    (λ k behind below at. c.in-None.ensures k (omega arith) below ((Decides-eqb (slice_index hay k) 10).1 at))

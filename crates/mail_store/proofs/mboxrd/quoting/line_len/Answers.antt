@@ -1,7 +1,7 @@
-use Rattle.std.proofs.Common.{inl, inr, refl, arith}
+use Rattle.std.proofs.Common.{inl, arith}
 use Rattle.std.specs.Prelude.{slice_index}
 use Rattle.std.proofs.lemmas.Bool.Decides.{Decides-eqb}
-use Rattle.mail_store.proofs.MboxLines.{line_front, plain_all}
+use Rattle.mail_store.proofs.MboxLines.{line_front}
 use Rattle.mail_store.proofs.mboxrd.quoting.line_len.Goals as goal
 
 pub returns-in-Some-clause-line : goal.returns-in-Some-clause-line
@@ -10,8 +10,3 @@ returns-in-Some-clause-line c =
     let found = c.in-Some.ensures in
     inl (line_front text c.in-Some.place found.0.high (λ k below at. found.0.before k (omega arith) below ((Decides-eqb (slice_index text k) 10).1 at))
     ((Decides-eqb (slice_index text c.in-Some.place) 10).0 found.1))
-
-pub returns-in-None-clause-line : goal.returns-in-None-clause-line
-returns-in-None-clause-line c =
-    let text = c.args.text.now in
-    inr (refl, plain_all text (λ k below at. c.in-None.ensures k (omega arith) below ((Decides-eqb (slice_index text k) 10).1 at)))

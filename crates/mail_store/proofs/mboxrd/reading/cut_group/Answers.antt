@@ -1,9 +1,9 @@
-use Rattle.std.proofs.Common.{◌≡◌, length, take, refl, sym, ap, ◌∙◌, arith, length-append}
+use Rattle.std.proofs.Common.{◌≡◌, length, take, refl, sym, ap, subst, ◌∙◌, arith, length-append}
 use Rattle.std.proofs.lemmas.Grind.{common_steps}
 use Rattle.std.proofs.lemmas.List.{take_rest}
-use Rattle.mail_store.specs.Mboxrd.{lines_of}
+use Rattle.mail_store.specs.MboxScan.{OpensEntry}
 use Rattle.mail_store.proofs.MboxQuoting.{cut_off}
-use Rattle.mail_store.proofs.MboxReading.{passes_first, passes_more, cut_at, opens_at}
+use Rattle.mail_store.proofs.MboxReading.{passes_first, passes_more, cut_at}
 use Rattle.mail_store.proofs.mboxrd.reading.cut_group.Goals as goal
 
 pub loop-line-init : goal.loop-line-init
@@ -26,5 +26,5 @@ returns-then-begins_entry-clause-cuts c =
     let line = c.split_at.result.0.now in
     let cut = cut_off rest line c.split_at.result.1.now c.line_len-in-loop-line.result (omega arith) c.line_len-in-loop-line.ensures.line c.split_at.ensures.front c.split_at.ensures.back in
     cut_at c.args.bytes.now rest c.split_at-then-begins_entry.result.0.now c.split_at-then-begins_entry.result.1.now c.loop-line.invariant.1
-    (opens_at rest line (lines_of c.split_at.result.1.now) cut.0 (sym c.begins_entry.ensures ∙ c.if-begins_entry.true))
+    (subst OpensEntry (sym cut.0) (sym c.begins_entry.ensures ∙ c.if-begins_entry.true))
     c.split_at-then-begins_entry.ensures.front c.split_at-then-begins_entry.ensures.back

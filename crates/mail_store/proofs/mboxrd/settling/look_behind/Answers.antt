@@ -22,11 +22,3 @@ returns-clause-looks g c = λ sound.
         reads.1.1 ∙ measures.1.1,
       ),
     )
-
-pub returns-clause-keeps : goal.returns-clause-keeps
-returns-clause-keeps g c = λ sound left may.
-    c.in_ok-edges.ensures.keeps (c.in_ok-bytes.ensures.reads sound).0 left (c.in_ok-bytes.ensures.keeps sound left may)
-
-pub returns-clause-lasts : goal.returns-clause-lasts
-returns-clause-lasts g c = λ sound sure.
-    c.in_ok-bytes.ensures.lasts sound (c.in_ok-edges.ensures.lasts (c.in_ok-bytes.ensures.reads sound).0 sure).0

@@ -68,9 +68,11 @@ moves_of c =
     both_ways c.has_name.result c.if-has_name.false (c.has_name.ensures.1
     (subst (λ (n : List ℕ). Contains (names_of (map file_of c.deref.result.now)) n) (sym (c.as_str.ensures.value ∙ titled))
     (subst (λ (pairs : List Pair). Contains (names_of (map file_of pairs)) (c.args.name.now ++ c.args.suffix.now)) (sym c.deref.ensures.value) h))) in
-    taken_to_cur flags c.self.inside.in_new.items c.self.inside.in_cur.items place c.in-Some.at c.remove-content.result made c.args.name.now (c.args.name.now ++ c.args.suffix.now)
-    c.self.invariant found.0 found.1 c.remove-content.ensures.value at.0 at.1 at.2 refl c.remove-content.ensures.items inserted titled refl
-    (base-suffixed c.args.name.now c.args.suffix.now c.requires) free
+    rw (c.remove-content.ensures.items, inserted)
+    (taken_to_cur flags c.self.inside.in_new.items c.self.inside.in_cur.items place c.in-Some.at
+    c.remove-content.result made c.args.name.now (c.args.name.now ++ c.args.suffix.now)
+    c.self.invariant found.0 found.1 c.remove-content.ensures.value at.0 at.1 at.2 titled refl
+    (base-suffixed c.args.name.now c.args.suffix.now c.requires) free)
 
 pub invariant_of-self-2 : goal.invariant_of-self-2
 invariant_of-self-2 c = (moves_of c).2

@@ -1,13 +1,7 @@
-use Rattle.std.proofs.Common.{◌∙◌, List, [], Bool, true, false, map, None, length, String, Vec, Global, ℕ, ap, sym}
+use Rattle.std.proofs.Common.{◌∙◌, List, [], Bool, map, None, String, Vec, Global, ℕ, ap}
 use Rattle.mail_store.specs.Maildir.{all_there, file_of}
-use Rattle.mail_store.specs.MemoryMaildir.{TwoFolders, count, merged, shown}
+use Rattle.mail_store.specs.MemoryMaildir.{TwoFolders, merged, shown}
 use Rattle.mail_store.proofs.maildir.memory.MemoryMaildir.new.Goals as goal
-
-pub invariant_of-result : goal.invariant_of-result
-invariant_of-result c = (
-  ap (count true) c.new-3.ensures.items ∙ sym (ap length c.new.ensures.items),
-  ap (count false) c.new-3.ensures.items ∙ sym (ap length c.new-2.ensures.items),
-)
 
 -- what is known of a device with these fields
 two_folders : List Bool → List (String Global × Vec ℕ Global) → List (String Global × Vec ℕ Global) → ℕ → TwoFolders

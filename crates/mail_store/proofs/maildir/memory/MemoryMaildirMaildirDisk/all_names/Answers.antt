@@ -1,8 +1,7 @@
 use Rattle.std.proofs.Common.{rules, ◌≡◌, ◌∙◌, ◌++◌, List, refl, true, map, subst, ap, String, Vec, Global, ℕ, IsPermutation, string_bytes}
 use Rattle.mail_store.specs.Maildir.{file_of, names_of, bases_told}
 use Rattle.mail_store.specs.MemoryMaildir.{TwoFolders}
-use Rattle.mail_store.proofs.TakingLemmas.{part_same}
-use Rattle.mail_store.proofs.MoveLemmas.{names_tell_both, shown_all}
+use Rattle.mail_store.proofs.MoveLemmas.{names_tell_both, part_same, shown_all}
 use Rattle.mail_store.proofs.maildir.memory.MemoryMaildirMaildirDisk.all_names.Goals as goal
 
 pub returns-in-Ok-clause-lists : goal.returns-in-Ok-clause-lists

@@ -1,8 +1,7 @@
 use Rattle.std.proofs.Common.{rules, ◌≡◌, ◌∙◌, refl, true, subst, ap}
 use Rattle.mail_store.specs.Maildir.{is_there, names_of}
 use Rattle.mail_store.specs.MemoryMaildir.{TwoFolders}
-use Rattle.mail_store.proofs.TakingLemmas.{part_same}
-use Rattle.mail_store.proofs.MoveLemmas.{is_all_there, theirs_of}
+use Rattle.mail_store.proofs.MoveLemmas.{is_all_there, part_same, theirs_of}
 use Rattle.mail_store.proofs.maildir.memory.MemoryMaildirMaildirDisk.names.Goals as goal
 
 pub returns-in-Ok-clause-lists : goal.returns-in-Ok-clause-lists
