@@ -2,11 +2,6 @@ use Rattle.std.proofs.Common.{◌≡◌, ◌≤◌, ◌<◌, ◌++◌, ℕ, List
 use Rattle.pop3_wire.proofs.LineWaitLemmas.{read_found, read_long, read_failed, read_ended}
 use Rattle.pop3_wire.proofs.line_reader.LineReader.line.Goals as goal
 
-pub returns-in-Some-clause-gained : goal.returns-in-Some-clause-gained
-returns-in-Some-clause-gained g c =
-    let inv = c.loop-length.invariant.1 in
-    (inv.0, c.line_end.ensures.same ∙ inv.1)
-
 pub returns-in-Some-clause-read : goal.returns-in-Some-clause-read
 returns-in-Some-clause-read g c = λ s.
     let inv = c.loop-length.invariant.1 in
@@ -17,11 +12,6 @@ returns-in-Some-clause-read g c = λ s.
       read_found c.args.limit c.in-Some.length (g.W.Wire.history c.args.wire.now) (g.W.Wire.history c.loop-length.wire)
           c.args.self.now c.loop-length.self inv.0 known.2 known.3 c.in-Some.ensures.found,
     )
-
-pub returns-then-waiting-limit-clause-gained : goal.returns-then-waiting-limit-clause-gained
-returns-then-waiting-limit-clause-gained g c =
-    let inv = c.loop-length.invariant.1 in
-    (inv.0, c.line_end.ensures.same ∙ inv.1)
 
 pub returns-then-waiting-limit-clause-read : goal.returns-then-waiting-limit-clause-read
 returns-then-waiting-limit-clause-read g c = λ s.
@@ -34,11 +24,6 @@ returns-then-waiting-limit-clause-read g c = λ s.
       read_long c.args.limit (g.W.Wire.history c.args.wire.now) (g.W.Wire.history c.loop-length.wire)
           c.args.self.now c.loop-length.self inv.0 known.2 known.3 c.in_default.ensures.none long,
     )
-
-pub returns-in-Err-clause-gained : goal.returns-in-Err-clause-gained
-returns-in-Err-clause-gained g c =
-    let inv = c.loop-length.invariant.1 in
-    (inv.0, c.in-Err.ensures.err.0 ∙ c.line_end.ensures.same ∙ inv.1)
 
 pub returns-in-Err-clause-read : goal.returns-in-Err-clause-read
 returns-in-Err-clause-read g c = λ s.
