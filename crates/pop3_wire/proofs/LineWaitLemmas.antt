@@ -18,18 +18,6 @@ gains_more start link last first waiting now gained piece gains is got = record 
   sent = ap (λ (l : Link). l.sent) got ∙ gains.sent;
 }
 
--- a line waits
-pub read_found : (limit n : ℕ) (start link : Link) (first waiting gained : List ℕ)
-    → Gains (at start first) (at link waiting) gained → GoesOn start link → HasLine limit waiting n
-    → (((g : List ℕ) × Gains (at start first) (at link waiting) g) × ReadsLine limit (at start first) (Ok n) (at link waiting))
-read_found limit n start link first waiting gained gains on line = ((gained, gains), (line, on))
-
--- as much waits as a line may have
-pub read_long : (limit : ℕ) (start link : Link) (first waiting gained : List ℕ)
-    → Gains (at start first) (at link waiting) gained → GoesOn start link → HasNoLine limit waiting → limit ≤ length waiting
-    → (((g : List ℕ) × Gains (at start first) (at link waiting) g) × ReadsLine limit (at start first) (Err TooLong) (at link waiting))
-read_long limit start link first waiting gained gains on none long = ((gained, gains), (none, long, on))
-
 -- a call was refused
 pub read_failed : (limit : ℕ) (start link last : Link) (first waiting gained : List ℕ)
     → Gains (at start first) (at link waiting) gained → GoesOn start link → HasNoLine limit waiting → length waiting < limit

@@ -17,11 +17,8 @@ use Rattle.pop3_wire.proofs.LineLemmas.{first_line_same, same_cons, cons_same}
 use Rattle.pop3_wire.proofs.HonestRows.{line_without_lf, no_lf_append, no_lf_decimal}
 use Rattle.pop3_wire.proofs.RowsLemmas.{ok_same, all_pass}
 
-plain_no_lf : (bytes : List ℕ) → list_all is_plain bytes ≡ true → list_all is_no_lf bytes ≡ true
-plain_no_lf bytes h = all_pass is_plain is_no_lf (λ b e. grind (arith, nat_tests)) bytes h
-
 argument_no_lf : (bytes : List ℕ) → is_credential bytes ≡ true → list_all is_no_lf bytes ≡ true
-argument_no_lf bytes h = plain_no_lf bytes (and_parts _ (list_all is_plain bytes) h).1
+argument_no_lf bytes h = all_pass is_plain is_no_lf (λ b e. grind (arith, nat_tests)) bytes (and_parts _ (list_all is_plain bytes) h).1
 
 number_no_lf : (word : List ℕ) (n : ℕ) → list_all is_no_lf word ≡ true → n < 2 ^ 32 → list_all is_no_lf (word ++ decimal n) ≡ true
 number_no_lf word n h l = no_lf_append word (decimal n) h (no_lf_decimal n (omega (arith, l)))

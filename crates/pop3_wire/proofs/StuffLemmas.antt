@@ -5,7 +5,7 @@ use Rattle.std.proofs.lemmas.Bool.Decides.{eqb_tells}
 use Rattle.pop3_wire.specs.Line.{crlf, IsLine, ended}
 use Rattle.pop3_wire.specs.Body.{dot, IsContent, unstuffed, text_of}
 use Rattle.mail_terms.specs.Text.{lines_of_text, whole_text, HasNoLf}
-use Rattle.pop3_wire.specs.Stuffed.{stuffed, sent_line, stuffed_lines, StuffedIsBody, StuffedIsRead, OneBody}
+use Rattle.pop3_wire.specs.Stuffed.{stuffed, sent_line, stuffed_lines, StuffedIsBody, StuffedIsRead}
 use Rattle.pop3_wire.proofs.BodyLemmas.{one_body}
 
 -- ---- a line of a text holds no LF
@@ -97,6 +97,3 @@ stuffed_is_body text = record {
 pub stuffed_is_read : StuffedIsRead
 stuffed_is_read text more body read rest is e =
     one_body body (stuffed_lines (lines_of_text text)) read (whole_text text) rest more is (stuffed_is_body text) (sym e)
-
-pub only_one_body : OneBody
-only_one_body body other text read x y left right e = one_body body other text read x y left right e

@@ -1,29 +1,19 @@
 use Rattle.std.proofs.Common.{◌≡◌, ◌≤◌, ◌<◌, ◌++◌, ℕ, List, length, ap, ◌∙◌, append_assoc, arith}
-use Rattle.pop3_wire.proofs.LineWaitLemmas.{read_found, read_long, read_failed, read_ended}
+use Rattle.pop3_wire.proofs.LineWaitLemmas.{read_failed, read_ended}
 use Rattle.pop3_wire.proofs.line_reader.LineReader.line.Goals as goal
 
 pub returns-in-Some-clause-read : goal.returns-in-Some-clause-read
 returns-in-Some-clause-read g c = λ s.
     let inv = c.loop-length.invariant.1 in
     let known = inv.2 s in
-    rw c.line_end.ensures.same (
-      known.0,
-      known.1,
-      read_found c.args.limit c.in-Some.length (g.W.Wire.history c.args.wire.now) (g.W.Wire.history c.loop-length.wire)
-          c.args.self.now c.loop-length.self inv.0 known.2 known.3 c.in-Some.ensures.found,
-    )
+    rw c.line_end.ensures.same (known.0, known.1, ((inv.0, known.2), (c.in-Some.ensures.found, known.3)))
 
 pub returns-then-waiting-limit-clause-read : goal.returns-then-waiting-limit-clause-read
 returns-then-waiting-limit-clause-read g c = λ s.
     let inv = c.loop-length.invariant.1 in
     let known = inv.2 s in
     let long : c.args.limit ≤ length c.loop-length.self = rw (← c.line_end.ensures.same, ← c.waiting.ensures.value) c.if-waiting-limit.true in
-    rw c.line_end.ensures.same (
-      known.0,
-      known.1,
-      read_long c.args.limit (g.W.Wire.history c.args.wire.now) (g.W.Wire.history c.loop-length.wire)
-          c.args.self.now c.loop-length.self inv.0 known.2 known.3 c.in_default.ensures.none long,
-    )
+    rw c.line_end.ensures.same (known.0, known.1, ((inv.0, known.2), (c.in_default.ensures.none, long, known.3)))
 
 pub returns-in-Err-clause-read : goal.returns-in-Err-clause-read
 returns-in-Err-clause-read g c = λ s.
