@@ -1,12 +1,9 @@
 -- A reader that waits for a line: what has come when it stops, and that it can go on.
-use Rattle.std.proofs.Common.{◌≡◌, ◌≤◌, ◌<◌, ◌+◌, ◌++◌, ◌||◌, ℕ, Bool, true, false, List, [], ◌∷◌, length, Err, Ok, refl, sym, ap, subst, ◌∙◌, append_assoc, append-nil, arith}
+use Rattle.std.proofs.Common.{◌≡◌, ◌≤◌, ◌<◌, ◌+◌, ◌++◌, ℕ, List, [], ◌∷◌, length, Err, Ok, refl, sym, ap, subst, ◌∙◌, append_assoc, append-nil, arith}
+use Rattle.std.proofs.Math.Bool.{or-true}
 use Rattle.pop3_wire.specs.Link.{Link}
 use Rattle.pop3_wire.specs.Place.{at, Gains, GoesOn, GotPiece, WasRefused, HasLine, HasNoLine, ReadsLine}
 use Rattle.pop3_wire.specs.declared.line_reader.LineFault.TheVariants.{Ended, Failed, TooLong}
-
-or_true : (b : Bool) → (b || true) ≡ true
-or_true true = refl
-or_true false = refl
 
 -- a piece is gained after what was gained before
 pub gains_more : (start link last : Link) (first waiting now gained piece : List ℕ)
@@ -46,7 +43,7 @@ read_ended limit start link last first waiting now gained [] gains on none short
       (
         subst (HasNoLine limit) same none,
         subst (λ (l : List ℕ). length l < limit) same short,
-        ap (λ (l : Link). l.ended) got ∙ or_true link.ended,
+        ap (λ (l : Link). l.ended) got ∙ or-true link.ended,
         ap (λ (l : Link). l.failures) got ∙ on.failures,
       ),
     )

@@ -79,11 +79,7 @@ meets (x ∷ a) b (y ∷ c) d e =
 -- all but the last of a list
 without_last : (a m : List ℕ) (x z : ℕ) (b : List ℕ) → a ++ x ∷ m ≡ b ++ z ∷ [] → (k : List ℕ) × (b ≡ a ++ k)
 without_last [] m x z b e = (b, refl)
-without_last (y ∷ a) m x z [] e = absurd (longer a (same_cons y z (a ++ x ∷ m) [] e).1)
-  where
-    longer : (l : List ℕ) → l ++ x ∷ m ≡ [] → ⊥
-    longer [] e = cc
-    longer (h ∷ l) e = cc
+without_last (y ∷ a) m x z [] e = absurd (omega (arith, ap length (same_cons y z (a ++ x ∷ m) [] e).1, length-append a (x ∷ m)))
 without_last (y ∷ a) m x z (w ∷ b) e =
     let same = same_cons y w (a ++ x ∷ m) (b ++ z ∷ []) e in
     let later = without_last a m x z b same.1 in

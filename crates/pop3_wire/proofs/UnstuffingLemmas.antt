@@ -123,13 +123,6 @@ cr_other bytes text byte no_lf no_cr h =
     (unstuffed-push (h.part ++ 13 ∷ []) byte (inl (push-some h.part 13)) ∙ ap (λ (t : List ℕ). t ++ byte ∷ []) (cr_shown h.part)
     ∙ append_assoc (unstuffed h.part) (13 ∷ []) (byte ∷ []))
 
--- the end of a line, both octets of it
-middle_cr_lf : (bytes text : List ℕ) → InLine bytes text → Partly (bytes ++ crlf) (text ++ 10 ∷ []) [] []
-middle_cr_lf bytes text h =
-    subst (λ (b : List ℕ). Partly b (text ++ 10 ∷ []) [] []) (append_assoc bytes (13 ∷ []) (10 ∷ []))
-    (subst (λ (t : List ℕ). Partly ((bytes ++ 13 ∷ []) ++ 10 ∷ []) (t ++ 10 ∷ []) [] []) (append-nil text)
-    (cr_lf (bytes ++ 13 ∷ []) (text ++ []) (middle_cr bytes text h)))
-
 -- the first two octets of a piece, by their places
 take_two : (piece : List ℕ) → 2 ≤ length piece → take 2 piece ≡ get_or piece 0 0 ∷ get_or piece 1 0 ∷ []
 take_two [] long = absurd (omega arith)
@@ -141,7 +134,10 @@ pub middle_two : (bytes text piece : List ℕ) → 2 ≤ length piece → get_or
     → Partly (bytes ++ take 2 piece) (text ++ 10 ∷ []) [] []
 middle_two bytes text piece long first second h =
     let two : crlf ≡ take 2 piece = sym (take_two piece long ∙ ap (λ (b : ℕ). b ∷ get_or piece 1 0 ∷ []) first ∙ ap (λ (b : ℕ). 13 ∷ b ∷ []) second) in
-    subst (λ (l : List ℕ). Partly (bytes ++ l) (text ++ 10 ∷ []) [] []) two (middle_cr_lf bytes text h)
+    let bytes_are = append_assoc bytes (13 ∷ []) (10 ∷ []) ∙ ap (λ (l : List ℕ). bytes ++ l) two in
+    subst (λ (b : List ℕ). Partly b (text ++ 10 ∷ []) [] []) bytes_are
+    (subst (λ (t : List ℕ). Partly ((bytes ++ 13 ∷ []) ++ 10 ∷ []) (t ++ 10 ∷ []) [] []) (append-nil text)
+    (cr_lf (bytes ++ 13 ∷ []) (text ++ []) (middle_cr bytes text h)))
 
 pub partly_none : Partly [] [] [] []
 partly_none = record { lines = []; content = tt; line = IsLine-nil; whole = refl; read = refl }

@@ -24,8 +24,6 @@ invariant_of-self c =
     subst (λ (k : ℕ). HasNoLine k w) (sym c.max-self-inside.ensures) (no_line_max r.searched c.min-until.result w c.self.invariant.3 over) in
     let until : c.min-until.result ≡ min c.args.limit (length w) = cc in
     let size : length w ≡ min (r.end - r.start) (length (drop r.start r.bytes)) = length-take (r.end - r.start) (drop r.start r.bytes) in
-    let within : r.searched ≤ r.end - r.start = c.self.invariant.2 in
-    let greatest : c.max-self-inside.result ≡ max r.searched c.min-until.result = c.max-self-inside.ensures in
     (c.self.invariant.0, c.self.invariant.1, omega arith, top)
 
 pub returns-clause-none : goal.returns-clause-none
