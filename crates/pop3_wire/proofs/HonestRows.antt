@@ -1,5 +1,5 @@
 -- Rows of listings are read as a server means them, and hold no line break.
-use Rattle.std.proofs.Common.{ℕ, ◌^◌, ◌<◌, ◌≤◌, ◌≡◌, ◌≢◌, ◌∙◌, true, List, [], ◌∷◌, ◌++◌, length, refl, sym, ap, subst, append_assoc, arith, Ok, ne_eqb, Bool, codes, decimal, append-nil}
+use Rattle.std.proofs.Common.{ℕ, ◌^◌, ◌<◌, ◌≤◌, ◌≡◌, ◌≢◌, ◌∙◌, true, List, [], ◌∷◌, ◌++◌, length, refl, sym, ap, subst, append_assoc, arith, ne_eqb, Bool, codes, decimal, append-nil}
 use Rattle.std.specs.List.{list_all}
 use Rattle.std.specs.Char.{is_ascii_digit}
 use Rattle.std.proofs.lemmas.Bool.{and_parts, and_from, cond-false, le-leb, lt-ltb, not-true, eqb-false}
@@ -13,7 +13,7 @@ use Rattle.pop3_wire.specs.Honest.{FirstLinesAreRead}
 use Rattle.pop3_wire.specs.Fields.{number_and_size, number_and_id}
 use Rattle.pop3_wire.specs.Rows.{HasNumber, HasScanForm, HasUidForm, NumbersAreRead, scan_row, uid_row, IsSentAsIs, ScanRowsAreRead, UidRowsAreRead}
 use Rattle.mail_terms.specs.Numeral.{greatest_number, greatest_size}
-use Rattle.mail_terms.specs.UniqueId.{is_id_byte, is_legal_id}
+use Rattle.mail_terms.specs.UniqueId.{is_id_byte}
 use Rattle.pop3_wire.proofs.CommandRoundTrip.{digits_of_decimal}
 use Rattle.pop3_wire.proofs.RowsLemmas.{all_pass, bytes_of, scan_form_read, uid_form_read}
 use Rattle.mail_terms.specs.Text.{HasNoLf}

@@ -78,7 +78,7 @@ line_end_found w limit searched until from line after is_until is_from known is_
         omega arith
 
     line_is : line ≡ drop from (take (from + length line) w)
-    line_is = sym (take_at line (crlf ++ after) (length line) refl) ∙ ap (take (length line)) (sym window) 
+    line_is = sym (take_at line (crlf ++ after) (length line) refl) ∙ ap (take (length line)) (sym window)
         ∙ take-take (length line) (until - from) (drop from w) (omega (arith, sizes)) ∙ sym (drop-take from (length line) w)
 
     more : List ℕ

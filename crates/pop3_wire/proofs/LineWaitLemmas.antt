@@ -1,9 +1,9 @@
 -- A reader that waits for a line: what has come when it stops, and that it can go on.
-use Rattle.std.proofs.Common.{◌≡◌, ◌≤◌, ◌<◌, ◌+◌, ◌++◌, ℕ, List, [], ◌∷◌, length, Err, Ok, refl, sym, ap, subst, ◌∙◌, append_assoc, append-nil, arith}
+use Rattle.std.proofs.Common.{◌≡◌, ◌<◌, ◌++◌, ℕ, List, [], ◌∷◌, length, Err, sym, ap, subst, ◌∙◌, append_assoc, append-nil, arith}
 use Rattle.std.proofs.Math.Bool.{or-true}
 use Rattle.pop3_wire.specs.Link.{Link}
-use Rattle.pop3_wire.specs.Place.{at, Gains, GoesOn, GotPiece, WasRefused, HasLine, HasNoLine, ReadsLine}
-use Rattle.pop3_wire.specs.declared.line_reader.LineFault.TheVariants.{Ended, Failed, TooLong}
+use Rattle.pop3_wire.specs.Place.{at, Gains, GoesOn, GotPiece, HasNoLine, ReadsLine}
+use Rattle.pop3_wire.specs.declared.line_reader.LineFault.TheVariants.{Ended}
 
 -- a piece is gained after what was gained before
 pub gains_more : (start link last : Link) (first waiting now gained piece : List ℕ)
@@ -14,23 +14,6 @@ gains_more start link last first waiting now gained piece gains is got = record 
   waiting = is ∙ ap (λ (l : List ℕ). l ++ piece) gains.waiting ∙ append_assoc first gained piece;
   sent = ap (λ (l : Link). l.sent) got ∙ gains.sent;
 }
-
--- a call was refused
-pub read_failed : (limit : ℕ) (start link last : Link) (first waiting gained : List ℕ)
-    → Gains (at start first) (at link waiting) gained → GoesOn start link → HasNoLine limit waiting → length waiting < limit
-    → WasRefused link last
-    → (((g : List ℕ) × Gains (at start first) (at last waiting) g) × ReadsLine limit (at start first) (Err Failed) (at last waiting))
-read_failed limit start link last first waiting gained gains on none short refused = (
-  (
-    gained,
-    record {
-      got = ap (λ (l : Link). l.got) refused ∙ gains.got;
-      waiting = gains.waiting;
-      sent = ap (λ (l : Link). l.sent) refused ∙ gains.sent;
-    },
-  ),
-  (none, short, ap (λ (l : Link). l.ended) refused ∙ on.ended, ap (λ (l : Link). l.failures) refused ∙ ap (λ (k : ℕ). k + 1) on.failures),
-)
 
 -- the link has ended
 pub read_ended : (limit : ℕ) (start link last : Link) (first waiting now gained piece : List ℕ)

@@ -1,5 +1,5 @@
 -- The rows that are read are exactly those of the form.
-use Rattle.std.proofs.Common.{ℕ, suc, ◌+◌, ◌≤◌, ◌<◌, ◌≡◌, ◌≢◌, true, false, List, [], ◌∷◌, ◌++◌, length, take, drop, refl, sym, ap, subst, ◌∙◌, arith, inl, inr, Result, Ok, Err, take-append-drop, nat_lt, nat_le, ◌&&◌, ◌==◌, Bool, IsTrue, take_while, append-nil, take_at, drop_at, get_or, length-drop}
+use Rattle.std.proofs.Common.{ℕ, ◌+◌, ◌≤◌, ◌<◌, ◌≡◌, ◌≢◌, true, false, List, [], ◌∷◌, ◌++◌, length, take, drop, refl, sym, ap, subst, ◌∙◌, arith, inl, inr, Result, Ok, Err, take-append-drop, nat_lt, nat_le, ◌&&◌, ◌==◌, Bool, IsTrue, take_while, append-nil, take_at, drop_at, get_or, length-drop}
 use Rattle.std.specs.List.{prefix_len, list_all}
 use Rattle.std.specs.Char.{is_ascii_digit}
 use Rattle.std.specs.Str.Parse.{digits_value}
@@ -11,7 +11,7 @@ use Rattle.pop3_wire.specs.Fields.{◌>>=◌, is_space, is_in_field, past, numbe
 use Rattle.mail_terms.specs.Numeral.{is_numeral, greatest_number, greatest_size}
 use Rattle.mail_terms.specs.UniqueId.{is_id_byte, is_legal_id, IsLegalId}
 use Rattle.pop3_wire.specs.declared.fault.WireFault.{WireFault}
-use Rattle.pop3_wire.specs.Rows.{AreSpaces, StandsFor, HasNumber, HasScanForm, HasUidForm, ScanRowsHaveForm, UidRowsHaveForm}
+use Rattle.pop3_wire.specs.Rows.{AreSpaces, StandsFor, HasNumber, HasScanForm, HasUidForm}
 use Rattle.pop3_wire.proofs.LineLemmas.{same_cons}
 
 -- ---- the prefix of bytes that pass a test, and what follows

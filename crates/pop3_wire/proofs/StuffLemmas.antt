@@ -6,7 +6,7 @@ use Rattle.std.proofs.lemmas.List.Folds.{flat_map-map}
 use Rattle.pop3_wire.specs.Line.{crlf, IsLine, ended}
 use Rattle.pop3_wire.specs.Body.{dot, IsContent, unstuffed, text_of}
 use Rattle.mail_terms.specs.Text.{lines_of_text, whole_text, HasNoLf}
-use Rattle.pop3_wire.specs.Stuffed.{stuffed, sent_line, stuffed_lines, StuffedIsBody, StuffedIsRead}
+use Rattle.pop3_wire.specs.Stuffed.{stuffed, stuffed_lines, StuffedIsBody, StuffedIsRead}
 use Rattle.pop3_wire.proofs.BodyLemmas.{one_body}
 
 -- ---- a line of a text holds no LF

@@ -1,5 +1,4 @@
-use Rattle.std.proofs.Common.{◌≡◌, ◌≤◌, ◌-◌, ◌∙◌, ℕ, List, length, take, drop, ap, sym, subst, arith}
-use Rattle.pop3_wire.specs.Place.{HasNoLine}
+use Rattle.std.proofs.Common.{◌≤◌, ◌-◌, ◌∙◌, ℕ, List, length, drop, ap, sym, subst, arith}
 use Rattle.pop3_wire.proofs.LineReaderLemmas.{no_line_skip, window_skip}
 use Rattle.pop3_wire.proofs.line_reader.LineReader.skip.Goals as goal
 
