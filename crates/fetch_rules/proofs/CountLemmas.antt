@@ -27,14 +27,10 @@ without_short uid (id ∷ ids) there = elim (cases_Bool (bytes_eq uid id)) [
   | inl hit ↦ omega (arith, filter_short (λ other. not (bytes_eq uid other)) ids, ap length (filter_leaves (λ other. not (bytes_eq uid other)) id ids (not_from_true _ hit)))
   | inr miss ↦ omega (
     arith,
-    without_short uid ids (behind (bytes_eq uid id) miss there),
+    without_short uid ids (grind (arith, miss, there)),
     ap length (filter_keeps (λ other. not (bytes_eq uid other)) id ids (not_from_false _ miss)),
   )
 ]
-  where
-    behind : (b : Bool) → b ≡ false → (b || has_id ids uid) ≡ true → has_id ids uid ≡ true
-    behind true miss e = absurd (true≢false miss)
-    behind false miss e = e
 
 -- ids that are apart and occur among others are no more than those
 pub no_more : (ids others : List (List ℕ)) → AreApart ids → ((uid : List ℕ) → has_id ids uid ≡ true → has_id others uid ≡ true) → length ids ≤ length others

@@ -98,15 +98,10 @@ module _ (front : List Row) (row : Row) (old : List Row) (next : Row) (new : Lis
 
 -- the states of a row that stayed
 stayed : (before now : Bool) → (before ≡ true → now ≡ true) → (now && not before) ≡ false → now ≡ before
-stayed true now stays none = stays refl
-stayed false true stays none = none
-stayed false false stays none = refl
+stayed before now stays none = grind arith
 
 delivered_then : (before now : Bool) → (now && not before) ≡ true → (now ≡ true) × (before ≡ false)
-delivered_then true true e = cc
-delivered_then true false e = cc
-delivered_then false true e = (refl, refl)
-delivered_then false false e = cc
+delivered_then before now e = (grind arith, grind arith)
 
 pub leads : (front old new : List Row) → IsRecord (front ++ new) → GrewFrom old new → Leads (front ++ old) (changed old new) (front ++ new)
 leads front [] new is grew = subst (λ (rows : List Row). Leads rows new (front ++ new)) (sym (append-nil front)) (leads_new front new is)
@@ -202,8 +197,7 @@ HasWritten-skips count f rows i changes lines row were inside at before same =
     (were.0 ∙ ap length (sym step), were.1 ∙ ap (flat_map line_of) (sym step))
   where
     unchanging : (old also : Bool) → (old || also) ≡ old → ((old || also) && not old) ≡ false
-    unchanging true also e = refl
-    unchanging false also e = ap (λ (b : Bool). b && true) e
+    unchanging old also e = grind arith
 
 pub HasWritten-adds : (count : ℕ) (f : Row → Bool) (rows : List Row) (i changes changes' : ℕ) (lines lines' : List ℕ) (row : Row) → HasWritten count f rows i changes lines → i < length rows → get_or rows i row ≡ row
     → (count ≤ i) ⊎ ((row.delivered || f row) ≢ row.delivered) → changes' ≡ changes + 1 → lines' ≡ lines ++ line_of (with_delivered (f row) row) → HasWritten count f rows (i + 1) changes' lines'

@@ -98,9 +98,7 @@ flag_at test listing flags i flag are inside is item =
 
 -- a test that is only made if another one passed
 pub both-true : (x y both : Bool) → x ≡ true → both ≡ y → both ≡ (x && y)
-both-true true y both hit is = is
-both-true false y both hit is = absurd (true≢false (sym hit))
+both-true x y both hit is = grind arith
 
 pub both-false : (x y both : Bool) → x ≡ false → both ≡ x → both ≡ (x && y)
-both-false true y both miss is = absurd (true≢false miss)
-both-false false y both miss is = is
+both-false x y both miss is = grind arith

@@ -207,9 +207,4 @@ HasPlanned-all settings rows listing now i steps count has past =
 
 -- nothing is due if the settings let nothing be deleted
 pub never_due : (settings : Settings) (now since : ℕ) → may_delete settings ≡ false → is_due settings now since ≡ false
-never_due settings now since never = by settings.delete (settings.delete_after == 0) never
-  where
-    by : (delete none : Bool) → (delete || not none) ≡ false → (delete || (not none && nat_le (86400 * settings.delete_after) (now - since))) ≡ false
-    by true none e = absurd (true≢false e)
-    by false true e = refl
-    by false false e = absurd (true≢false e)
+never_due settings now since never = grind arith

@@ -2,9 +2,9 @@
 use Rattle.std.proofs.Common.{◌≡◌, ℕ, zero, suc, ◌+◌, ◌-◌, ◌≤◌, List, [], ◌∷◌, ◌++◌, take, Bool, true, false, ◌||◌, cond, length, refl, sym, ◌∙◌, ap, subst, append_assoc, inr, arith, length-append, min, flat_map, Option, Some, None, true≢false, append-nil}
 use Rattle.std.proofs.Math.Seq.{take-append_seam}
 use Rattle.fetch_rules.specs.Record.{Row, Intent, IsRow, IsIntent, IsRecord, has_row}
-use Rattle.fetch_rules.specs.RecordFile.{Version, header, RowLine, GroupLine, IntentLine, text_of, IsLine}
+use Rattle.fetch_rules.specs.RecordFile.{Version, header, Line, RowLine, GroupLine, IntentLine, text_of, IsLine}
 use Rattle.fetch_rules.specs.RecordMeaning.{Progress, InBase, BetweenGroups, InGroup, left_open, may_take, taken, Judged, Stands, Fails, after_line, line_after, counted, is_open, Rows, Fault, Means, Ends}
-use Rattle.fetch_rules.specs.Lines.{version_of, open_seen, progress_of, IsPlaced, open_behind, is_within, TakesRow, RefusesRow, TakesIntent, RefusesIntent, EndsAt}
+use Rattle.fetch_rules.specs.Lines.{version_of, open_seen, progress_of, IsPlaced, open_behind, is_within, TakesRow, TakesIntent, EndsAt}
 use Rattle.fetch_rules.specs.declared.seen.SeenFault.{SeenFault}
 use Rattle.fetch_rules.specs.declared.seen.line.Intent.{Intent as ReadIntent}
 use Rattle.fetch_rules.specs.declared.seen.SeenFault.TheVariants.{BadRow, RepeatedId}
@@ -172,15 +172,11 @@ Reads-intent bytes older part open' rows rest number front intent behind were is
   good = were.good;
 }
 
-pub Reads-fails : (bytes : List ℕ) (older : Bool) (part : Part) (intent : Option Intent) (rows : List Row) (rest : List ℕ) (number front : ℕ) (row : Row) (behind : List ℕ) (fault : SeenFault) → Reads bytes older part intent rows rest number front
-    → IsRow row → rest ≡ text_of (RowLine row) ++ behind → RefusesRow older part rows row number fault → Means bytes (Fault fault)
-Reads-fails bytes older part intent rows rest number front row behind fault were is line refuses =
-    behind_fails (version_of older) bytes were.n (progress_of part intent were.before rows) rest (RowLine row) behind fault were.behind is line (refuses were.n were.before intent were.number_is)
-
-pub Reads-intent_fails : (bytes : List ℕ) (older : Bool) (part : Part) (open' : Option Intent) (rows : List Row) (rest : List ℕ) (number front : ℕ) (intent : Intent) (behind : List ℕ) (fault : SeenFault) → Reads bytes older part open' rows rest number front
-    → IsIntent intent → rest ≡ text_of (IntentLine intent) ++ behind → RefusesIntent older part open' rows intent number fault → Means bytes (Fault fault)
-Reads-intent_fails bytes older part open' rows rest number front intent behind fault were is line refuses =
-    behind_fails (version_of older) bytes were.n (progress_of part open' were.before rows) rest (IntentLine intent) behind fault were.behind is line (refuses were.n were.before were.number_is)
+pub Reads-fails : (bytes : List ℕ) (older : Bool) (part : Part) (intent : Option Intent) (rows : List Row) (rest : List ℕ) (number front : ℕ) (line : Line) (behind : List ℕ) (fault : SeenFault) → Reads bytes older part intent rows rest number front
+    → IsLine line → rest ≡ text_of line ++ behind
+    → ((n : ℕ) (before : List Row) → number ≡ line_after n → after_line (version_of older) n (progress_of part intent before rows) line ≡ Fails fault) → Means bytes (Fault fault)
+Reads-fails bytes older part intent rows rest number front line behind fault were is rest_is refuses =
+    behind_fails (version_of older) bytes were.n (progress_of part intent were.before rows) rest line behind fault were.behind is rest_is (refuses were.n were.before were.number_is)
 
 refused : (version : Version) (part : Part) (n : ℕ) (intent : Option Intent) (before rows : List Row) (count : ℕ) → is_within part ≡ true → after_line version n (progress_of part intent before rows) (GroupLine count) ≡ Fails (BadRow (line_after n))
 refused version Base n intent before rows count within = absurd (true≢false (sym within))
@@ -191,8 +187,8 @@ refused version (Within (suc more)) n intent before rows count within = refl
 pub Reads-group_fails : (bytes : List ℕ) (older : Bool) (part : Part) (intent : Option Intent) (rows : List Row) (rest : List ℕ) (number front : ℕ) (count : ℕ) (behind : List ℕ) → Reads bytes older part intent rows rest number front
     → IsLine (GroupLine count) → rest ≡ text_of (GroupLine count) ++ behind → is_within part ≡ true → Means bytes (Fault (BadRow number))
 Reads-group_fails bytes older part intent rows rest number front count behind were is line within =
-    behind_fails (version_of older) bytes were.n (progress_of part intent were.before rows) rest (GroupLine count) behind (BadRow number) were.behind is line
-    (refused (version_of older) part were.n intent were.before rows count within ∙ ap (λ (k : ℕ). Fails (BadRow k)) (sym were.number_is))
+    Reads-fails bytes older part intent rows rest number front (GroupLine count) behind (BadRow number) were is line
+    (λ n before number_is. refused (version_of older) part n intent before rows count within ∙ ap (λ (k : ℕ). Fails (BadRow k)) (sym number_is))
 
 -- if a group lacks rows, what comes before it is read again
 pub record StoodOpen (bytes : List ℕ) (older : Bool) (front : ℕ) (intent : Option Intent) : Type 0 where

@@ -1,6 +1,7 @@
 -- What is left of an appended group or intent after a loss of power.
 use Rattle.std.proofs.Common.{◌≡◌, ◌≢◌, ◌⊎◌, inl, inr, ℕ, List, [], ◌∷◌, ◌++◌, Bool, true, false, ◌||◌, cond, length, refl, sym, ◌∙◌, ap, subst, append_assoc, arith, flat_map, Option, not, true≢false, ne_eqb}
 use Rattle.std.proofs.Math.Bool.{or-true}
+use Rattle.std.proofs.lemmas.Bool.{not-true, not-false}
 use Rattle.std.proofs.lemmas.Bool.Decides.{eqb_tells}
 use Rattle.fetch_rules.specs.Record.{Row, Intent}
 use Rattle.fetch_rules.specs.RecordFile.{Version, Two, header, Line, text_of, IsLine}
@@ -155,14 +156,6 @@ longer_some : (bytes front : List ℕ) → bytes ≢ [] → bytes ++ front ≢ [
 longer_some [] front some e = some refl
 longer_some (byte ∷ bytes) front some e = cc
 
-not_true : (b : Bool) → not b ≡ true → b ≡ false
-not_true true e = absurd (true≢false (sym e))
-not_true false e = refl
-
-not_false : (b : Bool) → not b ≡ false → b ≡ true
-not_false true e = refl
-not_false false e = absurd (true≢false e)
-
 pub torn_ignored_or_seen : TornIsIgnoredOrSeen
 torn_ignored_or_seen bytes added left old new before after some means grows part other = by s.kind
   where
@@ -187,9 +180,9 @@ torn_ignored_or_seen bytes added left old new before after some means grows part
           subst (λ (xs : List ℕ). Means (bytes ++ xs) (Rows Two old before (has_bytes xs))) (sym k.1)
           (subst (λ (t : Bool). Means (bytes ++ (s.front ++ 0 ∷ k.0)) (Rows Two old before t)) (sym (has_bytes_behind s.front 0 k.0))
           (subst (λ (xs : List ℕ). Means xs (Rows Two old before true)) (append_assoc bytes s.front (0 ∷ k.0))
-          (zero_ignored (bytes ++ s.front) k.0 old before piece (not_true (has_line_feed k.0) (sym k.2 ∙ ends))))),
+          (zero_ignored (bytes ++ s.front) k.0 old before piece (not-true (has_line_feed k.0) (sym k.2 ∙ ends))))),
       λ ends.
-          let seen = zero_seen (bytes ++ s.front) k.0 old before piece (not_false (has_line_feed k.0) (sym k.2 ∙ ends)) in (
+          let seen = zero_seen (bytes ++ s.front) k.0 old before piece (not-false (has_line_feed k.0) (sym k.2 ∙ ends)) in (
             seen.0,
             subst (λ (xs : List ℕ). Means xs (Fault (BadRow seen.0))) (ap (λ (xs : List ℕ). bytes ++ xs) (sym k.1))
                 (subst (λ (xs : List ℕ). Means xs (Fault (BadRow seen.0))) (append_assoc bytes s.front (0 ∷ k.0)) seen.1),
