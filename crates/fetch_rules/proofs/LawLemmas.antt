@@ -24,22 +24,16 @@ mark_table : (e d r t D R X : Bool) → (e ≡ true → r ≡ t) → X ≡ (D ||
 mark_table true d r t D R X s p = ap (λ (b : Bool). (d || b) || X) (s refl) ∙ mark_one d t D R X p
 mark_table false d r t D R X s p = p
 
-delivered-with : (t : List ℕ → Bool) (rows : List Row) (uid : List ℕ)
+pub delivered-with : (t : List ℕ → Bool) (rows : List Row) (uid : List ℕ)
     → is_delivered (map (λ row. with_delivered (t row.uid) row) rows) uid ≡ (is_delivered rows uid || (has_row rows uid && t uid))
 delivered-with t [] uid = refl
 delivered-with t (row ∷ rows) uid =
     mark_table (bytes_eq uid row.uid) row.delivered (t row.uid) (t uid) (is_delivered rows uid) (has_row rows uid) (is_delivered (map (λ r. with_delivered (t r.uid) r) rows) uid)
     (λ e. ap t (sym (same_from_test uid row.uid e))) (delivered-with t rows uid)
 
-has_row-with : (t : List ℕ → Bool) (rows : List Row) (uid : List ℕ) → has_row (map (λ row. with_delivered (t row.uid) row) rows) uid ≡ has_row rows uid
+pub has_row-with : (t : List ℕ → Bool) (rows : List Row) (uid : List ℕ) → has_row (map (λ row. with_delivered (t row.uid) row) rows) uid ≡ has_row rows uid
 has_row-with t [] uid = refl
 has_row-with t (row ∷ rows) uid = ap (λ (b : Bool). bytes_eq uid row.uid || b) (has_row-with t rows uid)
-
-pub delivered-marked : (rows : List Row) (uid other : List ℕ) → is_delivered (marked rows uid) other ≡ is_delivered rows other || (has_row rows other && bytes_eq uid other)
-delivered-marked rows uid other = delivered-with (bytes_eq uid) rows other
-
-pub has_row-marked : (rows : List Row) (uid other : List ℕ) → has_row (marked rows uid) other ≡ has_row rows other
-has_row-marked rows uid other = has_row-with (bytes_eq uid) rows other
 
 -- ---- the ids of a listing that have no row
 

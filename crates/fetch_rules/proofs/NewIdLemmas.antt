@@ -1,5 +1,5 @@
 -- The ids of a listing that have no row yet.
-use Rattle.std.proofs.Common.{◌≡◌, ℕ, ◌<◌, ◌+◌, List, [], ◌∷◌, ◌++◌, Bool, true, false, not, ◌||◌, length, get_or, take, map, refl, sym, ◌∙◌, ap, append_assoc, inl, inr, bytes_eq, filter, true≢false}
+use Rattle.std.proofs.Common.{arith, ◌≡◌, ℕ, ◌<◌, ◌+◌, List, [], ◌∷◌, ◌++◌, Bool, true, false, not, ◌||◌, length, get_or, take, map, refl, sym, ◌∙◌, ap, append_assoc, inl, inr, bytes_eq, filter, true≢false}
 use Rattle.std.proofs.lemmas.Bool.{cases_Bool, or_left, or_parts, or_cases, not_from_true, not_from_false}
 use Rattle.std.proofs.lemmas.List.{take_more, map-append, append-nil}
 use Rattle.std.proofs.lemmas.List.Elements.{filter-append}
@@ -130,15 +130,11 @@ pub HasAdded-has : (rows : List Row) (listing : List Item) (now i : ℕ) (new : 
 HasAdded-has rows listing now i new uid were at inside has = elim (cases_Bool (has_row rows uid)) [
   | inl old ↦ were ∙ ap (λ (xs : List Row). rows ++ xs) (AreNew-row rows listing now i _ uid refl at inside old)
   | inr none ↦ were ∙ ap (λ (xs : List Row). rows ++ xs) (AreNew-old rows listing now i _ uid refl at inside none
-      (sym (or_parts_right (has_row rows uid) (has_row added uid) none (sym (list_any-append (is_of uid) rows added) ∙ ap (λ (xs : List Row). has_row xs uid) (sym were) ∙ has))))
+      (let either = sym (list_any-append (is_of uid) rows added) ∙ ap (λ (xs : List Row). has_row xs uid) (sym were) ∙ has in grind (arith, none, either)))
 ]
   where
     added : List Row
     added = map (undelivered now) (new_ids rows (take i listing))
-
-    or_parts_right : (a b : Bool) → a ≡ false → (a || b) ≡ true → true ≡ b
-    or_parts_right true b left either = absurd (true≢false left)
-    or_parts_right false b left either = sym either
 
 pub HasAdded-more : (rows : List Row) (listing : List Item) (now i : ℕ) (new longer : List Row) (uid : List ℕ) → HasAdded rows listing now i new → ((d : Item) → uid ≡ (get_or listing i d).uid) → i < length listing
     → has_row new uid ≡ false → longer ≡ new ++ undelivered now uid ∷ [] → HasAdded rows listing now (i + 1) longer

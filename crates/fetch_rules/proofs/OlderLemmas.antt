@@ -2,6 +2,7 @@
 use Rattle.std.proofs.Common.{◌≡◌, ℕ, zero, suc, ◌+◌, List, [], ◌∷◌, ◌++◌, Bool, true, false, ◌&&◌, ◌||◌, not, cond, length, refl, sym, ◌∙◌, ap, subst, inl, inr, flat_map, ◌==◌, Option, None}
 use Rattle.std.specs.List.{list_any}
 use Rattle.std.proofs.lemmas.Bool.{or_cases, and_parts, or_left, or_right, and_from}
+use Rattle.std.proofs.lemmas.List.Folds.{Any-from_list_any, list_any-from_Any}
 use Rattle.fetch_rules.specs.Record.{Row, Intent, is_of, has_row}
 use Rattle.fetch_rules.specs.RecordFile.{Version, One, Two, header, Line, RowLine, GroupLine, text_of}
 use Rattle.fetch_rules.specs.RecordMeaning.{IsCut, Rows, Fault, Means, Progress, Judged, judged, after_line, may_take, delivers, taken, Stands, Fails, InBase, BetweenGroups, InGroup, Ends, line_after, counted, left_open, is_open, has_line_feed, has_bytes}
@@ -12,11 +13,7 @@ use Rattle.fetch_rules.proofs.CutLemmas.{same_lines, no_header}
 use Rattle.fetch_rules.proofs.JudgedLemmas.{no_stand, same_progress, rows_no_fault, same_rows}
 
 any_weaker : {X : Type 0} (p q : X → Bool) (xs : List X) → ((x : X) → p x ≡ true → q x ≡ true) → list_any p xs ≡ true → list_any q xs ≡ true
-any_weaker p q [] f e = e
-any_weaker p q (x ∷ xs) f e = elim (or_cases (p x) (list_any p xs) e) [
-  | inl first ↦ or_left _ _ (f x first)
-  | inr later ↦ or_right _ _ (any_weaker p q xs f later)
-]
+any_weaker p q xs f e = let some = Any-from_list_any p xs e in list_any-from_Any q xs (some.0, some.1, some.2, some.3, f some.1 some.4)
 
 -- what a group may hold in version 1 it may hold in version 2
 may_take_more : (rows : List Row) (row : Row) → may_take One rows row ≡ true → may_take Two rows row ≡ true

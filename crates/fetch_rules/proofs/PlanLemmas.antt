@@ -2,6 +2,7 @@
 use Rattle.std.proofs.Common.{◌≡◌, ℕ, zero, suc, ◌<◌, ◌≤◌, ◌+◌, List, [], ◌∷◌, ◌++◌, Bool, true, false, cond, ◌&&◌, ◌||◌, length, get_or, take, map, refl, sym, ◌∙◌, ap, subst, inl, inr, arith, filter, zip, count_by, All, nat_lt, nat_le, not, ◌-◌, ◌*◌, ◌==◌}
 use Rattle.std.specs.List.{enumerate_from}
 use Rattle.std.proofs.lemmas.Bool.{true≢false, cases_Bool, cases_lt, cond-true, cond-false, lt-ltb, le-ltb, eq-eqb, ne_eqb, or_left, or_right, or_from, and_right}
+use Rattle.std.proofs.lemmas.Bool.Decides.{nat_tests}
 use Rattle.std.proofs.lemmas.List.{take_more, take_all, length-take, get_or-map, length-map}
 use Rattle.std.proofs.lemmas.List.Elements.{All-filter, All-take, All-weaker}
 use Rattle.std.proofs.lemmas.List.Folds.{list_any_none}
@@ -32,10 +33,7 @@ none_below p n m k items below = list_any_none (λ message. message.0 == k) _
 
 -- fewer than m, one more on both sides
 lt_step : (c m c' : ℕ) → c' ≡ 1 + c → nat_lt c' (suc m) ≡ nat_lt c m
-lt_step c m c' is = elim (cases_lt c m) [
-  | inl below ↦ lt-ltb c' (suc m) (omega (arith, is, below)) ∙ sym (lt-ltb c m below)
-  | inr above ↦ le-ltb c' (suc m) (omega (arith, is, above)) ∙ sym (le-ltb c m above)
-]
+lt_step c m c' is = grind (arith, nat_tests)
 
 count_by-cons : (p : Message → Bool) (x : Message) (xs : List Message) (b : Bool) → p x ≡ b → count_by p (x ∷ xs) ≡ cond b 1 0 + count_by p xs
 count_by-cons p x xs b is = sum_by-cons (λ (m : Message). cond (p m) 1 0) x xs ∙ ap (λ (t : Bool). cond t 1 0 + count_by p xs) is

@@ -40,6 +40,11 @@ Reads-none older bytes rest is rows none good = record {
 next_number : (n number : ℕ) → number ≡ line_after n → min (number + 1) 4294967295 ≡ line_after (n + 1)
 next_number n number is = omega (arith, is)
 
+-- a choice of two steps leads to neither of them
+neither : (b : Bool) (j k : Judged) (p : Progress) → cond b j k ≡ Stands p → (j ≡ Stands p → ⊥) → (k ≡ Stands p → ⊥) → ⊥
+neither true j k p e left right = left e
+neither false j k p e left right = right e
+
 -- a row doesn't lead into a group, nor back to the rows after the header
 stays_out : (version : Version) (part next : Part) (n : ℕ) (intent after : Option Intent) (before rows new : List Row) (row : Row)
     → after_line version n (progress_of part intent before rows) (RowLine row) ≡ Stands (progress_of next after before new) → is_within next ≡ true → is_within part ≡ true
@@ -47,11 +52,8 @@ stays_out version (Within more) next n intent after before rows new row leads wi
 stays_out version Between next n intent after before rows new row leads within = absurd (no_stand leads)
 stays_out version Base Base n intent after before rows new row leads within = absurd (true≢false (sym within))
 stays_out version Base Between n intent after before rows new row leads within = absurd (true≢false (sym within))
-stays_out version Base (Within more) n intent after before rows new row leads within = absurd (by (has_row rows row.uid) leads)
-  where
-    by : (b : Bool) → cond b (Fails (RepeatedId (line_after n))) (Stands (InBase (rows ++ row ∷ []))) ≡ Stands (InGroup before after new more) → ⊥
-    by true e = cc
-    by false e = cc
+stays_out version Base (Within more) n intent after before rows new row leads within = 
+    absurd (neither (has_row rows row.uid) (Fails (RepeatedId (line_after n))) (Stands (InBase (rows ++ row ∷ []))) (InGroup before after new more) leads (λ e. cc) (λ e. cc))
 
 placed_behind : (version : Version) (part next : Part) (n : ℕ) (intent : Option Intent) (before rows new : List Row) (row : Row)
     → after_line version n (progress_of part intent before rows) (RowLine row) ≡ Stands (progress_of next (open_behind next intent) before new) → IsPlaced part intent → IsPlaced next (open_behind next intent)
@@ -59,16 +61,10 @@ placed_behind version part Between n intent before rows new row leads placed = t
 placed_behind version part (Within more) n intent before rows new row leads placed = tt
 placed_behind version Base Base n intent before rows new row leads placed = placed
 placed_behind version Between Base n intent before rows new row leads placed = absurd (no_stand leads)
-placed_behind version (Within zero) Base n intent before rows new row leads placed = absurd (by (may_take version rows row) leads)
-  where
-    by : (b : Bool) → cond b (Stands (BetweenGroups (taken rows row) None)) (Fails (RepeatedId (line_after n))) ≡ Stands (InBase new) → ⊥
-    by true e = cc
-    by false e = cc
-placed_behind version (Within (suc more)) Base n intent before rows new row leads placed = absurd (by (may_take version rows row) leads)
-  where
-    by : (b : Bool) → cond b (Stands (InGroup before intent (taken rows row) more)) (Fails (RepeatedId (line_after n))) ≡ Stands (InBase new) → ⊥
-    by true e = cc
-    by false e = cc
+placed_behind version (Within zero) Base n intent before rows new row leads placed = 
+    absurd (neither (may_take version rows row) (Stands (BetweenGroups (taken rows row) None)) (Fails (RepeatedId (line_after n))) (InBase new) leads (λ e. cc) (λ e. cc))
+placed_behind version (Within (suc more)) Base n intent before rows new row leads placed = 
+    absurd (neither (may_take version rows row) (Stands (InGroup before intent (taken rows row) more)) (Fails (RepeatedId (line_after n))) (InBase new) leads (λ e. cc) (λ e. cc))
 
 open_within : (next : Part) (intent : Option Intent) → is_within next ≡ true → open_behind next intent ≡ intent
 open_within Base intent within = refl
