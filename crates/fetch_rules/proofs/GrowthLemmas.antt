@@ -1,7 +1,7 @@
 -- What a record's growth appends to its file.
 use Rattle.std.proofs.Common.{◌≡◌, ◌≢◌, ◌⊎◌, ℕ, zero, suc, ◌+◌, ◌<◌, ◌≤◌, List, [], ◌∷◌, ◌++◌, take, get_or, None, Bool, true, false, ◌&&◌, ◌||◌, not, cond, length, map, refl, sym, ◌∙◌, ap, subst, append_assoc, length-append, inl, inr, arith, ◌==◌, bytes_eq, flat_map}
 use Rattle.std.specs.List.{AllByRecursion, list_any}
-use Rattle.std.proofs.lemmas.Bool.{or_left, or_right, eq-eqb}
+use Rattle.std.proofs.lemmas.Bool.{cases_Bool, or_left, or_right, eq-eqb}
 use Rattle.std.proofs.lemmas.List.{append-nil, map-append, take_more, take_all, length-take}
 use Rattle.std.proofs.lemmas.List.Folds.{list_any-append}
 use Rattle.std.proofs.lemmas.List.Concat.{flat_map-append}
@@ -124,11 +124,10 @@ leads front (row ∷ old) (next ∷ new) is grew = by (next.delivered && not row
 each_changed : (old new : List Row) → AllByRecursion IsRow new → AllByRecursion IsRow (changed old new)
 each_changed [] new each = each
 each_changed (row ∷ old) [] each = tt
-each_changed (row ∷ old) (next ∷ new) each = by (next.delivered && not row.delivered) (each_changed old new each.1)
-  where
-    by : (b : Bool) → AllByRecursion IsRow (changed old new) → AllByRecursion IsRow (cond b (next ∷ changed old new) (changed old new))
-    by true rest = (each.0, rest)
-    by false rest = rest
+each_changed (row ∷ old) (next ∷ new) each = elim (cases_Bool (next.delivered && not row.delivered)) [
+  | inl now ↦ rw now (each.0, each_changed old new each.1)
+  | inr same ↦ rw same (each_changed old new each.1)
+]
 
 pub updates : (old new : List Row) → IsRecord new → GrewFrom old new → length (changed old new) ≤ 100000 → Updates old None (written (changed old new)) new None
 updates old new is grew short = by (changed old new) short (leads [] old new is grew) (each_changed old new (recursion_from_All IsRow new is.each))
@@ -161,15 +160,11 @@ changed-adds (suc count) f [] row (inr now) =
     ap (λ (b : Bool). cond b (now_of f row ∷ changed (take count []) []) (changed (take count []) [])) now ∙ ap (λ (xs : List Row). now_of f row ∷ xs) (changed-nil (take count []))
 changed-adds (suc count) f (first ∷ front) row either =
     ap (λ (xs : List Row). cond ((now_of f first).delivered && not first.delivered) (now_of f first ∷ xs) xs) (changed-adds count f front row (shorter either))
-    ∙ by ((now_of f first).delivered && not first.delivered) (changed (take count front) (delivered_by f front))
+    ∙ elim (cases_Bool ((now_of f first).delivered && not first.delivered)) [ inl now ↦ rw now refl | inr same ↦ rw same refl ]
   where
     shorter : (suc count ≤ length (first ∷ front)) ⊎ (((now_of f row).delivered && not row.delivered) ≡ true) → (count ≤ length front) ⊎ (((now_of f row).delivered && not row.delivered) ≡ true)
     shorter (inl past) = inl (omega (arith, past))
     shorter (inr now) = inr now
-
-    by : (b : Bool) (xs : List Row) → cond b (now_of f first ∷ (xs ++ now_of f row ∷ [])) (xs ++ now_of f row ∷ []) ≡ cond b (now_of f first ∷ xs) xs ++ now_of f row ∷ []
-    by true xs = refl
-    by false xs = refl
 
 -- the lines with one more row
 pub lines_more : (before : List ℕ) (rows : List Row) (i : ℕ) (row : Row) → i < length rows → get_or rows i row ≡ row

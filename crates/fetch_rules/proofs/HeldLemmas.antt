@@ -1,7 +1,7 @@
 -- An open intent has a legal id and numbers of 64 bits, and its id has a row.
 use Rattle.std.proofs.Common.{◌≡◌, ℕ, zero, suc, ◌+◌, ◌-◌, List, [], ◌∷◌, ◌++◌, Bool, true, false, ◌||◌, cond, length, refl, sym, ◌∙◌, ap, subst, inl, inr, Option, Some, None}
 use Rattle.std.specs.List.{AllByRecursion}
-use Rattle.std.proofs.lemmas.Bool.{true≢false, or_cases}
+use Rattle.std.proofs.lemmas.Bool.{true≢false, cases_Bool, or_cases}
 use Rattle.std.proofs.lemmas.List.Elements.{recursion_from_All}
 use Rattle.mail_terms.specs.UniqueId.{IsLegalId}
 use Rattle.fetch_rules.specs.Record.{Row, Intent, IsRow, IsIntent, IntentHasRow, is_of, has_row}
@@ -22,11 +22,10 @@ from_same p q e held = subst IsHeldAt (same_progress e) held
 opened : (version : Version) (n : ℕ) (rows : List Row) (before : Option Intent) (intent : Intent) (q : Progress) → IsIntent intent → after_intent version n rows before intent ≡ Stands q → IsHeldAt q
 opened One n rows before intent q is e = absurd (no_stand e)
 opened Two n rows (Some other) intent q is e = absurd (no_stand e)
-opened Two n rows None intent q is e = by (has_row rows intent.uid) refl
-  where
-    by : (b : Bool) → has_row rows intent.uid ≡ b → IsHeldAt q
-    by true h = from_same (BetweenGroups rows (Some intent)) q (ap (λ b. cond b (Stands (BetweenGroups rows (Some intent))) (Fails (BadRow (line_after n)))) (sym h) ∙ e) (is, h)
-    by false h = absurd (no_stand (ap (λ b. cond b (Stands (BetweenGroups rows (Some intent))) (Fails (BadRow (line_after n)))) (sym h) ∙ e))
+opened Two n rows None intent q is e = elim (cases_Bool (has_row rows intent.uid)) [
+  | inl h ↦ from_same (BetweenGroups rows (Some intent)) q (rw h at e) (is, h)
+  | inr h ↦ absurd (no_stand (rw h at e))
+]
 
 by_test : (b : Bool) (p q : Progress) (fault : SeenFault) → cond b (Stands p) (Fails fault) ≡ Stands q → IsHeldAt p → IsHeldAt q
 by_test true p q fault e held = from_same p q e held

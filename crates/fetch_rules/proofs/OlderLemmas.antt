@@ -1,7 +1,7 @@
 -- The lines of a file of version 1 after the header of version 2.
 use Rattle.std.proofs.Common.{◌≡◌, ℕ, zero, suc, ◌+◌, List, [], ◌∷◌, ◌++◌, Bool, true, false, ◌&&◌, ◌||◌, not, cond, length, refl, sym, ◌∙◌, ap, subst, inl, inr, flat_map, ◌==◌, Option, None}
 use Rattle.std.specs.List.{list_any}
-use Rattle.std.proofs.lemmas.Bool.{or_cases, and_parts, or_left, or_right, and_from}
+use Rattle.std.proofs.lemmas.Bool.{cases_Bool, or_cases, and_parts, or_left, or_right, and_from}
 use Rattle.std.proofs.lemmas.List.Folds.{Any-from_list_any, list_any-from_Any}
 use Rattle.fetch_rules.specs.Record.{Row, Intent, is_of, has_row}
 use Rattle.fetch_rules.specs.RecordFile.{Version, One, Two, header, Line, RowLine, GroupLine, text_of}
@@ -32,29 +32,22 @@ Stays n p line q = (after_line Two n p line ≡ Stands q) × (left_open q ≡ No
 
 -- a line that is allowed in version 1 is allowed in version 2
 step : (n : ℕ) (p : Progress) (line : Line) (q : Progress) → left_open p ≡ None → after_line One n p line ≡ Stands q → Stays n p line q
-step n (InBase rows) (RowLine row) q none e = by (has_row rows row.uid) refl
-  where
-    by : (b : Bool) → has_row rows row.uid ≡ b → Stays n (InBase rows) (RowLine row) q
-    by true h = absurd (no_stand (ap (λ b. cond b (Fails (RepeatedId (line_after n))) (Stands (InBase (rows ++ row ∷ [])))) (sym h) ∙ e))
-    by false h =
-        let is : InBase (rows ++ row ∷ []) ≡ q = same_progress (ap (λ b. cond b (Fails (RepeatedId (line_after n))) (Stands (InBase (rows ++ row ∷ [])))) (sym h) ∙ e) in
-        (e, sym (ap left_open is))
+step n (InBase rows) (RowLine row) q none e = elim (cases_Bool (has_row rows row.uid)) [
+  | inl h ↦ absurd (no_stand (rw h at e))
+  | inr h ↦ (e, sym (ap left_open (same_progress (rw h at e))))
+]
 step n (InBase rows) (GroupLine count) q none e = (e, sym (ap left_open (same_progress e)))
 step n (BetweenGroups rows before) (GroupLine count) q none e = (e, sym (ap left_open (same_progress e)) ∙ none)
-step n (InGroup old before rows zero) (RowLine row) q none e = by (may_take One rows row) refl
-  where
-    by : (b : Bool) → may_take One rows row ≡ b → Stays n (InGroup old before rows zero) (RowLine row) q
-    by false h = absurd (no_stand (ap (λ b. cond b (Stands (BetweenGroups (taken rows row) None)) (Fails (RepeatedId (line_after n)))) (sym h) ∙ e))
-    by true h =
-        let is : BetweenGroups (taken rows row) None ≡ q = same_progress (ap (λ b. cond b (Stands (BetweenGroups (taken rows row) None)) (Fails (RepeatedId (line_after n)))) (sym h) ∙ e) in
-        (ap (λ b. cond b (Stands (BetweenGroups (taken rows row) None)) (Fails (RepeatedId (line_after n)))) (may_take_more rows row h) ∙ ap Stands is, sym (ap left_open is))
-step n (InGroup old before rows (suc more)) (RowLine row) q none e = by (may_take One rows row) refl
-  where
-    by : (b : Bool) → may_take One rows row ≡ b → Stays n (InGroup old before rows (suc more)) (RowLine row) q
-    by false h = absurd (no_stand (ap (λ b. cond b (Stands (InGroup old before (taken rows row) more)) (Fails (RepeatedId (line_after n)))) (sym h) ∙ e))
-    by true h =
-        let is : InGroup old before (taken rows row) more ≡ q = same_progress (ap (λ b. cond b (Stands (InGroup old before (taken rows row) more)) (Fails (RepeatedId (line_after n)))) (sym h) ∙ e) in
-        (ap (λ b. cond b (Stands (InGroup old before (taken rows row) more)) (Fails (RepeatedId (line_after n)))) (may_take_more rows row h) ∙ ap Stands is, sym (ap left_open is) ∙ none)
+step n (InGroup old before rows zero) (RowLine row) q none e = elim (cases_Bool (may_take One rows row)) [
+  | inl h ↦ let is : Stands (BetweenGroups (taken rows row) None) ≡ Stands q = rw h at e in (rw (may_take_more rows row h) is, sym (ap left_open (same_progress is)))
+  | inr h ↦ absurd (no_stand (rw h at e))
+]
+step n (InGroup old before rows (suc more)) (RowLine row) q none e = elim (cases_Bool (may_take One rows row)) [
+  | inl h ↦
+      let is : Stands (InGroup old before (taken rows row) more) ≡ Stands q = rw h at e in
+      (rw (may_take_more rows row h) is, sym (ap left_open (same_progress is)) ∙ none)
+  | inr h ↦ absurd (no_stand (rw h at e))
+]
 step n p line q none e = absurd (no_stand e)
 
 steps : (n : ℕ) (j : Judged) (p : Progress) (lines : List Line) (q : Progress) → j ≡ Stands p → left_open p ≡ None → judged One n j lines ≡ Stands q
