@@ -20,20 +20,17 @@ group_open : (n : ℕ) (before : List Row) (intent : Option Intent) (rows : List
 group_open n before intent rows more [] follows short = ap (λ (k : ℕ). Stands (InGroup before intent rows k)) (omega arith)
 group_open n before intent rows zero (x ∷ xs) follows short = absurd (omega (arith, short))
 group_open n before intent rows (suc more) (x ∷ xs) follows short =
-    ap (λ (b : Bool). judged Two (n + 1) (cond b (Stands (InGroup before intent (taken rows x) more)) (Fails (RepeatedId (line_after n)))) (map RowLine xs)) follows.0
-    ∙ group_open (n + 1) before intent (taken rows x) more xs follows.1 (omega (arith, short))
-    ∙ ap (λ (k : ℕ). Stands (InGroup before intent (taken_all (taken rows x) xs) k)) (omega (arith, short))
+    rw (judged, follows.0)
+    (group_open (n + 1) before intent (taken rows x) more xs follows.1 (omega (arith, short))
+    ∙ ap (λ (k : ℕ). Stands (InGroup before intent (taken_all (taken rows x) xs) k)) (omega (arith, short)))
 
 -- and a whole one
 group_whole : (n : ℕ) (before : List Row) (intent : Option Intent) (rows : List Row) (more : ℕ) (xs : List Row) → MayFollow rows xs → length xs ≡ more + 1
     → judged Two n (Stands (InGroup before intent rows more)) (map RowLine xs) ≡ Stands (BetweenGroups (taken_all rows xs) None)
 group_whole n before intent rows more [] follows full = absurd (omega (arith, full))
-group_whole n before intent rows zero (x ∷ []) follows full =
-    ap (λ (b : Bool). cond b (Stands (BetweenGroups (taken rows x) None)) (Fails (RepeatedId (line_after n)))) follows.0
+group_whole n before intent rows zero (x ∷ []) follows full = rw follows.0 refl
 group_whole n before intent rows zero (x ∷ (y ∷ xs)) follows full = absurd (omega (arith, full))
-group_whole n before intent rows (suc more) (x ∷ xs) follows full =
-    ap (λ (b : Bool). judged Two (n + 1) (cond b (Stands (InGroup before intent (taken rows x) more)) (Fails (RepeatedId (line_after n)))) (map RowLine xs)) follows.0
-    ∙ group_whole (n + 1) before intent (taken rows x) more xs follows.1 (omega (arith, full))
+group_whole n before intent rows (suc more) (x ∷ xs) follows full = rw (judged, follows.0) (group_whole (n + 1) before intent (taken rows x) more xs follows.1 (omega (arith, full)))
 
 group_begins : (n : ℕ) (progress : Progress) (count : ℕ) → is_open progress ≡ false → after_line Two n progress (GroupLine count) ≡ Stands (InGroup (counted progress) (left_open progress) (counted progress) (count - 1))
 group_begins n (InBase rows) count free = refl
@@ -42,9 +39,8 @@ group_begins n (InGroup before intent rows more) count free = absurd (true≢fal
 
 intent_opens : (n : ℕ) (progress : Progress) (intent : Intent) → is_open progress ≡ false → left_open progress ≡ None → has_row (counted progress) intent.uid ≡ true
     → after_line Two n progress (IntentLine intent) ≡ Stands (BetweenGroups (counted progress) (Some intent))
-intent_opens n (InBase rows) intent free none has = ap (λ (b : Bool). cond b (Stands (BetweenGroups rows (Some intent))) (Fails (BadRow (line_after n)))) has
-intent_opens n (BetweenGroups rows before) intent free none has =
-    ap (λ (i : Option Intent). after_intent Two n rows i intent) none ∙ ap (λ (b : Bool). cond b (Stands (BetweenGroups rows (Some intent))) (Fails (BadRow (line_after n)))) has
+intent_opens n (InBase rows) intent free none has = rw has refl
+intent_opens n (BetweenGroups rows before) intent free none has = rw (none, has) refl
 intent_opens n (InGroup before open' rows more) intent free none has = absurd (true≢false free)
 
 -- a file with no torn end
@@ -65,9 +61,9 @@ ended : (version : Version) (n : ℕ) (so_far : Judged) (rest : List ℕ) (rows 
     → (version ≡ Two) × Ended so_far rest rows intent
 ended version n (Fails fault) rest rows intent e = absurd (rows_no_fault e)
 ended version n (Stands progress) rest rows intent e = elim (cases_Bool (has_line_feed rest)) [
-  | inl feed ↦ absurd (rows_no_fault (e.1 ∙ ap (λ (b : Bool). cond b (Fault (BadRow (line_after n))) (Rows version (counted progress) (left_open progress) (is_open progress || has_bytes rest))) feed))
+  | inl feed ↦ absurd (rows_no_fault (rw feed at e.1))
   | inr plain ↦
-      let same = same_rows (e.1 ∙ ap (λ (b : Bool). cond b (Fault (BadRow (line_after n))) (Rows version (counted progress) (left_open progress) (is_open progress || has_bytes rest))) plain) in
+      let same = same_rows (rw plain at e.1) in
       let none = no_bytes (is_open progress) rest same.3 in
       (sym same.0, record { progress = progress; is = refl; rows_are = sym same.1; intent_is = sym same.2; free = none.0; nothing = none.1 })
 ]
@@ -94,8 +90,7 @@ feedless [] plain = refl
 feedless (x ∷ xs) plain = ap (λ (b : Bool). b || has_line_feed xs) (ne_eqb x 10 plain.0) ∙ feedless xs plain.1
 
 at_end_rows : (n : ℕ) (progress : Progress) (rest : List ℕ) → HasNo 10 rest → at_end Two n progress rest ≡ Rows Two (counted progress) (left_open progress) (is_open progress || has_bytes rest)
-at_end_rows n progress rest plain =
-    ap (λ (b : Bool). cond b (Fault (BadRow (line_after n))) (Rows Two (counted progress) (left_open progress) (is_open progress || has_bytes rest))) (feedless rest plain)
+at_end_rows n progress rest plain = rw (feedless rest plain) refl
 
 -- a file with no torn end, cut into its lines
 record HasEnded (bytes : List ℕ) (rows : List Row) (intent : Option Intent) : Type 0 where

@@ -65,11 +65,10 @@ same_held v w r s i j a b e held =
 
 ends_held : (version v : Version) (n : ℕ) (j : Judged) (rest : List ℕ) (rows : List Row) (intent : Option Intent) (torn : Bool) → Ends version n j rest (Rows v rows intent torn) → HeldIf j → IntentHasRow rows intent
 ends_held version v n (Fails fault) rest rows intent torn e held = absurd (rows_no_fault e)
-ends_held version v n (Stands p) rest rows intent torn e held = by (has_line_feed rest) e.1
-  where
-    by : (b : Bool) → Rows v rows intent torn ≡ cond b (Fault (BadRow (line_after n))) (Rows version (counted p) (left_open p) (is_open p || has_bytes rest)) → IntentHasRow rows intent
-    by true h = absurd (rows_no_fault h)
-    by false h = same_held v version rows (counted p) intent (left_open p) torn (is_open p || has_bytes rest) h held
+ends_held version v n (Stands p) rest rows intent torn e held = elim (cases_Bool (has_line_feed rest)) [
+  | inl feed ↦ absurd (rows_no_fault (rw feed at e.1))
+  | inr plain ↦ same_held v version rows (counted p) intent (left_open p) torn (is_open p || has_bytes rest) (rw plain at e.1) held
+]
 
 pub open_has_row : (bytes : List ℕ) (v : Version) (rows : List Row) (intent : Option Intent) (torn : Bool) → Means bytes (Rows v rows intent torn) → IntentHasRow rows intent
 open_has_row bytes v rows intent torn (inl none) = same_held v Two rows [] intent None torn false none.1 tt

@@ -70,20 +70,13 @@ marked_cases (row ∷ rest) uid = elim (delivered_cases row.delivered (is_of uid
       delivered_count-cons (with_delivered (is_of uid row) row) (marked rest uid) row.delivered same,
     ))
   ]
-  | inr (before, after) ↦ elim (marked_cases rest uid) [
-    | inl none ↦ inr (omega (
-      arith,
-      ap delivered_count none,
-      delivered_count-cons row rest false before,
-      delivered_count-cons (with_delivered (is_of uid row) row) (marked rest uid) true after,
-    ))
-    | inr more ↦ inr (omega (
-      arith,
-      more,
-      delivered_count-cons row rest false before,
-      delivered_count-cons (with_delivered (is_of uid row) row) (marked rest uid) true after,
-    ))
-  ]
+  | inr (before, after) ↦
+      let old = delivered_count-cons row rest false before in
+      let new = delivered_count-cons (with_delivered (is_of uid row) row) (marked rest uid) true after in
+      elim (marked_cases rest uid) [
+        | inl none ↦ inr (omega (arith, ap delivered_count none, old, new))
+        | inr more ↦ inr (omega (arith, more, old, new))
+      ]
 ]
 
 -- a loop over the flagged items: the ids of these are marked

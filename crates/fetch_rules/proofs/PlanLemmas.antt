@@ -73,14 +73,8 @@ has_number-take p n m (suc i) k (item ∷ items) d inside is = elim (cases_Bool 
 filter_skip : (messages : List Message) (n k : ℕ) (item : Item) (items : List Item) → n < k
     → filter (λ message. has_number ((n, item) ∷ messages) message.0) (enumerate_from k items) ≡ filter (λ message. has_number messages message.0) (enumerate_from k items)
 filter_skip messages n k item [] below = refl
-filter_skip messages n k item (first ∷ items) below = elim (cases_Bool (has_number messages k)) [
-  | inl hit ↦ filter_keeps (λ (message : Message). has_number ((n, item) ∷ messages) message.0) (k, first) _ (or_right _ _ hit)
-      ∙ ap (λ (ms : List Message). (k, first) ∷ ms) (filter_skip messages n (k + 1) item items (omega (arith, below)))
-      ∙ sym (filter_keeps (λ (message : Message). has_number messages message.0) (k, first) _ hit)
-  | inr miss ↦ filter_leaves (λ (message : Message). has_number ((n, item) ∷ messages) message.0) (k, first) _ (or_from _ _ (ne_eqb n k (λ same. absurd (omega (arith, below, same)))) miss)
-      ∙ filter_skip messages n (k + 1) item items (omega (arith, below))
-      ∙ sym (filter_leaves (λ (message : Message). has_number messages message.0) (k, first) _ miss)
-]
+filter_skip messages n k item (first ∷ items) below =
+    rw (ne_eqb n k (λ same. absurd (omega (arith, below, same))), filter_skip messages n (k + 1) item items (omega (arith, below))) refl
 
 filter_nothing : (messages : List Message) → filter (λ _. false) messages ≡ []
 filter_nothing [] = refl
@@ -93,21 +87,17 @@ filter_among p n (suc m) [] = refl
 filter_among p n (suc m) (item ∷ items) = elim (cases_Bool (p (n, item))) [
   | inl hit ↦ subst (λ (ms : List Message). filter (λ message. has_number (take (suc m) ms) message.0) (enumerate_from n (item ∷ items)) ≡ take (suc m) ms)
       (sym (filter_keeps p (n, item) (enumerate_from (n + 1) items) hit))
-      (filter_keeps (λ (message : Message). has_number ((n, item) ∷ take m (filter p (enumerate_from (n + 1) items))) message.0) (n, item) (enumerate_from (n + 1) items) (or_left _ _ (eq-eqb n n refl))
-      ∙ ap (λ (ms : List Message). (n, item) ∷ ms)
-      (filter_skip (take m (filter p (enumerate_from (n + 1) items))) n (n + 1) item items (omega arith) ∙ filter_among p (n + 1) m items))
+      (rw (eq-eqb n n refl, filter_skip (take m (filter p (enumerate_from (n + 1) items))) n (n + 1) item items (omega arith), filter_among p (n + 1) m items) refl)
   | inr miss ↦ subst (λ (ms : List Message). filter (λ message. has_number (take (suc m) ms) message.0) (enumerate_from n (item ∷ items)) ≡ take (suc m) ms)
       (sym (filter_leaves p (n, item) (enumerate_from (n + 1) items) miss))
-      (filter_leaves (λ (message : Message). has_number (take (suc m) (filter p (enumerate_from (n + 1) items))) message.0) (n, item) (enumerate_from (n + 1) items)
-      (none_below p (n + 1) (suc m) n items (omega arith))
-      ∙ filter_among p (n + 1) (suc m) items)
+      (rw (none_below p (n + 1) (suc m) n items (omega arith)) (filter_among p (n + 1) (suc m) items))
 ]
 
 -- the same for a limit; 0 sets none
 at_most_is : (limit n : ℕ) (messages : List Message) → length messages ≤ n → at_most limit messages ≡ take (cond (limit == 0) n limit) messages
 at_most_is limit n messages few = elim (cases_Bool (limit == 0)) [
-  | inl none ↦ cond-true (limit == 0) messages (take limit messages) none ∙ sym (take_all n messages few) ∙ ap (λ (m : ℕ). take m messages) (sym (cond-true (limit == 0) n limit none))
-  | inr some ↦ cond-false (limit == 0) messages (take limit messages) some ∙ ap (λ (m : ℕ). take m messages) (sym (cond-false (limit == 0) n limit some))
+  | inl none ↦ rw none (sym (take_all n messages few))
+  | inr some ↦ rw some refl
 ]
 
 few_pass : (p : Message → Bool) (items : List Item) → length (filter p (numbered items)) ≤ length items
@@ -137,10 +127,8 @@ has_number-at_most p limit i items d inside =
 retrieved_steps : (f : Message → Step) (messages : List Message) → map (λ pair. pair.1) (filter (λ pair. pair.0.retrieve) (zip (map f messages) messages)) ≡ filter (λ message. (f message).retrieve) messages
 retrieved_steps f [] = refl
 retrieved_steps f (message ∷ messages) = elim (cases_Bool (f message).retrieve) [
-  | inl hit ↦ ap (map (λ (pair : Step × Message). pair.1)) (filter_keeps (λ (pair : Step × Message). pair.0.retrieve) (f message, message) (zip (map f messages) messages) hit)
-      ∙ ap (λ (ms : List Message). message ∷ ms) (retrieved_steps f messages) ∙ sym (filter_keeps (λ (m : Message). (f m).retrieve) message messages hit)
-  | inr miss ↦ ap (map (λ (pair : Step × Message). pair.1)) (filter_leaves (λ (pair : Step × Message). pair.0.retrieve) (f message, message) (zip (map f messages) messages) miss)
-      ∙ retrieved_steps f messages ∙ sym (filter_leaves (λ (m : Message). (f m).retrieve) message messages miss)
+  | inl hit ↦ rw hit (ap (λ (ms : List Message). message ∷ ms) (retrieved_steps f messages))
+  | inr miss ↦ rw miss (retrieved_steps f messages)
 ]
 
 pub retrieved-planned : (settings : Settings) (rows : List Row) (listing : List Item) (now : ℕ) (steps : List Step) → steps ≡ planned settings rows listing now → retrieved steps listing ≡ wanted settings rows listing

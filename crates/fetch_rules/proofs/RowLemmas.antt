@@ -35,22 +35,15 @@ apart uid row rows is here = recursion_from_All (λ other. is_of uid other ≡ f
 
 pub unmarked : (uid : List ℕ) (rows : List Row) → AllByRecursion (λ other. is_of uid other ≡ false) rows → marked rows uid ≡ rows
 unmarked uid [] none = refl
-unmarked uid (row ∷ rows) none =
-    ap (λ (b : Bool). with_delivered b row ∷ marked rows uid) none.0
-    ∙ ap (λ (r : Row). r ∷ marked rows uid) (with_delivered-false row)
-    ∙ ap (λ (rs : List Row). row ∷ rs) (unmarked uid rows none.1)
+unmarked uid (row ∷ rows) none = rw (none.0, or-false, unmarked uid rows none.1) refl
 
 set_here : (uid : List ℕ) (es : List (String Global × State)) (state new : State) → IsRecord (rows_of es) → lookup (λ key. bytes_eq uid (string_bytes key)) es ≡ Some state → new ≡ record state { delivered = true }
     → rows_of (set_value (λ key. bytes_eq uid (string_bytes key)) es new) ≡ marked (rows_of es) uid
 set_here uid [] state new is found new_is = refl
 set_here uid (e ∷ es) state new is found new_is = elim (cases_Bool (bytes_eq uid (string_bytes e.0))) [
-  | inl test ↦ rw test
-      (ap (λ (s : State). row_of (e.0, s) ∷ rows_of es) (new_is ∙ ap (λ (s : State). record s { delivered = true }) (sym (same_Some e.1 state (rw test at found))))
-      ∙ ap (λ (r : Row). r ∷ rows_of es) (sym (with_delivered-true (row_of e)))
-      ∙ ap (λ (rs : List Row). with_delivered true (row_of e) ∷ rs) (sym (unmarked uid (rows_of es) (apart uid (row_of e) (rows_of es) is test))))
-  | inr test ↦ rw test
-      (ap (λ (rs : List Row). row_of e ∷ rs) (set_here uid es state new (rest_of (row_of e) (rows_of es) is) (rw test at found) new_is)
-      ∙ ap (λ (r : Row). r ∷ marked (rows_of es) uid) (sym (with_delivered-false (row_of e))))
+  | inl test ↦ rw (test, unmarked uid (rows_of es) (apart uid (row_of e) (rows_of es) is test), or-true)
+      (ap (λ (s : State). row_of (e.0, s) ∷ rows_of es) (new_is ∙ ap (λ (s : State). record s { delivered = true }) (sym (same_Some e.1 state (rw test at found)))))
+  | inr test ↦ rw (test, or-false) (ap (λ (rs : List Row). row_of e ∷ rs) (set_here uid es state new (rest_of (row_of e) (rows_of es) is) (rw test at found) new_is))
 ]
 
 pub marked_from_set : (uid : List ℕ) (es fs : List (String Global × State)) (state new : State) → IsRecord (rows_of es) → Some state ≡ lookup (λ key. bytes_eq uid (string_bytes key)) es → new ≡ record state { delivered = true }
@@ -121,18 +114,12 @@ unmarked_parts true (Some intent) result is here = inr (λ e. none-some intent (
 -- an id that was delivered stays as it is
 pub marked-delivered : (uid : List ℕ) (rows : List Row) (state : State) → IsRecord rows → state_in rows uid ≡ Some state → state.delivered ≡ true → marked rows uid ≡ rows
 marked-delivered uid [] state is found old = refl
-marked-delivered uid (row ∷ rows) state is found old = by (is_of uid row) refl found (λ at. marked-delivered uid rows state (rest_of row rows is) at old)
-  where
-    by : (here : Bool) → is_of uid row ≡ here → option_map state_of (cond here (Some row) (find (is_of uid) rows)) ≡ Some state
-        → (state_in rows uid ≡ Some state → marked rows uid ≡ rows) → marked (row ∷ rows) uid ≡ row ∷ rows
-    by true test at rest =
-        ap (λ (b : Bool). with_delivered b row ∷ marked rows uid) test
-        ∙ ap (λ (r : Row). r ∷ marked rows uid) (with_delivered-true row ∙ ap (λ (d : Bool). record row { delivered = d }) (sym (ap (λ (s : State). s.delivered) (same_Some (state_of row) state at) ∙ old)))
-        ∙ ap (λ (rs : List Row). row ∷ rs) (unmarked uid rows (apart uid row rows is test))
-    by false test at rest =
-        ap (λ (b : Bool). with_delivered b row ∷ marked rows uid) test
-        ∙ ap (λ (r : Row). r ∷ marked rows uid) (with_delivered-false row)
-        ∙ ap (λ (rs : List Row). row ∷ rs) (rest at)
+marked-delivered uid (row ∷ rows) state is found old = elim (cases_Bool (is_of uid row)) [
+  | inl test ↦
+      let same : row.delivered ≡ true = ap (λ (s : State). s.delivered) (same_Some (state_of row) state (rw test at found)) ∙ old in
+      rw (test, unmarked uid rows (apart uid row rows is test), or-true) (ap (λ (d : Bool). let r : Row = record row { delivered = d } in r ∷ rows) (sym same))
+  | inr test ↦ rw (test, or-false) (ap (λ (rs : List Row). row ∷ rs) (marked-delivered uid rows state (rest_of row rows is) (rw test at found) old))
+]
 
 -- what a mark answers
 no_nil : (row : Row) → row ∷ [] ≡ [] → ⊥

@@ -1,7 +1,7 @@
 -- What is left of an appended group or intent after a loss of power.
 use Rattle.std.proofs.Common.{◌≡◌, ◌≢◌, ◌⊎◌, inl, inr, ℕ, List, [], ◌∷◌, ◌++◌, Bool, true, false, ◌||◌, cond, length, refl, sym, ◌∙◌, ap, subst, append_assoc, arith, flat_map, Option, not, true≢false, ne_eqb}
 use Rattle.std.proofs.Math.Bool.{or-true}
-use Rattle.std.proofs.lemmas.Bool.{not-true, not-false}
+use Rattle.std.proofs.lemmas.Bool.{cases_Bool, not-true, not-false}
 use Rattle.std.proofs.lemmas.Bool.Decides.{eqb_tells}
 use Rattle.fetch_rules.specs.Record.{Row, Intent}
 use Rattle.fetch_rules.specs.RecordFile.{Version, Two, header, Line, text_of, IsLine}
@@ -42,24 +42,21 @@ piece_of : (version : Version) (bytes : List ℕ) (lines : List Line) (rest : Li
     → IsCut version bytes lines rest → judged version 0 (Stands (InBase [])) lines ≡ so_far
     → Ends version (length lines) so_far rest (Rows Two rows intent torn) → HasPiece bytes rows intent
 piece_of version bytes lines rest (Fails fault) rows intent torn cut is e = absurd (rows_no_fault e)
-piece_of version bytes lines rest (Stands progress) rows intent torn cut is e = by (has_line_feed rest) refl e.1
-  where
-    by : (b : Bool) → has_line_feed rest ≡ b
-        → Rows Two rows intent torn ≡ cond b (Fault (BadRow (line_after (length lines)))) (Rows version (counted progress) (left_open progress) (is_open progress || has_bytes rest))
-        → HasPiece bytes rows intent
-    by true feed h = absurd (rows_no_fault h)
-    by false none h =
-        let same = same_rows h in
-        record {
-          lines = lines;
-          rest = rest;
-          progress = progress;
-          cut = subst (λ (v : Version). IsCut v bytes lines rest) (sym same.0) cut;
-          is = subst (λ (v : Version). judged v 0 (Stands (InBase [])) lines ≡ Stands progress) (sym same.0) is;
-          plain = no_feed rest none;
-          rows_are = same.1;
-          intent_is = same.2;
-        }
+piece_of version bytes lines rest (Stands progress) rows intent torn cut is e = elim (cases_Bool (has_line_feed rest)) [
+  | inl feed ↦ absurd (rows_no_fault (rw feed at e.1))
+  | inr none ↦
+      let same = same_rows (rw none at e.1) in
+      record {
+        lines = lines;
+        rest = rest;
+        progress = progress;
+        cut = subst (λ (v : Version). IsCut v bytes lines rest) (sym same.0) cut;
+        is = subst (λ (v : Version). judged v 0 (Stands (InBase [])) lines ≡ Stands progress) (sym same.0) is;
+        plain = no_feed rest none;
+        rows_are = same.1;
+        intent_is = same.2;
+      }
+]
 
 has_piece : (bytes : List ℕ) (rows : List Row) (intent : Option Intent) (torn : Bool) → bytes ≢ [] → Means bytes (Rows Two rows intent torn) → HasPiece bytes rows intent
 has_piece bytes rows intent torn some (inl none) = absurd (some none.0)
