@@ -10,7 +10,7 @@ use Rattle.fetch_rules.specs.Record.{Row, IsRecord, is_of, has_row}
 use Rattle.fetch_rules.specs.RecordFile.{Two, header, RowLine, IntentLine, text_of, line_of, last_line, IsLine}
 use Rattle.fetch_rules.specs.RecordMeaning.{Rows, Judged, judged, Stands, Fails, InBase, BetweenGroups, Ends, line_after}
 use Rattle.fetch_rules.specs.RecordGrowth.{BytesStand}
-use Rattle.fetch_rules.specs.declared.seen.SeenFault.TheVariants.{BadRow, RepeatedId}
+use Rattle.fetch_rules.specs.declared.seen.SeenFault.TheVariants.{BadRow}
 use Rattle.fetch_rules.proofs.IdLemmas.{same_from_test}
 use Rattle.fetch_rules.proofs.RecordLemmas.{rows_differ}
 use Rattle.fetch_rules.proofs.LineLemmas.{no_line}

@@ -1,5 +1,5 @@
 -- What an appended group does to what a file stands for.
-use Rattle.std.proofs.Common.{◌≡◌, ◌≢◌, ◌⊎◌, ℕ, zero, suc, ◌+◌, ◌-◌, ◌<◌, ◌≤◌, List, [], ◌∷◌, ◌++◌, Bool, true, false, ◌||◌, cond, length, refl, sym, ◌∙◌, ap, subst, append_assoc, inl, inr, arith, length-append, map, flat_map, Option, Some, None, append-nil}
+use Rattle.std.proofs.Common.{◌≡◌, ◌≢◌, ◌⊎◌, ℕ, zero, suc, ◌+◌, ◌-◌, ◌<◌, ◌≤◌, List, [], ◌∷◌, ◌++◌, Bool, true, false, ◌||◌, length, refl, sym, ◌∙◌, ap, subst, append_assoc, inl, inr, arith, length-append, map, flat_map, Option, Some, None, append-nil}
 use Rattle.std.specs.List.{AllByRecursion}
 use Rattle.std.proofs.Math.Bool.{or-false, or-true}
 use Rattle.std.proofs.lemmas.Bool.{cases_Bool, true≢false, ne_eqb}
@@ -7,9 +7,8 @@ use Rattle.std.proofs.lemmas.List.Concat.{flat_map-append}
 use Rattle.std.proofs.lemmas.List.Elements.{All-append, All-from_recursion, recursion_from_All}
 use Rattle.fetch_rules.specs.Record.{Row, Intent, IsRow, IsIntent, has_row}
 use Rattle.fetch_rules.specs.RecordFile.{Version, Two, header, Line, RowLine, GroupLine, IntentLine, intent_line, text_of, line_of, group_of, group_line, IsLine}
-use Rattle.fetch_rules.specs.RecordMeaning.{IsCut, ByLines, Meaning, Rows, Fault, Means, Progress, Judged, judged, after_line, after_intent, left_open, Stands, Fails, InBase, BetweenGroups, InGroup, at_end, Ends, line_after, counted, is_open, has_line_feed, has_bytes, taken}
+use Rattle.fetch_rules.specs.RecordMeaning.{IsCut, ByLines, Meaning, Rows, Means, Progress, Judged, judged, after_line, left_open, Stands, Fails, InBase, BetweenGroups, InGroup, at_end, Ends, counted, is_open, has_line_feed, has_bytes, taken}
 use Rattle.fetch_rules.specs.RecordGrowth.{AppendedCounts, CutIsIgnored, taken_all, MayFollow, IsGroup}
-use Rattle.fetch_rules.specs.declared.seen.SeenFault.TheVariants.{BadRow, RepeatedId}
 use Rattle.fetch_rules.proofs.LineLemmas.{HasNo, HasBody, body_of, no_line, same_cons}
 use Rattle.fetch_rules.proofs.JudgedLemmas.{judged_append, rows_no_fault, same_rows}
 use Rattle.fetch_rules.proofs.BaseLemmas.{texts_of_rows}
@@ -157,18 +156,12 @@ intent_counts bytes rows intent was is has = grown bytes rows None was (IntentLi
     refl
 
 pub appended_counts : AppendedCounts
-appended_counts bytes added old new before after some means (inl (inl none)) =
-    subst (λ (xs : List ℕ). Means xs (Rows Two new after false)) (sym (ap (λ (xs : List ℕ). bytes ++ xs) none.0 ∙ append-nil bytes))
-    (subst (λ (rows : List Row). Means bytes (Rows Two rows after false)) (sym none.1) (subst (λ (i : Option Intent). Means bytes (Rows Two old i false)) (sym none.2) means))
+appended_counts bytes added old new before after some means (inl (inl none)) = rw (none.0, none.1, none.2, append-nil bytes) means
 appended_counts bytes added old new before after some means (inl (inr one)) =
-    subst (λ (xs : List ℕ). Means (bytes ++ xs) (Rows Two new after false)) (sym one.2)
-    (subst (λ (rows : List Row). Means (bytes ++ group_of one.0) (Rows Two rows after false)) (sym one.3)
-    (subst (λ (i : Option Intent). Means (bytes ++ group_of one.0) (Rows Two (taken_all old one.0) i false)) (sym one.4) (group_counts bytes old one.0 before (has_ended bytes old before some means) one.1)))
+    rw (one.2, one.3, one.4) (group_counts bytes old one.0 before (has_ended bytes old before some means) one.1)
 appended_counts bytes added old new before after some means (inr opens) =
-    subst (λ (xs : List ℕ). Means (bytes ++ xs) (Rows Two new after false)) (sym opens.bytes_are)
-    (subst (λ (rows : List Row). Means (bytes ++ intent_line opens.intent) (Rows Two rows after false)) (sym opens.same)
-    (subst (λ (i : Option Intent). Means (bytes ++ intent_line opens.intent) (Rows Two old i false)) (sym opens.opened)
-    (intent_counts bytes old opens.intent (has_ended bytes old None some (subst (λ (i : Option Intent). Means bytes (Rows Two old i false)) opens.closed means)) opens.is_one opens.row)))
+    rw (opens.bytes_are, opens.same, opens.opened)
+    (intent_counts bytes old opens.intent (has_ended bytes old None some (rw opens.closed at means)) opens.is_one opens.row)
 
 -- a front of bytes that ends before the first LF, or after it
 split_at_feed : (body tail front behind : List ℕ) → HasNo 10 body → front ++ behind ≡ body ++ 10 ∷ tail
@@ -232,9 +225,7 @@ nothing_left (byte ∷ front) behind e = cc
 -- a torn piece alone
 torn_piece : (bytes : List ℕ) (rows : List Row) (intent : Option Intent) (front : List ℕ) → HasEnded bytes rows intent → HasNo 10 front → Means (bytes ++ front) (Rows Two rows intent (has_bytes front))
 torn_piece bytes rows intent front was none = grown bytes rows intent was [] front front was.end.progress _ tt none refl refl
-    (ap (λ (r : List Row). Rows Two r (left_open was.end.progress) (is_open was.end.progress || has_bytes front)) was.end.rows_are
-    ∙ ap (λ (i : Option Intent). Rows Two rows i (is_open was.end.progress || has_bytes front)) was.end.intent_is
-    ∙ ap (λ (w : Bool). Rows Two rows intent (w || has_bytes front)) was.end.free)
+    (rw (was.end.rows_are, was.end.intent_is, was.end.free) refl)
 
 group_cut : (bytes : List ℕ) (rows group : List Row) (intent : Option Intent) (front behind : List ℕ) → HasEnded bytes rows intent → IsGroup rows group
     → front ++ behind ≡ group_of group → behind ≢ [] → Means (bytes ++ front) (Rows Two rows intent (has_bytes front))

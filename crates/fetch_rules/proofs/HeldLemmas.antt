@@ -6,9 +6,9 @@ use Rattle.std.proofs.lemmas.List.Elements.{recursion_from_All}
 use Rattle.mail_terms.specs.UniqueId.{IsLegalId}
 use Rattle.fetch_rules.specs.Record.{Row, Intent, IsRow, IsIntent, IntentHasRow, is_of, has_row}
 use Rattle.fetch_rules.specs.RecordFile.{Version, One, Two, Line, RowLine, GroupLine, IntentLine, IsLine}
-use Rattle.fetch_rules.specs.RecordMeaning.{Rows, Fault, Means, Progress, Judged, judged, after_line, after_intent, may_take, taken, Stands, Fails, InBase, BetweenGroups, InGroup, Ends, line_after, counted, left_open, is_open, has_line_feed, has_bytes}
+use Rattle.fetch_rules.specs.RecordMeaning.{Rows, Means, Progress, Judged, judged, after_line, after_intent, may_take, taken, Stands, Fails, InBase, BetweenGroups, InGroup, Ends, line_after, counted, left_open, is_open, has_line_feed, has_bytes}
 use Rattle.fetch_rules.specs.declared.seen.SeenFault.{SeenFault}
-use Rattle.fetch_rules.specs.declared.seen.SeenFault.TheVariants.{BadRow, RepeatedId}
+use Rattle.fetch_rules.specs.declared.seen.SeenFault.TheVariants.{RepeatedId}
 use Rattle.fetch_rules.specs.Intents.{IsNoneOrOf}
 use Rattle.fetch_rules.proofs.IdLemmas.{same_from_test}
 use Rattle.fetch_rules.proofs.JudgedLemmas.{no_stand, same_progress, rows_no_fault, same_rows}

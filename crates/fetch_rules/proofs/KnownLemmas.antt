@@ -9,7 +9,7 @@ use Rattle.fetch_rules.proofs.IdLemmas.{same_from_test, test_from_same}
 use Rattle.fetch_rules.proofs.RecordLemmas.{uid_of}
 use Rattle.fetch_rules.proofs.NewIdLemmas.{AreApart}
 use Rattle.rc_file.specs.declared.settings.Settings.{Settings}
-use Rattle.fetch_rules.specs.Wanted.{is_candidate, is_within}
+use Rattle.fetch_rules.specs.Wanted.{is_candidate}
 use Rattle.fetch_rules.specs.Due.{may_delete}
 use Rattle.fetch_rules.specs.Plan.{is_deleted, seen_since}
 use Rattle.fetch_rules.proofs.PlanLemmas.{Message, never_due}

@@ -6,7 +6,7 @@ use Rattle.std.proofs.lemmas.Cmp.{nat_list_eq_equiv}
 use Rattle.std.proofs.lemmas.Map.Views.{any-filter_same}
 use Rattle.std.proofs.Math.Bool.{and_comm, and-false, or_self, or-false}
 use Rattle.mail_terms.specs.Listing.{Item, has_item, is_flagged}
-use Rattle.fetch_rules.specs.Record.{Row, is_of, has_row, is_delivered, with_delivered, marked, distinct_ids, new_ids, with_held, merged}
+use Rattle.fetch_rules.specs.Record.{Row, is_of, has_row, is_delivered, with_delivered, distinct_ids, new_ids, with_held, merged}
 use Rattle.fetch_rules.proofs.IdLemmas.{same_from_test}
 use Rattle.mail_terms.specs.UniqueId.{has_id}
 use Rattle.fetch_rules.proofs.NewIdLemmas.{has_id-distinct_ids}

@@ -1,5 +1,5 @@
 -- Loops over a listing that fill a set of ids from the front or from the back.
-use Rattle.std.proofs.Common.{◌≡◌, ◌<◌, ◌≤◌, ◌+◌, ℕ, Bool, true, false, ◌&&◌, ◌||◌, not, List, [], ◌∷◌, ◌++◌, map, take, drop, get_or, set, length, sym, ap, ◌∙◌, arith, bytes_eq, true≢false}
+use Rattle.std.proofs.Common.{◌≡◌, ◌<◌, ◌≤◌, ◌+◌, ℕ, Bool, true, false, ◌&&◌, ◌||◌, not, List, [], ◌∷◌, ◌++◌, map, take, drop, get_or, set, length, sym, ap, ◌∙◌, arith, bytes_eq}
 use Rattle.std.proofs.lemmas.List.{length-map, get_or-map, take_more, take_all, drop_more, drop_all, drop-set, map_push}
 use Rattle.std.proofs.lemmas.List.Folds.{list_any-append}
 use Rattle.std.proofs.lemmas.List.FromFn.{length-enumerate_from}

@@ -1,14 +1,13 @@
 -- The lines of a file of version 1 after the header of version 2.
-use Rattle.std.proofs.Common.{◌≡◌, ℕ, zero, suc, ◌+◌, List, [], ◌∷◌, ◌++◌, Bool, true, false, ◌&&◌, ◌||◌, not, cond, length, refl, sym, ◌∙◌, ap, subst, inl, inr, flat_map, ◌==◌, Option, None}
+use Rattle.std.proofs.Common.{◌≡◌, ℕ, zero, suc, ◌+◌, List, [], ◌∷◌, ◌++◌, Bool, true, false, ◌&&◌, not, length, refl, sym, ◌∙◌, ap, subst, inl, inr, flat_map, ◌==◌, Option, None}
 use Rattle.std.specs.List.{list_any}
 use Rattle.std.proofs.lemmas.Bool.{cases_Bool, or_cases, and_parts, or_left, or_right, and_from}
 use Rattle.std.proofs.lemmas.List.Folds.{Any-from_list_any, list_any-from_Any}
 use Rattle.fetch_rules.specs.Record.{Row, Intent, is_of, has_row}
 use Rattle.fetch_rules.specs.RecordFile.{Version, One, Two, header, Line, RowLine, GroupLine, text_of}
-use Rattle.fetch_rules.specs.RecordMeaning.{IsCut, Rows, Fault, Means, Progress, Judged, judged, after_line, may_take, delivers, taken, Stands, Fails, InBase, BetweenGroups, InGroup, Ends, line_after, counted, left_open, is_open, has_line_feed, has_bytes}
+use Rattle.fetch_rules.specs.RecordMeaning.{IsCut, Rows, Means, Progress, Judged, judged, after_line, may_take, delivers, taken, Stands, Fails, InBase, BetweenGroups, InGroup, Ends, left_open, has_line_feed}
 use Rattle.fetch_rules.specs.RecordGrowth.{OneIsRead}
 use Rattle.fetch_rules.specs.declared.seen.SeenFault.{SeenFault}
-use Rattle.fetch_rules.specs.declared.seen.SeenFault.TheVariants.{BadRow, RepeatedId}
 use Rattle.fetch_rules.proofs.CutLemmas.{same_lines, no_header}
 use Rattle.fetch_rules.proofs.JudgedLemmas.{no_stand, same_progress, rows_no_fault, same_rows}
 
@@ -82,9 +81,9 @@ ends rest version rows intent torn lines tail (Stands p) cut is e = by (has_line
     two = steps 0 (Stands (InBase [])) (InBase []) lines p refl refl is
 
     by : (b : Bool) → has_line_feed tail ≡ b → (version ≡ One) × (intent ≡ None) × Means (header Two ++ rest) (Rows Two rows None torn)
-    by true feed = absurd (rows_no_fault (e.1 ∙ ap (λ (b : Bool). cond b (Fault (BadRow (line_after (length lines)))) (Rows One (counted p) (left_open p) (is_open p || has_bytes tail))) feed))
+    by true feed = absurd (rows_no_fault (rw feed at e.1))
     by false plain =
-        let same = same_rows (e.1 ∙ ap (λ (b : Bool). cond b (Fault (BadRow (line_after (length lines)))) (Rows One (counted p) (left_open p) (is_open p || has_bytes tail))) plain) in (
+        let same = same_rows (rw plain at e.1) in (
           same.0,
           same.2 ∙ two.1,
           inr (inr (record {
@@ -94,9 +93,7 @@ ends rest version rows intent torn lines tail (Stands p) cut is e = by (has_line
             cut = record { each = cut.each; whole = ap (λ (xs : List ℕ). header Two ++ xs) (same_lines One One rest (flat_map text_of lines ++ tail) cut.whole).1 };
             ends = subst (λ (k : Judged). Ends Two (length lines) k tail (Rows Two rows None torn)) (sym two.0) (
               e.0,
-              ap (λ (r : List Row). Rows Two r None torn) same.1 ∙ ap (λ (i : Option Intent). Rows Two (counted p) i torn) (sym two.1)
-                  ∙ ap (Rows Two (counted p) (left_open p)) same.3
-                  ∙ ap (λ (b : Bool). cond b (Fault (BadRow (line_after (length lines)))) (Rows Two (counted p) (left_open p) (is_open p || has_bytes tail))) (sym plain),
+              rw (plain, two.1, same.1, same.3) refl,
             );
           })),
         )

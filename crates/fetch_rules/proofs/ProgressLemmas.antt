@@ -52,7 +52,7 @@ stays_out version (Within more) next n intent after before rows new row leads wi
 stays_out version Between next n intent after before rows new row leads within = absurd (no_stand leads)
 stays_out version Base Base n intent after before rows new row leads within = absurd (true≢false (sym within))
 stays_out version Base Between n intent after before rows new row leads within = absurd (true≢false (sym within))
-stays_out version Base (Within more) n intent after before rows new row leads within = 
+stays_out version Base (Within more) n intent after before rows new row leads within =
     absurd (neither (has_row rows row.uid) (Fails (RepeatedId (line_after n))) (Stands (InBase (rows ++ row ∷ []))) (InGroup before after new more) leads (λ e. cc) (λ e. cc))
 
 placed_behind : (version : Version) (part next : Part) (n : ℕ) (intent : Option Intent) (before rows new : List Row) (row : Row)
@@ -61,9 +61,9 @@ placed_behind version part Between n intent before rows new row leads placed = t
 placed_behind version part (Within more) n intent before rows new row leads placed = tt
 placed_behind version Base Base n intent before rows new row leads placed = placed
 placed_behind version Between Base n intent before rows new row leads placed = absurd (no_stand leads)
-placed_behind version (Within zero) Base n intent before rows new row leads placed = 
+placed_behind version (Within zero) Base n intent before rows new row leads placed =
     absurd (neither (may_take version rows row) (Stands (BetweenGroups (taken rows row) None)) (Fails (RepeatedId (line_after n))) (InBase new) leads (λ e. cc) (λ e. cc))
-placed_behind version (Within (suc more)) Base n intent before rows new row leads placed = 
+placed_behind version (Within (suc more)) Base n intent before rows new row leads placed =
     absurd (neither (may_take version rows row) (Stands (InGroup before intent (taken rows row) more)) (Fails (RepeatedId (line_after n))) (InBase new) leads (λ e. cc) (λ e. cc))
 
 open_within : (next : Part) (intent : Option Intent) → is_within next ≡ true → open_behind next intent ≡ intent

@@ -1,5 +1,5 @@
 -- The lines of a record's file, one by one as `read` takes them, and what a mark appends.
-use Rattle.std.proofs.Common.{◌≡◌, ℕ, ◌+◌, ◌<◌, ◌^◌, List, [], ◌∷◌, ◌++◌, Some, Bool, true, false, ◌&&◌, cond, length, refl, sym, ◌∙◌, ap, subst, append_assoc, inr, arith, length-append, flat_map, ◌==◌, find, option_map, append-nil, inl}
+use Rattle.std.proofs.Common.{◌≡◌, ℕ, ◌+◌, ◌<◌, ◌^◌, List, [], ◌∷◌, ◌++◌, Some, Bool, true, ◌&&◌, cond, length, refl, sym, ◌∙◌, ap, subst, append_assoc, inr, arith, length-append, flat_map, ◌==◌, append-nil, inl}
 use Rattle.std.specs.List.{AllByRecursion, list_any}
 use Rattle.std.proofs.lemmas.Bool.{cases_Bool, eq-eqb, or_left, or_right, and_from}
 use Rattle.std.proofs.lemmas.List.Concat.{flat_map-append}

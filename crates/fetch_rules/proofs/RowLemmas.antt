@@ -12,13 +12,13 @@ use Rattle.std.proofs.lemmas.Option.{same_Some, none-some}
 use Rattle.indexmap.specs.IndexMap.{insert_entry}
 use Rattle.mail_terms.specs.Distinct.{AreDistinct}
 use Rattle.mail_terms.specs.UniqueId.{IsLegalId}
-use Rattle.fetch_rules.specs.Record.{Row, Intent, IsRow, IsRecord, is_of, has_row, marked, with_delivered, is_delivered}
+use Rattle.fetch_rules.specs.Record.{Row, Intent, IsRow, IsRecord, is_of, has_row, marked, is_delivered}
 use Rattle.fetch_rules.specs.RecordFile.{changed, marking, written}
 use Rattle.fetch_rules.specs.Intents.{has_intent}
 use Rattle.fetch_rules.specs.Rows.{row_from, row_of, rows_of, state_of, state_in}
 use Rattle.fetch_rules.specs.declared.seen.row_map.State.{State}
 use Rattle.fetch_rules.proofs.IdLemmas.{same_from_test, test_from_same, test_from_other}
-use Rattle.fetch_rules.proofs.RecordLemmas.{with_delivered-false, with_delivered-true, rows_differ, rest_of, IsRecord-push}
+use Rattle.fetch_rules.proofs.RecordLemmas.{rows_differ, rest_of, IsRecord-push}
 use Rattle.fetch_rules.proofs.DeliveredLemmas.{changed-same}
 
 pub lookup_state : (uid : List ℕ) (es : List (String Global × State)) → lookup (λ key. bytes_eq uid (string_bytes key)) es ≡ state_in (rows_of es) uid

@@ -1,9 +1,8 @@
 -- A row of the file, as the reader takes it.
-use Rattle.std.proofs.Common.{◌≡◌, ◌≢◌, ℕ, zero, suc, List, [], ◌∷◌, ◌++◌, Option, Some, None, Bool, true, false, ◌&&◌, ◌||◌, not, cond, refl, sym, ◌∙◌, ap, subst, ◌==◌, is_some, IfSome, IfNone}
-use Rattle.fetch_rules.specs.RecordFile.{Version}
+use Rattle.std.proofs.Common.{◌≡◌, ◌≢◌, ℕ, zero, suc, List, [], ◌∷◌, ◌++◌, Option, Some, None, Bool, true, false, ◌&&◌, not, refl, sym, ◌∙◌, ap, subst, ◌==◌, is_some, IfSome, IfNone}
 use Rattle.std.proofs.lemmas.Bool.{true≢false, and_parts, eqb-true}
 use Rattle.fetch_rules.specs.Record.{Row, IsRecord, has_row, marked}
-use Rattle.fetch_rules.specs.RecordMeaning.{delivers, Progress, Judged, InBase, BetweenGroups, InGroup, Stands, Fails, line_after}
+use Rattle.fetch_rules.specs.RecordMeaning.{delivers, Fails}
 use Rattle.fetch_rules.specs.Lines.{version_of, is_within, after_row, TakesRow, RefusesRow}
 use Rattle.fetch_rules.specs.Rows.{state_in}
 use Rattle.fetch_rules.specs.declared.seen.row_map.State.{State}

@@ -5,7 +5,7 @@ use Rattle.std.proofs.lemmas.Bool.{cases_Bool, not-true, not-false}
 use Rattle.std.proofs.lemmas.Bool.Decides.{eqb_tells}
 use Rattle.fetch_rules.specs.Record.{Row, Intent}
 use Rattle.fetch_rules.specs.RecordFile.{Version, Two, header, Line, text_of, IsLine}
-use Rattle.fetch_rules.specs.RecordMeaning.{IsCut, Meaning, Rows, Fault, Means, Progress, Judged, judged, left_open, Stands, Fails, InBase, at_end, Ends, line_after, counted, is_open, has_line_feed, has_bytes}
+use Rattle.fetch_rules.specs.RecordMeaning.{IsCut, Meaning, Rows, Fault, Means, Progress, Judged, judged, left_open, Stands, Fails, InBase, at_end, Ends, line_after, counted, has_line_feed, has_bytes}
 use Rattle.fetch_rules.specs.RecordTorn.{IsPartOf, ends_at_zero, TornIsIgnoredOrSeen}
 use Rattle.fetch_rules.specs.declared.seen.SeenFault.TheVariants.{BadRow}
 use Rattle.fetch_rules.proofs.LineLemmas.{HasNo, body_of, ends_clash}
@@ -89,21 +89,15 @@ feeds_behind : (front more : List ℕ) → HasNo 10 front → has_line_feed (fro
 feeds_behind [] more none = refl
 feeds_behind (byte ∷ front) more none = ap (λ (b : Bool). b || has_line_feed (front ++ 0 ∷ more)) (ne_eqb byte 10 none.0) ∙ feeds_behind front more none.1
 
-abbrev at_end_if : Bool → ℕ → Progress → List ℕ → Meaning
-at_end_if feed n progress rest = cond feed (Fault (BadRow (line_after n))) (Rows Two (counted progress) (left_open progress) (is_open progress || has_bytes rest))
-
 zero_ignored : (bytes more : List ℕ) (rows : List Row) (intent : Option Intent) → HasPiece bytes rows intent → has_line_feed more ≡ false → Means (bytes ++ 0 ∷ more) (Rows Two rows intent true)
-zero_ignored bytes more rows intent p none = ended_by bytes more rows intent _ p
-    (ap (λ (r : List Row). Rows Two r intent true) p.rows_are
-    ∙ ap (λ (i : Option Intent). Rows Two (counted p.progress) i true) p.intent_is
-    ∙ ap (λ (t : Bool). Rows Two (counted p.progress) (left_open p.progress) t) (sym (ap (λ (b : Bool). is_open p.progress || b) (has_bytes_behind p.rest 0 more) ∙ or-true (is_open p.progress)))
-    ∙ ap (λ (b : Bool). at_end_if b (length p.lines) p.progress (p.rest ++ 0 ∷ more)) (sym (feeds_behind p.rest more p.plain ∙ none)))
+zero_ignored bytes more rows intent p none =
+    ended_by bytes more rows intent _ p (rw (p.rows_are, p.intent_is, feeds_behind p.rest more p.plain, none, has_bytes_behind p.rest 0 more, or-true) refl)
 
 zero_seen : (bytes more : List ℕ) (rows : List Row) (intent : Option Intent) → HasPiece bytes rows intent → has_line_feed more ≡ true
     → (line : ℕ) × Means (bytes ++ 0 ∷ more) (Fault (BadRow line))
 zero_seen bytes more rows intent p feed = (
   line_after (length p.lines),
-  ended_by bytes more rows intent _ p (ap (λ (b : Bool). at_end_if b (length p.lines) p.progress (p.rest ++ 0 ∷ more)) (sym (feeds_behind p.rest more p.plain ∙ feed))),
+  ended_by bytes more rows intent _ p (rw (feeds_behind p.rest more p.plain, feed) refl),
 )
 
 -- ---- what is left
@@ -168,20 +162,10 @@ torn_ignored_or_seen bytes added left old new before after some means grows part
     by : ((left ≡ s.front) × (ends_at_zero left ≡ true)) ⊎ ((more : List ℕ) × (left ≡ s.front ++ 0 ∷ more) × (ends_at_zero left ≡ not (has_line_feed more)))
         → (ends_at_zero left ≡ true → Means (bytes ++ left) (Rows Two old before (has_bytes left)))
         × (ends_at_zero left ≡ false → (line : ℕ) × Means (bytes ++ left) (Fault (BadRow line)))
-    by (inl k) = (
-      λ ends. subst (λ (xs : List ℕ). Means (bytes ++ xs) (Rows Two old before (has_bytes xs))) (sym k.0) cut,
-      λ ends. absurd (true≢false (sym k.1 ∙ ends)),
-    )
+    by (inl k) = (λ ends. rw k.0 cut, λ ends. absurd (true≢false (sym k.1 ∙ ends)))
     by (inr k) = (
-      λ ends.
-          subst (λ (xs : List ℕ). Means (bytes ++ xs) (Rows Two old before (has_bytes xs))) (sym k.1)
-          (subst (λ (t : Bool). Means (bytes ++ (s.front ++ 0 ∷ k.0)) (Rows Two old before t)) (sym (has_bytes_behind s.front 0 k.0))
-          (subst (λ (xs : List ℕ). Means xs (Rows Two old before true)) (append_assoc bytes s.front (0 ∷ k.0))
-          (zero_ignored (bytes ++ s.front) k.0 old before piece (not-true (has_line_feed k.0) (sym k.2 ∙ ends))))),
-      λ ends.
-          let seen = zero_seen (bytes ++ s.front) k.0 old before piece (not-false (has_line_feed k.0) (sym k.2 ∙ ends)) in (
-            seen.0,
-            subst (λ (xs : List ℕ). Means xs (Fault (BadRow seen.0))) (ap (λ (xs : List ℕ). bytes ++ xs) (sym k.1))
-                (subst (λ (xs : List ℕ). Means xs (Fault (BadRow seen.0))) (append_assoc bytes s.front (0 ∷ k.0)) seen.1),
-          ),
+      λ ends. rw (k.1, has_bytes_behind s.front 0 k.0, ← append_assoc bytes s.front (0 ∷ k.0))
+          (zero_ignored (bytes ++ s.front) k.0 old before piece (not-true (has_line_feed k.0) (sym k.2 ∙ ends))),
+      λ ends. rw (k.1, ← append_assoc bytes s.front (0 ∷ k.0))
+          (zero_seen (bytes ++ s.front) k.0 old before piece (not-false (has_line_feed k.0) (sym k.2 ∙ ends))),
     )
