@@ -58,7 +58,8 @@ map-true test (x ∷ xs) all =
     ap (λ (b : Bool). b ∷ map test xs) (all 0 x (omega arith))
     ∙ ap (λ (bs : List Bool). true ∷ bs) (map-true test xs (λ k d inside. all (suc k) d (omega (arith, inside))))
 
-pub all_flags : (test : Message → Bool) (listing : List Item) (n : ℕ) (flags : List Bool) → All (λ message. test message ≡ true) (numbered listing)
+pub all_flags : (test : Message → Bool) (listing : List Item) (n : ℕ) (flags : List Bool)
+    → All (λ message. test message ≡ true) (numbered listing)
     → n ≡ length listing → flags ≡ replicate n true → flags ≡ map test (numbered listing)
 all_flags test listing n flags all count are =
     are ∙ ap (λ (m : ℕ). replicate m true) (count ∙ sym (length-enumerate_from 1 listing)) ∙ sym (map-true test (numbered listing) all)

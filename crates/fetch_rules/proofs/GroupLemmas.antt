@@ -29,7 +29,8 @@ group_whole : (n : ℕ) (before : List Row) (intent : Option Intent) (rows : Lis
 group_whole n before intent rows more [] follows full = absurd (omega (arith, full))
 group_whole n before intent rows zero (x ∷ []) follows full = rw follows.0 refl
 group_whole n before intent rows zero (x ∷ (y ∷ xs)) follows full = absurd (omega (arith, full))
-group_whole n before intent rows (suc more) (x ∷ xs) follows full = rw (judged, follows.0) (group_whole (n + 1) before intent (taken rows x) more xs follows.1 (omega (arith, full)))
+group_whole n before intent rows (suc more) (x ∷ xs) follows full =
+    rw (judged, follows.0) (group_whole (n + 1) before intent (taken rows x) more xs follows.1 (omega (arith, full)))
 
 group_begins : (n : ℕ) (progress : Progress) (count : ℕ) → is_open progress ≡ false → after_line Two n progress (GroupLine count) ≡ Stands (InGroup (counted progress) (left_open progress) (counted progress) (count - 1))
 group_begins n (InBase rows) count free = refl

@@ -31,7 +31,8 @@ delivered-with t (row ∷ rows) uid =
     mark_table (bytes_eq uid row.uid) row.delivered (t row.uid) (t uid) (is_delivered rows uid) (has_row rows uid) (is_delivered (map (λ r. with_delivered (t r.uid) r) rows) uid)
     (λ e. ap t (sym (same_from_test uid row.uid e))) (delivered-with t rows uid)
 
-pub has_row-with : (t : List ℕ → Bool) (rows : List Row) (uid : List ℕ) → has_row (map (λ row. with_delivered (t row.uid) row) rows) uid ≡ has_row rows uid
+pub has_row-with : (t : List ℕ → Bool) (rows : List Row) (uid : List ℕ)
+    → has_row (map (λ row. with_delivered (t row.uid) row) rows) uid ≡ has_row rows uid
 has_row-with t [] uid = refl
 has_row-with t (row ∷ rows) uid = ap (λ (b : Bool). bytes_eq uid row.uid || b) (has_row-with t rows uid)
 

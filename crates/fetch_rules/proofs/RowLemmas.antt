@@ -118,7 +118,8 @@ marked-delivered uid (row ∷ rows) state is found old = elim (cases_Bool (is_of
   | inl test ↦
       let same : row.delivered ≡ true = ap (λ (s : State). s.delivered) (same_Some (state_of row) state (rw test at found)) ∙ old in
       rw (test, unmarked uid rows (apart uid row rows is test), or-true) (ap (λ (d : Bool). let r : Row = record row { delivered = d } in r ∷ rows) (sym same))
-  | inr test ↦ rw (test, or-false) (ap (λ (rs : List Row). row ∷ rs) (marked-delivered uid rows state (rest_of row rows is) (rw test at found) old))
+  | inr test ↦
+      rw (test, or-false) (ap (λ (rs : List Row). row ∷ rs) (marked-delivered uid rows state (rest_of row rows is) (rw test at found) old))
 ]
 
 -- what a mark answers
@@ -140,7 +141,8 @@ none_of q uid (row ∷ rows) none = ap (λ (b : Bool). (b && q (state_of row)) |
 pub any_of : (q : State → Bool) (uid : List ℕ) (rows : List Row) (state : State) → IsRecord rows → state_in rows uid ≡ Some state → list_any (λ row. is_of uid row && q (state_of row)) rows ≡ q state
 any_of q uid [] state is found = absurd (none-some state found)
 any_of q uid (row ∷ rows) state is found = elim (cases_Bool (is_of uid row)) [
-  | inl test ↦ rw (test, none_of q uid rows (apart uid row rows is test), or-false) (ap q (same_Some (state_of row) state (rw test at found)))
+  | inl test ↦
+      rw (test, none_of q uid rows (apart uid row rows is test), or-false) (ap q (same_Some (state_of row) state (rw test at found)))
   | inr test ↦ rw test (any_of q uid rows state (rest_of row rows is) (rw test at found))
 ]
 

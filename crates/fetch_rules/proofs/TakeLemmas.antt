@@ -52,5 +52,7 @@ takes_old older (Within (suc more)) rows row within has now = λ n before intent
 pub refuses_old : (older : Bool) (part : Part) (rows : List Row) (row : Row) (number : ℕ) → part ≢ Between → has_row rows row.uid ≡ true → (is_within part ≡ true → delivers (version_of older) rows row ≡ false) → RefusesRow older part rows row number (RepeatedId number)
 refuses_old older Base rows row number other has later = λ n before intent is. rw has (ap (λ (k : ℕ). Fails (RepeatedId k)) (sym is))
 refuses_old older Between rows row number other has later = absurd (other refl)
-refuses_old older (Within zero) rows row number other has later = λ n before intent is. rw (has, later refl) (ap (λ (k : ℕ). Fails (RepeatedId k)) (sym is))
-refuses_old older (Within (suc more)) rows row number other has later = λ n before intent is. rw (has, later refl) (ap (λ (k : ℕ). Fails (RepeatedId k)) (sym is))
+refuses_old older (Within zero) rows row number other has later =
+    λ n before intent is. rw (has, later refl) (ap (λ (k : ℕ). Fails (RepeatedId k)) (sym is))
+refuses_old older (Within (suc more)) rows row number other has later =
+    λ n before intent is. rw (has, later refl) (ap (λ (k : ℕ). Fails (RepeatedId k)) (sym is))

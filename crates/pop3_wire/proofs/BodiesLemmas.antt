@@ -95,7 +95,8 @@ under_way_ends limit old link waits body text now other some fault link' waits' 
     drawn : (l : List ℕ) → now.gained ++ [] ≡ l → Drew link link' [] → Drew old.link link' l
     drawn l e then = subst (Drew old.link link') e (drew_on old.link link link' now.gained [] now.drew then)
 
-    cause : (f : BodyFault) → DrawsNothing f link link' → Drew old.link link' now.gained × BodyCause limit f old.link link' (old.waiting ++ now.gained)
+    cause : (f : BodyFault) → DrawsNothing f link link'
+        → Drew old.link link' now.gained × BodyCause limit f old.link link' (old.waiting ++ now.gained)
     cause Ended n = (drawn now.gained (append-nil now.gained) n.0, (no_body, short, n.1, n.2 ∙ now.steady.failures))
     cause Failed n = (drawn now.gained (append-nil now.gained) n.0, (no_body, short, n.1 ∙ now.steady.ended, n.2 ∙ ap (λ (k : ℕ). k + 1) now.steady.failures))
     cause TooLong n = absurd n
@@ -105,7 +106,9 @@ pub under_way_too_long : (limit : ℕ) (old new : Place) (body : Rest) (text : L
     → LeavesRest limit old new × ((gained : List ℕ) × Drew old.link new.link gained × BodyCause limit TooLong old.link new.link (old.waiting ++ gained))
 under_way_too_long limit old new body text now other none =
     let sizes : length now.used + body.left ≡ limit = now.sizes in
-    let front : take limit (old.waiting ++ now.gained) ≡ now.used = ap (take limit) now.heard ∙ take_at now.used new.waiting limit (omega arith) in
-    let whole : length (old.waiting ++ now.gained) ≡ length now.used + length new.waiting = ap length now.heard ∙ length-append now.used new.waiting in
+    let front : take limit (old.waiting ++ now.gained) ≡ now.used =
+    ap (take limit) now.heard ∙ take_at now.used new.waiting limit (omega arith) in
+    let whole : length (old.waiting ++ now.gained) ≡ length now.used + length new.waiting =
+    ap length now.heard ∙ length-append now.used new.waiting in
     let no_body = subst HasNoBody (sym front) (reached_no_body body.spot now.used text now.reached other) in
     (leaves limit old new body text now, (now.gained, now.drew, (no_body, omega arith, now.steady)))

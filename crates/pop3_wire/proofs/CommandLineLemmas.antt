@@ -27,6 +27,7 @@ trimmed_at line n fits spaces stop = ap (λ k. take k line) (omega (arith, suffi
 pub some_part : (rest : List ℕ) → (first : List ℕ) × (more : List (List ℕ)) × (slice_split is_space rest ≡ first ∷ more)
 some_part rest = parts (slice_split is_space rest) (length-slice_split is_space rest)
   where
-    parts : (all : List (List ℕ)) → length all ≡ count_by is_space rest + 1 → (first : List ℕ) × (more : List (List ℕ)) × (all ≡ first ∷ more)
+    parts : (all : List (List ℕ)) → length all ≡ count_by is_space rest + 1
+        → (first : List ℕ) × (more : List (List ℕ)) × (all ≡ first ∷ more)
     parts [] size = absurd (omega (arith, size))
     parts (first ∷ more) size = (first, more, refl)

@@ -122,10 +122,12 @@ pub round_trip : ReadAsWritten
 unfolding line_of command_by keyword_of arguments text_argument no_argument one_number number_or_none two_numbers command_of
 round_trip (User name) few good =
     let short : length name ≤ 500 = text_short name good in
-    short_line (85 ∷ 83 ∷ 69 ∷ 82 ∷ 32 ∷ name) (omega arith) ∙ ap (λ (r : Result (List ℕ) WireFault). r >>= (λ t. Ok (User t))) (cond-true _ _ _ good)
+    short_line (85 ∷ 83 ∷ 69 ∷ 82 ∷ 32 ∷ name) (omega arith)
+    ∙ ap (λ (r : Result (List ℕ) WireFault). r >>= (λ t. Ok (User t))) (cond-true _ _ _ good)
 round_trip (Pass password) few good =
     let short : length password ≤ 500 = text_short password good in
-    short_line (80 ∷ 65 ∷ 83 ∷ 83 ∷ 32 ∷ password) (omega arith) ∙ ap (λ (r : Result (List ℕ) WireFault). r >>= (λ t. Ok (Pass t))) (cond-true _ _ _ good)
+    short_line (80 ∷ 65 ∷ 83 ∷ 83 ∷ 32 ∷ password) (omega arith)
+    ∙ ap (λ (r : Result (List ℕ) WireFault). r >>= (λ t. Ok (Pass t))) (cond-true _ _ _ good)
 round_trip (UidlOne n) few good = numbered (codes "UIDL") n refl (omega arith) few ∙ ap (λ (r : Result ℕ WireFault). r >>= (λ m. Ok (Some m)) >>= (λ which. Ok (one_or_all UidlOne UidlAll which))) (read_number n few)
 round_trip (ListOne n) few good = numbered (codes "LIST") n refl (omega arith) few ∙ ap (λ (r : Result ℕ WireFault). r >>= (λ m. Ok (Some m)) >>= (λ which. Ok (one_or_all ListOne ListAll which))) (read_number n few)
 round_trip (Retr n) few good = numbered (codes "RETR") n refl (omega arith) few ∙ ap (λ (r : Result ℕ WireFault). r >>= (λ m. Ok (Retr m))) (read_number n few)

@@ -75,7 +75,8 @@ next_given front p piece copied rest given n some small is_copied follows goes =
     let long : given ≤ length (repeat given p) = repeat_long given p some in
     let before : take given (front ++ repeat (given + n) p) ≡ first_given front p given =
     ap (take given) all ∙ take-append-le given (front ++ repeat given p) (repeat n p) (omega arith) in
-    let after : take n (drop given (front ++ repeat (given + n) p)) ≡ take n piece = ap (take n) next.1 ∙ take-append-le n piece next.0 small in
+    let after : take n (drop given (front ++ repeat (given + n) p)) ≡ take n piece =
+    ap (take n) next.1 ∙ take-append-le n piece next.0 small in
     let size : length (take n piece) ≡ n = length-take-le n piece small in
     ap (λ (l : List ℕ). first_given front p given ++ take n (l ++ rest)) is_copied
     ∙ ap (λ (l : List ℕ). first_given front p given ++ l) (take_at (take n piece) rest n size)

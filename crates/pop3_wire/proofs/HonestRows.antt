@@ -94,7 +94,8 @@ uid_rows_are_read number uid few legal =
     let bytes = all_pass is_id_byte is_no_lf (λ d e. grind (arith, nat_tests)) uid (bytes_of uid legal).1 in
     let none : list_all is_no_lf (32 ∷ uid) ≡ true = no_lf_append (32 ∷ []) uid refl bytes in
     let same : uid_row number uid ≡ decimal number ++ 32 ∷ uid = append_assoc (decimal number) (32 ∷ []) uid in
-    let form : HasUidForm (decimal number ++ 32 ∷ uid) number uid = record { behind = []; front = numbered number uid (uid ++ []) few (sym (append-nil uid)); legal = legal; over = refl } in
+    let form : HasUidForm (decimal number ++ 32 ∷ uid) number uid =
+    record { behind = []; front = numbered number uid (uid ++ []) few (sym (append-nil uid)); legal = legal; over = refl } in
     (subst IsSentAsIs (sym same) (digit_content number (32 ∷ uid) (omega arith) none), ap number_and_id same ∙ uid_form_read _ number uid form)
 
 pub first_lines_are_read : FirstLinesAreRead

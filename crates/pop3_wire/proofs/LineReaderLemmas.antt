@@ -115,7 +115,8 @@ no_line_max s until w known found = elim (cases_lt until s) [
 ]
 
 pub no_line_limit : (limit until : ℕ) (w : List ℕ) → until ≡ min limit (length w) → HasNoLine until w → HasNoLine limit w
-no_line_limit limit until w is_until found = record { none = subst IsLine (ap (λ (k : ℕ). take k w) is_until ∙ take_min limit w) found.none }
+no_line_limit limit until w is_until found =
+    record { none = subst IsLine (ap (λ (k : ℕ). take k w) is_until ∙ take_min limit w) found.none }
 
 -- what waits after the first n octets were used
 pub window_skip : (bytes : List ℕ) (start end n : ℕ) → n ≤ length (take (end - start) (drop start bytes))

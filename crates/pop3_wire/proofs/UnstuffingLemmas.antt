@@ -56,7 +56,8 @@ pub NoCr-dot : NoCr dot
 NoCr-dot front e = absurd (omega (arith, (same_from_push [] front 46 13 e).1))
 
 -- a CR that isn't shown yet
-pub at_cr : (bytes text part shown given : List ℕ) → Partly bytes text part shown → part ≢ dot → unstuffed part ≡ shown ++ given → AtCr (bytes ++ 13 ∷ []) (text ++ given)
+pub at_cr : (bytes text part shown given : List ℕ) → Partly bytes text part shown → part ≢ dot → unstuffed part ≡ shown ++ given
+    → AtCr (bytes ++ 13 ∷ []) (text ++ given)
 at_cr bytes text part shown given h other more =
     record { part = part; other = other; partly = one_more bytes text part shown (unstuffed part) 13 given h (IsLine-push part 13 h.line (inl (λ e. absurd (omega (arith, e))))) more }
 

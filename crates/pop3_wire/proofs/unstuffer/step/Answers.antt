@@ -18,7 +18,8 @@ returns-in_default-byte-clause-reached c bytes text h =
     in_line bytes text dot [] (c.args.byte ∷ []) c.args.byte (rw c.in-Dot.is at h) (λ e. omega arith) (inr NoCr-dot) (λ e. cc) refl
 
 pub returns-in-13-byte-2-clause-reached : goal.returns-in-13-byte-2-clause-reached
-returns-in-13-byte-2-clause-reached c bytes text h = rw c.in-13-byte-2.is (at_cr bytes text (46 ∷ 13 ∷ []) [] (13 ∷ []) (rw c.in-DotCr.is at h) (λ e. cc) refl)
+returns-in-13-byte-2-clause-reached c bytes text h =
+    rw c.in-13-byte-2.is (at_cr bytes text (46 ∷ 13 ∷ []) [] (13 ∷ []) (rw c.in-DotCr.is at h) (λ e. cc) refl)
 
 pub returns-in_default-byte-2-clause-reached : goal.returns-in_default-byte-2-clause-reached
 returns-in_default-byte-2-clause-reached c bytes text h =
