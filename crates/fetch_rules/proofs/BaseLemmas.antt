@@ -33,7 +33,8 @@ fresh front rows row is = false_from_ne_true _ (λ has.
 judged_base : (n : ℕ) (front rows : List Row) → IsRecord (front ++ rows) → judged Two n (Stands (InBase front)) (map RowLine rows) ≡ Stands (InBase (front ++ rows))
 judged_base n front [] is = ap (λ (xs : List Row). Stands (InBase xs)) (sym (append-nil front))
 judged_base n front (row ∷ rows) is =
-    rw (judged, fresh front rows row is) (judged_base (n + 1) (front ++ row ∷ []) rows (subst IsRecord (sym whole) is) ∙ ap (λ (xs : List Row). Stands (InBase xs)) whole)
+    rw (judged, fresh front rows row is) (judged_base (n + 1) (front ++ row ∷ []) rows (subst IsRecord (sym whole) is)
+    ∙ ap (λ (xs : List Row). Stands (InBase xs)) whole)
   where
     whole : (front ++ row ∷ []) ++ rows ≡ front ++ row ∷ rows
     whole = append_assoc front (row ∷ []) rows

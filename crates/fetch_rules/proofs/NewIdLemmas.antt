@@ -66,7 +66,12 @@ has_id-new_of rows ids uid none =
 pub new_of-push_row : (rows : List Row) (ids : List (List ℕ)) (uid : List ℕ) → has_row rows uid ≡ true → new_of rows (ids ++ uid ∷ []) ≡ new_of rows ids
 new_of-push_row rows ids uid has = elim (cases_Bool (has_id ids uid)) [
   | inl old ↦ ap (filter (λ id. not (has_row rows id))) (distinct_ids-push_old ids uid old)
-  | inr new ↦ rw (distinct_ids-push_new ids uid new, filter-append (λ id. not (has_row rows id)) (distinct_ids ids) (uid ∷ []), has, append-nil) refl
+  | inr new ↦ rw (
+    distinct_ids-push_new ids uid new,
+    filter-append (λ id. not (has_row rows id)) (distinct_ids ids) (uid ∷ []),
+    has,
+    append-nil,
+  ) refl
 ]
 
 pub new_of-push_old : (rows : List Row) (ids : List (List ℕ)) (uid : List ℕ) → has_id ids uid ≡ true → new_of rows (ids ++ uid ∷ []) ≡ new_of rows ids
@@ -123,7 +128,8 @@ pub HasAdded-has : (rows : List Row) (listing : List Item) (now i : ℕ) (new : 
 HasAdded-has rows listing now i new uid were at inside has = elim (cases_Bool (has_row rows uid)) [
   | inl old ↦ were ∙ ap (λ (xs : List Row). rows ++ xs) (AreNew-row rows listing now i _ uid refl at inside old)
   | inr none ↦ were ∙ ap (λ (xs : List Row). rows ++ xs) (AreNew-old rows listing now i _ uid refl at inside none
-      (let either = sym (list_any-append (is_of uid) rows added) ∙ ap (λ (xs : List Row). has_row xs uid) (sym were) ∙ has in grind (arith, none, either)))
+      (let either = sym (list_any-append (is_of uid) rows added) ∙ ap (λ (xs : List Row). has_row xs uid) (sym were) ∙ has in
+      grind (arith, none, either)))
 ]
   where
     added : List Row

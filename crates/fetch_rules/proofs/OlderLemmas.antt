@@ -38,7 +38,8 @@ step n (InBase rows) (RowLine row) q none e = elim (cases_Bool (has_row rows row
 step n (InBase rows) (GroupLine count) q none e = (e, sym (ap left_open (same_progress e)))
 step n (BetweenGroups rows before) (GroupLine count) q none e = (e, sym (ap left_open (same_progress e)) ∙ none)
 step n (InGroup old before rows zero) (RowLine row) q none e = elim (cases_Bool (may_take One rows row)) [
-  | inl h ↦ let is : Stands (BetweenGroups (taken rows row) None) ≡ Stands q = rw h at e in (rw (may_take_more rows row h) is, sym (ap left_open (same_progress is)))
+  | inl h ↦ let is : Stands (BetweenGroups (taken rows row) None) ≡ Stands q = rw h at e in
+      (rw (may_take_more rows row h) is, sym (ap left_open (same_progress is)))
   | inr h ↦ absurd (no_stand (rw h at e))
 ]
 step n (InGroup old before rows (suc more)) (RowLine row) q none e = elim (cases_Bool (may_take One rows row)) [

@@ -87,7 +87,12 @@ filter_among p n (suc m) [] = refl
 filter_among p n (suc m) (item ∷ items) = elim (cases_Bool (p (n, item))) [
   | inl hit ↦ subst (λ (ms : List Message). filter (λ message. has_number (take (suc m) ms) message.0) (enumerate_from n (item ∷ items)) ≡ take (suc m) ms)
       (sym (filter_keeps p (n, item) (enumerate_from (n + 1) items) hit))
-      (rw (eq-eqb n n refl, filter_skip (take m (filter p (enumerate_from (n + 1) items))) n (n + 1) item items (omega arith), filter_among p (n + 1) m items) refl)
+      (rw (
+        eq-eqb n n refl,
+        filter_skip (take m (filter p (enumerate_from (n + 1) items))) n (n + 1) item items (omega arith),
+        filter_among
+            p (n + 1) m items,
+      ) refl)
   | inr miss ↦ subst (λ (ms : List Message). filter (λ message. has_number (take (suc m) ms) message.0) (enumerate_from n (item ∷ items)) ≡ take (suc m) ms)
       (sym (filter_leaves p (n, item) (enumerate_from (n + 1) items) miss))
       (rw (none_below p (n + 1) (suc m) n items (omega arith)) (filter_among p (n + 1) (suc m) items))

@@ -53,7 +53,8 @@ stays_out version Between next n intent after before rows new row leads within =
 stays_out version Base Base n intent after before rows new row leads within = absurd (true≢false (sym within))
 stays_out version Base Between n intent after before rows new row leads within = absurd (true≢false (sym within))
 stays_out version Base (Within more) n intent after before rows new row leads within =
-    absurd (neither (has_row rows row.uid) (Fails (RepeatedId (line_after n))) (Stands (InBase (rows ++ row ∷ []))) (InGroup before after new more) leads (λ e. cc) (λ e. cc))
+    absurd (neither (has_row rows row.uid) (Fails (RepeatedId (line_after n))) (Stands (InBase (rows ++ row ∷ [])))
+    (InGroup before after new more) leads (λ e. cc) (λ e. cc))
 
 placed_behind : (version : Version) (part next : Part) (n : ℕ) (intent : Option Intent) (before rows new : List Row) (row : Row)
     → after_line version n (progress_of part intent before rows) (RowLine row) ≡ Stands (progress_of next (open_behind next intent) before new) → IsPlaced part intent → IsPlaced next (open_behind next intent)
@@ -62,9 +63,11 @@ placed_behind version part (Within more) n intent before rows new row leads plac
 placed_behind version Base Base n intent before rows new row leads placed = placed
 placed_behind version Between Base n intent before rows new row leads placed = absurd (no_stand leads)
 placed_behind version (Within zero) Base n intent before rows new row leads placed =
-    absurd (neither (may_take version rows row) (Stands (BetweenGroups (taken rows row) None)) (Fails (RepeatedId (line_after n))) (InBase new) leads (λ e. cc) (λ e. cc))
+    absurd (neither (may_take version rows row) (Stands (BetweenGroups (taken rows row) None)) (Fails (RepeatedId (line_after n)))
+    (InBase new) leads (λ e. cc) (λ e. cc))
 placed_behind version (Within (suc more)) Base n intent before rows new row leads placed =
-    absurd (neither (may_take version rows row) (Stands (InGroup before intent (taken rows row) more)) (Fails (RepeatedId (line_after n))) (InBase new) leads (λ e. cc) (λ e. cc))
+    absurd (neither (may_take version rows row) (Stands (InGroup before intent (taken rows row) more)) (Fails (RepeatedId (line_after n)))
+    (InBase new) leads (λ e. cc) (λ e. cc))
 
 open_within : (next : Part) (intent : Option Intent) → is_within next ≡ true → open_behind next intent ≡ intent
 open_within Base intent within = refl
@@ -172,7 +175,8 @@ pub Reads-fails : (bytes : List ℕ) (older : Bool) (part : Part) (intent : Opti
     → IsLine line → rest ≡ text_of line ++ behind
     → ((n : ℕ) (before : List Row) → number ≡ line_after n → after_line (version_of older) n (progress_of part intent before rows) line ≡ Fails fault) → Means bytes (Fault fault)
 Reads-fails bytes older part intent rows rest number front line behind fault were is rest_is refuses =
-    behind_fails (version_of older) bytes were.n (progress_of part intent were.before rows) rest line behind fault were.behind is rest_is (refuses were.n were.before were.number_is)
+    behind_fails (version_of older) bytes were.n (progress_of part intent were.before rows) rest line behind fault were.behind is rest_is
+    (refuses were.n were.before were.number_is)
 
 refused : (version : Version) (part : Part) (n : ℕ) (intent : Option Intent) (before rows : List Row) (count : ℕ) → is_within part ≡ true → after_line version n (progress_of part intent before rows) (GroupLine count) ≡ Fails (BadRow (line_after n))
 refused version Base n intent before rows count within = absurd (true≢false (sym within))
@@ -184,7 +188,8 @@ pub Reads-group_fails : (bytes : List ℕ) (older : Bool) (part : Part) (intent 
     → IsLine (GroupLine count) → rest ≡ text_of (GroupLine count) ++ behind → is_within part ≡ true → Means bytes (Fault (BadRow number))
 Reads-group_fails bytes older part intent rows rest number front count behind were is line within =
     Reads-fails bytes older part intent rows rest number front (GroupLine count) behind (BadRow number) were is line
-    (λ n before number_is. refused (version_of older) part n intent before rows count within ∙ ap (λ (k : ℕ). Fails (BadRow k)) (sym number_is))
+    (λ n before number_is. refused (version_of older) part n intent before rows count within
+    ∙ ap (λ (k : ℕ). Fails (BadRow k)) (sym number_is))
 
 -- if a group lacks rows, what comes before it is read again
 pub record StoodOpen (bytes : List ℕ) (older : Bool) (front : ℕ) (intent : Option Intent) : Type 0 where

@@ -75,7 +75,8 @@ is_there uid (row ∷ rows) state legal each found = elim (cases_Bool (is_of uid
       let second = ap (λ (s : State). s.first_seen) (same_Some (state_of row) state (rw test at found)) in
       record {
         has = or_left _ _ test;
-        there = or_left _ _ (and_from (is_of uid row) (row.first_seen == state.first_seen) test (eq-eqb row.first_seen state.first_seen second));
+        there = or_left _ _ (and_from (is_of uid row) (row.first_seen == state.first_seen) test
+            (eq-eqb row.first_seen state.first_seen second));
         row = record { legal = legal; fits = subst (λ (k : ℕ). k < 2 ^ 64) second each.0.fits };
       }
   | inr test ↦

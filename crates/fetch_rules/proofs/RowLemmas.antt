@@ -42,8 +42,10 @@ set_here : (uid : List ℕ) (es : List (String Global × State)) (state new : St
 set_here uid [] state new is found new_is = refl
 set_here uid (e ∷ es) state new is found new_is = elim (cases_Bool (bytes_eq uid (string_bytes e.0))) [
   | inl test ↦ rw (test, unmarked uid (rows_of es) (apart uid (row_of e) (rows_of es) is test), or-true)
-      (ap (λ (s : State). row_of (e.0, s) ∷ rows_of es) (new_is ∙ ap (λ (s : State). record s { delivered = true }) (sym (same_Some e.1 state (rw test at found)))))
-  | inr test ↦ rw (test, or-false) (ap (λ (rs : List Row). row_of e ∷ rs) (set_here uid es state new (rest_of (row_of e) (rows_of es) is) (rw test at found) new_is))
+      (ap (λ (s : State). row_of (e.0, s) ∷ rows_of es) (new_is
+      ∙ ap (λ (s : State). record s { delivered = true }) (sym (same_Some e.1 state (rw test at found)))))
+  | inr test ↦ rw (test, or-false) (ap (λ (rs : List Row). row_of e ∷ rs)
+      (set_here uid es state new (rest_of (row_of e) (rows_of es) is) (rw test at found) new_is))
 ]
 
 pub marked_from_set : (uid : List ℕ) (es fs : List (String Global × State)) (state new : State) → IsRecord (rows_of es) → Some state ≡ lookup (λ key. bytes_eq uid (string_bytes key)) es → new ≡ record state { delivered = true }
@@ -85,7 +87,8 @@ filter-marked uid [] state is found = absurd (none-some state found)
 filter-marked uid (row ∷ rows) state is found = elim (cases_Bool (is_of uid row)) [
   | inl test ↦ rw (test, unmarked uid rows (apart uid row rows is test), none_kept uid rows (apart uid row rows is test), or-true)
       (ap (λ (u : List ℕ). record { uid = u; first_seen = row.first_seen; delivered = true } ∷ []) (sym (same_from_test uid row.uid test))
-      ∙ ap (λ (s : State). record { uid = uid; first_seen = s.first_seen; delivered = true } ∷ []) (same_Some (state_of row) state (rw test at found)))
+      ∙ ap (λ (s : State). record { uid = uid; first_seen = s.first_seen; delivered = true } ∷ [])
+      (same_Some (state_of row) state (rw test at found)))
   | inr test ↦ rw test (filter-marked uid rows state (rest_of row rows is) (rw test at found))
 ]
 
@@ -117,7 +120,8 @@ marked-delivered uid [] state is found old = refl
 marked-delivered uid (row ∷ rows) state is found old = elim (cases_Bool (is_of uid row)) [
   | inl test ↦
       let same : row.delivered ≡ true = ap (λ (s : State). s.delivered) (same_Some (state_of row) state (rw test at found)) ∙ old in
-      rw (test, unmarked uid rows (apart uid row rows is test), or-true) (ap (λ (d : Bool). let r : Row = record row { delivered = d } in r ∷ rows) (sym same))
+      rw (test, unmarked uid rows (apart uid row rows is test), or-true)
+      (ap (λ (d : Bool). let r : Row = record row { delivered = d } in r ∷ rows) (sym same))
   | inr test ↦
       rw (test, or-false) (ap (λ (rs : List Row). row ∷ rs) (marked-delivered uid rows state (rest_of row rows is) (rw test at found) old))
 ]

@@ -91,7 +91,15 @@ feeds_behind (byte ∷ front) more none = ap (λ (b : Bool). b || has_line_feed 
 
 zero_ignored : (bytes more : List ℕ) (rows : List Row) (intent : Option Intent) → HasPiece bytes rows intent → has_line_feed more ≡ false → Means (bytes ++ 0 ∷ more) (Rows Two rows intent true)
 zero_ignored bytes more rows intent p none =
-    ended_by bytes more rows intent _ p (rw (p.rows_are, p.intent_is, feeds_behind p.rest more p.plain, none, has_bytes_behind p.rest 0 more, or-true) refl)
+    ended_by bytes more rows intent _ p (rw (
+      p.rows_are,
+      p.intent_is,
+      feeds_behind p.rest more p.plain,
+      none,
+      has_bytes_behind p.rest 0
+          more,
+      or-true,
+    ) refl)
 
 zero_seen : (bytes more : List ℕ) (rows : List Row) (intent : Option Intent) → HasPiece bytes rows intent → has_line_feed more ≡ true
     → (line : ℕ) × Means (bytes ++ 0 ∷ more) (Fault (BadRow line))

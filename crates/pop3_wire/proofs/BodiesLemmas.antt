@@ -79,7 +79,13 @@ pub under_way_ends : (limit : ℕ) (old : Place) (link : Link) (waits : List ℕ
 under_way_ends limit old link waits body text now other some fault link' waits' none none' nothing =
     let drew = cause fault nothing in
     let sizes : length now.used + body.left ≡ limit = now.sizes in (
-      record { gained = now.gained; used = now.used; got = drew.0.got; within = omega arith; heard = now.heard ∙ ap (λ (l : List ℕ). now.used ++ l) (none ∙ sym none') },
+      record {
+        gained = now.gained;
+        used = now.used;
+        got = drew.0.got;
+        within = omega arith;
+        heard = now.heard ∙ ap (λ (l : List ℕ). now.used ++ l) (none ∙ sym none');
+      },
       (now.gained, drew.0, drew.1),
     )
   where
@@ -98,7 +104,10 @@ under_way_ends limit old link waits body text now other some fault link' waits' 
     cause : (f : BodyFault) → DrawsNothing f link link'
         → Drew old.link link' now.gained × BodyCause limit f old.link link' (old.waiting ++ now.gained)
     cause Ended n = (drawn now.gained (append-nil now.gained) n.0, (no_body, short, n.1, n.2 ∙ now.steady.failures))
-    cause Failed n = (drawn now.gained (append-nil now.gained) n.0, (no_body, short, n.1 ∙ now.steady.ended, n.2 ∙ ap (λ (k : ℕ). k + 1) now.steady.failures))
+    cause Failed n = (
+      drawn now.gained (append-nil now.gained) n.0,
+      (no_body, short, n.1 ∙ now.steady.ended, n.2 ∙ ap (λ (k : ℕ). k + 1) now.steady.failures),
+    )
     cause TooLong n = absurd n
 
 -- no more octets may be taken

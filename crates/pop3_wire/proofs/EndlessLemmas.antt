@@ -80,6 +80,7 @@ next_given front p piece copied rest given n some small is_copied follows goes =
     let size : length (take n piece) ≡ n = length-take-le n piece small in
     ap (λ (l : List ℕ). first_given front p given ++ take n (l ++ rest)) is_copied
     ∙ ap (λ (l : List ℕ). first_given front p given ++ l) (take_at (take n piece) rest n size)
-    ∙ sym (take-add given n (front ++ repeat (given + n) p) ∙ ap (λ (l : List ℕ). l ++ take n (drop given (front ++ repeat (given + n) p))) before
+    ∙ sym (take-add given n (front ++ repeat (given + n) p)
+    ∙ ap (λ (l : List ℕ). l ++ take n (drop given (front ++ repeat (given + n) p))) before
     ∙ ap (λ (l : List ℕ). first_given front p given ++ l) after)
     ∙ ap (λ (k : ℕ). first_given front p (k + n)) (sym (given_length front p given some))

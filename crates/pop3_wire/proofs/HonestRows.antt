@@ -30,7 +30,8 @@ numbers_are_read limit n within fits =
     let short : length (decimal n) ≤ 20 = length-decimal-le 20 n (omega arith) (omega arith) (omega arith) in
     let some : 0 < length (decimal n) = decimal_nonempty n (omega arith) in
     record {
-      numeral = and_from _ _ (and_from _ _ (lt-ltb 0 (length (decimal n)) some) (le-leb (length (decimal n)) 20 short)) (digits_of_decimal n (omega arith));
+      numeral = and_from _ _ (and_from _ _ (lt-ltb 0 (length (decimal n)) some) (le-leb (length (decimal n)) 20 short))
+          (digits_of_decimal n (omega arith));
       value = sym (decimal_is_IsNumeral n (omega arith)).1;
       within = within;
     }
@@ -86,8 +87,11 @@ scan_rows_are_read number size few fits =
       front = numbered number (decimal size) (decimal size ++ []) few (sym (append-nil (decimal size)));
       sized = numbers_are_read greatest_size size fits fits;
       over = λ byte rest e. absurd (let h : [] ≡ byte ∷ rest = e in cc);
-    } in
-    (subst IsSentAsIs (sym same) (digit_content number (32 ∷ decimal size) (omega arith) none), ap number_and_size same ∙ scan_form_read _ number size form)
+    } in (
+      subst IsSentAsIs (sym same) (digit_content number (32 ∷ decimal size) (omega arith) none),
+      ap number_and_size same ∙ scan_form_read _
+          number size form,
+    )
 
 pub uid_rows_are_read : UidRowsAreRead
 uid_rows_are_read number uid few legal =
@@ -95,8 +99,11 @@ uid_rows_are_read number uid few legal =
     let none : list_all is_no_lf (32 ∷ uid) ≡ true = no_lf_append (32 ∷ []) uid refl bytes in
     let same : uid_row number uid ≡ decimal number ++ 32 ∷ uid = append_assoc (decimal number) (32 ∷ []) uid in
     let form : HasUidForm (decimal number ++ 32 ∷ uid) number uid =
-    record { behind = []; front = numbered number uid (uid ++ []) few (sym (append-nil uid)); legal = legal; over = refl } in
-    (subst IsSentAsIs (sym same) (digit_content number (32 ∷ uid) (omega arith) none), ap number_and_id same ∙ uid_form_read _ number uid form)
+    record { behind = []; front = numbered number uid (uid ++ []) few (sym (append-nil uid)); legal = legal; over = refl } in (
+      subst IsSentAsIs (sym same) (digit_content number (32 ∷ uid) (omega arith) none),
+      ap number_and_id same ∙ uid_form_read _ number uid
+          form,
+    )
 
 pub first_lines_are_read : FirstLinesAreRead
 first_lines_are_read Positive after none = record {

@@ -28,7 +28,8 @@ front_passes test (byte ∷ bytes) = rw (take_while-cons test byte bytes) (elim 
 
 behind_fails : (test : ℕ → Bool) (bytes : List ℕ) (next : ℕ) (rest : List ℕ) → past test bytes ≡ next ∷ rest → test next ≡ false
 behind_fails test bytes next rest e =
-    let first : get_or bytes (prefix_len test bytes) 0 ≡ next = ap (λ (n : ℕ). get_or bytes n 0) {y = prefix_len test bytes + 0} (omega arith) ∙ sym (get_or-drop (prefix_len test bytes) bytes 0 0) ∙ ap (λ (l : List ℕ). get_or l 0 0) e in
+    let first : get_or bytes (prefix_len test bytes) 0 ≡ next = ap (λ (n : ℕ). get_or bytes n 0) {y = prefix_len test bytes + 0} (omega arith)
+    ∙ sym (get_or-drop (prefix_len test bytes) bytes 0 0) ∙ ap (λ (l : List ℕ). get_or l 0 0) e in
     let more : length (past test bytes) ≡ length (next ∷ rest) = ap length e in
     subst (λ (b : ℕ). test b ≡ false) first (prefix_len_stops test bytes 0 (omega (arith, more, length-drop (prefix_len test bytes) bytes)))
 
@@ -220,7 +221,8 @@ digits_in_field = all_pass is_ascii_digit is_in_field (λ byte e. grind (arith, 
 begins : (front rest : List ℕ) → nat_lt 0 (length front) ≡ true → list_all is_in_field front ≡ true → Begins (front ++ rest)
 unfolding Begins
 begins [] rest some all = absurd (let none : 0 < 0 = ltb-true 0 0 some in omega arith)
-begins (byte ∷ front) rest some all = let first = (and_parts (is_in_field byte) (list_all is_in_field front) all).0 in (byte, front ++ rest, refl, grind (arith, nat_tests, first))
+begins (byte ∷ front) rest some all = let first = (and_parts (is_in_field byte) (list_all is_in_field front) all).0 in
+    (byte, front ++ rest, refl, grind (arith, nat_tests, first))
 
 spaces_end_field : (spaces rest : List ℕ) → AreSpaces spaces → spaces ≢ [] → Stops is_in_field (spaces ++ rest)
 spaces_end_field [] rest blank some byte more e = absurd (some refl)

@@ -59,7 +59,12 @@ NoCr-dot front e = absurd (omega (arith, (same_from_push [] front 46 13 e).1))
 pub at_cr : (bytes text part shown given : List ℕ) → Partly bytes text part shown → part ≢ dot → unstuffed part ≡ shown ++ given
     → AtCr (bytes ++ 13 ∷ []) (text ++ given)
 at_cr bytes text part shown given h other more =
-    record { part = part; other = other; partly = one_more bytes text part shown (unstuffed part) 13 given h (IsLine-push part 13 h.line (inl (λ e. absurd (omega (arith, e))))) more }
+    record {
+      part = part;
+      other = other;
+      partly = one_more bytes text part shown (unstuffed part) 13 given h
+          (IsLine-push part 13 h.line (inl (λ e. absurd (omega (arith, e))))) more;
+    }
 
 -- an octet of a line that is no CR
 pub in_line : (bytes text part shown given : List ℕ) (byte : ℕ) → Partly bytes text part shown → byte ≢ 13 → (byte ≢ 10) ⊎ NoCr part
@@ -75,7 +80,8 @@ in_line bytes text part shown given byte h no_cr apart other more =
 
 pub start_other : (bytes text : List ℕ) (byte : ℕ) → byte ≢ 46 → byte ≢ 13 → Partly bytes text [] [] → InLine (bytes ++ byte ∷ []) (text ++ byte ∷ [])
 start_other bytes text byte no_dot no_cr h =
-    in_line bytes text [] [] (byte ∷ []) byte h no_cr (inr NoCr-nil) (λ e. no_dot (same_from_push [] [] byte 46 e).1) (unstuffed-push [] byte (inr no_dot))
+    in_line bytes text [] [] (byte ∷ []) byte h no_cr (inr NoCr-nil) (λ e. no_dot (same_from_push [] [] byte 46 e).1)
+    (unstuffed-push [] byte (inr no_dot))
 
 pub dot_cr : (bytes text : List ℕ) → Partly bytes text dot [] → Partly (bytes ++ 13 ∷ []) (text ++ []) (46 ∷ 13 ∷ []) []
 dot_cr bytes text h = one_more bytes text dot [] [] 13 [] h (IsLine-push dot 13 IsLine-dot (inl (λ e. absurd (omega (arith, e))))) refl
@@ -115,7 +121,8 @@ cr_shown part = unstuffed-push part 13 (inr (λ e. absurd (omega (arith, e))))
 
 pub cr_cr : (bytes text : List ℕ) → AtCr bytes text → AtCr (bytes ++ 13 ∷ []) (text ++ 13 ∷ [])
 cr_cr bytes text h =
-    at_cr bytes text (h.part ++ 13 ∷ []) (unstuffed h.part) (13 ∷ []) h.partly (λ e. absurd (omega (arith, (same_from_push h.part [] 13 46 e).1))) (cr_shown h.part)
+    at_cr bytes text (h.part ++ 13 ∷ []) (unstuffed h.part) (13 ∷ []) h.partly
+    (λ e. absurd (omega (arith, (same_from_push h.part [] 13 46 e).1))) (cr_shown h.part)
 
 pub cr_other : (bytes text : List ℕ) (byte : ℕ) → byte ≢ 10 → byte ≢ 13 → AtCr bytes text → InLine (bytes ++ byte ∷ []) (text ++ 13 ∷ byte ∷ [])
 cr_other bytes text byte no_lf no_cr h =

@@ -7,4 +7,5 @@ pub returns-in_default-Some : goal.returns-in_default-Some
 unfolding one_number
 returns-in_default-Some c =
     let cut = rw c.in_default-Some.is-1 at c.cut_word.ensures.rest in
-    sym (ap one_number (c.in-Some.ensures ∙ cut.0 ∙ ap (λ (words : List (List ℕ)). c.cut_word.result.0.now ∷ words) (some_part c.in_default-Some.field-0-1.now).2))
+    sym (ap one_number (c.in-Some.ensures ∙ cut.0 ∙ ap (λ (words : List (List ℕ)). c.cut_word.result.0.now ∷ words)
+    (some_part c.in_default-Some.field-0-1.now).2))

@@ -23,7 +23,8 @@ returns-in-13-byte-2-clause-reached c bytes text h =
 
 pub returns-in_default-byte-2-clause-reached : goal.returns-in_default-byte-2-clause-reached
 returns-in_default-byte-2-clause-reached c bytes text h =
-    in_line bytes text (46 ∷ 13 ∷ []) [] (13 ∷ c.args.byte ∷ []) c.args.byte (rw c.in-DotCr.is at h) (λ e. omega arith) (inl (λ e. omega arith)) (λ e. cc) refl
+    in_line bytes text (46 ∷ 13 ∷ []) [] (13 ∷ c.args.byte ∷ []) c.args.byte (rw c.in-DotCr.is at h) (λ e. omega arith)
+    (inl (λ e. omega arith)) (λ e. cc) refl
 
 pub returns-in-13-byte-3-clause-reached : goal.returns-in-13-byte-3-clause-reached
 returns-in-13-byte-3-clause-reached c bytes text h = rw c.in-13-byte-3.is (middle_cr bytes text (rw c.in-Middle.is at h))

@@ -6,13 +6,15 @@ use Rattle.pop3_wire.proofs.line_reader.LineReader.line_end.Goals as goal
 pub returns-in-Some-clause-found : goal.returns-in-Some-clause-found
 returns-in-Some-clause-found c =
     line_end_found c.args.self.now c.args.limit c.self.inside.searched c.min-until.result c.saturating_sub-from.result c.in-Some.line.now c.in-Some.field-0-1.now
-    (cc) (cc) (subst (HasNoLine c.self.inside.searched) c.self.view_is c.self.invariant.3) c.in-Some.ensures.found.0 (rw c.waiting-2.ensures.value at c.in-Some.ensures.found.1)
+    (cc) (cc) (subst (HasNoLine c.self.inside.searched) c.self.view_is c.self.invariant.3) c.in-Some.ensures.found.0
+    (rw c.waiting-2.ensures.value at c.in-Some.ensures.found.1)
 
 -- the octets that the search went over hold no line end
 searched_over : (c : goal.After-self-1) → HasNoLine c.min-until.result c.args.self.now
 searched_over c =
     line_end_none c.args.self.now c.args.limit c.self.inside.searched c.min-until.result c.saturating_sub-from.result
-    (cc) (cc) (subst (HasNoLine c.self.inside.searched) c.self.view_is c.self.invariant.3) (rw c.waiting-2.ensures.value at c.in_default.ensures.none)
+    (cc) (cc) (subst (HasNoLine c.self.inside.searched) c.self.view_is c.self.invariant.3)
+    (rw c.waiting-2.ensures.value at c.in_default.ensures.none)
 
 pub invariant_of-self : goal.invariant_of-self
 invariant_of-self c =
