@@ -3,7 +3,7 @@ use Rattle.std.proofs.Common.{◌≡◌, ℕ, ◌<◌, ◌≤◌, ◌+◌, ◌-�
 use Rattle.std.specs.Cmp.{IsTotalOrder}
 use Rattle.std.specs.Bool.{OnTrue}
 use Rattle.std.specs.Ordering.{ordering_reverse}
-use Rattle.std.specs.declared.cmp.Ordering.TheVariants.{Less, Equal, Greater}
+use Rattle.std.specs.declared.cmp.Ordering.TheVariants.{Less, Greater}
 use Rattle.std.proofs.lemmas.Bool.{cases_lt, true≢false}
 use Rattle.std.proofs.lemmas.List.{get_or-map, length-map}
 use Rattle.mail_terms.specs.Listing.{Item, HasDistinctIds}
@@ -42,14 +42,8 @@ Ascends-more order listing i last next total was last_is next_is less = λ j k b
           | inr past ↦ ap (λ (n : ℕ). order (uid_at listing n) (uid_at listing i)) (omega (arith, past, below)) ∙ above
         ]
 
-is_less : Ordering → Bool
-is_less Less = true
-is_less Equal = false
-is_less Greater = false
-
 never_below_itself : (order : Order) (id : List ℕ) → IsTotalOrder order → order id id ≡ Less → ⊥
-unfolding is_less
-never_below_itself order id total less = true≢false (ap is_less (sym less ∙ total.antisymm id id ∙ ap ordering_reverse less))
+never_below_itself order id total less = let e : Less ≡ Greater = sym less ∙ total.antisymm id id ∙ ap ordering_reverse less in cc
 
 -- all ids
 pub Ascends-all : (order : Order) (listing : List Item) (i : ℕ) → IsTotalOrder order → Ascends order listing i → length listing ≤ i → HasDistinctIds listing

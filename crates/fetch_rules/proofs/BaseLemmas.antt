@@ -10,7 +10,7 @@ use Rattle.fetch_rules.specs.Record.{Row, IsRecord, is_of, has_row}
 use Rattle.fetch_rules.specs.RecordFile.{Two, header, RowLine, IntentLine, text_of, line_of, last_line, IsLine}
 use Rattle.fetch_rules.specs.RecordMeaning.{Rows, Judged, judged, Stands, Fails, InBase, BetweenGroups, Ends, line_after}
 use Rattle.fetch_rules.specs.RecordGrowth.{BytesStand}
-use Rattle.fetch_rules.specs.declared.seen.SeenFault.TheVariants.{BadRow, RepeatedId}
+use Rattle.fetch_rules.specs.declared.seen.SeenFault.TheVariants.{BadRow}
 use Rattle.fetch_rules.proofs.IdLemmas.{same_from_test}
 use Rattle.fetch_rules.proofs.RecordLemmas.{rows_differ}
 use Rattle.fetch_rules.proofs.LineLemmas.{no_line}
@@ -33,9 +33,8 @@ fresh front rows row is = false_from_ne_true _ (λ has.
 judged_base : (n : ℕ) (front rows : List Row) → IsRecord (front ++ rows) → judged Two n (Stands (InBase front)) (map RowLine rows) ≡ Stands (InBase (front ++ rows))
 judged_base n front [] is = ap (λ (xs : List Row). Stands (InBase xs)) (sym (append-nil front))
 judged_base n front (row ∷ rows) is =
-    ap (λ (b : Bool). judged Two (n + 1) (cond b (Fails (RepeatedId (line_after n))) (Stands (InBase (front ++ row ∷ [])))) (map RowLine rows)) (fresh front rows row is)
-    ∙ judged_base (n + 1) (front ++ row ∷ []) rows (subst IsRecord (sym whole) is)
-    ∙ ap (λ (xs : List Row). Stands (InBase xs)) whole
+    rw (judged, fresh front rows row is) (judged_base (n + 1) (front ++ row ∷ []) rows (subst IsRecord (sym whole) is)
+    ∙ ap (λ (xs : List Row). Stands (InBase xs)) whole)
   where
     whole : (front ++ row ∷ []) ++ rows ≡ front ++ row ∷ rows
     whole = append_assoc front (row ∷ []) rows

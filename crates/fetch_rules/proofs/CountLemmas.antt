@@ -27,14 +27,10 @@ without_short uid (id ∷ ids) there = elim (cases_Bool (bytes_eq uid id)) [
   | inl hit ↦ omega (arith, filter_short (λ other. not (bytes_eq uid other)) ids, ap length (filter_leaves (λ other. not (bytes_eq uid other)) id ids (not_from_true _ hit)))
   | inr miss ↦ omega (
     arith,
-    without_short uid ids (behind (bytes_eq uid id) miss there),
+    without_short uid ids (grind (arith, miss, there)),
     ap length (filter_keeps (λ other. not (bytes_eq uid other)) id ids (not_from_false _ miss)),
   )
 ]
-  where
-    behind : (b : Bool) → b ≡ false → (b || has_id ids uid) ≡ true → has_id ids uid ≡ true
-    behind true miss e = absurd (true≢false miss)
-    behind false miss e = e
 
 -- ids that are apart and occur among others are no more than those
 pub no_more : (ids others : List (List ℕ)) → AreApart ids → ((uid : List ℕ) → has_id ids uid ≡ true → has_id others uid ≡ true) → length ids ≤ length others
@@ -61,21 +57,19 @@ changed_lack : (uid : List ℕ) (old new : List Row) → has_id (map uid_of new)
 changed_lack uid [] new lack = lack
 changed_lack uid (row ∷ old) [] lack = refl
 changed_lack uid (row ∷ old) (next ∷ new) lack =
-    by (next.delivered && not row.delivered) (or_parts (bytes_eq uid next.uid) (has_id (map uid_of new) uid) lack).0
-    (changed_lack uid old new (or_parts (bytes_eq uid next.uid) (has_id (map uid_of new) uid) lack).1)
-  where
-    by : (b : Bool) → bytes_eq uid next.uid ≡ false → has_id (map uid_of (changed old new)) uid ≡ false → has_id (map uid_of (cond b (next ∷ changed old new) (changed old new))) uid ≡ false
-    by true here rest = or_from _ _ here rest
-    by false here rest = rest
+    let parts = or_parts (bytes_eq uid next.uid) (has_id (map uid_of new) uid) lack in
+    elim (cases_Bool (next.delivered && not row.delivered)) [
+      | inl now ↦ rw now (or_from _ _ parts.0 (changed_lack uid old new parts.1))
+      | inr stayed ↦ rw stayed (changed_lack uid old new parts.1)
+    ]
 
 changed_apart : (old new : List Row) → AreApart (map uid_of new) → AreApart (map uid_of (changed old new))
 changed_apart [] new are = are
 changed_apart (row ∷ old) [] are = tt
-changed_apart (row ∷ old) (next ∷ new) are = by (next.delivered && not row.delivered) (changed_lack next.uid old new are.0) (changed_apart old new are.1)
-  where
-    by : (b : Bool) → has_id (map uid_of (changed old new)) next.uid ≡ false → AreApart (map uid_of (changed old new)) → AreApart (map uid_of (cond b (next ∷ changed old new) (changed old new)))
-    by true lack rest = (lack, rest)
-    by false lack rest = rest
+changed_apart (row ∷ old) (next ∷ new) are = elim (cases_Bool (next.delivered && not row.delivered)) [
+  | inl now ↦ rw now (changed_lack next.uid old new are.0, changed_apart old new are.1)
+  | inr stayed ↦ rw stayed (changed_apart old new are.1)
+]
 
 -- a flagged id is listed
 pub flagged_listed : (listing : List Item) (held : List Bool) (uid : List ℕ) → is_flagged listing held uid ≡ true → has_id (ids_of listing) uid ≡ true

@@ -30,7 +30,7 @@ earlier_differ listing k d distinct inside = λ j e within.
     subst (λ (item : Item). item.uid ≢ (get_or listing k d).uid) (sym (get_or-take k listing j e before))
     (subst (λ (item : Item). (get_or listing j e).uid ≢ item.uid) (get_or_default listing k e d inside) (other_ids listing j k e distinct before inside))
 
-are_first : (listing : List Item) → HasDistinctIds listing → All (λ message. is_first listing message ≡ true) (numbered listing)
+pub are_first : (listing : List Item) → HasDistinctIds listing → All (λ message. is_first listing message ≡ true) (numbered listing)
 are_first listing distinct = λ k d inside.
     let there : k < length listing = omega (arith, inside, length-enumerate_from 1 listing) in
     let number : 1 + k - 1 ≡ k = omega arith in
@@ -45,7 +45,7 @@ later_differ listing k d distinct inside = λ j e within.
     (subst (λ (item : Item). (get_or listing (1 + k + j) e).uid ≢ item.uid) (get_or_default listing k e d inside)
     (λ same. other_ids listing k (1 + k + j) e distinct before there (sym same)))
 
-are_last : (listing : List Item) → HasDistinctIds listing → All (λ message. is_last listing message ≡ true) (numbered listing)
+pub are_last : (listing : List Item) → HasDistinctIds listing → All (λ message. is_last listing message ≡ true) (numbered listing)
 are_last listing distinct = λ k d inside.
     let there : k < length listing = omega (arith, inside, length-enumerate_from 1 listing) in
     subst (λ (message : Message). is_last listing message ≡ true) (sym (get_or-enumerate_from 1 listing k d there))
@@ -58,18 +58,11 @@ map-true test (x ∷ xs) all =
     ap (λ (b : Bool). b ∷ map test xs) (all 0 x (omega arith))
     ∙ ap (λ (bs : List Bool). true ∷ bs) (map-true test xs (λ k d inside. all (suc k) d (omega (arith, inside))))
 
-all_flags : (test : Message → Bool) (listing : List Item) (n : ℕ) (flags : List Bool) → All (λ message. test message ≡ true) (numbered listing)
+pub all_flags : (test : Message → Bool) (listing : List Item) (n : ℕ) (flags : List Bool)
+    → All (λ message. test message ≡ true) (numbered listing)
     → n ≡ length listing → flags ≡ replicate n true → flags ≡ map test (numbered listing)
 all_flags test listing n flags all count are =
     are ∙ ap (λ (m : ℕ). replicate m true) (count ∙ sym (length-enumerate_from 1 listing)) ∙ sym (map-true test (numbered listing) all)
-
-pub firsts-distinct : (listing : List Item) (n : ℕ) (flags : List Bool) → HasDistinctIds listing → n ≡ length listing → flags ≡ replicate n true
-    → flags ≡ map (is_first listing) (numbered listing)
-firsts-distinct listing n flags distinct = all_flags (is_first listing) listing n flags (are_first listing distinct)
-
-pub lasts-distinct : (listing : List Item) (n : ℕ) (flags : List Bool) → HasDistinctIds listing → n ≡ length listing → flags ≡ replicate n true
-    → flags ≡ map (is_last listing) (numbered listing)
-lasts-distinct listing n flags distinct = all_flags (is_last listing) listing n flags (are_last listing distinct)
 
 pub candidates-distinct : (settings : Settings) (rows : List Row) (listing : List Item) → HasDistinctIds listing → candidates settings rows listing ≡ filter (is_asked_for settings rows) (numbered listing)
 candidates-distinct settings rows listing distinct =

@@ -1,5 +1,5 @@
 -- What an appended group does to what a file stands for.
-use Rattle.std.proofs.Common.{◌≡◌, ◌≢◌, ◌⊎◌, ℕ, zero, suc, ◌+◌, ◌-◌, ◌<◌, ◌≤◌, List, [], ◌∷◌, ◌++◌, Bool, true, false, ◌||◌, cond, length, refl, sym, ◌∙◌, ap, subst, append_assoc, inl, inr, arith, length-append, map, flat_map, Option, Some, None, append-nil}
+use Rattle.std.proofs.Common.{◌≡◌, ◌≢◌, ◌⊎◌, ℕ, zero, suc, ◌+◌, ◌-◌, ◌<◌, ◌≤◌, List, [], ◌∷◌, ◌++◌, Bool, true, false, ◌||◌, length, refl, sym, ◌∙◌, ap, subst, append_assoc, inl, inr, arith, length-append, map, flat_map, Option, Some, None, append-nil}
 use Rattle.std.specs.List.{AllByRecursion}
 use Rattle.std.proofs.Math.Bool.{or-false, or-true}
 use Rattle.std.proofs.lemmas.Bool.{cases_Bool, true≢false, ne_eqb}
@@ -7,9 +7,8 @@ use Rattle.std.proofs.lemmas.List.Concat.{flat_map-append}
 use Rattle.std.proofs.lemmas.List.Elements.{All-append, All-from_recursion, recursion_from_All}
 use Rattle.fetch_rules.specs.Record.{Row, Intent, IsRow, IsIntent, has_row}
 use Rattle.fetch_rules.specs.RecordFile.{Version, Two, header, Line, RowLine, GroupLine, IntentLine, intent_line, text_of, line_of, group_of, group_line, IsLine}
-use Rattle.fetch_rules.specs.RecordMeaning.{IsCut, ByLines, Meaning, Rows, Fault, Means, Progress, Judged, judged, after_line, after_intent, left_open, Stands, Fails, InBase, BetweenGroups, InGroup, at_end, Ends, line_after, counted, is_open, has_line_feed, has_bytes, taken}
+use Rattle.fetch_rules.specs.RecordMeaning.{IsCut, ByLines, Meaning, Rows, Means, Progress, Judged, judged, after_line, left_open, Stands, Fails, InBase, BetweenGroups, InGroup, at_end, Ends, counted, is_open, has_line_feed, has_bytes, taken}
 use Rattle.fetch_rules.specs.RecordGrowth.{AppendedCounts, CutIsIgnored, taken_all, MayFollow, IsGroup}
-use Rattle.fetch_rules.specs.declared.seen.SeenFault.TheVariants.{BadRow, RepeatedId}
 use Rattle.fetch_rules.proofs.LineLemmas.{HasNo, HasBody, body_of, no_line, same_cons}
 use Rattle.fetch_rules.proofs.JudgedLemmas.{judged_append, rows_no_fault, same_rows}
 use Rattle.fetch_rules.proofs.BaseLemmas.{texts_of_rows}
@@ -20,20 +19,18 @@ group_open : (n : ℕ) (before : List Row) (intent : Option Intent) (rows : List
 group_open n before intent rows more [] follows short = ap (λ (k : ℕ). Stands (InGroup before intent rows k)) (omega arith)
 group_open n before intent rows zero (x ∷ xs) follows short = absurd (omega (arith, short))
 group_open n before intent rows (suc more) (x ∷ xs) follows short =
-    ap (λ (b : Bool). judged Two (n + 1) (cond b (Stands (InGroup before intent (taken rows x) more)) (Fails (RepeatedId (line_after n)))) (map RowLine xs)) follows.0
-    ∙ group_open (n + 1) before intent (taken rows x) more xs follows.1 (omega (arith, short))
-    ∙ ap (λ (k : ℕ). Stands (InGroup before intent (taken_all (taken rows x) xs) k)) (omega (arith, short))
+    rw (judged, follows.0)
+    (group_open (n + 1) before intent (taken rows x) more xs follows.1 (omega (arith, short))
+    ∙ ap (λ (k : ℕ). Stands (InGroup before intent (taken_all (taken rows x) xs) k)) (omega (arith, short)))
 
 -- and a whole one
 group_whole : (n : ℕ) (before : List Row) (intent : Option Intent) (rows : List Row) (more : ℕ) (xs : List Row) → MayFollow rows xs → length xs ≡ more + 1
     → judged Two n (Stands (InGroup before intent rows more)) (map RowLine xs) ≡ Stands (BetweenGroups (taken_all rows xs) None)
 group_whole n before intent rows more [] follows full = absurd (omega (arith, full))
-group_whole n before intent rows zero (x ∷ []) follows full =
-    ap (λ (b : Bool). cond b (Stands (BetweenGroups (taken rows x) None)) (Fails (RepeatedId (line_after n)))) follows.0
+group_whole n before intent rows zero (x ∷ []) follows full = rw follows.0 refl
 group_whole n before intent rows zero (x ∷ (y ∷ xs)) follows full = absurd (omega (arith, full))
 group_whole n before intent rows (suc more) (x ∷ xs) follows full =
-    ap (λ (b : Bool). judged Two (n + 1) (cond b (Stands (InGroup before intent (taken rows x) more)) (Fails (RepeatedId (line_after n)))) (map RowLine xs)) follows.0
-    ∙ group_whole (n + 1) before intent (taken rows x) more xs follows.1 (omega (arith, full))
+    rw (judged, follows.0) (group_whole (n + 1) before intent (taken rows x) more xs follows.1 (omega (arith, full)))
 
 group_begins : (n : ℕ) (progress : Progress) (count : ℕ) → is_open progress ≡ false → after_line Two n progress (GroupLine count) ≡ Stands (InGroup (counted progress) (left_open progress) (counted progress) (count - 1))
 group_begins n (InBase rows) count free = refl
@@ -42,9 +39,8 @@ group_begins n (InGroup before intent rows more) count free = absurd (true≢fal
 
 intent_opens : (n : ℕ) (progress : Progress) (intent : Intent) → is_open progress ≡ false → left_open progress ≡ None → has_row (counted progress) intent.uid ≡ true
     → after_line Two n progress (IntentLine intent) ≡ Stands (BetweenGroups (counted progress) (Some intent))
-intent_opens n (InBase rows) intent free none has = ap (λ (b : Bool). cond b (Stands (BetweenGroups rows (Some intent))) (Fails (BadRow (line_after n)))) has
-intent_opens n (BetweenGroups rows before) intent free none has =
-    ap (λ (i : Option Intent). after_intent Two n rows i intent) none ∙ ap (λ (b : Bool). cond b (Stands (BetweenGroups rows (Some intent))) (Fails (BadRow (line_after n)))) has
+intent_opens n (InBase rows) intent free none has = rw has refl
+intent_opens n (BetweenGroups rows before) intent free none has = rw (none, has) refl
 intent_opens n (InGroup before open' rows more) intent free none has = absurd (true≢false free)
 
 -- a file with no torn end
@@ -65,9 +61,9 @@ ended : (version : Version) (n : ℕ) (so_far : Judged) (rest : List ℕ) (rows 
     → (version ≡ Two) × Ended so_far rest rows intent
 ended version n (Fails fault) rest rows intent e = absurd (rows_no_fault e)
 ended version n (Stands progress) rest rows intent e = elim (cases_Bool (has_line_feed rest)) [
-  | inl feed ↦ absurd (rows_no_fault (e.1 ∙ ap (λ (b : Bool). cond b (Fault (BadRow (line_after n))) (Rows version (counted progress) (left_open progress) (is_open progress || has_bytes rest))) feed))
+  | inl feed ↦ absurd (rows_no_fault (rw feed at e.1))
   | inr plain ↦
-      let same = same_rows (e.1 ∙ ap (λ (b : Bool). cond b (Fault (BadRow (line_after n))) (Rows version (counted progress) (left_open progress) (is_open progress || has_bytes rest))) plain) in
+      let same = same_rows (rw plain at e.1) in
       let none = no_bytes (is_open progress) rest same.3 in
       (sym same.0, record { progress = progress; is = refl; rows_are = sym same.1; intent_is = sym same.2; free = none.0; nothing = none.1 })
 ]
@@ -94,8 +90,7 @@ feedless [] plain = refl
 feedless (x ∷ xs) plain = ap (λ (b : Bool). b || has_line_feed xs) (ne_eqb x 10 plain.0) ∙ feedless xs plain.1
 
 at_end_rows : (n : ℕ) (progress : Progress) (rest : List ℕ) → HasNo 10 rest → at_end Two n progress rest ≡ Rows Two (counted progress) (left_open progress) (is_open progress || has_bytes rest)
-at_end_rows n progress rest plain =
-    ap (λ (b : Bool). cond b (Fault (BadRow (line_after n))) (Rows Two (counted progress) (left_open progress) (is_open progress || has_bytes rest))) (feedless rest plain)
+at_end_rows n progress rest plain = rw (feedless rest plain) refl
 
 -- a file with no torn end, cut into its lines
 record HasEnded (bytes : List ℕ) (rows : List Row) (intent : Option Intent) : Type 0 where
@@ -162,18 +157,12 @@ intent_counts bytes rows intent was is has = grown bytes rows None was (IntentLi
     refl
 
 pub appended_counts : AppendedCounts
-appended_counts bytes added old new before after some means (inl (inl none)) =
-    subst (λ (xs : List ℕ). Means xs (Rows Two new after false)) (sym (ap (λ (xs : List ℕ). bytes ++ xs) none.0 ∙ append-nil bytes))
-    (subst (λ (rows : List Row). Means bytes (Rows Two rows after false)) (sym none.1) (subst (λ (i : Option Intent). Means bytes (Rows Two old i false)) (sym none.2) means))
+appended_counts bytes added old new before after some means (inl (inl none)) = rw (none.0, none.1, none.2, append-nil bytes) means
 appended_counts bytes added old new before after some means (inl (inr one)) =
-    subst (λ (xs : List ℕ). Means (bytes ++ xs) (Rows Two new after false)) (sym one.2)
-    (subst (λ (rows : List Row). Means (bytes ++ group_of one.0) (Rows Two rows after false)) (sym one.3)
-    (subst (λ (i : Option Intent). Means (bytes ++ group_of one.0) (Rows Two (taken_all old one.0) i false)) (sym one.4) (group_counts bytes old one.0 before (has_ended bytes old before some means) one.1)))
+    rw (one.2, one.3, one.4) (group_counts bytes old one.0 before (has_ended bytes old before some means) one.1)
 appended_counts bytes added old new before after some means (inr opens) =
-    subst (λ (xs : List ℕ). Means (bytes ++ xs) (Rows Two new after false)) (sym opens.bytes_are)
-    (subst (λ (rows : List Row). Means (bytes ++ intent_line opens.intent) (Rows Two rows after false)) (sym opens.same)
-    (subst (λ (i : Option Intent). Means (bytes ++ intent_line opens.intent) (Rows Two old i false)) (sym opens.opened)
-    (intent_counts bytes old opens.intent (has_ended bytes old None some (subst (λ (i : Option Intent). Means bytes (Rows Two old i false)) opens.closed means)) opens.is_one opens.row)))
+    rw (opens.bytes_are, opens.same, opens.opened)
+    (intent_counts bytes old opens.intent (has_ended bytes old None some (rw opens.closed at means)) opens.is_one opens.row)
 
 -- a front of bytes that ends before the first LF, or after it
 split_at_feed : (body tail front behind : List ℕ) → HasNo 10 body → front ++ behind ≡ body ++ 10 ∷ tail
@@ -237,9 +226,7 @@ nothing_left (byte ∷ front) behind e = cc
 -- a torn piece alone
 torn_piece : (bytes : List ℕ) (rows : List Row) (intent : Option Intent) (front : List ℕ) → HasEnded bytes rows intent → HasNo 10 front → Means (bytes ++ front) (Rows Two rows intent (has_bytes front))
 torn_piece bytes rows intent front was none = grown bytes rows intent was [] front front was.end.progress _ tt none refl refl
-    (ap (λ (r : List Row). Rows Two r (left_open was.end.progress) (is_open was.end.progress || has_bytes front)) was.end.rows_are
-    ∙ ap (λ (i : Option Intent). Rows Two rows i (is_open was.end.progress || has_bytes front)) was.end.intent_is
-    ∙ ap (λ (w : Bool). Rows Two rows intent (w || has_bytes front)) was.end.free)
+    (rw (was.end.rows_are, was.end.intent_is, was.end.free) refl)
 
 group_cut : (bytes : List ℕ) (rows group : List Row) (intent : Option Intent) (front behind : List ℕ) → HasEnded bytes rows intent → IsGroup rows group
     → front ++ behind ≡ group_of group → behind ≢ [] → Means (bytes ++ front) (Rows Two rows intent (has_bytes front))

@@ -1,7 +1,7 @@
 -- What a record's growth appends to its file.
 use Rattle.std.proofs.Common.{◌≡◌, ◌≢◌, ◌⊎◌, ℕ, zero, suc, ◌+◌, ◌<◌, ◌≤◌, List, [], ◌∷◌, ◌++◌, take, get_or, None, Bool, true, false, ◌&&◌, ◌||◌, not, cond, length, map, refl, sym, ◌∙◌, ap, subst, append_assoc, length-append, inl, inr, arith, ◌==◌, bytes_eq, flat_map}
 use Rattle.std.specs.List.{AllByRecursion, list_any}
-use Rattle.std.proofs.lemmas.Bool.{or_left, or_right, eq-eqb}
+use Rattle.std.proofs.lemmas.Bool.{cases_Bool, or_left, or_right, eq-eqb}
 use Rattle.std.proofs.lemmas.List.{append-nil, map-append, take_more, take_all, length-take}
 use Rattle.std.proofs.lemmas.List.Folds.{list_any-append}
 use Rattle.std.proofs.lemmas.List.Concat.{flat_map-append}
@@ -98,15 +98,10 @@ module _ (front : List Row) (row : Row) (old : List Row) (next : Row) (new : Lis
 
 -- the states of a row that stayed
 stayed : (before now : Bool) → (before ≡ true → now ≡ true) → (now && not before) ≡ false → now ≡ before
-stayed true now stays none = stays refl
-stayed false true stays none = none
-stayed false false stays none = refl
+stayed before now stays none = grind arith
 
 delivered_then : (before now : Bool) → (now && not before) ≡ true → (now ≡ true) × (before ≡ false)
-delivered_then true true e = cc
-delivered_then true false e = cc
-delivered_then false true e = (refl, refl)
-delivered_then false false e = cc
+delivered_then before now e = (grind arith, grind arith)
 
 pub leads : (front old new : List Row) → IsRecord (front ++ new) → GrewFrom old new → Leads (front ++ old) (changed old new) (front ++ new)
 leads front [] new is grew = subst (λ (rows : List Row). Leads rows new (front ++ new)) (sym (append-nil front)) (leads_new front new is)
@@ -129,11 +124,10 @@ leads front (row ∷ old) (next ∷ new) is grew = by (next.delivered && not row
 each_changed : (old new : List Row) → AllByRecursion IsRow new → AllByRecursion IsRow (changed old new)
 each_changed [] new each = each
 each_changed (row ∷ old) [] each = tt
-each_changed (row ∷ old) (next ∷ new) each = by (next.delivered && not row.delivered) (each_changed old new each.1)
-  where
-    by : (b : Bool) → AllByRecursion IsRow (changed old new) → AllByRecursion IsRow (cond b (next ∷ changed old new) (changed old new))
-    by true rest = (each.0, rest)
-    by false rest = rest
+each_changed (row ∷ old) (next ∷ new) each = elim (cases_Bool (next.delivered && not row.delivered)) [
+  | inl now ↦ rw now (each.0, each_changed old new each.1)
+  | inr same ↦ rw same (each_changed old new each.1)
+]
 
 pub updates : (old new : List Row) → IsRecord new → GrewFrom old new → length (changed old new) ≤ 100000 → Updates old None (written (changed old new)) new None
 updates old new is grew short = by (changed old new) short (leads [] old new is grew) (each_changed old new (recursion_from_All IsRow new is.each))
@@ -166,15 +160,11 @@ changed-adds (suc count) f [] row (inr now) =
     ap (λ (b : Bool). cond b (now_of f row ∷ changed (take count []) []) (changed (take count []) [])) now ∙ ap (λ (xs : List Row). now_of f row ∷ xs) (changed-nil (take count []))
 changed-adds (suc count) f (first ∷ front) row either =
     ap (λ (xs : List Row). cond ((now_of f first).delivered && not first.delivered) (now_of f first ∷ xs) xs) (changed-adds count f front row (shorter either))
-    ∙ by ((now_of f first).delivered && not first.delivered) (changed (take count front) (delivered_by f front))
+    ∙ elim (cases_Bool ((now_of f first).delivered && not first.delivered)) [ inl now ↦ rw now refl | inr same ↦ rw same refl ]
   where
     shorter : (suc count ≤ length (first ∷ front)) ⊎ (((now_of f row).delivered && not row.delivered) ≡ true) → (count ≤ length front) ⊎ (((now_of f row).delivered && not row.delivered) ≡ true)
     shorter (inl past) = inl (omega (arith, past))
     shorter (inr now) = inr now
-
-    by : (b : Bool) (xs : List Row) → cond b (now_of f first ∷ (xs ++ now_of f row ∷ [])) (xs ++ now_of f row ∷ []) ≡ cond b (now_of f first ∷ xs) xs ++ now_of f row ∷ []
-    by true xs = refl
-    by false xs = refl
 
 -- the lines with one more row
 pub lines_more : (before : List ℕ) (rows : List Row) (i : ℕ) (row : Row) → i < length rows → get_or rows i row ≡ row
@@ -202,8 +192,7 @@ HasWritten-skips count f rows i changes lines row were inside at before same =
     (were.0 ∙ ap length (sym step), were.1 ∙ ap (flat_map line_of) (sym step))
   where
     unchanging : (old also : Bool) → (old || also) ≡ old → ((old || also) && not old) ≡ false
-    unchanging true also e = refl
-    unchanging false also e = ap (λ (b : Bool). b && true) e
+    unchanging old also e = grind arith
 
 pub HasWritten-adds : (count : ℕ) (f : Row → Bool) (rows : List Row) (i changes changes' : ℕ) (lines lines' : List ℕ) (row : Row) → HasWritten count f rows i changes lines → i < length rows → get_or rows i row ≡ row
     → (count ≤ i) ⊎ ((row.delivered || f row) ≢ row.delivered) → changes' ≡ changes + 1 → lines' ≡ lines ++ line_of (with_delivered (f row) row) → HasWritten count f rows (i + 1) changes' lines'

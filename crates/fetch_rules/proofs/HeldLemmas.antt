@@ -1,14 +1,14 @@
 -- An open intent has a legal id and numbers of 64 bits, and its id has a row.
 use Rattle.std.proofs.Common.{◌≡◌, ℕ, zero, suc, ◌+◌, ◌-◌, List, [], ◌∷◌, ◌++◌, Bool, true, false, ◌||◌, cond, length, refl, sym, ◌∙◌, ap, subst, inl, inr, Option, Some, None}
 use Rattle.std.specs.List.{AllByRecursion}
-use Rattle.std.proofs.lemmas.Bool.{true≢false, or_cases}
+use Rattle.std.proofs.lemmas.Bool.{true≢false, cases_Bool, or_cases}
 use Rattle.std.proofs.lemmas.List.Elements.{recursion_from_All}
 use Rattle.mail_terms.specs.UniqueId.{IsLegalId}
 use Rattle.fetch_rules.specs.Record.{Row, Intent, IsRow, IsIntent, IntentHasRow, is_of, has_row}
 use Rattle.fetch_rules.specs.RecordFile.{Version, One, Two, Line, RowLine, GroupLine, IntentLine, IsLine}
-use Rattle.fetch_rules.specs.RecordMeaning.{Rows, Fault, Means, Progress, Judged, judged, after_line, after_intent, may_take, taken, Stands, Fails, InBase, BetweenGroups, InGroup, Ends, line_after, counted, left_open, is_open, has_line_feed, has_bytes}
+use Rattle.fetch_rules.specs.RecordMeaning.{Rows, Means, Progress, Judged, judged, after_line, after_intent, may_take, taken, Stands, Fails, InBase, BetweenGroups, InGroup, Ends, line_after, counted, left_open, is_open, has_line_feed, has_bytes}
 use Rattle.fetch_rules.specs.declared.seen.SeenFault.{SeenFault}
-use Rattle.fetch_rules.specs.declared.seen.SeenFault.TheVariants.{BadRow, RepeatedId}
+use Rattle.fetch_rules.specs.declared.seen.SeenFault.TheVariants.{RepeatedId}
 use Rattle.fetch_rules.specs.Intents.{IsNoneOrOf}
 use Rattle.fetch_rules.proofs.IdLemmas.{same_from_test}
 use Rattle.fetch_rules.proofs.JudgedLemmas.{no_stand, same_progress, rows_no_fault, same_rows}
@@ -22,11 +22,10 @@ from_same p q e held = subst IsHeldAt (same_progress e) held
 opened : (version : Version) (n : ℕ) (rows : List Row) (before : Option Intent) (intent : Intent) (q : Progress) → IsIntent intent → after_intent version n rows before intent ≡ Stands q → IsHeldAt q
 opened One n rows before intent q is e = absurd (no_stand e)
 opened Two n rows (Some other) intent q is e = absurd (no_stand e)
-opened Two n rows None intent q is e = by (has_row rows intent.uid) refl
-  where
-    by : (b : Bool) → has_row rows intent.uid ≡ b → IsHeldAt q
-    by true h = from_same (BetweenGroups rows (Some intent)) q (ap (λ b. cond b (Stands (BetweenGroups rows (Some intent))) (Fails (BadRow (line_after n)))) (sym h) ∙ e) (is, h)
-    by false h = absurd (no_stand (ap (λ b. cond b (Stands (BetweenGroups rows (Some intent))) (Fails (BadRow (line_after n)))) (sym h) ∙ e))
+opened Two n rows None intent q is e = elim (cases_Bool (has_row rows intent.uid)) [
+  | inl h ↦ from_same (BetweenGroups rows (Some intent)) q (rw h at e) (is, h)
+  | inr h ↦ absurd (no_stand (rw h at e))
+]
 
 by_test : (b : Bool) (p q : Progress) (fault : SeenFault) → cond b (Stands p) (Fails fault) ≡ Stands q → IsHeldAt p → IsHeldAt q
 by_test true p q fault e held = from_same p q e held
@@ -66,11 +65,10 @@ same_held v w r s i j a b e held =
 
 ends_held : (version v : Version) (n : ℕ) (j : Judged) (rest : List ℕ) (rows : List Row) (intent : Option Intent) (torn : Bool) → Ends version n j rest (Rows v rows intent torn) → HeldIf j → IntentHasRow rows intent
 ends_held version v n (Fails fault) rest rows intent torn e held = absurd (rows_no_fault e)
-ends_held version v n (Stands p) rest rows intent torn e held = by (has_line_feed rest) e.1
-  where
-    by : (b : Bool) → Rows v rows intent torn ≡ cond b (Fault (BadRow (line_after n))) (Rows version (counted p) (left_open p) (is_open p || has_bytes rest)) → IntentHasRow rows intent
-    by true h = absurd (rows_no_fault h)
-    by false h = same_held v version rows (counted p) intent (left_open p) torn (is_open p || has_bytes rest) h held
+ends_held version v n (Stands p) rest rows intent torn e held = elim (cases_Bool (has_line_feed rest)) [
+  | inl feed ↦ absurd (rows_no_fault (rw feed at e.1))
+  | inr plain ↦ same_held v version rows (counted p) intent (left_open p) torn (is_open p || has_bytes rest) (rw plain at e.1) held
+]
 
 pub open_has_row : (bytes : List ℕ) (v : Version) (rows : List Row) (intent : Option Intent) (torn : Bool) → Means bytes (Rows v rows intent torn) → IntentHasRow rows intent
 open_has_row bytes v rows intent torn (inl none) = same_held v Two rows [] intent None torn false none.1 tt

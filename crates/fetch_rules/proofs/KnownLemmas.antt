@@ -1,7 +1,7 @@
 -- A listing whose ids are all recorded as delivered changes nothing, whatever is held.
 use Rattle.std.proofs.Common.{◌≡◌, ℕ, suc, arith, List, [], ◌∷◌, ◌++◌, Bool, true, false, ◌&&◌, ◌||◌, not, map, refl, sym, ◌∙◌, ap, inl, inr, bytes_eq, All, append-nil}
 use Rattle.std.proofs.Math.Bool.{or-false, and-false}
-use Rattle.std.proofs.lemmas.Bool.{true≢false, or_left, or_parts, and_parts, or_cases}
+use Rattle.std.proofs.lemmas.Bool.{true≢false, or_left, or_right, or_parts, and_parts, or_cases}
 use Rattle.mail_terms.specs.Listing.{Item, has_item, is_first, is_last, is_flagged}
 use Rattle.mail_terms.specs.UniqueId.{has_id}
 use Rattle.fetch_rules.specs.Record.{Row, IsRecord, has_row, is_delivered, with_delivered, new_ids, merged}
@@ -9,7 +9,7 @@ use Rattle.fetch_rules.proofs.IdLemmas.{same_from_test, test_from_same}
 use Rattle.fetch_rules.proofs.RecordLemmas.{uid_of}
 use Rattle.fetch_rules.proofs.NewIdLemmas.{AreApart}
 use Rattle.rc_file.specs.declared.settings.Settings.{Settings}
-use Rattle.fetch_rules.specs.Wanted.{is_candidate, is_within}
+use Rattle.fetch_rules.specs.Wanted.{is_candidate}
 use Rattle.fetch_rules.specs.Due.{may_delete}
 use Rattle.fetch_rules.specs.Plan.{is_deleted, seen_since}
 use Rattle.fetch_rules.proofs.PlanLemmas.{Message, never_due}
@@ -29,12 +29,8 @@ pub known_has_row : (rows : List Row) (uid : List ℕ) → is_delivered rows uid
 known_has_row [] uid is = is
 known_has_row (row ∷ rows) uid is = elim (or_cases (bytes_eq uid row.uid && row.delivered) (is_delivered rows uid) is) [
   | inl here ↦ or_left _ _ (and_parts (bytes_eq uid row.uid) row.delivered here).0
-  | inr behind ↦ by (bytes_eq uid row.uid) (known_has_row rows uid behind)
+  | inr behind ↦ or_right _ _ (known_has_row rows uid behind)
 ]
-  where
-    by : (b : Bool) → has_row rows uid ≡ true → (b || has_row rows uid) ≡ true
-    by true has = refl
-    by false has = has
 
 -- rows that are delivered if they are chosen stay as they are
 with_known : (t : List ℕ → Bool) (rows : List Row) → AreApart (map uid_of rows) → ((uid : List ℕ) → t uid ≡ true → has_id (map uid_of rows) uid ≡ true → is_delivered rows uid ≡ true)
@@ -45,8 +41,7 @@ with_known t (row ∷ rows) apart all =
     ∙ ap (λ (rs : List Row). row ∷ rs) (with_known t rows apart.1 rest)
   where
     drop_false : (a b : Bool) → b ≡ false → (a || b) ≡ true → a ≡ true
-    drop_false true b is e = refl
-    drop_false false b is e = absurd (true≢false (sym e ∙ is))
+    drop_false a b is e = grind arith
 
     head : (b : Bool) → t row.uid ≡ b → with_delivered b row ≡ row
     head true chosen = same_row row true
@@ -59,12 +54,8 @@ with_known t (row ∷ rows) apart all =
     other uid true same has is = absurd (true≢false (sym has ∙ ap (has_id (map uid_of rows)) (same_from_test uid row.uid same) ∙ apart.0))
     other uid false differs has is = is
 
-    or_behind : (a b : Bool) → b ≡ true → (a || b) ≡ true
-    or_behind true b is = refl
-    or_behind false b is = is
-
     rest : (uid : List ℕ) → t uid ≡ true → has_id (map uid_of rows) uid ≡ true → is_delivered rows uid ≡ true
-    rest uid chosen has = other uid (bytes_eq uid row.uid) refl has (all uid chosen (or_behind _ _ has))
+    rest uid chosen has = other uid (bytes_eq uid row.uid) refl has (all uid chosen (or_right _ _ has))
 
 -- each listed id is delivered
 listed_known : (rows : List Row) (items : List Item) → All (λ (item : Item). is_delivered rows item.uid ≡ true) items → (uid : List ℕ) → has_item items uid ≡ true → is_delivered rows uid ≡ true
@@ -104,11 +95,7 @@ known_merge rows items held now is all =
 -- what is known isn't fetched
 pub no_candidate : (settings : Settings) (rows : List Row) (listing : List Item) (message : Message) → settings.read_all ≡ false → is_delivered rows message.1.uid ≡ true
     → is_candidate settings rows listing message ≡ false
-no_candidate settings rows listing message new known =
-    ap (λ (b : Bool). is_first listing message && (is_within settings.max_size message.1.size && (b || not (is_delivered rows message.1.uid)))) new
-    ∙ ap (λ (b : Bool). is_first listing message && (is_within settings.max_size message.1.size && not b)) known
-    ∙ ap (λ (b : Bool). is_first listing message && b) (and-false (is_within settings.max_size message.1.size))
-    ∙ and-false (is_first listing message)
+no_candidate settings rows listing message new known = rw (new, known, and-false, and-false) refl
 
 -- nothing is deleted if nothing may be
 pub no_deletion : (settings : Settings) (rows : List Row) (listing : List Item) (now : ℕ) (fetched : Bool) (message : Message) → may_delete settings ≡ false

@@ -1,12 +1,12 @@
 -- What a merge and a mark record as delivered, and which ids have rows afterwards.
-use Rattle.std.proofs.Common.{◌≡◌, ℕ, List, [], ◌∷◌, Bool, true, false, not, ◌&&◌, ◌||◌, map, refl, sym, ◌∙◌, ap, bytes_eq}
+use Rattle.std.proofs.Common.{◌≡◌, ℕ, List, [], ◌∷◌, Bool, true, false, not, ◌&&◌, ◌||◌, map, refl, sym, ◌∙◌, ap, arith, bytes_eq}
 use Rattle.std.specs.List.{list_any, filter}
 use Rattle.std.proofs.lemmas.List.Folds.{list_any-append}
 use Rattle.std.proofs.lemmas.Cmp.{nat_list_eq_equiv}
 use Rattle.std.proofs.lemmas.Map.Views.{any-filter_same}
 use Rattle.std.proofs.Math.Bool.{and_comm, and-false, or_self, or-false}
 use Rattle.mail_terms.specs.Listing.{Item, has_item, is_flagged}
-use Rattle.fetch_rules.specs.Record.{Row, is_of, has_row, is_delivered, with_delivered, marked, distinct_ids, new_ids, with_held, merged}
+use Rattle.fetch_rules.specs.Record.{Row, is_of, has_row, is_delivered, with_delivered, distinct_ids, new_ids, with_held, merged}
 use Rattle.fetch_rules.proofs.IdLemmas.{same_from_test}
 use Rattle.mail_terms.specs.UniqueId.{has_id}
 use Rattle.fetch_rules.proofs.NewIdLemmas.{has_id-distinct_ids}
@@ -18,34 +18,23 @@ any-map p f (x ∷ xs) = ap (λ (b : Bool). p (f x) || b) (any-map p f xs)
 -- ---- rows, some of them marked
 
 mark_one : (d t D R X : Bool) → X ≡ (D || (R && t)) → ((d || t) || X) ≡ ((d || D) || t)
-mark_one true t D R X p = refl
-mark_one false true true R X p = refl
-mark_one false true false R X p = refl
-mark_one false false true true X p = p
-mark_one false false true false X p = p
-mark_one false false false true X p = p
-mark_one false false false false X p = p
+mark_one d t D R X p = grind arith
 
 mark_table : (e d r t D R X : Bool) → (e ≡ true → r ≡ t) → X ≡ (D || (R && t)) → ((e && (d || r)) || X) ≡ (((e && d) || D) || ((e || R) && t))
 mark_table true d r t D R X s p = ap (λ (b : Bool). (d || b) || X) (s refl) ∙ mark_one d t D R X p
 mark_table false d r t D R X s p = p
 
-delivered-with : (t : List ℕ → Bool) (rows : List Row) (uid : List ℕ)
+pub delivered-with : (t : List ℕ → Bool) (rows : List Row) (uid : List ℕ)
     → is_delivered (map (λ row. with_delivered (t row.uid) row) rows) uid ≡ (is_delivered rows uid || (has_row rows uid && t uid))
 delivered-with t [] uid = refl
 delivered-with t (row ∷ rows) uid =
     mark_table (bytes_eq uid row.uid) row.delivered (t row.uid) (t uid) (is_delivered rows uid) (has_row rows uid) (is_delivered (map (λ r. with_delivered (t r.uid) r) rows) uid)
     (λ e. ap t (sym (same_from_test uid row.uid e))) (delivered-with t rows uid)
 
-has_row-with : (t : List ℕ → Bool) (rows : List Row) (uid : List ℕ) → has_row (map (λ row. with_delivered (t row.uid) row) rows) uid ≡ has_row rows uid
+pub has_row-with : (t : List ℕ → Bool) (rows : List Row) (uid : List ℕ)
+    → has_row (map (λ row. with_delivered (t row.uid) row) rows) uid ≡ has_row rows uid
 has_row-with t [] uid = refl
 has_row-with t (row ∷ rows) uid = ap (λ (b : Bool). bytes_eq uid row.uid || b) (has_row-with t rows uid)
-
-pub delivered-marked : (rows : List Row) (uid other : List ℕ) → is_delivered (marked rows uid) other ≡ is_delivered rows other || (has_row rows other && bytes_eq uid other)
-delivered-marked rows uid other = delivered-with (bytes_eq uid) rows other
-
-pub has_row-marked : (rows : List Row) (uid other : List ℕ) → has_row (marked rows uid) other ≡ has_row rows other
-has_row-marked rows uid other = has_row-with (bytes_eq uid) rows other
 
 -- ---- the ids of a listing that have no row
 
@@ -53,9 +42,7 @@ has_id-kept : (p : List ℕ → Bool) (ids : List (List ℕ)) (uid : List ℕ) �
 has_id-kept p ids uid = any-filter_same (bytes_eq uid) p (p uid) (λ id e. ap p (sym (same_from_test uid id e))) ids ∙ and_comm (p uid) (has_id ids uid)
 
 or_not : (a b : Bool) → (a || (b && not a)) ≡ (a || b)
-or_not true b = refl
-or_not false true = refl
-or_not false false = refl
+or_not a b = grind arith
 
 pub has_id-new_ids : (rows : List Row) (listing : List Item) (uid : List ℕ) → has_id (new_ids rows listing) uid ≡ (has_item listing uid && not (has_row rows uid))
 has_id-new_ids rows listing uid =
@@ -76,10 +63,7 @@ any-and h (x ∷ xs) uid =
     ∙ and_table (h x) (bytes_eq uid x) (has_id xs uid) (h uid) (λ e. ap h (sym (same_from_test uid x e)))
 
 held_table : (h e L X : Bool) → X ≡ (L && X) → ((h && e) || X) ≡ ((e || L) && ((h && e) || X))
-held_table true true L X p = refl
-held_table true false L X p = p
-held_table false true L X p = refl
-held_table false false L X p = p
+held_table h e L X p = grind arith
 
 -- what is held is listed
 pub held_is_listed : (listing : List Item) (held : List Bool) (uid : List ℕ) → is_flagged listing held uid ≡ (has_item listing uid && is_flagged listing held uid)
@@ -90,13 +74,7 @@ held_is_listed (item ∷ items) (flag ∷ held) uid =
     ∙ ap (λ (b : Bool). (b || has_item items uid) && ((flag && bytes_eq item.uid uid) || is_flagged items held uid)) (nat_list_eq_equiv.symm item.uid uid)
 
 merge_table : (D R L H : Bool) → H ≡ (L && H) → ((D || (R && H)) || ((L && not R) && H)) ≡ (D || H)
-merge_table true R L H p = refl
-merge_table false true true true p = refl
-merge_table false true true false p = refl
-merge_table false true false true p = refl
-merge_table false true false false p = refl
-merge_table false false true H p = refl
-merge_table false false false H p = sym p
+merge_table D R L H p = grind arith
 
 -- the row of an id that is new
 abbrev fresh : List Item → List Bool → ℕ → List ℕ → Row

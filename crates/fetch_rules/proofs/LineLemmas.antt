@@ -38,14 +38,8 @@ ends_clash s t (c ∷ a) (d ∷ b) x y other p q e = ends_clash s t a b x y othe
 HasNo-id : (s : ℕ) → s < 0x21 → (uid : List ℕ) → IsLegalId uid → HasNo s uid
 HasNo-id s below uid legal = recursion_from_All _ uid (All-weaker (λ byte. (0x21 ≤ byte) × (byte ≤ 0x7E)) (λ byte. byte ≢ s) (λ byte within same. absurd (omega (arith, within.0, same, below))) uid (id_characters uid legal))
 
-HasNo-uid : (s : ℕ) → s < 0x21 → (row : Row) → IsRow row → HasNo s row.uid
-HasNo-uid s below row is = HasNo-id s below row.uid is.legal
-
 HasNo-decimal : (s : ℕ) → s < 48 → (n : ℕ) → n < 2 ^ 64 → HasNo s (decimal n)
 HasNo-decimal s below n fits = recursion_from_All _ _ (none_below-decimal s n below fits)
-
-fits_of : (n : ℕ) → n ≤ 100000 → n < 2 ^ 64
-fits_of n small = omega (arith, small)
 
 -- the fields of a line
 pub line_split : (row : Row) (behind : List ℕ) → line_of row ++ behind ≡ row.uid ++ 32 ∷ (decimal row.first_seen ++ 32 ∷ (state_of row.delivered ++ behind))
@@ -71,7 +65,7 @@ state_unique false true x y e = absurd (omega (arith, (same_cons 48 49 _ _ e).0)
 
 pub line_unique : (a b : Row) (x y : List ℕ) → IsRow a → IsRow b → line_of a ++ x ≡ line_of b ++ y → (a ≡ b) × (x ≡ y)
 line_unique a b x y is_a is_b e =
-    let ids = cut_unique 32 a.uid b.uid _ _ (HasNo-uid 32 (omega arith) a is_a) (HasNo-uid 32 (omega arith) b is_b) (sym (line_split a x) ∙ e ∙ line_split b y) in
+    let ids = cut_unique 32 a.uid b.uid _ _ (HasNo-id 32 (omega arith) a.uid is_a.legal) (HasNo-id 32 (omega arith) b.uid is_b.legal) (sym (line_split a x) ∙ e ∙ line_split b y) in
     let numbers = cut_unique 32 (decimal a.first_seen) (decimal b.first_seen) _ _ (HasNo-decimal 32 (omega arith) a.first_seen is_a.fits) (HasNo-decimal 32 (omega arith) b.first_seen is_b.fits) ids.1 in
     let states = state_unique a.delivered b.delivered x y numbers.1 in
     let seconds = decimal_injective a.first_seen b.first_seen is_a.fits is_b.fits numbers.0 in (
@@ -83,13 +77,13 @@ line_unique a b x y is_a is_b e =
 -- a row has three fields, the line of a group two
 row_no_group : (row : Row) (n : ℕ) (x y : List ℕ) → IsRow row → n ≤ 100000 → line_of row ++ x ≡ group_line n ++ y → ⊥
 row_no_group row n x y is small e =
-    let ids = cut_unique 32 row.uid (43 ∷ []) _ _ (HasNo-uid 32 (omega arith) row is) ((λ same. absurd (omega (arith, same))), tt) (sym (line_split row x) ∙ e ∙ group_split n y) in
-    ends_clash 32 10 (decimal row.first_seen) (decimal n) _ _ (λ same. absurd (omega (arith, same))) (HasNo-decimal 10 (omega arith) row.first_seen is.fits) (HasNo-decimal 32 (omega arith) n (fits_of n small)) ids.1
+    let ids = cut_unique 32 row.uid (43 ∷ []) _ _ (HasNo-id 32 (omega arith) row.uid is.legal) ((λ same. absurd (omega (arith, same))), tt) (sym (line_split row x) ∙ e ∙ group_split n y) in
+    ends_clash 32 10 (decimal row.first_seen) (decimal n) _ _ (λ same. absurd (omega (arith, same))) (HasNo-decimal 10 (omega arith) row.first_seen is.fits) (HasNo-decimal 32 (omega arith) n (omega (arith, small))) ids.1
 
 -- a row has three fields, the line of an intent four
 row_no_intent : (row : Row) (intent : Intent) (x y : List ℕ) → IsRow row → IsIntent intent → line_of row ++ x ≡ intent_line intent ++ y → ⊥
 row_no_intent row intent x y is is_one e =
-    let ids = cut_unique 32 row.uid (33 ∷ []) _ _ (HasNo-uid 32 (omega arith) row is) ((λ same. absurd (omega (arith, same))), tt) (sym (line_split row x) ∙ e ∙ intent_split intent y) in
+    let ids = cut_unique 32 row.uid (33 ∷ []) _ _ (HasNo-id 32 (omega arith) row.uid is.legal) ((λ same. absurd (omega (arith, same))), tt) (sym (line_split row x) ∙ e ∙ intent_split intent y) in
     let numbers = cut_unique 32 (decimal row.first_seen) intent.uid _ _ (HasNo-decimal 32 (omega arith) row.first_seen is.fits) (HasNo-id 32 (omega arith) intent.uid is_one.legal) ids.1 in
     by row.delivered numbers.1
   where
@@ -123,9 +117,9 @@ text_unique (IntentLine i) (GroupLine n) x y is_i is_n e = absurd (group_no_inte
 text_unique (IntentLine i) (IntentLine j) x y is_i is_j e = let same = intent_unique i j x y is_i is_j e in (ap IntentLine same.0, same.1)
 text_unique (GroupLine m) (GroupLine n) x y is_m is_n e =
     let plain = sym (group_split m x) ∙ e ∙ group_split n y in
-    let same = cut_unique 10 (decimal m) (decimal n) x y (HasNo-decimal 10 (omega arith) m (fits_of m is_m.1)) (HasNo-decimal 10 (omega arith) n (fits_of n is_n.1))
+    let same = cut_unique 10 (decimal m) (decimal n) x y (HasNo-decimal 10 (omega arith) m (omega (arith, is_m.1))) (HasNo-decimal 10 (omega arith) n (omega (arith, is_n.1)))
     (same_cons 32 32 _ _ (same_cons 43 43 _ _ plain).1).1 in
-    (ap GroupLine (decimal_injective m n (fits_of m is_m.1) (fits_of n is_n.1) same.0), same.1)
+    (ap GroupLine (decimal_injective m n (omega (arith, is_m.1)) (omega (arith, is_n.1)) same.0), same.1)
 
 -- a line is its body and LF, and no byte of the body is below a space
 pub record HasBody (line : Line) : Type 0 where
@@ -152,10 +146,10 @@ body (GroupLine n) = 43 ∷ 32 ∷ decimal n
 body (IntentLine i) = 33 ∷ 32 ∷ (i.uid ++ 32 ∷ (decimal i.start ++ 32 ∷ decimal i.len))
 
 clean_body : (line : Line) → IsLine line → (s : ℕ) → s < 32 → HasNo s (body line)
-clean_body (RowLine row) is s low = HasNo-append s row.uid _ (HasNo-uid s (omega (arith, low)) row is)
+clean_body (RowLine row) is s low = HasNo-append s row.uid _ (HasNo-id s (omega (arith, low)) row.uid is.legal)
     ((λ same. absurd (omega (arith, low, same))), HasNo-append s (decimal row.first_seen) _ (HasNo-decimal s (omega (arith, low)) row.first_seen is.fits) (state_body s low row.delivered))
 clean_body (GroupLine n) is s low =
-    ((λ same. absurd (omega (arith, low, same))), ((λ same. absurd (omega (arith, low, same))), HasNo-decimal s (omega (arith, low)) n (fits_of n is.1)))
+    ((λ same. absurd (omega (arith, low, same))), ((λ same. absurd (omega (arith, low, same))), HasNo-decimal s (omega (arith, low)) n (omega (arith, is.1))))
 clean_body (IntentLine i) is s low = (
   (λ same. absurd (omega (arith, low, same))),
   (

@@ -70,20 +70,13 @@ marked_cases (row ∷ rest) uid = elim (delivered_cases row.delivered (is_of uid
       delivered_count-cons (with_delivered (is_of uid row) row) (marked rest uid) row.delivered same,
     ))
   ]
-  | inr (before, after) ↦ elim (marked_cases rest uid) [
-    | inl none ↦ inr (omega (
-      arith,
-      ap delivered_count none,
-      delivered_count-cons row rest false before,
-      delivered_count-cons (with_delivered (is_of uid row) row) (marked rest uid) true after,
-    ))
-    | inr more ↦ inr (omega (
-      arith,
-      more,
-      delivered_count-cons row rest false before,
-      delivered_count-cons (with_delivered (is_of uid row) row) (marked rest uid) true after,
-    ))
-  ]
+  | inr (before, after) ↦
+      let old = delivered_count-cons row rest false before in
+      let new = delivered_count-cons (with_delivered (is_of uid row) row) (marked rest uid) true after in
+      elim (marked_cases rest uid) [
+        | inl none ↦ inr (omega (arith, ap delivered_count none, old, new))
+        | inr more ↦ inr (omega (arith, more, old, new))
+      ]
 ]
 
 -- a loop over the flagged items: the ids of these are marked
@@ -202,8 +195,7 @@ HasHeldAnew-held rows listing held i ids new uid were same inside is fresh at ad
         ∙ ap (λ (b : Bool). b && bytes_eq (get_or listing i nobody).uid id) (sym is)
 
     or_both : (old fresh : Bool) → fresh ≡ true → true ≡ ((old || true) && fresh)
-    or_both true fresh e = sym e
-    or_both false fresh e = sym e
+    or_both old fresh e = grind arith
 
     by : (id : List ℕ) (found : Bool) → bytes_eq id uid ≡ found
         → (found || (list_any (stands_for id) (take i (zip listing held)) && not (is_delivered rows id)))
@@ -225,24 +217,14 @@ HasHeldAnew-known rows listing held i ids uid were same inside known at = λ id.
     by id true found flag =
         let known_too : not (is_delivered rows id) ≡ false =
         ap (λ (u : List ℕ). not (is_delivered rows u)) (sym (at nobody ∙ same_from_test (get_or listing i nobody).uid id found)) ∙ ap not known in
-        ap (λ (b : Bool). list_any (stands_for id) (take i (zip listing held)) && b) known_too
-        ∙ and-false (list_any (stands_for id) (take i (zip listing held)))
-        ∙ sym (and-false (list_any (stands_for id) (take i (zip listing held)) || (flag && bytes_eq (get_or listing i nobody).uid id)))
-        ∙ ap (λ (b : Bool). (list_any (stands_for id) (take i (zip listing held)) || (flag && bytes_eq (get_or listing i nobody).uid id)) && b) (sym known_too)
-    by id false found flag =
-        ap (λ (b : Bool). b && not (is_delivered rows id))
-        (sym (or-false (list_any (stands_for id) (take i (zip listing held))))
-        ∙ ap (λ (b : Bool). list_any (stands_for id) (take i (zip listing held)) || b) (sym (and-false flag) ∙ ap (λ (b : Bool). flag && b) (sym found)))
+        rw (known_too, and-false, and-false) refl
+    by id false found flag = rw (found, and-false, or-false) refl
 
 -- an item that isn't held
 pub HasHeldAnew-free : (rows : List Row) (listing : List Item) (held : List Bool) (i : ℕ) (ids : List (List ℕ)) → HasHeldAnew rows listing held i ids → length held ≡ length listing
     → i < length listing → get_or held i false ≡ false → HasHeldAnew rows listing held (i + 1) ids
 HasHeldAnew-free rows listing held i ids were same inside is = λ id.
-    were id
-    ∙ ap (λ (b : Bool). b && not (is_delivered rows id))
-    (sym (or-false (list_any (stands_for id) (take i (zip listing held))))
-    ∙ ap (λ (b : Bool). list_any (stands_for id) (take i (zip listing held)) || (b && bytes_eq (get_or listing i nobody).uid id)) (sym is)
-    ∙ sym (next_flagged listing held i id same inside))
+    were id ∙ ap (λ (b : Bool). b && not (is_delivered rows id)) (rw (next_flagged listing held i id same inside, is, or-false) refl)
 
 pub HasHeldAnew-all : (rows : List Row) (listing : List Item) (held : List Bool) (i : ℕ) (ids : List (List ℕ)) → HasHeldAnew rows listing held i ids → length listing ≤ i
     → (uid : List ℕ) → has_id ids uid ≡ (is_flagged listing held uid && not (is_delivered rows uid))

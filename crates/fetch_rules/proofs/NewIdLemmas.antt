@@ -1,11 +1,10 @@
 -- The ids of a listing that have no row yet.
-use Rattle.std.proofs.Common.{◌≡◌, ℕ, ◌<◌, ◌+◌, List, [], ◌∷◌, ◌++◌, Bool, true, false, not, ◌||◌, length, get_or, take, map, refl, sym, ◌∙◌, ap, append_assoc, inl, inr, bytes_eq, filter, true≢false}
-use Rattle.std.proofs.lemmas.Bool.{cases_Bool, or_left, or_parts, or_cases, not_from_true, not_from_false}
+use Rattle.std.proofs.Common.{arith, ◌≡◌, ℕ, ◌<◌, ◌+◌, List, [], ◌∷◌, ◌++◌, Bool, true, false, not, ◌||◌, length, get_or, take, map, refl, sym, ◌∙◌, ap, append_assoc, inl, inr, bytes_eq, filter, true≢false}
+use Rattle.std.proofs.lemmas.Bool.{cases_Bool, or_left, or_parts, or_cases, not_from_false}
 use Rattle.std.proofs.lemmas.List.{take_more, map-append, append-nil}
 use Rattle.std.proofs.lemmas.List.Elements.{filter-append}
 use Rattle.std.proofs.lemmas.List.Folds.{list_any-append}
 use Rattle.std.proofs.lemmas.Map.Views.{any-filter_same}
-use Rattle.fetch_rules.proofs.FilterLemmas.{filter_keeps, filter_leaves}
 use Rattle.fetch_rules.proofs.IdLemmas.{same_from_test, test_from_same, test_from_other, cases_id}
 use Rattle.mail_terms.specs.Listing.{Item}
 use Rattle.mail_terms.specs.UniqueId.{has_id}
@@ -28,11 +27,11 @@ has_id-distinct_ids uid (id ∷ ids) = elim (cases_id uid id) [
 pub distinct_ids-push_new : (ids : List (List ℕ)) (uid : List ℕ) → has_id ids uid ≡ false → distinct_ids (ids ++ uid ∷ []) ≡ distinct_ids ids ++ uid ∷ []
 distinct_ids-push_new [] uid new = refl
 distinct_ids-push_new (id ∷ ids) uid new =
-    ap (λ (xs : List (List ℕ)). id ∷ filter (λ o. not (bytes_eq id o)) xs) (distinct_ids-push_new ids uid (or_parts _ _ new).1)
-    ∙ ap (λ (xs : List (List ℕ)). id ∷ xs)
-    (filter-append (λ o. not (bytes_eq id o)) (distinct_ids ids) (uid ∷ [])
-    ∙ ap (λ (xs : List (List ℕ)). filter (λ o. not (bytes_eq id o)) (distinct_ids ids) ++ xs)
-    (filter_keeps (λ o. not (bytes_eq id o)) uid [] (not_from_false _ (test_from_other id uid (λ same. other (sym same))))))
+    rw (
+      distinct_ids-push_new ids uid (or_parts (bytes_eq uid id) (has_id ids uid) new).1,
+      filter-append (λ o. not (bytes_eq id o)) (distinct_ids ids) (uid ∷ []),
+      test_from_other id uid (λ same. other (sym same)),
+    ) refl
   where
     other : uid ≡ id → ⊥
     other same = let hit : bytes_eq uid id ≡ true = test_from_same uid id same in let miss : bytes_eq uid id ≡ false = (or_parts _ _ new).0 in cc
@@ -41,13 +40,12 @@ pub distinct_ids-push_old : (ids : List (List ℕ)) (uid : List ℕ) → has_id 
 distinct_ids-push_old [] uid old = cc
 distinct_ids-push_old (id ∷ ids) uid old = elim (cases_Bool (has_id ids uid)) [
   | inl inside ↦ ap (λ (xs : List (List ℕ)). id ∷ filter (λ o. not (bytes_eq id o)) xs) (distinct_ids-push_old ids uid inside)
-  | inr outside ↦
-      ap (λ (xs : List (List ℕ)). id ∷ filter (λ o. not (bytes_eq id o)) xs) (distinct_ids-push_new ids uid outside)
-      ∙ ap (λ (xs : List (List ℕ)). id ∷ xs)
-      (filter-append (λ o. not (bytes_eq id o)) (distinct_ids ids) (uid ∷ [])
-      ∙ ap (λ (xs : List (List ℕ)). filter (λ o. not (bytes_eq id o)) (distinct_ids ids) ++ xs)
-      (filter_leaves (λ o. not (bytes_eq id o)) uid [] (not_from_true _ (test_from_same id uid (sym (same outside)))))
-      ∙ append-nil _)
+  | inr outside ↦ rw (
+    distinct_ids-push_new ids uid outside,
+    filter-append (λ o. not (bytes_eq id o)) (distinct_ids ids) (uid ∷ []),
+    test_from_same id uid (sym (same outside)),
+    append-nil,
+  ) refl
 ]
   where
     same : has_id ids uid ≡ false → uid ≡ id
@@ -68,10 +66,12 @@ has_id-new_of rows ids uid none =
 pub new_of-push_row : (rows : List Row) (ids : List (List ℕ)) (uid : List ℕ) → has_row rows uid ≡ true → new_of rows (ids ++ uid ∷ []) ≡ new_of rows ids
 new_of-push_row rows ids uid has = elim (cases_Bool (has_id ids uid)) [
   | inl old ↦ ap (filter (λ id. not (has_row rows id))) (distinct_ids-push_old ids uid old)
-  | inr new ↦ ap (filter (λ id. not (has_row rows id))) (distinct_ids-push_new ids uid new)
-      ∙ filter-append (λ id. not (has_row rows id)) (distinct_ids ids) (uid ∷ [])
-      ∙ ap (λ (xs : List (List ℕ)). new_of rows ids ++ xs) (filter_leaves (λ id. not (has_row rows id)) uid [] (not_from_true _ has))
-      ∙ append-nil _
+  | inr new ↦ rw (
+    distinct_ids-push_new ids uid new,
+    filter-append (λ id. not (has_row rows id)) (distinct_ids ids) (uid ∷ []),
+    has,
+    append-nil,
+  ) refl
 ]
 
 pub new_of-push_old : (rows : List Row) (ids : List (List ℕ)) (uid : List ℕ) → has_id ids uid ≡ true → new_of rows (ids ++ uid ∷ []) ≡ new_of rows ids
@@ -79,9 +79,7 @@ new_of-push_old rows ids uid old = ap (filter (λ id. not (has_row rows id))) (d
 
 pub new_of-push_new : (rows : List Row) (ids : List (List ℕ)) (uid : List ℕ) → has_row rows uid ≡ false → has_id ids uid ≡ false → new_of rows (ids ++ uid ∷ []) ≡ new_of rows ids ++ uid ∷ []
 new_of-push_new rows ids uid none new =
-    ap (filter (λ id. not (has_row rows id))) (distinct_ids-push_new ids uid new)
-    ∙ filter-append (λ id. not (has_row rows id)) (distinct_ids ids) (uid ∷ [])
-    ∙ ap (λ (xs : List (List ℕ)). new_of rows ids ++ xs) (filter_keeps (λ id. not (has_row rows id)) uid [] (not_from_false _ none))
+    rw (distinct_ids-push_new ids uid new, filter-append (λ id. not (has_row rows id)) (distinct_ids ids) (uid ∷ []), none) refl
 
 -- the next item of a listing
 pub ids_more : (listing : List Item) (i : ℕ) (uid : List ℕ) → ((d : Item) → uid ≡ (get_or listing i d).uid) → i < length listing → map (λ (item : Item). item.uid) (take (i + 1) listing) ≡ map (λ (item : Item). item.uid) (take i listing) ++ uid ∷ []
@@ -130,15 +128,12 @@ pub HasAdded-has : (rows : List Row) (listing : List Item) (now i : ℕ) (new : 
 HasAdded-has rows listing now i new uid were at inside has = elim (cases_Bool (has_row rows uid)) [
   | inl old ↦ were ∙ ap (λ (xs : List Row). rows ++ xs) (AreNew-row rows listing now i _ uid refl at inside old)
   | inr none ↦ were ∙ ap (λ (xs : List Row). rows ++ xs) (AreNew-old rows listing now i _ uid refl at inside none
-      (sym (or_parts_right (has_row rows uid) (has_row added uid) none (sym (list_any-append (is_of uid) rows added) ∙ ap (λ (xs : List Row). has_row xs uid) (sym were) ∙ has))))
+      (let either = sym (list_any-append (is_of uid) rows added) ∙ ap (λ (xs : List Row). has_row xs uid) (sym were) ∙ has in
+      grind (arith, none, either)))
 ]
   where
     added : List Row
     added = map (undelivered now) (new_ids rows (take i listing))
-
-    or_parts_right : (a b : Bool) → a ≡ false → (a || b) ≡ true → true ≡ b
-    or_parts_right true b left either = absurd (true≢false left)
-    or_parts_right false b left either = sym either
 
 pub HasAdded-more : (rows : List Row) (listing : List Item) (now i : ℕ) (new longer : List Row) (uid : List ℕ) → HasAdded rows listing now i new → ((d : Item) → uid ≡ (get_or listing i d).uid) → i < length listing
     → has_row new uid ≡ false → longer ≡ new ++ undelivered now uid ∷ [] → HasAdded rows listing now (i + 1) longer

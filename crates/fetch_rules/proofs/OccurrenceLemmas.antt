@@ -1,5 +1,5 @@
 -- Loops over a listing that fill a set of ids from the front or from the back.
-use Rattle.std.proofs.Common.{◌≡◌, ◌<◌, ◌≤◌, ◌+◌, ℕ, Bool, true, false, ◌&&◌, ◌||◌, not, List, [], ◌∷◌, ◌++◌, map, take, drop, get_or, set, length, sym, ap, ◌∙◌, arith, bytes_eq, true≢false}
+use Rattle.std.proofs.Common.{◌≡◌, ◌<◌, ◌≤◌, ◌+◌, ℕ, Bool, true, false, ◌&&◌, ◌||◌, not, List, [], ◌∷◌, ◌++◌, map, take, drop, get_or, set, length, sym, ap, ◌∙◌, arith, bytes_eq}
 use Rattle.std.proofs.lemmas.List.{length-map, get_or-map, take_more, take_all, drop_more, drop_all, drop-set, map_push}
 use Rattle.std.proofs.lemmas.List.Folds.{list_any-append}
 use Rattle.std.proofs.lemmas.List.FromFn.{length-enumerate_from}
@@ -98,9 +98,7 @@ flag_at test listing flags i flag are inside is item =
 
 -- a test that is only made if another one passed
 pub both-true : (x y both : Bool) → x ≡ true → both ≡ y → both ≡ (x && y)
-both-true true y both hit is = is
-both-true false y both hit is = absurd (true≢false (sym hit))
+both-true x y both hit is = grind arith
 
 pub both-false : (x y both : Bool) → x ≡ false → both ≡ x → both ≡ (x && y)
-both-false true y both miss is = absurd (true≢false miss)
-both-false false y both miss is = is
+both-false x y both miss is = grind arith

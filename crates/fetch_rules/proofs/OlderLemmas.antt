@@ -1,22 +1,18 @@
 -- The lines of a file of version 1 after the header of version 2.
-use Rattle.std.proofs.Common.{◌≡◌, ℕ, zero, suc, ◌+◌, List, [], ◌∷◌, ◌++◌, Bool, true, false, ◌&&◌, ◌||◌, not, cond, length, refl, sym, ◌∙◌, ap, subst, inl, inr, flat_map, ◌==◌, Option, None}
+use Rattle.std.proofs.Common.{◌≡◌, ℕ, zero, suc, ◌+◌, List, [], ◌∷◌, ◌++◌, Bool, true, false, ◌&&◌, not, length, refl, sym, ◌∙◌, ap, subst, inl, inr, flat_map, ◌==◌, Option, None}
 use Rattle.std.specs.List.{list_any}
-use Rattle.std.proofs.lemmas.Bool.{or_cases, and_parts, or_left, or_right, and_from}
+use Rattle.std.proofs.lemmas.Bool.{cases_Bool, or_cases, and_parts, or_left, or_right, and_from}
+use Rattle.std.proofs.lemmas.List.Folds.{Any-from_list_any, list_any-from_Any}
 use Rattle.fetch_rules.specs.Record.{Row, Intent, is_of, has_row}
 use Rattle.fetch_rules.specs.RecordFile.{Version, One, Two, header, Line, RowLine, GroupLine, text_of}
-use Rattle.fetch_rules.specs.RecordMeaning.{IsCut, Rows, Fault, Means, Progress, Judged, judged, after_line, may_take, delivers, taken, Stands, Fails, InBase, BetweenGroups, InGroup, Ends, line_after, counted, left_open, is_open, has_line_feed, has_bytes}
+use Rattle.fetch_rules.specs.RecordMeaning.{IsCut, Rows, Means, Progress, Judged, judged, after_line, may_take, delivers, taken, Stands, Fails, InBase, BetweenGroups, InGroup, Ends, left_open, has_line_feed}
 use Rattle.fetch_rules.specs.RecordGrowth.{OneIsRead}
 use Rattle.fetch_rules.specs.declared.seen.SeenFault.{SeenFault}
-use Rattle.fetch_rules.specs.declared.seen.SeenFault.TheVariants.{BadRow, RepeatedId}
 use Rattle.fetch_rules.proofs.CutLemmas.{same_lines, no_header}
 use Rattle.fetch_rules.proofs.JudgedLemmas.{no_stand, same_progress, rows_no_fault, same_rows}
 
 any_weaker : {X : Type 0} (p q : X → Bool) (xs : List X) → ((x : X) → p x ≡ true → q x ≡ true) → list_any p xs ≡ true → list_any q xs ≡ true
-any_weaker p q [] f e = e
-any_weaker p q (x ∷ xs) f e = elim (or_cases (p x) (list_any p xs) e) [
-  | inl first ↦ or_left _ _ (f x first)
-  | inr later ↦ or_right _ _ (any_weaker p q xs f later)
-]
+any_weaker p q xs f e = let some = Any-from_list_any p xs e in list_any-from_Any q xs (some.0, some.1, some.2, some.3, f some.1 some.4)
 
 -- what a group may hold in version 1 it may hold in version 2
 may_take_more : (rows : List Row) (row : Row) → may_take One rows row ≡ true → may_take Two rows row ≡ true
@@ -35,29 +31,23 @@ Stays n p line q = (after_line Two n p line ≡ Stands q) × (left_open q ≡ No
 
 -- a line that is allowed in version 1 is allowed in version 2
 step : (n : ℕ) (p : Progress) (line : Line) (q : Progress) → left_open p ≡ None → after_line One n p line ≡ Stands q → Stays n p line q
-step n (InBase rows) (RowLine row) q none e = by (has_row rows row.uid) refl
-  where
-    by : (b : Bool) → has_row rows row.uid ≡ b → Stays n (InBase rows) (RowLine row) q
-    by true h = absurd (no_stand (ap (λ b. cond b (Fails (RepeatedId (line_after n))) (Stands (InBase (rows ++ row ∷ [])))) (sym h) ∙ e))
-    by false h =
-        let is : InBase (rows ++ row ∷ []) ≡ q = same_progress (ap (λ b. cond b (Fails (RepeatedId (line_after n))) (Stands (InBase (rows ++ row ∷ [])))) (sym h) ∙ e) in
-        (e, sym (ap left_open is))
+step n (InBase rows) (RowLine row) q none e = elim (cases_Bool (has_row rows row.uid)) [
+  | inl h ↦ absurd (no_stand (rw h at e))
+  | inr h ↦ (e, sym (ap left_open (same_progress (rw h at e))))
+]
 step n (InBase rows) (GroupLine count) q none e = (e, sym (ap left_open (same_progress e)))
 step n (BetweenGroups rows before) (GroupLine count) q none e = (e, sym (ap left_open (same_progress e)) ∙ none)
-step n (InGroup old before rows zero) (RowLine row) q none e = by (may_take One rows row) refl
-  where
-    by : (b : Bool) → may_take One rows row ≡ b → Stays n (InGroup old before rows zero) (RowLine row) q
-    by false h = absurd (no_stand (ap (λ b. cond b (Stands (BetweenGroups (taken rows row) None)) (Fails (RepeatedId (line_after n)))) (sym h) ∙ e))
-    by true h =
-        let is : BetweenGroups (taken rows row) None ≡ q = same_progress (ap (λ b. cond b (Stands (BetweenGroups (taken rows row) None)) (Fails (RepeatedId (line_after n)))) (sym h) ∙ e) in
-        (ap (λ b. cond b (Stands (BetweenGroups (taken rows row) None)) (Fails (RepeatedId (line_after n)))) (may_take_more rows row h) ∙ ap Stands is, sym (ap left_open is))
-step n (InGroup old before rows (suc more)) (RowLine row) q none e = by (may_take One rows row) refl
-  where
-    by : (b : Bool) → may_take One rows row ≡ b → Stays n (InGroup old before rows (suc more)) (RowLine row) q
-    by false h = absurd (no_stand (ap (λ b. cond b (Stands (InGroup old before (taken rows row) more)) (Fails (RepeatedId (line_after n)))) (sym h) ∙ e))
-    by true h =
-        let is : InGroup old before (taken rows row) more ≡ q = same_progress (ap (λ b. cond b (Stands (InGroup old before (taken rows row) more)) (Fails (RepeatedId (line_after n)))) (sym h) ∙ e) in
-        (ap (λ b. cond b (Stands (InGroup old before (taken rows row) more)) (Fails (RepeatedId (line_after n)))) (may_take_more rows row h) ∙ ap Stands is, sym (ap left_open is) ∙ none)
+step n (InGroup old before rows zero) (RowLine row) q none e = elim (cases_Bool (may_take One rows row)) [
+  | inl h ↦ let is : Stands (BetweenGroups (taken rows row) None) ≡ Stands q = rw h at e in
+      (rw (may_take_more rows row h) is, sym (ap left_open (same_progress is)))
+  | inr h ↦ absurd (no_stand (rw h at e))
+]
+step n (InGroup old before rows (suc more)) (RowLine row) q none e = elim (cases_Bool (may_take One rows row)) [
+  | inl h ↦
+      let is : Stands (InGroup old before (taken rows row) more) ≡ Stands q = rw h at e in
+      (rw (may_take_more rows row h) is, sym (ap left_open (same_progress is)) ∙ none)
+  | inr h ↦ absurd (no_stand (rw h at e))
+]
 step n p line q none e = absurd (no_stand e)
 
 steps : (n : ℕ) (j : Judged) (p : Progress) (lines : List Line) (q : Progress) → j ≡ Stands p → left_open p ≡ None → judged One n j lines ≡ Stands q
@@ -92,9 +82,9 @@ ends rest version rows intent torn lines tail (Stands p) cut is e = by (has_line
     two = steps 0 (Stands (InBase [])) (InBase []) lines p refl refl is
 
     by : (b : Bool) → has_line_feed tail ≡ b → (version ≡ One) × (intent ≡ None) × Means (header Two ++ rest) (Rows Two rows None torn)
-    by true feed = absurd (rows_no_fault (e.1 ∙ ap (λ (b : Bool). cond b (Fault (BadRow (line_after (length lines)))) (Rows One (counted p) (left_open p) (is_open p || has_bytes tail))) feed))
+    by true feed = absurd (rows_no_fault (rw feed at e.1))
     by false plain =
-        let same = same_rows (e.1 ∙ ap (λ (b : Bool). cond b (Fault (BadRow (line_after (length lines)))) (Rows One (counted p) (left_open p) (is_open p || has_bytes tail))) plain) in (
+        let same = same_rows (rw plain at e.1) in (
           same.0,
           same.2 ∙ two.1,
           inr (inr (record {
@@ -104,9 +94,7 @@ ends rest version rows intent torn lines tail (Stands p) cut is e = by (has_line
             cut = record { each = cut.each; whole = ap (λ (xs : List ℕ). header Two ++ xs) (same_lines One One rest (flat_map text_of lines ++ tail) cut.whole).1 };
             ends = subst (λ (k : Judged). Ends Two (length lines) k tail (Rows Two rows None torn)) (sym two.0) (
               e.0,
-              ap (λ (r : List Row). Rows Two r None torn) same.1 ∙ ap (λ (i : Option Intent). Rows Two (counted p) i torn) (sym two.1)
-                  ∙ ap (Rows Two (counted p) (left_open p)) same.3
-                  ∙ ap (λ (b : Bool). cond b (Fault (BadRow (line_after (length lines)))) (Rows Two (counted p) (left_open p) (is_open p || has_bytes tail))) (sym plain),
+              rw (plain, two.1, same.1, same.3) refl,
             );
           })),
         )

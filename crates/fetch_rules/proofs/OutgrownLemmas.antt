@@ -54,16 +54,12 @@ no_row Base rest appended line behind at is line_is other = λ row after is_row 
 no_row Between rest appended line behind none is line_is other = none
 no_row (Within more) rest appended line behind none is line_is other = none
 
-row_no_group : (count : ℕ) (row : Row) → RowLine row ≢ GroupLine count
-row_no_group count row e = cc
-
-row_no_intent : (intent : Intent) (row : Row) → RowLine row ≢ IntentLine intent
-row_no_intent intent row e = cc
-
 pub apart-group : (part : Part) (lines rest appended : List ℕ) (count : ℕ) (behind : List ℕ) → IsApart part lines rest appended → IsLine (GroupLine count) → rest ≡ text_of (GroupLine count) ++ behind
     → IsApart (Within (count - 1)) lines behind appended
-apart-group part lines rest appended count behind were is line = record { begins = were.begins; follows = no_row part rest appended (GroupLine count) behind were.follows is line (row_no_group count) }
+apart-group part lines rest appended count behind were is line =
+    record { begins = were.begins; follows = no_row part rest appended (GroupLine count) behind were.follows is line (λ row e. cc) }
 
 pub apart-intent : (part : Part) (lines rest appended : List ℕ) (intent : Intent) (behind : List ℕ) → IsApart part lines rest appended → IsLine (IntentLine intent) → rest ≡ text_of (IntentLine intent) ++ behind
     → IsApart Between lines behind appended
-apart-intent part lines rest appended intent behind were is line = record { begins = were.begins; follows = no_row part rest appended (IntentLine intent) behind were.follows is line (row_no_intent intent) }
+apart-intent part lines rest appended intent behind were is line =
+    record { begins = were.begins; follows = no_row part rest appended (IntentLine intent) behind were.follows is line (λ row e. cc) }

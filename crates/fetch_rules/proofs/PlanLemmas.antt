@@ -1,7 +1,8 @@
 -- The plan item by item, with a count, is the plan by the wanted messages.
-use Rattle.std.proofs.Common.{◌≡◌, ℕ, zero, suc, ◌<◌, ◌≤◌, ◌+◌, List, [], ◌∷◌, ◌++◌, Bool, true, false, cond, ◌&&◌, ◌||◌, length, get_or, take, map, refl, sym, ◌∙◌, ap, subst, inl, inr, arith, filter, zip, count_by, All, nat_lt, nat_le, not, ◌-◌, ◌*◌, ◌==◌}
+use Rattle.std.proofs.Common.{◌≡◌, ℕ, zero, suc, ◌<◌, ◌≤◌, ◌+◌, List, [], ◌∷◌, ◌++◌, Bool, true, false, cond, ◌&&◌, ◌||◌, length, get_or, take, map, refl, sym, ◌∙◌, ap, subst, inl, inr, arith, filter, zip, count_by, All, nat_lt, ◌==◌}
 use Rattle.std.specs.List.{enumerate_from}
-use Rattle.std.proofs.lemmas.Bool.{true≢false, cases_Bool, cases_lt, cond-true, cond-false, lt-ltb, le-ltb, eq-eqb, ne_eqb, or_left, or_right, or_from, and_right}
+use Rattle.std.proofs.lemmas.Bool.{cases_Bool, cond-true, cond-false, lt-ltb, le-ltb, eq-eqb, ne_eqb, or_left, and_right}
+use Rattle.std.proofs.lemmas.Bool.Decides.{nat_tests}
 use Rattle.std.proofs.lemmas.List.{take_more, take_all, length-take, get_or-map, length-map}
 use Rattle.std.proofs.lemmas.List.Elements.{All-filter, All-take, All-weaker}
 use Rattle.std.proofs.lemmas.List.Folds.{list_any_none}
@@ -32,10 +33,7 @@ none_below p n m k items below = list_any_none (λ message. message.0 == k) _
 
 -- fewer than m, one more on both sides
 lt_step : (c m c' : ℕ) → c' ≡ 1 + c → nat_lt c' (suc m) ≡ nat_lt c m
-lt_step c m c' is = elim (cases_lt c m) [
-  | inl below ↦ lt-ltb c' (suc m) (omega (arith, is, below)) ∙ sym (lt-ltb c m below)
-  | inr above ↦ le-ltb c' (suc m) (omega (arith, is, above)) ∙ sym (le-ltb c m above)
-]
+lt_step c m c' is = grind (arith, nat_tests)
 
 count_by-cons : (p : Message → Bool) (x : Message) (xs : List Message) (b : Bool) → p x ≡ b → count_by p (x ∷ xs) ≡ cond b 1 0 + count_by p xs
 count_by-cons p x xs b is = sum_by-cons (λ (m : Message). cond (p m) 1 0) x xs ∙ ap (λ (t : Bool). cond t 1 0 + count_by p xs) is
@@ -75,14 +73,8 @@ has_number-take p n m (suc i) k (item ∷ items) d inside is = elim (cases_Bool 
 filter_skip : (messages : List Message) (n k : ℕ) (item : Item) (items : List Item) → n < k
     → filter (λ message. has_number ((n, item) ∷ messages) message.0) (enumerate_from k items) ≡ filter (λ message. has_number messages message.0) (enumerate_from k items)
 filter_skip messages n k item [] below = refl
-filter_skip messages n k item (first ∷ items) below = elim (cases_Bool (has_number messages k)) [
-  | inl hit ↦ filter_keeps (λ (message : Message). has_number ((n, item) ∷ messages) message.0) (k, first) _ (or_right _ _ hit)
-      ∙ ap (λ (ms : List Message). (k, first) ∷ ms) (filter_skip messages n (k + 1) item items (omega (arith, below)))
-      ∙ sym (filter_keeps (λ (message : Message). has_number messages message.0) (k, first) _ hit)
-  | inr miss ↦ filter_leaves (λ (message : Message). has_number ((n, item) ∷ messages) message.0) (k, first) _ (or_from _ _ (ne_eqb n k (λ same. absurd (omega (arith, below, same)))) miss)
-      ∙ filter_skip messages n (k + 1) item items (omega (arith, below))
-      ∙ sym (filter_leaves (λ (message : Message). has_number messages message.0) (k, first) _ miss)
-]
+filter_skip messages n k item (first ∷ items) below =
+    rw (ne_eqb n k (λ same. absurd (omega (arith, below, same))), filter_skip messages n (k + 1) item items (omega (arith, below))) refl
 
 filter_nothing : (messages : List Message) → filter (λ _. false) messages ≡ []
 filter_nothing [] = refl
@@ -95,21 +87,22 @@ filter_among p n (suc m) [] = refl
 filter_among p n (suc m) (item ∷ items) = elim (cases_Bool (p (n, item))) [
   | inl hit ↦ subst (λ (ms : List Message). filter (λ message. has_number (take (suc m) ms) message.0) (enumerate_from n (item ∷ items)) ≡ take (suc m) ms)
       (sym (filter_keeps p (n, item) (enumerate_from (n + 1) items) hit))
-      (filter_keeps (λ (message : Message). has_number ((n, item) ∷ take m (filter p (enumerate_from (n + 1) items))) message.0) (n, item) (enumerate_from (n + 1) items) (or_left _ _ (eq-eqb n n refl))
-      ∙ ap (λ (ms : List Message). (n, item) ∷ ms)
-      (filter_skip (take m (filter p (enumerate_from (n + 1) items))) n (n + 1) item items (omega arith) ∙ filter_among p (n + 1) m items))
+      (rw (
+        eq-eqb n n refl,
+        filter_skip (take m (filter p (enumerate_from (n + 1) items))) n (n + 1) item items (omega arith),
+        filter_among
+            p (n + 1) m items,
+      ) refl)
   | inr miss ↦ subst (λ (ms : List Message). filter (λ message. has_number (take (suc m) ms) message.0) (enumerate_from n (item ∷ items)) ≡ take (suc m) ms)
       (sym (filter_leaves p (n, item) (enumerate_from (n + 1) items) miss))
-      (filter_leaves (λ (message : Message). has_number (take (suc m) (filter p (enumerate_from (n + 1) items))) message.0) (n, item) (enumerate_from (n + 1) items)
-      (none_below p (n + 1) (suc m) n items (omega arith))
-      ∙ filter_among p (n + 1) (suc m) items)
+      (rw (none_below p (n + 1) (suc m) n items (omega arith)) (filter_among p (n + 1) (suc m) items))
 ]
 
 -- the same for a limit; 0 sets none
 at_most_is : (limit n : ℕ) (messages : List Message) → length messages ≤ n → at_most limit messages ≡ take (cond (limit == 0) n limit) messages
 at_most_is limit n messages few = elim (cases_Bool (limit == 0)) [
-  | inl none ↦ cond-true (limit == 0) messages (take limit messages) none ∙ sym (take_all n messages few) ∙ ap (λ (m : ℕ). take m messages) (sym (cond-true (limit == 0) n limit none))
-  | inr some ↦ cond-false (limit == 0) messages (take limit messages) some ∙ ap (λ (m : ℕ). take m messages) (sym (cond-false (limit == 0) n limit some))
+  | inl none ↦ rw none (sym (take_all n messages few))
+  | inr some ↦ rw some refl
 ]
 
 few_pass : (p : Message → Bool) (items : List Item) → length (filter p (numbered items)) ≤ length items
@@ -139,10 +132,8 @@ has_number-at_most p limit i items d inside =
 retrieved_steps : (f : Message → Step) (messages : List Message) → map (λ pair. pair.1) (filter (λ pair. pair.0.retrieve) (zip (map f messages) messages)) ≡ filter (λ message. (f message).retrieve) messages
 retrieved_steps f [] = refl
 retrieved_steps f (message ∷ messages) = elim (cases_Bool (f message).retrieve) [
-  | inl hit ↦ ap (map (λ (pair : Step × Message). pair.1)) (filter_keeps (λ (pair : Step × Message). pair.0.retrieve) (f message, message) (zip (map f messages) messages) hit)
-      ∙ ap (λ (ms : List Message). message ∷ ms) (retrieved_steps f messages) ∙ sym (filter_keeps (λ (m : Message). (f m).retrieve) message messages hit)
-  | inr miss ↦ ap (map (λ (pair : Step × Message). pair.1)) (filter_leaves (λ (pair : Step × Message). pair.0.retrieve) (f message, message) (zip (map f messages) messages) miss)
-      ∙ retrieved_steps f messages ∙ sym (filter_leaves (λ (m : Message). (f m).retrieve) message messages miss)
+  | inl hit ↦ rw hit (ap (λ (ms : List Message). message ∷ ms) (retrieved_steps f messages))
+  | inr miss ↦ rw miss (retrieved_steps f messages)
 ]
 
 pub retrieved-planned : (settings : Settings) (rows : List Row) (listing : List Item) (now : ℕ) (steps : List Step) → steps ≡ planned settings rows listing now → retrieved steps listing ≡ wanted settings rows listing
@@ -207,9 +198,4 @@ HasPlanned-all settings rows listing now i steps count has past =
 
 -- nothing is due if the settings let nothing be deleted
 pub never_due : (settings : Settings) (now since : ℕ) → may_delete settings ≡ false → is_due settings now since ≡ false
-never_due settings now since never = by settings.delete (settings.delete_after == 0) never
-  where
-    by : (delete none : Bool) → (delete || not none) ≡ false → (delete || (not none && nat_le (86400 * settings.delete_after) (now - since))) ≡ false
-    by true none e = absurd (true≢false e)
-    by false true e = refl
-    by false false e = absurd (true≢false e)
+never_due settings now since never = grind arith

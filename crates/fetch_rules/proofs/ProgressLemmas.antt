@@ -2,9 +2,9 @@
 use Rattle.std.proofs.Common.{◌≡◌, ℕ, zero, suc, ◌+◌, ◌-◌, ◌≤◌, List, [], ◌∷◌, ◌++◌, take, Bool, true, false, ◌||◌, cond, length, refl, sym, ◌∙◌, ap, subst, append_assoc, inr, arith, length-append, min, flat_map, Option, Some, None, true≢false, append-nil}
 use Rattle.std.proofs.Math.Seq.{take-append_seam}
 use Rattle.fetch_rules.specs.Record.{Row, Intent, IsRow, IsIntent, IsRecord, has_row}
-use Rattle.fetch_rules.specs.RecordFile.{Version, header, RowLine, GroupLine, IntentLine, text_of, IsLine}
+use Rattle.fetch_rules.specs.RecordFile.{Version, header, Line, RowLine, GroupLine, IntentLine, text_of, IsLine}
 use Rattle.fetch_rules.specs.RecordMeaning.{Progress, InBase, BetweenGroups, InGroup, left_open, may_take, taken, Judged, Stands, Fails, after_line, line_after, counted, is_open, Rows, Fault, Means, Ends}
-use Rattle.fetch_rules.specs.Lines.{version_of, open_seen, progress_of, IsPlaced, open_behind, is_within, TakesRow, RefusesRow, TakesIntent, RefusesIntent, EndsAt}
+use Rattle.fetch_rules.specs.Lines.{version_of, open_seen, progress_of, IsPlaced, open_behind, is_within, TakesRow, TakesIntent, EndsAt}
 use Rattle.fetch_rules.specs.declared.seen.SeenFault.{SeenFault}
 use Rattle.fetch_rules.specs.declared.seen.line.Intent.{Intent as ReadIntent}
 use Rattle.fetch_rules.specs.declared.seen.SeenFault.TheVariants.{BadRow, RepeatedId}
@@ -40,6 +40,11 @@ Reads-none older bytes rest is rows none good = record {
 next_number : (n number : ℕ) → number ≡ line_after n → min (number + 1) 4294967295 ≡ line_after (n + 1)
 next_number n number is = omega (arith, is)
 
+-- a choice of two steps leads to neither of them
+neither : (b : Bool) (j k : Judged) (p : Progress) → cond b j k ≡ Stands p → (j ≡ Stands p → ⊥) → (k ≡ Stands p → ⊥) → ⊥
+neither true j k p e left right = left e
+neither false j k p e left right = right e
+
 -- a row doesn't lead into a group, nor back to the rows after the header
 stays_out : (version : Version) (part next : Part) (n : ℕ) (intent after : Option Intent) (before rows new : List Row) (row : Row)
     → after_line version n (progress_of part intent before rows) (RowLine row) ≡ Stands (progress_of next after before new) → is_within next ≡ true → is_within part ≡ true
@@ -47,11 +52,9 @@ stays_out version (Within more) next n intent after before rows new row leads wi
 stays_out version Between next n intent after before rows new row leads within = absurd (no_stand leads)
 stays_out version Base Base n intent after before rows new row leads within = absurd (true≢false (sym within))
 stays_out version Base Between n intent after before rows new row leads within = absurd (true≢false (sym within))
-stays_out version Base (Within more) n intent after before rows new row leads within = absurd (by (has_row rows row.uid) leads)
-  where
-    by : (b : Bool) → cond b (Fails (RepeatedId (line_after n))) (Stands (InBase (rows ++ row ∷ []))) ≡ Stands (InGroup before after new more) → ⊥
-    by true e = cc
-    by false e = cc
+stays_out version Base (Within more) n intent after before rows new row leads within =
+    absurd (neither (has_row rows row.uid) (Fails (RepeatedId (line_after n))) (Stands (InBase (rows ++ row ∷ [])))
+    (InGroup before after new more) leads (λ e. cc) (λ e. cc))
 
 placed_behind : (version : Version) (part next : Part) (n : ℕ) (intent : Option Intent) (before rows new : List Row) (row : Row)
     → after_line version n (progress_of part intent before rows) (RowLine row) ≡ Stands (progress_of next (open_behind next intent) before new) → IsPlaced part intent → IsPlaced next (open_behind next intent)
@@ -59,16 +62,12 @@ placed_behind version part Between n intent before rows new row leads placed = t
 placed_behind version part (Within more) n intent before rows new row leads placed = tt
 placed_behind version Base Base n intent before rows new row leads placed = placed
 placed_behind version Between Base n intent before rows new row leads placed = absurd (no_stand leads)
-placed_behind version (Within zero) Base n intent before rows new row leads placed = absurd (by (may_take version rows row) leads)
-  where
-    by : (b : Bool) → cond b (Stands (BetweenGroups (taken rows row) None)) (Fails (RepeatedId (line_after n))) ≡ Stands (InBase new) → ⊥
-    by true e = cc
-    by false e = cc
-placed_behind version (Within (suc more)) Base n intent before rows new row leads placed = absurd (by (may_take version rows row) leads)
-  where
-    by : (b : Bool) → cond b (Stands (InGroup before intent (taken rows row) more)) (Fails (RepeatedId (line_after n))) ≡ Stands (InBase new) → ⊥
-    by true e = cc
-    by false e = cc
+placed_behind version (Within zero) Base n intent before rows new row leads placed =
+    absurd (neither (may_take version rows row) (Stands (BetweenGroups (taken rows row) None)) (Fails (RepeatedId (line_after n)))
+    (InBase new) leads (λ e. cc) (λ e. cc))
+placed_behind version (Within (suc more)) Base n intent before rows new row leads placed =
+    absurd (neither (may_take version rows row) (Stands (InGroup before intent (taken rows row) more)) (Fails (RepeatedId (line_after n)))
+    (InBase new) leads (λ e. cc) (λ e. cc))
 
 open_within : (next : Part) (intent : Option Intent) → is_within next ≡ true → open_behind next intent ≡ intent
 open_within Base intent within = refl
@@ -172,15 +171,12 @@ Reads-intent bytes older part open' rows rest number front intent behind were is
   good = were.good;
 }
 
-pub Reads-fails : (bytes : List ℕ) (older : Bool) (part : Part) (intent : Option Intent) (rows : List Row) (rest : List ℕ) (number front : ℕ) (row : Row) (behind : List ℕ) (fault : SeenFault) → Reads bytes older part intent rows rest number front
-    → IsRow row → rest ≡ text_of (RowLine row) ++ behind → RefusesRow older part rows row number fault → Means bytes (Fault fault)
-Reads-fails bytes older part intent rows rest number front row behind fault were is line refuses =
-    behind_fails (version_of older) bytes were.n (progress_of part intent were.before rows) rest (RowLine row) behind fault were.behind is line (refuses were.n were.before intent were.number_is)
-
-pub Reads-intent_fails : (bytes : List ℕ) (older : Bool) (part : Part) (open' : Option Intent) (rows : List Row) (rest : List ℕ) (number front : ℕ) (intent : Intent) (behind : List ℕ) (fault : SeenFault) → Reads bytes older part open' rows rest number front
-    → IsIntent intent → rest ≡ text_of (IntentLine intent) ++ behind → RefusesIntent older part open' rows intent number fault → Means bytes (Fault fault)
-Reads-intent_fails bytes older part open' rows rest number front intent behind fault were is line refuses =
-    behind_fails (version_of older) bytes were.n (progress_of part open' were.before rows) rest (IntentLine intent) behind fault were.behind is line (refuses were.n were.before were.number_is)
+pub Reads-fails : (bytes : List ℕ) (older : Bool) (part : Part) (intent : Option Intent) (rows : List Row) (rest : List ℕ) (number front : ℕ) (line : Line) (behind : List ℕ) (fault : SeenFault) → Reads bytes older part intent rows rest number front
+    → IsLine line → rest ≡ text_of line ++ behind
+    → ((n : ℕ) (before : List Row) → number ≡ line_after n → after_line (version_of older) n (progress_of part intent before rows) line ≡ Fails fault) → Means bytes (Fault fault)
+Reads-fails bytes older part intent rows rest number front line behind fault were is rest_is refuses =
+    behind_fails (version_of older) bytes were.n (progress_of part intent were.before rows) rest line behind fault were.behind is rest_is
+    (refuses were.n were.before were.number_is)
 
 refused : (version : Version) (part : Part) (n : ℕ) (intent : Option Intent) (before rows : List Row) (count : ℕ) → is_within part ≡ true → after_line version n (progress_of part intent before rows) (GroupLine count) ≡ Fails (BadRow (line_after n))
 refused version Base n intent before rows count within = absurd (true≢false (sym within))
@@ -191,8 +187,9 @@ refused version (Within (suc more)) n intent before rows count within = refl
 pub Reads-group_fails : (bytes : List ℕ) (older : Bool) (part : Part) (intent : Option Intent) (rows : List Row) (rest : List ℕ) (number front : ℕ) (count : ℕ) (behind : List ℕ) → Reads bytes older part intent rows rest number front
     → IsLine (GroupLine count) → rest ≡ text_of (GroupLine count) ++ behind → is_within part ≡ true → Means bytes (Fault (BadRow number))
 Reads-group_fails bytes older part intent rows rest number front count behind were is line within =
-    behind_fails (version_of older) bytes were.n (progress_of part intent were.before rows) rest (GroupLine count) behind (BadRow number) were.behind is line
-    (refused (version_of older) part were.n intent were.before rows count within ∙ ap (λ (k : ℕ). Fails (BadRow k)) (sym were.number_is))
+    Reads-fails bytes older part intent rows rest number front (GroupLine count) behind (BadRow number) were is line
+    (λ n before number_is. refused (version_of older) part n intent before rows count within
+    ∙ ap (λ (k : ℕ). Fails (BadRow k)) (sym number_is))
 
 -- if a group lacks rows, what comes before it is read again
 pub record StoodOpen (bytes : List ℕ) (older : Bool) (front : ℕ) (intent : Option Intent) : Type 0 where

@@ -1,7 +1,7 @@
 -- The lines of a record's file, one by one as `read` takes them, and what a mark appends.
-use Rattle.std.proofs.Common.{◌≡◌, ℕ, ◌+◌, ◌<◌, ◌^◌, List, [], ◌∷◌, ◌++◌, Some, Bool, true, false, ◌&&◌, cond, length, refl, sym, ◌∙◌, ap, subst, append_assoc, inr, arith, length-append, flat_map, ◌==◌, find, option_map, append-nil}
+use Rattle.std.proofs.Common.{◌≡◌, ℕ, ◌+◌, ◌<◌, ◌^◌, List, [], ◌∷◌, ◌++◌, Some, Bool, true, ◌&&◌, cond, length, refl, sym, ◌∙◌, ap, subst, append_assoc, inr, arith, length-append, flat_map, ◌==◌, append-nil, inl}
 use Rattle.std.specs.List.{AllByRecursion, list_any}
-use Rattle.std.proofs.lemmas.Bool.{eq-eqb, or_left, or_right, and_from}
+use Rattle.std.proofs.lemmas.Bool.{cases_Bool, eq-eqb, or_left, or_right, and_from}
 use Rattle.std.proofs.lemmas.List.Concat.{flat_map-append}
 use Rattle.std.proofs.lemmas.List.Elements.{All-push, recursion_from_All, All-cons, All-nil}
 use Rattle.std.proofs.lemmas.Option.{same_Some, none-some}
@@ -70,20 +70,19 @@ now_delivered uid state = record { uid = uid; first_seen = state.first_seen; del
 
 is_there : (uid : List ℕ) (rows : List Row) (state : State) → IsLegalId uid → AllByRecursion IsRow rows → state_in rows uid ≡ Some state → IsThere rows uid state.first_seen
 is_there uid [] state legal each found = absurd (none-some state found)
-is_there uid (row ∷ rows) state legal each found = by (is_of uid row) refl found (λ at. is_there uid rows state legal each.1 at)
-  where
-    by : (here : Bool) → is_of uid row ≡ here → option_map state_of (cond here (Some row) (find (is_of uid) rows)) ≡ Some state
-        → (state_in rows uid ≡ Some state → IsThere rows uid state.first_seen) → IsThere (row ∷ rows) uid state.first_seen
-    by true test at rest =
-        let same = same_Some (state_of row) state at in
-        record {
-          has = or_left _ _ test;
-          there = or_left _ _ (and_from (is_of uid row) (row.first_seen == state.first_seen) test (eq-eqb row.first_seen state.first_seen (ap (λ (s : State). s.first_seen) same)));
-          row = record { legal = legal; fits = subst (λ (k : ℕ). k < 2 ^ 64) (ap (λ (s : State). s.first_seen) same) each.0.fits };
-        }
-    by false test at rest =
-        let there = rest at in
-        record { has = or_right _ _ there.has; there = or_right _ _ there.there; row = there.row }
+is_there uid (row ∷ rows) state legal each found = elim (cases_Bool (is_of uid row)) [
+  | inl test ↦
+      let second = ap (λ (s : State). s.first_seen) (same_Some (state_of row) state (rw test at found)) in
+      record {
+        has = or_left _ _ test;
+        there = or_left _ _ (and_from (is_of uid row) (row.first_seen == state.first_seen) test
+            (eq-eqb row.first_seen state.first_seen second));
+        row = record { legal = legal; fits = subst (λ (k : ℕ). k < 2 ^ 64) second each.0.fits };
+      }
+  | inr test ↦
+      let there = is_there uid rows state legal each.1 (rw test at found) in
+      record { has = or_right _ _ there.has; there = or_right _ _ there.there; row = there.row }
+]
 
 -- what a mark writes is a group, and the rows after it are the marked ones
 pub IsGroup-mark : (uid : List ℕ) (rows : List Row) (state : State) → IsLegalId uid → IsRecord rows → state_in rows uid ≡ Some state

@@ -3,8 +3,8 @@ use Rattle.std.proofs.Common.{◌≡◌, ◌≢◌, ◌⊎◌, inl, inr, ◌<◌
 use Rattle.std.specs.List.{AllByRecursion, list_any}
 use Rattle.std.specs.Bool.{OnTrue}
 use Rattle.std.specs.Map.{keys_of, lookup, set_value}
-use Rattle.std.proofs.Math.Bool.{or-false}
-use Rattle.std.proofs.lemmas.Bool.{true≢false, or_parts}
+use Rattle.std.proofs.Math.Bool.{or-false, or-true, and-not_self}
+use Rattle.std.proofs.lemmas.Bool.{true≢false, cases_Bool, or_parts}
 use Rattle.std.proofs.lemmas.List.Elements.{All-from_get_or, recursion_from_All, All-from_recursion}
 use Rattle.std.proofs.lemmas.List.{length-map}
 use Rattle.std.proofs.lemmas.List.Quantifiers.{position-Some}
@@ -12,23 +12,21 @@ use Rattle.std.proofs.lemmas.Option.{same_Some, none-some}
 use Rattle.indexmap.specs.IndexMap.{insert_entry}
 use Rattle.mail_terms.specs.Distinct.{AreDistinct}
 use Rattle.mail_terms.specs.UniqueId.{IsLegalId}
-use Rattle.fetch_rules.specs.Record.{Row, Intent, IsRow, IsRecord, is_of, has_row, marked, with_delivered, is_delivered}
+use Rattle.fetch_rules.specs.Record.{Row, Intent, IsRow, IsRecord, is_of, has_row, marked, is_delivered}
 use Rattle.fetch_rules.specs.RecordFile.{changed, marking, written}
 use Rattle.fetch_rules.specs.Intents.{has_intent}
 use Rattle.fetch_rules.specs.Rows.{row_from, row_of, rows_of, state_of, state_in}
 use Rattle.fetch_rules.specs.declared.seen.row_map.State.{State}
 use Rattle.fetch_rules.proofs.IdLemmas.{same_from_test, test_from_same, test_from_other}
-use Rattle.fetch_rules.proofs.RecordLemmas.{with_delivered-false, with_delivered-true, rows_differ, rest_of, IsRecord-push}
+use Rattle.fetch_rules.proofs.RecordLemmas.{rows_differ, rest_of, IsRecord-push}
 use Rattle.fetch_rules.proofs.DeliveredLemmas.{changed-same}
 
 pub lookup_state : (uid : List ℕ) (es : List (String Global × State)) → lookup (λ key. bytes_eq uid (string_bytes key)) es ≡ state_in (rows_of es) uid
 lookup_state uid [] = refl
-lookup_state uid (e ∷ es) = by (bytes_eq uid (string_bytes e.0)) (lookup_state uid es)
-  where
-    by : (here : Bool) → lookup (λ key. bytes_eq uid (string_bytes key)) es ≡ state_in (rows_of es) uid
-        → cond here (Some e.1) (lookup (λ key. bytes_eq uid (string_bytes key)) es) ≡ option_map state_of (cond here (Some (row_of e)) (find (is_of uid) (rows_of es)))
-    by true rest = refl
-    by false rest = rest
+lookup_state uid (e ∷ es) = elim (cases_Bool (bytes_eq uid (string_bytes e.0))) [
+  | inl here ↦ rw here refl
+  | inr other ↦ rw other (lookup_state uid es)
+]
 
 -- no row after an id's row has this id
 pub apart : (uid : List ℕ) (row : Row) (rows : List Row) → IsRecord (row ∷ rows) → is_of uid row ≡ true → AllByRecursion (λ other. is_of uid other ≡ false) rows
@@ -37,28 +35,18 @@ apart uid row rows is here = recursion_from_All (λ other. is_of uid other ≡ f
 
 pub unmarked : (uid : List ℕ) (rows : List Row) → AllByRecursion (λ other. is_of uid other ≡ false) rows → marked rows uid ≡ rows
 unmarked uid [] none = refl
-unmarked uid (row ∷ rows) none =
-    ap (λ (b : Bool). with_delivered b row ∷ marked rows uid) none.0
-    ∙ ap (λ (r : Row). r ∷ marked rows uid) (with_delivered-false row)
-    ∙ ap (λ (rs : List Row). row ∷ rs) (unmarked uid rows none.1)
+unmarked uid (row ∷ rows) none = rw (none.0, or-false, unmarked uid rows none.1) refl
 
 set_here : (uid : List ℕ) (es : List (String Global × State)) (state new : State) → IsRecord (rows_of es) → lookup (λ key. bytes_eq uid (string_bytes key)) es ≡ Some state → new ≡ record state { delivered = true }
     → rows_of (set_value (λ key. bytes_eq uid (string_bytes key)) es new) ≡ marked (rows_of es) uid
 set_here uid [] state new is found new_is = refl
-set_here uid (e ∷ es) state new is found new_is = by (bytes_eq uid (string_bytes e.0)) refl found (λ at. set_here uid es state new (rest_of (row_of e) (rows_of es) is) at new_is)
-  where
-    by : (here : Bool) → bytes_eq uid (string_bytes e.0) ≡ here → cond here (Some e.1) (lookup (λ key. bytes_eq uid (string_bytes key)) es) ≡ Some state
-        → (lookup (λ key. bytes_eq uid (string_bytes key)) es ≡ Some state → rows_of (set_value (λ key. bytes_eq uid (string_bytes key)) es new) ≡ marked (rows_of es) uid)
-        → rows_of (cond here ((e.0, new) ∷ es) (e ∷ set_value (λ key. bytes_eq uid (string_bytes key)) es new)) ≡ marked (row_of e ∷ rows_of es) uid
-    by true test at rest =
-        ap (λ (s : State). row_of (e.0, s) ∷ rows_of es) (new_is ∙ ap (λ (s : State). record s { delivered = true }) (sym (same_Some e.1 state at)))
-        ∙ ap (λ (r : Row). r ∷ rows_of es) (sym (with_delivered-true (row_of e)))
-        ∙ ap (λ (b : Bool). with_delivered b (row_of e) ∷ rows_of es) (sym test)
-        ∙ ap (λ (rs : List Row). with_delivered (is_of uid (row_of e)) (row_of e) ∷ rs) (sym (unmarked uid (rows_of es) (apart uid (row_of e) (rows_of es) is test)))
-    by false test at rest =
-        ap (λ (rs : List Row). row_of e ∷ rs) (rest at)
-        ∙ ap (λ (r : Row). r ∷ marked (rows_of es) uid) (sym (with_delivered-false (row_of e)))
-        ∙ ap (λ (b : Bool). with_delivered b (row_of e) ∷ marked (rows_of es) uid) (sym test)
+set_here uid (e ∷ es) state new is found new_is = elim (cases_Bool (bytes_eq uid (string_bytes e.0))) [
+  | inl test ↦ rw (test, unmarked uid (rows_of es) (apart uid (row_of e) (rows_of es) is test), or-true)
+      (ap (λ (s : State). row_of (e.0, s) ∷ rows_of es) (new_is
+      ∙ ap (λ (s : State). record s { delivered = true }) (sym (same_Some e.1 state (rw test at found)))))
+  | inr test ↦ rw (test, or-false) (ap (λ (rs : List Row). row_of e ∷ rs)
+      (set_here uid es state new (rest_of (row_of e) (rows_of es) is) (rw test at found) new_is))
+]
 
 pub marked_from_set : (uid : List ℕ) (es fs : List (String Global × State)) (state new : State) → IsRecord (rows_of es) → Some state ≡ lookup (λ key. bytes_eq uid (string_bytes key)) es → new ≡ record state { delivered = true }
     → fs ≡ set_value (λ key. bytes_eq uid (string_bytes key)) es new → rows_of fs ≡ marked (rows_of es) uid
@@ -66,12 +54,10 @@ marked_from_set uid es fs state new is found new_is fs_is = ap rows_of fs_is ∙
 
 none_here : (uid : List ℕ) (rows : List Row) → state_in rows uid ≡ None → AllByRecursion (λ other. is_of uid other ≡ false) rows
 none_here uid [] none = tt
-none_here uid (row ∷ rows) none = by (is_of uid row) refl none (λ at. none_here uid rows at)
-  where
-    by : (here : Bool) → is_of uid row ≡ here → option_map state_of (cond here (Some row) (find (is_of uid) rows)) ≡ None
-        → (state_in rows uid ≡ None → AllByRecursion (λ other. is_of uid other ≡ false) rows) → AllByRecursion (λ other. is_of uid other ≡ false) (row ∷ rows)
-    by true test at rest = absurd (none-some (state_of row) (sym at))
-    by false test at rest = (test, rest at)
+none_here uid (row ∷ rows) none = elim (cases_Bool (is_of uid row)) [
+  | inl test ↦ absurd (none-some (state_of row) (sym (rw test at none)))
+  | inr test ↦ (test, none_here uid rows (rw test at none))
+]
 
 pub unmarked_none : (uid : List ℕ) (rows : List Row) → state_in rows uid ≡ None → marked rows uid ≡ rows
 unmarked_none uid rows none = unmarked uid rows (none_here uid rows none)
@@ -80,29 +66,15 @@ unmarked_none uid rows none = unmarked uid rows (none_here uid rows none)
 pub changed-marked : (uid : List ℕ) (rows : List Row) (state : State) → IsRecord rows → state_in rows uid ≡ Some state → state.delivered ≡ false
     → changed rows (marked rows uid) ≡ record { uid = uid; first_seen = state.first_seen; delivered = true } ∷ []
 changed-marked uid [] state is found fresh = absurd (none-some state found)
-changed-marked uid (row ∷ rows) state is found fresh = by (is_of uid row) refl found (λ at. changed-marked uid rows state (rest_of row rows is) at fresh)
-  where
-    by : (here : Bool) → is_of uid row ≡ here → option_map state_of (cond here (Some row) (find (is_of uid) rows)) ≡ Some state
-        → (state_in rows uid ≡ Some state → changed rows (marked rows uid) ≡ record { uid = uid; first_seen = state.first_seen; delivered = true } ∷ [])
-        → changed (row ∷ rows) (marked (row ∷ rows) uid) ≡ record { uid = uid; first_seen = state.first_seen; delivered = true } ∷ []
-    by true test at rest =
-        let same = same_Some (state_of row) state at in
-        ap (λ (rs : List Row). changed (row ∷ rows) (with_delivered (is_of uid row) row ∷ rs)) (unmarked uid rows (apart uid row rows is test))
-        ∙ ap (λ (b : Bool). changed (row ∷ rows) (with_delivered b row ∷ rows)) test
-        ∙ ap (λ (r : Row). changed (row ∷ rows) (r ∷ rows)) (with_delivered-true row)
-        ∙ ap (λ (d : Bool). cond (true && not d) (record row { delivered = true } ∷ changed rows rows) (changed rows rows)) (ap (λ (s : State). s.delivered) same ∙ fresh)
-        ∙ ap (λ (rs : List Row). record row { delivered = true } ∷ rs) (changed-same rows)
-        ∙ ap (λ (u : List ℕ). record { uid = u; first_seen = row.first_seen; delivered = true } ∷ []) (sym (same_from_test uid row.uid test))
-        ∙ ap (λ (s : State). record { uid = uid; first_seen = s.first_seen; delivered = true } ∷ []) same
-    by false test at rest =
-        ap (λ (b : Bool). changed (row ∷ rows) (with_delivered b row ∷ marked rows uid)) test
-        ∙ ap (λ (r : Row). changed (row ∷ rows) (r ∷ marked rows uid)) (with_delivered-false row)
-        ∙ kept row.delivered
-        ∙ rest at
-      where
-        kept : (d : Bool) → cond (d && not d) (row ∷ changed rows (marked rows uid)) (changed rows (marked rows uid)) ≡ changed rows (marked rows uid)
-        kept true = refl
-        kept false = refl
+changed-marked uid (row ∷ rows) state is found fresh = elim (cases_Bool (is_of uid row)) [
+  | inl test ↦
+      let same = same_Some (state_of row) state (rw test at found) in
+      let before : row.delivered ≡ false = ap (λ (s : State). s.delivered) same ∙ fresh in
+      rw (test, unmarked uid rows (apart uid row rows is test), before, changed-same rows)
+      (ap (λ (u : List ℕ). record { uid = u; first_seen = row.first_seen; delivered = true } ∷ []) (sym (same_from_test uid row.uid test))
+      ∙ ap (λ (s : State). record { uid = uid; first_seen = s.first_seen; delivered = true } ∷ []) same)
+  | inr test ↦ rw (test, or-false, and-not_self) (changed-marked uid rows state (rest_of row rows is) (rw test at found) fresh)
+]
 
 none_kept : (uid : List ℕ) (rows : List Row) → AllByRecursion (λ other. is_of uid other ≡ false) rows → filter (is_of uid) rows ≡ []
 none_kept uid [] none = refl
@@ -112,22 +84,13 @@ none_kept uid (row ∷ rows) none = ap (λ (b : Bool). cond b (row ∷ filter (i
 pub filter-marked : (uid : List ℕ) (rows : List Row) (state : State) → IsRecord rows → state_in rows uid ≡ Some state
     → filter (is_of uid) (marked rows uid) ≡ record { uid = uid; first_seen = state.first_seen; delivered = true } ∷ []
 filter-marked uid [] state is found = absurd (none-some state found)
-filter-marked uid (row ∷ rows) state is found = by (is_of uid row) refl found (λ at. filter-marked uid rows state (rest_of row rows is) at)
-  where
-    by : (here : Bool) → is_of uid row ≡ here → option_map state_of (cond here (Some row) (find (is_of uid) rows)) ≡ Some state
-        → (state_in rows uid ≡ Some state → filter (is_of uid) (marked rows uid) ≡ record { uid = uid; first_seen = state.first_seen; delivered = true } ∷ [])
-        → filter (is_of uid) (marked (row ∷ rows) uid) ≡ record { uid = uid; first_seen = state.first_seen; delivered = true } ∷ []
-    by true test at rest =
-        ap (λ (b : Bool). cond b (with_delivered (is_of uid row) row ∷ filter (is_of uid) (marked rows uid)) (filter (is_of uid) (marked rows uid))) test
-        ∙ ap (λ (b : Bool). with_delivered b row ∷ filter (is_of uid) (marked rows uid)) test
-        ∙ ap (λ (r : Row). r ∷ filter (is_of uid) (marked rows uid)) (with_delivered-true row)
-        ∙ ap (λ (rs : List Row). record row { delivered = true } ∷ filter (is_of uid) rs) (unmarked uid rows (apart uid row rows is test))
-        ∙ ap (λ (rs : List Row). record row { delivered = true } ∷ rs) (none_kept uid rows (apart uid row rows is test))
-        ∙ ap (λ (u : List ℕ). record { uid = u; first_seen = row.first_seen; delivered = true } ∷ []) (sym (same_from_test uid row.uid test))
-        ∙ ap (λ (s : State). record { uid = uid; first_seen = s.first_seen; delivered = true } ∷ []) (same_Some (state_of row) state at)
-    by false test at rest =
-        ap (λ (b : Bool). cond b (with_delivered (is_of uid row) row ∷ filter (is_of uid) (marked rows uid)) (filter (is_of uid) (marked rows uid))) test
-        ∙ rest at
+filter-marked uid (row ∷ rows) state is found = elim (cases_Bool (is_of uid row)) [
+  | inl test ↦ rw (test, unmarked uid rows (apart uid row rows is test), none_kept uid rows (apart uid row rows is test), or-true)
+      (ap (λ (u : List ℕ). record { uid = u; first_seen = row.first_seen; delivered = true } ∷ []) (sym (same_from_test uid row.uid test))
+      ∙ ap (λ (s : State). record { uid = uid; first_seen = s.first_seen; delivered = true } ∷ [])
+      (same_Some (state_of row) state (rw test at found)))
+  | inr test ↦ rw test (filter-marked uid rows state (rest_of row rows is) (rw test at found))
+]
 
 -- what a mark writes, by the intent that is open
 pub mark_is_written : (intent : Option Intent) (uid : List ℕ) (rows : List Row) (state : State) → IsRecord rows → state_in rows uid ≡ Some state → (state.delivered ≡ false) ⊎ (intent ≢ None)
@@ -154,18 +117,14 @@ unmarked_parts true (Some intent) result is here = inr (λ e. none-some intent (
 -- an id that was delivered stays as it is
 pub marked-delivered : (uid : List ℕ) (rows : List Row) (state : State) → IsRecord rows → state_in rows uid ≡ Some state → state.delivered ≡ true → marked rows uid ≡ rows
 marked-delivered uid [] state is found old = refl
-marked-delivered uid (row ∷ rows) state is found old = by (is_of uid row) refl found (λ at. marked-delivered uid rows state (rest_of row rows is) at old)
-  where
-    by : (here : Bool) → is_of uid row ≡ here → option_map state_of (cond here (Some row) (find (is_of uid) rows)) ≡ Some state
-        → (state_in rows uid ≡ Some state → marked rows uid ≡ rows) → marked (row ∷ rows) uid ≡ row ∷ rows
-    by true test at rest =
-        ap (λ (b : Bool). with_delivered b row ∷ marked rows uid) test
-        ∙ ap (λ (r : Row). r ∷ marked rows uid) (with_delivered-true row ∙ ap (λ (d : Bool). record row { delivered = d }) (sym (ap (λ (s : State). s.delivered) (same_Some (state_of row) state at) ∙ old)))
-        ∙ ap (λ (rs : List Row). row ∷ rs) (unmarked uid rows (apart uid row rows is test))
-    by false test at rest =
-        ap (λ (b : Bool). with_delivered b row ∷ marked rows uid) test
-        ∙ ap (λ (r : Row). r ∷ marked rows uid) (with_delivered-false row)
-        ∙ ap (λ (rs : List Row). row ∷ rs) (rest at)
+marked-delivered uid (row ∷ rows) state is found old = elim (cases_Bool (is_of uid row)) [
+  | inl test ↦
+      let same : row.delivered ≡ true = ap (λ (s : State). s.delivered) (same_Some (state_of row) state (rw test at found)) ∙ old in
+      rw (test, unmarked uid rows (apart uid row rows is test), or-true)
+      (ap (λ (d : Bool). let r : Row = record row { delivered = d } in r ∷ rows) (sym same))
+  | inr test ↦
+      rw (test, or-false) (ap (λ (rs : List Row). row ∷ rs) (marked-delivered uid rows state (rest_of row rows is) (rw test at found) old))
+]
 
 -- what a mark answers
 no_nil : (row : Row) → row ∷ [] ≡ [] → ⊥
@@ -185,18 +144,11 @@ none_of q uid (row ∷ rows) none = ap (λ (b : Bool). (b && q (state_of row)) |
 -- what holds of some row of an id holds of its state
 pub any_of : (q : State → Bool) (uid : List ℕ) (rows : List Row) (state : State) → IsRecord rows → state_in rows uid ≡ Some state → list_any (λ row. is_of uid row && q (state_of row)) rows ≡ q state
 any_of q uid [] state is found = absurd (none-some state found)
-any_of q uid (row ∷ rows) state is found = by (is_of uid row) refl found (λ at. any_of q uid rows state (rest_of row rows is) at)
-  where
-    by : (here : Bool) → is_of uid row ≡ here → option_map state_of (cond here (Some row) (find (is_of uid) rows)) ≡ Some state
-        → (state_in rows uid ≡ Some state → list_any (λ other. is_of uid other && q (state_of other)) rows ≡ q state) → list_any (λ other. is_of uid other && q (state_of other)) (row ∷ rows) ≡ q state
-    by true test at rest =
-        ap (λ (b : Bool). (b && q (state_of row)) || list_any (λ other. is_of uid other && q (state_of other)) rows) test
-        ∙ ap (λ (b : Bool). q (state_of row) || b) (none_of q uid rows (apart uid row rows is test))
-        ∙ or-false (q (state_of row))
-        ∙ ap q (same_Some (state_of row) state at)
-    by false test at rest =
-        ap (λ (b : Bool). (b && q (state_of row)) || list_any (λ other. is_of uid other && q (state_of other)) rows) test
-        ∙ rest at
+any_of q uid (row ∷ rows) state is found = elim (cases_Bool (is_of uid row)) [
+  | inl test ↦
+      rw (test, none_of q uid rows (apart uid row rows is test), or-false) (ap q (same_Some (state_of row) state (rw test at found)))
+  | inr test ↦ rw test (any_of q uid rows state (rest_of row rows is) (rw test at found))
+]
 
 pub is_delivered-none : (uid : List ℕ) (rows : List Row) → state_in rows uid ≡ None → is_delivered rows uid ≡ false
 is_delivered-none uid rows none = none_of (λ state. state.delivered) uid rows (none_here uid rows none)
@@ -245,11 +197,10 @@ pushed uid state es fs rows key rows_are key_is fs_is =
 
 pub is_some-state_in : (uid : List ℕ) (rows : List Row) → is_some (state_in rows uid) ≡ has_row rows uid
 is_some-state_in uid [] = refl
-is_some-state_in uid (row ∷ rows) = by (is_of uid row) (is_some-state_in uid rows)
-  where
-    by : (here : Bool) → is_some (state_in rows uid) ≡ has_row rows uid → is_some (option_map state_of (cond here (Some row) (find (is_of uid) rows))) ≡ here || has_row rows uid
-    by true rest = refl
-    by false rest = rest
+is_some-state_in uid (row ∷ rows) = elim (cases_Bool (is_of uid row)) [
+  | inl here ↦ rw here refl
+  | inr other ↦ rw other (is_some-state_in uid rows)
+]
 
 -- no row is of an id that isn't legal
 illegal : (uid : List ℕ) (rows : List Row) → AllByRecursion IsRow rows → (IsLegalId uid → ⊥) → AllByRecursion (λ other. is_of uid other ≡ false) rows
@@ -305,38 +256,31 @@ is_key key other = bytes_eq (string_bytes key) (string_bytes other)
 
 insert_is_set : (key : String Global) (old new : State) (es : List (String Global × State)) → lookup (is_key key) es ≡ Some old → insert_entry is_key es key new ≡ set_value (is_key key) es new
 insert_is_set key old new [] found = absurd (none-some old found)
-insert_is_set key old new (e ∷ es) found = by (is_key key e.0) found (λ at. insert_is_set key old new es at)
-  where
-    by : (here : Bool) → cond here (Some e.1) (lookup (is_key key) es) ≡ Some old → (lookup (is_key key) es ≡ Some old → insert_entry is_key es key new ≡ set_value (is_key key) es new)
-        → cond here ((e.0, new) ∷ es) (e ∷ insert_entry is_key es key new) ≡ cond here ((e.0, new) ∷ es) (e ∷ set_value (is_key key) es new)
-    by true at rest = refl
-    by false at rest = ap (λ (others : List (String Global × State)). e ∷ others) (rest at)
+insert_is_set key old new (e ∷ es) found = elim (cases_Bool (is_key key e.0)) [
+  | inl here ↦ rw here refl
+  | inr other ↦ rw other (ap (λ (others : List (String Global × State)). e ∷ others) (insert_is_set key old new es (rw other at found)))
+]
 
 each_set : (test : String Global → Bool) (new : State) (es : List (String Global × State)) → new.first_seen < 2 ^ 64 → AllByRecursion IsRow (rows_of es) → AllByRecursion IsRow (rows_of (set_value test es new))
 each_set test new [] fits each = tt
-each_set test new (e ∷ es) fits each = by (test e.0) (each_set test new es fits each.1)
-  where
-    by : (here : Bool) → AllByRecursion IsRow (rows_of (set_value test es new)) → AllByRecursion IsRow (rows_of (cond here ((e.0, new) ∷ es) (e ∷ set_value test es new)))
-    by true rest = (record { legal = each.0.legal; fits = fits }, each.1)
-    by false rest = (each.0, rest)
+each_set test new (e ∷ es) fits each = elim (cases_Bool (test e.0)) [
+  | inl here ↦ rw here (record { legal = each.0.legal; fits = fits }, each.1)
+  | inr other ↦ rw other (each.0, each_set test new es fits each.1)
+]
 
 ids_kept : (test : String Global → Bool) (new : State) (es : List (String Global × State)) → map (λ (row : Row). row.uid) (rows_of (set_value test es new)) ≡ map (λ (row : Row). row.uid) (rows_of es)
 ids_kept test new [] = refl
-ids_kept test new (e ∷ es) = by (test e.0) (ids_kept test new es)
-  where
-    by : (here : Bool) → map (λ (row : Row). row.uid) (rows_of (set_value test es new)) ≡ map (λ (row : Row). row.uid) (rows_of es)
-        → map (λ (row : Row). row.uid) (rows_of (cond here ((e.0, new) ∷ es) (e ∷ set_value test es new))) ≡ map (λ (row : Row). row.uid) (rows_of (e ∷ es))
-    by true rest = refl
-    by false rest = ap (λ (ids : List (List ℕ)). string_bytes e.0 ∷ ids) rest
+ids_kept test new (e ∷ es) = elim (cases_Bool (test e.0)) [
+  | inl here ↦ rw here refl
+  | inr other ↦ rw other (ap (λ (ids : List (List ℕ)). string_bytes e.0 ∷ ids) (ids_kept test new es))
+]
 
 insert_is_push : (key : String Global) (new : State) (es : List (String Global × State)) → lookup (is_key key) es ≡ None → insert_entry is_key es key new ≡ es ++ (key, new) ∷ []
 insert_is_push key new [] none = refl
-insert_is_push key new (e ∷ es) none = by (is_key key e.0) none (λ at. insert_is_push key new es at)
-  where
-    by : (here : Bool) → cond here (Some e.1) (lookup (is_key key) es) ≡ None → (lookup (is_key key) es ≡ None → insert_entry is_key es key new ≡ es ++ (key, new) ∷ [])
-        → cond here ((e.0, new) ∷ es) (e ∷ insert_entry is_key es key new) ≡ e ∷ (es ++ (key, new) ∷ [])
-    by true at rest = absurd (none-some e.1 (sym at))
-    by false at rest = ap (λ (others : List (String Global × State)). e ∷ others) (rest at)
+insert_is_push key new (e ∷ es) none = elim (cases_Bool (is_key key e.0)) [
+  | inl here ↦ absurd (none-some e.1 (sym (rw here at none)))
+  | inr other ↦ rw other (ap (λ (others : List (String Global × State)). e ∷ others) (insert_is_push key new es (rw other at none)))
+]
 
 -- the map is changed by one row
 pub record Puts (uid : List ℕ) (state : State) (es fs : List (String Global × State)) (rows : List Row) : Type 0 where

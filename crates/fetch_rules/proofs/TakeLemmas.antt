@@ -1,9 +1,8 @@
 -- A row of the file, as the reader takes it.
-use Rattle.std.proofs.Common.{◌≡◌, ◌≢◌, ℕ, zero, suc, List, [], ◌∷◌, ◌++◌, Option, Some, None, Bool, true, false, ◌&&◌, ◌||◌, not, cond, refl, sym, ◌∙◌, ap, subst, ◌==◌, is_some, IfSome, IfNone}
-use Rattle.fetch_rules.specs.RecordFile.{Version}
+use Rattle.std.proofs.Common.{◌≡◌, ◌≢◌, ℕ, zero, suc, List, [], ◌∷◌, ◌++◌, Option, Some, None, Bool, true, false, ◌&&◌, not, refl, sym, ◌∙◌, ap, subst, ◌==◌, is_some, IfSome, IfNone}
 use Rattle.std.proofs.lemmas.Bool.{true≢false, and_parts, eqb-true}
 use Rattle.fetch_rules.specs.Record.{Row, IsRecord, has_row, marked}
-use Rattle.fetch_rules.specs.RecordMeaning.{delivers, Progress, Judged, InBase, BetweenGroups, InGroup, Stands, Fails, line_after}
+use Rattle.fetch_rules.specs.RecordMeaning.{delivers, Fails}
 use Rattle.fetch_rules.specs.Lines.{version_of, is_within, after_row, TakesRow, RefusesRow}
 use Rattle.fetch_rules.specs.Rows.{state_in}
 use Rattle.fetch_rules.specs.declared.seen.row_map.State.{State}
@@ -38,36 +37,22 @@ pub rows_marked : (known : Option State) (uid : List ℕ) (rows new : List Row) 
     → state ≡ record old { delivered = true } → new ≡ marked rows uid
 rows_marked known uid rows new old state found put again = subst (λ (k : Option State). IfSome k (λ was. state ≡ record was { delivered = true } → new ≡ marked rows uid)) found put again
 
-abbrev Tried : Version → List Row → Row → Progress → ℕ → Bool → Judged
-Tried version rows row next n b = cond b (Stands next) (Fails (RepeatedId (line_after n)))
-
 pub takes_new : (older : Bool) (part : Part) (rows : List Row) (row : Row) → part ≢ Between → has_row rows row.uid ≡ false → TakesRow older part rows row (after_row part) (rows ++ row ∷ [])
-takes_new older Base rows row other none = λ n before intent. ap (λ (b : Bool). cond b (Fails (RepeatedId (line_after n))) (Stands (InBase (rows ++ row ∷ [])))) none
+takes_new older Base rows row other none = λ n before intent. rw none refl
 takes_new older Between rows row other none = absurd (other refl)
-takes_new older (Within zero) rows row other none = λ n before intent.
-    ap (λ (b : Bool). cond (not b || delivers (version_of older) rows row) (Stands (BetweenGroups (cond b (marked rows row.uid) (rows ++ row ∷ [])) None)) (Fails (RepeatedId (line_after n)))) none
-takes_new older (Within (suc more)) rows row other none = λ n before intent.
-    ap (λ (b : Bool). cond (not b || delivers (version_of older) rows row) (Stands (InGroup before intent (cond b (marked rows row.uid) (rows ++ row ∷ [])) more)) (Fails (RepeatedId (line_after n)))) none
+takes_new older (Within zero) rows row other none = λ n before intent. rw none refl
+takes_new older (Within (suc more)) rows row other none = λ n before intent. rw none refl
 
 pub takes_old : (older : Bool) (part : Part) (rows : List Row) (row : Row) → is_within part ≡ true → has_row rows row.uid ≡ true → delivers (version_of older) rows row ≡ true → TakesRow older part rows row (after_row part) (marked rows row.uid)
 takes_old older Base rows row within has now = absurd (true≢false (sym within))
 takes_old older Between rows row within has now = absurd (true≢false (sym within))
-takes_old older (Within zero) rows row within has now = λ n before intent.
-    ap (λ (b : Bool). cond (not b || delivers (version_of older) rows row) (Stands (BetweenGroups (cond b (marked rows row.uid) (rows ++ row ∷ [])) None)) (Fails (RepeatedId (line_after n)))) has
-    ∙ ap (Tried (version_of older) rows row (BetweenGroups (marked rows row.uid) None) n) now
-takes_old older (Within (suc more)) rows row within has now = λ n before intent.
-    ap (λ (b : Bool). cond (not b || delivers (version_of older) rows row) (Stands (InGroup before intent (cond b (marked rows row.uid) (rows ++ row ∷ [])) more)) (Fails (RepeatedId (line_after n)))) has
-    ∙ ap (Tried (version_of older) rows row (InGroup before intent (marked rows row.uid) more) n) now
+takes_old older (Within zero) rows row within has now = λ n before intent. rw (has, now) refl
+takes_old older (Within (suc more)) rows row within has now = λ n before intent. rw (has, now) refl
 
 pub refuses_old : (older : Bool) (part : Part) (rows : List Row) (row : Row) (number : ℕ) → part ≢ Between → has_row rows row.uid ≡ true → (is_within part ≡ true → delivers (version_of older) rows row ≡ false) → RefusesRow older part rows row number (RepeatedId number)
-refuses_old older Base rows row number other has later = λ n before intent is.
-    ap (λ (b : Bool). cond b (Fails (RepeatedId (line_after n))) (Stands (InBase (rows ++ row ∷ [])))) has ∙ ap (λ (k : ℕ). Fails (RepeatedId k)) (sym is)
+refuses_old older Base rows row number other has later = λ n before intent is. rw has (ap (λ (k : ℕ). Fails (RepeatedId k)) (sym is))
 refuses_old older Between rows row number other has later = absurd (other refl)
-refuses_old older (Within zero) rows row number other has later = λ n before intent is.
-    ap (λ (b : Bool). cond (not b || delivers (version_of older) rows row) (Stands (BetweenGroups (cond b (marked rows row.uid) (rows ++ row ∷ [])) None)) (Fails (RepeatedId (line_after n)))) has
-    ∙ ap (Tried (version_of older) rows row (BetweenGroups (marked rows row.uid) None) n) (later refl)
-    ∙ ap (λ (k : ℕ). Fails (RepeatedId k)) (sym is)
-refuses_old older (Within (suc more)) rows row number other has later = λ n before intent is.
-    ap (λ (b : Bool). cond (not b || delivers (version_of older) rows row) (Stands (InGroup before intent (cond b (marked rows row.uid) (rows ++ row ∷ [])) more)) (Fails (RepeatedId (line_after n)))) has
-    ∙ ap (Tried (version_of older) rows row (InGroup before intent (marked rows row.uid) more) n) (later refl)
-    ∙ ap (λ (k : ℕ). Fails (RepeatedId k)) (sym is)
+refuses_old older (Within zero) rows row number other has later =
+    λ n before intent is. rw (has, later refl) (ap (λ (k : ℕ). Fails (RepeatedId k)) (sym is))
+refuses_old older (Within (suc more)) rows row number other has later =
+    λ n before intent is. rw (has, later refl) (ap (λ (k : ℕ). Fails (RepeatedId k)) (sym is))

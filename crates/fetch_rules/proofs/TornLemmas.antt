@@ -1,10 +1,11 @@
 -- What is left of an appended group or intent after a loss of power.
 use Rattle.std.proofs.Common.{◌≡◌, ◌≢◌, ◌⊎◌, inl, inr, ℕ, List, [], ◌∷◌, ◌++◌, Bool, true, false, ◌||◌, cond, length, refl, sym, ◌∙◌, ap, subst, append_assoc, arith, flat_map, Option, not, true≢false, ne_eqb}
 use Rattle.std.proofs.Math.Bool.{or-true}
+use Rattle.std.proofs.lemmas.Bool.{cases_Bool, not-true, not-false}
 use Rattle.std.proofs.lemmas.Bool.Decides.{eqb_tells}
 use Rattle.fetch_rules.specs.Record.{Row, Intent}
 use Rattle.fetch_rules.specs.RecordFile.{Version, Two, header, Line, text_of, IsLine}
-use Rattle.fetch_rules.specs.RecordMeaning.{IsCut, Meaning, Rows, Fault, Means, Progress, Judged, judged, left_open, Stands, Fails, InBase, at_end, Ends, line_after, counted, is_open, has_line_feed, has_bytes}
+use Rattle.fetch_rules.specs.RecordMeaning.{IsCut, Meaning, Rows, Fault, Means, Progress, Judged, judged, left_open, Stands, Fails, InBase, at_end, Ends, line_after, counted, has_line_feed, has_bytes}
 use Rattle.fetch_rules.specs.RecordTorn.{IsPartOf, ends_at_zero, TornIsIgnoredOrSeen}
 use Rattle.fetch_rules.specs.declared.seen.SeenFault.TheVariants.{BadRow}
 use Rattle.fetch_rules.proofs.LineLemmas.{HasNo, body_of, ends_clash}
@@ -41,24 +42,21 @@ piece_of : (version : Version) (bytes : List ℕ) (lines : List Line) (rest : Li
     → IsCut version bytes lines rest → judged version 0 (Stands (InBase [])) lines ≡ so_far
     → Ends version (length lines) so_far rest (Rows Two rows intent torn) → HasPiece bytes rows intent
 piece_of version bytes lines rest (Fails fault) rows intent torn cut is e = absurd (rows_no_fault e)
-piece_of version bytes lines rest (Stands progress) rows intent torn cut is e = by (has_line_feed rest) refl e.1
-  where
-    by : (b : Bool) → has_line_feed rest ≡ b
-        → Rows Two rows intent torn ≡ cond b (Fault (BadRow (line_after (length lines)))) (Rows version (counted progress) (left_open progress) (is_open progress || has_bytes rest))
-        → HasPiece bytes rows intent
-    by true feed h = absurd (rows_no_fault h)
-    by false none h =
-        let same = same_rows h in
-        record {
-          lines = lines;
-          rest = rest;
-          progress = progress;
-          cut = subst (λ (v : Version). IsCut v bytes lines rest) (sym same.0) cut;
-          is = subst (λ (v : Version). judged v 0 (Stands (InBase [])) lines ≡ Stands progress) (sym same.0) is;
-          plain = no_feed rest none;
-          rows_are = same.1;
-          intent_is = same.2;
-        }
+piece_of version bytes lines rest (Stands progress) rows intent torn cut is e = elim (cases_Bool (has_line_feed rest)) [
+  | inl feed ↦ absurd (rows_no_fault (rw feed at e.1))
+  | inr none ↦
+      let same = same_rows (rw none at e.1) in
+      record {
+        lines = lines;
+        rest = rest;
+        progress = progress;
+        cut = subst (λ (v : Version). IsCut v bytes lines rest) (sym same.0) cut;
+        is = subst (λ (v : Version). judged v 0 (Stands (InBase [])) lines ≡ Stands progress) (sym same.0) is;
+        plain = no_feed rest none;
+        rows_are = same.1;
+        intent_is = same.2;
+      }
+]
 
 has_piece : (bytes : List ℕ) (rows : List Row) (intent : Option Intent) (torn : Bool) → bytes ≢ [] → Means bytes (Rows Two rows intent torn) → HasPiece bytes rows intent
 has_piece bytes rows intent torn some (inl none) = absurd (some none.0)
@@ -91,21 +89,23 @@ feeds_behind : (front more : List ℕ) → HasNo 10 front → has_line_feed (fro
 feeds_behind [] more none = refl
 feeds_behind (byte ∷ front) more none = ap (λ (b : Bool). b || has_line_feed (front ++ 0 ∷ more)) (ne_eqb byte 10 none.0) ∙ feeds_behind front more none.1
 
-abbrev at_end_if : Bool → ℕ → Progress → List ℕ → Meaning
-at_end_if feed n progress rest = cond feed (Fault (BadRow (line_after n))) (Rows Two (counted progress) (left_open progress) (is_open progress || has_bytes rest))
-
 zero_ignored : (bytes more : List ℕ) (rows : List Row) (intent : Option Intent) → HasPiece bytes rows intent → has_line_feed more ≡ false → Means (bytes ++ 0 ∷ more) (Rows Two rows intent true)
-zero_ignored bytes more rows intent p none = ended_by bytes more rows intent _ p
-    (ap (λ (r : List Row). Rows Two r intent true) p.rows_are
-    ∙ ap (λ (i : Option Intent). Rows Two (counted p.progress) i true) p.intent_is
-    ∙ ap (λ (t : Bool). Rows Two (counted p.progress) (left_open p.progress) t) (sym (ap (λ (b : Bool). is_open p.progress || b) (has_bytes_behind p.rest 0 more) ∙ or-true (is_open p.progress)))
-    ∙ ap (λ (b : Bool). at_end_if b (length p.lines) p.progress (p.rest ++ 0 ∷ more)) (sym (feeds_behind p.rest more p.plain ∙ none)))
+zero_ignored bytes more rows intent p none =
+    ended_by bytes more rows intent _ p (rw (
+      p.rows_are,
+      p.intent_is,
+      feeds_behind p.rest more p.plain,
+      none,
+      has_bytes_behind p.rest 0
+          more,
+      or-true,
+    ) refl)
 
 zero_seen : (bytes more : List ℕ) (rows : List Row) (intent : Option Intent) → HasPiece bytes rows intent → has_line_feed more ≡ true
     → (line : ℕ) × Means (bytes ++ 0 ∷ more) (Fault (BadRow line))
 zero_seen bytes more rows intent p feed = (
   line_after (length p.lines),
-  ended_by bytes more rows intent _ p (ap (λ (b : Bool). at_end_if b (length p.lines) p.progress (p.rest ++ 0 ∷ more)) (sym (feeds_behind p.rest more p.plain ∙ feed))),
+  ended_by bytes more rows intent _ p (rw (feeds_behind p.rest more p.plain, feed) refl),
 )
 
 -- ---- what is left
@@ -155,14 +155,6 @@ longer_some : (bytes front : List ℕ) → bytes ≢ [] → bytes ++ front ≢ [
 longer_some [] front some e = some refl
 longer_some (byte ∷ bytes) front some e = cc
 
-not_true : (b : Bool) → not b ≡ true → b ≡ false
-not_true true e = absurd (true≢false (sym e))
-not_true false e = refl
-
-not_false : (b : Bool) → not b ≡ false → b ≡ true
-not_false true e = refl
-not_false false e = absurd (true≢false e)
-
 pub torn_ignored_or_seen : TornIsIgnoredOrSeen
 torn_ignored_or_seen bytes added left old new before after some means grows part other = by s.kind
   where
@@ -178,20 +170,10 @@ torn_ignored_or_seen bytes added left old new before after some means grows part
     by : ((left ≡ s.front) × (ends_at_zero left ≡ true)) ⊎ ((more : List ℕ) × (left ≡ s.front ++ 0 ∷ more) × (ends_at_zero left ≡ not (has_line_feed more)))
         → (ends_at_zero left ≡ true → Means (bytes ++ left) (Rows Two old before (has_bytes left)))
         × (ends_at_zero left ≡ false → (line : ℕ) × Means (bytes ++ left) (Fault (BadRow line)))
-    by (inl k) = (
-      λ ends. subst (λ (xs : List ℕ). Means (bytes ++ xs) (Rows Two old before (has_bytes xs))) (sym k.0) cut,
-      λ ends. absurd (true≢false (sym k.1 ∙ ends)),
-    )
+    by (inl k) = (λ ends. rw k.0 cut, λ ends. absurd (true≢false (sym k.1 ∙ ends)))
     by (inr k) = (
-      λ ends.
-          subst (λ (xs : List ℕ). Means (bytes ++ xs) (Rows Two old before (has_bytes xs))) (sym k.1)
-          (subst (λ (t : Bool). Means (bytes ++ (s.front ++ 0 ∷ k.0)) (Rows Two old before t)) (sym (has_bytes_behind s.front 0 k.0))
-          (subst (λ (xs : List ℕ). Means xs (Rows Two old before true)) (append_assoc bytes s.front (0 ∷ k.0))
-          (zero_ignored (bytes ++ s.front) k.0 old before piece (not_true (has_line_feed k.0) (sym k.2 ∙ ends))))),
-      λ ends.
-          let seen = zero_seen (bytes ++ s.front) k.0 old before piece (not_false (has_line_feed k.0) (sym k.2 ∙ ends)) in (
-            seen.0,
-            subst (λ (xs : List ℕ). Means xs (Fault (BadRow seen.0))) (ap (λ (xs : List ℕ). bytes ++ xs) (sym k.1))
-                (subst (λ (xs : List ℕ). Means xs (Fault (BadRow seen.0))) (append_assoc bytes s.front (0 ∷ k.0)) seen.1),
-          ),
+      λ ends. rw (k.1, has_bytes_behind s.front 0 k.0, ← append_assoc bytes s.front (0 ∷ k.0))
+          (zero_ignored (bytes ++ s.front) k.0 old before piece (not-true (has_line_feed k.0) (sym k.2 ∙ ends))),
+      λ ends. rw (k.1, ← append_assoc bytes s.front (0 ∷ k.0))
+          (zero_seen (bytes ++ s.front) k.0 old before piece (not-false (has_line_feed k.0) (sym k.2 ∙ ends))),
     )

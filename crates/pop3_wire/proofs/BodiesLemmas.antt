@@ -46,39 +46,6 @@ heard_on w gained more used waits n e =
     ∙ ap (λ (l : List ℕ). used ++ l) (sym (take-append-drop n (waits ++ more)))
     ∙ sym (append_assoc used (take n (waits ++ more)) (drop n (waits ++ more)))
 
--- if nothing more came, all octets of the body that have come were used
-pub cause_of_nothing : (fault : BodyFault) (limit left : ℕ) (spot : Spot) (a b c : Link) (w gained used text : List ℕ)
-    → Reaches spot used text → spot ≢ Done → length used + left ≡ limit → 0 < left → w ++ gained ≡ used ++ []
-    → Drew a b gained → GoesOn a b → DrawsNothing fault b c
-    → Drew a c gained × BodyCause limit fault a c (w ++ gained)
-cause_of_nothing fault limit left spot a b c w gained used text reached other sizes some heard drew onward nothing = cause fault nothing
-  where
-    all : w ++ gained ≡ used
-    all = heard ∙ append-nil used
-
-    none : HasNoBody (w ++ gained)
-    none = subst HasNoBody (sym all) (reached_no_body spot used text reached other)
-
-    short : length (w ++ gained) < limit
-    short = let size : length (w ++ gained) ≡ length used = ap length all in omega arith
-
-    drawn : (l : List ℕ) → gained ++ [] ≡ l → Drew b c [] → Drew a c l
-    drawn l e then = subst (Drew a c) e (drew_on a b c gained [] drew then)
-
-    cause : (f : BodyFault) → DrawsNothing f b c → Drew a c gained × BodyCause limit f a c (w ++ gained)
-    cause Ended n = (drawn gained (append-nil gained) n.0, (none, short, n.1, n.2 ∙ onward.failures))
-    cause Failed n = (drawn gained (append-nil gained) n.0, (none, short, n.1 ∙ onward.ended, n.2 ∙ ap (λ (k : ℕ). k + 1) onward.failures))
-    cause TooLong n = absurd n
-
--- the limit was reached before the body ended
-pub cause_of_limit : (limit : ℕ) (spot : Spot) (w gained used waits text : List ℕ) → Reaches spot used text → spot ≢ Done
-    → length used ≡ limit → w ++ gained ≡ used ++ waits
-    → HasNoBody (take limit (w ++ gained)) × (limit ≤ length (w ++ gained))
-cause_of_limit limit spot w gained used waits text reached other size heard =
-    let front : take limit (w ++ gained) ≡ used = ap (take limit) heard ∙ take_at used waits limit size in
-    let whole : length (w ++ gained) ≡ length used + length waits = ap length heard ∙ length-append used waits in
-    (subst HasNoBody (sym front) (reached_no_body spot used text reached other), omega arith)
-
 -- one more piece was drawn, and some of what waited was used
 pub under_way_on : (limit : ℕ) (old : Place) (link : Link) (waits : List ℕ) (body : Rest) (text : List ℕ) → UnderWay limit old (at link waits) body text
     → (link' : Link) (more waits1 waits2 : List ℕ) (n : ℕ) (spot' : Spot) (put : List ℕ)
@@ -110,18 +77,47 @@ pub under_way_ends : (limit : ℕ) (old : Place) (link : Link) (waits : List ℕ
     → body.spot ≢ Done → 0 < body.left → (fault : BodyFault) (link' : Link) (waits' : List ℕ) → waits ≡ [] → waits' ≡ [] → DrawsNothing fault link link'
     → LeavesRest limit old (at link' waits') × ((gained : List ℕ) × Drew old.link link' gained × BodyCause limit fault old.link link' (old.waiting ++ gained))
 under_way_ends limit old link waits body text now other some fault link' waits' none none' nothing =
-    let cause = cause_of_nothing fault limit body.left body.spot old.link link link' old.waiting now.gained now.used text
-    now.reached other now.sizes some (now.heard ∙ ap (λ (l : List ℕ). now.used ++ l) none) now.drew now.goes_on nothing in
+    let drew = cause fault nothing in
     let sizes : length now.used + body.left ≡ limit = now.sizes in (
-      record { gained = now.gained; used = now.used; got = cause.0.got; within = omega arith; heard = now.heard ∙ ap (λ (l : List ℕ). now.used ++ l) (none ∙ sym none') },
-      (now.gained, cause.0, cause.1),
+      record {
+        gained = now.gained;
+        used = now.used;
+        got = drew.0.got;
+        within = omega arith;
+        heard = now.heard ∙ ap (λ (l : List ℕ). now.used ++ l) (none ∙ sym none');
+      },
+      (now.gained, drew.0, drew.1),
     )
+  where
+    all : old.waiting ++ now.gained ≡ now.used
+    all = now.heard ∙ ap (λ (l : List ℕ). now.used ++ l) none ∙ append-nil now.used
+
+    no_body : HasNoBody (old.waiting ++ now.gained)
+    no_body = subst HasNoBody (sym all) (reached_no_body body.spot now.used text now.reached other)
+
+    short : length (old.waiting ++ now.gained) < limit
+    short = omega (arith, ap length all, now.sizes, some)
+
+    drawn : (l : List ℕ) → now.gained ++ [] ≡ l → Drew link link' [] → Drew old.link link' l
+    drawn l e then = subst (Drew old.link link') e (drew_on old.link link link' now.gained [] now.drew then)
+
+    cause : (f : BodyFault) → DrawsNothing f link link'
+        → Drew old.link link' now.gained × BodyCause limit f old.link link' (old.waiting ++ now.gained)
+    cause Ended n = (drawn now.gained (append-nil now.gained) n.0, (no_body, short, n.1, n.2 ∙ now.goes_on.failures))
+    cause Failed n = (
+      drawn now.gained (append-nil now.gained) n.0,
+      (no_body, short, n.1 ∙ now.goes_on.ended, n.2 ∙ ap (λ (k : ℕ). k + 1) now.goes_on.failures),
+    )
+    cause TooLong n = absurd n
 
 -- no more octets may be taken
 pub under_way_too_long : (limit : ℕ) (old new : Place) (body : Rest) (text : List ℕ) → UnderWay limit old new body text → body.spot ≢ Done → body.left ≡ 0
     → LeavesRest limit old new × ((gained : List ℕ) × Drew old.link new.link gained × BodyCause limit TooLong old.link new.link (old.waiting ++ gained))
 under_way_too_long limit old new body text now other none =
     let sizes : length now.used + body.left ≡ limit = now.sizes in
-    let whole : length now.used ≡ limit = omega arith in
-    let cause = cause_of_limit limit body.spot old.waiting now.gained now.used new.waiting text now.reached other whole now.heard in
-    (leaves limit old new body text now, (now.gained, now.drew, (cause.0, cause.1, now.goes_on)))
+    let front : take limit (old.waiting ++ now.gained) ≡ now.used =
+    ap (take limit) now.heard ∙ take_at now.used new.waiting limit (omega arith) in
+    let whole : length (old.waiting ++ now.gained) ≡ length now.used + length new.waiting =
+    ap length now.heard ∙ length-append now.used new.waiting in
+    let no_body = subst HasNoBody (sym front) (reached_no_body body.spot now.used text now.reached other) in
+    (leaves limit old new body text now, (now.gained, now.drew, (no_body, omega arith, now.goes_on)))

@@ -4,6 +4,7 @@ use Rattle.std.proofs.lemmas.List.{take_at, append_cancel_left, flat_map_more}
 use Rattle.std.specs.List.{flat_map, AllByRecursion}
 use Rattle.pop3_wire.specs.Line.{crlf, IsLine, ended}
 use Rattle.pop3_wire.specs.Body.{dot, IsContent, kept, body_of, text_of, Body, HasNoBody}
+use Rattle.pop3_wire.specs.Stuffed.{OneBody}
 use Rattle.pop3_wire.proofs.LineLemmas.{first_line_same, cons_same}
 
 -- the bytes begin with these lines of a body, which stand for the text, and the rest follows
@@ -58,7 +59,7 @@ same_lines (line ∷ lines) (other ∷ others) x y content content' e =
     let later = same_lines lines others x y content.1 content'.1 same.1 in
     (cons_same line other lines others same.0 later.0, later.1)
 
-pub one_body : (a b s t x y : List ℕ) → Body a s → Body b t → a ++ x ≡ b ++ y → (a ≡ b) × (s ≡ t) × (x ≡ y)
+pub one_body : OneBody
 one_body a b s t x y left right e =
     let same = same_lines left.lines right.lines x y left.content right.content (sym (ap (λ l. l ++ x) left.whole) ∙ e ∙ ap (λ l. l ++ y) right.whole) in
     (left.whole ∙ ap body_of same.0 ∙ sym right.whole, left.read ∙ ap text_of same.0 ∙ sym right.read, same.1)

@@ -1,13 +1,12 @@
 -- Lines split at spaces.
-use Rattle.std.proofs.Common.{ℕ, ◌+◌, ◌-◌, ◌<◌, ◌≤◌, ◌≡◌, ◌≢◌, true, false, List, [], ◌∷◌, length, take, drop, get_or, refl, sym, ap, ◌∙◌, arith, Err}
+use Rattle.std.proofs.Common.{ℕ, ◌+◌, ◌-◌, ◌<◌, ◌≤◌, ◌≡◌, true, false, List, [], ◌∷◌, length, take, drop, get_or, refl, ap, arith}
 use Rattle.std.specs.List.{position_or_len, after_first, slice_split, count_by}
 use Rattle.std.proofs.lemmas.List.Sums.{fails_before_first, suffix_len_is}
 use Rattle.std.proofs.lemmas.List.Splits.{slice_split_none, slice_split_first, length-slice_split}
 use Rattle.std.proofs.lemmas.List.Elements.{All-from_get_or}
 use Rattle.std.proofs.lemmas.List.{drop_all}
 use Rattle.pop3_wire.specs.Fields.{is_space}
-use Rattle.pop3_wire.specs.CommandLine.{trimmed, no_argument, one_number, number_or_none, two_numbers}
-use Rattle.pop3_wire.specs.declared.fault.WireFault.TheVariants.{BadArgument}
+use Rattle.pop3_wire.specs.CommandLine.{trimmed}
 
 -- a line without a space is one word
 pub one_word : (bytes : List ℕ) → position_or_len is_space bytes ≡ length bytes → slice_split is_space bytes ≡ bytes ∷ []
@@ -25,25 +24,10 @@ pub trimmed_at : (line : List ℕ) (n : ℕ) → n ≤ length line → ((k : ℕ
 trimmed_at line n fits spaces stop = ap (λ k. take k line) (omega (arith, suffix_len_is is_space line n 0 fits spaces stop))
 
 -- a line that is split has at least one part
-pub some_part : (rest : List ℕ) → slice_split is_space rest ≢ []
-some_part rest h = let e : length (slice_split is_space rest) ≡ 0 = ap length h in let l : 0 ≡ count_by is_space rest + 1 = sym e ∙ length-slice_split is_space rest in absurd (omega arith)
-
-pub more_than_none : (words : List (List ℕ)) → words ≢ [] → no_argument words ≡ Err BadArgument
-unfolding no_argument
-more_than_none [] h = absurd (h refl)
-more_than_none (word ∷ more) h = refl
-
-pub more_than_one : (word : List ℕ) (words : List (List ℕ)) → words ≢ [] → one_number (word ∷ words) ≡ Err BadArgument
-unfolding one_number
-more_than_one word [] h = absurd (h refl)
-more_than_one word (other ∷ more) h = refl
-
-pub more_than_one_or_none : (word : List ℕ) (words : List (List ℕ)) → words ≢ [] → number_or_none (word ∷ words) ≡ Err BadArgument
-unfolding number_or_none
-more_than_one_or_none word [] h = absurd (h refl)
-more_than_one_or_none word (other ∷ more) h = refl
-
-pub more_than_two : (word other : List ℕ) (words : List (List ℕ)) → words ≢ [] → two_numbers (word ∷ other ∷ words) ≡ Err BadArgument
-unfolding two_numbers
-more_than_two word other [] h = absurd (h refl)
-more_than_two word other (third ∷ more) h = refl
+pub some_part : (rest : List ℕ) → (first : List ℕ) × (more : List (List ℕ)) × (slice_split is_space rest ≡ first ∷ more)
+some_part rest = parts (slice_split is_space rest) (length-slice_split is_space rest)
+  where
+    parts : (all : List (List ℕ)) → length all ≡ count_by is_space rest + 1
+        → (first : List ℕ) × (more : List (List ℕ)) × (all ≡ first ∷ more)
+    parts [] size = absurd (omega (arith, size))
+    parts (first ∷ more) size = (first, more, refl)

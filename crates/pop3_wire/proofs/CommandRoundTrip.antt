@@ -30,9 +30,6 @@ own = numerals_by_fold _ (search rules) read_on (search rules)
 pub digits_of_decimal : (n : ℕ) → n < 2 ^ 64 → list_all is_ascii_digit (decimal n) ≡ true
 digits_of_decimal n few = digits_decimal own n few
 
-pub no_space : (d : ℕ) → is_ascii_digit d ≡ true → is_space d ≡ false
-no_space d e = grind (arith, nat_tests)
-
 -- it holds no space
 abbrev Word : List ℕ → Type 0
 Word ds = All (λ x. is_space x ≡ false) ds
@@ -41,10 +38,7 @@ word_by : (ds : List ℕ) → list_all (λ x. not (is_space x)) ds ≡ true → 
 word_by ds e = λ k d inside. not-true _ (AllPass-from_list_all (λ x. not (is_space x)) ds e k d inside)
 
 number_word : (n : ℕ) → n < 2 ^ 32 → Word (decimal n)
-number_word n few = λ k d inside. no_space _ (AllPass-from_list_all is_ascii_digit (decimal n) (digits_of_decimal n (omega arith)) k d inside)
-
-some_digit : (n : ℕ) → n < 2 ^ 32 → 0 < length (decimal n)
-some_digit n few = decimal_nonempty n (omega arith)
+number_word n few = λ k d inside. let digit = AllPass-from_list_all is_ascii_digit (decimal n) (digits_of_decimal n (omega arith)) k d inside in grind (arith, nat_tests, digit)
 
 few_digits : (n : ℕ) → n < 2 ^ 32 → length (decimal n) ≤ 10
 few_digits n few = length-decimal-le 10 n (omega arith) (omega arith) (omega arith)
@@ -57,7 +51,7 @@ read_number n few =
     let value : digits_value 10 (decimal n) ≡ n = (decimal_is_IsNumeral n (omega arith)).1 in
     let fits : digits_value 10 (decimal n) ≤ 4294967295 = omega arith in
     let good : (is_numeral (decimal n) && nat_le (digits_value 10 (decimal n)) 4294967295) ≡ true =
-    and_from _ _ (and_from _ _ (and_from _ _ (lt-ltb 0 (length (decimal n)) (some_digit n few)) (le-leb (length (decimal n)) 20 (omega arith))) (digits_of_decimal n (omega arith))) (le-leb _ _ fits) in
+    and_from _ _ (and_from _ _ (and_from _ _ (lt-ltb 0 (length (decimal n)) (decimal_nonempty n (omega arith))) (le-leb (length (decimal n)) 20 (omega arith))) (digits_of_decimal n (omega arith))) (le-leb _ _ fits) in
     cond-true _ _ _ (le-leb (length (decimal n)) 10 short) ∙ cond-true _ _ _ good ∙ ap (λ (v : ℕ). Ok v) value
 
 -- a line that doesn't end in a space stays as it is
@@ -103,7 +97,7 @@ numbered front n word short few =
     let digits : length (decimal n) ≤ 10 = few_digits n few in
     short_line (front ++ 32 ∷ decimal n) (omega arith)
     ∙ ap (λ (words : List (List ℕ)). command_by (keyword_of (before_first is_space (front ++ 32 ∷ decimal n))) (rest_of (front ++ 32 ∷ decimal n)) words)
-    (arguments_one front (decimal n) (word_by front word) (number_word n few) (some_digit n few))
+    (arguments_one front (decimal n) (word_by front word) (number_word n few) (decimal_nonempty n (omega arith)))
 
 -- a keyword and two numbers
 numbered_twice : (front : List ℕ) (n k : ℕ) → list_all (λ x. not (is_space x)) front ≡ true → length front ≤ 4 → n < 2 ^ 32 → k < 2 ^ 32
@@ -116,12 +110,7 @@ numbered_twice front n k word short few less line is =
     let more : length (decimal k) ≤ 10 = few_digits k less in
     short_line line (omega arith)
     ∙ ap (λ (words : List (List ℕ)). command_by (keyword_of (before_first is_space line)) (rest_of line) words)
-    (ap arguments is ∙ arguments_two front (decimal n) (decimal k) (word_by front word) (number_word n few) (number_word k less) (some_digit k less))
-
--- the argument of USER or PASS
-text_kept : (text : List ℕ) → is_credential text ≡ true → text_argument text ≡ Ok text
-unfolding text_argument
-text_kept text good = cond-true _ _ _ good
+    (ap arguments is ∙ arguments_two front (decimal n) (decimal k) (word_by front word) (number_word n few) (number_word k less) (decimal_nonempty k (omega arith)))
 
 text_short : (text : List ℕ) → is_credential text ≡ true → length text ≤ 500
 text_short text good = leb-true (length text) 500 (and_parts (nat_lt 0 (length text)) _ (and_parts _ (list_all is_plain text) good).0).1
@@ -133,10 +122,12 @@ pub round_trip : ReadAsWritten
 unfolding line_of command_by keyword_of arguments text_argument no_argument one_number number_or_none two_numbers command_of
 round_trip (User name) few good =
     let short : length name ≤ 500 = text_short name good in
-    short_line (85 ∷ 83 ∷ 69 ∷ 82 ∷ 32 ∷ name) (omega arith) ∙ ap (λ (r : Result (List ℕ) WireFault). r >>= (λ t. Ok (User t))) (text_kept name good)
+    short_line (85 ∷ 83 ∷ 69 ∷ 82 ∷ 32 ∷ name) (omega arith)
+    ∙ ap (λ (r : Result (List ℕ) WireFault). r >>= (λ t. Ok (User t))) (cond-true _ _ _ good)
 round_trip (Pass password) few good =
     let short : length password ≤ 500 = text_short password good in
-    short_line (80 ∷ 65 ∷ 83 ∷ 83 ∷ 32 ∷ password) (omega arith) ∙ ap (λ (r : Result (List ℕ) WireFault). r >>= (λ t. Ok (Pass t))) (text_kept password good)
+    short_line (80 ∷ 65 ∷ 83 ∷ 83 ∷ 32 ∷ password) (omega arith)
+    ∙ ap (λ (r : Result (List ℕ) WireFault). r >>= (λ t. Ok (Pass t))) (cond-true _ _ _ good)
 round_trip (UidlOne n) few good = numbered (codes "UIDL") n refl (omega arith) few ∙ ap (λ (r : Result ℕ WireFault). r >>= (λ m. Ok (Some m)) >>= (λ which. Ok (one_or_all UidlOne UidlAll which))) (read_number n few)
 round_trip (ListOne n) few good = numbered (codes "LIST") n refl (omega arith) few ∙ ap (λ (r : Result ℕ WireFault). r >>= (λ m. Ok (Some m)) >>= (λ which. Ok (one_or_all ListOne ListAll which))) (read_number n few)
 round_trip (Retr n) few good = numbered (codes "RETR") n refl (omega arith) few ∙ ap (λ (r : Result ℕ WireFault). r >>= (λ m. Ok (Retr m))) (read_number n few)

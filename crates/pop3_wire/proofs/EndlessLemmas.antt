@@ -2,7 +2,7 @@
 use Rattle.std.proofs.Common.{◌≡◌, inl, inr, ◌<◌, ◌≤◌, ◌+◌, ◌-◌, ◌%◌, ◌++◌, ℕ, zero, suc, List, length, take, drop, sym, ap, ◌∙◌, arith, append_assoc, length-append, length-take-le}
 use Rattle.std.specs.List.{repeat}
 use Rattle.std.proofs.lemmas.Bool.{cases_lt}
-use Rattle.std.proofs.lemmas.List.{take-append-le, drop-append-le, take_all, take_rest}
+use Rattle.std.proofs.lemmas.List.{take-append-le, drop-append-le, take_at, take_rest}
 use Rattle.std.proofs.Math.Seq.{take-add, drop-append-add}
 use Rattle.std.proofs.Math.Nat.{mod-eq_of_lt, add-mod_left}
 use Rattle.pop3_wire.specs.Endless.{first_given}
@@ -42,38 +42,12 @@ repeat_at (suc count) place p some below = elim (cases_lt place (length p)) [
       )
 ]
 
--- what was given is followed by the first octets of the next piece
-pub given_on : (front p piece : List ℕ) (given n : ℕ) → 0 < length p → n ≤ length piece
-    → (rest : List ℕ) × (drop given (front ++ repeat (given + n) p) ≡ piece ++ rest)
-    → first_given front p (given + n) ≡ first_given front p given ++ take n piece
-given_on front p piece given n some small follows =
-    let all : front ++ repeat (given + n) p ≡ (front ++ repeat given p) ++ repeat n p =
-    ap (λ (l : List ℕ). front ++ l) (repeat_more given n p) ∙ sym (append_assoc front (repeat given p) (repeat n p)) in
-    let sum : length (front ++ repeat given p) ≡ length front + length (repeat given p) = length-append front (repeat given p) in
-    let long : given ≤ length (repeat given p) = repeat_long given p some in
-    let before : take given (front ++ repeat (given + n) p) ≡ first_given front p given =
-    ap (take given) all ∙ take-append-le given (front ++ repeat given p) (repeat n p) (omega arith) in
-    let after : take n (drop given (front ++ repeat (given + n) p)) ≡ take n piece =
-    ap (take n) follows.1 ∙ take-append-le n piece follows.0 small in
-    take-add given n (front ++ repeat (given + n) p)
-    ∙ ap (λ (l : List ℕ). l ++ take n (drop given (front ++ repeat (given + n) p))) before
-    ∙ ap (λ (l : List ℕ). first_given front p given ++ l) after
-
 -- the first `given` octets are that many
 pub given_length : (front p : List ℕ) (given : ℕ) → 0 < length p → length (first_given front p given) ≡ given
 given_length front p given some =
     let sum : length (front ++ repeat given p) ≡ length front + length (repeat given p) = length-append front (repeat given p) in
     let long : given ≤ length (repeat given p) = repeat_long given p some in
     length-take-le given (front ++ repeat given p) (omega arith)
-
--- the next piece in the front
-pub front_follows : (front p : List ℕ) (given count : ℕ) → given < length front
-    → (rest : List ℕ) × (drop given (front ++ repeat count p) ≡ take (length front - given) (drop given front) ++ rest)
-front_follows front p given count within = (
-  repeat count p,
-  drop-append-le given front (repeat count p) (omega arith)
-      ∙ ap (λ (l : List ℕ). l ++ repeat count p) (sym (take_rest front given)),
-)
 
 -- the next piece after the front
 pub pattern_follows : (front p : List ℕ) (given count : ℕ) → 0 < length p → length front ≤ given → given < count
@@ -89,20 +63,24 @@ pattern_follows front p given count some past below =
           ∙ ap (λ (l : List ℕ). l ++ found.0) (sym (take_rest p ((given - length front) % length p))),
     )
 
--- what was given is determined by its length
-pub is_first : (front p : List ℕ) (given : ℕ) → 0 < length p
-    → first_given front p given ≡ first_given front p (length (first_given front p given))
-is_first front p given some = ap (first_given front p) (sym (given_length front p given some))
-
 -- what was copied from the next piece follows what was given
-pub next_given : (front p piece copied rest : List ℕ) (given n : ℕ) → 0 < length p → 0 < n → n ≤ length piece → copied ≡ take n piece
-    → ((count : ℕ) → given < count → (after : List ℕ) × (drop given (front ++ repeat count p) ≡ piece ++ after))
+pub next_given : (front p piece copied rest : List ℕ) (given n : ℕ) → 0 < length p → n ≤ length piece → copied ≡ take n piece
+    → ((count : ℕ) → given < count → (after : List ℕ) × (drop given (front ++ repeat count p) ≡ piece ++ after)) → 0 < n
     → first_given front p given ++ take n (copied ++ rest) ≡ first_given front p (length (first_given front p given) + n)
-next_given front p piece copied rest given n some goes small is_copied follows =
+next_given front p piece copied rest given n some small is_copied follows goes =
+    let next = follows (given + n) (omega arith) in
+    let all : front ++ repeat (given + n) p ≡ (front ++ repeat given p) ++ repeat n p =
+    ap (λ (l : List ℕ). front ++ l) (repeat_more given n p) ∙ sym (append_assoc front (repeat given p) (repeat n p)) in
+    let sum : length (front ++ repeat given p) ≡ length front + length (repeat given p) = length-append front (repeat given p) in
+    let long : given ≤ length (repeat given p) = repeat_long given p some in
+    let before : take given (front ++ repeat (given + n) p) ≡ first_given front p given =
+    ap (take given) all ∙ take-append-le given (front ++ repeat given p) (repeat n p) (omega arith) in
+    let after : take n (drop given (front ++ repeat (given + n) p)) ≡ take n piece =
+    ap (take n) next.1 ∙ take-append-le n piece next.0 small in
     let size : length (take n piece) ≡ n = length-take-le n piece small in
-    let taken : take n (take n piece ++ rest) ≡ take n (take n piece) = take-append-le n (take n piece) rest (omega arith) in
-    let whole : take n (take n piece) ≡ take n piece = take_all n (take n piece) (omega arith) in
     ap (λ (l : List ℕ). first_given front p given ++ take n (l ++ rest)) is_copied
-    ∙ ap (λ (l : List ℕ). first_given front p given ++ l) (taken ∙ whole)
-    ∙ sym (given_on front p piece given n some small (follows (given + n) (omega arith)))
+    ∙ ap (λ (l : List ℕ). first_given front p given ++ l) (take_at (take n piece) rest n size)
+    ∙ sym (take-add given n (front ++ repeat (given + n) p)
+    ∙ ap (λ (l : List ℕ). l ++ take n (drop given (front ++ repeat (given + n) p))) before
+    ∙ ap (λ (l : List ℕ). first_given front p given ++ l) after)
     ∙ ap (λ (k : ℕ). first_given front p (k + n)) (sym (given_length front p given some))

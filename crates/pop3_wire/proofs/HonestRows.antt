@@ -1,5 +1,5 @@
 -- Rows of listings are read as a server means them, and hold no line break.
-use Rattle.std.proofs.Common.{ℕ, ◌^◌, ◌<◌, ◌≤◌, ◌≡◌, ◌≢◌, ◌∙◌, true, List, [], ◌∷◌, ◌++◌, length, refl, sym, ap, subst, append_assoc, arith, Ok, ne_eqb, Bool, codes, decimal, append-nil}
+use Rattle.std.proofs.Common.{ℕ, ◌^◌, ◌<◌, ◌≤◌, ◌≡◌, ◌≢◌, ◌∙◌, true, List, [], ◌∷◌, ◌++◌, length, refl, sym, ap, subst, append_assoc, arith, ne_eqb, Bool, codes, decimal, append-nil}
 use Rattle.std.specs.List.{list_all}
 use Rattle.std.specs.Char.{is_ascii_digit}
 use Rattle.std.proofs.lemmas.Bool.{and_parts, and_from, cond-false, le-leb, lt-ltb, not-true, eqb-false}
@@ -11,9 +11,9 @@ use Rattle.pop3_wire.specs.Body.{unstuffed}
 use Rattle.pop3_wire.specs.declared.reply.Status.TheVariants.{Positive, Negative}
 use Rattle.pop3_wire.specs.Honest.{FirstLinesAreRead}
 use Rattle.pop3_wire.specs.Fields.{number_and_size, number_and_id}
-use Rattle.pop3_wire.specs.Rows.{StandsFor, HasNumber, NumbersAreRead, scan_row, uid_row, IsSentAsIs, ScanRowsAreRead, UidRowsAreRead}
+use Rattle.pop3_wire.specs.Rows.{HasNumber, HasScanForm, HasUidForm, NumbersAreRead, scan_row, uid_row, IsSentAsIs, ScanRowsAreRead, UidRowsAreRead}
 use Rattle.mail_terms.specs.Numeral.{greatest_number, greatest_size}
-use Rattle.mail_terms.specs.UniqueId.{is_id_byte, is_legal_id}
+use Rattle.mail_terms.specs.UniqueId.{is_id_byte}
 use Rattle.pop3_wire.proofs.CommandRoundTrip.{digits_of_decimal}
 use Rattle.pop3_wire.proofs.RowsLemmas.{all_pass, bytes_of, scan_form_read, uid_form_read}
 use Rattle.mail_terms.specs.Text.{HasNoLf}
@@ -25,14 +25,14 @@ starts : (test : ℕ → Bool) (ds : List ℕ) → 0 < length ds → list_all te
 starts test [] some e = absurd (omega arith)
 starts test (d ∷ ds) some e = (d, ds, refl, (and_parts (test d) (list_all test ds) e).0)
 
--- a number as it is written
-written : (limit n : ℕ) → n < 2 ^ 64 → n ≤ limit → StandsFor limit (decimal n) n
-written limit n fits within =
-    let short : length (decimal n) ≤ 20 = length-decimal-le 20 n (omega arith) (omega arith) fits in
-    let some : 0 < length (decimal n) = decimal_nonempty n fits in
+pub numbers_are_read : NumbersAreRead
+numbers_are_read limit n within fits =
+    let short : length (decimal n) ≤ 20 = length-decimal-le 20 n (omega arith) (omega arith) (omega arith) in
+    let some : 0 < length (decimal n) = decimal_nonempty n (omega arith) in
     record {
-      numeral = and_from _ _ (and_from _ _ (lt-ltb 0 (length (decimal n)) some) (le-leb (length (decimal n)) 20 short)) (digits_of_decimal n fits);
-      value = sym (decimal_is_IsNumeral n fits).1;
+      numeral = and_from _ _ (and_from _ _ (lt-ltb 0 (length (decimal n)) some) (le-leb (length (decimal n)) 20 short))
+          (digits_of_decimal n (omega arith));
+      value = sym (decimal_is_IsNumeral n (omega arith)).1;
       within = within;
     }
 
@@ -43,29 +43,10 @@ numbered k row rest few same = record {
   gap = 32 ∷ [];
   whole = ap (λ (l : List ℕ). decimal k ++ 32 ∷ l) same;
   before = refl;
-  counted = written greatest_number k (omega arith) few;
+  counted = numbers_are_read greatest_number k few (omega arith);
   apart = refl;
   some = λ none. let h : 32 ∷ [] ≡ [] = none in cc;
 }
-
--- the row of LIST, and the rest of STAT's first line
-scan_read : (k size : ℕ) → k ≤ 4294967295 → size < 2 ^ 64 → number_and_size (decimal k ++ 32 ∷ decimal size) ≡ Ok (k, size)
-scan_read k size few fits = scan_form_read (decimal k ++ 32 ∷ decimal size) k size (record {
-  digits = decimal size;
-  behind = [];
-  front = numbered k (decimal size) (decimal size ++ []) few (sym (append-nil (decimal size)));
-  sized = written greatest_size size fits (omega arith);
-  over = λ byte rest e. absurd (let h : [] ≡ byte ∷ rest = e in cc);
-})
-
--- the row of UIDL
-uid_read : (k : ℕ) (uid : List ℕ) → k ≤ 4294967295 → is_legal_id uid ≡ true → number_and_id (decimal k ++ 32 ∷ uid) ≡ Ok (k, uid)
-uid_read k uid few legal = uid_form_read (decimal k ++ 32 ∷ uid) k uid (record {
-  behind = [];
-  front = numbered k uid (uid ++ []) few (sym (append-nil uid));
-  legal = legal;
-  over = refl;
-})
 
 -- ---- these hold no line break
 
@@ -84,41 +65,45 @@ no_lf_append xs ys a b = list_all-append is_no_lf xs ys ∙ and_from _ _ a b
 pub no_lf_decimal : (n : ℕ) → n < 2 ^ 64 → list_all is_no_lf (decimal n) ≡ true
 no_lf_decimal n fits = all_pass is_ascii_digit is_no_lf (λ d e. grind (arith, nat_tests)) (decimal n) (digits_of_decimal n fits)
 
-no_lf_id : (uid : List ℕ) → is_legal_id uid ≡ true → list_all is_no_lf uid ≡ true
-no_lf_id uid legal = all_pass is_id_byte is_no_lf (λ d e. grind (arith, nat_tests)) uid (bytes_of uid legal).1
-
 -- a row begins with a digit, so it isn't the end mark and has no full stop to drop
-digit_first : (n : ℕ) → n < 2 ^ 64 → (d : ℕ) × (ds : List ℕ) × (decimal n ≡ d ∷ ds) × (is_ascii_digit d ≡ true)
-digit_first n fits = starts is_ascii_digit (decimal n) (decimal_nonempty n fits) (digits_of_decimal n fits)
-
 digit_content : (k : ℕ) (rest : List ℕ) → k < 2 ^ 64 → list_all is_no_lf rest ≡ true → IsSentAsIs (decimal k ++ rest)
 digit_content k rest fits none =
-    let first = digit_first k fits in
+    let first = starts is_ascii_digit (decimal k) (decimal_nonempty k fits) (digits_of_decimal k fits) in
     let begin : decimal k ++ rest ≡ first.0 ∷ (first.1 ++ rest) = ap (λ (l : List ℕ). l ++ rest) first.2 in
-    let other : first.0 ≢ 46 = (λ (e : first.0 ≡ 46). digit_no_stop first.0 first.3 e) in (
+    let other : first.0 ≢ 46 = (λ e. grind (arith, nat_tests, first.3, e)) in (
       (line_without_lf (decimal k ++ rest) (no_lf_append (decimal k) rest (no_lf_decimal k fits) none), λ e. other (same_cons first.0 46 (first.1 ++ rest) [] (sym begin ∙ e)).0),
       ap unstuffed begin ∙ cond-false _ _ _ (ne_eqb first.0 46 other) ∙ sym begin,
     )
-  where
-    digit_no_stop : (d : ℕ) → is_ascii_digit d ≡ true → d ≡ 46 → ⊥
-    digit_no_stop d e is = grind (arith, nat_tests)
 
 -- ---- what is written is read
-
-pub numbers_are_read : NumbersAreRead
-numbers_are_read limit number within fits = written limit number (omega arith) within
 
 pub scan_rows_are_read : ScanRowsAreRead
 scan_rows_are_read number size few fits =
     let none : list_all is_no_lf (32 ∷ decimal size) ≡ true = no_lf_append (32 ∷ []) (decimal size) refl (no_lf_decimal size (omega arith)) in
     let same : scan_row number size ≡ decimal number ++ 32 ∷ decimal size = append_assoc (decimal number) (32 ∷ []) (decimal size) in
-    (subst IsSentAsIs (sym same) (digit_content number (32 ∷ decimal size) (omega arith) none), ap number_and_size same ∙ scan_read number size few (omega arith))
+    let form : HasScanForm (decimal number ++ 32 ∷ decimal size) number size = record {
+      digits = decimal size;
+      behind = [];
+      front = numbered number (decimal size) (decimal size ++ []) few (sym (append-nil (decimal size)));
+      sized = numbers_are_read greatest_size size fits fits;
+      over = λ byte rest e. absurd (let h : [] ≡ byte ∷ rest = e in cc);
+    } in (
+      subst IsSentAsIs (sym same) (digit_content number (32 ∷ decimal size) (omega arith) none),
+      ap number_and_size same ∙ scan_form_read _
+          number size form,
+    )
 
 pub uid_rows_are_read : UidRowsAreRead
 uid_rows_are_read number uid few legal =
-    let none : list_all is_no_lf (32 ∷ uid) ≡ true = no_lf_append (32 ∷ []) uid refl (no_lf_id uid legal) in
+    let bytes = all_pass is_id_byte is_no_lf (λ d e. grind (arith, nat_tests)) uid (bytes_of uid legal).1 in
+    let none : list_all is_no_lf (32 ∷ uid) ≡ true = no_lf_append (32 ∷ []) uid refl bytes in
     let same : uid_row number uid ≡ decimal number ++ 32 ∷ uid = append_assoc (decimal number) (32 ∷ []) uid in
-    (subst IsSentAsIs (sym same) (digit_content number (32 ∷ uid) (omega arith) none), ap number_and_id same ∙ uid_read number uid few legal)
+    let form : HasUidForm (decimal number ++ 32 ∷ uid) number uid =
+    record { behind = []; front = numbered number uid (uid ++ []) few (sym (append-nil uid)); legal = legal; over = refl } in (
+      subst IsSentAsIs (sym same) (digit_content number (32 ∷ uid) (omega arith) none),
+      ap number_and_id same ∙ uid_form_read _ number uid
+          form,
+    )
 
 pub first_lines_are_read : FirstLinesAreRead
 first_lines_are_read Positive after none = record {

@@ -10,7 +10,6 @@ mod LineReaderLemmas
 mod LineWaitLemmas
 mod ReadingLemmas
 mod RowsLemmas
-mod ScriptLemmas
 mod SentLemmas
 mod StuffLemmas
 mod UnstuffingLemmas

@@ -1,7 +1,7 @@
 -- The octets that wait: where the search for a line's end goes on, and what it finds.
 use Rattle.std.proofs.Common.{◌≡◌, inl, inr, ◌≤◌, ◌+◌, ◌-◌, ℕ, List, ◌++◌, length, take, drop, min, max, refl, sym, ap, subst, ◌∙◌, arith, append_assoc, take-append-drop, length-append, length-take-le, length-drop, length-take}
 use Rattle.std.proofs.lemmas.Bool.{cases_lt}
-use Rattle.std.proofs.lemmas.List.{take-take, take_all, drop-append-le, drop-take, drop-drop, take_at, drop_at}
+use Rattle.std.proofs.lemmas.List.{take-take, take_all, take_min, drop-append-le, drop-take, drop-drop, take_at, drop_at}
 use Rattle.std.proofs.Math.Seq.{take-append-add}
 use Rattle.std.proofs.lemmas.Slice.{take-put_mid}
 use borrow.Rule.Slice.PartMut.{put_mid}
@@ -17,10 +17,6 @@ no_line_less m n w small known =
     let split : take m w ++ drop m (take n w) ≡ take n w =
     ap (λ (l : List ℕ). l ++ drop m (take n w)) (sym (take-take m n w small)) ∙ take-append-drop m (take n w) in
     record { none = IsLine-front (take m w) (drop m (take n w)) (subst IsLine (sym split) known.none) }
-
-pub no_line_all : (n : ℕ) (w : List ℕ) → IsLine w → HasNoLine n w
-no_line_all n w line =
-    record { none = IsLine-front (take n w) (drop n w) (subst IsLine (sym (take-append-drop n w)) line) }
 
 pub no_line_skip : (n s : ℕ) (w : List ℕ) → HasNoLine s w → HasNoLine (s - n) (drop n w)
 no_line_skip n s w known = elim (cases_lt s n) [
@@ -50,15 +46,16 @@ seam u s known later front rest e = elim (cases_lt s (length (front ++ crlf))) [
       later (drop (s - 1) front) rest split
 ]
 
--- if the first s octets hold no line end, a prefix of the octets holds none there either
-front_known : (s m : ℕ) (w : List ℕ) → HasNoLine s w → HasNoLine s (take m w)
-front_known s m w known = elim (cases_lt m s) [
-  | inr small ↦ record { none = subst IsLine (sym (take-take s m w small)) known.none }
-  | inl past ↦ no_line_all s (take m w) ((no_line_less m s w (omega arith) known).none)
-]
-
-take_of_drop : (from n until : ℕ) (w : List ℕ) → from ≤ until → n ≤ until - from → take n (take (until - from) (drop from w)) ≡ drop from (take (from + n) w)
-take_of_drop from n until w low high = take-take n (until - from) (drop from w) high ∙ sym (drop-take from n w)
+-- if the first n octets hold no line end, a prefix of the octets holds none in its first s, with s at most n
+front_known : (s m n : ℕ) (w : List ℕ) → s ≤ n → HasNoLine n w → HasNoLine s (take m w)
+front_known s m n w small known =
+    record { none = subst IsLine (sym (takes s m)) (no_line_less (min s m) n w (omega arith) known).none }
+  where
+    takes : (a b : ℕ) → take a (take b w) ≡ take (min a b) w
+    takes a b = elim (cases_lt a b) [
+      | inl less ↦ take-take a b w (omega arith) ∙ ap (λ (k : ℕ). take k w) (omega arith)
+      | inr more ↦ take_all a (take b w) (omega (arith, length-take b w)) ∙ ap (λ (k : ℕ). take k w) (omega arith)
+    ]
 
 -- the search found a line's end
 pub line_end_found : (w : List ℕ) (limit searched until from : ℕ) (line after : List ℕ)
@@ -68,7 +65,7 @@ pub line_end_found : (w : List ℕ) (limit searched until from : ℕ) (line afte
 line_end_found w limit searched until from line after is_until is_from known is_line window =
     record {
       line = seam (take (from + length line) w) (min searched until)
-          (front_known (min searched until) (from + length line) w (no_line_less (min searched until) searched w (omega arith) known))
+          (front_known (min searched until) (from + length line) searched w (omega arith) known)
           (subst IsLine (line_is ∙ ap (λ (k : ℕ). drop k (take (from + length line) w)) is_from) is_line);
       within = omega (arith, sizes);
       whole = sym (take-append-drop (from + length line) w) ∙ ap (λ (l : List ℕ). take (from + length line) w ++ l) rest_is;
@@ -81,7 +78,8 @@ line_end_found w limit searched until from line after is_until is_from known is_
         omega arith
 
     line_is : line ≡ drop from (take (from + length line) w)
-    line_is = sym (take_at line (crlf ++ after) (length line) refl) ∙ ap (take (length line)) (sym window) ∙ take_of_drop from (length line) until w (omega arith) (omega (arith, sizes))
+    line_is = sym (take_at line (crlf ++ after) (length line) refl) ∙ ap (take (length line)) (sym window)
+        ∙ take-take (length line) (until - from) (drop from w) (omega (arith, sizes)) ∙ sym (drop-take from (length line) w)
 
     more : List ℕ
     more = drop (until - from) (drop from w)
@@ -103,15 +101,12 @@ pub line_end_none : (w : List ℕ) (limit searched until from : ℕ)
 line_end_none w limit searched until from is_until is_from known window =
     record {
       none = seam (take until w) (min searched until)
-          (front_known (min searched until) until w (no_line_less (min searched until) searched w (omega arith) known))
+          (front_known (min searched until) until searched w (omega arith) known)
           (subst IsLine (window_is ∙ ap (λ (k : ℕ). drop k (take until w)) is_from) window);
     }
   where
-    low : from ≤ until
-    low = omega arith
-
     window_is : take (until - from) (drop from w) ≡ drop from (take until w)
-    window_is = sym (drop-take from (until - from) w) ∙ ap (λ (k : ℕ). drop from (take k w)) (omega (arith, low))
+    window_is = sym (drop-take from (until - from) w) ∙ ap (λ (k : ℕ). drop from (take k w)) (omega arith)
 
 pub no_line_max : (s until : ℕ) (w : List ℕ) → HasNoLine s w → HasNoLine until w → HasNoLine (max s until) w
 no_line_max s until w known found = elim (cases_lt until s) [
@@ -120,12 +115,8 @@ no_line_max s until w known found = elim (cases_lt until s) [
 ]
 
 pub no_line_limit : (limit until : ℕ) (w : List ℕ) → until ≡ min limit (length w) → HasNoLine until w → HasNoLine limit w
-no_line_limit limit until w is_until found = elim (cases_lt (length w) limit) [
-  | inr small ↦ subst (λ (k : ℕ). HasNoLine k w) (omega arith) found
-  | inl past ↦
-      let all : take until w ≡ take limit w = take_all until w (omega arith) ∙ sym (take_all limit w (omega arith)) in
-      record { none = subst IsLine all found.none }
-]
+no_line_limit limit until w is_until found =
+    record { none = subst IsLine (ap (λ (k : ℕ). take k w) is_until ∙ take_min limit w) found.none }
 
 -- what waits after the first n octets were used
 pub window_skip : (bytes : List ℕ) (start end n : ℕ) → n ≤ length (take (end - start) (drop start bytes))

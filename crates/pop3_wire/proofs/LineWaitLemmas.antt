@@ -1,12 +1,9 @@
 -- A reader that waits for a line: what has come when it stops, and that it can go on.
-use Rattle.std.proofs.Common.{◌≡◌, ◌≤◌, ◌<◌, ◌+◌, ◌++◌, ◌||◌, ℕ, Bool, true, false, List, [], ◌∷◌, length, Err, Ok, refl, sym, ap, subst, ◌∙◌, append_assoc, append-nil, arith}
+use Rattle.std.proofs.Common.{◌≡◌, ◌<◌, ◌++◌, ℕ, List, [], ◌∷◌, length, Err, sym, ap, subst, ◌∙◌, append_assoc, append-nil, arith}
+use Rattle.std.proofs.Math.Bool.{or-true}
 use Rattle.pop3_wire.specs.Link.{Link}
-use Rattle.pop3_wire.specs.Place.{at, Gains, GoesOn, GotPiece, WasRefused, HasLine, HasNoLine, ReadsLine}
-use Rattle.pop3_wire.specs.declared.line_reader.LineFault.TheVariants.{Ended, Failed, TooLong}
-
-or_true : (b : Bool) → (b || true) ≡ true
-or_true true = refl
-or_true false = refl
+use Rattle.pop3_wire.specs.Place.{at, Gains, GoesOn, GotPiece, HasNoLine, ReadsLine}
+use Rattle.pop3_wire.specs.declared.line_reader.LineFault.TheVariants.{Ended}
 
 -- a piece is gained after what was gained before
 pub gains_more : (start link last : Link) (first waiting now gained piece : List ℕ)
@@ -17,35 +14,6 @@ gains_more start link last first waiting now gained piece gains is got = record 
   waiting = is ∙ ap (λ (l : List ℕ). l ++ piece) gains.waiting ∙ append_assoc first gained piece;
   sent = ap (λ (l : Link). l.sent) got ∙ gains.sent;
 }
-
--- a line waits
-pub read_found : (limit n : ℕ) (start link : Link) (first waiting gained : List ℕ)
-    → Gains (at start first) (at link waiting) gained → GoesOn start link → HasLine limit waiting n
-    → (((g : List ℕ) × Gains (at start first) (at link waiting) g) × ReadsLine limit (at start first) (Ok n) (at link waiting))
-read_found limit n start link first waiting gained gains on line = ((gained, gains), (line, on))
-
--- as much waits as a line may have
-pub read_long : (limit : ℕ) (start link : Link) (first waiting gained : List ℕ)
-    → Gains (at start first) (at link waiting) gained → GoesOn start link → HasNoLine limit waiting → limit ≤ length waiting
-    → (((g : List ℕ) × Gains (at start first) (at link waiting) g) × ReadsLine limit (at start first) (Err TooLong) (at link waiting))
-read_long limit start link first waiting gained gains on none long = ((gained, gains), (none, long, on))
-
--- a call was refused
-pub read_failed : (limit : ℕ) (start link last : Link) (first waiting gained : List ℕ)
-    → Gains (at start first) (at link waiting) gained → GoesOn start link → HasNoLine limit waiting → length waiting < limit
-    → WasRefused link last
-    → (((g : List ℕ) × Gains (at start first) (at last waiting) g) × ReadsLine limit (at start first) (Err Failed) (at last waiting))
-read_failed limit start link last first waiting gained gains on none short refused = (
-  (
-    gained,
-    record {
-      got = ap (λ (l : Link). l.got) refused ∙ gains.got;
-      waiting = gains.waiting;
-      sent = ap (λ (l : Link). l.sent) refused ∙ gains.sent;
-    },
-  ),
-  (none, short, ap (λ (l : Link). l.ended) refused ∙ on.ended, ap (λ (l : Link). l.failures) refused ∙ ap (λ (k : ℕ). k + 1) on.failures),
-)
 
 -- the link has ended
 pub read_ended : (limit : ℕ) (start link last : Link) (first waiting now gained piece : List ℕ)
@@ -58,7 +26,7 @@ read_ended limit start link last first waiting now gained [] gains on none short
       (
         subst (HasNoLine limit) same none,
         subst (λ (l : List ℕ). length l < limit) same short,
-        ap (λ (l : Link). l.ended) got ∙ or_true link.ended,
+        ap (λ (l : Link). l.ended) got ∙ or-true link.ended,
         ap (λ (l : Link). l.failures) got ∙ on.failures,
       ),
     )

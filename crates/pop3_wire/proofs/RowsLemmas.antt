@@ -1,16 +1,17 @@
 -- The rows that are read are exactly those of the form.
-use Rattle.std.proofs.Common.{ℕ, suc, ◌≤◌, ◌<◌, ◌≡◌, ◌≢◌, true, false, List, [], ◌∷◌, ◌++◌, length, take, drop, refl, sym, ap, subst, ◌∙◌, arith, inl, inr, Result, Ok, Err, take-append-drop, nat_lt, nat_le, ◌&&◌, ◌==◌, Bool, IsTrue, take_while, append-nil, take_at, drop_at}
+use Rattle.std.proofs.Common.{ℕ, ◌+◌, ◌≤◌, ◌<◌, ◌≡◌, ◌≢◌, true, false, List, [], ◌∷◌, ◌++◌, length, take, drop, refl, sym, ap, subst, ◌∙◌, arith, inl, inr, Result, Ok, Err, take-append-drop, nat_lt, nat_le, ◌&&◌, ◌==◌, Bool, IsTrue, take_while, append-nil, take_at, drop_at, get_or, length-drop}
 use Rattle.std.specs.List.{prefix_len, list_all}
 use Rattle.std.specs.Char.{is_ascii_digit}
 use Rattle.std.specs.Str.Parse.{digits_value}
 use Rattle.std.proofs.lemmas.Bool.{and_parts, and_from, cond-true, cond-false, cases_Bool, leb-true, le-leb, ltb-true}
 use Rattle.std.proofs.lemmas.Bool.Decides.{nat_tests}
-use Rattle.std.proofs.lemmas.List.Sums.{AllPass-from_list_all, list_all-from_AllPass}
+use Rattle.std.proofs.lemmas.List.Sums.{AllPass-from_list_all, list_all-from_AllPass, take_while-cons, prefix_len_stops}
+use Rattle.std.proofs.lemmas.List.{get_or-drop}
 use Rattle.pop3_wire.specs.Fields.{◌>>=◌, is_space, is_in_field, past, number, next_field, message_number, number_and_size, legal_id, nothing_more, number_and_id}
 use Rattle.mail_terms.specs.Numeral.{is_numeral, greatest_number, greatest_size}
 use Rattle.mail_terms.specs.UniqueId.{is_id_byte, is_legal_id, IsLegalId}
 use Rattle.pop3_wire.specs.declared.fault.WireFault.{WireFault}
-use Rattle.pop3_wire.specs.Rows.{AreSpaces, StandsFor, HasNumber, HasScanForm, HasUidForm, ScanRowsHaveForm, UidRowsHaveForm}
+use Rattle.pop3_wire.specs.Rows.{AreSpaces, StandsFor, HasNumber, HasScanForm, HasUidForm}
 use Rattle.pop3_wire.proofs.LineLemmas.{same_cons}
 
 -- ---- the prefix of bytes that pass a test, and what follows
@@ -18,27 +19,19 @@ use Rattle.pop3_wire.proofs.LineLemmas.{same_cons}
 split_at : (test : ℕ → Bool) (bytes : List ℕ) → bytes ≡ take_while test bytes ++ past test bytes
 split_at test bytes = sym (take-append-drop (prefix_len test bytes) bytes)
 
-one_more : (test : ℕ → Bool) (byte : ℕ) (bytes : List ℕ) → test byte ≡ true → prefix_len test (byte ∷ bytes) ≡ suc (prefix_len test bytes)
-one_more test byte bytes pass = cond-true _ _ _ pass ∙ omega arith
-
 front_passes : (test : ℕ → Bool) (bytes : List ℕ) → list_all test (take_while test bytes) ≡ true
 front_passes test [] = refl
-front_passes test (byte ∷ bytes) = elim (cases_Bool (test byte)) [
-  | inl pass ↦
-      ap (λ (n : ℕ). list_all test (take n (byte ∷ bytes))) (one_more test byte bytes pass)
-      ∙ and_from (test byte) (list_all test (take_while test bytes)) pass (front_passes test bytes)
-  | inr fail ↦ ap (λ (n : ℕ). list_all test (take n (byte ∷ bytes))) (cond-false _ _ _ fail)
-]
+front_passes test (byte ∷ bytes) = rw (take_while-cons test byte bytes) (elim (cases_Bool (test byte)) [
+  | inl pass ↦ rw (pass, pass) (front_passes test bytes)
+  | inr fail ↦ rw fail refl
+])
 
 behind_fails : (test : ℕ → Bool) (bytes : List ℕ) (next : ℕ) (rest : List ℕ) → past test bytes ≡ next ∷ rest → test next ≡ false
-behind_fails test [] next rest e = absurd (let h : [] ≡ next ∷ rest = e in cc)
-behind_fails test (byte ∷ bytes) next rest e = elim (cases_Bool (test byte)) [
-  | inl pass ↦ behind_fails test bytes next rest (sym (ap (λ (n : ℕ). drop n (byte ∷ bytes)) (one_more test byte bytes pass)) ∙ e)
-  | inr fail ↦
-      let whole : byte ∷ bytes ≡ next ∷ rest = sym (ap (λ (n : ℕ). drop n (byte ∷ bytes)) (cond-false _ _ _ fail)) ∙ e in
-      let same : byte ≡ next = cc in
-      subst (λ (b : ℕ). test b ≡ false) same fail
-]
+behind_fails test bytes next rest e =
+    let first : get_or bytes (prefix_len test bytes) 0 ≡ next = ap (λ (n : ℕ). get_or bytes n 0) {y = prefix_len test bytes + 0} (omega arith)
+    ∙ sym (get_or-drop (prefix_len test bytes) bytes 0 0) ∙ ap (λ (l : List ℕ). get_or l 0 0) e in
+    let more : length (past test bytes) ≡ length (next ∷ rest) = ap length e in
+    subst (λ (b : ℕ). test b ≡ false) first (prefix_len_stops test bytes 0 (omega (arith, more, length-drop (prefix_len test bytes) bytes)))
 
 -- ---- the reader's steps, backwards
 
@@ -221,29 +214,22 @@ number_read limit digits n stands =
 pub all_pass : (p q : ℕ → Bool) → ((b : ℕ) → p b ≡ true → q b ≡ true) → (bytes : List ℕ) → list_all p bytes ≡ true → list_all q bytes ≡ true
 all_pass p q h bytes all = list_all-from_AllPass q bytes (λ k d inside. h _ (AllPass-from_list_all p bytes all k d inside))
 
-digit_in_field : (byte : ℕ) → is_ascii_digit byte ≡ true → is_in_field byte ≡ true
-digit_in_field byte e = grind (arith, nat_tests)
-
-id_byte_in_field : (byte : ℕ) → is_id_byte byte ≡ true → is_in_field byte ≡ true
-id_byte_in_field byte e = grind (arith, nat_tests)
-
-no_space : (byte : ℕ) → is_in_field byte ≡ true → is_space byte ≡ false
-no_space byte e = grind (arith, nat_tests)
-
-space_ends_field : (byte : ℕ) → is_space byte ≡ true → is_in_field byte ≡ false
-space_ends_field byte e = grind (arith, nat_tests)
+digits_in_field : (digits : List ℕ) → list_all is_ascii_digit digits ≡ true → list_all is_in_field digits ≡ true
+digits_in_field = all_pass is_ascii_digit is_in_field (λ byte e. grind (arith, nat_tests))
 
 -- bytes of a field, one or more of them, and what follows
 begins : (front rest : List ℕ) → nat_lt 0 (length front) ≡ true → list_all is_in_field front ≡ true → Begins (front ++ rest)
 unfolding Begins
 begins [] rest some all = absurd (let none : 0 < 0 = ltb-true 0 0 some in omega arith)
-begins (byte ∷ front) rest some all = (byte, front ++ rest, refl, no_space byte (and_parts (is_in_field byte) (list_all is_in_field front) all).0)
+begins (byte ∷ front) rest some all = let first = (and_parts (is_in_field byte) (list_all is_in_field front) all).0 in
+    (byte, front ++ rest, refl, grind (arith, nat_tests, first))
 
 spaces_end_field : (spaces rest : List ℕ) → AreSpaces spaces → spaces ≢ [] → Stops is_in_field (spaces ++ rest)
 spaces_end_field [] rest blank some byte more e = absurd (some refl)
 spaces_end_field (space ∷ spaces) rest blank some byte more e =
     let same : space ≡ byte = cc in
-    subst (λ (b : ℕ). is_in_field b ≡ false) same (space_ends_field space (and_parts (is_space space) (list_all is_space spaces) blank).0)
+    let first = (and_parts (is_space space) (list_all is_space spaces) blank).0 in
+    grind (arith, nat_tests, first, same)
 
 digits_of : (digits : List ℕ) → IsTrue (is_numeral digits) → (nat_lt 0 (length digits) ≡ true) × (list_all is_ascii_digit digits ≡ true)
 digits_of digits numeral =
@@ -256,7 +242,7 @@ both n x = Ok (n, x)
 message_read : (line : List ℕ) (n : ℕ) (rest : List ℕ) (form : HasNumber line n rest) → message_number line ≡ Ok (n, form.gap ++ rest)
 message_read line n rest form =
     let digits = digits_of form.digits form.counted.numeral in
-    let field : list_all is_in_field form.digits ≡ true = all_pass is_ascii_digit is_in_field digit_in_field form.digits digits.1 in
+    let field : list_all is_in_field form.digits ≡ true = digits_in_field form.digits digits.1 in
     let ends : Stops is_in_field (form.gap ++ rest) = spaces_end_field form.gap rest form.apart form.some in
     let read : number greatest_number (take_while is_in_field (form.digits ++ (form.gap ++ rest))) ≡ Ok n =
     ap (number greatest_number) (front_taken is_in_field form.digits (form.gap ++ rest) field ends) ∙ number_read greatest_number form.digits n form.counted in
@@ -270,7 +256,7 @@ pub scan_form_read : (line : List ℕ) (n size : ℕ) → HasScanForm line n siz
 unfolding number_and_size
 scan_form_read line n size form =
     let digits = digits_of form.digits form.sized.numeral in
-    let field : list_all is_in_field form.digits ≡ true = all_pass is_ascii_digit is_in_field digit_in_field form.digits digits.1 in
+    let field : list_all is_in_field form.digits ≡ true = digits_in_field form.digits digits.1 in
     let read : number greatest_size (take_while is_ascii_digit (form.digits ++ form.behind)) ≡ Ok size =
     ap (number greatest_size) (front_taken is_ascii_digit form.digits form.behind digits.1 form.over) ∙ number_read greatest_size form.digits size form.sized in
     bind_read (message_number line) (n, form.front.gap ++ (form.digits ++ form.behind)) _ (message_read line n (form.digits ++ form.behind) form.front)
@@ -293,18 +279,14 @@ no_more_read id spaces blank =
     let gone : past is_space spaces ≡ [] = ap (past is_space) (sym whole) ∙ front_passed is_space spaces [] blank (λ byte more e. absurd (let h : [] ≡ byte ∷ more = e in cc)) in
     rw gone refl
 
-legal_read : (uid : List ℕ) → IsLegalId uid → legal_id uid ≡ Ok uid
-unfolding legal_id
-legal_read uid legal = cond-true _ _ _ legal
-
 pub uid_form_read : (line : List ℕ) (n : ℕ) (uid : List ℕ) → HasUidForm line n uid → number_and_id line ≡ Ok (n, uid)
-unfolding number_and_id
+unfolding number_and_id legal_id
 uid_form_read line n uid form =
     let bytes = bytes_of uid form.legal in
-    let field : list_all is_in_field uid ≡ true = all_pass is_id_byte is_in_field id_byte_in_field uid bytes.1 in
+    let field : list_all is_in_field uid ≡ true = all_pass is_id_byte is_in_field (λ byte e. grind (arith, nat_tests)) uid bytes.1 in
     let ends : Stops is_in_field form.behind = spaces_end form.behind form.over in
     let read : legal_id (take_while is_in_field (uid ++ form.behind)) ≡ Ok uid =
-    ap legal_id (front_taken is_in_field uid form.behind field ends) ∙ legal_read uid form.legal in
+    ap legal_id (front_taken is_in_field uid form.behind field ends) ∙ cond-true _ _ _ form.legal in
     let over : nothing_more uid (past is_in_field (uid ++ form.behind)) ≡ Ok uid =
     ap (nothing_more uid) (front_passed is_in_field uid form.behind field ends) ∙ no_more_read uid form.behind form.over in
     bind_read (message_number line) (n, form.front.gap ++ (uid ++ form.behind)) _ (message_read line n (uid ++ form.behind) form.front)
@@ -312,9 +294,3 @@ uid_form_read line n uid form =
     (next_read form.front.gap (uid ++ form.behind) form.front.apart (begins uid form.behind bytes.0 field))
     ∙ bind_read (legal_id (take_while is_in_field (uid ++ form.behind))) uid _ read
     ∙ bind_read (nothing_more uid (past is_in_field (uid ++ form.behind))) uid _ over
-
-pub scan_rows : ScanRowsHaveForm
-scan_rows line n size = (scan_form line n size, scan_form_read line n size)
-
-pub uid_rows : UidRowsHaveForm
-uid_rows line n uid = (uid_form line n uid, uid_form_read line n uid)

@@ -17,11 +17,8 @@ use Rattle.pop3_wire.proofs.LineLemmas.{first_line_same, same_cons, cons_same}
 use Rattle.pop3_wire.proofs.HonestRows.{line_without_lf, no_lf_append, no_lf_decimal}
 use Rattle.pop3_wire.proofs.RowsLemmas.{ok_same, all_pass}
 
-plain_no_lf : (bytes : List ℕ) → list_all is_plain bytes ≡ true → list_all is_no_lf bytes ≡ true
-plain_no_lf bytes h = all_pass is_plain is_no_lf (λ b e. grind (arith, nat_tests)) bytes h
-
 argument_no_lf : (bytes : List ℕ) → is_credential bytes ≡ true → list_all is_no_lf bytes ≡ true
-argument_no_lf bytes h = plain_no_lf bytes (and_parts _ (list_all is_plain bytes) h).1
+argument_no_lf bytes h = all_pass is_plain is_no_lf (λ b e. grind (arith, nat_tests)) bytes (and_parts _ (list_all is_plain bytes) h).1
 
 number_no_lf : (word : List ℕ) (n : ℕ) → list_all is_no_lf word ≡ true → n < 2 ^ 32 → list_all is_no_lf (word ++ decimal n) ≡ true
 number_no_lf word n h l = no_lf_append word (decimal n) h (no_lf_decimal n (omega (arith, l)))
@@ -82,11 +79,7 @@ meets (x ∷ a) b (y ∷ c) d e =
 -- all but the last of a list
 without_last : (a m : List ℕ) (x z : ℕ) (b : List ℕ) → a ++ x ∷ m ≡ b ++ z ∷ [] → (k : List ℕ) × (b ≡ a ++ k)
 without_last [] m x z b e = (b, refl)
-without_last (y ∷ a) m x z [] e = absurd (longer a (same_cons y z (a ++ x ∷ m) [] e).1)
-  where
-    longer : (l : List ℕ) → l ++ x ∷ m ≡ [] → ⊥
-    longer [] e = cc
-    longer (h ∷ l) e = cc
+without_last (y ∷ a) m x z [] e = absurd (omega (arith, ap length (same_cons y z (a ++ x ∷ m) [] e).1, length-append a (x ∷ m)))
 without_last (y ∷ a) m x z (w ∷ b) e =
     let same = same_cons y w (a ++ x ∷ m) (b ++ z ∷ []) e in
     let later = without_last a m x z b same.1 in

@@ -2,10 +2,11 @@
 use Rattle.std.proofs.Common.{◌≡◌, ◌≢◌, inl, inr, ℕ, List, [], ◌∷◌, ◌++◌, refl, sym, ap, ◌∙◌, arith, map}
 use Rattle.std.specs.List.{flat_map, onto_first, AllByRecursion}
 use Rattle.std.proofs.lemmas.Bool.Decides.{eqb_tells}
+use Rattle.std.proofs.lemmas.List.Folds.{flat_map-map}
 use Rattle.pop3_wire.specs.Line.{crlf, IsLine, ended}
 use Rattle.pop3_wire.specs.Body.{dot, IsContent, unstuffed, text_of}
 use Rattle.mail_terms.specs.Text.{lines_of_text, whole_text, HasNoLf}
-use Rattle.pop3_wire.specs.Stuffed.{stuffed, sent_line, stuffed_lines, StuffedIsBody, StuffedIsRead, OneBody}
+use Rattle.pop3_wire.specs.Stuffed.{stuffed, stuffed_lines, StuffedIsBody, StuffedIsRead}
 use Rattle.pop3_wire.proofs.BodyLemmas.{one_body}
 
 -- ---- a line of a text holds no LF
@@ -38,16 +39,9 @@ stuffed_content (byte ∷ rest) all = elim (eqb_tells byte 46) [
 
 stuffed_read : (line : List ℕ) → unstuffed (stuffed line) ≡ line
 stuffed_read [] = refl
-stuffed_read (byte ∷ rest) = elim (eqb_tells byte 46) [
-  | inl p ↦ rw p.0 refl
-  | inr p ↦ rw (p.0, p.0) refl
-]
+stuffed_read (byte ∷ rest) = grind arith
 
 -- ---- what a writer sends is a body
-
-sent_as_body : (lines : List (List ℕ)) → flat_map sent_line lines ≡ flat_map ended (map stuffed lines)
-sent_as_body [] = refl
-sent_as_body (line ∷ lines) = ap (λ (b : List ℕ). sent_line line ++ b) (sent_as_body lines)
 
 all_content : (lines : List (List ℕ)) → AllByRecursion HasNoLf lines → AllByRecursion IsContent (map stuffed lines)
 all_content [] all = tt
@@ -90,13 +84,10 @@ pub stuffed_is_body : StuffedIsBody
 stuffed_is_body text = record {
   lines = map stuffed (lines_of_text text);
   content = all_content (lines_of_text text) (text_lines text);
-  whole = ap (λ (b : List ℕ). b ++ ended dot) (sent_as_body (lines_of_text text));
+  whole = ap (λ (b : List ℕ). b ++ ended dot) (sym (flat_map-map ended stuffed (lines_of_text text)));
   read = sym (read_back (lines_of_text text) ∙ joined text);
 }
 
 pub stuffed_is_read : StuffedIsRead
 stuffed_is_read text more body read rest is e =
     one_body body (stuffed_lines (lines_of_text text)) read (whole_text text) rest more is (stuffed_is_body text) (sym e)
-
-pub only_one_body : OneBody
-only_one_body body other text read x y left right e = one_body body other text read x y left right e

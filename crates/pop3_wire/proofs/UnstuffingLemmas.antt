@@ -52,75 +52,47 @@ one_more bytes text part shown shown' byte given partly line more =
 NoCr-nil : NoCr []
 NoCr-nil front e = push-some front 13 (sym e)
 
-NoCr-dot : NoCr dot
+pub NoCr-dot : NoCr dot
 NoCr-dot front e = absurd (omega (arith, (same_from_push [] front 46 13 e).1))
 
-pub start_cr : (bytes text : List ℕ) → Partly bytes text [] [] → AtCr (bytes ++ 13 ∷ []) (text ++ [])
-start_cr bytes text h =
+-- a CR that isn't shown yet
+pub at_cr : (bytes text part shown given : List ℕ) → Partly bytes text part shown → part ≢ dot → unstuffed part ≡ shown ++ given
+    → AtCr (bytes ++ 13 ∷ []) (text ++ given)
+at_cr bytes text part shown given h other more =
     record {
-      part = [];
-      other = λ e. cc;
-      partly = one_more bytes text [] [] [] 13 [] h (IsLine-push [] 13 IsLine-nil (inl (λ e. absurd (omega (arith, e))))) refl;
+      part = part;
+      other = other;
+      partly = one_more bytes text part shown (unstuffed part) 13 given h
+          (IsLine-push part 13 h.line (inl (λ e. absurd (omega (arith, e))))) more;
+    }
+
+-- an octet of a line that is no CR
+pub in_line : (bytes text part shown given : List ℕ) (byte : ℕ) → Partly bytes text part shown → byte ≢ 13 → (byte ≢ 10) ⊎ NoCr part
+    → (part ++ byte ∷ []) ≢ dot → unstuffed (part ++ byte ∷ []) ≡ shown ++ given → InLine (bytes ++ byte ∷ []) (text ++ given)
+in_line bytes text part shown given byte h no_cr apart other more =
+    record {
+      part = part ++ byte ∷ [];
+      some = push-some part byte;
+      other = other;
+      no_cr = NoCr-push part byte no_cr;
+      partly = one_more bytes text part shown (unstuffed (part ++ byte ∷ [])) byte given h (IsLine-push part byte h.line apart) more;
     }
 
 pub start_other : (bytes text : List ℕ) (byte : ℕ) → byte ≢ 46 → byte ≢ 13 → Partly bytes text [] [] → InLine (bytes ++ byte ∷ []) (text ++ byte ∷ [])
 start_other bytes text byte no_dot no_cr h =
-    record {
-      part = byte ∷ [];
-      some = push-some [] byte;
-      other = λ e. no_dot (same_from_push [] [] byte 46 e).1;
-      no_cr = NoCr-push [] byte no_cr;
-      partly = one_more bytes text [] [] (unstuffed (byte ∷ [])) byte (byte ∷ []) h (IsLine-push [] byte IsLine-nil (inr NoCr-nil)) (unstuffed-push [] byte (inr no_dot));
-    }
+    in_line bytes text [] [] (byte ∷ []) byte h no_cr (inr NoCr-nil) (λ e. no_dot (same_from_push [] [] byte 46 e).1)
+    (unstuffed-push [] byte (inr no_dot))
 
 pub dot_cr : (bytes text : List ℕ) → Partly bytes text dot [] → Partly (bytes ++ 13 ∷ []) (text ++ []) (46 ∷ 13 ∷ []) []
 dot_cr bytes text h = one_more bytes text dot [] [] 13 [] h (IsLine-push dot 13 IsLine-dot (inl (λ e. absurd (omega (arith, e))))) refl
 
-pub dot_other : (bytes text : List ℕ) (byte : ℕ) → byte ≢ 13 → Partly bytes text dot [] → InLine (bytes ++ byte ∷ []) (text ++ byte ∷ [])
-dot_other bytes text byte no_cr h =
-    record {
-      part = 46 ∷ byte ∷ [];
-      some = push-some dot byte;
-      other = λ e. cc;
-      no_cr = NoCr-push dot byte no_cr;
-      partly = one_more bytes text dot [] (byte ∷ []) byte (byte ∷ []) h (IsLine-push dot byte IsLine-dot (inr NoCr-dot)) refl;
-    }
-
-pub dot_cr_cr : (bytes text : List ℕ) → Partly bytes text (46 ∷ 13 ∷ []) [] → AtCr (bytes ++ 13 ∷ []) (text ++ 13 ∷ [])
-dot_cr_cr bytes text h =
-    record {
-      part = 46 ∷ 13 ∷ [];
-      other = λ e. cc;
-      partly = one_more bytes text (46 ∷ 13 ∷ []) [] (13 ∷ []) 13 (13 ∷ []) h (IsLine-push (46 ∷ 13 ∷ []) 13 h.line (inl (λ e. absurd (omega (arith, e))))) refl;
-    }
-
-pub dot_cr_other : (bytes text : List ℕ) (byte : ℕ) → byte ≢ 10 → byte ≢ 13 → Partly bytes text (46 ∷ 13 ∷ []) [] → InLine (bytes ++ byte ∷ []) (text ++ 13 ∷ byte ∷ [])
-dot_cr_other bytes text byte no_lf no_cr h =
-    record {
-      part = 46 ∷ 13 ∷ byte ∷ [];
-      some = push-some (46 ∷ 13 ∷ []) byte;
-      other = λ e. cc;
-      no_cr = NoCr-push (46 ∷ 13 ∷ []) byte no_cr;
-      partly = one_more bytes text (46 ∷ 13 ∷ []) [] (13 ∷ byte ∷ []) byte (13 ∷ byte ∷ []) h (IsLine-push (46 ∷ 13 ∷ []) byte h.line (inl no_lf)) refl;
-    }
-
 pub middle_cr : (bytes text : List ℕ) → InLine bytes text → AtCr (bytes ++ 13 ∷ []) (text ++ [])
-middle_cr bytes text h =
-    record {
-      part = h.part;
-      other = h.other;
-      partly = one_more bytes text h.part (unstuffed h.part) (unstuffed h.part) 13 [] h.partly (IsLine-push h.part 13 h.partly.line (inl (λ e. absurd (omega (arith, e))))) (sym (append-nil (unstuffed h.part)));
-    }
+middle_cr bytes text h = at_cr bytes text h.part (unstuffed h.part) [] h.partly h.other (sym (append-nil (unstuffed h.part)))
 
 pub middle_other : (bytes text : List ℕ) (byte : ℕ) → byte ≢ 13 → InLine bytes text → InLine (bytes ++ byte ∷ []) (text ++ byte ∷ [])
 middle_other bytes text byte no_cr h =
-    record {
-      part = h.part ++ byte ∷ [];
-      some = push-some h.part byte;
-      other = λ e. h.some (same_from_push h.part [] byte 46 e).0;
-      no_cr = NoCr-push h.part byte no_cr;
-      partly = one_more bytes text h.part (unstuffed h.part) (unstuffed (h.part ++ byte ∷ [])) byte (byte ∷ []) h.partly (IsLine-push h.part byte h.partly.line (inr h.no_cr)) (unstuffed-push h.part byte (inl h.some));
-    }
+    in_line bytes text h.part (unstuffed h.part) (byte ∷ []) byte h.partly no_cr (inr h.no_cr)
+    (λ e. h.some (same_from_push h.part [] byte 46 e).0) (unstuffed-push h.part byte (inl h.some))
 
 pub cr_lf : (bytes text : List ℕ) → AtCr bytes text → Partly (bytes ++ 10 ∷ []) (text ++ 10 ∷ []) [] []
 cr_lf bytes text h =
@@ -144,36 +116,20 @@ cr_lf bytes text h =
     more : Reads (bytes ++ 10 ∷ []) [] (text_of h.partly.lines ++ kept h.part)
     more = reads_more (bytes ++ 10 ∷ []) (h.part ++ (crlf ++ [])) h.part [] (text_of h.partly.lines) so_far (IsLine-front h.part (13 ∷ []) h.partly.line) refl h.other
 
+cr_shown : (part : List ℕ) → unstuffed (part ++ 13 ∷ []) ≡ unstuffed part ++ 13 ∷ []
+cr_shown part = unstuffed-push part 13 (inr (λ e. absurd (omega (arith, e))))
+
 pub cr_cr : (bytes text : List ℕ) → AtCr bytes text → AtCr (bytes ++ 13 ∷ []) (text ++ 13 ∷ [])
 cr_cr bytes text h =
-    record {
-      part = h.part ++ 13 ∷ [];
-      other = λ e. absurd (omega (arith, (same_from_push h.part [] 13 46 e).1));
-      partly = one_more bytes text (h.part ++ 13 ∷ []) (unstuffed h.part) (unstuffed (h.part ++ 13 ∷ [])) 13 (13 ∷ []) h.partly
-          (IsLine-push (h.part ++ 13 ∷ []) 13 h.partly.line (inl (λ e. absurd (omega (arith, e))))) (unstuffed-push h.part 13 (inr (λ e. absurd (omega (arith, e)))));
-    }
+    at_cr bytes text (h.part ++ 13 ∷ []) (unstuffed h.part) (13 ∷ []) h.partly
+    (λ e. absurd (omega (arith, (same_from_push h.part [] 13 46 e).1))) (cr_shown h.part)
 
 pub cr_other : (bytes text : List ℕ) (byte : ℕ) → byte ≢ 10 → byte ≢ 13 → AtCr bytes text → InLine (bytes ++ byte ∷ []) (text ++ 13 ∷ byte ∷ [])
 cr_other bytes text byte no_lf no_cr h =
-    record {
-      part = (h.part ++ 13 ∷ []) ++ byte ∷ [];
-      some = push-some (h.part ++ 13 ∷ []) byte;
-      other = λ e. push-some h.part 13 (same_from_push (h.part ++ 13 ∷ []) [] byte 46 e).0;
-      no_cr = NoCr-push (h.part ++ 13 ∷ []) byte no_cr;
-      partly = one_more bytes text (h.part ++ 13 ∷ []) (unstuffed h.part) (unstuffed ((h.part ++ 13 ∷ []) ++ byte ∷ [])) byte (13 ∷ byte ∷ []) h.partly
-          (IsLine-push (h.part ++ 13 ∷ []) byte h.partly.line (inl no_lf)) shown;
-    }
-  where
-    shown : unstuffed ((h.part ++ 13 ∷ []) ++ byte ∷ []) ≡ unstuffed h.part ++ 13 ∷ byte ∷ []
-    shown = unstuffed-push (h.part ++ 13 ∷ []) byte (inl (push-some h.part 13))
-        ∙ ap (λ (t : List ℕ). t ++ byte ∷ []) (unstuffed-push h.part 13 (inr (λ e. absurd (omega (arith, e))))) ∙ append_assoc (unstuffed h.part) (13 ∷ []) (byte ∷ [])
-
--- the end of a line, both octets of it
-middle_cr_lf : (bytes text : List ℕ) → InLine bytes text → Partly (bytes ++ crlf) (text ++ 10 ∷ []) [] []
-middle_cr_lf bytes text h =
-    subst (λ (b : List ℕ). Partly b (text ++ 10 ∷ []) [] []) (append_assoc bytes (13 ∷ []) (10 ∷ []))
-    (subst (λ (t : List ℕ). Partly ((bytes ++ 13 ∷ []) ++ 10 ∷ []) (t ++ 10 ∷ []) [] []) (append-nil text)
-    (cr_lf (bytes ++ 13 ∷ []) (text ++ []) (middle_cr bytes text h)))
+    in_line bytes text (h.part ++ 13 ∷ []) (unstuffed h.part) (13 ∷ byte ∷ []) byte h.partly no_cr (inl no_lf)
+    (λ e. push-some h.part 13 (same_from_push (h.part ++ 13 ∷ []) [] byte 46 e).0)
+    (unstuffed-push (h.part ++ 13 ∷ []) byte (inl (push-some h.part 13)) ∙ ap (λ (t : List ℕ). t ++ byte ∷ []) (cr_shown h.part)
+    ∙ append_assoc (unstuffed h.part) (13 ∷ []) (byte ∷ []))
 
 -- the first two octets of a piece, by their places
 take_two : (piece : List ℕ) → 2 ≤ length piece → take 2 piece ≡ get_or piece 0 0 ∷ get_or piece 1 0 ∷ []
@@ -186,7 +142,10 @@ pub middle_two : (bytes text piece : List ℕ) → 2 ≤ length piece → get_or
     → Partly (bytes ++ take 2 piece) (text ++ 10 ∷ []) [] []
 middle_two bytes text piece long first second h =
     let two : crlf ≡ take 2 piece = sym (take_two piece long ∙ ap (λ (b : ℕ). b ∷ get_or piece 1 0 ∷ []) first ∙ ap (λ (b : ℕ). 13 ∷ b ∷ []) second) in
-    subst (λ (l : List ℕ). Partly (bytes ++ l) (text ++ 10 ∷ []) [] []) two (middle_cr_lf bytes text h)
+    let bytes_are = append_assoc bytes (13 ∷ []) (10 ∷ []) ∙ ap (λ (l : List ℕ). bytes ++ l) two in
+    subst (λ (b : List ℕ). Partly b (text ++ 10 ∷ []) [] []) bytes_are
+    (subst (λ (t : List ℕ). Partly ((bytes ++ 13 ∷ []) ++ 10 ∷ []) (t ++ 10 ∷ []) [] []) (append-nil text)
+    (cr_lf (bytes ++ 13 ∷ []) (text ++ []) (middle_cr bytes text h)))
 
 pub partly_none : Partly [] [] [] []
 partly_none = record { lines = []; content = tt; line = IsLine-nil; whole = refl; read = refl }

@@ -1,6 +1,8 @@
 -- Where a line may be split: next to a blank or a sign, which are ASCII.
-use Rattle.std.proofs.Common.{◌≡◌, ℕ, ◌+◌, ◌-◌, ◌<◌, ◌≤◌, List, length, true, false, ◌==◌, get_or, arith, reverse, subst, sym, ap, ◌∙◌, refl, [], ◌∷◌, inl, inr, eqb, ltb, Some, None}
-use Rattle.std.proofs.lemmas.Bool.{or_cases, eqb-true, ltb-true, cases_eq, cases_lt, cases_Bool, both_ways}
+use Rattle.std.proofs.Common.{◌≡◌, ℕ, ◌+◌, ◌-◌, ◌<◌, ◌≤◌, List, length, true, false, get_or, arith, reverse, subst, sym, ap, ◌∙◌, refl, [], ◌∷◌, inl, inr, eqb, ltb, Some}
+use Rattle.std.proofs.lemmas.Bool.{eqb-true, ltb-true, cases_eq, cases_lt, cases_Bool, both_ways}
+use Rattle.std.proofs.lemmas.Bool.Decides.{nat_tests}
+use Rattle.std.proofs.lemmas.Option.{same_Some, none-some}
 use Rattle.std.proofs.lemmas.List.{get_or-reverse, get_or-take}
 use Rattle.std.proofs.lemmas.List.Sums.{prefix_len-le-length, suffix_len-le-length, prefix_len_passes, passes_at_first}
 use Rattle.std.proofs.lemmas.Str.{IsCharBoundary-before_ascii, IsCharBoundary-after_ascii, IsCharBoundary-end, IsUtf8-from_is_utf8, is_utf8-from_IsUtf8}
@@ -9,12 +11,10 @@ use Rattle.std.specs.Str.{IsUtf8, is_utf8, IsCharBoundary}
 use Rattle.rc_file.specs.LineRules.{is_blank, is_sign, before_blanks, trimmed, is_skipped, section_line, key_line, judge, skipped, more, bad}
 
 blank_ascii : (byte : ℕ) → is_blank byte ≡ true → byte < 128
-blank_ascii byte h =
-    elim (or_cases (byte == 32) (byte == 9) h) [ inl e ↦ omega (arith, eqb-true byte 32 e) | inr e ↦ omega (arith, eqb-true byte 9 e) ]
+blank_ascii byte h = grind (arith, nat_tests)
 
 sign_ascii : (byte : ℕ) → is_sign byte ≡ true → byte < 128
-sign_ascii byte h =
-    elim (or_cases (byte == 61) (byte == 58) h) [ inl e ↦ omega (arith, eqb-true byte 61 e) | inr e ↦ omega (arith, eqb-true byte 58 e) ]
+sign_ascii byte h = grind (arith, nat_tests)
 
 -- a text may be split after the blanks in front
 pub front_boundary : (bs : List ℕ) → IsUtf8 bs → 0 < prefix_len is_blank bs → IsCharBoundary bs (prefix_len is_blank bs)
@@ -70,15 +70,9 @@ before_blanks-first bs some first =
 pub sign_found : (bs : List ℕ) (i : ℕ) → position is_sign bs ≡ Some i → (i ≡ position_or_len is_sign bs) × (position_or_len is_sign bs < length bs)
 sign_found bs i e =
     elim (cases_Bool (ltb (position_or_len is_sign bs) (length bs))) [
-      | inl within ↦ (some_same _ _ (sym (rw within at e)), ltb-true _ _ within)
-      | inr past ↦ absurd (none_some _ (rw past at e))
+      | inl within ↦ (sym (same_Some (position_or_len is_sign bs) i (rw within at e)), ltb-true _ _ within)
+      | inr past ↦ absurd (none-some i (rw past at e))
     ]
-  where
-    some_same : (a b : ℕ) → Some a ≡ Some b → a ≡ b
-    some_same a b h = cc
-
-    none_some : (a : ℕ) → None ≡ Some a → ⊥
-    none_some a h = cc
 
 -- the five rules, each for a line that the rules before it don't fit
 pub judge_bad : (bs : List ℕ) → (IsUtf8 bs → ⊥) → bad ≡ judge bs

@@ -1,6 +1,8 @@
 -- The first faulty key, from the faults of single keys.
 use Rattle.std.proofs.Common.{◌≡◌, ℕ, List, [], ◌∷◌, ◌++◌, map, Bool, true, false, if◌then◌else◌, Option, Some, None, Result, Ok, Err, ap, sym, refl, ◌∙◌, inl, inr}
 use Rattle.std.specs.List.{AllByRecursion}
+use Rattle.std.proofs.lemmas.List.{map-append}
+use Rattle.std.proofs.lemmas.Option.{none-some}
 use Rattle.rc_file.specs.Answer.{IsFaultMeant}
 use Rattle.rc_file.specs.SectionReading.{key_fault, MakesDestination, ReadsDestination}
 use Rattle.rc_file.specs.KeyTable.{value_fault, path}
@@ -38,22 +40,12 @@ faulty_key rows front key rest fault sound e = inr (first_faulty rows front key 
 first_fault-append : (faults more : List (Option RcFault)) → first_fault faults ≡ None → first_fault (faults ++ more) ≡ first_fault more
 first_fault-append [] more e = refl
 first_fault-append (None ∷ faults) more e = first_fault-append faults more e
-first_fault-append (Some fault ∷ faults) more e = absurd (different fault e)
-  where
-    different : (f : RcFault) → Some f ≡ None → ⊥
-    different f h = cc
+first_fault-append (Some fault ∷ faults) more e = absurd (none-some fault (sym e))
 
 pub first_fault-front : (faults more : List (Option RcFault)) (found : RcFault) → first_fault faults ≡ Some found → first_fault (faults ++ more) ≡ Some found
-first_fault-front [] more found e = absurd (different found e)
-  where
-    different : (f : RcFault) → None ≡ Some f → ⊥
-    different f h = cc
+first_fault-front [] more found e = absurd (none-some found e)
 first_fault-front (None ∷ faults) more found e = first_fault-front faults more found e
 first_fault-front (Some fault ∷ faults) more found e = e
-
-map-append : (f : Key → Option RcFault) (keys more : List Key) → map f (keys ++ more) ≡ map f keys ++ map f more
-map-append f [] more = refl
-map-append f (key ∷ keys) more = ap (λ (l : List (Option RcFault)). f key ∷ l) (map-append f keys more)
 
 pub key_fault-past : (rows : List RcRow) (keys more : List Key) → key_fault rows keys ≡ None → key_fault rows (keys ++ more) ≡ key_fault rows more
 unfolding key_fault

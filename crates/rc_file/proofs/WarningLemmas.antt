@@ -1,5 +1,5 @@
 -- The search for what has no effect, row by row.
-use Rattle.std.proofs.Common.{◌≡◌, ℕ, ◌+◌, ◌<◌, suc, length, drop, get_or, subst, arith, List, [], ◌∷◌, ◌++◌, map, Bool, true, false, cond, ◌&&◌, ◌||◌, ap, sym, ◌∙◌, refl, drop-cons, append_assoc, bytes_eq}
+use Rattle.std.proofs.Common.{◌≡◌, ℕ, ◌+◌, ◌<◌, suc, length, drop, get_or, subst, arith, List, [], ◌∷◌, ◌++◌, map, Bool, true, false, cond, ◌&&◌, ◌||◌, ap, sym, ◌∙◌, drop-cons, append_assoc, bytes_eq}
 use Rattle.std.specs.HashSet.{HashSet, contains}
 use Rattle.std.specs.List.{filter, list_any}
 use Rattle.std.specs.declared.hash.BuildHasherDefault.{BuildHasherDefault}
@@ -47,8 +47,7 @@ firsts_again : (met : List Warned) (row : Warned) (rest : List Warned) → list_
 firsts_again met row rest old = rw old
 
 or_cond : (a b : Bool) → cond a true b ≡ a || b
-or_cond true b = refl
-or_cond false b = refl
+or_cond a b = grind arith
 
 -- a row whose name was not met
 pub tells_new : (row : Warned) (found : List Warned) (old new : HashSet Name (BuildHasherDefault FoldHasher)) (name : Name)

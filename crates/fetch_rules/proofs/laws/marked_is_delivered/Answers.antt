@@ -1,5 +1,6 @@
-use Rattle.fetch_rules.proofs.LawLemmas.{delivered-marked}
+use Rattle.std.proofs.Common.{bytes_eq}
+use Rattle.fetch_rules.proofs.LawLemmas.{delivered-with}
 use Rattle.fetch_rules.proofs.laws.marked_is_delivered.Goals as goal
 
 pub returns : goal.returns
-returns c = delivered-marked
+returns c rows uid other = delivered-with (bytes_eq uid) rows other

@@ -1,4 +1,4 @@
-use Rattle.std.proofs.Common.{◌≡◌, ℕ, ◌+◌, ◌<◌, length, arith, refl}
+use Rattle.std.proofs.Common.{◌≡◌, ◌+◌, ◌<◌, length, arith, refl}
 use Rattle.std.specs.List.{position_or_len}
 use Rattle.std.proofs.lemmas.List.{take_rest}
 use Rattle.pop3_wire.specs.Fields.{is_space}
@@ -12,7 +12,6 @@ returns-then-length-bytes-clause-rest c =
 
 pub returns-clause-rest : goal.returns-clause-rest
 returns-clause-rest c =
-    let n : ℕ = c.field_length-length.result in
     let lt : c.field_length-length.result < length c.args.bytes.now = omega arith in
     rw (take_rest c.args.bytes.now (c.field_length-length.result + 1))
     (first_word c.args.bytes.now c.field_length-length.result c.field_length-length.ensures.value lt, rw c.field_length-length.ensures.value refl)

@@ -16,9 +16,6 @@ returns-clause-ok g c =
     let r = c.self.inside in
     let within : n ≤ length buf = c.in_ok-n.ensures.within in
     let size : length (take n buf) ≡ n = length-take-le n buf within in
-    let ordered : r.start ≤ r.end = c.self.invariant.0 in
-    let high : r.end ≤ 4096 = c.self.invariant.1 in
-    let whole : length c.move_to_front.new.bytes ≡ 4096 = omega arith in
     let waits = window_fill (r.end - r.start) ((r.end - r.start) + c.min.result - (r.end - r.start)) n c.move_to_front.new.bytes buf (omega arith) within in
     let moved = ap (λ (l : List ℕ). l ++ take n buf) (c.move_to_front.ensures ∙ c.self.view_is) in (
       take n buf,

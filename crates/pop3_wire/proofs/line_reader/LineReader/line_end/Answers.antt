@@ -1,31 +1,20 @@
-use Rattle.std.proofs.Common.{◌≡◌, ◌≤◌, ◌-◌, ◌∙◌, ℕ, List, length, take, drop, min, max, ap, sym, subst, arith, length-take}
-use Rattle.pop3_wire.specs.Line.{IsLine}
+use Rattle.std.proofs.Common.{◌≡◌, ◌-◌, ℕ, length, take, drop, min, sym, subst, arith, length-take}
 use Rattle.pop3_wire.specs.Place.{HasNoLine}
 use Rattle.pop3_wire.proofs.LineReaderLemmas.{line_end_found, line_end_none, no_line_max, no_line_limit}
 use Rattle.pop3_wire.proofs.line_reader.LineReader.line_end.Goals as goal
 
 pub returns-in-Some-clause-found : goal.returns-in-Some-clause-found
 returns-in-Some-clause-found c =
-    let known : HasNoLine c.self.inside.searched c.args.self.now = subst (HasNoLine c.self.inside.searched) c.self.view_is c.self.invariant.3 in
-    let until : c.min-until.result ≡ min c.args.limit (length c.args.self.now) =
-    c.min-until.ensures ∙ ap (λ (l : List ℕ). min c.args.limit (length l)) c.waiting.ensures.value in
-    let from : c.saturating_sub-from.result ≡ min c.self.inside.searched c.min-until.result - 1 =
-    c.saturating_sub-from.ensures ∙ ap (λ (k : ℕ). k - 1) c.min.ensures in
     line_end_found c.args.self.now c.args.limit c.self.inside.searched c.min-until.result c.saturating_sub-from.result c.in-Some.line.now c.in-Some.field-0-1.now
-    until from known c.in-Some.ensures.found.0
-    (ap (λ (l : List ℕ). take (c.min-until.result - c.saturating_sub-from.result) (drop c.saturating_sub-from.result l)) (sym c.waiting-2.ensures.value) ∙ c.in-Some.ensures.found.1)
+    (cc) (cc) (subst (HasNoLine c.self.inside.searched) c.self.view_is c.self.invariant.3) c.in-Some.ensures.found.0
+    (rw c.waiting-2.ensures.value at c.in-Some.ensures.found.1)
 
 -- the octets that the search went over hold no line end
 searched_over : (c : goal.After-self-1) → HasNoLine c.min-until.result c.args.self.now
 searched_over c =
-    let known : HasNoLine c.self.inside.searched c.args.self.now = subst (HasNoLine c.self.inside.searched) c.self.view_is c.self.invariant.3 in
-    let until : c.min-until.result ≡ min c.args.limit (length c.args.self.now) =
-    c.min-until.ensures ∙ ap (λ (l : List ℕ). min c.args.limit (length l)) c.waiting.ensures.value in
-    let from : c.saturating_sub-from.result ≡ min c.self.inside.searched c.min-until.result - 1 =
-    c.saturating_sub-from.ensures ∙ ap (λ (k : ℕ). k - 1) c.min.ensures in
-    let none : IsLine (take (c.min-until.result - c.saturating_sub-from.result) (drop c.saturating_sub-from.result c.waiting-2.result.now)) = c.in_default.ensures.none in
-    line_end_none c.args.self.now c.args.limit c.self.inside.searched c.min-until.result c.saturating_sub-from.result until from known
-    (subst (λ (l : List ℕ). IsLine (take (c.min-until.result - c.saturating_sub-from.result) (drop c.saturating_sub-from.result l))) c.waiting-2.ensures.value none)
+    line_end_none c.args.self.now c.args.limit c.self.inside.searched c.min-until.result c.saturating_sub-from.result
+    (cc) (cc) (subst (HasNoLine c.self.inside.searched) c.self.view_is c.self.invariant.3)
+    (rw c.waiting-2.ensures.value at c.in_default.ensures.none)
 
 pub invariant_of-self : goal.invariant_of-self
 invariant_of-self c =
@@ -34,15 +23,9 @@ invariant_of-self c =
     let over : HasNoLine c.min-until.result w = subst (HasNoLine c.min-until.result) (sym c.self.view_is) (searched_over c) in
     let top : HasNoLine c.max-self-inside.result w =
     subst (λ (k : ℕ). HasNoLine k w) (sym c.max-self-inside.ensures) (no_line_max r.searched c.min-until.result w c.self.invariant.3 over) in
-    let until : c.min-until.result ≡ min c.args.limit (length w) =
-    c.min-until.ensures ∙ ap (λ (l : List ℕ). min c.args.limit (length l)) (c.waiting.ensures.value ∙ sym c.self.view_is) in
+    let until : c.min-until.result ≡ min c.args.limit (length w) = cc in
     let size : length w ≡ min (r.end - r.start) (length (drop r.start r.bytes)) = length-take (r.end - r.start) (drop r.start r.bytes) in
-    let within : r.searched ≤ r.end - r.start = c.self.invariant.2 in
-    let greatest : c.max-self-inside.result ≡ max r.searched c.min-until.result = c.max-self-inside.ensures in
     (c.self.invariant.0, c.self.invariant.1, omega arith, top)
 
 pub returns-clause-none : goal.returns-clause-none
-returns-clause-none c =
-    let until : c.min-until.result ≡ min c.args.limit (length c.args.self.now) =
-    c.min-until.ensures ∙ ap (λ (l : List ℕ). min c.args.limit (length l)) c.waiting.ensures.value in
-    no_line_limit c.args.limit c.min-until.result c.args.self.now until (searched_over c)
+returns-clause-none c = no_line_limit c.args.limit c.min-until.result c.args.self.now (cc) (searched_over c)

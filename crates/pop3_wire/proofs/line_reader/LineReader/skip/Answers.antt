@@ -1,5 +1,4 @@
-use Rattle.std.proofs.Common.{◌≡◌, ◌≤◌, ◌-◌, ◌∙◌, ℕ, List, length, take, drop, ap, sym, subst, arith}
-use Rattle.pop3_wire.specs.Place.{HasNoLine}
+use Rattle.std.proofs.Common.{◌≤◌, ◌-◌, ◌∙◌, ℕ, List, length, drop, ap, sym, subst, arith}
 use Rattle.pop3_wire.proofs.LineReaderLemmas.{no_line_skip, window_skip}
 use Rattle.pop3_wire.proofs.line_reader.LineReader.skip.Goals as goal
 
@@ -8,15 +7,8 @@ invariant_of-self c =
     let r = c.self.inside in
     let fits = window_skip r.bytes r.start r.end c.args.n (subst (λ (l : List ℕ). c.args.n ≤ length l) (sym c.self.view_is) c.requires) in
     let low : c.args.n ≤ r.end - r.start = fits.0 in
-    let left : c.saturating_sub-self-inside.result ≡ r.searched - c.args.n = c.saturating_sub-self-inside.ensures in
     let known = no_line_skip c.args.n r.searched _ c.self.invariant.3 in
-    let ordered : r.start ≤ r.end = c.self.invariant.0 in
-    let within : r.searched ≤ r.end - r.start = c.self.invariant.2 in (
-      omega arith,
-      c.self.invariant.1,
-      omega arith,
-      subst (HasNoLine c.saturating_sub-self-inside.result) (sym fits.1) (subst (λ (k : ℕ). HasNoLine k (drop c.args.n (take (r.end - r.start) (drop r.start r.bytes)))) (sym left) known),
-    )
+    (omega arith, c.self.invariant.1, omega arith, rw (fits.1, c.saturating_sub-self-inside.ensures) known)
 
 pub returns : goal.returns
 returns c =

@@ -1,8 +1,7 @@
-use Rattle.std.proofs.Common.{◌≡◌, ◌+◌, ◌++◌, List, ℕ, inl, inr, drop, length, ap, sym, ◌∙◌, subst, take-append-drop, arith}
+use Rattle.std.proofs.Common.{◌≡◌, ◌+◌, ◌++◌, List, ℕ, drop, length, ap, sym, ◌∙◌, subst, take-append-drop, arith}
 use Rattle.std.proofs.lemmas.Grind.{common_steps}
 use Rattle.std.proofs.Math.Seq.{take-add, take-append_seam}
 use Rattle.pop3_wire.specs.Script.{Script, is_sound, IsTold}
-use Rattle.pop3_wire.proofs.ScriptLemmas.{told_on}
 use Rattle.pop3_wire.proofs.script_wire.ScriptWireWire.recv.Goals.{then-self, else-self}
 use Rattle.pop3_wire.proofs.script_wire.ScriptWireWire.recv.Goals as goal
 
@@ -21,14 +20,16 @@ returns-clause-got c = λ below. (
   (
     ap (λ (w : Script). w.replies) c.self.view_is,
     ap (λ (w : Script). w.cut) c.self.view_is,
-    λ told. told_on _ _ c.min-n.result (returns-clause-front c)
-        (λ e. elim c.if-self.branch [
-          | then-self w ↦ inl w.if-self.true
-          | else-self w ↦ inr (let none = sym w.self-is ∙ e in grind (arith, none))
-        ])
-        (λ all. let whole = ap length all in grind (arith, common_steps, whole))
-        (λ none. grind (arith, common_steps))
-        (subst (λ (w : Script). IsTold w) (sym c.self.view_is) told),
+    λ told. record {
+      begins = returns-clause-front c;
+      whole = λ e.
+          let was = subst (λ (w : Script). IsTold w) (sym c.self.view_is) told in
+          let none : c.min-n.result ≡ 0 = elim c.if-self.branch [
+            | then-self w ↦ let all = ap length (was.whole w.if-self.true) in grind (arith, common_steps, all)
+            | else-self w ↦ let empty = sym w.self-is ∙ e in grind (arith, empty)
+          ] in
+          grind (arith, common_steps, none);
+    },
   ),
   grind (arith, common_steps, take-add, take-append_seam),
 )

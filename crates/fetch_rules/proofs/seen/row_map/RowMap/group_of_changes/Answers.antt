@@ -1,4 +1,4 @@
-use Rattle.std.proofs.Common.{◌≡◌, ◌≢◌, ◌⊎◌, ◌≤◌, ◌+◌, ◌++◌, ◌∙◌, ◌||◌, ◌&&◌, not, Bool, true, false, refl, sym, ap, subst, arith}
+use Rattle.std.proofs.Common.{◌≡◌, ◌≢◌, ◌⊎◌, ◌≤◌, ◌+◌, ◌++◌, ◌∙◌, ◌||◌, ◌&&◌, not, Bool, refl, sym, ap, subst, arith}
 use Rattle.mail_terms.specs.UniqueId.{IsLegalId}
 use Rattle.mail_terms.specs.Listing.{is_flagged}
 use Rattle.fetch_rules.specs.Record.{Row, is_delivered}
@@ -11,10 +11,7 @@ use Rattle.fetch_rules.proofs.GrowthLemmas.{HasWritten-skips, HasWritten-adds, H
 use Rattle.fetch_rules.proofs.seen.row_map.RowMap.group_of_changes.Goals as goal
 
 or_flagged : (old also known has : Bool) → known ≡ old → has ≡ (also && not known) → (old || has) ≡ (old || also)
-or_flagged true also known has same told = refl
-or_flagged false also true has same told = cc
-or_flagged false true false has same told = told
-or_flagged false false false has same told = told
+or_flagged old also known has same told = grind arith
 
 pub is_marked-delivered-requires : goal.is_marked-delivered-requires
 is_marked-delivered-requires g c = subst (λ (row : Row). IsLegalId row.uid) (c.at.ensures _) (c.len-place-end.ensures.is_record.each c.loop-place.place (row_from c.at.result.0.now c.at.result.1) (omega arith)).legal

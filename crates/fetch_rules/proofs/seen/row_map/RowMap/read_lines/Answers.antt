@@ -1,11 +1,11 @@
 use Rattle.std.proofs.Common.{◌∙◌, ◌++◌, ◌+◌, sym, ap, subst, min}
 use Rattle.std.proofs.lemmas.Result.{err_from_is_err_and}
-use Rattle.fetch_rules.specs.RecordFile.{IsLine, text_of}
+use Rattle.fetch_rules.specs.RecordFile.{RowLine, IntentLine, IsLine, text_of}
 use Rattle.fetch_rules.specs.RecordMeaning.{Means, Fault}
 use Rattle.fetch_rules.specs.Rows.{row_from}
 use Rattle.fetch_rules.specs.Lines.{line_seen, open_seen, intent_seen}
 use Rattle.fetch_rules.proofs.OutgrownLemmas.{apart-none, apart-row, apart-group, apart-intent}
-use Rattle.fetch_rules.proofs.ProgressLemmas.{Reads, seen_behind, Reads-none, Reads-row, Reads-group, Reads-intent, Reads-fails, Reads-group_fails, Reads-intent_fails}
+use Rattle.fetch_rules.proofs.ProgressLemmas.{Reads, seen_behind, Reads-none, Reads-row, Reads-group, Reads-intent, Reads-fails, Reads-group_fails}
 use Rattle.fetch_rules.proofs.seen.row_map.RowMap.read_lines.Goals as goal
 use Rattle.fetch_rules.proofs.seen.row_map.RowMap.read_lines.Goals.{in-Row+in_ok-part-in-Row, in-Group+in_ok-part-in-Group, in-Opening+in_ok-take_intent-in-Opening}
 
@@ -16,10 +16,10 @@ pub returns-in_err-part-in-Row-clause-err : goal.returns-in_err-part-in-Row-clau
 returns-in_err-part-in-Row-clause-err g c =
     let p = err_from_is_err_and c.from_residual.result c.from_residual.ensures.1 in
     rw (p.1, p.2) (λ differs.
-    Reads-fails c.args.bytes.now c.in-Some.older c.loop-line.part (open_seen c.loop-line.intent) c.loop-line.self c.loop-line.rest.now c.loop-line.number c.loop-line.front (row_from c.in-Row.row.uid.now c.in-Row.row.state) c.in-Some-read_line.behind.now c.in_err-part-in-Row.field-0.0
+    Reads-fails c.args.bytes.now c.in-Some.older c.loop-line.part (open_seen c.loop-line.intent) c.loop-line.self c.loop-line.rest.now c.loop-line.number c.loop-line.front (RowLine (row_from c.in-Row.row.uid.now c.in-Row.row.state)) c.in-Some-read_line.behind.now c.in_err-part-in-Row.field-0.0
     c.loop-line.invariant.0 (subst (λ line. IsLine (line_seen line)) c.in-Row.is c.in-Some-read_line.ensures.is_line)
     (c.in-Some-read_line.ensures.found ∙ ap (λ line. text_of (line_seen line) ++ c.in-Some-read_line.behind.now) c.in-Row.is)
-    (c.in_err-part-in-Row.ensures.err differs))
+    (λ n before. c.in_err-part-in-Row.ensures.err differs n before (open_seen c.loop-line.intent)))
 
 pub returns-in_err-part-in-Group-clause-err : goal.returns-in_err-part-in-Group-clause-err
 returns-in_err-part-in-Group-clause-err g c =
@@ -35,7 +35,7 @@ pub returns-in_err-take_intent-in-Opening-clause-err : goal.returns-in_err-take_
 returns-in_err-take_intent-in-Opening-clause-err g c =
     let p = err_from_is_err_and c.from_residual-in_err-take_intent-in-Opening.result c.from_residual-in_err-take_intent-in-Opening.ensures.1 in
     rw (p.1, p.2) (λ differs.
-    Reads-intent_fails c.args.bytes.now c.in-Some.older c.loop-line.part (open_seen c.loop-line.intent) c.loop-line.self c.loop-line.rest.now c.loop-line.number c.loop-line.front (intent_seen c.in-Opening.opened) c.in-Some-read_line.behind.now
+    Reads-fails c.args.bytes.now c.in-Some.older c.loop-line.part (open_seen c.loop-line.intent) c.loop-line.self c.loop-line.rest.now c.loop-line.number c.loop-line.front (IntentLine (intent_seen c.in-Opening.opened)) c.in-Some-read_line.behind.now
     c.in_err-take_intent-in-Opening.field-0.0
     c.loop-line.invariant.0 (subst (λ line. IsLine (line_seen line)) c.in-Opening.is c.in-Some-read_line.ensures.is_line)
     (c.in-Some-read_line.ensures.found ∙ ap (λ line. text_of (line_seen line) ++ c.in-Some-read_line.behind.now) c.in-Opening.is)
