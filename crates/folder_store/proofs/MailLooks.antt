@@ -272,7 +272,7 @@ told_one {A} folder b0 b1 b2 names done l n = by l n
         )
 
 -- no name was told
-one_lacking : (A B : Type 0) (b0 b1 b2 : Directories) (folder : Folder) (fault : StoreFault) → Learns b0 b1 → Then (λ m x. Lacks m folder fault x) b1 b2
+pub one_lacking : (A B : Type 0) (b0 b1 b2 : Directories) (folder : Folder) (fault : StoreFault) → Learns b0 b1 → Then (λ m x. Lacks m folder fault x) b1 b2
     → TellsOne {A = A} {B = B} b0 folder (Err fault) b2
 one_lacking A B b0 b1 b2 folder Missing led t = (
   leads_after b0 b1 b2 led (then_leads (λ m x. Lacks m folder Missing x) b1 b2 (λ m h. lacks_leads m b2 folder Missing h) t),
@@ -282,7 +282,7 @@ one_lacking A B b0 b1 b2 folder Refused led t = leads_after b0 b1 b2 led (then_l
 one_lacking A B b0 b1 b2 folder NotMbox led t = absurd t.2
 one_lacking A B b0 b1 b2 folder NoMemory led t = absurd t.2
 
-one_unflushed : (A B T : Type 0) (b0 b1 b2 : Directories) (folder : Folder) (fault : StoreFault) → Learns b0 b1 → Then (FlushesNamesIn {T = T} folder (Err fault)) b1 b2
+pub one_unflushed : (A B T : Type 0) (b0 b1 b2 : Directories) (folder : Folder) (fault : StoreFault) → Learns b0 b1 → Then (FlushesNamesIn {T = T} folder (Err fault)) b1 b2
     → TellsOne {A = A} {B = B} b0 folder (Err fault) b2
 one_unflushed A B T b0 b1 b2 folder Missing led t = (
   leads_after b0 b1 b2 led (flushes_leads {T = T} folder b1 b2 (Err Missing) t),
@@ -291,16 +291,6 @@ one_unflushed A B T b0 b1 b2 folder Missing led t = (
 one_unflushed A B T b0 b1 b2 folder Refused led t = leads_after b0 b1 b2 led (flushes_leads {T = T} folder b1 b2 (Err Refused) t)
 one_unflushed A B T b0 b1 b2 folder NotMbox led t = absurd t.2
 one_unflushed A B T b0 b1 b2 folder NoMemory led t = absurd t.2
-
-pub one_lacked : {A B : Type 0} (b0 b1 : Directories) (folder : Folder) (fault : StoreFault) (r : Result (Vec (String A) B) StoreFault) → r ≡ Err fault
-    → Then (λ m x. Lacks m folder fault x) b0 b1 → TellsOne b0 folder r b1
-one_lacked {A} {B} b0 b1 folder fault r is t =
-    subst (λ (r : Result (Vec (String A) B) StoreFault). TellsOne b0 folder r b1) (sym is) (one_lacking A B b0 b0 b1 folder fault (learns_same b0) t)
-
-pub one_not_flushed : {A B : Type 0} (b0 b1 b2 : Directories) (folder : Folder) (fault : StoreFault) (r : Result (Vec (String A) B) StoreFault) → r ≡ Err fault
-    → Learns b0 b1 → Then (FlushesNamesIn {T = Unit {0}} folder (Err fault)) b1 b2 → TellsOne b0 folder r b2
-one_not_flushed {A} {B} b0 b1 b2 folder fault r is led t =
-    subst (λ (r : Result (Vec (String A) B) StoreFault). TellsOne b0 folder r b2) (sym is) (one_unflushed A B (Unit {0}) b0 b1 b2 folder fault led t)
 
 -- ---- a call that answered a fault
 
@@ -317,16 +307,12 @@ unflushed {A} {B} old a b folder fault r is led t =
 -- ---- looks again and again
 
 -- others may have moved files before a look that was refused
-pub told_none : {A B : Type 0} (a b c : Directories) (fault : StoreFault) (r : Result (Vec (String A) B) StoreFault) → r ≡ Err fault
-    → Learns a b → LooksAtBoth {A = A} {B = B} b (Err fault) c → TellsBoth a r c
-told_none {A} {B} a b c fault r is before look =
-    subst (λ (r : Result (Vec (String A) B) StoreFault). TellsBoth a r c) (sym is) (by fault look)
-  where
-    by : (f : StoreFault) → LooksAtBoth {A = A} {B = B} b (Err f) c → TellsBoth {A = A} {B = B} a (Err f) c
-    by Missing look = (learns_on a b c before look.0, look.1)
-    by Refused look = learns_on a b c before look
-    by NotMbox look = absurd look
-    by NoMemory look = absurd look
+pub told_none : (A B : Type 0) (a b c : Directories) (fault : StoreFault) → Learns a b → LooksAtBoth {A = A} {B = B} b (Err fault) c
+    → TellsBoth {A = A} {B = B} a (Err fault) c
+told_none A B a b c Missing before look = (learns_on a b c before look.0, look.1)
+told_none A B a b c Refused before look = learns_on a b c before look
+told_none A B a b c NotMbox before look = absurd look
+told_none A B a b c NoMemory before look = absurd look
 
 pub told_some : {A B : Type 0} (a b c : Directories) (o : Option (Vec (String A) B)) (names : Vec (String A) B) → o ≡ Some names
     → Learns a b → LooksAtBoth b (Ok o) c → Learns a c × ToldBoth names.items c

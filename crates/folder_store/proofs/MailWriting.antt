@@ -41,12 +41,13 @@ begun_anew a b begun title name n same (m, v, (there, e)) = (
 pub made_anew : (a b : Directories) → Then (MakesDraft {T = Unit {0}} (Ok tt)) a b → Brings a [] b
 made_anew a b (m, v, (there, e)) = moved_brings a m b v (made_brings m b (Some (record { content = []; is_flushed = false })) e)
 
-pub begin_missing : (a b : Directories) (begun : Option (List ℕ)) (n : ℕ) → Then (MakesDraft {T = Unit {0}} (Err Missing)) a b
+pub begin_missing : (a b : Directories) (begun : Option (List ℕ)) (n : ℕ) (fault : StoreFault) → fault ≡ Missing → Then (MakesDraft {T = Unit {0}} (Err fault)) a b
     → (a.there.tmp ≡ false) × (maildir_in b begun n ≡ maildir_in a begun n)
-begin_missing a b begun n (m, v, (gone, e)) = (
-  ap (λ (t : Folders). t.tmp) (sym v.there) ∙ gone,
-  ap (λ (x : Directories). maildir_in x begun n) e ∙ leads_maildir a m begun n (moved_leads a m v),
-)
+begin_missing a b begun n fault is t =
+    let u = subst (λ (x : StoreFault). Then (MakesDraft {T = Unit {0}} (Err x)) a b) is t in (
+      ap (λ (t : Folders). t.tmp) (sym u.1.there) ∙ u.2.0,
+      ap (λ (x : Directories). maildir_in x begun n) u.2.1 ∙ leads_maildir a u.0 begun n (moved_leads a u.0 u.1),
+    )
 
 pub begin_refused : (a b : Directories) (begun : Option (List ℕ)) (n k : ℕ) → k ≡ n + 1 → Then ChangesMade a b → (maildir_in a begun n).begun ≡ None
     → maildir_in b begun k ≡ counted (maildir_in a begun n)
@@ -126,39 +127,12 @@ not_settled_keeps a b c name fault (inr (d, made, put)) gives unknown = (brings_
 
 -- ---- the calls of settling
 
-pub flush_refused : (b0 b1 : Directories) (name : List ℕ) (fault : StoreFault) (r : Result (Unit {0}) StoreFault) (x : StoreFault) → r ≡ Err x
-    → Then (FlushesDraft {T = Unit {0}} (Err fault)) b0 b1 → PutsForGood b0 name r b1
-flush_refused b0 b1 name fault r x is t = subst (λ (r : Result (Unit {0}) StoreFault). PutsForGood b0 name r b1) (sym is) (inl (gives_up b0 b1 t))
-
--- the call stopped after the flush
-pub stopped : (b0 b1 b2 : Directories) (name : List ℕ) (r : Result (Unit {0}) StoreFault) (x : StoreFault) → r ≡ Err x
-    → Then (FlushesDraft {T = Unit {0}} (Ok tt)) b0 b1 → Leads b1 b2 → PutsForGood b0 name r b2
-stopped b0 b1 b2 name r x is f led =
-    subst (λ (r : Result (Unit {0}) StoreFault). PutsForGood b0 name r b2) (sym is) (inl (flushed_brings b0 b1 b2 f led))
-
-not_put : (b0 b1 b2 b3 : Directories) (name : List ℕ) (fault x : StoreFault) → Then (FlushesDraft {T = Unit {0}} (Ok tt)) b0 b1 → Leads b1 b2
+pub not_put : (b0 b1 b2 b3 : Directories) (name : List ℕ) (fault x : StoreFault) → Then (FlushesDraft {T = Unit {0}} (Ok tt)) b0 b1 → Leads b1 b2
     → Then (PutsDraft {T = Unit {0}} name (Err fault)) b2 b3 → PutsForGood {T = Unit {0}} b0 name (Err x) b3
 not_put b0 b1 b2 b3 name fault x f led (m, v, inl change) = inl (brings_on b0 b2 b3 [] [] (flushed_brings b0 b1 b2 f led) (changes_bring b2 b3 (m, v, change)))
 not_put b0 b1 b2 b3 name fault x f led (m, v, inr p) = inr (put_unnamed b0 b1 b2 b3 b3 name f led (m, v, p) (leads_same b3))
-
-pub put_refused : (b0 b1 b2 b3 : Directories) (name : List ℕ) (fault : StoreFault) (r : Result (Unit {0}) StoreFault) (x : StoreFault) → r ≡ Err x
-    → Then (FlushesDraft {T = Unit {0}} (Ok tt)) b0 b1 → Leads b1 b2 → Then (PutsDraft {T = Unit {0}} name (Err fault)) b2 b3 → PutsForGood b0 name r b3
-put_refused b0 b1 b2 b3 name fault r x is f led p =
-    subst (λ (r : Result (Unit {0}) StoreFault). PutsForGood b0 name r b3) (sym is) (not_put b0 b1 b2 b3 name fault x f led p)
 
 pub put_all : (b0 b1 b2 b3 b4 : Directories) (name : List ℕ) (r : Result (Unit {0}) StoreFault) → Then (FlushesDraft {T = Unit {0}} (Ok tt)) b0 b1 → Leads b1 b2
     → Then (PutsIntoNew name) b2 b3 → Then (FlushesNamesIn New r) b3 b4 → PutsForGood b0 name r b4
 put_all b0 b1 b2 b3 b4 name (Ok done) f led p n = put_for_good b0 b1 b2 b3 b4 name f led p n
 put_all b0 b1 b2 b3 b4 name (Err fault) f led p n = inr (put_unnamed b0 b1 b2 b3 b4 name f led p (flushes_leads {T = Unit {0}} New b3 b4 (Err fault) n))
-
--- `begin` found no folder, or was refused
-pub begins_missing : (a b : Directories) (begun : Option (List ℕ)) (n : ℕ) (fault : StoreFault) → fault ≡ Missing → Then (MakesDraft {T = Unit {0}} (Err fault)) a b
-    → ((a.there.tmp ≡ false) × (maildir_in b begun n ≡ maildir_in a begun n)) × KeepsMail (StaysIn a.entries) (OutlivesIn a.entries) (StaysIn b.entries) (OutlivesIn b.entries)
-begins_missing a b begun n fault is t =
-    (begin_missing a b begun n (subst (λ (x : StoreFault). Then (MakesDraft {T = Unit {0}} (Err x)) a b) is t), (changes_bring a b (makes_change a b fault t)).keeps)
-
-pub begins_refused : (a b : Directories) (begun : Option (List ℕ)) (name : List ℕ) (n k : ℕ) (fault x : StoreFault) → x ≡ Refused → k ≡ n + 1 → Then (MakesDraft {T = Unit {0}} (Err fault)) a b
-    → (maildir_in a begun n).begun ≡ None → Begins {T = Unit {0}} (maildir_in a begun n) name (Err x) (maildir_in b begun k)
-begins_refused a b begun name n k fault x is up t none =
-    subst (λ (x : StoreFault). Begins {T = Unit {0}} (maildir_in a begun n) name (Err x) (maildir_in b begun k)) (sym is)
-    (begin_refused a b begun n k up (makes_change a b fault t) none)

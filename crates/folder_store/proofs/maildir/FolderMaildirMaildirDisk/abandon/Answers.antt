@@ -11,10 +11,8 @@ returns-then-is_some-clause-drops g c = λ s.
     let now = c.args.self.now in (
       (t.0, s.1),
       ap (λ o. maildir_in (b c.discard.new.self) (option_map string_bytes o) now.failures) c.take.ensures.after
-          ∙ maildir_dropped (b now.folders) (b c.discard.new.self) (option_map string_bytes now.begun) now.failures now.failures (gives_up (b now.folders) (b c.discard.new.self) t.1),
+          ∙ maildir_dropped (b now.folders) (b c.discard.new.self) (option_map string_bytes now.begun) now.failures now.failures (gives_up _ _ t.1),
     )
 
 pub returns-then-is_some-clause-lasts : goal.returns-then-is_some-clause-lasts
-returns-then-is_some-clause-lasts g c = λ s.
-    let b = g.F.MailFolders.directories in
-    (gives_up (b c.args.self.now.folders) (b c.discard.new.self) (c.discard.ensures s.0).1).keeps
+returns-then-is_some-clause-lasts g c = λ s. (gives_up _ _ (c.discard.ensures s.0).1).keeps

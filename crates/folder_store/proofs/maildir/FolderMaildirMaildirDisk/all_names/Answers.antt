@@ -17,14 +17,14 @@ returns-clause-lists g c = λ s.
       (t.0, c.in_ok-admit.ensures.admitted),
       subst (λ (r : Result (Vec (String Global) Global) StoreFault). AfterTaking (maildir_in (d now.folders) begun now.failures) (λ left. ListsAll left r (maildir_in (d c.told_names.new.folders) begun c.tally.new.failures)))
           (sym c.tally.ensures.same)
-          (told_all (d now.folders) (d c.told_names.new.folders) begun now.failures c.tally.new.failures c.told_names.result t.1 c.tally.ensures.counted),
+          (told_all _ _ _ _ _ c.told_names.result t.1 c.tally.ensures.counted),
     )
 
 pub returns-clause-lasts : goal.returns-clause-lasts
 returns-clause-lasts g c = λ s.
     let d = g.F.MailFolders.directories in
     let t = c.told_names.ensures.tells s.0 in (
-      (both_learn (d c.args.self.now.folders) (d c.told_names.new.folders) c.told_names.result t.1).keeps,
+      (both_learn _ _ c.told_names.result t.1).keeps,
       subst (λ (r : Result (Vec (String Global) Global) StoreFault). ToldStay r (StaysIn (d c.told_names.new.folders).entries)) (sym c.tally.ensures.same)
-          (all_stay (d c.args.self.now.folders) (d c.told_names.new.folders) c.told_names.result t.1),
+          (all_stay _ _ c.told_names.result t.1),
     )

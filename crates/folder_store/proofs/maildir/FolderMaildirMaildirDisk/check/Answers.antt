@@ -16,10 +16,8 @@ returns-clause-checks g c = λ s.
       (t.0, c.in_ok-admit.ensures.admitted),
       subst (λ (r : Result (Unit {0}) StoreFault). Checks (maildir_in (d now.folders) begun now.failures) c.args.folder r (maildir_in (d c.check.new.self) begun c.tally.new.failures))
           (sym c.tally.ensures.same)
-          (checked (d now.folders) (d c.check.new.self) c.args.folder begun now.failures c.tally.new.failures c.check.result t.1 c.tally.ensures.counted),
+          (checked _ _ _ _ _ _ c.check.result t.1 c.tally.ensures.counted),
     )
 
 pub returns-clause-lasts : goal.returns-clause-lasts
-returns-clause-lasts g c = λ s.
-    let d = g.F.MailFolders.directories in
-    (checks_leads c.args.folder (d c.args.self.now.folders) (d c.check.new.self) c.check.result (c.check.ensures.checks s.0).1).keeps
+returns-clause-lasts g c = λ s. (checks_leads c.args.folder _ _ c.check.result (c.check.ensures.checks s.0).1).keeps

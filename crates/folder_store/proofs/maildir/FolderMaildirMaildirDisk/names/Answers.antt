@@ -15,10 +15,8 @@ returns-clause-lists g c = λ s.
       (t.0, c.in_ok-admit.ensures.admitted),
       subst (λ (r : Result (Vec (String Global) Global) StoreFault). AfterTaking (maildir_in (d now.folders) begun now.failures) (λ left. Lists left c.args.folder r (maildir_in (d c.told_names_of.new.folders) begun c.tally.new.failures)))
           (sym c.tally.ensures.same)
-          (told_those (d now.folders) (d c.told_names_of.new.folders) c.args.folder begun now.failures c.tally.new.failures c.told_names_of.result t.1 c.tally.ensures.counted),
+          (told_those _ _ _ _ _ _ c.told_names_of.result t.1 c.tally.ensures.counted),
     )
 
 pub returns-clause-lasts : goal.returns-clause-lasts
-returns-clause-lasts g c = λ s.
-    let d = g.F.MailFolders.directories in
-    (one_learns (d c.args.self.now.folders) (d c.told_names_of.new.folders) c.args.folder c.told_names_of.result (c.told_names_of.ensures.tells s.0).1).keeps
+returns-clause-lasts g c = λ s. (one_learns _ _ c.args.folder c.told_names_of.result (c.told_names_of.ensures.tells s.0).1).keeps
