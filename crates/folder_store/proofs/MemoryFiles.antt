@@ -1,5 +1,5 @@
 -- The files that a folder in memory keeps, as entries.
-use Rattle.std.proofs.Common.{◌≡◌, ℕ, zero, suc, ◌<◌, length, get_or, slice_set, refl, List, [], ◌∷◌, ◌++◌, cond, sym, ap, subst, ◌∙◌, arith, Bool, false, Some, None, Result, Ok, Err, inl, inr, String, Global, string_bytes}
+use Rattle.std.proofs.Common.{◌≡◌, ℕ, zero, suc, ◌<◌, length, get_or, slice_set, refl, List, [], ◌∷◌, ◌++◌, cond, sym, ap, subst, ◌∙◌, arith, Bool, false, Option, Some, None, Result, Ok, Err, inl, inr, String, Global, string_bytes}
 use Rattle.std.specs.Prelude.{HoldsAt, bytes_eq, ◌⊎◌, ◌≢◌, Contains, OnOk, OnErr}
 use Rattle.std.proofs.lemmas.Slice.Eq.{bytes_eq-Decides}
 use Rattle.std.proofs.lemmas.Bool.{cases_Bool, false_from_ne_true}
@@ -105,6 +105,12 @@ was_seen seen files text name i e t inside at first now is was w =
 pub none_seen : (seen files : List Pair) (text name : List ℕ) → seen ≡ files → text ≡ name → find text (entries_of seen) ≡ None → find name (entries_of files) ≡ None
 none_seen seen files text name e t none =
     subst (λ (fs : List Pair). find name (entries_of fs) ≡ None) e (subst (λ (n : List ℕ). find n (entries_of seen) ≡ None) t none)
+
+-- the file that a look into the folder found
+pub found_in : (name : List ℕ) (o : Option Blob) (seen files : List Pair) (was now : Directory) → o ≡ find name (entries_of seen) → seen ≡ files → was ≡ now
+    → was.entries ≡ entries_of files → find name now.entries ≡ o
+found_in name o seen files was now found e view same =
+    ap (λ (d : Directory). find name d.entries) (sym view) ∙ ap (find name) (same ∙ ap entries_of (sym e)) ∙ sym found
 
 -- what `change` did is what the calls promise
 module _ (old new : Directory) (name : List ℕ) (b file : Blob) where
