@@ -13,17 +13,22 @@ use Rattle.folder_store.specs.MailFolders.{MailFile, Draft, Directories, KeepsFi
 use Rattle.folder_store.specs.MailPower.{AreLeftAs, IsLeftAs, LeavesMail, StaysIn, OutlivesIn, AllFlushed, AllNamed}
 use Rattle.folder_store.specs.MailCalls.{Leads, named_by, names_flushed_in}
 
+-- what holds of two lists of files that are so related one by one
+each_by : (Does : MailFile → MailFile → Type 0) (P : List MailFile → List MailFile → Type 0) → P [] []
+    → ((s t : MailFile) (ss ts : List MailFile) → Does s t → P ss ts → P (s ∷ ss) (t ∷ ts)) → (a b : List MailFile) → Each Does a b → P a b
+each_by Does P none more [] [] h = none
+each_by Does P none more [] (t ∷ ts) h = absurd h
+each_by Does P none more (s ∷ ss) [] h = absurd h
+each_by Does P none more (s ∷ ss) (t ∷ ts) h = more s t ss ts h.0 (each_by Does P none more ss ts h.1)
+
 -- ---- files that keep their names up to the colon and their bytes
 
 pub same_mail : (s t : MailFile) → KeepsFile s t → mail_at t ≡ mail_at s
 same_mail s t m = ap (λ (n : List ℕ). file n t.content) m.title ∙ ap (λ (c : List ℕ). file (base s.name) c) m.content
 
 pub files_kept : (a b : List MailFile) → Each KeepsFile a b → files_at b ≡ files_at a
-files_kept [] [] h = refl
-files_kept [] (t ∷ ts) h = absurd h
-files_kept (s ∷ ss) [] h = absurd h
-files_kept (s ∷ ss) (t ∷ ts) h =
-    ap (λ (f : File). f ∷ files_at ts) (same_mail s t h.0) ∙ ap (λ (fs : List File). mail_at s ∷ fs) (files_kept ss ts h.1)
+files_kept a b = each_by KeepsFile (λ a b. files_at b ≡ files_at a) refl
+    (λ s t ss ts k same. ap (λ (f : File). f ∷ files_at ts) (same_mail s t k) ∙ ap (λ (fs : List File). mail_at s ∷ fs) same) a b
 
 pub stays_kept : (a b : List MailFile) → Each KeepsFile a b → (name : List ℕ) → StaysIn a name → StaysIn b name
 stays_kept [] b h name is = absurd is
@@ -38,10 +43,7 @@ outlives_kept (s ∷ ss) (t ∷ ts) h f (inl (is, named, flushed)) = inl (same_m
 outlives_kept (s ∷ ss) (t ∷ ts) h f (inr is) = inr (outlives_kept ss ts h.1 f is)
 
 pub flushed_kept : (a b : List MailFile) → Each KeepsFile a b → AllFlushed a → AllFlushed b
-flushed_kept [] [] h all = tt
-flushed_kept [] (t ∷ ts) h all = absurd h
-flushed_kept (s ∷ ss) [] h all = absurd h
-flushed_kept (s ∷ ss) (t ∷ ts) h all = (h.0.flushed all.0, flushed_kept ss ts h.1 all.1)
+flushed_kept a b = each_by KeepsFile (λ a b. AllFlushed a → AllFlushed b) (λ all. all) (λ s t ss ts k rest all. (k.flushed all.0, rest all.1)) a b
 
 -- what a loss of power leaves of a file could be left of it before, where it was
 abbrev where_it_was : MailFile → MailFile → MailFile
@@ -110,10 +112,7 @@ keeps_leads a b there made keeps = record {
 -- ---- others' moves, and flushes of names
 
 pub each_keeps : (a b : List MailFile) → Each MovesFile a b → Each KeepsFile a b
-each_keeps [] [] h = tt
-each_keeps [] (t ∷ ts) h = absurd h
-each_keeps (s ∷ ss) [] h = absurd h
-each_keeps (s ∷ ss) (t ∷ ts) h = (h.0.keeps, each_keeps ss ts h.1)
+each_keeps a b = each_by MovesFile (Each KeepsFile) tt (λ s t ss ts m rest. (m.keeps, rest)) a b
 
 pub moved_leads : (a b : Directories) → Moved a b → Leads a b
 moved_leads a b m = keeps_leads a b m.there m.made (each_keeps a.entries b.entries m.moves)
@@ -224,10 +223,7 @@ named_cur (s ∷ ss) (inl named, near) = (still_named Cur s named, named_cur ss 
 named_cur (s ∷ ss) (inr touches, near) = (ap (λ (b : Bool). s.is_named || b) touches ∙ or-true s.is_named, named_cur ss near)
 
 pub named_moved : (a b : List MailFile) → Each MovesFile a b → AllNamed a → AllNamed b
-named_moved [] [] h named = tt
-named_moved [] (t ∷ ts) h named = absurd h
-named_moved (s ∷ ss) [] h named = absurd h
-named_moved (s ∷ ss) (t ∷ ts) h named = (h.0.keeps.named named.0, named_moved ss ts h.1 named.1)
+named_moved a b = each_by MovesFile (λ a b. AllNamed a → AllNamed b) (λ all. all) (λ s t ss ts m rest all. (m.keeps.named all.0, rest all.1)) a b
 
 -- each name stays
 pub named_stays : (ss : List MailFile) (name : List ℕ) → AllNamed ss → Contains (names_of (files_at ss)) name → StaysIn ss name
@@ -268,7 +264,4 @@ rests_one s t ss ts r rest = by (cases_Bool s.is_new) (cases_Bool s.is_gone)
         ∙ ap (λ (ns : List (List ℕ)). s.name ∷ ns) rest ∙ ap (map name_at) (sym (new_stays s ss here new))
 
 pub rests_new : (a b : List MailFile) → Each (RestsFile New) a b → SameNames (entries_in New a) (entries_in New b)
-rests_new [] [] h = refl
-rests_new [] (t ∷ ts) h = absurd h
-rests_new (s ∷ ss) [] h = absurd h
-rests_new (s ∷ ss) (t ∷ ts) h = rests_one s t ss ts h.0 (rests_new ss ts h.1)
+rests_new a b = each_by (RestsFile New) (λ a b. SameNames (entries_in New a) (entries_in New b)) refl rests_one a b
