@@ -10,6 +10,7 @@ use Rattle.mail_store.specs.Maildir.{Maildir, File, Folders, IsPart, file, mail,
 use Rattle.folder_store.specs.MailFolders.{MailFile, Draft, Directories, KeepsFile, MovesFile, Each, Moved, mail_at, files_at, touches_new, maildir_in, content_made}
 use Rattle.folder_store.specs.MailPower.{AllFlushed, AreLeftAs, IsLeftAs, LeavesMail, StaysIn, OutlivesIn}
 use Rattle.folder_store.specs.MailCalls.{Leads, Brings, Then, FlushesDraft, PutsIntoNew, put_as, IsUnknown, StandsIn, PutsForGood, FlushesNamesIn, named_by}
+use Rattle.folder_store.proofs.Files.{some_is}
 use Rattle.folder_store.proofs.MailMoves.{moved_leads, same_mail, leaves_kept, leaves_on, each_same, same_keeps}
 use Rattle.folder_store.proofs.MailLooks.{flushes_leads}
 
@@ -136,9 +137,6 @@ put_brings m b name p unknown flushed =
       },
       comes_last m.entries put refl flushed,
     )
-
-pub some_is : {A : Type 0} (x y : A) → Some x ≡ Some y → x ≡ y
-some_is x y e = cc
 
 -- the file made was flushed, others were moved, and it was put
 pub flushed_put : (b0 b1 b2 b3 : Directories) (name : List ℕ) → Then (FlushesDraft {T = Unit {0}} (Ok tt)) b0 b1 → Leads b1 b2 → Then (PutsIntoNew name) b2 b3

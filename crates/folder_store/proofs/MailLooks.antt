@@ -15,7 +15,7 @@ use Rattle.mail_store.specs.Maildir.{File, Folders, bases_told, names_of, is_the
 use Rattle.folder_store.specs.MailFolders.{MailFile, Directories, MovesFile, Each, Moved, is_in, is_left, touches, files_at, name_at, is_in_new, is_in_cur, entries_in}
 use Rattle.folder_store.specs.MailPower.{AllNamed, StaysIn}
 use Rattle.folder_store.specs.MailCalls.{Leads, Learns, Then, TellsBoth, Lacks, TellsRest, ChecksIn, LooksUpNew, ListsIn, FlushesNamesIn, ToldBoth, TellsOne, LooksAtBoth, listed, named_by}
-use Rattle.folder_store.proofs.MailLearns.{learns_on, learns_same, leads_learns, left_twice, listed_learns, named_left}
+use Rattle.folder_store.proofs.MailLearns.{learns_on, leads_learns, left_twice, listed_learns, named_left}
 use Rattle.folder_store.proofs.MailMoves.{Near, moved_leads, flush_leads, leads_same, leads_on, near_new, near_moved, named_cur, named_moved, rests_new}
 
 -- ---- each call

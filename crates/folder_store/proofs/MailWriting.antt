@@ -5,14 +5,15 @@ use Rattle.std.proofs.lemmas.List.{append-nil}
 use Rattle.mail_store.specs.declared.fault.StoreFault.{StoreFault}
 use Rattle.mail_store.specs.declared.fault.StoreFault.TheVariants.{Missing, Refused, NotMbox, NoMemory}
 use Rattle.mail_store.specs.declared.maildir.disk.Folder.TheVariants.{New}
-use Rattle.mail_store.specs.Maildir.{File, Folders, file, mail, counted, dropped, with_file, Begins}
+use Rattle.mail_store.specs.Maildir.{File, Folders, file, mail, counted, dropped, with_file}
 use Rattle.mail_store.specs.Power.{KeepsMail}
 use Rattle.folder_store.specs.MailFolders.{Draft, Directories, files_at, maildir_in, content_made}
 use Rattle.folder_store.specs.MailPower.{StaysIn, OutlivesIn}
 use Rattle.folder_store.specs.MailCalls.{Leads, Brings, Then, ChangesMade, FlushesDraft, FlushesNamesIn, GivesUp, MakesDraft, PutsDraft, PutsIntoNew, WritesDraft, IsUnknown, PutsForGood}
 use Rattle.folder_store.proofs.MailLooks.{flushes_leads}
 use Rattle.folder_store.proofs.MailMoves.{moved_leads, leads_maildir, leads_same}
-use Rattle.folder_store.proofs.MailBrings.{flushed_brings, put_for_good, put_unnamed, brings_on, made_brings, moved_brings, maildir_brought, maildir_with, some_is}
+use Rattle.folder_store.proofs.Files.{some_is}
+use Rattle.folder_store.proofs.MailBrings.{flushed_brings, put_for_good, put_unnamed, brings_on, made_brings, moved_brings, maildir_brought, maildir_with}
 
 pub changes_bring : (a b : Directories) → Then ChangesMade a b → Brings a [] b
 changes_bring a b (m, v, (d, e)) = moved_brings a m b v (made_brings m b d e)
@@ -25,9 +26,6 @@ makes_change a b NoMemory t = absurd t.2
 
 made_begun : (a : Directories) (title : List ℕ) (n : ℕ) (f : File) → (maildir_in a (Some title) n).begun ≡ Some f → file title (content_made a.made) ≡ f
 made_begun a title n f h = some_is (file title (content_made a.made)) f h
-
-none_begun : (f : File) → None ≡ Some f → ⊥
-none_begun f h = cc
 
 pub begun_anew : (a b : Directories) (begun : Option (List ℕ)) (title name : List ℕ) (n : ℕ) → title ≡ name → Then (MakesDraft {T = Unit {0}} (Ok tt)) a b
     → (a.there.tmp ≡ true) × (maildir_in b (Some title) n ≡ record (maildir_in a begun n) { begun = Some (file name []) })
@@ -61,7 +59,7 @@ begin_refused a b (Some name) n k up t none = absurd cc
 
 pub added : (a b : Directories) (begun : Option (List ℕ)) (bytes : List ℕ) (n : ℕ) → Then (WritesDraft {T = Unit {0}} bytes (Ok tt)) a b → (f : File) → (maildir_in a begun n).begun ≡ Some f
     → maildir_in b begun n ≡ record (maildir_in a begun n) { begun = Some (file f.name (f.content ++ bytes)) }
-added a b None bytes n t f h = absurd (none_begun f h)
+added a b None bytes n t f h = absurd cc
 added a b (Some title) bytes n (m, v, (d, made, e)) f h =
     let longer : content_made b.made ≡ content_made a.made ++ bytes =
     ap content_made (ap (λ (x : Directories). x.made) e) ∙ ap (λ (xs : List ℕ). xs ++ bytes) (sym (ap content_made (sym v.made ∙ made))) in
@@ -74,7 +72,7 @@ added_brings a b bytes (m, v, (d, made, e)) = moved_brings a m b v (made_brings 
 
 pub not_added : (a b : Directories) (begun : Option (List ℕ)) (n k : ℕ) → k ≡ n + 1 → Then ChangesMade a b → (f : File) → (maildir_in a begun n).begun ≡ Some f
     → (content : List ℕ) × (maildir_in b begun k ≡ counted (record (maildir_in a begun n) { begun = Some (file f.name content) }))
-not_added a b None n k up t f h = absurd (none_begun f h)
+not_added a b None n k up t f h = absurd cc
 not_added a b (Some title) n k up t f h = (
   content_made b.made,
   maildir_with a b (Some title) title k n (changes_bring a b t)
@@ -95,7 +93,7 @@ maildir_dropped a b begun n k h =
 
 -- the file made has the bytes of the one that is being written
 same_content : (a : Directories) (begun : Option (List ℕ)) (n : ℕ) (f : File) → (maildir_in a begun n).begun ≡ Some f → (d : Draft) → a.made ≡ Some d → d.content ≡ f.content
-same_content a None n f h d made = absurd (none_begun f h)
+same_content a None n f h d made = absurd cc
 same_content a (Some title) n f h d made = ap content_made (sym made) ∙ ap (λ (g : File). g.content) (made_begun a title n f h)
 
 pub settled : (a b : Directories) (begun : Option (List ℕ)) (name : List ℕ) (n : ℕ) → PutsForGood {T = Unit {0}} a name (Ok tt) b → IsUnknown name a

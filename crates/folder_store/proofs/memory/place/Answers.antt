@@ -1,4 +1,4 @@
-use Rattle.std.proofs.Common.{List, ap, ◌∙◌, string_bytes}
+use Rattle.std.proofs.Common.{List, ap, ◌∙◌}
 use Rattle.folder_store.specs.MemoryFolder.{entries_of}
 use Rattle.folder_store.proofs.MemoryFiles.{Pair, set_seen, was_seen, none_seen, push_placed}
 use Rattle.folder_store.proofs.memory.place.Goals as goal

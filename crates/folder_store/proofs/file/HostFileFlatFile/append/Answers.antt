@@ -1,4 +1,4 @@
-use Rattle.std.proofs.Common.{◌+◌, refl, Ok, Err}
+use Rattle.std.proofs.Common.{refl, Ok, Err}
 use Rattle.folder_store.proofs.Files.{appends}
 use Rattle.folder_store.proofs.PowerLoss.{appends_for_good, told_lasts}
 use Rattle.folder_store.proofs.file.HostFileFlatFile.append.Goals as goal

@@ -1,4 +1,4 @@
-use Rattle.std.proofs.Common.{◌+◌, refl, Ok, Err}
+use Rattle.std.proofs.Common.{refl, Ok, Err}
 use Rattle.folder_store.proofs.Files.{cuts}
 use Rattle.folder_store.proofs.Leaving.{cuts_front}
 use Rattle.folder_store.proofs.PowerLoss.{cuts_for_good, told_lasts}

@@ -1,4 +1,4 @@
-use Rattle.std.proofs.Common.{◌+◌, refl, true, Ok, Err}
+use Rattle.std.proofs.Common.{refl, true, Ok, Err}
 use Rattle.folder_store.proofs.Files.{replaces}
 use Rattle.folder_store.proofs.PowerLoss.{replaces_for_good, told_lasts}
 use Rattle.folder_store.proofs.file.HostFileFlatFile.replace.Goals as goal
