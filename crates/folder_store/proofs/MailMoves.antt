@@ -3,7 +3,7 @@ use Rattle.std.proofs.Common.{◌≡◌, ◌<◌, inl, inr, ℕ, zero, suc, Bool
 use Rattle.std.specs.Prelude.{◌||◌, ◌⊎◌, Contains}
 use Rattle.std.specs.List.{AllByRecursion}
 use Rattle.std.proofs.Math.Bool.{or-true}
-use Rattle.std.proofs.lemmas.Bool.{cases_Bool}
+use Rattle.std.proofs.lemmas.Bool.{cases_Bool, false_from_ne_true}
 use Rattle.std.proofs.lemmas.List.{append-nil}
 use Rattle.mail_terms.specs.MaildirName.{base}
 use Rattle.mail_store.specs.declared.maildir.disk.Folder.{Folder}
@@ -62,11 +62,7 @@ left_before s t u k l = record {
 }
 
 not_named : (s t : MailFile) → KeepsFile s t → t.is_named ≡ false → s.is_named ≡ false
-not_named s t k gone = by (cases_Bool s.is_named)
-  where
-    by : (s.is_named ≡ true) ⊎ (s.is_named ≡ false) → s.is_named ≡ false
-    by (inl named) = absurd (let is = k.named named in cc)
-    by (inr none) = none
+not_named s t k gone = false_from_ne_true s.is_named (λ named. let is = k.named named in cc)
 
 -- what a loss of power leaves of files could be left of them before
 abbrev WereLeft : List MailFile → List MailFile → Type 0

@@ -6,7 +6,7 @@ use Rattle.std.proofs.lemmas.List.{append-nil, length-take, get_or-take, get_or_
 use Rattle.std.proofs.lemmas.Grind.{same_number_lists}
 use Rattle.std.proofs.lemmas.Slice.Eq.{bytes_eq-Decides}
 use Rattle.std.proofs.Math.Seq.{take-append_seam, take-length}
-use Rattle.std.proofs.lemmas.Bool.{true≢false, cases_Bool, cases_lt, eq-eqb}
+use Rattle.std.proofs.lemmas.Bool.{true≢false, cases_Bool, cases_lt, eq-eqb, false_from_ne_true}
 use Rattle.mail_store.specs.declared.fault.StoreFault.{StoreFault}
 use Rattle.mail_store.specs.Power.{LastsWhole, LeavesEither, LeavesPart}
 use Rattle.mail_store.specs.Settling.{block_size, is_lost, MayBeLeft}
@@ -357,10 +357,7 @@ entries_left name None es = others name es
 entries_left name (Some bytes) es = entry name (secured bytes) ∷ others name es
 
 differ : (one two : List ℕ) → (one ≡ two → ⊥) → bytes_eq one two ≡ false
-differ one two apart = elim (cases_Bool (bytes_eq one two)) [
-  | inl same ↦ absurd (apart ((bytes_eq-Decides one two).0 same))
-  | inr not ↦ not
-]
+differ one two apart = false_from_ne_true (bytes_eq one two) (λ same. apart ((bytes_eq-Decides one two).0 same))
 
 find_not : (name : List ℕ) (es : List Entry) → find name (others name es) ≡ None
 find_not name [] = refl
