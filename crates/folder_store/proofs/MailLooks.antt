@@ -78,10 +78,7 @@ lacking A B old a b folder NotMbox led t = absurd t.2
 lacking A B old a b folder NoMemory led t = absurd t.2
 
 not_flushed : (A B T : Type 0) (old a b : Directories) (folder : Folder) (fault : StoreFault) → Learns old a → Then (FlushesNamesIn {T = T} folder (Err fault)) a b → LooksAtBoth {A = A} {B = B} old (Err fault) b
-not_flushed A B T old a b folder Missing led t = (
-  leads_after old a b led (flushes_leads {T = T} folder a b (Err Missing) t),
-  subst (λ (x : Directories). (x.there.new ≡ false) ⊎ (x.there.cur ≡ false)) (sym t.2.1) (gone (t.0).there folder t.2.0),
-)
+not_flushed A B T old a b folder Missing led t = lacking A B old a b folder Missing led t
 not_flushed A B T old a b folder Refused led t = leads_after old a b led (flushes_leads {T = T} folder a b (Err Refused) t)
 not_flushed A B T old a b folder NotMbox led t = absurd t.2
 not_flushed A B T old a b folder NoMemory led t = absurd t.2
@@ -241,24 +238,14 @@ told_one {A} folder b0 b1 b2 names done l n = by l n
     led : Learns b0 b2
     led = leads_after b0 b1 b2 (lists_learns folder b0 b1 (Ok names) l) (flushes_leads folder b1 b2 (Ok done) n)
 
-    same : (m : Directories) → (listed folder m).entries ≡ filter is_left m.entries
-    same m = of_folder folder
-      where
-        of_folder : (f : Folder) → (listed f m).entries ≡ filter is_left m.entries
-        of_folder New = refl
-        of_folder Cur = refl
-
-    same_there : (m : Directories) → (listed folder m).there ≡ m.there
-    same_there m = of_folder folder
-      where
-        of_folder : (f : Folder) → (listed f m).there ≡ m.there
-        of_folder New = refl
-        of_folder Cur = refl
+    same : (f : Folder) (m : Directories) → ((listed f m).entries ≡ filter is_left m.entries) × ((listed f m).there ≡ m.there)
+    same New m = (refl, refl)
+    same Cur m = (refl, refl)
 
     by : Then (ListsIn folder (Ok names)) b0 b1 → Then (FlushesNamesIn folder (Ok done)) b1 b2 → TellsOne b0 folder (Ok names) b2
     by (m1, v1, (there, p, e1)) (m2, v2, e2) =
         let to_m2 : Each MovesFile (filter is_left m1.entries) m2.entries =
-        subst (λ (ss : List MailFile). Each MovesFile ss m2.entries) (ap (λ (d : Directories). d.entries) e1 ∙ same m1) v2.moves in
+        subst (λ (ss : List MailFile). Each MovesFile ss m2.entries) (ap (λ (d : Directories). d.entries) e1 ∙ (same folder m1).0) v2.moves in
         let stay : (name : List ℕ) → Contains (bases_told names.items) name → StaysIn b2.entries name = λ name c.
         subst (λ (d : Directories). StaysIn d.entries name) (sym e2)
         (touches_stay folder m2.entries name (touches_moved folder (filter is_left m1.entries) m2.entries name to_m2
@@ -266,7 +253,7 @@ told_one {A} folder b0 b1 b2 names done l n = by l n
         (Contains-permutation (bases_told names.items) (map title (entries_in folder m1.entries)) name
         (IsPermutation-sym (map title (entries_in folder m1.entries)) (bases_told names.items) (told_part (entries_in folder m1.entries) names.items p)) c)))) in (
           led,
-          ap (λ (t : Folders). is_there t folder) (ap (λ (d : Directories). d.there) e2 ∙ v2.there ∙ ap (λ (d : Directories). d.there) e1 ∙ same_there m1) ∙ there,
+          ap (λ (t : Folders). is_there t folder) (ap (λ (d : Directories). d.there) e2 ∙ v2.there ∙ ap (λ (d : Directories). d.there) e1 ∙ (same folder m1).1) ∙ there,
           theirs names.items (files_at b2.entries) (λ name c. stays_there b2.entries name (stay name c)),
           stay,
         )
@@ -284,10 +271,7 @@ one_lacking A B b0 b1 b2 folder NoMemory led t = absurd t.2
 
 pub one_unflushed : (A B T : Type 0) (b0 b1 b2 : Directories) (folder : Folder) (fault : StoreFault) → Learns b0 b1 → Then (FlushesNamesIn {T = T} folder (Err fault)) b1 b2
     → TellsOne {A = A} {B = B} b0 folder (Err fault) b2
-one_unflushed A B T b0 b1 b2 folder Missing led t = (
-  leads_after b0 b1 b2 led (flushes_leads {T = T} folder b1 b2 (Err Missing) t),
-  subst (λ (x : Directories). is_there x.there folder ≡ false) (sym t.2.1) t.2.0,
-)
+one_unflushed A B T b0 b1 b2 folder Missing led t = one_lacking A B b0 b1 b2 folder Missing led t
 one_unflushed A B T b0 b1 b2 folder Refused led t = leads_after b0 b1 b2 led (flushes_leads {T = T} folder b1 b2 (Err Refused) t)
 one_unflushed A B T b0 b1 b2 folder NotMbox led t = absurd t.2
 one_unflushed A B T b0 b1 b2 folder NoMemory led t = absurd t.2

@@ -196,11 +196,10 @@ abbrev pub Near : MailFile → Type 0
 Near s = (s.is_named ≡ true) ⊎ (touches_cur s ≡ true)
 
 near_one : (s : MailFile) → Near (named_by New s)
-near_one s = by s.is_new refl
-  where
-    by : (b : Bool) → s.is_new ≡ b → Near (named_by New s)
-    by true e = inl (ap (λ (b : Bool). s.is_named || (b || s.left_new)) e ∙ or-true s.is_named)
-    by false e = inr (ap (λ (b : Bool). not b || s.left_cur) e)
+near_one s = elim (cases_Bool s.is_new) [
+  | inl new ↦ inl (ap (λ (b : Bool). s.is_named || (b || s.left_new)) new ∙ or-true s.is_named)
+  | inr cur ↦ inr (ap (λ (b : Bool). not b || s.left_cur) cur)
+]
 
 pub near_new : (ss : List MailFile) → AllByRecursion Near (map (named_by New) ss)
 near_new [] = tt
@@ -232,18 +231,11 @@ named_stays (s ∷ ss) name named c = by (named_stays ss name named.1) c.0 c.1 c
 
 -- ---- `new` at rest
 
-new_stays : (s : MailFile) (ss : List MailFile) → s.is_gone ≡ false → s.is_new ≡ true → entries_in New (s ∷ ss) ≡ s ∷ entries_in New ss
-new_stays s ss here new = rw here (rw new refl)
-
-gone_left : (s : MailFile) (ss : List MailFile) → s.is_gone ≡ true → entries_in New (s ∷ ss) ≡ entries_in New ss
-gone_left s ss gone = rw gone refl
-
 not_new_left : (s : MailFile) (ss : List MailFile) → s.is_new ≡ false → entries_in New (s ∷ ss) ≡ entries_in New ss
-not_new_left s ss out = by (cases_Bool s.is_gone)
-  where
-    by : (s.is_gone ≡ true) ⊎ (s.is_gone ≡ false) → entries_in New (s ∷ ss) ≡ entries_in New ss
-    by (inl gone) = gone_left s ss gone
-    by (inr here) = rw here (rw out refl)
+not_new_left s ss out = elim (cases_Bool s.is_gone) [
+  | inl gone ↦ rw gone refl
+  | inr here ↦ rw here (rw out refl)
+]
 
 abbrev SameNames : List MailFile → List MailFile → Type 0
 SameNames ss ts = map name_at ts ≡ map name_at ss
@@ -254,10 +246,9 @@ rests_one s t ss ts r rest = by (cases_Bool s.is_new) (cases_Bool s.is_gone)
   where
     by : (s.is_new ≡ true) ⊎ (s.is_new ≡ false) → (s.is_gone ≡ true) ⊎ (s.is_gone ≡ false) → SameNames (entries_in New (s ∷ ss)) (entries_in New (t ∷ ts))
     by (inr out) gone = ap (map name_at) (not_new_left t ts (r.place ∙ out)) ∙ rest ∙ ap (map name_at) (sym (not_new_left s ss out))
-    by (inl new) (inl gone) = ap (map name_at) (gone_left t ts (r.gone new ∙ gone)) ∙ rest ∙ ap (map name_at) (sym (gone_left s ss gone))
-    by (inl new) (inr here) =
-        ap (map name_at) (new_stays t ts (r.gone new ∙ here) (r.place ∙ new)) ∙ ap (λ (n : List ℕ). n ∷ map name_at (entries_in New ts)) (r.name new)
-        ∙ ap (λ (ns : List (List ℕ)). s.name ∷ ns) rest ∙ ap (map name_at) (sym (new_stays s ss here new))
+    by (inl new) (inl gone) = rw (gone, r.gone new ∙ gone) rest
+    by (inl new) (inr here) = rw (here, new, r.gone new ∙ here, r.place ∙ new)
+        (ap (λ (n : List ℕ). n ∷ map name_at (entries_in New ts)) (r.name new) ∙ ap (λ (ns : List (List ℕ)). s.name ∷ ns) rest)
 
 pub rests_new : (a b : List MailFile) → Each (RestsFile New) a b → SameNames (entries_in New a) (entries_in New b)
 rests_new a b = each_by (RestsFile New) (λ a b. SameNames (entries_in New a) (entries_in New b)) refl rests_one a b

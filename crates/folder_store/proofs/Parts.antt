@@ -8,15 +8,14 @@ pub part_same : (files : List File) → IsPart files files
 part_same [] = refl
 part_same (f ∷ files) = inr (files, refl, part_same files)
 
-part_more : (f : File) (a rest c : List File) → ((c : List File) → IsPart rest c → IsPart a c) → IsPart (f ∷ rest) c → IsPart (f ∷ a) c
-part_more f a rest c first (inl then) = inl (first c then)
-part_more f a rest c first (inr (more, e, then)) = inr (more, e, first more then)
-
 pub part_trans : (a b c : List File) → IsPart a b → IsPart b c → IsPart a c
 part_trans [] b c first then = subst (λ (fs : List File). IsPart fs c) first then
 part_trans (f ∷ a) b c (inl first) then = inl (part_trans a b c first then)
 part_trans (f ∷ a) b c (inr (rest, e, first)) then =
-    part_more f a rest c (λ d. part_trans a rest d first) (subst (λ (fs : List File). IsPart fs c) e then)
+    elim (subst (λ (fs : List File). IsPart fs c) e then) [
+      | inl then ↦ inl (part_trans a rest c first then)
+      | inr (more, e, then) ↦ inr (more, e, part_trans a rest more first then)
+    ]
 
 -- one more file, of this name or of another
 pub one_counts : (name : List ℕ) (f : File) (files : List File) → count_named name files ≤ count_named name (f ∷ files)

@@ -7,7 +7,7 @@ pub returns-clause-lists : goal.returns-clause-lists
 returns-clause-lists g c = rw c.tally.ensures.same (λ s.
     let begun = option_map string_bytes c.args.self.now.begun in
     let t = c.told_names.ensures.tells s.0 in
-    ((t.0, c.in_ok-admit.ensures.admitted), told_all _ _ begun _ _ c.told_names.result t.1 c.tally.ensures.counted))
+    ((t.0, c.in_ok-admit.ensures.admitted), told_all _ _ begun _ c.tally.new.failures c.told_names.result t.1 c.tally.ensures.counted))
 
 pub returns-clause-lasts : goal.returns-clause-lasts
 returns-clause-lasts g c = rw c.tally.ensures.same (λ s.
