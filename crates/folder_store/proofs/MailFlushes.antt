@@ -37,10 +37,9 @@ module _ {A : Type 0} (stems : List (String A)) where
   flushed_stays same (s ∷ ss) name among (inl (is, named)) =
       let has : is_among stems (stem s.name) ≡ true = ap (is_among stems) (sym (same s.name) ∙ ap stem is) ∙ among in
       (mail_at s, (0, omega arith, refl), is, inl (refl, named, ap (λ (b : Bool). s.is_flushed || b) has ∙ or-true s.is_flushed))
-  flushed_stays same (s ∷ ss) name among (inr is) = more (flushed_stays same ss name among is)
-    where
-      more : IsFlushed ss name → IsFlushed (s ∷ ss) name
-      more (f, (k, below, at), is, outlives) = (f, (suc k, omega (arith, below), at), is, inr outlives)
+  flushed_stays same (s ∷ ss) name among (inr is) =
+      let r = flushed_stays same ss name among is in
+      (r.0, (suc r.1.0, omega (arith, r.1.1), r.1.2), r.2, inr r.3)
 
   pub flushed_outlive : {T : Type 0} (a b : Directories) (begun : Option (List ℕ)) (n : ℕ) (r : Result T StoreFault) → ((name : List ℕ) → stem (base name) ≡ stem name)
       → Then (FlushesFiles stems r) a b → FlushedOutlive (maildir_in a begun n) stems r (StaysIn a.entries) (OutlivesIn b.entries)

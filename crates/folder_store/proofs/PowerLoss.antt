@@ -345,7 +345,7 @@ told_again r is_flushed flag old mid new name name' well same named on_disk know
     (asked r (IsOnDisk new name) well (on_disk (subst (λ (d : Directory). IsKnown is_flushed d name) (sym same) known))))
 
 -- the folder once everything is on the disk, and under one name is what is to be left there
-secured_blob : Blob → Blob
+abbrev secured_blob : Blob → Blob
 secured_blob b = secured b.content
 
 abbrev others : List ℕ → List Entry → List Entry
@@ -371,7 +371,6 @@ find_left name None es = find_not name es
 find_left name (Some bytes) es = find_here name (entry name (secured bytes)) (others name es) ((bytes_eq-Decides name name).1 refl)
 
 find_others : (name other : List ℕ) (es : List Entry) → (other ≡ name → ⊥) → find other (others name es) ≡ option_map secured_blob (find other es)
-unfolding secured_blob
 find_others name other [] apart = refl
 find_others name other (e ∷ es) apart = elim (cases_Bool (bytes_eq name e.name)) [
   | inl same ↦
@@ -390,12 +389,10 @@ find_other name other (Some bytes) es apart =
     find_later other (entry name (secured bytes)) (others name es) (differ other name apart) ∙ find_others name other es apart
 
 may_arrive : (o : Option Blob) → IsLeftOf o (option_map content_in (option_map secured_blob o))
-unfolding secured_blob
 may_arrive None = tt
 may_arrive (Some b) = inr (inl refl)
 
 secured_is_flushed : (o : Option Blob) → IsFlushed (option_map secured_blob o)
-unfolding secured_blob
 secured_is_flushed None = tt
 secured_is_flushed (Some b) = refl
 
