@@ -187,14 +187,9 @@ flushed_brings b0 b1 b2 (m, v, (d, made, e)) led =
 -- these files came, and none is being written
 pub maildir_brought : (a b : Directories) (begun : Option (List ℕ)) (added : List File) (n k : ℕ) → Brings a added b
     → maildir_in b None n ≡ record (maildir_in a begun k) { files = files_at a.entries ++ added; begun = None; failures = n }
-maildir_brought a b begun added n k h =
-    ap (λ (t : Folders). let m : Maildir = record { there = t; files = files_at b.entries; begun = None; failures = n } in m) h.there
-    ∙ ap (λ (fs : List File). let m : Maildir = record { there = a.there; files = fs; begun = None; failures = n } in m) h.files
+maildir_brought a b begun added n k h = rw (h.there, h.files) refl
 
 -- a file is being written
 pub maildir_with : (a b : Directories) (begun : Option (List ℕ)) (name : List ℕ) (n k : ℕ) → Brings a [] b
     → maildir_in b (Some name) n ≡ record (maildir_in a begun k) { begun = Some (file name (content_made b.made)); failures = n }
-maildir_with a b begun name n k h =
-    ap (λ (t : Folders). let m : Maildir = record { there = t; files = files_at b.entries; begun = Some (file name (content_made b.made)); failures = n } in m) h.there
-    ∙ ap (λ (fs : List File). let m : Maildir = record { there = a.there; files = fs; begun = Some (file name (content_made b.made)); failures = n } in m)
-    (h.files ∙ append-nil (files_at a.entries))
+maildir_with a b begun name n k h = rw (h.there, h.files, append-nil (files_at a.entries)) refl

@@ -171,19 +171,7 @@ leads_on a b c first then = record {
 -- the Maildir is as it was, with these files
 pub leads_maildir_but : (a b : Directories) (begun : Option (List ℕ)) (n : ℕ) → b.there ≡ a.there → b.made ≡ a.made
     → maildir_in b begun n ≡ with_files (files_at b.entries) (maildir_in a begun n)
-leads_maildir_but a b begun n there made =
-    ap (λ (t : Folders). let m : Maildir = record {
-      there = t;
-      files = files_at b.entries;
-      begun = option_map (λ (name : List ℕ). file name (content_made b.made)) begun;
-      failures = n;
-    } in m) there
-    ∙ ap (λ (d : Option Draft). let m : Maildir = record {
-      there = a.there;
-      files = files_at b.entries;
-      begun = option_map (λ (name : List ℕ). file name (content_made d)) begun;
-      failures = n;
-    } in m) made
+leads_maildir_but a b begun n there made = rw (there, made) refl
 
 pub leads_maildir : (a b : Directories) (begun : Option (List ℕ)) (n : ℕ) → Leads a b → maildir_in b begun n ≡ maildir_in a begun n
 leads_maildir a b begun n l =

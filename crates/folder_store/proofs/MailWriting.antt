@@ -1,5 +1,5 @@
 -- What writing and settling a file does to the Maildir of the folders.
-use Rattle.std.proofs.Common.{◌≡◌, ◌+◌, inl, inr, ℕ, true, false, List, [], ◌∷◌, ◌++◌, Option, Some, None, Result, Ok, Err, sym, ap, subst, ◌∙◌}
+use Rattle.std.proofs.Common.{◌≡◌, ◌+◌, inl, inr, ℕ, true, false, List, [], ◌∷◌, ◌++◌, Option, Some, None, Result, Ok, Err, refl, sym, ap, subst, ◌∙◌}
 use Rattle.std.specs.Prelude.{◌⊎◌}
 use Rattle.std.proofs.lemmas.List.{append-nil}
 use Rattle.mail_store.specs.declared.fault.StoreFault.{StoreFault}
@@ -50,9 +50,7 @@ begin_missing a b begun n fault is t =
 pub begin_refused : (a b : Directories) (begun : Option (List ℕ)) (n k : ℕ) → k ≡ n + 1 → Then ChangesMade a b → (maildir_in a begun n).begun ≡ None
     → maildir_in b begun k ≡ counted (maildir_in a begun n)
 begin_refused a b None n k up t none =
-    maildir_brought a b None [] k n (changes_bring a b t)
-    ∙ ap (λ (fs : List File). record (maildir_in a None n) { files = fs; failures = k }) (append-nil (files_at a.entries))
-    ∙ ap (λ (c : ℕ). record (maildir_in a None n) { failures = c }) up
+    let h = changes_bring a b t in rw (h.there, h.files, append-nil (files_at a.entries), up) refl
 begin_refused a b (Some name) n k up t none = absurd cc
 
 -- ---- add
@@ -63,9 +61,8 @@ added a b None bytes n t f h = absurd cc
 added a b (Some title) bytes n (m, v, (d, made, e)) f h =
     let longer : content_made b.made ≡ content_made a.made ++ bytes =
     ap content_made (ap (λ (x : Directories). x.made) e) ∙ ap (λ (xs : List ℕ). xs ++ bytes) (sym (ap content_made (sym v.made ∙ made))) in
-    maildir_with a b (Some title) title n n (moved_brings a m b v (made_brings m b (Some (record { content = d.content ++ bytes; is_flushed = false })) e))
-    ∙ ap (λ (c : List ℕ). record (maildir_in a (Some title) n) { begun = Some (file title c) }) longer
-    ∙ ap (λ (g : File). record (maildir_in a (Some title) n) { begun = Some (file g.name (g.content ++ bytes)) }) (made_begun a title n f h)
+    rw (sym (made_begun a title n f h), sym longer)
+    (maildir_with a b (Some title) title n n (moved_brings a m b v (made_brings m b (Some (record { content = d.content ++ bytes; is_flushed = false })) e)))
 
 pub added_brings : (a b : Directories) (bytes : List ℕ) → Then (WritesDraft {T = Unit {0}} bytes (Ok tt)) a b → Brings a [] b
 added_brings a b bytes (m, v, (d, made, e)) = moved_brings a m b v (made_brings m b (Some (record { content = d.content ++ bytes; is_flushed = false })) e)
@@ -75,9 +72,7 @@ pub not_added : (a b : Directories) (begun : Option (List ℕ)) (n k : ℕ) → 
 not_added a b None n k up t f h = absurd cc
 not_added a b (Some title) n k up t f h = (
   content_made b.made,
-  maildir_with a b (Some title) title k n (changes_bring a b t)
-      ∙ ap (λ (c : ℕ). record (maildir_in a (Some title) n) { begun = Some (file title (content_made b.made)); failures = c }) up
-      ∙ ap (λ (g : File). record (maildir_in a (Some title) n) { begun = Some (file g.name (content_made b.made)); failures = n + 1 }) (made_begun a title n f h),
+  rw (sym (made_begun a title n f h), sym up) (maildir_with a b (Some title) title k n (changes_bring a b t)),
 )
 
 -- ---- abandon and settle
@@ -87,9 +82,7 @@ gives_up a b (m, v, e) = moved_brings a m b v (made_brings m b None e)
 
 -- none is being written, and the files are as they were
 pub maildir_dropped : (a b : Directories) (begun : Option (List ℕ)) (n k : ℕ) → Brings a [] b → maildir_in b None k ≡ record (dropped (maildir_in a begun n)) { failures = k }
-maildir_dropped a b begun n k h =
-    maildir_brought a b begun [] k n h
-    ∙ ap (λ (fs : List File). record (maildir_in a begun n) { files = fs; begun = None; failures = k }) (append-nil (files_at a.entries))
+maildir_dropped a b begun n k h = rw (h.there, h.files, append-nil (files_at a.entries)) refl
 
 -- the file made has the bytes of the one that is being written
 same_content : (a : Directories) (begun : Option (List ℕ)) (n : ℕ) (f : File) → (maildir_in a begun n).begun ≡ Some f → (d : Draft) → a.made ≡ Some d → d.content ≡ f.content
@@ -113,9 +106,8 @@ pub not_settled : (a b c : Directories) (begun : Option (List ℕ)) (name : List
 not_settled a b c begun name n k fault up (inl none) gives unknown f h =
     inl (maildir_dropped a c begun n k (brings_on a b c [] [] none (gives_up b c gives)) ∙ ap (λ (x : ℕ). record (dropped (maildir_in a begun n)) { failures = x }) up)
 not_settled a b c begun name n k fault up (inr (d, made, put)) gives unknown f h =
-    inr (maildir_brought a c begun (mail name d.content ∷ []) k n (brings_on a b c (mail name d.content ∷ []) [] (put unknown) (gives_up b c gives))
-    ∙ ap (λ (x : ℕ). record (with_file (maildir_in a begun n) (mail name d.content)) { failures = x }) up
-    ∙ ap (λ (xs : List ℕ). counted (with_file (maildir_in a begun n) (mail name xs))) (same_content a begun n f h d made))
+    let came = brings_on a b c (mail name d.content ∷ []) [] (put unknown) (gives_up b c gives) in
+    inr (rw (came.there, came.files, up, same_content a begun n f h d made) refl)
 
 -- the calls that a refusal may have stood for, as the Maildir sees them
 pub not_settled_keeps : (a b c : Directories) (name : List ℕ) (fault : StoreFault) → PutsForGood {T = Unit {0}} a name (Err fault) b → Then GivesUp b c → IsUnknown name a
