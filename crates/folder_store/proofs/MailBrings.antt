@@ -6,7 +6,7 @@ use Rattle.std.proofs.Math.Bool.{or-true}
 use Rattle.std.proofs.lemmas.List.{map-append, append-nil}
 use Rattle.mail_terms.specs.MaildirName.{base}
 use Rattle.mail_store.specs.declared.maildir.disk.Folder.TheVariants.{New}
-use Rattle.mail_store.specs.Maildir.{Maildir, File, Folders, IsPart, file, mail, names_of}
+use Rattle.mail_store.specs.Maildir.{Maildir, File, IsPart, file, mail, names_of}
 use Rattle.folder_store.specs.MailFolders.{MailFile, Draft, Directories, KeepsFile, MovesFile, Each, Moved, mail_at, files_at, touches_new, maildir_in, content_made}
 use Rattle.folder_store.specs.MailPower.{AllFlushed, AreLeftAs, IsLeftAs, LeavesMail, StaysIn, OutlivesIn}
 use Rattle.folder_store.specs.MailCalls.{Leads, Brings, Then, FlushesDraft, PutsIntoNew, put_as, IsUnknown, StandsIn, PutsForGood, FlushesNamesIn, named_by}
@@ -28,14 +28,13 @@ brings_on a b c xs ys first then = record {
 
 -- a call that only changed the file made
 pub made_brings : (a b : Directories) (m : Option Draft) → b ≡ record a { made = m } → Brings a [] b
-made_brings a b m e = subst (λ (x : Directories). Brings a [] x) (sym e)
-    (record {
-      there = refl;
-      files = sym (append-nil (files_at a.entries));
-      keeps = (λ name is. is, λ f is. is);
-      leaves = leaves_kept a (record a { made = m }) refl (each_same KeepsFile same_keeps a.entries);
-      flushed = λ all. all;
-    })
+made_brings a b m e = rw e (record {
+  there = refl;
+  files = sym (append-nil (files_at a.entries));
+  keeps = (λ name is. is, λ f is. is);
+  leaves = leaves_kept a (record a { made = m }) refl (each_same KeepsFile same_keeps a.entries);
+  flushed = λ all. all;
+})
 
 pub moved_brings : (a m b : Directories) → Moved a m → Brings m [] b → Brings a [] b
 moved_brings a m b moved brings = brings_on a m b [] [] (leads_bring a m (moved_leads a m moved)) brings
@@ -183,11 +182,6 @@ flushed_brings b0 b1 b2 (m, v, (d, made, e)) led =
     brings_on b0 b1 b2 [] [] (moved_brings b0 m b1 v (made_brings m b1 (Some (record d { is_flushed = true })) e)) (leads_bring b1 b2 led)
 
 -- ---- the Maildir of the folders
-
--- these files came, and none is being written
-pub maildir_brought : (a b : Directories) (begun : Option (List ℕ)) (added : List File) (n k : ℕ) → Brings a added b
-    → maildir_in b None n ≡ record (maildir_in a begun k) { files = files_at a.entries ++ added; begun = None; failures = n }
-maildir_brought a b begun added n k h = rw (h.there, h.files) refl
 
 -- a file is being written
 pub maildir_with : (a b : Directories) (begun : Option (List ℕ)) (name : List ℕ) (n k : ℕ) → Brings a [] b

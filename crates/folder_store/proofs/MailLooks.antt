@@ -1,7 +1,7 @@
 -- What a look at both folders tells.
 use Rattle.std.proofs.Common.{◌≡◌, inl, inr, ℕ, zero, suc, Bool, true, false, List, [], ◌∷◌, ◌++◌, map, get_or, Option, Some, None, Result, Ok, Err, refl, sym, ap, subst, ◌∙◌, arith, String, Vec, string_bytes}
 use Rattle.std.specs.Prelude.{IsPermutation, IsTrue, ◌⊎◌, ◌||◌, Contains}
-use Rattle.std.specs.List.{AllByRecursion, filter}
+use Rattle.std.specs.List.{filter}
 use Rattle.std.proofs.Math.Bool.{or-true}
 use Rattle.std.proofs.lemmas.Bool.{cases_Bool}
 use Rattle.std.proofs.lemmas.List.{map-append, get_or-map, length-map}
@@ -16,7 +16,7 @@ use Rattle.folder_store.specs.MailFolders.{MailFile, Directories, MovesFile, Eac
 use Rattle.folder_store.specs.MailPower.{AllNamed, StaysIn}
 use Rattle.folder_store.specs.MailCalls.{Leads, Learns, Then, TellsBoth, Lacks, TellsRest, ChecksIn, LooksUpNew, ListsIn, FlushesNamesIn, ToldBoth, TellsOne, LooksAtBoth, listed, named_by}
 use Rattle.folder_store.proofs.MailLearns.{learns_on, leads_learns, left_twice, listed_learns, named_left}
-use Rattle.folder_store.proofs.MailMoves.{Near, moved_leads, flush_leads, leads_same, leads_on, near_new, near_moved, named_cur, named_moved, rests_new}
+use Rattle.folder_store.proofs.MailMoves.{moved_leads, flush_leads, leads_same, leads_on, near_new, near_moved, named_cur, named_moved, rests_new}
 
 -- ---- each call
 
@@ -103,9 +103,7 @@ titles_named (s ∷ ss) = ap (λ (rest : List (List ℕ)). base s.name ∷ rest)
 -- the names of some files were told
 told_part : {A : Type 0} (ss : List MailFile) (names : List (String A)) → IsPermutation (map name_at ss) (map string_bytes names) → IsPermutation (map title ss) (bases_told names)
 told_part ss names p =
-    subst (λ (xs : List (List ℕ)). IsPermutation xs (bases_told names)) (titles_named ss)
-    (subst (λ (ys : List (List ℕ)). IsPermutation (map base (map name_at ss)) ys) (bases names)
-    (IsPermutation-map base (map name_at ss) (map string_bytes names) p))
+    rw (sym (titles_named ss), sym (bases names)) (IsPermutation-map base (map name_at ss) (map string_bytes names) p)
 
 pub told_both : {A : Type 0} (ss : List MailFile) (new cur : List (String A)) → IsPermutation (map name_at (entries_in New ss)) (map string_bytes new)
     → IsPermutation (map name_at (entries_in Cur ss)) (map string_bytes cur) → IsPermutation (names_of (files_at (filter is_left ss))) (bases_told (new ++ cur))
@@ -114,11 +112,9 @@ told_both {A} ss new cur in_new in_cur =
     let parts = IsPermutation-map title left (entries_in New ss ++ entries_in Cur ss) (IsPermutation-filter_both is_in_new is_in_cur (λ s. refl) left) in
     let both = IsPermutation-append (map title (entries_in New ss)) (bases_told new) (map title (entries_in Cur ss)) (bases_told cur)
     (told_part (entries_in New ss) new in_new) (told_part (entries_in Cur ss) cur in_cur) in
-    subst (λ (xs : List (List ℕ)). IsPermutation xs (bases_told (new ++ cur))) (titles_seen left)
+    rw (sym (titles_seen left))
     (IsPermutation-trans (map title left) (map title (entries_in New ss ++ entries_in Cur ss)) (bases_told (new ++ cur)) parts
-    (subst (λ (xs : List (List ℕ)). IsPermutation xs (bases_told (new ++ cur))) (sym (map-append title (entries_in New ss) (entries_in Cur ss)))
-    (subst (λ (ys : List (List ℕ)). IsPermutation (map title (entries_in New ss) ++ map title (entries_in Cur ss)) ys)
-    (sym (map-append (λ (name : String A). base (string_bytes name)) new cur)) both)))
+    (rw (map-append title (entries_in New ss) (entries_in Cur ss), map-append (λ (name : String A). base (string_bytes name)) new cur) both))
 
 -- what was told is still so once others moved files
 told_moved : {A : Type 0} (names : List (String A)) (a b : Directories) → Moved a b → ToldBoth names a → ToldBoth names b
@@ -150,9 +146,7 @@ looked {A} b0 b1 b2 b3 b4 b5 new cur done done' rests (m1, v1, s1) (m2, v2, s2) 
 
     near : AllNamed m3.entries
     near = named_moved b2.entries m3.entries v3.moves
-        (subst (λ (b : Directories). AllNamed b.entries) (sym s2)
-        (named_cur m2.entries (near_moved b1.entries m2.entries v2.moves
-        (subst (λ (b : Directories). AllByRecursion Near b.entries) (sym s1) (near_new m1.entries)))))
+        (rw s2 (named_cur m2.entries (near_moved b1.entries m2.entries v2.moves (rw s1 (near_new m1.entries)))))
 
     told : ToldBoth (new.items ++ cur.items) (listed Cur m4)
     told = record {

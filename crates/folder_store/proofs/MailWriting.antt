@@ -13,7 +13,7 @@ use Rattle.folder_store.specs.MailCalls.{Leads, Brings, Then, ChangesMade, Flush
 use Rattle.folder_store.proofs.MailLooks.{flushes_leads}
 use Rattle.folder_store.proofs.MailMoves.{moved_leads, leads_maildir, leads_same}
 use Rattle.folder_store.proofs.Files.{some_is}
-use Rattle.folder_store.proofs.MailBrings.{flushed_brings, put_for_good, put_unnamed, brings_on, made_brings, moved_brings, maildir_brought, maildir_with}
+use Rattle.folder_store.proofs.MailBrings.{flushed_brings, put_for_good, put_unnamed, brings_on, made_brings, moved_brings, maildir_with}
 
 pub changes_bring : (a b : Directories) → Then ChangesMade a b → Brings a [] b
 changes_bring a b (m, v, (d, e)) = moved_brings a m b v (made_brings m b d e)
@@ -92,8 +92,7 @@ same_content a (Some title) n f h d made = ap content_made (sym made) ∙ ap (λ
 pub settled : (a b : Directories) (begun : Option (List ℕ)) (name : List ℕ) (n : ℕ) → PutsForGood {T = Unit {0}} a name (Ok tt) b → IsUnknown name a
     → (f : File) → (maildir_in a begun n).begun ≡ Some f → maildir_in b None n ≡ with_file (maildir_in a begun n) (mail name f.content)
 settled a b begun name n (d, made, put) unknown f h =
-    maildir_brought a b begun (mail name d.content ∷ []) n n (put unknown).0
-    ∙ ap (λ (c : List ℕ). with_file (maildir_in a begun n) (mail name c)) (same_content a begun n f h d made)
+    let came = (put unknown).0 in rw (came.there, came.files, same_content a begun n f h d made) refl
 
 pub settled_outlives : (a b : Directories) (begun : Option (List ℕ)) (name : List ℕ) (n : ℕ) → PutsForGood {T = Unit {0}} a name (Ok tt) b → IsUnknown name a
     → (f : File) → (maildir_in a begun n).begun ≡ Some f → OutlivesIn b.entries (mail name f.content)

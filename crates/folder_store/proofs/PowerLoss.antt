@@ -415,20 +415,19 @@ loses_so old name left may = (
     content : option_map content_in (find name (entries_left name left old.entries)) ≡ left
     content = ap (option_map content_in) (find_left name left old.entries) ∙ left_content left
 
+    elsewhere : (n : List ℕ) → bytes_eq n name ≡ false → find n (entries_left name left old.entries) ≡ option_map secured_blob (find n old.entries)
+    elsewhere n apart = find_other name n left old.entries (λ is. true≢false (sym ((bytes_eq-Decides n name).1 is) ∙ apart))
+
     each : (n : List ℕ) → MayBe old n (option_map content_in (find n (entries_left name left old.entries)))
     each n = elim (cases_Bool (bytes_eq n name)) [
-      | inl same ↦ subst (λ (m : List ℕ). MayBe old m (option_map content_in (find m (entries_left name left old.entries)))) (sym ((bytes_eq-Decides n name).0 same))
-          (subst (λ (o : Option (List ℕ)). MayBe old name o) (sym content) may)
-      | inr apart ↦ inl (subst (λ (o : Option Blob). IsLeftOf (find n old.entries) (option_map content_in o))
-          (sym (find_other name n left old.entries (λ is. true≢false (sym ((bytes_eq-Decides n name).1 is) ∙ apart)))) (may_arrive (find n old.entries)))
+      | inl same ↦ rw ((bytes_eq-Decides n name).0 same, content) may
+      | inr apart ↦ inl (rw (elsewhere n apart) (may_arrive (find n old.entries)))
     ]
 
     on : (n : List ℕ) → IsFlushed (find n (entries_left name left old.entries))
     on n = elim (cases_Bool (bytes_eq n name)) [
-      | inl same ↦ subst (λ (m : List ℕ). IsFlushed (find m (entries_left name left old.entries))) (sym ((bytes_eq-Decides n name).0 same))
-          (subst (λ (o : Option Blob). IsFlushed o) (sym (find_left name left old.entries)) (left_is_flushed left))
-      | inr apart ↦ subst (λ (o : Option Blob). IsFlushed o)
-          (sym (find_other name n left old.entries (λ is. true≢false (sym ((bytes_eq-Decides n name).1 is) ∙ apart)))) (secured_is_flushed (find n old.entries))
+      | inl same ↦ rw ((bytes_eq-Decides n name).0 same, find_left name left old.entries) (left_is_flushed left)
+      | inr apart ↦ rw (elsewhere n apart) (secured_is_flushed (find n old.entries))
     ]
 
 pub power_leaves : PowerLeaves
