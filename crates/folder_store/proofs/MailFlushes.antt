@@ -7,21 +7,17 @@ use Rattle.mail_store.specs.declared.fault.StoreFault.{StoreFault}
 use Rattle.mail_store.specs.FileName.{stem}
 use Rattle.mail_store.specs.Maildir.{File}
 use Rattle.mail_store.specs.Power.{FlushedOutlive, is_among}
-use Rattle.folder_store.specs.MailFolders.{MailFile, Directories, KeepsFile, Each, files_at, mail_at, maildir_in}
+use Rattle.folder_store.specs.MailFolders.{MailFile, Directories, KeepsFile, files_at, mail_at, maildir_in}
 use Rattle.folder_store.specs.MailPower.{OutlivesIn, StaysIn}
 use Rattle.folder_store.specs.MailCalls.{FlushesFiles, Leads, Then, files_flushed, flushed_by}
-use Rattle.folder_store.proofs.MailMoves.{each_keeps, keeps_leads, leads_on, moved_leads, stays_kept}
+use Rattle.folder_store.proofs.MailMoves.{each_keeps, each_kept, keeps_leads, leads_on, moved_leads, stays_kept}
 
 module _ {A : Type 0} (stems : List (String A)) where
   keeps : (s : MailFile) → KeepsFile s (flushed_by stems s)
   keeps s = record { title = refl; content = refl; flushed = λ is. ap (λ (b : Bool). b || is_among stems (stem s.name)) is; named = λ h. h }
 
-  each_keeps_file : (ss : List MailFile) → Each KeepsFile ss (map (flushed_by stems) ss)
-  each_keeps_file [] = tt
-  each_keeps_file (s ∷ ss) = (keeps s, each_keeps_file ss)
-
   flush_leads : (a : Directories) → Leads a (files_flushed stems a)
-  flush_leads a = keeps_leads a (files_flushed stems a) refl refl (each_keeps_file a.entries)
+  flush_leads a = keeps_leads a (files_flushed stems a) refl refl (each_kept (flushed_by stems) keeps a.entries)
 
   pub flushes_leads : {T : Type 0} (a b : Directories) (r : Result T StoreFault) → Then (FlushesFiles stems r) a b → Leads a b
   flushes_leads a b (Ok done) (mid, v, e) = subst (λ (d : Directories). Leads a d) (sym e) (leads_on a mid (files_flushed stems mid) (moved_leads a mid v) (flush_leads mid))

@@ -8,7 +8,7 @@ use Rattle.std.proofs.lemmas.List.{append-nil}
 use Rattle.mail_terms.specs.MaildirName.{base}
 use Rattle.mail_store.specs.declared.maildir.disk.Folder.{Folder}
 use Rattle.mail_store.specs.declared.maildir.disk.Folder.TheVariants.{New, Cur}
-use Rattle.mail_store.specs.Maildir.{Maildir, File, IsPart, file, names_of, with_files}
+use Rattle.mail_store.specs.Maildir.{File, IsPart, file, names_of, with_files}
 use Rattle.folder_store.specs.MailFolders.{MailFile, Directories, KeepsFile, MovesFile, RestsFile, Each, Moved, mail_at, files_at, name_at, entries_in, touches_new, touches_cur, maildir_in}
 use Rattle.folder_store.specs.MailPower.{AreLeftAs, IsLeftAs, LeavesMail, StaysIn, OutlivesIn, AllFlushed, AllNamed}
 use Rattle.folder_store.specs.MailCalls.{Leads, named_by, names_flushed_in}
@@ -121,12 +121,12 @@ flush_keeps : (folder : Folder) (s : MailFile) → KeepsFile s (named_by folder 
 flush_keeps New s = record { title = refl; content = refl; flushed = λ h. h; named = still_named New s }
 flush_keeps Cur s = record { title = refl; content = refl; flushed = λ h. h; named = still_named Cur s }
 
-each_flushed : (folder : Folder) (ss : List MailFile) → Each KeepsFile ss (map (named_by folder) ss)
-each_flushed folder [] = tt
-each_flushed folder (s ∷ ss) = (flush_keeps folder s, each_flushed folder ss)
+pub each_kept : (f : MailFile → MailFile) → ((s : MailFile) → KeepsFile s (f s)) → (ss : List MailFile) → Each KeepsFile ss (map f ss)
+each_kept f keeps [] = tt
+each_kept f keeps (s ∷ ss) = (keeps s, each_kept f keeps ss)
 
 pub flush_leads : (folder : Folder) (a : Directories) → Leads a (names_flushed_in folder a)
-flush_leads folder a = keeps_leads a (names_flushed_in folder a) refl refl (each_flushed folder a.entries)
+flush_leads folder a = keeps_leads a (names_flushed_in folder a) refl refl (each_kept (named_by folder) (flush_keeps folder) a.entries)
 
 pub same_keeps : (s : MailFile) → KeepsFile s s
 same_keeps s = record { title = refl; content = refl; flushed = λ h. h; named = λ h. h }

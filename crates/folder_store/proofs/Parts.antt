@@ -1,6 +1,7 @@
 -- A part of some files: what readers leave.
-use Rattle.std.proofs.Common.{◌≡◌, ◌≤◌, inl, inr, ℕ, Bool, true, false, List, [], ◌∷◌, refl, sym, subst, arith}
+use Rattle.std.proofs.Common.{◌≤◌, inl, inr, ℕ, List, [], ◌∷◌, refl, sym, subst, arith}
 use Rattle.std.specs.Prelude.{bytes_eq}
+use Rattle.std.proofs.lemmas.Bool.{cases_Bool}
 use Rattle.mail_store.specs.Maildir.{File, IsPart}
 use Rattle.mail_store.specs.Power.{count_named}
 
@@ -19,18 +20,16 @@ part_trans (f ∷ a) b c (inr (rest, e, first)) then =
 
 -- one more file, of this name or of another
 pub one_counts : (name : List ℕ) (f : File) (files : List File) → count_named name files ≤ count_named name (f ∷ files)
-one_counts name f files = by (bytes_eq name f.name) refl
-  where
-    by : (b : Bool) → bytes_eq name f.name ≡ b → count_named name files ≤ count_named name (f ∷ files)
-    by true e = rw e (omega arith)
-    by false e = rw e (omega arith)
+one_counts name f files = elim (cases_Bool (bytes_eq name f.name)) [
+  | inl e ↦ rw e (omega arith)
+  | inr e ↦ rw e (omega arith)
+]
 
 count_both : (name : List ℕ) (f : File) (a b : List File) → count_named name b ≤ count_named name a → count_named name (f ∷ b) ≤ count_named name (f ∷ a)
-count_both name f a b less = by (bytes_eq name f.name) refl
-  where
-    by : (t : Bool) → bytes_eq name f.name ≡ t → count_named name (f ∷ b) ≤ count_named name (f ∷ a)
-    by true e = rw e (omega (arith, less))
-    by false e = rw e less
+count_both name f a b less = elim (cases_Bool (bytes_eq name f.name)) [
+  | inl e ↦ rw e (omega (arith, less))
+  | inr e ↦ rw e less
+]
 
 -- a part has no more files of a name
 pub part_counts : (name : List ℕ) (a b : List File) → IsPart a b → count_named name b ≤ count_named name a
