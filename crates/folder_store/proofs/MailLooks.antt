@@ -114,7 +114,8 @@ told_both {A} ss new cur in_new in_cur =
     (told_part (entries_in New ss) new in_new) (told_part (entries_in Cur ss) cur in_cur) in
     rw (sym (titles_seen left))
     (IsPermutation-trans (map title left) (map title (entries_in New ss ++ entries_in Cur ss)) (bases_told (new ++ cur)) parts
-    (rw (map-append title (entries_in New ss) (entries_in Cur ss), map-append (λ (name : String A). base (string_bytes name)) new cur) both))
+    (rw (map-append title (entries_in New ss) (entries_in Cur ss), map-append (λ (name : String A). base (string_bytes name)) new cur)
+    both))
 
 -- what was told is still so once others moved files
 told_moved : {A : Type 0} (names : List (String A)) (a b : Directories) → Moved a b → ToldBoth names a → ToldBoth names b
@@ -239,7 +240,8 @@ told_one {A} folder b0 b1 b2 names done l n = by l n
     by : Then (ListsIn folder (Ok names)) b0 b1 → Then (FlushesNamesIn folder (Ok done)) b1 b2 → TellsOne b0 folder (Ok names) b2
     by (m1, v1, (there, p, e1)) (m2, v2, e2) =
         let to_m2 : Each MovesFile (filter is_left m1.entries) m2.entries =
-        subst (λ (ss : List MailFile). Each MovesFile ss m2.entries) (ap (λ (d : Directories). d.entries) e1 ∙ (same folder m1).0) v2.moves in
+        subst (λ (ss : List MailFile). Each MovesFile ss m2.entries) (ap (λ (d : Directories). d.entries) e1 ∙ (same folder m1).0)
+        v2.moves in
         let stay : (name : List ℕ) → Contains (bases_told names.items) name → StaysIn b2.entries name = λ name c.
         subst (λ (d : Directories). StaysIn d.entries name) (sym e2)
         (touches_stay folder m2.entries name (touches_moved folder (filter is_left m1.entries) m2.entries name to_m2
@@ -247,13 +249,15 @@ told_one {A} folder b0 b1 b2 names done l n = by l n
         (Contains-permutation (bases_told names.items) (map title (entries_in folder m1.entries)) name
         (IsPermutation-sym (map title (entries_in folder m1.entries)) (bases_told names.items) (told_part (entries_in folder m1.entries) names.items p)) c)))) in (
           led,
-          ap (λ (t : Folders). is_there t folder) (ap (λ (d : Directories). d.there) e2 ∙ v2.there ∙ ap (λ (d : Directories). d.there) e1 ∙ (same folder m1).1) ∙ there,
+          ap (λ (t : Folders). is_there t folder) (ap (λ (d : Directories). d.there) e2 ∙ v2.there
+              ∙ ap (λ (d : Directories). d.there) e1 ∙ (same folder m1).1) ∙ there,
           theirs names.items (files_at b2.entries) (λ name c. stays_there b2.entries name (stay name c)),
           stay,
         )
 
 -- no name was told
-pub one_lacking : (A B : Type 0) (b0 b1 b2 : Directories) (folder : Folder) (fault : StoreFault) → Learns b0 b1 → Then (λ m x. Lacks m folder fault x) b1 b2
+pub one_lacking : (A B : Type 0) (b0 b1 b2 : Directories) (folder : Folder) (fault : StoreFault) → Learns b0 b1
+    → Then (λ m x. Lacks m folder fault x) b1 b2
     → TellsOne {A = A} {B = B} b0 folder (Err fault) b2
 one_lacking A B b0 b1 b2 folder Missing led t = (
   leads_after b0 b1 b2 led (then_leads (λ m x. Lacks m folder Missing x) b1 b2 (λ m h. lacks_leads m b2 folder Missing h) t),
@@ -263,7 +267,8 @@ one_lacking A B b0 b1 b2 folder Refused led t = leads_after b0 b1 b2 led (then_l
 one_lacking A B b0 b1 b2 folder NotMbox led t = absurd t.2
 one_lacking A B b0 b1 b2 folder NoMemory led t = absurd t.2
 
-pub one_unflushed : (A B T : Type 0) (b0 b1 b2 : Directories) (folder : Folder) (fault : StoreFault) → Learns b0 b1 → Then (FlushesNamesIn {T = T} folder (Err fault)) b1 b2
+pub one_unflushed : (A B T : Type 0) (b0 b1 b2 : Directories) (folder : Folder) (fault : StoreFault) → Learns b0 b1
+    → Then (FlushesNamesIn {T = T} folder (Err fault)) b1 b2
     → TellsOne {A = A} {B = B} b0 folder (Err fault) b2
 one_unflushed A B T b0 b1 b2 folder Missing led t = one_lacking A B b0 b1 b2 folder Missing led t
 one_unflushed A B T b0 b1 b2 folder Refused led t = leads_after b0 b1 b2 led (flushes_leads {T = T} folder b1 b2 (Err Refused) t)

@@ -43,7 +43,8 @@ outlives_kept (s ∷ ss) (t ∷ ts) h f (inl (is, named, flushed)) = inl (same_m
 outlives_kept (s ∷ ss) (t ∷ ts) h f (inr is) = inr (outlives_kept ss ts h.1 f is)
 
 pub flushed_kept : (a b : List MailFile) → Each KeepsFile a b → AllFlushed a → AllFlushed b
-flushed_kept a b = each_by KeepsFile (λ a b. AllFlushed a → AllFlushed b) (λ all. all) (λ s t ss ts k rest all. (k.flushed all.0, rest all.1)) a b
+flushed_kept a b =
+    each_by KeepsFile (λ a b. AllFlushed a → AllFlushed b) (λ all. all) (λ s t ss ts k rest all. (k.flushed all.0, rest all.1)) a b
 
 -- what a loss of power leaves of a file could be left of it before, where it was
 abbrev where_it_was : MailFile → MailFile → MailFile
@@ -206,7 +207,8 @@ named_cur (s ∷ ss) (inl named, near) = (still_named Cur s named, named_cur ss 
 named_cur (s ∷ ss) (inr touches, near) = (ap (λ (b : Bool). s.is_named || b) touches ∙ or-true s.is_named, named_cur ss near)
 
 pub named_moved : (a b : List MailFile) → Each MovesFile a b → AllNamed a → AllNamed b
-named_moved a b = each_by MovesFile (λ a b. AllNamed a → AllNamed b) (λ all. all) (λ s t ss ts m rest all. (m.keeps.named all.0, rest all.1)) a b
+named_moved a b =
+    each_by MovesFile (λ a b. AllNamed a → AllNamed b) (λ all. all) (λ s t ss ts m rest all. (m.keeps.named all.0, rest all.1)) a b
 
 -- each name stays
 pub named_stays : (ss : List MailFile) (name : List ℕ) → AllNamed ss → Contains (names_of (files_at ss)) name → StaysIn ss name

@@ -39,7 +39,8 @@ begun_anew a b begun title name n same (m, v, (there, e)) = (
 pub made_anew : (a b : Directories) → Then (MakesDraft {T = Unit {0}} (Ok tt)) a b → Brings a [] b
 made_anew a b (m, v, (there, e)) = moved_brings a m b v (made_brings m b (Some (record { content = []; is_flushed = false })) e)
 
-pub begin_missing : (a b : Directories) (begun : Option (List ℕ)) (n : ℕ) (fault : StoreFault) → fault ≡ Missing → Then (MakesDraft {T = Unit {0}} (Err fault)) a b
+pub begin_missing : (a b : Directories) (begun : Option (List ℕ)) (n : ℕ) (fault : StoreFault) → fault ≡ Missing
+    → Then (MakesDraft {T = Unit {0}} (Err fault)) a b
     → (a.there.tmp ≡ false) × (maildir_in b begun n ≡ maildir_in a begun n)
 begin_missing a b begun n fault is t =
     let u = subst (λ (x : StoreFault). Then (MakesDraft {T = Unit {0}} (Err x)) a b) is t in (
@@ -62,7 +63,8 @@ added a b (Some title) bytes n (m, v, (d, made, e)) f h =
     let longer : content_made b.made ≡ content_made a.made ++ bytes =
     ap content_made (ap (λ (x : Directories). x.made) e) ∙ ap (λ (xs : List ℕ). xs ++ bytes) (sym (ap content_made (sym v.made ∙ made))) in
     rw (sym (made_begun a title n f h), sym longer)
-    (maildir_with a b (Some title) title n n (moved_brings a m b v (made_brings m b (Some (record { content = d.content ++ bytes; is_flushed = false })) e)))
+    (maildir_with a b (Some title) title n n
+    (moved_brings a m b v (made_brings m b (Some (record { content = d.content ++ bytes; is_flushed = false })) e)))
 
 pub added_brings : (a b : Directories) (bytes : List ℕ) → Then (WritesDraft {T = Unit {0}} bytes (Ok tt)) a b → Brings a [] b
 added_brings a b bytes (m, v, (d, made, e)) = moved_brings a m b v (made_brings m b (Some (record { content = d.content ++ bytes; is_flushed = false })) e)
@@ -116,7 +118,8 @@ not_settled_keeps a b c name fault (inr (d, made, put)) gives unknown = (brings_
 
 -- ---- the calls of settling
 
-pub not_put : (b0 b1 b2 b3 : Directories) (name : List ℕ) (fault x : StoreFault) → Then (FlushesDraft {T = Unit {0}} (Ok tt)) b0 b1 → Leads b1 b2
+pub not_put : (b0 b1 b2 b3 : Directories) (name : List ℕ) (fault x : StoreFault) → Then (FlushesDraft {T = Unit {0}} (Ok tt)) b0 b1
+    → Leads b1 b2
     → Then (PutsDraft {T = Unit {0}} name (Err fault)) b2 b3 → PutsForGood {T = Unit {0}} b0 name (Err x) b3
 not_put b0 b1 b2 b3 name fault x f led (m, v, inl change) = inl (brings_on b0 b2 b3 [] [] (flushed_brings b0 b1 b2 f led) (changes_bring b2 b3 (m, v, change)))
 not_put b0 b1 b2 b3 name fault x f led (m, v, inr p) = inr (put_unnamed b0 b1 b2 b3 b3 name f led (m, v, p) (leads_same b3))

@@ -100,7 +100,8 @@ pub none_seen : (seen files : List Pair) (text name : List ℕ) → seen ≡ fil
 none_seen seen files text name e t none = rw (sym e, sym t) none
 
 -- the file that a look into the folder found
-pub found_in : (name : List ℕ) (o : Option Blob) (seen files : List Pair) (was now : Directory) → o ≡ find name (entries_of seen) → seen ≡ files → was ≡ now
+pub found_in : (name : List ℕ) (o : Option Blob) (seen files : List Pair) (was now : Directory) → o ≡ find name (entries_of seen)
+    → seen ≡ files → was ≡ now
     → was.entries ≡ entries_of files → find name now.entries ≡ o
 found_in name o seen files was now found e view same =
     ap (λ (d : Directory). find name d.entries) (sym view) ∙ ap (find name) (same ∙ ap entries_of (sym e)) ∙ sym found

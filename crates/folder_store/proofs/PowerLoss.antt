@@ -415,7 +415,8 @@ loses_so old name left may = (
     content : option_map content_in (find name (entries_left name left old.entries)) ≡ left
     content = ap (option_map content_in) (find_left name left old.entries) ∙ left_content left
 
-    elsewhere : (n : List ℕ) → bytes_eq n name ≡ false → find n (entries_left name left old.entries) ≡ option_map secured_blob (find n old.entries)
+    elsewhere : (n : List ℕ) → bytes_eq n name ≡ false
+        → find n (entries_left name left old.entries) ≡ option_map secured_blob (find n old.entries)
     elsewhere n apart = find_other name n left old.entries (λ is. true≢false (sym ((bytes_eq-Decides n name).1 is) ∙ apart))
 
     each : (n : List ℕ) → MayBe old n (option_map content_in (find n (entries_left name left old.entries)))

@@ -93,6 +93,13 @@ returns-in-Ok-clause-looks g c = λ s.
     let t3 = c.in_ok-names.ensures.lists t4.0 in
     let t2 = c.in_ok-flush_names-2.ensures.flushes t3.0 in
     let t1 = c.in_ok-flush_names.ensures.flushes t2.0 in
-    let told = looked _ _ _ _ _ _ c.in_ok-names.names c.in_ok-in_cur.in_cur c.in_ok-flush_names.field-0 c.in_ok-flush_names-2.field-0 c.in_ok-rests.field-0 t1.1 t2.1 t3.1 t4.1 t5.1 (search rules) in
-    let all = before_answer g (goal.at.returns-in-Ok-clause-looks g c).In_ok-rests s in
-    (all.0, (all.1, subst (λ (names : List (String Global)). ToldBoth names (g.F.MailFolders.directories c.rests.new.self)) (sym c.in-Ok.ensures.items) told))
+    let told = looked _ _ _ _ _ _ c.in_ok-names.names c.in_ok-in_cur.in_cur c.in_ok-flush_names.field-0 c.in_ok-flush_names-2.field-0
+    c.in_ok-rests.field-0 t1.1 t2.1 t3.1 t4.1 t5.1 (search rules) in
+    let all = before_answer g (goal.at.returns-in-Ok-clause-looks g c).In_ok-rests s in (
+      all.0,
+      (
+        all.1,
+        subst (λ (names : List (String Global)). ToldBoth names (g.F.MailFolders.directories c.rests.new.self))
+            (sym c.in-Ok.ensures.items) told,
+      ),
+    )

@@ -16,8 +16,11 @@ returns-in_err-flush_names-clause-tells g c =
     let p = err_from_is_err_and c.from_residual-in_err-flush_names.result c.from_residual-in_err-flush_names.ensures.1 in
     rw (p.1 ∙ ap Err p.2) (λ s.
     let n = c.in_err-flush_names.ensures.flushes s in
-    let t = c.in_ok-names.ensures.lists n.0 in
-    (t.0, one_unflushed Global Global (Unit {0}) _ _ _ c.args.folder c.in_err-flush_names.field-0.0 (lists_learns c.args.folder _ _ (Ok c.in_ok-names.names) t.1) n.1))
+    let t = c.in_ok-names.ensures.lists n.0 in (
+      t.0,
+      one_unflushed Global Global (Unit {0}) _ _ _ c.args.folder c.in_err-flush_names.field-0.0
+          (lists_learns c.args.folder _ _ (Ok c.in_ok-names.names) t.1) n.1,
+    ))
 
 pub returns-clause-tells : goal.returns-clause-tells
 returns-clause-tells g c = λ s.

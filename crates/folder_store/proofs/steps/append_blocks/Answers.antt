@@ -28,8 +28,10 @@ returns-in_err-append_flushed-2 g c =
     let before = done.2 piece.0 in
     let page = c.split_at-in-loop-rest.result.0.now in (
       before.0,
-      later_refused (g.F.FileFolder.directory c.args.folder.now) (g.F.FileFolder.directory c.loop-rest.folder) (g.F.FileFolder.directory c.append_flushed-in-loop-rest.new.folder) _ _ done.0 page _ p.0
-          (done.1 ∙ ap (λ (xs : List ℕ). done.0 ++ xs) (in_parts _ page _ _ c.split_at-in-loop-rest.ensures.front c.split_at-in-loop-rest.ensures.back))
+      later_refused (g.F.FileFolder.directory c.args.folder.now) (g.F.FileFolder.directory c.loop-rest.folder)
+          (g.F.FileFolder.directory c.append_flushed-in-loop-rest.new.folder) _ _ done.0 page _ p.0
+          (done.1 ∙ ap (λ (xs : List ℕ). done.0 ++ xs) (in_parts _ page _ _
+          c.split_at-in-loop-rest.ensures.front c.split_at-in-loop-rest.ensures.back))
           before.1 piece.1,
     ))
 
@@ -39,9 +41,13 @@ loop-rest-preserved g c =
     let page = c.split_at-in-loop-rest.result.0.now in
     let after = c.split_at-in-loop-rest.result.1.now in (
       done.0 ++ page,
-      done.1 ∙ ap (λ (xs : List ℕ). done.0 ++ xs) (in_parts _ page after _ c.split_at-in-loop-rest.ensures.front c.split_at-in-loop-rest.ensures.back)
+      done.1 ∙ ap (λ (xs : List ℕ). done.0 ++ xs) (in_parts _ page after _
+          c.split_at-in-loop-rest.ensures.front c.split_at-in-loop-rest.ensures.back)
           ∙ sym (append_assoc done.0 page after),
       λ s. let piece = c.in_ok-append_flushed-2.ensures s in
-          let before = done.2 piece.0 in
-          (before.0, later_done (g.F.FileFolder.directory c.args.folder.now) (g.F.FileFolder.directory c.loop-rest.folder) _ _ done.0 page before.1 piece.1),
+          let before = done.2 piece.0 in (
+            before.0,
+            later_done (g.F.FileFolder.directory c.args.folder.now) (g.F.FileFolder.directory c.loop-rest.folder)
+                _ _ done.0 page before.1 piece.1,
+          ),
     )

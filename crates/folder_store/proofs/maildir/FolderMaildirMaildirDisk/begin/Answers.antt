@@ -24,8 +24,11 @@ pub returns-clause-begins : goal.returns-clause-begins
 returns-clause-begins g c = rw c.refuse-in-Err.ensures.fault (λ s.
     let t = c.in-Err.ensures.makes s.0 in
     let begun = option_map string_bytes c.args.self.now.begun in
-    let below = c.in_ok-admit.ensures.admitted in
-    ((t.0, below), begin_refused _ _ begun _ _ c.refuse-in-Err.ensures.counted (makes_change _ _ c.in-Err.field-0 t.1) (c.requires (t.0, below))))
+    let below = c.in_ok-admit.ensures.admitted in (
+      (t.0, below),
+      begin_refused _ _ begun _ _ c.refuse-in-Err.ensures.counted (makes_change _ _ c.in-Err.field-0 t.1)
+          (c.requires (t.0, below)),
+    ))
 
 pub returns-clause-lasts : goal.returns-clause-lasts
 returns-clause-lasts g c = λ s. (changes_bring _ _ (makes_change _ _ c.in-Err.field-0 (c.in-Err.ensures.makes s.0).1)).keeps

@@ -14,7 +14,8 @@ pub returns-in-Ok-clause-lasts : goal.returns-in-Ok-clause-lasts
 returns-in-Ok-clause-lasts g c = λ s.
     let t = c.in-Ok.ensures s.0 in (
       (flushes_leads c.args.stems.now {T = Unit {0}} _ _ (Ok tt) t.1).keeps,
-      flushed_outlive c.args.stems.now {T = Unit {0}} _ _ (option_map string_bytes c.args.self.now.begun) c.args.self.now.failures (Ok tt) c.marks_keep_the_base.ensures.stems t.1,
+      flushed_outlive c.args.stems.now {T = Unit {0}} _ _ (option_map string_bytes c.args.self.now.begun) c.args.self.now.failures (Ok tt)
+          c.marks_keep_the_base.ensures.stems t.1,
     )
 
 pub returns-in-Err-clause-flushes : goal.returns-in-Err-clause-flushes
@@ -29,4 +30,5 @@ returns-in-Err-clause-flushes g c = λ s.
     )
 
 pub returns-in-Err-clause-lasts : goal.returns-in-Err-clause-lasts
-returns-in-Err-clause-lasts g c = λ s. ((flushes_leads c.args.stems.now {T = Unit {0}} _ _ (Err c.in-Err.field-0) (c.in-Err.ensures s.0).1).keeps, tt)
+returns-in-Err-clause-lasts g c = λ s.
+    ((flushes_leads c.args.stems.now {T = Unit {0}} _ _ (Err c.in-Err.field-0) (c.in-Err.ensures s.0).1).keeps, tt)

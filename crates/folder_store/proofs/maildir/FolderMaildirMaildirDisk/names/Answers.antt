@@ -6,8 +6,11 @@ use Rattle.folder_store.proofs.maildir.FolderMaildirMaildirDisk.names.Goals as g
 pub returns-clause-lists : goal.returns-clause-lists
 returns-clause-lists g c = rw c.tally.ensures.same (λ s.
     let begun = option_map string_bytes c.args.self.now.begun in
-    let t = c.told_names_of.ensures.tells s.0 in
-    ((t.0, c.in_ok-admit.ensures.admitted), told_those _ _ c.args.folder begun _ c.tally.new.failures c.told_names_of.result t.1 c.tally.ensures.counted))
+    let t = c.told_names_of.ensures.tells s.0 in (
+      (t.0, c.in_ok-admit.ensures.admitted),
+      told_those _ _ c.args.folder begun _ c.tally.new.failures
+          c.told_names_of.result t.1 c.tally.ensures.counted,
+    ))
 
 pub returns-clause-lasts : goal.returns-clause-lasts
 returns-clause-lasts g c = λ s. (one_learns _ _ c.args.folder c.told_names_of.result (c.told_names_of.ensures.tells s.0).1).keeps

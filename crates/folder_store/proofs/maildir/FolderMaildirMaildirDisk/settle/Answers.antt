@@ -31,8 +31,11 @@ returns-clause-settles g c = rw c.take-begun.ensures.after (λ s.
 pub returns-clause-lasts : goal.returns-clause-lasts
 returns-clause-lasts g c = λ s.
     let gone = c.discard-in-Err-put_for_good.ensures s.0 in
-    let t = c.in-Err-put_for_good.ensures gone.0 in
-    (not_settled_keeps _ _ _ c.args.name.now c.in-Err-put_for_good.field-0 t.1 gone.1 (c.requires.not_there (t.0, c.in_default.ensures.admitted)), tt)
+    let t = c.in-Err-put_for_good.ensures gone.0 in (
+      not_settled_keeps _ _ _ c.args.name.now c.in-Err-put_for_good.field-0 t.1 gone.1
+          (c.requires.not_there (t.0, c.in_default.ensures.admitted)),
+      tt,
+    )
 
 pub returns-then-is_none-clause-settles : goal.returns-then-is_none-clause-settles
 returns-then-is_none-clause-settles g c = rw c.take-begun.ensures.after (λ s.
