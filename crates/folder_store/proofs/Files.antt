@@ -101,13 +101,10 @@ piece_done old mid new name bytes (Err fault) (b, at, e) flush =
 
 -- `append_blocks`: the pieces one after another
 appended_twice : (b : Blob) (xs ys : List ℕ) → flushed (appended (flushed (appended b xs)) ys) ≡ flushed (appended b (xs ++ ys))
-appended_twice b xs ys = by b.content b.flushed b.uncut b.is_doubted
-  where
-    by : (content flush : List ℕ) (n : ℕ) (d : Bool)
-        → flushed (appended (flushed (appended (record { content = content; flushed = flush; uncut = n; is_doubted = d }) xs)) ys)
-        ≡ flushed (appended (record { content = content; flushed = flush; uncut = n; is_doubted = d }) (xs ++ ys))
-    by content flush n true = ap (λ (zs : List ℕ). record { content = zs; flushed = flush; uncut = n; is_doubted = true }) (append_assoc content xs ys)
-    by content flush n false = ap (λ (zs : List ℕ). secured zs) (append_assoc content xs ys)
+appended_twice b xs ys = elim (cases_Bool b.is_doubted) [
+  | inl doubt ↦ rw doubt (ap (λ (zs : List ℕ). record b { content = zs; is_doubted = true }) (append_assoc b.content xs ys))
+  | inr sure ↦ rw sure (ap (λ (zs : List ℕ). secured zs) (append_assoc b.content xs ys))
+]
 
 appended_nothing : (b : Blob) → appended b [] ≡ b
 appended_nothing b = ap (λ (zs : List ℕ). record b { content = zs }) (append-nil b.content)

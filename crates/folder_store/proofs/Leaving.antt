@@ -3,7 +3,7 @@ use Rattle.std.proofs.Common.{◌≡◌, ℕ, ◌+◌, ◌-◌, ◌≤◌, ◌<�
 use Rattle.std.specs.Prelude.{◌⊎◌, option_map}
 use Rattle.std.proofs.lemmas.List.{append-nil, take-append-drop, take-append-le, take-take, length-take, get_or-take, get_or_append_left}
 use Rattle.std.proofs.Math.Seq.{take-append-add, take-append_seam, take-length}
-use Rattle.std.proofs.lemmas.Bool.{true≢false, cases_Bool, cases_lt}
+use Rattle.std.proofs.lemmas.Bool.{cases_Bool, cases_lt}
 use Rattle.mail_store.specs.declared.fault.StoreFault.{StoreFault}
 use Rattle.mail_store.specs.Power.{IsLonger, LeavesFronts, LeavesLonger, LeavesNoMore}
 use Rattle.folder_store.specs.FileFolder.{Directory, Blob, Older, find, changed, appended, cut, flushed, doubted, secured, names_flushed, FlushesFile, FlushesNames}
@@ -34,12 +34,9 @@ pub flushed_sure : (b : Blob) → b.is_doubted ≡ false → flushed b ≡ secur
 flushed_sure b sure = rw sure refl
 
 flushed_doubted : (b : Blob) → b.is_doubted ≡ true → flushed b ≡ b
-flushed_doubted b doubt = by b.content b.flushed b.uncut b.is_doubted doubt
-  where
-    by : (content flush : List ℕ) (n : ℕ) (d : Bool) → d ≡ true
-        → flushed (record { content = content; flushed = flush; uncut = n; is_doubted = d }) ≡ record { content = content; flushed = flush; uncut = n; is_doubted = d }
-    by content flush n true e = refl
-    by content flush n false e = absurd (true≢false (sym e))
+flushed_doubted b doubt =
+    let same : flushed b ≡ record b { is_doubted = true } = rw doubt refl in
+    same ∙ ap (λ (d : Bool). record b { is_doubted = d }) (sym doubt)
 
 -- what is left of the second file is so related to what may be left of the first
 abbrev pub Leaves : (Option (List ℕ) → Option (List ℕ) → Type 0) → Blob → Blob → Type 0

@@ -6,10 +6,11 @@ use Rattle.std.proofs.Math.Bool.{or-true}
 use Rattle.std.proofs.lemmas.List.{map-append, append-nil}
 use Rattle.mail_terms.specs.MaildirName.{base}
 use Rattle.mail_store.specs.declared.maildir.disk.Folder.TheVariants.{New}
-use Rattle.mail_store.specs.Maildir.{Maildir, File, Folders, IsPart, file, mail, names_of}
+use Rattle.mail_store.specs.Maildir.{Maildir, File, IsPart, file, mail, names_of}
 use Rattle.folder_store.specs.MailFolders.{MailFile, Draft, Directories, KeepsFile, MovesFile, Each, Moved, mail_at, files_at, touches_new, maildir_in, content_made}
 use Rattle.folder_store.specs.MailPower.{AllFlushed, AreLeftAs, IsLeftAs, LeavesMail, StaysIn, OutlivesIn}
 use Rattle.folder_store.specs.MailCalls.{Leads, Brings, Then, FlushesDraft, PutsIntoNew, put_as, IsUnknown, StandsIn, PutsForGood, FlushesNamesIn, named_by}
+use Rattle.folder_store.proofs.Files.{some_is}
 use Rattle.folder_store.proofs.MailMoves.{moved_leads, same_mail, leaves_kept, leaves_on, each_same, same_keeps}
 use Rattle.folder_store.proofs.MailLooks.{flushes_leads}
 
@@ -27,14 +28,13 @@ brings_on a b c xs ys first then = record {
 
 -- a call that only changed the file made
 pub made_brings : (a b : Directories) (m : Option Draft) → b ≡ record a { made = m } → Brings a [] b
-made_brings a b m e = subst (λ (x : Directories). Brings a [] x) (sym e)
-    (record {
-      there = refl;
-      files = sym (append-nil (files_at a.entries));
-      keeps = (λ name is. is, λ f is. is);
-      leaves = leaves_kept a (record a { made = m }) refl (each_same KeepsFile same_keeps a.entries);
-      flushed = λ all. all;
-    })
+made_brings a b m e = rw e (record {
+  there = refl;
+  files = sym (append-nil (files_at a.entries));
+  keeps = (λ name is. is, λ f is. is);
+  leaves = leaves_kept a (record a { made = m }) refl (each_same KeepsFile same_keeps a.entries);
+  flushed = λ all. all;
+})
 
 pub moved_brings : (a m b : Directories) → Moved a m → Brings m [] b → Brings a [] b
 moved_brings a m b moved brings = brings_on a m b [] [] (leads_bring a m (moved_leads a m moved)) brings
@@ -137,9 +137,6 @@ put_brings m b name p unknown flushed =
       comes_last m.entries put refl flushed,
     )
 
-pub some_is : {A : Type 0} (x y : A) → Some x ≡ Some y → x ≡ y
-some_is x y e = cc
-
 -- the file made was flushed, others were moved, and it was put
 pub flushed_put : (b0 b1 b2 b3 : Directories) (name : List ℕ) → Then (FlushesDraft {T = Unit {0}} (Ok tt)) b0 b1 → Leads b1 b2 → Then (PutsIntoNew name) b2 b3
     → (d : Draft) × (b0.made ≡ Some d) × (IsUnknown name b0 → Brings b0 (mail name d.content ∷ []) b3 × ComesIn b3.entries (mail name d.content))
@@ -186,17 +183,7 @@ flushed_brings b0 b1 b2 (m, v, (d, made, e)) led =
 
 -- ---- the Maildir of the folders
 
--- these files came, and none is being written
-pub maildir_brought : (a b : Directories) (begun : Option (List ℕ)) (added : List File) (n k : ℕ) → Brings a added b
-    → maildir_in b None n ≡ record (maildir_in a begun k) { files = files_at a.entries ++ added; begun = None; failures = n }
-maildir_brought a b begun added n k h =
-    ap (λ (t : Folders). let m : Maildir = record { there = t; files = files_at b.entries; begun = None; failures = n } in m) h.there
-    ∙ ap (λ (fs : List File). let m : Maildir = record { there = a.there; files = fs; begun = None; failures = n } in m) h.files
-
 -- a file is being written
 pub maildir_with : (a b : Directories) (begun : Option (List ℕ)) (name : List ℕ) (n k : ℕ) → Brings a [] b
     → maildir_in b (Some name) n ≡ record (maildir_in a begun k) { begun = Some (file name (content_made b.made)); failures = n }
-maildir_with a b begun name n k h =
-    ap (λ (t : Folders). let m : Maildir = record { there = t; files = files_at b.entries; begun = Some (file name (content_made b.made)); failures = n } in m) h.there
-    ∙ ap (λ (fs : List File). let m : Maildir = record { there = a.there; files = fs; begun = Some (file name (content_made b.made)); failures = n } in m)
-    (h.files ∙ append-nil (files_at a.entries))
+maildir_with a b begun name n k h = rw (h.there, h.files, append-nil (files_at a.entries)) refl

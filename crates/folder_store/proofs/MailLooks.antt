@@ -1,7 +1,7 @@
 -- What a look at both folders tells.
 use Rattle.std.proofs.Common.{◌≡◌, inl, inr, ℕ, zero, suc, Bool, true, false, List, [], ◌∷◌, ◌++◌, map, get_or, Option, Some, None, Result, Ok, Err, refl, sym, ap, subst, ◌∙◌, arith, String, Vec, string_bytes}
 use Rattle.std.specs.Prelude.{IsPermutation, IsTrue, ◌⊎◌, ◌||◌, Contains}
-use Rattle.std.specs.List.{AllByRecursion, filter}
+use Rattle.std.specs.List.{filter}
 use Rattle.std.proofs.Math.Bool.{or-true}
 use Rattle.std.proofs.lemmas.Bool.{cases_Bool}
 use Rattle.std.proofs.lemmas.List.{map-append, get_or-map, length-map}
@@ -15,8 +15,8 @@ use Rattle.mail_store.specs.Maildir.{File, Folders, bases_told, names_of, is_the
 use Rattle.folder_store.specs.MailFolders.{MailFile, Directories, MovesFile, Each, Moved, is_in, is_left, touches, files_at, name_at, is_in_new, is_in_cur, entries_in}
 use Rattle.folder_store.specs.MailPower.{AllNamed, StaysIn}
 use Rattle.folder_store.specs.MailCalls.{Leads, Learns, Then, TellsBoth, Lacks, TellsRest, ChecksIn, LooksUpNew, ListsIn, FlushesNamesIn, ToldBoth, TellsOne, LooksAtBoth, listed, named_by}
-use Rattle.folder_store.proofs.MailLearns.{learns_on, learns_same, leads_learns, left_twice, listed_learns, named_left}
-use Rattle.folder_store.proofs.MailMoves.{Near, moved_leads, flush_leads, leads_same, leads_on, near_new, near_moved, named_cur, named_moved, rests_new}
+use Rattle.folder_store.proofs.MailLearns.{learns_on, leads_learns, left_twice, listed_learns, named_left}
+use Rattle.folder_store.proofs.MailMoves.{moved_leads, flush_leads, leads_same, leads_on, near_new, near_moved, named_cur, named_moved, rests_new}
 
 -- ---- each call
 
@@ -78,10 +78,7 @@ lacking A B old a b folder NotMbox led t = absurd t.2
 lacking A B old a b folder NoMemory led t = absurd t.2
 
 not_flushed : (A B T : Type 0) (old a b : Directories) (folder : Folder) (fault : StoreFault) → Learns old a → Then (FlushesNamesIn {T = T} folder (Err fault)) a b → LooksAtBoth {A = A} {B = B} old (Err fault) b
-not_flushed A B T old a b folder Missing led t = (
-  leads_after old a b led (flushes_leads {T = T} folder a b (Err Missing) t),
-  subst (λ (x : Directories). (x.there.new ≡ false) ⊎ (x.there.cur ≡ false)) (sym t.2.1) (gone (t.0).there folder t.2.0),
-)
+not_flushed A B T old a b folder Missing led t = lacking A B old a b folder Missing led t
 not_flushed A B T old a b folder Refused led t = leads_after old a b led (flushes_leads {T = T} folder a b (Err Refused) t)
 not_flushed A B T old a b folder NotMbox led t = absurd t.2
 not_flushed A B T old a b folder NoMemory led t = absurd t.2
@@ -106,9 +103,7 @@ titles_named (s ∷ ss) = ap (λ (rest : List (List ℕ)). base s.name ∷ rest)
 -- the names of some files were told
 told_part : {A : Type 0} (ss : List MailFile) (names : List (String A)) → IsPermutation (map name_at ss) (map string_bytes names) → IsPermutation (map title ss) (bases_told names)
 told_part ss names p =
-    subst (λ (xs : List (List ℕ)). IsPermutation xs (bases_told names)) (titles_named ss)
-    (subst (λ (ys : List (List ℕ)). IsPermutation (map base (map name_at ss)) ys) (bases names)
-    (IsPermutation-map base (map name_at ss) (map string_bytes names) p))
+    rw (sym (titles_named ss), sym (bases names)) (IsPermutation-map base (map name_at ss) (map string_bytes names) p)
 
 pub told_both : {A : Type 0} (ss : List MailFile) (new cur : List (String A)) → IsPermutation (map name_at (entries_in New ss)) (map string_bytes new)
     → IsPermutation (map name_at (entries_in Cur ss)) (map string_bytes cur) → IsPermutation (names_of (files_at (filter is_left ss))) (bases_told (new ++ cur))
@@ -117,11 +112,10 @@ told_both {A} ss new cur in_new in_cur =
     let parts = IsPermutation-map title left (entries_in New ss ++ entries_in Cur ss) (IsPermutation-filter_both is_in_new is_in_cur (λ s. refl) left) in
     let both = IsPermutation-append (map title (entries_in New ss)) (bases_told new) (map title (entries_in Cur ss)) (bases_told cur)
     (told_part (entries_in New ss) new in_new) (told_part (entries_in Cur ss) cur in_cur) in
-    subst (λ (xs : List (List ℕ)). IsPermutation xs (bases_told (new ++ cur))) (titles_seen left)
+    rw (sym (titles_seen left))
     (IsPermutation-trans (map title left) (map title (entries_in New ss ++ entries_in Cur ss)) (bases_told (new ++ cur)) parts
-    (subst (λ (xs : List (List ℕ)). IsPermutation xs (bases_told (new ++ cur))) (sym (map-append title (entries_in New ss) (entries_in Cur ss)))
-    (subst (λ (ys : List (List ℕ)). IsPermutation (map title (entries_in New ss) ++ map title (entries_in Cur ss)) ys)
-    (sym (map-append (λ (name : String A). base (string_bytes name)) new cur)) both)))
+    (rw (map-append title (entries_in New ss) (entries_in Cur ss), map-append (λ (name : String A). base (string_bytes name)) new cur)
+    both))
 
 -- what was told is still so once others moved files
 told_moved : {A : Type 0} (names : List (String A)) (a b : Directories) → Moved a b → ToldBoth names a → ToldBoth names b
@@ -153,9 +147,7 @@ looked {A} b0 b1 b2 b3 b4 b5 new cur done done' rests (m1, v1, s1) (m2, v2, s2) 
 
     near : AllNamed m3.entries
     near = named_moved b2.entries m3.entries v3.moves
-        (subst (λ (b : Directories). AllNamed b.entries) (sym s2)
-        (named_cur m2.entries (near_moved b1.entries m2.entries v2.moves
-        (subst (λ (b : Directories). AllByRecursion Near b.entries) (sym s1) (near_new m1.entries)))))
+        (rw s2 (named_cur m2.entries (near_moved b1.entries m2.entries v2.moves (rw s1 (near_new m1.entries)))))
 
     told : ToldBoth (new.items ++ cur.items) (listed Cur m4)
     told = record {
@@ -241,24 +233,15 @@ told_one {A} folder b0 b1 b2 names done l n = by l n
     led : Learns b0 b2
     led = leads_after b0 b1 b2 (lists_learns folder b0 b1 (Ok names) l) (flushes_leads folder b1 b2 (Ok done) n)
 
-    same : (m : Directories) → (listed folder m).entries ≡ filter is_left m.entries
-    same m = of_folder folder
-      where
-        of_folder : (f : Folder) → (listed f m).entries ≡ filter is_left m.entries
-        of_folder New = refl
-        of_folder Cur = refl
-
-    same_there : (m : Directories) → (listed folder m).there ≡ m.there
-    same_there m = of_folder folder
-      where
-        of_folder : (f : Folder) → (listed f m).there ≡ m.there
-        of_folder New = refl
-        of_folder Cur = refl
+    same : (f : Folder) (m : Directories) → ((listed f m).entries ≡ filter is_left m.entries) × ((listed f m).there ≡ m.there)
+    same New m = (refl, refl)
+    same Cur m = (refl, refl)
 
     by : Then (ListsIn folder (Ok names)) b0 b1 → Then (FlushesNamesIn folder (Ok done)) b1 b2 → TellsOne b0 folder (Ok names) b2
     by (m1, v1, (there, p, e1)) (m2, v2, e2) =
         let to_m2 : Each MovesFile (filter is_left m1.entries) m2.entries =
-        subst (λ (ss : List MailFile). Each MovesFile ss m2.entries) (ap (λ (d : Directories). d.entries) e1 ∙ same m1) v2.moves in
+        subst (λ (ss : List MailFile). Each MovesFile ss m2.entries) (ap (λ (d : Directories). d.entries) e1 ∙ (same folder m1).0)
+        v2.moves in
         let stay : (name : List ℕ) → Contains (bases_told names.items) name → StaysIn b2.entries name = λ name c.
         subst (λ (d : Directories). StaysIn d.entries name) (sym e2)
         (touches_stay folder m2.entries name (touches_moved folder (filter is_left m1.entries) m2.entries name to_m2
@@ -266,13 +249,15 @@ told_one {A} folder b0 b1 b2 names done l n = by l n
         (Contains-permutation (bases_told names.items) (map title (entries_in folder m1.entries)) name
         (IsPermutation-sym (map title (entries_in folder m1.entries)) (bases_told names.items) (told_part (entries_in folder m1.entries) names.items p)) c)))) in (
           led,
-          ap (λ (t : Folders). is_there t folder) (ap (λ (d : Directories). d.there) e2 ∙ v2.there ∙ ap (λ (d : Directories). d.there) e1 ∙ same_there m1) ∙ there,
+          ap (λ (t : Folders). is_there t folder) (ap (λ (d : Directories). d.there) e2 ∙ v2.there
+              ∙ ap (λ (d : Directories). d.there) e1 ∙ (same folder m1).1) ∙ there,
           theirs names.items (files_at b2.entries) (λ name c. stays_there b2.entries name (stay name c)),
           stay,
         )
 
 -- no name was told
-one_lacking : (A B : Type 0) (b0 b1 b2 : Directories) (folder : Folder) (fault : StoreFault) → Learns b0 b1 → Then (λ m x. Lacks m folder fault x) b1 b2
+pub one_lacking : (A B : Type 0) (b0 b1 b2 : Directories) (folder : Folder) (fault : StoreFault) → Learns b0 b1
+    → Then (λ m x. Lacks m folder fault x) b1 b2
     → TellsOne {A = A} {B = B} b0 folder (Err fault) b2
 one_lacking A B b0 b1 b2 folder Missing led t = (
   leads_after b0 b1 b2 led (then_leads (λ m x. Lacks m folder Missing x) b1 b2 (λ m h. lacks_leads m b2 folder Missing h) t),
@@ -282,25 +267,13 @@ one_lacking A B b0 b1 b2 folder Refused led t = leads_after b0 b1 b2 led (then_l
 one_lacking A B b0 b1 b2 folder NotMbox led t = absurd t.2
 one_lacking A B b0 b1 b2 folder NoMemory led t = absurd t.2
 
-one_unflushed : (A B T : Type 0) (b0 b1 b2 : Directories) (folder : Folder) (fault : StoreFault) → Learns b0 b1 → Then (FlushesNamesIn {T = T} folder (Err fault)) b1 b2
+pub one_unflushed : (A B T : Type 0) (b0 b1 b2 : Directories) (folder : Folder) (fault : StoreFault) → Learns b0 b1
+    → Then (FlushesNamesIn {T = T} folder (Err fault)) b1 b2
     → TellsOne {A = A} {B = B} b0 folder (Err fault) b2
-one_unflushed A B T b0 b1 b2 folder Missing led t = (
-  leads_after b0 b1 b2 led (flushes_leads {T = T} folder b1 b2 (Err Missing) t),
-  subst (λ (x : Directories). is_there x.there folder ≡ false) (sym t.2.1) t.2.0,
-)
+one_unflushed A B T b0 b1 b2 folder Missing led t = one_lacking A B b0 b1 b2 folder Missing led t
 one_unflushed A B T b0 b1 b2 folder Refused led t = leads_after b0 b1 b2 led (flushes_leads {T = T} folder b1 b2 (Err Refused) t)
 one_unflushed A B T b0 b1 b2 folder NotMbox led t = absurd t.2
 one_unflushed A B T b0 b1 b2 folder NoMemory led t = absurd t.2
-
-pub one_lacked : {A B : Type 0} (b0 b1 : Directories) (folder : Folder) (fault : StoreFault) (r : Result (Vec (String A) B) StoreFault) → r ≡ Err fault
-    → Then (λ m x. Lacks m folder fault x) b0 b1 → TellsOne b0 folder r b1
-one_lacked {A} {B} b0 b1 folder fault r is t =
-    subst (λ (r : Result (Vec (String A) B) StoreFault). TellsOne b0 folder r b1) (sym is) (one_lacking A B b0 b0 b1 folder fault (learns_same b0) t)
-
-pub one_not_flushed : {A B : Type 0} (b0 b1 b2 : Directories) (folder : Folder) (fault : StoreFault) (r : Result (Vec (String A) B) StoreFault) → r ≡ Err fault
-    → Learns b0 b1 → Then (FlushesNamesIn {T = Unit {0}} folder (Err fault)) b1 b2 → TellsOne b0 folder r b2
-one_not_flushed {A} {B} b0 b1 b2 folder fault r is led t =
-    subst (λ (r : Result (Vec (String A) B) StoreFault). TellsOne b0 folder r b2) (sym is) (one_unflushed A B (Unit {0}) b0 b1 b2 folder fault led t)
 
 -- ---- a call that answered a fault
 
@@ -317,16 +290,12 @@ unflushed {A} {B} old a b folder fault r is led t =
 -- ---- looks again and again
 
 -- others may have moved files before a look that was refused
-pub told_none : {A B : Type 0} (a b c : Directories) (fault : StoreFault) (r : Result (Vec (String A) B) StoreFault) → r ≡ Err fault
-    → Learns a b → LooksAtBoth {A = A} {B = B} b (Err fault) c → TellsBoth a r c
-told_none {A} {B} a b c fault r is before look =
-    subst (λ (r : Result (Vec (String A) B) StoreFault). TellsBoth a r c) (sym is) (by fault look)
-  where
-    by : (f : StoreFault) → LooksAtBoth {A = A} {B = B} b (Err f) c → TellsBoth {A = A} {B = B} a (Err f) c
-    by Missing look = (learns_on a b c before look.0, look.1)
-    by Refused look = learns_on a b c before look
-    by NotMbox look = absurd look
-    by NoMemory look = absurd look
+pub told_none : (A B : Type 0) (a b c : Directories) (fault : StoreFault) → Learns a b → LooksAtBoth {A = A} {B = B} b (Err fault) c
+    → TellsBoth {A = A} {B = B} a (Err fault) c
+told_none A B a b c Missing before look = (learns_on a b c before look.0, look.1)
+told_none A B a b c Refused before look = learns_on a b c before look
+told_none A B a b c NotMbox before look = absurd look
+told_none A B a b c NoMemory before look = absurd look
 
 pub told_some : {A B : Type 0} (a b c : Directories) (o : Option (Vec (String A) B)) (names : Vec (String A) B) → o ≡ Some names
     → Learns a b → LooksAtBoth b (Ok o) c → Learns a c × ToldBoth names.items c

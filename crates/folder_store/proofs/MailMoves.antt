@@ -1,17 +1,25 @@
 -- What others' moves and flushes of names leave as it was.
-use Rattle.std.proofs.Common.{◌≡◌, ◌<◌, inl, inr, ℕ, zero, suc, Bool, true, false, not, List, [], ◌∷◌, ◌++◌, length, map, get_or, Option, refl, sym, ap, subst, ◌∙◌, arith, option_map, append_assoc}
+use Rattle.std.proofs.Common.{◌≡◌, ◌<◌, inl, inr, ℕ, zero, suc, Bool, true, false, not, List, [], ◌∷◌, ◌++◌, length, map, get_or, Option, refl, sym, ap, subst, ◌∙◌, arith, append_assoc}
 use Rattle.std.specs.Prelude.{◌||◌, ◌⊎◌, Contains}
 use Rattle.std.specs.List.{AllByRecursion}
 use Rattle.std.proofs.Math.Bool.{or-true}
-use Rattle.std.proofs.lemmas.Bool.{cases_Bool}
+use Rattle.std.proofs.lemmas.Bool.{cases_Bool, false_from_ne_true}
 use Rattle.std.proofs.lemmas.List.{append-nil}
 use Rattle.mail_terms.specs.MaildirName.{base}
 use Rattle.mail_store.specs.declared.maildir.disk.Folder.{Folder}
 use Rattle.mail_store.specs.declared.maildir.disk.Folder.TheVariants.{New, Cur}
-use Rattle.mail_store.specs.Maildir.{Maildir, File, Folders, IsPart, file, names_of, with_files}
-use Rattle.folder_store.specs.MailFolders.{MailFile, Draft, Directories, KeepsFile, MovesFile, RestsFile, Each, Moved, mail_at, files_at, name_at, entries_in, touches_new, touches_cur, maildir_in, content_made}
+use Rattle.mail_store.specs.Maildir.{File, IsPart, file, names_of, with_files}
+use Rattle.folder_store.specs.MailFolders.{MailFile, Directories, KeepsFile, MovesFile, RestsFile, Each, Moved, mail_at, files_at, name_at, entries_in, touches_new, touches_cur, maildir_in}
 use Rattle.folder_store.specs.MailPower.{AreLeftAs, IsLeftAs, LeavesMail, StaysIn, OutlivesIn, AllFlushed, AllNamed}
 use Rattle.folder_store.specs.MailCalls.{Leads, named_by, names_flushed_in}
+
+-- what holds of two lists of files that are so related one by one
+each_by : (Does : MailFile → MailFile → Type 0) (P : List MailFile → List MailFile → Type 0) → P [] []
+    → ((s t : MailFile) (ss ts : List MailFile) → Does s t → P ss ts → P (s ∷ ss) (t ∷ ts)) → (a b : List MailFile) → Each Does a b → P a b
+each_by Does P none more [] [] h = none
+each_by Does P none more [] (t ∷ ts) h = absurd h
+each_by Does P none more (s ∷ ss) [] h = absurd h
+each_by Does P none more (s ∷ ss) (t ∷ ts) h = more s t ss ts h.0 (each_by Does P none more ss ts h.1)
 
 -- ---- files that keep their names up to the colon and their bytes
 
@@ -19,11 +27,8 @@ pub same_mail : (s t : MailFile) → KeepsFile s t → mail_at t ≡ mail_at s
 same_mail s t m = ap (λ (n : List ℕ). file n t.content) m.title ∙ ap (λ (c : List ℕ). file (base s.name) c) m.content
 
 pub files_kept : (a b : List MailFile) → Each KeepsFile a b → files_at b ≡ files_at a
-files_kept [] [] h = refl
-files_kept [] (t ∷ ts) h = absurd h
-files_kept (s ∷ ss) [] h = absurd h
-files_kept (s ∷ ss) (t ∷ ts) h =
-    ap (λ (f : File). f ∷ files_at ts) (same_mail s t h.0) ∙ ap (λ (fs : List File). mail_at s ∷ fs) (files_kept ss ts h.1)
+files_kept a b = each_by KeepsFile (λ a b. files_at b ≡ files_at a) refl
+    (λ s t ss ts k same. ap (λ (f : File). f ∷ files_at ts) (same_mail s t k) ∙ ap (λ (fs : List File). mail_at s ∷ fs) same) a b
 
 pub stays_kept : (a b : List MailFile) → Each KeepsFile a b → (name : List ℕ) → StaysIn a name → StaysIn b name
 stays_kept [] b h name is = absurd is
@@ -38,10 +43,8 @@ outlives_kept (s ∷ ss) (t ∷ ts) h f (inl (is, named, flushed)) = inl (same_m
 outlives_kept (s ∷ ss) (t ∷ ts) h f (inr is) = inr (outlives_kept ss ts h.1 f is)
 
 pub flushed_kept : (a b : List MailFile) → Each KeepsFile a b → AllFlushed a → AllFlushed b
-flushed_kept [] [] h all = tt
-flushed_kept [] (t ∷ ts) h all = absurd h
-flushed_kept (s ∷ ss) [] h all = absurd h
-flushed_kept (s ∷ ss) (t ∷ ts) h all = (h.0.flushed all.0, flushed_kept ss ts h.1 all.1)
+flushed_kept a b =
+    each_by KeepsFile (λ a b. AllFlushed a → AllFlushed b) (λ all. all) (λ s t ss ts k rest all. (k.flushed all.0, rest all.1)) a b
 
 -- what a loss of power leaves of a file could be left of it before, where it was
 abbrev where_it_was : MailFile → MailFile → MailFile
@@ -60,11 +63,7 @@ left_before s t u k l = record {
 }
 
 not_named : (s t : MailFile) → KeepsFile s t → t.is_named ≡ false → s.is_named ≡ false
-not_named s t k gone = by (cases_Bool s.is_named)
-  where
-    by : (s.is_named ≡ true) ⊎ (s.is_named ≡ false) → s.is_named ≡ false
-    by (inl named) = absurd (let is = k.named named in cc)
-    by (inr none) = none
+not_named s t k gone = false_from_ne_true s.is_named (λ named. let is = k.named named in cc)
 
 -- what a loss of power leaves of files could be left of them before
 abbrev WereLeft : List MailFile → List MailFile → Type 0
@@ -110,10 +109,7 @@ keeps_leads a b there made keeps = record {
 -- ---- others' moves, and flushes of names
 
 pub each_keeps : (a b : List MailFile) → Each MovesFile a b → Each KeepsFile a b
-each_keeps [] [] h = tt
-each_keeps [] (t ∷ ts) h = absurd h
-each_keeps (s ∷ ss) [] h = absurd h
-each_keeps (s ∷ ss) (t ∷ ts) h = (h.0.keeps, each_keeps ss ts h.1)
+each_keeps a b = each_by MovesFile (Each KeepsFile) tt (λ s t ss ts m rest. (m.keeps, rest)) a b
 
 pub moved_leads : (a b : Directories) → Moved a b → Leads a b
 moved_leads a b m = keeps_leads a b m.there m.made (each_keeps a.entries b.entries m.moves)
@@ -126,12 +122,12 @@ flush_keeps : (folder : Folder) (s : MailFile) → KeepsFile s (named_by folder 
 flush_keeps New s = record { title = refl; content = refl; flushed = λ h. h; named = still_named New s }
 flush_keeps Cur s = record { title = refl; content = refl; flushed = λ h. h; named = still_named Cur s }
 
-each_flushed : (folder : Folder) (ss : List MailFile) → Each KeepsFile ss (map (named_by folder) ss)
-each_flushed folder [] = tt
-each_flushed folder (s ∷ ss) = (flush_keeps folder s, each_flushed folder ss)
+pub each_kept : (f : MailFile → MailFile) → ((s : MailFile) → KeepsFile s (f s)) → (ss : List MailFile) → Each KeepsFile ss (map f ss)
+each_kept f keeps [] = tt
+each_kept f keeps (s ∷ ss) = (keeps s, each_kept f keeps ss)
 
 pub flush_leads : (folder : Folder) (a : Directories) → Leads a (names_flushed_in folder a)
-flush_leads folder a = keeps_leads a (names_flushed_in folder a) refl refl (each_flushed folder a.entries)
+flush_leads folder a = keeps_leads a (names_flushed_in folder a) refl refl (each_kept (named_by folder) (flush_keeps folder) a.entries)
 
 pub same_keeps : (s : MailFile) → KeepsFile s s
 same_keeps s = record { title = refl; content = refl; flushed = λ h. h; named = λ h. h }
@@ -176,19 +172,7 @@ leads_on a b c first then = record {
 -- the Maildir is as it was, with these files
 pub leads_maildir_but : (a b : Directories) (begun : Option (List ℕ)) (n : ℕ) → b.there ≡ a.there → b.made ≡ a.made
     → maildir_in b begun n ≡ with_files (files_at b.entries) (maildir_in a begun n)
-leads_maildir_but a b begun n there made =
-    ap (λ (t : Folders). let m : Maildir = record {
-      there = t;
-      files = files_at b.entries;
-      begun = option_map (λ (name : List ℕ). file name (content_made b.made)) begun;
-      failures = n;
-    } in m) there
-    ∙ ap (λ (d : Option Draft). let m : Maildir = record {
-      there = a.there;
-      files = files_at b.entries;
-      begun = option_map (λ (name : List ℕ). file name (content_made d)) begun;
-      failures = n;
-    } in m) made
+leads_maildir_but a b begun n there made = rw (there, made) refl
 
 pub leads_maildir : (a b : Directories) (begun : Option (List ℕ)) (n : ℕ) → Leads a b → maildir_in b begun n ≡ maildir_in a begun n
 leads_maildir a b begun n l =
@@ -201,11 +185,10 @@ abbrev pub Near : MailFile → Type 0
 Near s = (s.is_named ≡ true) ⊎ (touches_cur s ≡ true)
 
 near_one : (s : MailFile) → Near (named_by New s)
-near_one s = by s.is_new refl
-  where
-    by : (b : Bool) → s.is_new ≡ b → Near (named_by New s)
-    by true e = inl (ap (λ (b : Bool). s.is_named || (b || s.left_new)) e ∙ or-true s.is_named)
-    by false e = inr (ap (λ (b : Bool). not b || s.left_cur) e)
+near_one s = elim (cases_Bool s.is_new) [
+  | inl new ↦ inl (ap (λ (b : Bool). s.is_named || (b || s.left_new)) new ∙ or-true s.is_named)
+  | inr cur ↦ inr (ap (λ (b : Bool). not b || s.left_cur) cur)
+]
 
 pub near_new : (ss : List MailFile) → AllByRecursion Near (map (named_by New) ss)
 near_new [] = tt
@@ -224,10 +207,8 @@ named_cur (s ∷ ss) (inl named, near) = (still_named Cur s named, named_cur ss 
 named_cur (s ∷ ss) (inr touches, near) = (ap (λ (b : Bool). s.is_named || b) touches ∙ or-true s.is_named, named_cur ss near)
 
 pub named_moved : (a b : List MailFile) → Each MovesFile a b → AllNamed a → AllNamed b
-named_moved [] [] h named = tt
-named_moved [] (t ∷ ts) h named = absurd h
-named_moved (s ∷ ss) [] h named = absurd h
-named_moved (s ∷ ss) (t ∷ ts) h named = (h.0.keeps.named named.0, named_moved ss ts h.1 named.1)
+named_moved a b =
+    each_by MovesFile (λ a b. AllNamed a → AllNamed b) (λ all. all) (λ s t ss ts m rest all. (m.keeps.named all.0, rest all.1)) a b
 
 -- each name stays
 pub named_stays : (ss : List MailFile) (name : List ℕ) → AllNamed ss → Contains (names_of (files_at ss)) name → StaysIn ss name
@@ -240,18 +221,11 @@ named_stays (s ∷ ss) name named c = by (named_stays ss name named.1) c.0 c.1 c
 
 -- ---- `new` at rest
 
-new_stays : (s : MailFile) (ss : List MailFile) → s.is_gone ≡ false → s.is_new ≡ true → entries_in New (s ∷ ss) ≡ s ∷ entries_in New ss
-new_stays s ss here new = rw here (rw new refl)
-
-gone_left : (s : MailFile) (ss : List MailFile) → s.is_gone ≡ true → entries_in New (s ∷ ss) ≡ entries_in New ss
-gone_left s ss gone = rw gone refl
-
 not_new_left : (s : MailFile) (ss : List MailFile) → s.is_new ≡ false → entries_in New (s ∷ ss) ≡ entries_in New ss
-not_new_left s ss out = by (cases_Bool s.is_gone)
-  where
-    by : (s.is_gone ≡ true) ⊎ (s.is_gone ≡ false) → entries_in New (s ∷ ss) ≡ entries_in New ss
-    by (inl gone) = gone_left s ss gone
-    by (inr here) = rw here (rw out refl)
+not_new_left s ss out = elim (cases_Bool s.is_gone) [
+  | inl gone ↦ rw gone refl
+  | inr here ↦ rw here (rw out refl)
+]
 
 abbrev SameNames : List MailFile → List MailFile → Type 0
 SameNames ss ts = map name_at ts ≡ map name_at ss
@@ -262,13 +236,9 @@ rests_one s t ss ts r rest = by (cases_Bool s.is_new) (cases_Bool s.is_gone)
   where
     by : (s.is_new ≡ true) ⊎ (s.is_new ≡ false) → (s.is_gone ≡ true) ⊎ (s.is_gone ≡ false) → SameNames (entries_in New (s ∷ ss)) (entries_in New (t ∷ ts))
     by (inr out) gone = ap (map name_at) (not_new_left t ts (r.place ∙ out)) ∙ rest ∙ ap (map name_at) (sym (not_new_left s ss out))
-    by (inl new) (inl gone) = ap (map name_at) (gone_left t ts (r.gone new ∙ gone)) ∙ rest ∙ ap (map name_at) (sym (gone_left s ss gone))
-    by (inl new) (inr here) =
-        ap (map name_at) (new_stays t ts (r.gone new ∙ here) (r.place ∙ new)) ∙ ap (λ (n : List ℕ). n ∷ map name_at (entries_in New ts)) (r.name new)
-        ∙ ap (λ (ns : List (List ℕ)). s.name ∷ ns) rest ∙ ap (map name_at) (sym (new_stays s ss here new))
+    by (inl new) (inl gone) = rw (gone, r.gone new ∙ gone) rest
+    by (inl new) (inr here) = rw (here, new, r.gone new ∙ here, r.place ∙ new)
+        (ap (λ (n : List ℕ). n ∷ map name_at (entries_in New ts)) (r.name new) ∙ ap (λ (ns : List (List ℕ)). s.name ∷ ns) rest)
 
 pub rests_new : (a b : List MailFile) → Each (RestsFile New) a b → SameNames (entries_in New a) (entries_in New b)
-rests_new [] [] h = refl
-rests_new [] (t ∷ ts) h = absurd h
-rests_new (s ∷ ss) [] h = absurd h
-rests_new (s ∷ ss) (t ∷ ts) h = rests_one s t ss ts h.0 (rests_new ss ts h.1)
+rests_new a b = each_by (RestsFile New) (λ a b. SameNames (entries_in New a) (entries_in New b)) refl rests_one a b

@@ -1,5 +1,5 @@
 -- What readers do is a step that `Moved` allows.
-use Rattle.std.proofs.Common.{◌≡◌, Bool, true, not, List, [], ◌∷◌, ◌++◌, refl, sym, ap, subst, ◌∙◌}
+use Rattle.std.proofs.Common.{◌≡◌, Bool, true, not, List, [], ◌∷◌, ◌++◌, refl, ap, ◌∙◌}
 use Rattle.mail_store.specs.declared.maildir.disk.Folder.{Folder}
 use Rattle.mail_store.specs.declared.maildir.disk.Folder.TheVariants.{New, Cur}
 use Rattle.folder_store.specs.MailFolders.{MailFile, Directories, KeepsFile, MovesFile, RestsFile, Each, Moved, OneMoves, is_in}
@@ -28,15 +28,10 @@ pub one : (old : Directories) (front back : List MailFile) (s t : MailFile) (new
 one old front back s t new o = record {
   there = o.there;
   made = o.made;
-  moves = subst (λ (ss : List MailFile). Each MovesFile ss new.entries) (sym o.before)
-      (subst (λ (ts : List MailFile). Each MovesFile (front ++ s ∷ back) ts) (sym o.after) (each_one MovesFile same_moves front back s t o.moves));
+  moves = rw (o.before, o.after) (each_one MovesFile same_moves front back s t o.moves);
   rests = λ folder quiet.
-      let r = o.rests folder quiet in (
-        r.0,
-        subst (λ (ss : List MailFile). Each (RestsFile folder) ss new.entries) (sym o.before)
-            (subst (λ (ts : List MailFile). Each (RestsFile folder) (front ++ s ∷ back) ts) (sym o.after)
-            (each_one (RestsFile folder) (same_rests folder) front back s t r.1)),
-      );
+      let r = o.rests folder quiet in
+      (r.0, rw (o.before, o.after) (each_one (RestsFile folder) (same_rests folder) front back s t r.1));
 }
 
 keeps_on : (s t u : MailFile) → KeepsFile s t → KeepsFile t u → KeepsFile s u

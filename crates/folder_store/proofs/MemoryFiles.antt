@@ -1,5 +1,5 @@
 -- The files that a folder in memory keeps, as entries.
-use Rattle.std.proofs.Common.{◌≡◌, ℕ, zero, suc, ◌<◌, length, get_or, slice_set, refl, List, [], ◌∷◌, ◌++◌, cond, sym, ap, subst, ◌∙◌, arith, Bool, false, Some, None, Result, Ok, Err, inl, inr, String, Global, string_bytes}
+use Rattle.std.proofs.Common.{◌≡◌, ℕ, zero, suc, ◌<◌, length, get_or, slice_set, refl, List, [], ◌∷◌, ◌++◌, cond, sym, ap, subst, ◌∙◌, arith, Bool, false, Option, Some, None, Result, Ok, Err, inl, inr, String, Global, string_bytes}
 use Rattle.std.specs.Prelude.{HoldsAt, bytes_eq, ◌⊎◌, ◌≢◌, Contains, OnOk, OnErr}
 use Rattle.std.proofs.lemmas.Slice.Eq.{bytes_eq-Decides}
 use Rattle.std.proofs.lemmas.Bool.{cases_Bool, false_from_ne_true}
@@ -76,9 +76,8 @@ push_placed files q none = map-append entry_of files (q ∷ []) ∙ sym (placed_
 pub place_distinct : {T E : Type 0} (r : Result T E) (old new : List Pair) (name : List ℕ) (b : Blob)
     → OnOk r (entries_of new ≡ placed name b (entries_of old)) → OnErr r (new ≡ old)
     → AreDistinct (names_in (entries_of old)) → AreDistinct (names_in (entries_of new))
-place_distinct (Ok x) old new name b ok err h =
-    subst (λ (es : List Entry). AreDistinct (names_in es)) (sym ok) (placed_distinct name b (entries_of old) h)
-place_distinct (Err e) old new name b ok err h = subst (λ (fs : List Pair). AreDistinct (names_in (entries_of fs))) (sym err) h
+place_distinct (Ok x) old new name b ok err h = rw ok (placed_distinct name b (entries_of old) h)
+place_distinct (Err e) old new name b ok err h = rw err h
 
 -- what `place` did if the name led to a file
 pub set_seen : (seen files : List Pair) (text name : List ℕ) (i : ℕ) → seen ≡ files → text ≡ name → i < length seen
@@ -86,25 +85,26 @@ pub set_seen : (seen files : List Pair) (text name : List ℕ) (i : ℕ) → see
     → (now : Pair) → now ≡ get_or files i now → (dest file : MemoryBlob) → dest ≡ file
     → entries_of (slice_set files i (now.0, dest)) ≡ placed name (blob_of file) (entries_of files)
 set_seen seen files text name i e t inside at first now is dest file d =
-    let P : List Pair → Type 0 = λ fs. now ≡ get_or fs i now → entries_of (slice_set fs i (now.0, dest)) ≡ placed name (blob_of file) (entries_of fs) in
-    let Q : List ℕ → Type 0 = λ n. entries_of (slice_set seen i (now.0, dest)) ≡ placed n (blob_of file) (entries_of seen) in
-    let q : Pair = (now.0, dest) in
-    subst P e (λ was. subst Q t (set_placed seen text i inside at first q (ap (λ (p : Pair). string_bytes p.0) was ∙ at now)
-    ∙ ap (λ (k : MemoryBlob). placed text (blob_of k) (entries_of seen)) d)) is
+    let was = subst (λ (fs : List Pair). now ≡ get_or fs i now) (sym e) is in
+    rw (sym e, sym t, sym d) (set_placed seen text i inside at first (now.0, dest) (ap (λ (p : Pair). string_bytes p.0) was ∙ at now))
 
 pub was_seen : (seen files : List Pair) (text name : List ℕ) (i : ℕ) → seen ≡ files → text ≡ name → i < length seen
     → HoldsAt (λ (f : Pair). string_bytes f.0 ≡ text) seen i → ((k : ℕ) (d : Pair) → k < i → string_bytes (get_or seen k d).0 ≡ text → ⊥)
     → (now : Pair) → now ≡ get_or files i now → (was : MemoryBlob) → was ≡ now.1
     → Some (blob_of was) ≡ find name (entries_of files)
 was_seen seen files text name i e t inside at first now is was w =
-    let P : List Pair → Type 0 = λ fs. now ≡ get_or fs i now → Some (blob_of was) ≡ find name (entries_of fs) in
-    let Q : List ℕ → Type 0 = λ n. Some (blob_of was) ≡ find n (entries_of seen) in
-    subst P e (λ told. subst Q t (ap (λ (k : MemoryBlob). Some (blob_of k)) w ∙ ap (λ (p : Pair). Some (blob_of p.1)) told
-    ∙ sym (found_at seen text i inside at first now))) is
+    let told = subst (λ (fs : List Pair). now ≡ get_or fs i now) (sym e) is in
+    rw (sym e, sym t, w) (ap (λ (p : Pair). Some (blob_of p.1)) told ∙ sym (found_at seen text i inside at first now))
 
 pub none_seen : (seen files : List Pair) (text name : List ℕ) → seen ≡ files → text ≡ name → find text (entries_of seen) ≡ None → find name (entries_of files) ≡ None
-none_seen seen files text name e t none =
-    subst (λ (fs : List Pair). find name (entries_of fs) ≡ None) e (subst (λ (n : List ℕ). find n (entries_of seen) ≡ None) t none)
+none_seen seen files text name e t none = rw (sym e, sym t) none
+
+-- the file that a look into the folder found
+pub found_in : (name : List ℕ) (o : Option Blob) (seen files : List Pair) (was now : Directory) → o ≡ find name (entries_of seen)
+    → seen ≡ files → was ≡ now
+    → was.entries ≡ entries_of files → find name now.entries ≡ o
+found_in name o seen files was now found e view same =
+    ap (λ (d : Directory). find name d.entries) (sym view) ∙ ap (find name) (same ∙ ap entries_of (sym e)) ∙ sym found
 
 -- what `change` did is what the calls promise
 module _ (old new : Directory) (name : List ℕ) (b file : Blob) where

@@ -1,6 +1,7 @@
 -- A part of some files: what readers leave.
-use Rattle.std.proofs.Common.{◌≡◌, ◌≤◌, inl, inr, ℕ, Bool, true, false, List, [], ◌∷◌, refl, sym, subst, arith}
+use Rattle.std.proofs.Common.{◌≤◌, inl, inr, ℕ, List, [], ◌∷◌, refl, sym, subst, arith}
 use Rattle.std.specs.Prelude.{bytes_eq}
+use Rattle.std.proofs.lemmas.Bool.{cases_Bool}
 use Rattle.mail_store.specs.Maildir.{File, IsPart}
 use Rattle.mail_store.specs.Power.{count_named}
 
@@ -8,30 +9,27 @@ pub part_same : (files : List File) → IsPart files files
 part_same [] = refl
 part_same (f ∷ files) = inr (files, refl, part_same files)
 
-part_more : (f : File) (a rest c : List File) → ((c : List File) → IsPart rest c → IsPart a c) → IsPart (f ∷ rest) c → IsPart (f ∷ a) c
-part_more f a rest c first (inl then) = inl (first c then)
-part_more f a rest c first (inr (more, e, then)) = inr (more, e, first more then)
-
 pub part_trans : (a b c : List File) → IsPart a b → IsPart b c → IsPart a c
 part_trans [] b c first then = subst (λ (fs : List File). IsPart fs c) first then
 part_trans (f ∷ a) b c (inl first) then = inl (part_trans a b c first then)
 part_trans (f ∷ a) b c (inr (rest, e, first)) then =
-    part_more f a rest c (λ d. part_trans a rest d first) (subst (λ (fs : List File). IsPart fs c) e then)
+    elim (subst (λ (fs : List File). IsPart fs c) e then) [
+      | inl then ↦ inl (part_trans a rest c first then)
+      | inr (more, e, then) ↦ inr (more, e, part_trans a rest more first then)
+    ]
 
 -- one more file, of this name or of another
 pub one_counts : (name : List ℕ) (f : File) (files : List File) → count_named name files ≤ count_named name (f ∷ files)
-one_counts name f files = by (bytes_eq name f.name) refl
-  where
-    by : (b : Bool) → bytes_eq name f.name ≡ b → count_named name files ≤ count_named name (f ∷ files)
-    by true e = rw e (omega arith)
-    by false e = rw e (omega arith)
+one_counts name f files = elim (cases_Bool (bytes_eq name f.name)) [
+  | inl e ↦ rw e (omega arith)
+  | inr e ↦ rw e (omega arith)
+]
 
 count_both : (name : List ℕ) (f : File) (a b : List File) → count_named name b ≤ count_named name a → count_named name (f ∷ b) ≤ count_named name (f ∷ a)
-count_both name f a b less = by (bytes_eq name f.name) refl
-  where
-    by : (t : Bool) → bytes_eq name f.name ≡ t → count_named name (f ∷ b) ≤ count_named name (f ∷ a)
-    by true e = rw e (omega (arith, less))
-    by false e = rw e less
+count_both name f a b less = elim (cases_Bool (bytes_eq name f.name)) [
+  | inl e ↦ rw e (omega (arith, less))
+  | inr e ↦ rw e less
+]
 
 -- a part has no more files of a name
 pub part_counts : (name : List ℕ) (a b : List File) → IsPart a b → count_named name b ≤ count_named name a

@@ -6,7 +6,7 @@ use Rattle.std.proofs.lemmas.List.{append-nil, length-take, get_or-take, get_or_
 use Rattle.std.proofs.lemmas.Grind.{same_number_lists}
 use Rattle.std.proofs.lemmas.Slice.Eq.{bytes_eq-Decides}
 use Rattle.std.proofs.Math.Seq.{take-append_seam, take-length}
-use Rattle.std.proofs.lemmas.Bool.{true≢false, cases_Bool, cases_lt, eq-eqb}
+use Rattle.std.proofs.lemmas.Bool.{true≢false, cases_Bool, cases_lt, eq-eqb, false_from_ne_true}
 use Rattle.mail_store.specs.declared.fault.StoreFault.{StoreFault}
 use Rattle.mail_store.specs.Power.{LastsWhole, LeavesEither, LeavesPart}
 use Rattle.mail_store.specs.Settling.{block_size, is_lost, MayBeLeft}
@@ -345,7 +345,7 @@ told_again r is_flushed flag old mid new name name' well same named on_disk know
     (asked r (IsOnDisk new name) well (on_disk (subst (λ (d : Directory). IsKnown is_flushed d name) (sym same) known))))
 
 -- the folder once everything is on the disk, and under one name is what is to be left there
-secured_blob : Blob → Blob
+abbrev secured_blob : Blob → Blob
 secured_blob b = secured b.content
 
 abbrev others : List ℕ → List Entry → List Entry
@@ -357,10 +357,7 @@ entries_left name None es = others name es
 entries_left name (Some bytes) es = entry name (secured bytes) ∷ others name es
 
 differ : (one two : List ℕ) → (one ≡ two → ⊥) → bytes_eq one two ≡ false
-differ one two apart = elim (cases_Bool (bytes_eq one two)) [
-  | inl same ↦ absurd (apart ((bytes_eq-Decides one two).0 same))
-  | inr not ↦ not
-]
+differ one two apart = false_from_ne_true (bytes_eq one two) (λ same. apart ((bytes_eq-Decides one two).0 same))
 
 find_not : (name : List ℕ) (es : List Entry) → find name (others name es) ≡ None
 find_not name [] = refl
@@ -374,7 +371,6 @@ find_left name None es = find_not name es
 find_left name (Some bytes) es = find_here name (entry name (secured bytes)) (others name es) ((bytes_eq-Decides name name).1 refl)
 
 find_others : (name other : List ℕ) (es : List Entry) → (other ≡ name → ⊥) → find other (others name es) ≡ option_map secured_blob (find other es)
-unfolding secured_blob
 find_others name other [] apart = refl
 find_others name other (e ∷ es) apart = elim (cases_Bool (bytes_eq name e.name)) [
   | inl same ↦
@@ -393,12 +389,10 @@ find_other name other (Some bytes) es apart =
     find_later other (entry name (secured bytes)) (others name es) (differ other name apart) ∙ find_others name other es apart
 
 may_arrive : (o : Option Blob) → IsLeftOf o (option_map content_in (option_map secured_blob o))
-unfolding secured_blob
 may_arrive None = tt
 may_arrive (Some b) = inr (inl refl)
 
 secured_is_flushed : (o : Option Blob) → IsFlushed (option_map secured_blob o)
-unfolding secured_blob
 secured_is_flushed None = tt
 secured_is_flushed (Some b) = refl
 
@@ -421,20 +415,20 @@ loses_so old name left may = (
     content : option_map content_in (find name (entries_left name left old.entries)) ≡ left
     content = ap (option_map content_in) (find_left name left old.entries) ∙ left_content left
 
+    elsewhere : (n : List ℕ) → bytes_eq n name ≡ false
+        → find n (entries_left name left old.entries) ≡ option_map secured_blob (find n old.entries)
+    elsewhere n apart = find_other name n left old.entries (λ is. true≢false (sym ((bytes_eq-Decides n name).1 is) ∙ apart))
+
     each : (n : List ℕ) → MayBe old n (option_map content_in (find n (entries_left name left old.entries)))
     each n = elim (cases_Bool (bytes_eq n name)) [
-      | inl same ↦ subst (λ (m : List ℕ). MayBe old m (option_map content_in (find m (entries_left name left old.entries)))) (sym ((bytes_eq-Decides n name).0 same))
-          (subst (λ (o : Option (List ℕ)). MayBe old name o) (sym content) may)
-      | inr apart ↦ inl (subst (λ (o : Option Blob). IsLeftOf (find n old.entries) (option_map content_in o))
-          (sym (find_other name n left old.entries (λ is. true≢false (sym ((bytes_eq-Decides n name).1 is) ∙ apart)))) (may_arrive (find n old.entries)))
+      | inl same ↦ rw ((bytes_eq-Decides n name).0 same, content) may
+      | inr apart ↦ inl (rw (elsewhere n apart) (may_arrive (find n old.entries)))
     ]
 
     on : (n : List ℕ) → IsFlushed (find n (entries_left name left old.entries))
     on n = elim (cases_Bool (bytes_eq n name)) [
-      | inl same ↦ subst (λ (m : List ℕ). IsFlushed (find m (entries_left name left old.entries))) (sym ((bytes_eq-Decides n name).0 same))
-          (subst (λ (o : Option Blob). IsFlushed o) (sym (find_left name left old.entries)) (left_is_flushed left))
-      | inr apart ↦ subst (λ (o : Option Blob). IsFlushed o)
-          (sym (find_other name n left old.entries (λ is. true≢false (sym ((bytes_eq-Decides n name).1 is) ∙ apart)))) (secured_is_flushed (find n old.entries))
+      | inl same ↦ rw ((bytes_eq-Decides n name).0 same, find_left name left old.entries) (left_is_flushed left)
+      | inr apart ↦ rw (elsewhere n apart) (secured_is_flushed (find n old.entries))
     ]
 
 pub power_leaves : PowerLeaves

@@ -5,8 +5,5 @@ pub returns : goal.returns
 returns g c = λ s.
     let put = c.put_flushed.ensures s in
     let write = c.in_ok-write.ensures put.0 in
-    let make = c.in_ok-make.ensures.makes write.0 in (
-      make.0,
-      replace_done (g.F.FileFolder.directory c.args.folder.now) (g.F.FileFolder.directory c.make.new.self) (g.F.FileFolder.directory c.write.new.self)
-          (g.F.FileFolder.directory c.put_flushed.new.folder) c.args.name.now c.args.bytes.now c.put_flushed.result make.1 write.1 put.1,
-    )
+    let make = c.in_ok-make.ensures.makes write.0 in
+    (make.0, replace_done (g.F.FileFolder.directory c.args.folder.now) _ _ _ _ _ c.put_flushed.result make.1 write.1 put.1)

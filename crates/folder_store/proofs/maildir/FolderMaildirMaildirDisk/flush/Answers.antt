@@ -7,21 +7,14 @@ use Rattle.folder_store.proofs.maildir.FolderMaildirMaildirDisk.flush.Goals as g
 
 pub returns-in-Ok-clause-flushes : goal.returns-in-Ok-clause-flushes
 returns-in-Ok-clause-flushes g c = λ s.
-    let d = g.F.MailFolders.directories in
-    let now = c.args.self.now in
-    let t = c.in-Ok.ensures s.0 in (
-      (t.0, s.1),
-      leads_maildir (d now.folders) (d c.flush_files.new.self) (option_map string_bytes now.begun) now.failures
-          (flushes_leads c.args.stems.now {T = Unit {0}} (d now.folders) (d c.flush_files.new.self) (Ok tt) t.1),
-    )
+    let t = c.in-Ok.ensures s.0 in
+    ((t.0, s.1), leads_maildir _ _ _ _ (flushes_leads c.args.stems.now {T = Unit {0}} _ _ (Ok tt) t.1))
 
 pub returns-in-Ok-clause-lasts : goal.returns-in-Ok-clause-lasts
 returns-in-Ok-clause-lasts g c = λ s.
-    let d = g.F.MailFolders.directories in
-    let now = c.args.self.now in
     let t = c.in-Ok.ensures s.0 in (
-      (flushes_leads c.args.stems.now {T = Unit {0}} (d now.folders) (d c.flush_files.new.self) (Ok tt) t.1).keeps,
-      flushed_outlive c.args.stems.now {T = Unit {0}} (d now.folders) (d c.flush_files.new.self) (option_map string_bytes now.begun) now.failures (Ok tt)
+      (flushes_leads c.args.stems.now {T = Unit {0}} _ _ (Ok tt) t.1).keeps,
+      flushed_outlive c.args.stems.now {T = Unit {0}} _ _ (option_map string_bytes c.args.self.now.begun) c.args.self.now.failures (Ok tt)
           c.marks_keep_the_base.ensures.stems t.1,
     )
 
@@ -32,14 +25,10 @@ returns-in-Err-clause-flushes g c = λ s.
     let begun = option_map string_bytes now.begun in
     let t = c.in-Err.ensures s.0 in (
       (t.0, c.in_ok-admit.ensures.admitted),
-      leads_maildir (d now.folders) (d c.flush_files.new.self) begun c.refuse.new.failures
-          (flushes_leads c.args.stems.now {T = Unit {0}} (d now.folders) (d c.flush_files.new.self) (Err c.in-Err.field-0) t.1)
+      leads_maildir _ _ begun c.refuse.new.failures (flushes_leads c.args.stems.now {T = Unit {0}} _ _ (Err c.in-Err.field-0) t.1)
           ∙ ap (λ (n : ℕ). maildir_in (d now.folders) begun n) c.refuse.ensures.counted,
     )
 
 pub returns-in-Err-clause-lasts : goal.returns-in-Err-clause-lasts
 returns-in-Err-clause-lasts g c = λ s.
-    let d = g.F.MailFolders.directories in (
-      (flushes_leads c.args.stems.now {T = Unit {0}} (d c.args.self.now.folders) (d c.flush_files.new.self) (Err c.in-Err.field-0) (c.in-Err.ensures s.0).1).keeps,
-      tt,
-    )
+    ((flushes_leads c.args.stems.now {T = Unit {0}} _ _ (Err c.in-Err.field-0) (c.in-Err.ensures s.0).1).keeps, tt)
