@@ -3,10 +3,10 @@ use Rattle.std.proofs.Common.{◌≡◌, ℕ, ◌+◌, ◌-◌, ◌<◌, ◌≤�
 use Rattle.std.proofs.lemmas.Bool.{or_cases, eqb-true, ltb-true, cases_eq, cases_lt, cases_Bool, both_ways}
 use Rattle.std.proofs.lemmas.List.{get_or-reverse, get_or-take}
 use Rattle.std.proofs.lemmas.List.Sums.{prefix_len-le-length, suffix_len-le-length, prefix_len_passes, passes_at_first}
-use Rattle.std.proofs.lemmas.Str.{IsCharBoundary-before_ascii, IsCharBoundary-after_ascii, IsCharBoundary-end, IsUtf8-from_is_utf8, is_utf8-from_IsUtf8}
+use Rattle.std.proofs.lemmas.Str.{IsCharBoundary-before_ascii, IsCharBoundary-after_ascii, IsCharBoundary-end}
 use Rattle.std.specs.List.{prefix_len, suffix_len, position, position_or_len}
-use Rattle.std.specs.Str.{IsUtf8, is_utf8, IsCharBoundary}
-use Rattle.rc_file.specs.LineRules.{is_blank, is_sign, before_blanks, trimmed, is_skipped, section_line, key_line, judge, skipped, more, bad}
+use Rattle.std.specs.Str.{IsUtf8, IsCharBoundary}
+use Rattle.rc_file.specs.LineRules.{is_blank, is_sign, before_blanks}
 
 blank_ascii : (byte : ℕ) → is_blank byte ≡ true → byte < 128
 blank_ascii byte h =
@@ -79,31 +79,6 @@ sign_found bs i e =
 
     none_some : (a : ℕ) → None ≡ Some a → ⊥
     none_some a h = cc
-
--- the five rules, each for a line that the rules before it don't fit
-pub judge_bad : (bs : List ℕ) → (IsUtf8 bs → ⊥) → bad ≡ judge bs
-unfolding judge
-judge_bad bs other =
-    elim (cases_Bool (is_utf8 bs)) [
-      | inl is ↦ absurd (other (IsUtf8-from_is_utf8 bs is))
-      | inr isnt ↦ rw isnt
-    ]
-
-pub judge_skipped : (line bs : List ℕ) → line ≡ bs → IsUtf8 bs → is_skipped line ≡ true → skipped ≡ judge bs
-unfolding judge
-judge_skipped line bs same utf8 skips = rw (← same, is_utf8-from_IsUtf8 line (rw (← same) at utf8), skips)
-
-pub judge_more : (line bs : List ℕ) → line ≡ bs → IsUtf8 bs → is_skipped line ≡ false → is_blank (get_or line 0 0) ≡ true → more (trimmed line) ≡ judge bs
-unfolding judge
-judge_more line bs same utf8 counts blank = rw (← same, is_utf8-from_IsUtf8 line (rw (← same) at utf8), counts, blank)
-
-pub judge_section : (line bs : List ℕ) → line ≡ bs → IsUtf8 bs → is_skipped line ≡ false → is_blank (get_or line 0 0) ≡ false → eqb (get_or line 0 0) 91 ≡ true → section_line (before_blanks line) ≡ judge bs
-unfolding judge
-judge_section line bs same utf8 counts blank bracket = rw (← same, is_utf8-from_IsUtf8 line (rw (← same) at utf8), counts, blank, bracket)
-
-pub judge_key : (line bs : List ℕ) → line ≡ bs → IsUtf8 bs → is_skipped line ≡ false → is_blank (get_or line 0 0) ≡ false → eqb (get_or line 0 0) 91 ≡ false → key_line line ≡ judge bs
-unfolding judge
-judge_key line bs same utf8 counts blank bracket = rw (← same, is_utf8-from_IsUtf8 line (rw (← same) at utf8), counts, blank, bracket)
 
 -- a line that begins with '[' still does without the blanks at its end
 pub begins_after_blanks : (line cut : List ℕ) → cut ≡ before_blanks line → eqb (get_or line 0 0) 91 ≡ true → get_or cut 0 0 ≡ 91

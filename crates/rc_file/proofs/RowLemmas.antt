@@ -3,7 +3,7 @@ use Rattle.std.proofs.Common.{◌≡◌, ℕ, ◌+◌, ◌-◌, ◌<◌, ◌≤�
 use Rattle.std.proofs.lemmas.List.{append-nil, append_assoc, map-append}
 use Rattle.std.specs.Char.{to_ascii_lowercase}
 use Rattle.std.proofs.lemmas.Bool.{false≢true}
-use Rattle.rc_file.specs.LineRules.{RcLine, skipped, more, section, key, bad}
+use Rattle.rc_file.specs.LineRules.{RcLine, more, section, key, bad}
 use Rattle.rc_file.specs.FileRows.{RcRow, section_row, key_row, bad_row, added, rows_from}
 use Rattle.rc_file.specs.RcMeaning.{first_bad}
 use Rattle.rc_file.specs.RowReading.{row_of, row_at, rows_in, continued_row, continued, section_in, last_section, is_key_row, ends_in_key, file_rows, AddsText, TakesLine}
@@ -40,10 +40,6 @@ continued-nil (row ∷ []) = ap (λ (r : RcRow). r ∷ []) (continued_row-nil ro
 continued-nil (row ∷ next ∷ rows) = ap (λ (l : List RcRow). row ∷ l) (continued-nil (next ∷ rows))
 
 -- each kind of line
-
-pub file_rows-skipped : (rows : List RcRow) (n : ℕ) (lines : List RcLine) → file_rows rows n (skipped ∷ lines) ≡ file_rows rows (n + 1) lines
-unfolding file_rows
-file_rows-skipped rows n lines = refl
 
 pub file_rows-section : (rows : List RcRow) (n : ℕ) (name : List ℕ) (lines : List RcLine) → file_rows rows n (section name ∷ lines) ≡ file_rows (rows ++ (section_row n name ∷ [])) (n + 1) lines
 unfolding file_rows
@@ -158,11 +154,6 @@ more_taken read k row new n text (Err fault) same at_end (inr h) = λ lines.
 
 pub more_misplaced : (read : List ReadRow) → length read ≡ 0 → ends_in_key (rows_in read) ≡ false
 more_misplaced read none = ap ends_in_key (rows_in-none read none)
-
--- before the first line, and after the last
-pub file_rows-start : (lines : List RcLine) → rows_from None false 1 lines ≡ file_rows [] 1 lines
-unfolding file_rows
-file_rows-start lines = refl
 
 pub file_rows-end : (rows : List RcRow) (n : ℕ) → file_rows rows n [] ≡ rows
 unfolding file_rows
