@@ -1,5 +1,5 @@
 -- Where a line may be split: next to a blank or a sign, which are ASCII.
-use Rattle.std.proofs.Common.{◌≡◌, ℕ, ◌+◌, ◌-◌, ◌<◌, ◌≤◌, List, length, true, false, ◌==◌, get_or, arith, reverse, subst, sym, ap, ◌∙◌, refl, [], ◌∷◌, inl, inr, eqb, ltb, Some, None}
+use Rattle.std.proofs.Common.{◌≡◌, ℕ, ◌+◌, ◌-◌, ◌<◌, ◌≤◌, List, length, true, false, ◌==◌, get_or, arith, reverse, subst, ap, ◌∙◌, refl, [], ◌∷◌, inl, inr, eqb, ltb, Some}
 use Rattle.std.proofs.lemmas.Bool.{or_cases, eqb-true, ltb-true, cases_eq, cases_lt, cases_Bool, both_ways}
 use Rattle.std.proofs.lemmas.List.{get_or-reverse, get_or-take}
 use Rattle.std.proofs.lemmas.List.Sums.{prefix_len-le-length, suffix_len-le-length, prefix_len_passes, passes_at_first}
@@ -70,15 +70,9 @@ before_blanks-first bs some first =
 pub sign_found : (bs : List ℕ) (i : ℕ) → position is_sign bs ≡ Some i → (i ≡ position_or_len is_sign bs) × (position_or_len is_sign bs < length bs)
 sign_found bs i e =
     elim (cases_Bool (ltb (position_or_len is_sign bs) (length bs))) [
-      | inl within ↦ (some_same _ _ (sym (rw within at e)), ltb-true _ _ within)
-      | inr past ↦ absurd (none_some _ (rw past at e))
+      | inl within ↦ (cc (rw within at e), ltb-true _ _ within)
+      | inr past ↦ absurd (cc (rw past at e))
     ]
-  where
-    some_same : (a b : ℕ) → Some a ≡ Some b → a ≡ b
-    some_same a b h = cc
-
-    none_some : (a : ℕ) → None ≡ Some a → ⊥
-    none_some a h = cc
 
 -- a line that begins with '[' still does without the blanks at its end
 pub begins_after_blanks : (line cut : List ℕ) → cut ≡ before_blanks line → eqb (get_or line 0 0) 91 ≡ true → get_or cut 0 0 ≡ 91

@@ -15,7 +15,9 @@ good_rows (row ∷ read) = good_row row.line row.section.now row.entry (rows_in 
 
 -- where nothing is faulty, the settings and the warnings are meant
 pub all_meant : (bytes : List ℕ) (read : List ReadRow) → length bytes ≤ 65536 → rows_of bytes ≡ rows_in read
-    → None ≡ missing_section (rows_in read) Retriever → None ≡ missing_section (rows_in read) Destination → key_fault (rows_in read) all_keys ≡ None
+    → None ≡ missing_section (rows_in read) Retriever → None ≡ missing_section (rows_in read) Destination
+    → key_fault (rows_in read) all_keys ≡ None
     → rc_meaning bytes ≡ Ok (settings_in (rows_in read), warnings_in (rows_in read))
 unfolding rc_meaning key_fault
-all_meant bytes read within same there there' sound = rw (same, le-ltb 65536 (length bytes) within, good_rows read, ← there, ← there', sound)
+all_meant bytes read within same there there' sound =
+    rw (same, le-ltb 65536 (length bytes) within, good_rows read, ← there, ← there', sound)

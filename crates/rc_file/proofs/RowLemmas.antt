@@ -4,7 +4,7 @@ use Rattle.std.proofs.lemmas.List.{append-nil, append_assoc, map-append}
 use Rattle.std.specs.Char.{to_ascii_lowercase}
 use Rattle.std.proofs.lemmas.Bool.{false≢true}
 use Rattle.rc_file.specs.LineRules.{RcLine, more, section, key, bad}
-use Rattle.rc_file.specs.FileRows.{RcRow, section_row, key_row, bad_row, added, rows_from}
+use Rattle.rc_file.specs.FileRows.{RcRow, section_row, key_row, bad_row}
 use Rattle.rc_file.specs.RcMeaning.{first_bad}
 use Rattle.rc_file.specs.RowReading.{row_of, row_at, rows_in, continued_row, continued, section_in, last_section, is_key_row, ends_in_key, file_rows, AddsText, TakesLine}
 use Rattle.rc_file.specs.declared.fault.RcFault.{RcFault}
@@ -43,32 +43,20 @@ continued-nil (row ∷ next ∷ rows) = ap (λ (l : List RcRow). row ∷ l) (con
 
 pub file_rows-section : (rows : List RcRow) (n : ℕ) (name : List ℕ) (lines : List RcLine) → file_rows rows n (section name ∷ lines) ≡ file_rows (rows ++ (section_row n name ∷ [])) (n + 1) lines
 unfolding file_rows
-file_rows-section rows n name lines =
-    rw (continued-nil rows, continued-last rows (section_row n name) (added lines), last_section-last rows (section_row n name), ends_in_key-last rows (section_row n name))
-    (sym (append_assoc rows (section_row n name ∷ []) (rows_from (Some name) false (n + 1) lines)))
+file_rows-section rows n name lines = simp (continued-nil, continued-last, last_section-last, ends_in_key-last, append_assoc)
 
 pub file_rows-key : (rows : List RcRow) (n : ℕ) (name word value : List ℕ) (lines : List RcLine) → last_section rows ≡ Some name
     → file_rows rows n (key word value ∷ lines) ≡ file_rows (rows ++ (key_row n name (map to_ascii_lowercase word) value ∷ [])) (n + 1) lines
 unfolding file_rows
 file_rows-key rows n name word value lines within =
-    rw (within, continued-nil rows, continued-last rows (key_row n name (map to_ascii_lowercase word) value) (added lines), last_section-last rows (key_row n name (map to_ascii_lowercase word) value), ends_in_key-last rows (key_row n name (map to_ascii_lowercase word) value))
-    (sym (append_assoc rows (key_row n name (map to_ascii_lowercase word) (value ++ added lines) ∷ []) (rows_from (Some name) true (n + 1) lines)))
+    simp (within, continued-nil, continued-last, last_section-last, ends_in_key-last, append_assoc)
 
 pub file_rows-more : (rows : List RcRow) (row : RcRow) (n : ℕ) (text : List ℕ) (lines : List RcLine) → is_key_row row ≡ true
     → file_rows (rows ++ (row ∷ [])) n (more text ∷ lines) ≡ file_rows (rows ++ (continued_row row (10 ∷ text) ∷ [])) (n + 1) lines
 unfolding file_rows
-file_rows-more rows (section_row m name) n text lines is_key = absurd (false≢true is_key)
-file_rows-more rows (bad_row m) n text lines is_key = absurd (false≢true is_key)
 file_rows-more rows (key_row m name word value) n text lines is_key =
-    rw (
-      continued-last rows (key_row m name word value) (10 ∷ (text ++ added lines)),
-      last_section-last rows (key_row m name word value),
-      ends_in_key-last rows (key_row m name word value),
-      continued-last rows (key_row m name word (value ++ (10 ∷ text))) (added lines),
-      last_section-last rows (key_row m name word (value ++ (10 ∷ text))),
-      ends_in_key-last rows (key_row m name word (value ++ (10 ∷ text))),
-    )
-    (ap (λ (v : List ℕ). (rows ++ (key_row m name word v ∷ [])) ++ rows_from (Some name) true (n + 1) lines) (sym (append_assoc value (10 ∷ text) (added lines))))
+    simp (continued-last, last_section-last, ends_in_key-last, append_assoc)
+file_rows-more rows other n text lines is_key = absurd (false≢true is_key)
 
 -- rows that were read are never bad
 pub good_row : (n : ℕ) (name : List ℕ) (entry : Option Entry) (others : List RcRow) → first_bad (row_at n name entry ∷ others) ≡ first_bad others

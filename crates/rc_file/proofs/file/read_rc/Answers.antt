@@ -1,11 +1,8 @@
-use Rattle.std.proofs.Common.{arith}
-use Rattle.std.proofs.Common.{rules}
-use Rattle.rc_file.specs.RcMeaning.{rc_meaning}
+use Rattle.std.proofs.Common.{arith, rules}
 use Rattle.rc_file.specs.SectionReading.{key_fault}
 use Rattle.rc_file.specs.RcMeaning.{rc_meaning}
 use Rattle.rc_file.proofs.file.read_rc.Goals as goal
-use Rattle.rc_file.proofs.RcMeaningLemmas.{good_rows}
-use Rattle.rc_file.proofs.RcMeaningLemmas.{all_meant}
+use Rattle.rc_file.proofs.RcMeaningLemmas.{good_rows, all_meant}
 
 pub returns-then-bytes-gt-RC_LIMIT-clause-meaning : goal.returns-then-bytes-gt-RC_LIMIT-clause-meaning
 unfolding rc_meaning key_fault

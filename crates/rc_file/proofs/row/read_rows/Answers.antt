@@ -1,6 +1,5 @@
-use Rattle.std.proofs.Common.{List, ap, ◌∙◌, ◌+◌, map, ℕ}
+use Rattle.std.proofs.Common.{◌+◌}
 use Rattle.std.proofs.Common.{rules}
-use Rattle.rc_file.specs.LineRules.{judge}
 use Rattle.rc_file.specs.RowReading.{rows_in, file_rows}
 use Rattle.rc_file.proofs.RowLemmas.{file_rows-end}
 use Rattle.rc_file.proofs.row.read_rows.Goals as goal
@@ -14,7 +13,4 @@ unfolding file_rows
 returns-in_err-add_line c = search rules
 
 pub returns : goal.returns
-returns c =
-    c.loop-line.invariant.0
-    ∙ ap (λ (l : List (List ℕ)). file_rows (rows_in c.loop-line.rows.items) (c.loop-line.number + 1) (map judge l)) c.in-None.ensures.steps.0
-    ∙ file_rows-end (rows_in c.loop-line.rows.items) (c.loop-line.number + 1)
+returns c = let read = file_rows-end (rows_in c.loop-line.rows.items) (c.loop-line.number + 1) in search rules
