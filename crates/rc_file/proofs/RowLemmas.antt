@@ -1,6 +1,8 @@
 -- Reading a file line by line gives its rows.
-use Rattle.std.proofs.Common.{◌≡◌, ℕ, ◌+◌, ◌-◌, ◌<◌, ◌≤◌, suc, zero, Result, Ok, Err, List, [], ◌∷◌, ◌++◌, length, take, get_or, set, map, true, false, Option, Some, None, sym, ap, ◌∙◌, refl, inl, inr, arith}
-use Rattle.std.proofs.lemmas.List.{append-nil, append_assoc, map-append}
+use Rattle.std.proofs.Common.{◌≡◌, ℕ, ◌+◌, ◌-◌, ◌<◌, ◌≤◌, suc, Result, Ok, Err, List, [], ◌∷◌, ◌++◌, length, take, get_or, set, map, true, false, Option, Some, None, sym, ap, ◌∙◌, refl, inl, inr, arith}
+use Rattle.std.proofs.lemmas.Grind.{common_steps}
+use Rattle.std.proofs.Math.Seq.{split_at}
+use Rattle.std.proofs.lemmas.List.{drop_all, take-set, append-nil, append_assoc, map-append}
 use Rattle.std.specs.Char.{to_ascii_lowercase}
 use Rattle.std.proofs.lemmas.Bool.{false≢true}
 use Rattle.rc_file.specs.LineRules.{RcLine, more, section, key, bad}
@@ -87,16 +89,11 @@ first_bad-key read n word value lines none = first_bad-read read [] _ ∙ rw non
 
 -- the last of some rows, by its place
 pub split_last : (read : List ReadRow) (k : ℕ) (row : ReadRow) → row ≡ get_or read k row → suc k ≡ length read → read ≡ take k read ++ (row ∷ [])
-split_last [] k row same at_end = absurd (omega arith)
-split_last (x ∷ []) zero row same at_end = ap (λ (r : ReadRow). r ∷ []) (sym same)
-split_last (x ∷ y ∷ xs) zero row same at_end = absurd (omega arith)
-split_last (x ∷ xs) (suc k) row same at_end = ap (λ (l : List ReadRow). x ∷ l) (split_last xs k row same (omega arith))
+split_last read k row same at_end = grind (arith, common_steps, split_at read k row (omega arith), drop_all (suc k) read (omega arith))
 
 pub set_last : (read : List ReadRow) (k : ℕ) (row : ReadRow) → suc k ≡ length read → set read k row ≡ take k read ++ (row ∷ [])
-set_last [] k row at_end = absurd (omega arith)
-set_last (x ∷ []) zero row at_end = refl
-set_last (x ∷ y ∷ xs) zero row at_end = absurd (omega arith)
-set_last (x ∷ xs) (suc k) row at_end = ap (λ (l : List ReadRow). x ∷ l) (set_last xs k row (omega arith))
+set_last read k row at_end =
+    split_last (set read k row) k row (grind (arith, common_steps)) (grind (arith, common_steps)) ∙ simp take-set
 
 pub rows_in-push : (old new : List ReadRow) (row : ReadRow) → new ≡ old ++ (row ∷ []) → rows_in new ≡ rows_in old ++ (row_of row ∷ [])
 rows_in-push old new row e = ap rows_in e ∙ map-append row_of old (row ∷ [])
