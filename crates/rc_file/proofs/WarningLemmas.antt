@@ -6,7 +6,6 @@ use Rattle.std.specs.declared.hash.BuildHasherDefault.{BuildHasherDefault}
 use Rattle.std.specs.declared.hash.FoldHasher.{FoldHasher}
 use Rattle.rc_file.specs.RcMeaning.{Warned, has_no_effect, is_same, warned}
 use Rattle.rc_file.specs.RowReading.{row_of, rows_in}
-use Rattle.rc_file.specs.FileRows.{RcRow}
 use Rattle.rc_file.specs.WarningSearch.{IsFinding, Name, Tells, name_eq}
 use Rattle.rc_file.specs.declared.row.ReadRow.{ReadRow}
 
@@ -14,20 +13,16 @@ use Rattle.rc_file.specs.declared.row.ReadRow.{ReadRow}
 row_at : (read : List ReadRow) (i : ℕ) (row : ReadRow) → i < length read → row ≡ get_or read i row → map warned (filter has_no_effect (rows_in (drop i read))) ≡ map warned (filter has_no_effect (row_of row ∷ rows_in (drop (i + 1) read)))
 row_at read i row within item = rw (add-one, drop-cons read i row within, ← item)
 
--- the rows without effect, from one row on
-filter_cond : (row : RcRow) (rest : List RcRow) (b : Bool) → has_no_effect row ≡ b → map warned (filter has_no_effect (row ∷ rest)) ≡ map warned (cond b (row ∷ filter has_no_effect rest) (filter has_no_effect rest))
-filter_cond row rest b effect = ap (λ (t : Bool). map warned (cond t (row ∷ filter has_no_effect rest) (filter has_no_effect rest))) effect
-
 pub step_none : (all : List Warned) (read : List ReadRow) (i : ℕ) (row : ReadRow) (found : List Warned) (told : HashSet Name (BuildHasherDefault FoldHasher)) → i < length read → row ≡ get_or read i row → has_no_effect (row_of row) ≡ false
     → IsFinding all (map warned (filter has_no_effect (rows_in (drop i read)))) found told → IsFinding all (map warned (filter has_no_effect (rows_in (drop (i + 1) read)))) found told
 step_none all read i row found told within item effect h =
-    subst (λ (l : List Warned). IsFinding all l found told) (row_at read i row within item ∙ filter_cond (row_of row) (rows_in (drop (i + 1) read)) false effect) h
+    subst (λ (l : List Warned). IsFinding all l found told) (row_at read i row within item ∙ rw effect) h
 
 pub step_some : (all : List Warned) (read : List ReadRow) (i : ℕ) (row : ReadRow) (found found' : List Warned) (told told' : HashSet Name (BuildHasherDefault FoldHasher)) → i < length read → row ≡ get_or read i row → has_no_effect (row_of row) ≡ true
     → Tells (warned (row_of row)) found told found' told'
     → IsFinding all (map warned (filter has_no_effect (rows_in (drop i read)))) found told → IsFinding all (map warned (filter has_no_effect (rows_in (drop (i + 1) read)))) found' told'
 step_some all read i row found found' told told' within item effect tells h =
-    tells all _ (subst (λ (l : List Warned). IsFinding all l found told) (row_at read i row within item ∙ filter_cond (row_of row) (rows_in (drop (i + 1) read)) true effect) h)
+    tells all _ (subst (λ (l : List Warned). IsFinding all l found told) (row_at read i row within item ∙ rw effect) h)
 
 -- whether a name was met
 met_same : (met : List Warned) (name : Name) (row : Warned) → name.0.now ≡ row.section → name.1.now ≡ row.key
