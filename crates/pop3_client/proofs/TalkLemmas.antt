@@ -151,7 +151,10 @@ nothing_said link = ap (λ (s : List ℕ). record link { sent = s }) (sym (appen
 pub broke_saying : (turn : Turn) (old new : Place) (fault : ClientFault) → Sent (turn_bytes turn) old.link (Err fault) new.link → new.waiting ≡ old.waiting → Broke turn old new fault
 broke_saying turn old new fault said waits =
     let is = said.1.3 in
-    inl (said.0, record { front = said.1.0; rest = said.1.1; split = said.1.2; sent = rw is; got = rw is; waiting = waits; risen = rw is (omega arith) })
+    inl (
+      said.0,
+      record { front = said.1.0; rest = said.1.1; split = said.1.2; sent = rw is; got = rw is; waiting = waits; risen = rw is (omega arith) },
+    )
 
 -- why STAT's line isn't good
 pub few_cause : (fault : ClientFault) (old new : Link) (line bytes : List ℕ) → FirstLine bytes line

@@ -39,8 +39,13 @@ pub tells_new : (row : Warned) (found : List Warned) (old new : HashSet Name (Bu
     → ((q : Name) → contains name_eq new q ≡ cond (name_eq name q) true (contains name_eq old q))
     → Tells row found old (found ++ (row ∷ [])) new
 tells_new row found old new name section key absent updates = λ all rest h.
-    let fresh : list_any (λ earlier. is_same earlier row) h.met ≡ false = rw (← met_same h.met name row section key, ← h.names name) absent in
-    record { met = row ∷ h.met; whole = h.whole ∙ rw (fresh, append_assoc); names = λ q. simp (updates q, or_cond, h.names q, section, key) }
+    let fresh : list_any (λ earlier. is_same earlier row) h.met ≡ false =
+    rw (← met_same h.met name row section key, ← h.names name) absent in
+    record {
+      met = row ∷ h.met;
+      whole = h.whole ∙ rw (fresh, append_assoc);
+      names = λ q. simp (updates q, or_cond, h.names q, section, key);
+    }
 
 -- a row whose name was met
 pub tells_again : (row : Warned) (found : List Warned) (old new : HashSet Name (BuildHasherDefault FoldHasher)) (name : Name)
