@@ -1,5 +1,5 @@
 -- Rows of a listing, taken one by one.
-use Rattle.std.proofs.Common.{◌≡◌, ◌≢◌, ◌⊎◌, inl, inr, ◌<◌, ◌+◌, ◌*◌, ℕ, List, [], ◌∷◌, ◌++◌, length, take, drop, false, Some, Result, Ok, Err, IfOk, IfErr, refl, sym, ap, subst, ◌∙◌, arith, append_assoc, length-append, append-nil}
+use Rattle.std.proofs.Common.{◌≡◌, ◌≢◌, ◌⊎◌, inl, inr, ◌<◌, ◌+◌, ◌*◌, ℕ, List, [], ◌∷◌, ◌++◌, length, take, drop, false, Some, Result, Ok, Err, IfOk, IfErr, refl, sym, ap, subst, ◌∙◌, arith, append_assoc, length-append, append-nil, rules}
 use Rattle.std.proofs.lemmas.Grind.{flat_map-append}
 use Rattle.std.proofs.lemmas.Slice.Zip.{AllZip-long}
 use Rattle.std.specs.List.{flat_map, AllZip, AllByRecursion}
@@ -37,10 +37,7 @@ pub record TookRows {R : Type 0} (turn : Turn) (StandsFor : List ℕ → R → T
   pub goes_on : GoesOn old.link new.link
 
 drew_on : (a b c : Link) (g h : List ℕ) → Drew a b g → Drew b c h → Drew a c (g ++ h)
-drew_on a b c g h first then = record {
-  got = then.got ∙ ap (λ (l : List ℕ). l ++ h) first.got ∙ append_assoc a.got g h;
-  sent = then.sent ∙ first.sent;
-}
+drew_on a b c g h first then = record { got = simp (then.got, first.got, append_assoc); sent = then.sent ∙ first.sent }
 
 pub took_none : {R : Type 0} (turn : Turn) (StandsFor : List ℕ → R → Type 0) (place : Place) → IsListing turn → TookRows turn StandsFor place place []
 took_none turn StandsFor place listing = record {
@@ -227,7 +224,4 @@ listed old mid new uids sizes first second = record {
 pub lists_joined : (count : ℕ) (old new : Place) (uids : List UidRow) (sizes : List ScanRow) (result : Result (List Item) ClientFault) → Listed old new uids sizes
     → IfOk result (Joins count uids sizes) → IfErr result (λ fault. ((fault ≡ ListingsDisagree) × (Agree count uids sizes → ⊥)) ⊎ (fault ≡ NoMemory)) → GetsListing count old result new
 lists_joined count old new uids sizes (Ok items) all ok err = (uids, sizes, all, ok)
-lists_joined count old new uids sizes (Err fault) all ok err = elim err [
-  | inl apart ↦ inr (inl (apart.0, (uids, sizes, all, apart.1)))
-  | inr wanting ↦ inr (inr (wanting, (uids, sizes, all)))
-]
+lists_joined count old new uids sizes (Err fault) all ok err = search rules

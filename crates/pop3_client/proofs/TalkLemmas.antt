@@ -153,15 +153,7 @@ broke_saying turn old new fault said waits =
     let is = said.1.3 in
     inl (
       said.0,
-      record {
-        front = said.1.0;
-        rest = said.1.1;
-        split = said.1.2;
-        sent = ap (λ (l : Link). l.sent) is;
-        got = ap (λ (l : Link). l.got) is;
-        waiting = waits;
-        risen = omega (arith, ap (λ (l : Link). l.failures) is);
-      },
+      record { front = said.1.0; rest = said.1.1; split = said.1.2; sent = rw is; got = rw is; waiting = waits; risen = rw is (omega arith) },
     )
 
 -- why STAT's line isn't good

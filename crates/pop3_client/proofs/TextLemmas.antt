@@ -18,11 +18,6 @@ use Rattle.pop3_client.specs.Conversation.{Opened, NotAnswered}
 use Rattle.pop3_client.specs.Texts.{Fetched, Fetching, TakesRest}
 use Rattle.pop3_client.proofs.TalkLemmas.{talked_body, not_answered_behind, begins_of}
 
--- a text is taken from the same place
-pub still_fetching : (number : ℕ) (start old new : Place) (body : Rest) (text : List ℕ) → new ≡ old
-    → Fetching (retr number) start old body text → Fetching (retr number) start new body text
-still_fetching number start old new body text same now = subst (λ (p : Place). Fetching (retr number) start p body text) (sym same) now
-
 -- a text that has ended was taken whole
 pub fetched : (number : ℕ) (old new : Place) (body : Rest) (text : List ℕ) → Fetching (retr number) old new body text → body.spot ≡ Done → Fetched (retr number) old text new
 fetched number old new body text now done =

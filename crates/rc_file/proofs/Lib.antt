@@ -1,4 +1,3 @@
-mod FaultLemmas
 mod LineLemmas
 mod RcMeaningLemmas
 mod RowLemmas

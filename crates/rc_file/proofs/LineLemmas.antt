@@ -1,20 +1,20 @@
 -- Where a line may be split: next to a blank or a sign, which are ASCII.
-use Rattle.std.proofs.Common.{◌≡◌, ℕ, ◌+◌, ◌-◌, ◌<◌, ◌≤◌, List, length, true, false, get_or, arith, reverse, subst, sym, ap, ◌∙◌, refl, [], ◌∷◌, inl, inr, eqb, ltb, Some}
-use Rattle.std.proofs.lemmas.Bool.{eqb-true, ltb-true, cases_eq, cases_lt, cases_Bool, both_ways}
-use Rattle.std.proofs.lemmas.Bool.Decides.{nat_tests}
-use Rattle.std.proofs.lemmas.Option.{same_Some, none-some}
+use Rattle.std.proofs.Common.{◌≡◌, ℕ, ◌+◌, ◌-◌, ◌<◌, ◌≤◌, List, length, true, false, ◌==◌, get_or, arith, reverse, subst, ap, ◌∙◌, refl, [], ◌∷◌, inl, inr, eqb, ltb, Some}
+use Rattle.std.proofs.lemmas.Bool.{or_cases, eqb-true, ltb-true, cases_eq, cases_lt, cases_Bool, both_ways}
 use Rattle.std.proofs.lemmas.List.{get_or-reverse, get_or-take}
 use Rattle.std.proofs.lemmas.List.Sums.{prefix_len-le-length, suffix_len-le-length, prefix_len_passes, passes_at_first}
-use Rattle.std.proofs.lemmas.Str.{IsCharBoundary-before_ascii, IsCharBoundary-after_ascii, IsCharBoundary-end, IsUtf8-from_is_utf8, is_utf8-from_IsUtf8}
+use Rattle.std.proofs.lemmas.Str.{IsCharBoundary-before_ascii, IsCharBoundary-after_ascii, IsCharBoundary-end}
 use Rattle.std.specs.List.{prefix_len, suffix_len, position, position_or_len}
-use Rattle.std.specs.Str.{IsUtf8, is_utf8, IsCharBoundary}
-use Rattle.rc_file.specs.LineRules.{is_blank, is_sign, before_blanks, trimmed, is_skipped, section_line, key_line, judge, skipped, more, bad}
+use Rattle.std.specs.Str.{IsUtf8, IsCharBoundary}
+use Rattle.rc_file.specs.LineRules.{is_blank, is_sign, before_blanks}
 
 blank_ascii : (byte : ℕ) → is_blank byte ≡ true → byte < 128
-blank_ascii byte h = grind (arith, nat_tests)
+blank_ascii byte h =
+    elim (or_cases (byte == 32) (byte == 9) h) [ inl e ↦ omega (arith, eqb-true byte 32 e) | inr e ↦ omega (arith, eqb-true byte 9 e) ]
 
 sign_ascii : (byte : ℕ) → is_sign byte ≡ true → byte < 128
-sign_ascii byte h = grind (arith, nat_tests)
+sign_ascii byte h =
+    elim (or_cases (byte == 61) (byte == 58) h) [ inl e ↦ omega (arith, eqb-true byte 61 e) | inr e ↦ omega (arith, eqb-true byte 58 e) ]
 
 -- a text may be split after the blanks in front
 pub front_boundary : (bs : List ℕ) → IsUtf8 bs → 0 < prefix_len is_blank bs → IsCharBoundary bs (prefix_len is_blank bs)
@@ -70,34 +70,9 @@ before_blanks-first bs some first =
 pub sign_found : (bs : List ℕ) (i : ℕ) → position is_sign bs ≡ Some i → (i ≡ position_or_len is_sign bs) × (position_or_len is_sign bs < length bs)
 sign_found bs i e =
     elim (cases_Bool (ltb (position_or_len is_sign bs) (length bs))) [
-      | inl within ↦ (sym (same_Some (position_or_len is_sign bs) i (rw within at e)), ltb-true _ _ within)
-      | inr past ↦ absurd (none-some i (rw past at e))
+      | inl within ↦ (cc (rw within at e), ltb-true _ _ within)
+      | inr past ↦ absurd (cc (rw past at e))
     ]
-
--- the five rules, each for a line that the rules before it don't fit
-pub judge_bad : (bs : List ℕ) → (IsUtf8 bs → ⊥) → bad ≡ judge bs
-unfolding judge
-judge_bad bs other =
-    elim (cases_Bool (is_utf8 bs)) [
-      | inl is ↦ absurd (other (IsUtf8-from_is_utf8 bs is))
-      | inr isnt ↦ rw isnt
-    ]
-
-pub judge_skipped : (line bs : List ℕ) → line ≡ bs → IsUtf8 bs → is_skipped line ≡ true → skipped ≡ judge bs
-unfolding judge
-judge_skipped line bs same utf8 skips = rw (← same, is_utf8-from_IsUtf8 line (rw (← same) at utf8), skips)
-
-pub judge_more : (line bs : List ℕ) → line ≡ bs → IsUtf8 bs → is_skipped line ≡ false → is_blank (get_or line 0 0) ≡ true → more (trimmed line) ≡ judge bs
-unfolding judge
-judge_more line bs same utf8 counts blank = rw (← same, is_utf8-from_IsUtf8 line (rw (← same) at utf8), counts, blank)
-
-pub judge_section : (line bs : List ℕ) → line ≡ bs → IsUtf8 bs → is_skipped line ≡ false → is_blank (get_or line 0 0) ≡ false → eqb (get_or line 0 0) 91 ≡ true → section_line (before_blanks line) ≡ judge bs
-unfolding judge
-judge_section line bs same utf8 counts blank bracket = rw (← same, is_utf8-from_IsUtf8 line (rw (← same) at utf8), counts, blank, bracket)
-
-pub judge_key : (line bs : List ℕ) → line ≡ bs → IsUtf8 bs → is_skipped line ≡ false → is_blank (get_or line 0 0) ≡ false → eqb (get_or line 0 0) 91 ≡ false → key_line line ≡ judge bs
-unfolding judge
-judge_key line bs same utf8 counts blank bracket = rw (← same, is_utf8-from_IsUtf8 line (rw (← same) at utf8), counts, blank, bracket)
 
 -- a line that begins with '[' still does without the blanks at its end
 pub begins_after_blanks : (line cut : List ℕ) → cut ≡ before_blanks line → eqb (get_or line 0 0) 91 ≡ true → get_or cut 0 0 ≡ 91

@@ -1,10 +1,12 @@
 -- Reading a file line by line gives its rows.
-use Rattle.std.proofs.Common.{◌≡◌, ℕ, ◌+◌, ◌-◌, ◌<◌, ◌≤◌, suc, zero, Result, Ok, Err, List, [], ◌∷◌, ◌++◌, length, take, get_or, set, map, true, false, Option, Some, None, sym, ap, ◌∙◌, refl, inl, inr, arith}
-use Rattle.std.proofs.lemmas.List.{append-nil, append_assoc, map-append}
+use Rattle.std.proofs.Common.{◌≡◌, ℕ, ◌+◌, ◌-◌, ◌<◌, ◌≤◌, suc, Result, Ok, Err, List, [], ◌∷◌, ◌++◌, length, take, get_or, set, map, true, false, Option, Some, None, sym, ap, ◌∙◌, refl, inl, inr, arith}
+use Rattle.std.proofs.lemmas.Grind.{common_steps}
+use Rattle.std.proofs.Math.Seq.{split_at}
+use Rattle.std.proofs.lemmas.List.{drop_all, take-set, append-nil, append_assoc, map-append}
 use Rattle.std.specs.Char.{to_ascii_lowercase}
 use Rattle.std.proofs.lemmas.Bool.{false≢true}
-use Rattle.rc_file.specs.LineRules.{RcLine, skipped, more, section, key, bad}
-use Rattle.rc_file.specs.FileRows.{RcRow, section_row, key_row, bad_row, added, rows_from}
+use Rattle.rc_file.specs.LineRules.{RcLine, more, section, key, bad}
+use Rattle.rc_file.specs.FileRows.{RcRow, section_row, key_row, bad_row}
 use Rattle.rc_file.specs.RcMeaning.{first_bad}
 use Rattle.rc_file.specs.RowReading.{row_of, row_at, rows_in, continued_row, continued, section_in, last_section, is_key_row, ends_in_key, file_rows, AddsText, TakesLine}
 use Rattle.rc_file.specs.declared.fault.RcFault.{RcFault}
@@ -41,38 +43,22 @@ continued-nil (row ∷ next ∷ rows) = ap (λ (l : List RcRow). row ∷ l) (con
 
 -- each kind of line
 
-pub file_rows-skipped : (rows : List RcRow) (n : ℕ) (lines : List RcLine) → file_rows rows n (skipped ∷ lines) ≡ file_rows rows (n + 1) lines
-unfolding file_rows
-file_rows-skipped rows n lines = refl
-
 pub file_rows-section : (rows : List RcRow) (n : ℕ) (name : List ℕ) (lines : List RcLine) → file_rows rows n (section name ∷ lines) ≡ file_rows (rows ++ (section_row n name ∷ [])) (n + 1) lines
 unfolding file_rows
-file_rows-section rows n name lines =
-    rw (continued-nil rows, continued-last rows (section_row n name) (added lines), last_section-last rows (section_row n name), ends_in_key-last rows (section_row n name))
-    (sym (append_assoc rows (section_row n name ∷ []) (rows_from (Some name) false (n + 1) lines)))
+file_rows-section rows n name lines = simp (continued-nil, continued-last, last_section-last, ends_in_key-last, append_assoc)
 
 pub file_rows-key : (rows : List RcRow) (n : ℕ) (name word value : List ℕ) (lines : List RcLine) → last_section rows ≡ Some name
     → file_rows rows n (key word value ∷ lines) ≡ file_rows (rows ++ (key_row n name (map to_ascii_lowercase word) value ∷ [])) (n + 1) lines
 unfolding file_rows
 file_rows-key rows n name word value lines within =
-    rw (within, continued-nil rows, continued-last rows (key_row n name (map to_ascii_lowercase word) value) (added lines), last_section-last rows (key_row n name (map to_ascii_lowercase word) value), ends_in_key-last rows (key_row n name (map to_ascii_lowercase word) value))
-    (sym (append_assoc rows (key_row n name (map to_ascii_lowercase word) (value ++ added lines) ∷ []) (rows_from (Some name) true (n + 1) lines)))
+    simp (within, continued-nil, continued-last, last_section-last, ends_in_key-last, append_assoc)
 
 pub file_rows-more : (rows : List RcRow) (row : RcRow) (n : ℕ) (text : List ℕ) (lines : List RcLine) → is_key_row row ≡ true
     → file_rows (rows ++ (row ∷ [])) n (more text ∷ lines) ≡ file_rows (rows ++ (continued_row row (10 ∷ text) ∷ [])) (n + 1) lines
 unfolding file_rows
-file_rows-more rows (section_row m name) n text lines is_key = absurd (false≢true is_key)
-file_rows-more rows (bad_row m) n text lines is_key = absurd (false≢true is_key)
 file_rows-more rows (key_row m name word value) n text lines is_key =
-    rw (
-      continued-last rows (key_row m name word value) (10 ∷ (text ++ added lines)),
-      last_section-last rows (key_row m name word value),
-      ends_in_key-last rows (key_row m name word value),
-      continued-last rows (key_row m name word (value ++ (10 ∷ text))) (added lines),
-      last_section-last rows (key_row m name word (value ++ (10 ∷ text))),
-      ends_in_key-last rows (key_row m name word (value ++ (10 ∷ text))),
-    )
-    (ap (λ (v : List ℕ). (rows ++ (key_row m name word v ∷ [])) ++ rows_from (Some name) true (n + 1) lines) (sym (append_assoc value (10 ∷ text) (added lines))))
+    simp (continued-last, last_section-last, ends_in_key-last, append_assoc)
+file_rows-more rows other n text lines is_key = absurd (false≢true is_key)
 
 -- rows that were read are never bad
 pub good_row : (n : ℕ) (name : List ℕ) (entry : Option Entry) (others : List RcRow) → first_bad (row_at n name entry ∷ others) ≡ first_bad others
@@ -103,16 +89,11 @@ first_bad-key read n word value lines none = first_bad-read read [] _ ∙ rw non
 
 -- the last of some rows, by its place
 pub split_last : (read : List ReadRow) (k : ℕ) (row : ReadRow) → row ≡ get_or read k row → suc k ≡ length read → read ≡ take k read ++ (row ∷ [])
-split_last [] k row same at_end = absurd (omega arith)
-split_last (x ∷ []) zero row same at_end = ap (λ (r : ReadRow). r ∷ []) (sym same)
-split_last (x ∷ y ∷ xs) zero row same at_end = absurd (omega arith)
-split_last (x ∷ xs) (suc k) row same at_end = ap (λ (l : List ReadRow). x ∷ l) (split_last xs k row same (omega arith))
+split_last read k row same at_end = grind (arith, common_steps, split_at read k row (omega arith), drop_all (suc k) read (omega arith))
 
 pub set_last : (read : List ReadRow) (k : ℕ) (row : ReadRow) → suc k ≡ length read → set read k row ≡ take k read ++ (row ∷ [])
-set_last [] k row at_end = absurd (omega arith)
-set_last (x ∷ []) zero row at_end = refl
-set_last (x ∷ y ∷ xs) zero row at_end = absurd (omega arith)
-set_last (x ∷ xs) (suc k) row at_end = ap (λ (l : List ReadRow). x ∷ l) (set_last xs k row (omega arith))
+set_last read k row at_end =
+    split_last (set read k row) k row (grind (arith, common_steps)) (grind (arith, common_steps)) ∙ simp take-set
 
 pub rows_in-push : (old new : List ReadRow) (row : ReadRow) → new ≡ old ++ (row ∷ []) → rows_in new ≡ rows_in old ++ (row_of row ∷ [])
 rows_in-push old new row e = ap rows_in e ∙ map-append row_of old (row ∷ [])
@@ -158,11 +139,6 @@ more_taken read k row new n text (Err fault) same at_end (inr h) = λ lines.
 
 pub more_misplaced : (read : List ReadRow) → length read ≡ 0 → ends_in_key (rows_in read) ≡ false
 more_misplaced read none = ap ends_in_key (rows_in-none read none)
-
--- before the first line, and after the last
-pub file_rows-start : (lines : List RcLine) → rows_from None false 1 lines ≡ file_rows [] 1 lines
-unfolding file_rows
-file_rows-start lines = refl
 
 pub file_rows-end : (rows : List RcRow) (n : ℕ) → file_rows rows n [] ≡ rows
 unfolding file_rows

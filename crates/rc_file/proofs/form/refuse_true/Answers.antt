@@ -1,17 +1,11 @@
-use Rattle.std.proofs.Common.{Some, ap, refl, sym, ◌∙◌}
-use Rattle.std.proofs.lemmas.Result.{err_from_is_err_and}
-use Rattle.rc_file.specs.KeyTable.{never}
-use Rattle.rc_file.specs.RowReading.{rows_in}
-use Rattle.rc_file.specs.declared.fault.RcFault.{RcFault}
-use Rattle.rc_file.proofs.ValueLemmas.{value_missing, value_judged, reads_same}
+use Rattle.std.proofs.Common.{rules}
+use Rattle.rc_file.specs.RcMeaning.{fault_at}
 use Rattle.rc_file.proofs.form.refuse_true.Goals as goal
 
 pub returns : goal.returns
-returns c =
-    let rows = rows_in c.args.rows.now in
-    reads_same _ _ _ _ c.parse_no.result (value_judged rows c.args.key c.in_ok-required.field-0.now never c.in_ok-required.ensures.found c.requires) refl c.parse_no.ensures
+unfolding fault_at
+returns c = search rules
 
 pub returns-in_err-required : goal.returns-in_err-required
-returns-in_err-required c =
-    let p = err_from_is_err_and c.from_residual.result c.from_residual.ensures.1 in
-    rw (p.1, p.2) (value_missing (rows_in c.args.rows.now) c.args.key c.in_err-required.ensures.missing.0 ∙ ap (λ (fault : RcFault). Some fault) (sym c.in_err-required.ensures.missing.1))
+unfolding fault_at
+returns-in_err-required c = search rules

@@ -1,15 +1,15 @@
 use Rattle.std.proofs.Common.{◌∙◌, ap, ◌∷◌, inr}
+use Rattle.std.proofs.Common.{rules}
 use Rattle.rc_file.specs.JudgedLine.{line_of}
 use Rattle.rc_file.specs.RcMeaning.{first_bad}
 use Rattle.rc_file.specs.RowReading.{rows_in, file_rows}
 use Rattle.rc_file.specs.declared.line.JudgedLine.{JudgedLine}
-use Rattle.rc_file.proofs.RowLemmas.{file_rows-skipped, first_bad-bad}
+use Rattle.rc_file.proofs.RowLemmas.{first_bad-bad}
 use Rattle.rc_file.proofs.row.add_line.Goals as goal
 
 pub returns-in-Skipped : goal.returns-in-Skipped
-returns-in-Skipped c =
-    λ lines. ap (λ (line : JudgedLine). file_rows (rows_in c.args.rows.now.items) c.args.number (line_of line ∷ lines)) c.in-Skipped.is
-    ∙ file_rows-skipped (rows_in c.args.rows.now.items) c.args.number lines
+unfolding file_rows
+returns-in-Skipped c = search rules
 
 pub returns-in-Bad : goal.returns-in-Bad
 returns-in-Bad c =

@@ -1,11 +1,10 @@
-use Rattle.std.proofs.Common.{◌≡◌, List, ◌∷◌, [], ◌++◌, map, ap, sym, ◌∙◌, subst, true, false}
+use Rattle.std.proofs.Common.{◌≡◌, ◌∷◌, [], ◌++◌, map, sym, ◌∙◌, true, false}
 use Rattle.std.proofs.lemmas.Bool.{MatchBool-at_false, not-true, not-false}
 use Rattle.std.proofs.lemmas.List.{map-append}
 use Rattle.std.specs.HashSet.{contains, IsUnchanged}
-use Rattle.rc_file.specs.RcMeaning.{Warned, warned}
+use Rattle.rc_file.specs.RcMeaning.{warned}
 use Rattle.rc_file.specs.RowReading.{row_of}
-use Rattle.rc_file.specs.WarningSearch.{Tells, name_eq, warning_of}
-use Rattle.rc_file.specs.declared.warning.Warning.{Warning}
+use Rattle.rc_file.specs.WarningSearch.{name_eq, warning_of}
 use Rattle.rc_file.proofs.WarningLemmas.{tells_new, tells_again}
 use Rattle.rc_file.proofs.warning.tell.Goals as goal
 
@@ -22,9 +21,6 @@ returns c =
     let fresh : c.in_ok-insert.field-0 ≡ true = c.if-not-branch.false in
     let absent : contains name_eq c.args.told.now c.name.result ≡ false = not-true _ (sym c.in_ok-insert.ensures.added ∙ fresh) in
     let found : map warning_of c.push.new.self.items ≡ map warning_of c.args.warnings.now.items ++ (warned (row_of c.args.row.now) ∷ []) =
-    ap (λ (l : List Warning). map warning_of l) c.in_ok-push.ensures.items
-    ∙ map-append warning_of c.args.warnings.now.items (c.in_ok-warning.field-0 ∷ [])
-    ∙ ap (λ (w : Warned). map warning_of c.args.warnings.now.items ++ (w ∷ [])) c.in_ok-warning.ensures in
-    subst (λ (l : List Warned). Tells (warned (row_of c.args.row.now)) (map warning_of c.args.warnings.now.items) c.args.told.now l c.insert.new.self) (sym found)
-    (tells_new (warned (row_of c.args.row.now)) (map warning_of c.args.warnings.now.items) c.args.told.now c.insert.new.self c.name.result
+    simp (c.in_ok-push.ensures.items, map-append, c.in_ok-warning.ensures) in
+    rw found (tells_new (warned (row_of c.args.row.now)) _ c.args.told.now c.insert.new.self c.name.result
     c.name.ensures.section c.name.ensures.key absent c.in_ok-insert.ensures.updates.0)

@@ -1,22 +1,15 @@
+use Rattle.std.proofs.Common.{rules}
 use Rattle.std.proofs.Common.{take}
 use Rattle.pop3_client.specs.Client.{place_of}
-use Rattle.pop3_client.proofs.ClientLemmas.{in_words, and_then}
+use Rattle.pop3_client.proofs.ClientLemmas.{and_then}
 use Rattle.pop3_client.proofs.TalkLemmas.{sent_for, opened, fits_other, broke_saying, broke_there}
 use Rattle.pop3_client.proofs.client.Client.ask.Goals as goal
 
 pub returns-in-Err-clause-asks : goal.returns-in-Err-clause-asks
-returns-in-Err-clause-asks g c =
-    let old = place_of g.W.Wire c.args.self.now in
-    let new = place_of g.W.Wire c.say.new.self in
-    in_words g.W.Wire c.in-Err.ensures.sent (λ said turn names other is.
-    broke_saying turn old new c.in-Err.fault (rw is at said) c.in-Err.ensures.silent)
+returns-in-Err-clause-asks g c = search (rules, broke_saying)
 
 pub returns-in-Err-hear-clause-asks : goal.returns-in-Err-hear-clause-asks
-returns-in-Err-hear-clause-asks g c =
-    let old = place_of g.W.Wire c.args.self.now in
-    and_then g.W.Wire g.met.W.Wire.leads_on c.in_default.ensures.sent c.in-Err-hear.ensures.heard (λ said heard turn names other is.
-    broke_there turn old (g.W.Wire.history c.say.new.self.wire.now) _ c.in-Err-hear.fault
-    (sent_for turn old.link _ c.args.bytes.now said is) (rw c.in_default.ensures.silent at (heard turn names)))
+returns-in-Err-hear-clause-asks g c = search (rules, sent_for, broke_there)
 
 pub returns-clause-asks : goal.returns-clause-asks
 returns-clause-asks g c =

@@ -1,27 +1,18 @@
+use Rattle.std.proofs.Common.{rules}
 use Rattle.std.proofs.Common.{List, ℕ, take, subst, refl, None, Err}
 use Rattle.pop3_wire.specs.Place.{at}
 use Rattle.pop3_client.specs.Client.{place_of}
 use Rattle.pop3_client.specs.Turns.{stat}
 use Rattle.pop3_client.specs.Conversation.{GivesFew}
-use Rattle.pop3_client.proofs.ClientLemmas.{in_words, and_then}
+use Rattle.pop3_client.proofs.ClientLemmas.{and_then}
 use Rattle.pop3_client.proofs.TalkLemmas.{stat_bytes, sent_for, opened, broke_saying, broke_there, few_heard, talked_line}
 use Rattle.pop3_client.proofs.client.Client.count.Goals as goal
 
-pub count_of-requires : goal.count_of-requires
-count_of-requires g c = rw c.waiting.ensures.value c.in-Ok.ensures.positive
-
 pub returns-in-Err-clause-counts : goal.returns-in-Err-clause-counts
-returns-in-Err-clause-counts g c =
-    let old = place_of g.W.Wire c.args.self.now in
-    let new = place_of g.W.Wire c.say.new.self in
-    in_words g.W.Wire c.in-Err.ensures.sent (λ said.
-    broke_saying stat old new c.in-Err.fault (rw stat_bytes at said) c.in-Err.ensures.silent)
+returns-in-Err-clause-counts g c = search (rules, stat_bytes, broke_saying)
 
 pub returns-in-Err-hear-clause-counts : goal.returns-in-Err-hear-clause-counts
-returns-in-Err-hear-clause-counts g c =
-    let old = place_of g.W.Wire c.args.self.now in
-    and_then g.W.Wire g.met.W.Wire.leads_on c.in_default.ensures.sent c.in-Err-hear.ensures.heard (λ said heard.
-    broke_there stat old (g.W.Wire.history c.say.new.self.wire.now) _ c.in-Err-hear.fault (sent_for stat old.link _ _ said stat_bytes) (rw c.in_default.ensures.silent at (heard stat refl)))
+returns-in-Err-hear-clause-counts g c = search (rules, stat_bytes, sent_for, broke_there)
 
 pub returns-in-Ok-count_of-clause-counts : goal.returns-in-Ok-count_of-clause-counts
 returns-in-Ok-count_of-clause-counts g c =

@@ -1,3 +1,4 @@
+use Rattle.std.proofs.Common.{rules}
 use Rattle.std.proofs.Common.{take, refl}
 use Rattle.pop3_client.specs.Client.{place_of}
 use Rattle.pop3_client.specs.Turns.{greeting}
@@ -6,9 +7,7 @@ use Rattle.pop3_client.proofs.TalkLemmas.{opened, fits_other, broke_there, nothi
 use Rattle.pop3_client.proofs.client.Client.greet.Goals as goal
 
 pub returns-in-Err-clause-asks : goal.returns-in-Err-clause-asks
-returns-in-Err-clause-asks g c =
-    let old = place_of g.W.Wire c.args.self.now in
-    in_words g.W.Wire c.in-Err.ensures.heard (λ heard. broke_there greeting old old.link _ c.in-Err.fault (nothing_said old.link) (heard greeting refl))
+returns-in-Err-clause-asks g c = search (rules, broke_there, nothing_said)
 
 pub returns-clause-asks : goal.returns-clause-asks
 returns-clause-asks g c =

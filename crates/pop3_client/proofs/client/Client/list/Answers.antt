@@ -1,14 +1,12 @@
-use Rattle.std.proofs.Common.{◌∷◌, [], inl}
+use Rattle.std.proofs.Common.{rules}
 use Rattle.pop3_client.specs.Client.{place_of}
-use Rattle.pop3_client.specs.Turns.{uidl, list}
-use Rattle.pop3_client.proofs.ClientLemmas.{in_words, and_then}
+use Rattle.pop3_client.proofs.ClientLemmas.{and_then}
 use Rattle.pop3_client.proofs.TalkLemmas.{stopped_first}
 use Rattle.pop3_client.proofs.ListingLemmas.{listed, lists_joined}
 use Rattle.pop3_client.proofs.client.Client.list.Goals as goal
 
 pub returns-in-Err-clause-lists : goal.returns-in-Err-clause-lists
-returns-in-Err-clause-lists g c =
-    in_words g.W.Wire c.in-Err.ensures.lists (λ lists. inl (stopped_first uidl (list ∷ []) _ _ c.in-Err.fault lists))
+returns-in-Err-clause-lists g c = search (rules, stopped_first)
 
 pub returns-clause-lists : goal.returns-clause-lists
 returns-clause-lists g c =

@@ -1,12 +1,12 @@
+use Rattle.std.proofs.Common.{rules}
 use Rattle.std.proofs.Common.{◌∷◌, [], refl}
 use Rattle.pop3_client.specs.Turns.{greeting, user, pass}
-use Rattle.pop3_client.proofs.ClientLemmas.{in_words, and_then, and_then_two}
+use Rattle.pop3_client.proofs.ClientLemmas.{and_then, and_then_two}
 use Rattle.pop3_client.proofs.TalkLemmas.{asks_completes, completes_talks, completes_then, talked_line, stopped_first, stopped_behind}
 use Rattle.pop3_client.proofs.client.Client.log_in_by.Goals as goal
 
 pub returns-in-Err-clause-talks : goal.returns-in-Err-clause-talks
-returns-in-Err-clause-talks g c = in_words g.W.Wire c.in-Err.ensures.asks (λ asks name password is also.
-    stopped_first greeting (user name ∷ pass password ∷ []) _ _ c.in-Err.fault asks)
+returns-in-Err-clause-talks g c = search (rules, stopped_first)
 
 pub returns-in-Err-ask-clause-talks : goal.returns-in-Err-ask-clause-talks
 returns-in-Err-ask-clause-talks g c = and_then g.W.Wire g.met.W.Wire.leads_on c.in_default.ensures.asks c.in-Err-ask.ensures.asks (λ first second name password is also.

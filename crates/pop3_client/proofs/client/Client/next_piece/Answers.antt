@@ -1,18 +1,16 @@
-use Rattle.pop3_wire.specs.Place.{at}
 use Rattle.pop3_client.specs.Client.{place_of}
 use Rattle.pop3_client.specs.Turns.{retr, text_limit}
 use Rattle.pop3_client.specs.Texts.{Fetching}
 use Rattle.pop3_client.proofs.ClientLemmas.{in_words, and_then}
-use Rattle.pop3_client.proofs.TextLemmas.{still_fetching, fetched, broke_ended, broke_failed, broke_too_long}
+use Rattle.pop3_client.proofs.TextLemmas.{fetched, broke_ended, broke_failed, broke_too_long}
 use Rattle.pop3_client.proofs.client.Client.next_piece.Goals as goal
 
 pub returns-in-Ok-clause-takes : goal.returns-in-Ok-clause-takes
 returns-in-Ok-clause-takes g c =
-    let new = at (g.W.Wire.history c.next.new.wire) c.next.new.reader in
     let told = place_of g.W.Wire c.tell.new.self in
     and_then g.W.Wire g.met.W.Wire.leads_on c.in-Ok.ensures.takes c.tell.ensures.kept (λ took same number start text now.
-    let more : Fetching (retr number) start new c.next.new.self _ = record { line = now.line; mid = now.mid; opened = now.opened; under = took text_limit now.mid text now.under } in
-    let there = still_fetching number start new told c.next.new.self _ same more in
+    let there : Fetching (retr number) start told c.next.new.self _ =
+    rw same (record { line = now.line; mid = now.mid; opened = now.opened; under = took text_limit now.mid text now.under }) in
     (there, λ ended. fetched number start told c.next.new.self _ there (c.in-Ok.ensures.ended.0 ended)))
 
 pub returns-in-Err-Ended-clause-takes : goal.returns-in-Err-Ended-clause-takes

@@ -4,9 +4,6 @@ use Rattle.pop3_client.specs.Turns.{retr}
 use Rattle.pop3_client.proofs.ClientLemmas.{in_words}
 use Rattle.pop3_client.proofs.client.Client.open_by.Goals as goal
 
-pub returns-in-Err-clause-opens : goal.returns-in-Err-clause-opens
-returns-in-Err-clause-opens g c = in_words g.W.Wire c.in-Err.ensures.asks (λ asks is. asks (retr c.args.number) refl refl is)
-
 pub returns-clause-opens : goal.returns-clause-opens
 returns-clause-opens g c =
     let mid = place_of g.W.Wire c.ask.new.self in

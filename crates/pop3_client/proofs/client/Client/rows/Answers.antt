@@ -1,4 +1,4 @@
-use Rattle.std.proofs.Common.{◌≡◌, ◌<◌, ◌+◌, ◌++◌, ◌∙◌, inl, inr, ℕ, List, length, take, drop, refl, sym, subst, arith, All}
+use Rattle.std.proofs.Common.{◌<◌, ◌+◌, ◌++◌, ◌∙◌, inl, inr, ℕ, List, length, take, drop, refl, sym, subst, arith, All}
 use Rattle.std.proofs.lemmas.List.Elements.{All-nil, All-push}
 use Rattle.pop3_client.specs.declared.fault.ClientFault.{ClientFault}
 use Rattle.pop3_client.specs.declared.fault.ClientFault.TheVariants.{NoMemory}
@@ -23,14 +23,12 @@ rows-init g c = (
 
 pub returns-in-Err-clause-takes : goal.returns-in-Err-clause-takes
 returns-in-Err-clause-takes g c =
-    let size : c.len.result ≡ length c.rows.rows.items = omega arith in
     and_then g.W.Wire g.met.W.Wire.leads_on c.rows.invariant.3 c.in-Err.ensures.next (λ now next.
-    rows_cause _ _ _ _ _ now c.in-Err.fault c.len.result (place_of g.W.Wire c.next_row.new.self) next.0 size next.1 next.2)
+    rows_cause _ _ _ _ _ now c.in-Err.fault c.len.result (place_of g.W.Wire c.next_row.new.self) next.0 (omega arith) next.1 next.2)
 
 pub returns-in-Err-read-clause-takes : goal.returns-in-Err-read-clause-takes
 returns-in-Err-read-clause-takes g c =
     let few : c.len.result < message_limit = rw c.in-Ok-Some.field-0-is at c.in-Ok-Some.ensures.few in
-    let size : c.len.result ≡ length c.rows.rows.items = omega arith in
     let n = c.in-Ok-Some.length in
     and_then g.W.Wire g.met.W.Wire.leads_on c.rows.invariant.3 (rw c.in-Ok-Some.field-0-is at c.in-Ok-Some.ensures.next) (λ before next.
     let here = place_of g.W.Wire c.next_row.new.self in
@@ -47,7 +45,6 @@ returns-in-Err-read-clause-takes g c =
 pub returns-in-Err-push-clause-takes : goal.returns-in-Err-push-clause-takes
 returns-in-Err-push-clause-takes g c =
     let few : c.len.result < message_limit = rw c.in-Ok-Some.field-0-is at c.in-Ok-Some.ensures.few in
-    let size : c.len.result ≡ length c.rows.rows.items = omega arith in
     let n = c.in-Ok-Some.length in
     and_then g.W.Wire g.met.W.Wire.leads_on c.rows.invariant.3 (rw c.in-Ok-Some.field-0-is at c.in-Ok-Some.ensures.next) (λ before next.
     let here = place_of g.W.Wire c.next_row.new.self in
@@ -59,7 +56,6 @@ returns-in-Err-push-clause-takes g c =
 pub rows-preserved : goal.rows-preserved
 rows-preserved g c =
     let few : c.len.result < message_limit = rw c.in-Ok-Some.field-0-is at c.in-Ok-Some.ensures.few in
-    let size : c.len.result ≡ length c.rows.rows.items = omega arith in
     let n = c.in-Ok-Some.length in
     let here = place_of g.W.Wire c.next_row.new.self in (
       c.in-Ok-Some.ensures.link ∙ c.rows.invariant.0,
