@@ -17,9 +17,9 @@ use Rattle.run_law.specs.Steps.{Effect, Leaves, Stores, file_for, is_unheld, ids
 use Rattle.run_law.specs.Sessions.{IsBegun, BeginsOne}
 use Rattle.pop3_wire.specs.declared.command.Command.{Command}
 use Rattle.pop3_wire.specs.declared.command.Command.TheVariants.{Dele}
-use Rattle.run_law.specs.Safety.{IsAmong, DeletesKept, SessionsAreSafe}
+use Rattle.run_law.specs.Safety.{IsAmong, DeletesSaved, SessionsAreSafe}
 use Rattle.run_law.specs.Mboxes.{MboxMail, settled, mbox_rows, mbox_wanted, entries, MboxStores}
-use Rattle.run_law.specs.MboxSafety.{MboxDeletesKept, MboxSessionsAreSafe}
+use Rattle.run_law.specs.MboxSafety.{MboxDeletesSaved, MboxSessionsAreSafe}
 use Rattle.run_law.proofs.Lists.{all_map, all_both, all_filter, all_passing, all_back}
 use Rattle.run_law.proofs.Ids.{bytes_same, bytes_self, taken_more, all_ids_at}
 use Rattle.run_law.proofs.Below.{Records, RowLaws}
@@ -168,7 +168,7 @@ kept_none settings account before effect after leaves = record {
 }
 
 deletes_kept : (settings : Settings) (account : List ℕ) (before : AccountMail) (effect : Effect) (after : AccountMail) (keeps : KeepsAll settings account before effect after) (command : Command)
-    → IsBegun effect.listing effect.begun command → DeletesKept settings account before effect keeps.gained command
+    → IsBegun effect.listing effect.begun command → DeletesSaved settings account before effect keeps.gained command
 deletes_kept settings account before effect after keeps (Dele number) (item, at, is, counted, alone) = (
   counted,
   item,
@@ -195,7 +195,7 @@ sessions_are_safe laws settings account before sent got effect after session =
       came = keeps.came;
       commands = session.commands;
       asked = session.asked;
-      deletes = all_map (IsBegun effect.listing effect.begun) (DeletesKept settings account before effect keeps.gained) deletes session.commands session.begun;
+      deletes = all_map (IsBegun effect.listing effect.begun) (DeletesSaved settings account before effect keeps.gained) deletes session.commands session.begun;
       next = begins deletes session.asked.part session.next;
     }
 
@@ -245,7 +245,7 @@ module _ (laws : RowLaws) (settings : Settings) (before : MboxMail) (effect : Ef
     | inr stored ↦ inr (has_text s.stored (mbox_wanted settings before effect) effect.texts id s.fetched stored)
   ]
 
-  deletes : (command : Command) → IsBegun effect.listing effect.begun command → MboxDeletesKept settings before effect after command
+  deletes : (command : Command) → IsBegun effect.listing effect.begun command → MboxDeletesSaved settings before effect after command
   deletes (Dele number) (item, at, is, counted, alone) = (
     counted,
     item,
@@ -269,13 +269,13 @@ module _ (laws : RowLaws) (settings : Settings) (before : MboxMail) (effect : Ef
   deletes other is = tt
 
 -- nothing was begun
-none_begun : (settings : Settings) (before : MboxMail) (effect : Effect) (after : MboxMail) → effect.begun ≡ [] → (command : Command) → IsBegun effect.listing effect.begun command → MboxDeletesKept settings before effect after command
+none_begun : (settings : Settings) (before : MboxMail) (effect : Effect) (after : MboxMail) → effect.begun ≡ [] → (command : Command) → IsBegun effect.listing effect.begun command → MboxDeletesSaved settings before effect after command
 none_begun settings before effect after none (Dele number) (item, at, is, counted, alone) = absurd (true≢false (sym is ∙ ap (λ l. has_id l item.uid) none))
 none_begun settings before effect after none command is = tt
 
 pub mbox_sessions_are_safe : RowLaws → MboxSessionsAreSafe
 mbox_sessions_are_safe laws settings before sent got effect after session =
-    let kept : (command : Command) → IsBegun effect.listing effect.begun command → MboxDeletesKept settings before effect after command = elim session.step [
+    let kept : (command : Command) → IsBegun effect.listing effect.begun command → MboxDeletesSaved settings before effect after command = elim session.step [
       | inl (leaves, none) ↦ none_begun settings before effect after leaves.begun
       | inr (stores, reads) ↦ deletes laws settings before effect after stores
     ] in
@@ -289,6 +289,6 @@ mbox_sessions_are_safe laws settings before sent got effect after session =
       ];
       commands = session.commands;
       asked = session.asked;
-      deletes = all_map (IsBegun effect.listing effect.begun) (MboxDeletesKept settings before effect after) kept session.commands session.begun;
+      deletes = all_map (IsBegun effect.listing effect.begun) (MboxDeletesSaved settings before effect after) kept session.commands session.begun;
       next = begins kept session.asked.part session.next;
     }

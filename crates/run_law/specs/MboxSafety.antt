@@ -30,11 +30,11 @@ pub record WasAppended (settings : Settings) (before : MboxMail) (effect : Effec
 
 -- a DELE gives the number, counted from 1, of a message that the settled record shows as delivered, or whose
 -- entry the session appended; no other command deletes
-abbrev pub MboxDeletesKept : Settings → MboxMail → Effect → MboxMail → Command → Type 0
-MboxDeletesKept settings before effect after (Dele number) =
+abbrev pub MboxDeletesSaved : Settings → MboxMail → Effect → MboxMail → Command → Type 0
+MboxDeletesSaved settings before effect after (Dele number) =
     (0 < number) × (item : Item) × (slice_get effect.listing (number - 1) ≡ Some item)
     × ((is_delivered (settled effect.listing before).rows item.uid ≡ true) ⊎ WasAppended settings before effect after number item.uid)
-MboxDeletesKept settings before effect after _ = Unit {0}
+MboxDeletesSaved settings before effect after _ = Unit {0}
 
 -- the file is as it was, or begins with what it held after it was settled; and each DELE that was sent, the
 -- last perhaps in part, asks for such a message
@@ -42,8 +42,8 @@ pub record MboxIsSafe (settings : Settings) (before : MboxMail) (sent : List ℕ
   pub file : (after.file ≡ before.file) ⊎ ((more : List ℕ) × (after.file ≡ (settled effect.listing before).file ++ more))
   pub commands : List Command
   pub asked : Asked commands sent
-  pub deletes : AllByRecursion (MboxDeletesKept settings before effect after) commands
-  pub next : BeginsOne (MboxDeletesKept settings before effect after) asked.part
+  pub deletes : AllByRecursion (MboxDeletesSaved settings before effect after) commands
+  pub next : BeginsOne (MboxDeletesSaved settings before effect after) asked.part
 
 -- a law: every session is safe in this way, whatever its server says
 abbrev pub MboxSessionsAreSafe : Type 0

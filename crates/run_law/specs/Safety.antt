@@ -25,16 +25,16 @@ WasStored settings account before effect gained number id = (message : ℕ × It
 
 -- the id was recorded as delivered before the session, or was held, or the session stored the text that it
 -- got by this number
-abbrev pub IsKept : Settings → List ℕ → AccountMail → Effect → List File → ℕ → List ℕ → Type 0
-IsKept settings account before effect gained number id = (is_delivered before.rows id ≡ true)
+abbrev pub IsSaved : Settings → List ℕ → AccountMail → Effect → List File → ℕ → List ℕ → Type 0
+IsSaved settings account before effect gained number id = (is_delivered before.rows id ≡ true)
     ⊎ (is_held account before.maildir id ≡ true) ⊎ WasStored settings account before effect gained number id
 
--- a DELE gives the number, counted from 1, of a message that is kept in this way; no other command deletes
-abbrev pub DeletesKept : Settings → List ℕ → AccountMail → Effect → List File → Command → Type 0
-DeletesKept settings account before effect gained (Dele number) =
+-- a DELE gives the number, counted from 1, of a message that is saved in this way; no other command deletes
+abbrev pub DeletesSaved : Settings → List ℕ → AccountMail → Effect → List File → Command → Type 0
+DeletesSaved settings account before effect gained (Dele number) =
     (0 < number) × (item : Item) × (slice_get effect.listing (number - 1) ≡ Some item)
-    × IsKept settings account before effect gained number item.uid
-DeletesKept settings account before effect gained _ = Unit {0}
+    × IsSaved settings account before effect gained number item.uid
+DeletesSaved settings account before effect gained _ = Unit {0}
 
 -- every file of `new` and `cur` is still there, with what it held; and each DELE that was sent, the last
 -- perhaps in part, asks for such a message
@@ -44,8 +44,8 @@ pub record IsSafe (settings : Settings) (account : List ℕ) (before : AccountMa
   pub came : after.maildir.files ≡ before.maildir.files ++ gained
   pub commands : List Command
   pub asked : Asked commands sent
-  pub deletes : AllByRecursion (DeletesKept settings account before effect gained) commands
-  pub next : BeginsOne (DeletesKept settings account before effect gained) asked.part
+  pub deletes : AllByRecursion (DeletesSaved settings account before effect gained) commands
+  pub next : BeginsOne (DeletesSaved settings account before effect gained) asked.part
 
 -- a law: every session is safe in this way, whatever its server says
 abbrev pub SessionsAreSafe : Type 0
