@@ -21,10 +21,10 @@ use Rattle.mail_terms.specs.UniqueId.{has_id, is_legal_id}
 use Rattle.run_law.specs.Mails.{item_of, listing_of, is_selected, WorldsShrink}
 use Rattle.run_law.specs.Accounts.{AccountMail, KeepsOthers, copies, files}
 use Rattle.run_law.specs.Steps.{Effect, Leaves, Stores, IsHonest, ids_wanted, merged_rows, wanted_at}
-use Rattle.run_law.specs.Runs.{IsSound, World, State, Visit, Event as EventIn, Visited, Between as BetweenIn, Expired as ExpiredIn, Withdrawn as WithdrawnIn, TakenAway as TakenIn, BroughtBack as BroughtIn, Forgotten as ForgottenIn, PowerLost as PowerLostIn, Visits, IsLastStored as LastIn, Happens, after_event as after_in, world_after as world_in, Promises as PromisesIn, Kept as IsKeptIn, KeptStaysKept, KeptHoldsWhatIsLeft, StartsKept, LeavesOut, DeletesHeld, StoresOnlyNew as StoresNew, past_limit, NothingTakenHoldsExactly}
+use Rattle.run_law.specs.Runs.{IsSound, World, State, Visit, Visits, IsLastStored as LastIn, Happens, after_visit, Promises as PromisesIn, Kept as IsKeptIn, KeptStaysKept, KeptHoldsWhatIsLeft, StartsKept, LeavesOut, DeletesHeld, StoresOnlyNew as StoresNew, past_limit, NothingTakenHoldsExactly, Event, Fetched, Between, Expired, Withdrawn, TakenAway, BroughtBack, Forgotten, PowerLost, after_event, after_events, world_after, world_left}
 use Rattle.run_law.specs.Sessions.{IsBegun, Link as LinkIn, LinksAreVisits}
 use Rattle.fetch_runs.specs.Steps.{holds, IsStep, SessionIsAStep}
-use Rattle.fetch_runs.specs.Headline.{Occasion, Event, Fetched, Between, Expired, Withdrawn, TakenAway, BroughtBack, Forgotten, PowerLost, maildrop_at, IsSession, after_event, world_after, world_left, Follows, IsLastStored, by_rows, HoldsAPrefix, IsHeldAfter, IsPastCount, LeavesOutOnlyBeyondLimits, IsForHeld, FilesStay, StoresOnlyNew, Promised, IsKept, Headline, EmptyIsKept, HeadlineFromEmpty, state_after, IsRun, contents_of, IsRecorded, HoldsExactlyAPrefix, IsForOneHeld, IsWordForWord, LeaveAway, HeadlineWordForWord, StaysAway, LostRecordsAreForgotten, NewProcessesAreBetween, StopsAreRuns}
+use Rattle.fetch_runs.specs.Headline.{Occasion, maildrop_at, IsSession, Follows, IsLastStored, by_rows, HoldsAPrefix, IsHeldAfter, IsPastCount, LeavesOutOnlyBeyondLimits, IsForHeld, FilesStay, StoresOnlyNew, Promised, IsKept, Headline, EmptyIsKept, HeadlineFromEmpty, IsRun, contents_of, IsRecorded, HoldsExactlyAPrefix, IsForOneHeld, IsWordForWord, LeaveAway, HeadlineWordForWord, StaysAway, LostRecordsAreForgotten, NewProcessesAreBetween, StopsAreRuns, after_session}
 use Rattle.fetch_runs.proofs.TalkCommands.{all_weaker, begins_of}
 use Rattle.fetch_session.specs.Session.{AccountFiles}
 
@@ -67,7 +67,7 @@ for_message P drop effect (inl listed) all number begun =
     (begun.3, at.0, at.1, subst (λ (i : Item). P i.uid) (sym at.2) (held_in P effect.begun begun.0.uid all begun.2))
 for_message P drop effect (inr none) all number begun = absurd (true≢false (sym begun.2 ∙ ap (λ (ids : List (List ℕ)). has_id ids begun.0.uid) none.0))
 
-module _ (laws : Laws) (world : World) (state : State AccountFiles) (occasion : Occasion) (sound : IsSound world) (rows : List Row) (keeps : KeepsRows state.account.file.content rows)
+module _ (laws : Laws) (world : World) (state : State AccountFiles) (occasion : Occasion AccountFiles) (sound : IsSound world) (rows : List Row) (keeps : KeepsRows state.account.file.content rows)
     (is_kept : IsKeptIn world (by_rows rows state)) (is : IsSession world state occasion) where
   abbrev IsStepFor : List ℕ → Type 0
   IsStepFor account = IsStep occasion.settings account occasion.now occasion.link state.account rows occasion.report occasion.link' occasion.after
@@ -76,10 +76,10 @@ module _ (laws : Laws) (world : World) (state : State AccountFiles) (occasion : 
   step = subst IsStepFor is.settings.account
       (laws.steps occasion.settings (digits_of occasion.settings) occasion.now occasion.link state.account rows occasion.report occasion.link' occasion.after is.settings.valid keeps is.session)
 
-  abbrev link_of : IsStepFor world.account → LinkIn
+  abbrev link_of : IsStepFor world.account → LinkIn AccountMail
   link_of s = record { settings = occasion.settings; come = occasion.come; sent = s.sent; got = s.got; vanished = occasion.vanished; after = holds s.rows' occasion.after.maildir }
 
-  abbrev visit_of : IsStepFor world.account → Visit
+  abbrev visit_of : IsStepFor world.account → Visit AccountMail
   visit_of s = record { settings = occasion.settings; come = occasion.come; effect = s.effect; vanished = occasion.vanished; after = holds s.rows' occasion.after.maildir }
 
   module _ (s : IsStepFor world.account) where
@@ -89,13 +89,13 @@ module _ (laws : Laws) (world : World) (state : State AccountFiles) (occasion : 
 
     -- what the law over runs says of it
     abbrev promised : Type 0
-    promised = IsKeptIn world (by_rows s.rows' (after_event state (Fetched occasion)))
+    promised = IsKeptIn world (by_rows s.rows' (after_session state occasion))
         × LeavesOut world (by_rows rows state) (visit_of s) × DeletesHeld world (by_rows rows state) (visit_of s)
         × KeepsOthers world.account (holds rows state.account.maildir) (holds s.rows' occasion.after.maildir) × StoresNew world (by_rows rows state) (visit_of s)
 
     happened : promised
     happened =
-        let all = laws.stays world (by_rows rows state) (Visited (visit_of s) ∷ []) sound is_kept (visits, tt) in
+        let all = laws.stays world (by_rows rows state) (Fetched (visit_of s) ∷ []) sound is_kept (visits, tt) in
         (all.0, all.1.0.0, all.1.0.1, all.1.0.2, all.1.0.3)
 
     -- the listing was the maildrop's, or nothing was begun and the session was cut
@@ -151,7 +151,7 @@ module _ (laws : Laws) (world : World) (state : State AccountFiles) (occasion : 
         let now = new only_new id legal (ap (λ (rs : List Row). is_delivered rs id) same ∙ recorded.2) in
         (now.0, (s.rows', s.keeps, now.1))
 
-    session_promised : promised → Promised world state (Fetched occasion) × IsKept world (after_event state (Fetched occasion))
+    session_promised : promised → Promised world state (Fetched occasion) × IsKept world (after_session state occasion)
     session_promised all = (
       (
         leaves_out all.1,
@@ -179,14 +179,14 @@ module _ (laws : Laws) (world : World) (state : State AccountFiles) (occasion : 
         | inr stored ↦ (step.rows', step.keeps, held_in (λ (x : List ℕ). is_delivered step.rows' x ≡ true) step.effect.begun id stored.0.begun begun)
       ]
 
-  pub fetched_promised : Promised world state (Fetched occasion) × IsKept world (after_event state (Fetched occasion))
+  pub fetched_promised : Promised world state (Fetched occasion) × IsKept world (after_session state occasion)
   fetched_promised = session_promised step (happened step)
 
 -- ---- what happens between sessions
 
 -- what the law over runs says of one event
-one_event : Laws → (world : World) (state : State AccountFiles) (event : EventIn) (rows : List Row) → IsSound world → IsKeptIn world (by_rows rows state) → Happens world (by_rows rows state) event
-    → IsKeptIn (world_in world event) (after_in (by_rows rows state) event) × PromisesIn world (by_rows rows state) event
+one_event : Laws → (world : World) (state : State AccountFiles) (event : Event Visit AccountMail) (rows : List Row) → IsSound world → IsKeptIn world (by_rows rows state) → Happens world (by_rows rows state) event
+    → IsKeptIn (world_after world event) (after_event after_visit (by_rows rows state) event) × PromisesIn world (by_rows rows state) event
 one_event laws world state event rows sound kept happens =
     let all = laws.stays world (by_rows rows state) (event ∷ []) sound kept (happens, tt) in (all.0, all.1.0)
 
@@ -205,39 +205,39 @@ power_mail laws world state after rows keeps id (inr (none, inr lastly)) = inr (
   }),
 )
 
-event_promised : Laws → (world : World) (state : State AccountFiles) (event : Event) → IsSound world → IsKept world state → Follows world state event
-    → Promised world state event × IsKept (world_after world event) (after_event state event)
+event_promised : Laws → (world : World) (state : State AccountFiles) (event : Event Occasion AccountFiles) → IsSound world → IsKept world state → Follows world state event
+    → Promised world state event × IsKept (world_after world event) (after_event after_session state event)
 event_promised laws world state (Fetched occasion) sound is follows = fetched_promised laws world state occasion sound is.0 is.1 is.2 follows
 event_promised laws world state (Between after) sound is between =
-    let all = one_event laws world state (BetweenIn (holds is.0 after.maildir)) is.0 sound is.2 (record { rows = refl; same = between.mail }) in
+    let all = one_event laws world state (Between (holds is.0 after.maildir)) is.0 sound is.2 (record { rows = refl; same = between.mail }) in
     (tt, (is.0, between.record_is is.0 is.1, all.0))
 event_promised laws world state (Expired ids) sound is expired =
-    let all = one_event laws world state (ExpiredIn ids) is.0 sound is.2 expired in
+    let all = one_event laws world state (Expired ids) is.0 sound is.2 expired in
     (tt, (is.0, is.1, all.0))
 event_promised laws world state (TakenAway id after) sound is taken =
-    let all = one_event laws world state (TakenIn id (holds is.0 after.maildir)) is.0 sound is.2
+    let all = one_event laws world state (TakenAway id (holds is.0 after.maildir)) is.0 sound is.2
     (record { legal = taken.legal; held = taken.held; none = taken.none; rows = refl; others = taken.others }) in
     (tt, (is.0, taken.record_is is.0 is.1, all.0))
 event_promised laws world state (Withdrawn ids) sound is withdrawn =
-    let all = one_event laws world state (WithdrawnIn ids) is.0 sound is.2 withdrawn in
+    let all = one_event laws world state (Withdrawn ids) is.0 sound is.2 withdrawn in
     (tt, (is.0, is.1, all.0))
 event_promised laws world state (BroughtBack id after) sound is brought =
-    let all = one_event laws world state (BroughtIn id (holds is.0 after.maildir)) is.0 sound is.2
+    let all = one_event laws world state (BroughtBack id (holds is.0 after.maildir)) is.0 sound is.2
     (record { legal = brought.legal; taken = brought.taken; text = brought.text; rows = refl; others = brought.others }) in
     (tt, (is.0, brought.record_is is.0 is.1, all.0))
 event_promised laws world state (Forgotten after) sound is forgotten =
     let now = forgotten.record_is is.0 is.1 in
-    let all = one_event laws world state (ForgottenIn (holds now.0 after.maildir)) is.0 sound is.2 (record { delivered = now.2; same = forgotten.mail }) in
+    let all = one_event laws world state (Forgotten (holds now.0 after.maildir)) is.0 sound is.2 (record { delivered = now.2; same = forgotten.mail }) in
     (tt, (now.0, now.1, all.0))
 event_promised laws world state (PowerLost after) sound is lost =
     let now = lost.record_is is.0 is.1 in
-    let all = one_event laws world state (PowerLostIn (holds now.0 after.maildir)) is.0 sound is.2 (record { mail = λ id legal. power_mail laws world state after is.0 is.1 id (lost.mail id legal); delivered = now.2 }) in
+    let all = one_event laws world state (PowerLost (holds now.0 after.maildir)) is.0 sound is.2 (record { mail = λ id legal. power_mail laws world state after is.0 is.1 id (lost.mail id legal); delivered = now.2 }) in
     (tt, (now.0, now.1, all.0))
 
 -- ---- any list of them
 
 -- what is left of the mail is sound
-pub sound_after : WorldsShrink → (world : World) (event : Event) → IsSound world → IsSound (world_after world event)
+pub sound_after : WorldsShrink → (world : World) (event : Event Occasion AccountFiles) → IsSound world → IsSound (world_after world event)
 sound_after shrink world (Withdrawn ids) sound = record { account = sound.account; mail = shrink world.all ids sound.mail }
 sound_after shrink world event sound = sound
 
@@ -245,7 +245,7 @@ pub headline : Laws → Headline
 headline laws world start [] sound is run = (holds_prefix laws world start sound is, is)
 headline laws world start (event ∷ events) sound is run =
     let first = event_promised laws world start event sound is run.0 in
-    let later = headline laws (world_after world event) (after_event start event) events (sound_after laws.shrink world event sound) first.1 run.1 in
+    let later = headline laws (world_after world event) (after_event after_session start event) events (sound_after laws.shrink world event sound) first.1 run.1 in
     ((holds_prefix laws world start sound is, first.0, later.0), later.1)
 
 pub empty_is_kept : StartsKept → EmptyIsKept
@@ -262,15 +262,15 @@ from_empty law empty_kept world start events sound empty run = (law world start 
 
 -- ---- one event
 
-abbrev OneEvent : World → State AccountFiles → Event → Type 0
-OneEvent world state event = HoldsAPrefix world state × Promised world state event × IsKept (world_after world event) (after_event state event)
+abbrev OneEvent : World → State AccountFiles → Event Occasion AccountFiles → Type 0
+OneEvent world state event = HoldsAPrefix world state × Promised world state event × IsKept (world_after world event) (after_event after_session state event)
 
-event_kept : Headline → (world : World) (state : State AccountFiles) (event : Event) → IsSound world → IsKept world state → Follows world state event → OneEvent world state event
+event_kept : Headline → (world : World) (state : State AccountFiles) (event : Event Occasion AccountFiles) → IsSound world → IsKept world state → Follows world state event → OneEvent world state event
 event_kept law world state event sound is follows = let all = law world state (event ∷ []) sound is (follows, tt) in (all.0.0, all.0.1, all.1)
 
 -- ---- nothing taken away
 
-module _ (world : World) (state : State AccountFiles) (occasion : Occasion) (none : state.taken ≡ []) where
+module _ (world : World) (state : State AccountFiles) (occasion : Occasion AccountFiles) (none : state.taken ≡ []) where
   held_after : (id : List ℕ) → IsHeldAfter world state occasion id → is_held world.account occasion.after.maildir id ≡ true
   held_after id (inl held) = held
   held_after id (inr taken) = absurd (true≢false (sym taken ∙ ap (λ (ids : List (List ℕ)). has_id ids id) none))
@@ -309,7 +309,7 @@ headline_word_for_word law nothing world start (Fetched occasion ∷ events) sou
     let one = event_kept law world start (Fetched occasion) sound is run.0 in (
       holds_exactly nothing world start none one.0,
       word_for_word world start occasion none one.1,
-      headline_word_for_word law nothing world (after_event start (Fetched occasion)) events sound one.2 run.1 none takes_none,
+      headline_word_for_word law nothing world (after_session start occasion) events sound one.2 run.1 none takes_none,
     )
 headline_word_for_word law nothing world start (TakenAway id after ∷ events) sound is run none takes_none = absurd takes_none
 headline_word_for_word law nothing world start (Withdrawn ids ∷ events) sound is run none takes_none = absurd takes_none
@@ -317,7 +317,7 @@ headline_word_for_word law nothing world start (BroughtBack id after ∷ events)
     absurd (true≢false (sym run.0.taken ∙ ap (λ (ids : List (List ℕ)). has_id ids id) none))
 headline_word_for_word law nothing world start (event ∷ events) sound is run none takes_none =
     let one = event_kept law world start event sound is run.0 in
-    (holds_exactly nothing world start none one.0, tt, headline_word_for_word law nothing world (after_event start event) events sound one.2 run.1 none takes_none)
+    (holds_exactly nothing world start none one.0, tt, headline_word_for_word law nothing world (after_event after_session start event) events sound one.2 run.1 none takes_none)
 
 -- ---- what is taken away stays away
 
@@ -328,8 +328,8 @@ IsAway world state id = IsRecorded state id × (contents_of world state id ≡ [
 recorded_in : (before after : AccountFiles) (id : List ℕ) → ((rows : List Row) → KeepsRows before.file.content rows → KeepsRows after.file.content rows) → IsRecorded before id → IsRecorded after id
 recorded_in before after id same recorded = (recorded.0, same recorded.0 recorded.1, recorded.2)
 
-still_away : Headline → (world : World) (state : State AccountFiles) (event : Event) (id : List ℕ) → IsSound world → IsKept world state → Follows world state event
-    → LeaveAway id (event ∷ []) → is_legal_id id ≡ true → IsAway world state.account id → IsAway (world_after world event) (after_event state event).account id
+still_away : Headline → (world : World) (state : State AccountFiles) (event : Event Occasion AccountFiles) (id : List ℕ) → IsSound world → IsKept world state → Follows world state event
+    → LeaveAway id (event ∷ []) → is_legal_id id ≡ true → IsAway world state.account id → IsAway (world_after world event) (after_event after_session state event).account id
 still_away laws world state (Fetched occasion) id sound is follows leave legal away =
     let now = (event_kept laws world state (Fetched occasion) sound is follows).1.4 leave.0 id legal away.0 in (now.1, now.0 ∙ away.1)
 still_away laws world state (Between after) id sound is between leave legal away = (recorded_in state.account after id between.record_is away.0, between.mail id legal ∙ away.1)
@@ -352,32 +352,32 @@ still_away laws world state (PowerLost after) id sound is lost leave legal away 
     none_left (inl same) = same ∙ away.1
     none_left (inr gone) = gone.0
 
-one_left : (id : List ℕ) (event : Event) (events : List Event) → LeaveAway id (event ∷ events) → LeaveAway id (event ∷ []) × LeaveAway id events
+one_left : (id : List ℕ) (event : Event Occasion AccountFiles) (events : List (Event Occasion AccountFiles)) → LeaveAway id (event ∷ events) → LeaveAway id (event ∷ []) × LeaveAway id events
 one_left id (Fetched occasion) events h = ((h.0, tt), h.1)
 one_left id (BroughtBack other after) events h = ((h.0, tt), h.1)
 one_left id (Forgotten after) events h = ((h.0, tt), h.1)
 one_left id (PowerLost after) events h = ((h.0, tt), h.1)
 one_left id other events h = (tt, h)
 
-stay_all : WorldsShrink → Headline → (world : World) (start : State AccountFiles) (events : List Event) (id : List ℕ) → IsSound world → IsKept world start → IsRun world start events
-    → LeaveAway id events → is_legal_id id ≡ true → IsAway world start.account id → IsAway (world_left world events) (state_after start events).account id
+stay_all : WorldsShrink → Headline → (world : World) (start : State AccountFiles) (events : List (Event Occasion AccountFiles)) (id : List ℕ) → IsSound world → IsKept world start → IsRun world start events
+    → LeaveAway id events → is_legal_id id ≡ true → IsAway world start.account id → IsAway (world_left world events) (after_events after_session start events).account id
 stay_all shrink laws world start [] id sound is run leave legal away = away
 stay_all shrink laws world start (event ∷ events) id sound is run leave legal away =
     let split = one_left id event events leave in
-    stay_all shrink laws (world_after world event) (after_event start event) events id (sound_after shrink world event sound) (event_kept laws world start event sound is run.0).2 run.1
+    stay_all shrink laws (world_after world event) (after_event after_session start event) events id (sound_after shrink world event sound) (event_kept laws world start event sound is run.0).2 run.1
     split.1 legal (still_away laws world start event id sound is run.0 split.0 legal away)
 
-same_account : (world : World) (events : List Event) → (world_left world events).account ≡ world.account
+same_account : (world : World) (events : List (Event Occasion AccountFiles)) → (world_left world events).account ≡ world.account
 same_account world [] = refl
 same_account world (event ∷ events) = same_account (world_after world event) events ∙ by event
   where
-    by : (event : Event) → (world_after world event).account ≡ world.account
+    by : (event : Event Occasion AccountFiles) → (world_after world event).account ≡ world.account
     by (Withdrawn ids) = refl
     by event = refl
 
 pub stays_away : WorldsShrink → Headline → StaysAway
 stays_away shrink laws world start events id sound is run leave legal recorded none =
-    subst (λ (account : List ℕ). copies (files (holds [] (state_after start events).account.maildir)) (stem_of account id) ≡ []) (same_account world events)
+    subst (λ (account : List ℕ). copies (files (holds [] (after_events after_session start events).account.maildir)) (stem_of account id) ≡ []) (same_account world events)
     (stay_all shrink laws world start events id sound is run leave legal (recorded, none)).1
 
 -- ---- a record that is lost

@@ -15,9 +15,9 @@ use Rattle.mail_terms.specs.UniqueId.{has_id, is_legal_id}
 use Rattle.pop3_wire.specs.World.{Message, IsMessage}
 use Rattle.run_law.specs.Accounts.{copies}
 use Rattle.run_law.specs.Mails.{WorldsShrink, ids_of, is_selected, messages_after, selected, texts_of, without}
-use Rattle.run_law.specs.Runs.{State, IsSound, World, HoldsOf}
+use Rattle.run_law.specs.Runs.{State, IsSound, World, HoldsOf, Event, Fetched, Between, Expired, Withdrawn, TakenAway, BroughtBack, Forgotten, PowerLost, after_event, world_after}
 use Rattle.fetch_session.specs.Session.{AccountFiles}
-use Rattle.fetch_runs.specs.Headline.{AreTaken, AreTakings, Event, Fetched, Between, Expired, Withdrawn, TakenAway, BroughtBack, Forgotten, PowerLost, Follows, Headline, IsKept, IsLastStored, IsNeither, IsRecorded, IsRun, KeepsRecord, after_event, contents_of, by_rows, world_after}
+use Rattle.fetch_runs.specs.Headline.{AreTaken, AreTakings, Follows, Headline, IsKept, IsLastStored, IsNeither, IsRecorded, IsRun, KeepsRecord, contents_of, by_rows, after_session, Occasion}
 use Rattle.fetch_runs.specs.Power.{AllMayBeOnDisk, CanLosePower, IsSure, IsSureOrTaken, LossesAreEvents, SessionsAndPower}
 use Rattle.fetch_runs.specs.PowerRuns.{AsMuchIsSure, CanAlwaysLosePower, EventOn, EventsKeepPower, HeadlineOn, IsRunOn, KeepsSure, TakingsRunOn, events_of}
 use Rattle.fetch_runs.proofs.HeadlineLemmas.{held_in, sound_after}
@@ -261,7 +261,7 @@ module _ (one : OneRecord) {D F : Type 0} (disk : DiskGhosts D) (files : FileGho
         kept_id : (id : List ℕ) → is_held account state.account.maildir id ≡ true → has_id ids id ≡ false
         kept_id id held = false_from_ne_true (has_id ids id) (λ has. both_ways (is_held account state.account.maildir id) (held_in (IsNeither world state) ids id neither has).0 held)
 
-    after_taking : (id : List ℕ) (after : AccountFiles) → Keeps (after_event state (TakenAway id after)) → Follows world state (TakenAway id after) → CanLosePower disk files device f world (after_event state (TakenAway id after))
+    after_taking : (id : List ℕ) (after : AccountFiles) → Keeps (after_event {S = Occasion} after_session state (TakenAway id after)) → Follows world state (TakenAway id after) → CanLosePower disk files device f world (after_event {S = Occasion} after_session state (TakenAway id after))
     after_taking id after keeps taken = can_after device f next keeps
         (λ other legal held. by other legal held (cases_Bool (bytes_eq other id)))
         (λ other legal lastly. inr (still_last device f next keeps (same_recorded after taken.record_is) (λ m l neither.
@@ -270,7 +270,7 @@ module _ (one : OneRecord) {D F : Type 0} (disk : DiskGhosts D) (files : FileGho
         (same_shown device next taken.record_is)
       where
         next : State AccountFiles
-        next = after_event state (TakenAway id after)
+        next = after_event {S = Occasion} after_session state (TakenAway id after)
 
         others : (m : Message) → IsNeither world state m.uid → bytes_eq m.uid id ≡ false
         others m neither = false_from_ne_true (bytes_eq m.uid id) (λ same. both_ways (is_held account state.account.maildir m.uid) neither.0
@@ -281,7 +281,7 @@ module _ (one : OneRecord) {D F : Type 0} (disk : DiskGhosts D) (files : FileGho
         by other legal held (inl same) = inl (inr (ap (λ b. b || has_id state.taken other) same))
         by other legal held (inr apart) = inr (held_back after other (taken.others other legal apart) held)
 
-    after_bringing : (id : List ℕ) (after : AccountFiles) → Keeps (after_event state (BroughtBack id after)) → Follows world state (BroughtBack id after) → CanLosePower disk files device f world (after_event state (BroughtBack id after))
+    after_bringing : (id : List ℕ) (after : AccountFiles) → Keeps (after_event {S = Occasion} after_session state (BroughtBack id after)) → Follows world state (BroughtBack id after) → CanLosePower disk files device f world (after_event {S = Occasion} after_session state (BroughtBack id after))
     after_bringing id after keeps brought = can_after device f next keeps
         (λ other legal held. by other legal held (cases_Bool (bytes_eq other id)))
         (λ other legal lastly. inr (still_last device f next keeps (same_recorded after brought.record_is) (λ m l neither.
@@ -289,7 +289,7 @@ module _ (one : OneRecord) {D F : Type 0} (disk : DiskGhosts D) (files : FileGho
         (same_shown device next brought.record_is)
       where
         next : State AccountFiles
-        next = after_event state (BroughtBack id after)
+        next = after_event {S = Occasion} after_session state (BroughtBack id after)
 
         others : (m : Message) → IsNeither world state m.uid → bytes_eq m.uid id ≡ false
         others m neither = false_from_ne_true (bytes_eq m.uid id) (λ same. both_ways (has_id state.taken m.uid) neither.1
@@ -341,7 +341,7 @@ run_on disk files law shrink keep world state was from [] sound is can run = (tt
 run_on disk files law shrink keep world state was from (on ∷ ons) sound is can run =
     let now = keep world state was from on.event on.device on.file sound is can run.0 in
     let after = (law world state (on.event ∷ []) sound is (now.0, tt)).1 in
-    let later = run_on disk files law shrink keep (world_after world on.event) (after_event state on.event) on.device on.file ons (sound_after shrink world on.event sound) after now.1 run.1 in
+    let later = run_on disk files law shrink keep (world_after world on.event) (after_event after_session state on.event) on.device on.file ons (sound_after shrink world on.event sound) after now.1 run.1 in
     ((now.0, later.0), (can, later.1))
 
 pub headline_on : {D F : Type 0} (disk : DiskGhosts D) (files : FileGhosts F) → Headline → WorldsShrink → EventsKeepPower disk files → HeadlineOn disk files
@@ -359,7 +359,7 @@ as_much_is_sure law disk files world state was from event device f sound is take
 }
   where
     next : State AccountFiles
-    next = after_event state event
+    next = after_event after_session state event
 
     front : List ℕ → List ℕ
     front id = stem_of world.account id
@@ -382,24 +382,24 @@ as_much_is_sure law disk files world state was from event device f sound is take
           ];
         })
 
-abbrev on_same : {D F : Type 0} → D → F → List Event → List (EventOn D F)
+abbrev on_same : {D F : Type 0} → D → F → List (Event Occasion AccountFiles) → List (EventOn D F)
 on_same device f [] = []
 on_same device f (event ∷ events) = record { event = event; device = device; file = f } ∷ on_same device f events
 
-same_events : {D F : Type 0} (device : D) (f : F) (events : List Event) → events_of (on_same device f events) ≡ events
+same_events : {D F : Type 0} (device : D) (f : F) (events : List (Event Occasion AccountFiles)) → events_of (on_same device f events) ≡ events
 same_events device f [] = refl
-same_events device f (event ∷ events) = ap (λ (es : List Event). event ∷ es) (same_events device f events)
+same_events device f (event ∷ events) = ap (λ (es : List (Event Occasion AccountFiles)). event ∷ es) (same_events device f events)
 
-taking_on : Headline → {D F : Type 0} (disk : DiskGhosts D) (files : FileGhosts F) (device : D) (f : F) (world : World) (state : State AccountFiles) (events : List Event) → IsSound world → IsKept world state
+taking_on : Headline → {D F : Type 0} (disk : DiskGhosts D) (files : FileGhosts F) (device : D) (f : F) (world : World) (state : State AccountFiles) (events : List (Event Occasion AccountFiles)) → IsSound world → IsKept world state
     → AreTakings events → IsRun world state events → LeaveParts state events → IsRunOn disk files world state device f (on_same device f events)
 taking_on law disk files device f world state [] sound is each run parts = tt
 taking_on law disk files device f world state (TakenAway id after ∷ events) sound is each run parts = (
   (run.0, tt, as_much_is_sure law disk files world state device f (TakenAway id after) device f sound is tt run.0 parts.0 (record { mail = (λ name stays. stays, λ one outlives. outlives); record_is = λ left may. may })),
-  taking_on law disk files device f world (after_event state (TakenAway id after)) events sound (law world state (TakenAway id after ∷ []) sound is (run.0, tt)).1 each run.1 parts.1,
+  taking_on law disk files device f world (after_event {S = Occasion} after_session state (TakenAway id after)) events sound (law world state (TakenAway id after ∷ []) sound is (run.0, tt)).1 each run.1 parts.1,
 )
 taking_on law disk files device f world state (Between after ∷ events) sound is each run parts = (
   (run.0, tt, as_much_is_sure law disk files world state device f (Between after) device f sound is tt run.0 parts.0 (record { mail = (λ name stays. stays, λ one outlives. outlives); record_is = λ left may. may })),
-  taking_on law disk files device f world (after_event state (Between after)) events sound (law world state (Between after ∷ []) sound is (run.0, tt)).1 each run.1 parts.1,
+  taking_on law disk files device f world (after_event {S = Occasion} after_session state (Between after)) events sound (law world state (Between after ∷ []) sound is (run.0, tt)).1 each run.1 parts.1,
 )
 taking_on law disk files device f world state (_ ∷ events) sound is never run parts = absurd never
 

@@ -46,7 +46,7 @@ use Rattle.pop3_wire.specs.World.{Message}
 use Rattle.run_law.specs.Accounts.{copies}
 use Rattle.run_law.specs.Mails.{messages_after, selected}
 use Rattle.run_law.specs.Power.{OneMoreIsLast}
-use Rattle.fetch_runs.specs.Headline.{Occasion, Fetched, IsNeither, IsRecorded, IsSession, IsKept, IsLastStored, Headline, after_event, by_rows}
+use Rattle.fetch_runs.specs.Headline.{Occasion, IsNeither, IsRecorded, IsSession, IsKept, IsLastStored, Headline, by_rows, after_session}
 use Rattle.fetch_runs.specs.Power.{AllButLastStay, CanLosePower, IsSessionOf, IsSure, IsSureOrTaken, SessionsAndPower, ShowsSure}
 use Rattle.fetch_runs.proofs.HeadlineLemmas.{Laws, vanished_recorded}
 use Rattle.fetch_runs.proofs.TalkCommands.{all_weaker}
@@ -54,7 +54,7 @@ use Rattle.fetch_runs.proofs.PowerEvents.{recorded_sure}
 use Rattle.fetch_runs.proofs.PowerLosses.{held_file, named_in}
 use Rattle.fetch_runs.proofs.LegalRows.{kept_legal}
 use Rattle.fetch_runs.proofs.PowerRecord.{RecordLaws, left_stands}
-use Rattle.run_law.specs.Runs.{State, IsSound, World}
+use Rattle.run_law.specs.Runs.{State, IsSound, World, Fetched}
 
 -- the laws that are used
 pub record PowerLaws : Type 0 where
@@ -523,7 +523,7 @@ module _ (laws : PowerLaws) {D F : Type 0} (disk : DiskGhosts D) (files : FileGh
 
 -- ---- the session as a whole
 
-module _ (laws : PowerLaws) {D F : Type 0} (disk : DiskGhosts D) (files : FileGhosts F) (world : World) (state : State AccountFiles) (occasion : Occasion) (was : D) (from : F) (device : D) (f : F)
+module _ (laws : PowerLaws) {D F : Type 0} (disk : DiskGhosts D) (files : FileGhosts F) (world : World) (state : State AccountFiles) (occasion : Occasion AccountFiles) (was : D) (from : F) (device : D) (f : F)
     (sound : IsSound world) (is_kept : IsKept world state) (is : IsSessionOf disk files world state occasion was from device f) (can : CanLosePower disk files was from world state) where
   abbrev gone_after : List (List ℕ)
   gone_after = state.gone ++ occasion.vanished
@@ -531,7 +531,7 @@ module _ (laws : PowerLaws) {D F : Type 0} (disk : DiskGhosts D) (files : FileGh
   abbrev digits_here : List ℕ
   digits_here = digits_of occasion.settings
 
-  abbrev with_maildir : Maildir → Occasion
+  abbrev with_maildir : Maildir → Occasion AccountFiles
   with_maildir m = record occasion { after = account_files m occasion.after.file }
 
   abbrev SessionTo : Maildir → Type 0
@@ -547,7 +547,7 @@ module _ (laws : PowerLaws) {D F : Type 0} (disk : DiskGhosts D) (files : FileGh
   this_session = is_session occasion.after.maildir is.session
 
   abbrev pub Answered : Type 0
-  Answered = CanLosePower disk files device f world (after_event state (Fetched occasion))
+  Answered = CanLosePower disk files device f world (after_session state occasion)
 
   -- the files and the record are as they were, and no more may be left
   module _ (same : occasion.after.maildir.files ≡ state.account.maildir.files) (same_content : occasion.after.file.content ≡ state.account.file.content)
@@ -559,7 +559,7 @@ module _ (laws : PowerLaws) {D F : Type 0} (disk : DiskGhosts D) (files : FileGh
     recorded_back : (id : List ℕ) → IsRecorded occasion.after id → IsRecorded state.account id
     recorded_back id r = (r.0, subst (λ (c : Option (List ℕ)). KeepsRows c r.0) same_content r.1, r.2)
 
-    go_on : (id : List ℕ) → (has_id state.taken id ≡ true) ⊎ IsLastStored world state id → (has_id state.taken id ≡ true) ⊎ IsLastStored world (after_event state (Fetched occasion)) id
+    go_on : (id : List ℕ) → (has_id state.taken id ≡ true) ⊎ IsLastStored world state id → (has_id state.taken id ≡ true) ⊎ IsLastStored world (after_session state occasion) id
     go_on id (inl taken) = inl taken
     go_on id (inr lastly) = inr (record {
       unrecorded = λ r. lastly.unrecorded (recorded_back id r);
@@ -567,7 +567,7 @@ module _ (laws : PowerLaws) {D F : Type 0} (disk : DiskGhosts D) (files : FileGh
         | inl gone ↦ both_ways (has_id state.gone id) lastly.on_server gone
         | inr gone ↦ lastly.unrecorded (recorded_back id (vanished_recorded laws.all world state occasion sound is_kept.0 is_kept.1 is_kept.2 this_session id gone))
       ]);
-      last = all_weaker (λ (m : Message). IsNeither world state m.uid) (λ (m : Message). IsNeither world (after_event state (Fetched occasion)) m.uid)
+      last = all_weaker (λ (m : Message). IsNeither world state m.uid) (λ (m : Message). IsNeither world (after_session state occasion) m.uid)
           (messages_after id (selected world.max_size world.all)) (λ m not. (same_held m.uid ∙ not.0, not.1)) lastly.last;
     })
 
@@ -655,9 +655,9 @@ module _ (laws : PowerLaws) {D F : Type 0} (disk : DiskGhosts D) (files : FileGh
           }
 
       abbrev Shows : List ℕ → List Row → Type 0
-      Shows id rows = (is_delivered rows id ≡ true) ⊎ ((is_legal_id id ≡ true) × IsSureOrTaken disk device world (after_event state (Fetched occasion)) id)
+      Shows id rows = (is_delivered rows id ≡ true) ⊎ ((is_legal_id id ≡ true) × IsSureOrTaken disk device world (after_session state occasion) id)
 
-      moved : (id : List ℕ) → is_legal_id id ≡ true → IsSureOrTaken disk was world state id → IsSureOrTaken disk device world (after_event state (Fetched occasion)) id
+      moved : (id : List ℕ) → is_legal_id id ≡ true → IsSureOrTaken disk was world state id → IsSureOrTaken disk device world (after_session state occasion) id
       moved id legal (inl sure) = inl (sure_left id legal sure)
       moved id legal (inr taken) = inr taken
 

@@ -10,9 +10,9 @@ use Rattle.pop3_wire.specs.World.{Message}
 use Rattle.run_law.specs.Accounts.{copies}
 use Rattle.run_law.specs.Mails.{is_selected, messages_after, selected}
 use Rattle.fetch_session.specs.Session.{AccountFiles}
-use Rattle.fetch_runs.specs.Headline.{Event, Between, TakenAway, AreTakings, IsRun, contents_of, state_after}
+use Rattle.fetch_runs.specs.Headline.{AreTakings, IsRun, contents_of, after_session, Occasion}
 use Rattle.fetch_runs.proofs.PowerLosses.{held_file, named_in, named_some}
-use Rattle.run_law.specs.Runs.{State, World}
+use Rattle.run_law.specs.Runs.{State, World, Event, Between, TakenAway, after_events}
 
 or_second : (a b : Bool) → b ≡ true → (a || b) ≡ true
 or_second a b is = grind (arith, is)
@@ -83,15 +83,15 @@ held_some account id fs held =
 
 -- ---- what takings do
 
-pub stay_taken : (state : State AccountFiles) (events : List Event) (id : List ℕ) → AreTakings events → has_id state.taken id ≡ true → has_id (state_after state events).taken id ≡ true
+pub stay_taken : (state : State AccountFiles) (events : List (Event Occasion AccountFiles)) (id : List ℕ) → AreTakings events → has_id state.taken id ≡ true → has_id (after_events after_session state events).taken id ≡ true
 stay_taken state [] id each taken = taken
 stay_taken state (TakenAway x after ∷ events) id each taken = stay_taken _ events id each (or_second (bytes_eq id x) (has_id state.taken id) taken)
 stay_taken state (Between after ∷ events) id each taken = stay_taken _ events id each taken
 stay_taken state (_ ∷ events) id never taken = absurd never
 
 -- an id's files are as they were, or it was taken away
-pub same_or_taken : (world : World) (state : State AccountFiles) (events : List Event) (id : List ℕ) → is_legal_id id ≡ true → AreTakings events → IsRun world state events
-    → (contents_of world (state_after state events).account id ≡ contents_of world state.account id) ⊎ (has_id (state_after state events).taken id ≡ true)
+pub same_or_taken : (world : World) (state : State AccountFiles) (events : List (Event Occasion AccountFiles)) (id : List ℕ) → is_legal_id id ≡ true → AreTakings events → IsRun world state events
+    → (contents_of world (after_events after_session state events).account id ≡ contents_of world state.account id) ⊎ (has_id (after_events after_session state events).taken id ≡ true)
 same_or_taken world state [] id legal each run = inl refl
 same_or_taken world state (TakenAway x after ∷ events) id legal each run =
     by (same_or_taken world (record state { account = after; taken = x ∷ state.taken }) events id legal each run.1) (cases_Bool (bytes_eq id x))
@@ -100,7 +100,7 @@ same_or_taken world state (TakenAway x after ∷ events) id legal each run =
     next = record state { account = after; taken = x ∷ state.taken }
 
     Result : AccountFiles → Type 0
-    Result old = (contents_of world (state_after next events).account id ≡ contents_of world old id) ⊎ (has_id (state_after next events).taken id ≡ true)
+    Result old = (contents_of world (after_events after_session next events).account id ≡ contents_of world old id) ⊎ (has_id (after_events after_session next events).taken id ≡ true)
 
     by : Result after → (bytes_eq id x ≡ true) ⊎ (bytes_eq id x ≡ false) → Result state.account
     by later (inl same) = inr (stay_taken next events id each (ap (λ b. b || has_id state.taken id) same))

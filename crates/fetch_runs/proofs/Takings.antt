@@ -11,8 +11,8 @@ use Rattle.mail_store.specs.FileName.{StemsDiffer, names_id, stem, stem_of}
 use Rattle.run_law.specs.Accounts.{copies}
 use Rattle.run_law.specs.Mails.{ids_of, selected}
 use Rattle.fetch_session.specs.Session.{AccountFiles, account_files}
-use Rattle.fetch_runs.specs.Headline.{Event, Between, TakenAway, AreTaken, Headline, IsKept, IsTakenAway, TakingsAreEvents, after_event}
-use Rattle.run_law.specs.Runs.{State, IsSound, World}
+use Rattle.fetch_runs.specs.Headline.{AreTaken, Headline, IsKept, IsTakenAway, TakingsAreEvents, after_session, Occasion}
+use Rattle.run_law.specs.Runs.{State, IsSound, World, Event, Between, TakenAway, after_event}
 
 abbrev others_than : List ℕ → List File → List File
 others_than front fs = filter (λ (f : File). not (bytes_eq front (stem f.name))) fs
@@ -82,9 +82,9 @@ nothing_or_some (x ∷ xs) = inr (λ none. cc)
 -- ---- parts
 
 -- each event leaves some of the files
-abbrev pub LeaveParts : State AccountFiles → List Event → Type 0
+abbrev pub LeaveParts : State AccountFiles → List (Event Occasion AccountFiles) → Type 0
 LeaveParts state [] = Unit {0}
-LeaveParts state (event ∷ events) = IsPart state.account.maildir.files (after_event state event).account.maildir.files × LeaveParts (after_event state event) events
+LeaveParts state (event ∷ events) = IsPart state.account.maildir.files (after_event after_session state event).account.maildir.files × LeaveParts (after_event after_session state event) events
 
 others_are_part : (front : List ℕ) (fs : List File) → IsPart fs (others_than front fs)
 others_are_part front [] = refl
@@ -129,7 +129,7 @@ module _ (differ : StemsDiffer) (world : World) (maildir : Maildir) (file : Stor
   with_files_left fs taken = record { account = account_files (with_files fs maildir) file; gone = gone; taken = taken }
 
   abbrev HasEvents : List File → List (List ℕ) → Type 0
-  HasEvents fs taken = (events : List Event) × AreTaken world (with_files_left fs taken) left events × LeaveParts (with_files_left fs taken) events
+  HasEvents fs taken = (events : List (Event Occasion AccountFiles)) × AreTaken world (with_files_left fs taken) left events × LeaveParts (with_files_left fs taken) events
 
   -- its files are taken away
   abbrev IsDue : List File → List ℕ → Type 0
@@ -220,7 +220,7 @@ module _ (differ : StemsDiffer) (world : World) (maildir : Maildir) (file : Stor
   ]
 
 pub takings_leave_parts : Headline → StemsDiffer → (world : World) (state : State AccountFiles) (left : List File) → IsSound world → IsKept world state
-    → IsPart state.account.maildir.files left → (events : List Event) × AreTaken world state left events × LeaveParts state events
+    → IsPart state.account.maildir.files left → (events : List (Event Occasion AccountFiles)) × AreTaken world state left events × LeaveParts state events
 takings_leave_parts law differ world state left sound is part =
     let holds = (law world state [] sound is tt).0 in
     let account = world.account in

@@ -12,7 +12,7 @@ use Rattle.mail_store.specs.FileName.{is_held, stem_of}
 use Rattle.fetch_rules.specs.Record.{is_delivered}
 use Rattle.run_law.specs.Mails.{ids_of, item_of, is_selected, selected, texts_of, without, WorldsShrink}
 use Rattle.run_law.specs.Accounts.{AccountMail, files, copies}
-use Rattle.run_law.specs.Runs.{World, IsSound, State, Event, HoldsOf, IsHeldOrTaken, IsNeither, Kept, LeavesMail, TakesAway, BringsBack, Forgets, Between, Expired, Withdrawn, TakenAway, BroughtBack, Forgotten, after_event, world_after}
+use Rattle.run_law.specs.Runs.{World, IsSound, State, Event, Visit, HoldsOf, IsHeldOrTaken, IsNeither, Kept, LeavesMail, TakesAway, BringsBack, Forgets, Withdrawn, TakenAway, BroughtBack, after_event, after_visit, world_after}
 use Rattle.run_law.proofs.Lists.{all_map, all_both, all_append, all_filter, all_front, filter_all, filter-swap, front_is, map-map}
 use Rattle.run_law.proofs.Ids.{Distinct, HasTextsOf, all_ids_at, bytes_same, distinct_filter, distinct_is, distinct_take, has_filtered, through, whole_filter, whole_take}
 use Rattle.run_law.proofs.Core.{IsLegal, members}
@@ -22,7 +22,7 @@ use Rattle.run_law.proofs.Wants.{listing_distinct}
 -- ---- the record and the server
 
 pub forgotten_kept : (world : World) (before : State AccountMail) (after : AccountMail) → Kept world before → Forgets world.account before.account after
-    → Kept world (after_event before (Forgotten after))
+    → Kept world (record before { account = after })
 forgotten_kept world before after kept forgets = record {
   done = kept.done;
   rest = kept.rest;
@@ -34,12 +34,12 @@ forgotten_kept world before after kept forgets = record {
 }
 
 pub between_kept : (world : World) (before : State AccountMail) (after : AccountMail) → Kept world before → LeavesMail world.account before.account after
-    → Kept world (after_event before (Between after))
+    → Kept world (record before { account = after })
 between_kept world before after kept same =
     forgotten_kept world before after kept (record { delivered = λ id e. ap (λ r. is_delivered r id) (sym same.rows) ∙ e; same = same.same })
 
 pub expired_kept : (world : World) (before : State AccountMail) (ids : List (List ℕ)) → Kept world before → AllByRecursion (IsHeldOrTaken world.account before) ids
-    → Kept world (after_event before (Expired ids))
+    → Kept world (record before { gone = before.gone ++ ids })
 expired_kept world before ids kept all = record {
   done = kept.done;
   rest = kept.rest;
@@ -58,7 +58,7 @@ expired_kept world before ids kept all = record {
 -- ---- what a reader takes away and puts back
 
 pub taken_kept : (world : World) (before : State AccountMail) (id : List ℕ) (after : AccountMail) → Kept world before → TakesAway world.account before.account id after
-    → Kept world (after_event before (TakenAway id after))
+    → Kept world (after_event {S = Visit} after_visit before (TakenAway id after))
 taken_kept world before id after kept takes = record {
   done = kept.done;
   rest = kept.rest;
@@ -94,7 +94,7 @@ done_texts world is done rest e id =
     (whole_filter (is_selected world.max_size) world.all id distinct)
 
 pub brought_kept : (world : World) → IsSound world → (before : State AccountMail) (id : List ℕ) (after : AccountMail) → Kept world before → BringsBack world before id after
-    → Kept world (after_event before (BroughtBack id after))
+    → Kept world (after_event {S = Visit} after_visit before (BroughtBack id after))
 brought_kept world is before id after kept brings = record {
   done = kept.done;
   rest = kept.rest;
@@ -115,7 +115,7 @@ brought_kept world is before id after kept brings = record {
     there = brings.text ∙ sym (done_texts world is kept.done kept.rest kept.prefix id (all_ids_at (λ x. has_id (ids_of kept.done) x ≡ true) before.taken id kept.taken brings.taken))
 
     by : (other : List ℕ) → bytes_eq other id ≡ false → copies (files after) (stem_of world.account other) ≡ copies (files before.account) (stem_of world.account other)
-        → HoldsOf world before kept.done other → HoldsOf world (after_event before (BroughtBack id after)) kept.done other
+        → HoldsOf world before kept.done other → HoldsOf world (after_event {S = Visit} after_visit before (BroughtBack id after)) kept.done other
     by other apart same (inl e) = inl (same ∙ e)
     by other apart same (inr (taken, none)) =
         inr (has_filtered (λ x. not (bytes_eq x id)) before.taken other ∙ and_from _ _ taken (ap not apart), same ∙ none)
@@ -129,7 +129,7 @@ worlds_shrink all ids is = record {
       (listing_distinct (without ids all) (distinct_filter (λ (m : Message). not (has_id ids m.uid)) all (distinct_is all is.distinct)));
 }
 
-pub world_stays : (world : World) → IsSound world → (event : Event) → IsSound (world_after world event)
+pub world_stays : (world : World) → IsSound world → (event : Event Visit AccountMail) → IsSound (world_after world event)
 world_stays world is (Withdrawn ids) = record { account = is.account; mail = worlds_shrink world.all ids is.mail }
 world_stays world is event = is
 
@@ -149,7 +149,7 @@ module _ (world : World) (is : IsSound world) (before : State AccountMail) (ids 
   all_stay : AllByRecursion (λ (m : Message). stays m ≡ true) kept.done
   all_stay = all_both IsLegal (λ (m : Message). has_id (ids_of kept.done) m.uid ≡ true) (λ (m : Message). stays m ≡ true) done_stays kept.done (done_legal world is kept.done kept.rest kept.prefix) (members kept.done)
 
-  pub withdrawn_kept : Kept (world_after world (Withdrawn ids)) (after_event before (Withdrawn ids))
+  pub withdrawn_kept : Kept (record world { all = without ids world.all }) before
   withdrawn_kept = record {
     done = kept.done;
     rest = without ids kept.rest;

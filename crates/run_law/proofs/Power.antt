@@ -11,7 +11,7 @@ use Rattle.mail_store.specs.FileName.{is_held, stem_of}
 use Rattle.run_law.specs.Mails.{ids_of, selected, texts_of, messages_after}
 use Rattle.run_law.specs.Accounts.{AccountMail, files, copies}
 use Rattle.run_law.specs.Power.{AllMayBeLeft}
-use Rattle.run_law.specs.Runs.{World, IsSound, State, HoldsOf, IsNeither, IsLastStored, Kept, LosesPower, PowerLost, after_event}
+use Rattle.run_law.specs.Runs.{World, IsSound, State, HoldsOf, IsNeither, IsLastStored, Kept, LosesPower}
 use Rattle.run_law.proofs.Lists.{all_back}
 use Rattle.run_law.proofs.Ids.{all_at, all_ids_at, bytes_same, bytes_self, bytes_swap, ids_both, no_texts, texts-append}
 use Rattle.run_law.proofs.Holds.{done_is_held, held_is_done}
@@ -63,7 +63,7 @@ all_apart P Q x f (id ∷ ids) none all =
 
 module _ (world : World) (is : IsSound world) (before : State AccountMail) (after : AccountMail) (kept : Kept world before) (loses : LosesPower world before after) where
   abbrev left : State AccountMail
-  left = after_event before (PowerLost after)
+  left = record before { account = after }
 
   abbrev AreNone : List ℕ → Type 0
   AreNone id = copies (files after) (stem_of world.account id) ≡ []

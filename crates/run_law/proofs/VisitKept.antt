@@ -13,7 +13,7 @@ use Rattle.mail_store.specs.FileName.{is_held, stem_of}
 use Rattle.run_law.specs.Mails.{ids_of, is_selected, selected, texts_of}
 use Rattle.run_law.specs.Accounts.{AccountMail, files, copies, KeepsOthers}
 use Rattle.run_law.specs.Steps.{Stores, IsHonest, AreTexts, wanted_at, merged_rows, ids_wanted, file_for, is_unheld}
-use Rattle.run_law.specs.Runs.{World, IsSound, State, Visit, Visited, HoldsOf, Kept, after_event, shown, LeavesOut, DeletesHeld, StoresOnlyNew, past_limit}
+use Rattle.run_law.specs.Runs.{World, IsSound, State, Visit, HoldsOf, Kept, after_visit, shown, LeavesOut, DeletesHeld, StoresOnlyNew, past_limit}
 use Rattle.run_law.proofs.Core as core
 use Rattle.run_law.proofs.Next as plan
 use Rattle.run_law.proofs.Core.{Scene, IsScene, IsLegal, fetched, added}
@@ -25,7 +25,7 @@ use Rattle.run_law.proofs.Files.{held_done, copies-append, copies_messages, mess
 use Rattle.run_law.proofs.Wants.{num_item, wants_by_number, stored_files}
 use Rattle.run_law.proofs.Holds.{done_is_held, unheld_if}
 
-module _ (laws : Below) (world : World) (is : IsSound world) (before : State AccountMail) (v : Visit) (kept : Kept world before) (same : v.settings.max_size ≡ world.max_size)
+module _ (laws : Below) (world : World) (is : IsSound world) (before : State AccountMail) (v : Visit AccountMail) (kept : Kept world before) (same : v.settings.max_size ≡ world.max_size)
     (s : Stores v.settings world.account before.account v.effect v.after) (honest : IsHonest (wanted_at v.settings world.account before.account v.effect) (shown world before v) v.effect) where
   abbrev rows : List Row
   rows = merged_rows world.account before.account v.effect
@@ -95,7 +95,7 @@ module _ (laws : Below) (world : World) (is : IsSound world) (before : State Acc
   texts_after : (id : List ℕ) → texts_of (kept.done ++ stored) id ≡ texts_of kept.done id ++ cond (not (core.is_done scene id)) (texts_of got id) []
   texts_after id = texts-append kept.done stored id ∙ ap (λ t. texts_of kept.done id ++ t) (texts_filtered (λ x. not (core.is_done scene x)) got id)
 
-  pub holds_after : (id : List ℕ) → is_legal_id id ≡ true → HoldsOf world (after_event before (Visited v)) (kept.done ++ stored) id
+  pub holds_after : (id : List ℕ) → is_legal_id id ≡ true → HoldsOf world (after_visit before v) (kept.done ++ stored) id
   holds_after id l = elim (kept.holds id l) [
     | inl e ↦ inl (cc (copies_are id l, e, held_done world.account before.account kept.done id e, texts_after id))
     | inr (taken, none) ↦
@@ -128,7 +128,7 @@ module _ (laws : Below) (world : World) (is : IsSound world) (before : State Acc
   begun_done : AllByRecursion (λ id. is_done_after id ≡ true) v.effect.begun
   begun_done = all_map (λ id. is_delivered v.after.rows id ≡ true) (λ id. is_done_after id ≡ true) recorded_after v.effect.begun s.begun
 
-  pub visit_kept : AllByRecursion (λ id. has_id v.effect.begun id ≡ true) v.vanished → Kept world (after_event before (Visited v))
+  pub visit_kept : AllByRecursion (λ id. has_id v.effect.begun id ≡ true) v.vanished → Kept world (after_visit before v)
   visit_kept vanished = record {
     done = kept.done ++ stored;
     rest = (core.added_begins scene is_scene s.stored).0;
@@ -142,7 +142,7 @@ module _ (laws : Below) (world : World) (is : IsSound world) (before : State Acc
   -- ---- promises
 
   held_after : (id : List ℕ) → is_done_after id ≡ true → (is_held world.account v.after.maildir id ≡ true) ⊎ (has_id before.taken id ≡ true)
-  held_after id e = done_is_held world (after_event before (Visited v)) (kept.done ++ stored) id (holds_after id (core.legal_after scene is_scene s.stored id e)) e
+  held_after id e = done_is_held world (after_visit before v) (kept.done ++ stored) id (holds_after id (core.legal_after scene is_scene s.stored id e)) e
 
   pub deletes_held : DeletesHeld world before v
   deletes_held = all_map (λ id. is_done_after id ≡ true) (λ id. (is_held world.account v.after.maildir id ≡ true) ⊎ (has_id before.taken id ≡ true)) held_after v.effect.begun begun_done

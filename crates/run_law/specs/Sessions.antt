@@ -14,7 +14,7 @@ use Rattle.run_law.specs.Accounts.{AccountMail}
 use Rattle.run_law.specs.Steps.{Effect, Leaves, Stores, wanted_at}
 use Rattle.pop3_wire.specs.Reading.{WholeReply}
 use Rattle.run_law.specs.Readings.{Talked, Retrieves, IsListed}
-use Rattle.run_law.specs.Runs.{World, State, Visits}
+use Rattle.run_law.specs.Runs.{World, State, Visit, Visits}
 
 -- a DELE's number counts from 1, the id of its message is among those begun, and no other message of the
 -- listing has that id
@@ -70,31 +70,34 @@ pub record Served (drop : List Message) (sent got : List ℕ) (vanished : List (
   pub marked : AllByRecursion (IsMarked drop marks) vanished
 
 -- one session over its link
-pub record Link : Type 0 where
+pub record Link (Account : Type 0) : Type 0 where
   pub settings : Settings
   pub come : ℕ
   pub sent : List ℕ
   pub got : List ℕ
   pub vanished : List (List ℕ)
-  pub after : AccountMail
+  pub after : Account
 
 -- a session of the code, over an honest link
-pub record Links (world : World) (before : State AccountMail) (link : Link) : Type 0 where
+pub record Links (world : World) (before : State AccountMail) (link : Link AccountMail) : Type 0 where
   pub same : link.settings.max_size ≡ world.max_size
   pub effect : Effect
   pub session : Session link.settings world.account before.account link.sent link.got effect link.after
   pub served : Served (maildrop_of world.all link.come before.gone) link.sent link.got link.vanished
 
+abbrev pub visit_of : {K : Type 0} → Link K → Effect → Visit K
+visit_of link effect = record {
+  settings = link.settings;
+  come = link.come;
+  effect = effect;
+  vanished = link.vanished;
+  after = link.after;
+}
+
 -- a law: a session over an honest link is a visit of the law over runs
 abbrev pub LinksAreVisits : Type 0
-LinksAreVisits = (world : World) (before : State AccountMail) (link : Link) → (l : Links world before link)
-    → Visits world before (record {
-      settings = link.settings;
-      come = link.come;
-      effect = l.effect;
-      vanished = link.vanished;
-      after = link.after;
-    })
+LinksAreVisits = (world : World) (before : State AccountMail) (link : Link AccountMail) → (l : Links world before link)
+    → Visits world before (visit_of link l.effect)
 
 -- how much mail had come at a session, and which ids its QUIT removed from the server
 pub record Fact : Type 0 where
