@@ -138,10 +138,12 @@ module _ (stores : CountedStores) (settings : Settings) (account : List ℕ) (no
     keeps = subst (λ (k : AccountFiles). KeepsRows k.file.content rows) (sym left.1) keeps;
     left = inl (unchanged, counts ∙ ap retrieved_in left.2);
     stepped = record {
-      commands = said.exchanges.0;
-      asked = said.exchanges.1;
-      begun = all_weaker (IsOfTask []) (IsBegun [] []) said.exchanges.0 (begun_one account before.maildir [] [] tt) said.exchanges.2;
-      next = begins_of (IsOfTask []) (IsBegun [] []) (begun_one account before.maildir [] [] tt) said.exchanges.1.part said.exchanges.3;
+      sends = record {
+        commands = said.exchanges.0;
+        asked = said.exchanges.1;
+        each = all_weaker (IsOfTask []) (IsBegun [] []) said.exchanges.0 (begun_one account before.maildir [] [] tt) said.exchanges.2;
+        next = begins_of (IsOfTask []) (IsBegun [] []) (begun_one account before.maildir [] [] tt) said.exchanges.1.part said.exchanges.3;
+      };
       step = inl unchanged;
     };
   }
@@ -169,10 +171,12 @@ module _ (stores : CountedStores) (settings : Settings) (account : List ℕ) (no
       ];
     });
     stepped = record {
-      commands = commands_of said.exchanges;
-      asked = said.exchanges.talked.asked;
-      begun = all_weaker (IsOfTask (begun_of c)) (IsBegun c.items (deleted_by c.items (begun_of c))) (commands_of said.exchanges) (begun_one account before.maildir c.items (begun_of c) left.right) said.exchanges.deletes;
-      next = begins_of (IsOfTask (begun_of c)) (IsBegun c.items (deleted_by c.items (begun_of c))) (begun_one account before.maildir c.items (begun_of c) left.right) said.exchanges.talked.asked.part said.exchanges.next;
+      sends = record {
+        commands = commands_of said.exchanges;
+        asked = said.exchanges.talked.asked;
+        each = all_weaker (IsOfTask (begun_of c)) (IsBegun c.items (deleted_by c.items (begun_of c))) (commands_of said.exchanges) (begun_one account before.maildir c.items (begun_of c) left.right) said.exchanges.deletes;
+        next = begins_of (IsOfTask (begun_of c)) (IsBegun c.items (deleted_by c.items (begun_of c))) (begun_one account before.maildir c.items (begun_of c) left.right) said.exchanges.talked.asked.part said.exchanges.next;
+      };
       step = inr (
         stores settings account (holds rows before.maildir) (effect_of now (is_ended result) c) (holds left.rows' after.maildir) left.figures,
         reads said.exchanges now (is_ended result) (wanted_at settings account (holds rows before.maildir) (effect_of now (is_ended result) c)) left.numbers,
@@ -236,10 +240,12 @@ module _ (stores : MboxCountedStores) (settings : Settings) (now : ℕ) (link : 
     keeps = keeps';
     left = inl (leaves, counts ∙ told);
     stepped = record {
-      commands = commands;
-      asked = asked;
-      begun = all_weaker (IsOfTask (begun_of c)) (IsBegun c.items (deleted_by c.items (begun_of c))) commands begun all;
-      next = begins_of (IsOfTask (begun_of c)) (IsBegun c.items (deleted_by c.items (begun_of c))) begun asked.part next;
+      sends = record {
+        commands = commands;
+        asked = asked;
+        each = all_weaker (IsOfTask (begun_of c)) (IsBegun c.items (deleted_by c.items (begun_of c))) commands begun all;
+        next = begins_of (IsOfTask (begun_of c)) (IsBegun c.items (deleted_by c.items (begun_of c))) begun asked.part next;
+      };
       step = inl (leaves, asks_none (begun_of c) commands asked.part none all next);
     };
   }
@@ -265,10 +271,12 @@ module _ (stores : MboxCountedStores) (settings : Settings) (now : ℕ) (link : 
     keeps = left.keeps;
     left = inr (record { figures = left.figures; retrieved_is = counts ∙ left.counted; one_less = λ is. unsaved_is result report.outcome outcome_is (left.one_less is) });
     stepped = record {
-      commands = commands_of said.exchanges;
-      asked = said.exchanges.talked.asked;
-      begun = all_weaker (IsOfTask (begun_of c)) (IsBegun c.items (deleted_by c.items (begun_of c))) (commands_of said.exchanges) begun said.exchanges.deletes;
-      next = begins_of (IsOfTask (begun_of c)) (IsBegun c.items (deleted_by c.items (begun_of c))) begun said.exchanges.talked.asked.part said.exchanges.next;
+      sends = record {
+        commands = commands_of said.exchanges;
+        asked = said.exchanges.talked.asked;
+        each = all_weaker (IsOfTask (begun_of c)) (IsBegun c.items (deleted_by c.items (begun_of c))) (commands_of said.exchanges) begun said.exchanges.deletes;
+        next = begins_of (IsOfTask (begun_of c)) (IsBegun c.items (deleted_by c.items (begun_of c))) begun said.exchanges.talked.asked.part said.exchanges.next;
+      };
       step = inr (
         stores settings (mbox_holds held before.mbox) (effect_of now (is_ended result) c) (mbox_holds left.record_state' after.mbox) left.figures,
         reads said.exchanges now (is_ended result) (mbox_wanted settings (mbox_holds held before.mbox) (effect_of now (is_ended result) c)) left.numbers,
@@ -353,5 +361,5 @@ module _ (adds : EntryAddsText) (settings : Settings) (before : MboxMail) (effec
   pub adds_texts : (sent got : List ℕ) → Stepped settings before sent got effect after → AddsTexts settings before effect after
   adds_texts sent got session = elim session.step [
     | inl (leaves, none) ↦ absurd (true≢false (sym ended ∙ leaves.ended))
-    | inr (stores, reads) ↦ added session.commands sent got stores reads
+    | inr (stores, reads) ↦ added session.sends.commands sent got stores reads
   ]

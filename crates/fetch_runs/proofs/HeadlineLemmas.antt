@@ -22,9 +22,9 @@ use Rattle.run_law.specs.Mails.{item_of, listing_of, is_selected, WorldsShrink}
 use Rattle.run_law.specs.Accounts.{AccountMail, KeepsOthers, copies, files}
 use Rattle.run_law.specs.Steps.{Effect, Leaves, Stores, IsHonest, ids_wanted, merged_rows, wanted_at}
 use Rattle.run_law.specs.Runs.{IsSound, World, State, Visit, Visits, IsLastStored as LastIn, Happens, after_visit, Promises as PromisesIn, Kept as IsKeptIn, KeptStaysKept, KeptHoldsWhatIsLeft, StartsKept, LeavesOut, DeletesHeld, StoresOnlyNew as StoresNew, past_limit, NothingTakenHoldsExactly, Event, Fetched, Between, Expired, Withdrawn, TakenAway, BroughtBack, Forgotten, PowerLost, after_event, after_events, world_after, world_left}
-use Rattle.run_law.specs.Sessions.{IsBegun, Link as LinkIn, LinksAreVisits}
+use Rattle.run_law.specs.Sessions.{IsBegun, Link as LinkIn, LinksAreVisits, SendsOnly}
 use Rattle.fetch_runs.specs.Steps.{holds, IsStep, SessionIsAStep}
-use Rattle.fetch_runs.specs.Headline.{Occasion, maildrop_at, IsSession, Follows, IsLastStored, by_rows, HoldsAPrefix, IsHeldAfter, IsPastCount, LeavesOutOnlyBeyondLimits, IsForHeld, FilesStay, StoresOnlyNew, Promised, IsKept, Headline, EmptyIsKept, HeadlineFromEmpty, IsRun, contents_of, IsRecorded, HoldsExactlyAPrefix, IsForOneHeld, IsWordForWord, LeaveAway, HeadlineWordForWord, StaysAway, LostRecordsAreForgotten, NewProcessesAreBetween, StopsAreRuns, after_session}
+use Rattle.fetch_runs.specs.Headline.{Occasion, maildrop_at, IsSession, Follows, IsLastStored, by_rows, HoldsAPrefix, IsHeldAfter, IsPastCount, LeavesOutOnlyBeyondLimits, IsForSuch, FilesStay, StoresOnlyNew, Promised, IsKept, Headline, EmptyIsKept, HeadlineFromEmpty, IsRun, contents_of, IsRecorded, HoldsExactlyAPrefix, IsWordForWord, LeaveAway, HeadlineWordForWord, StaysAway, LostRecordsAreForgotten, NewProcessesAreBetween, StopsAreRuns, after_session}
 use Rattle.fetch_runs.proofs.TalkCommands.{all_weaker, begins_of}
 use Rattle.fetch_session.specs.Session.{AccountFiles}
 
@@ -60,12 +60,27 @@ held_in P (x ∷ ids) id all is = elim (or_cases (bytes_eq id x) (has_id ids id)
 ]
 
 -- what holds for each id for which a DELE was begun holds for the id of the message at the DELE's number
-pub for_message : (P : List ℕ → Type 0) (drop : List Message) (effect : Effect) → (effect.listing ≡ listing_of drop) ⊎ ((effect.begun ≡ []) × (effect.ended ≡ false)) → AllByRecursion P effect.begun
+for_message : (P : List ℕ → Type 0) (drop : List Message) (effect : Effect) → (effect.listing ≡ listing_of drop) ⊎ ((effect.begun ≡ []) × (effect.ended ≡ false)) → AllByRecursion P effect.begun
     → (number : ℕ) → IsBegun effect.listing effect.begun (Dele number) → (0 < number) × (message : Message) × (slice_get drop (number - 1) ≡ Some message) × P message.uid
 for_message P drop effect (inl listed) all number begun =
     let at = message_at drop (number - 1) begun.0 (ap (λ (l : List Item). slice_get l (number - 1)) (sym listed) ∙ begun.1) in
     (begun.3, at.0, at.1, subst (λ (i : Item). P i.uid) (sym at.2) (held_in P effect.begun begun.0.uid all begun.2))
 for_message P drop effect (inr none) all number begun = absurd (true≢false (sym begun.2 ∙ ap (λ (ids : List (List ℕ)). has_id ids begun.0.uid) none.0))
+
+-- and so for each DELE that was sent
+pub for_such : (P : List ℕ → Type 0) (drop : List Message) (effect : Effect) → (effect.listing ≡ listing_of drop) ⊎ ((effect.begun ≡ []) × (effect.ended ≡ false)) → AllByRecursion P effect.begun
+    → (command : Command) → IsBegun effect.listing effect.begun command → IsForSuch drop P command
+for_such P drop effect listed all (Dele number) begun = for_message P drop effect listed all number begun
+for_such P drop effect listed all other begun = tt
+
+-- what is sent may be of a wider kind
+pub sends_weaker : (Is Other : Command → Type 0) (sent : List ℕ) → ((command : Command) → Is command → Other command) → SendsOnly Is sent → SendsOnly Other sent
+sends_weaker Is Other sent weaker sends = record {
+  commands = sends.commands;
+  asked = sends.asked;
+  each = all_weaker Is Other sends.commands weaker sends.each;
+  next = begins_of Is Other weaker sends.asked.part sends.next;
+}
 
 module _ (laws : Laws) (world : World) (state : State AccountFiles) (occasion : Occasion AccountFiles) (sound : IsSound world) (rows : List Row) (keeps : KeepsRows state.account.file.content rows)
     (is_kept : IsKeptIn world (by_rows rows state)) (is : IsSession world state occasion) where
@@ -135,12 +150,6 @@ module _ (laws : Laws) (world : World) (state : State AccountFiles) (occasion : 
       | inr nothing ↦ absurd (true≢false (sym (s.ended_is.1 ended) ∙ nothing.1))
     ]
 
-    -- a DELE that was sent
-    for_held : AllByRecursion (IsHeldAfter world state occasion) s.effect.begun → (command : Command)
-        → IsBegun s.effect.listing s.effect.begun command → IsForHeld world state occasion command
-    for_held held (Dele number) begun = for_message (IsHeldAfter world state occasion) (maildrop_at world state occasion) s.effect listing_or_nothing held number begun
-    for_held held other begun = tt
-
     files_stay : AreStored → FilesStay state.account.maildir occasion.after.maildir
     files_stay (inl left) = record { gained = []; came = left.same ∙ sym (append-nil state.account.maildir.files) }
     files_stay (inr (stores, honest)) = record { gained = _; came = stores.came }
@@ -158,10 +167,8 @@ module _ (laws : Laws) (world : World) (state : State AccountFiles) (occasion : 
         record {
           sent = s.sent;
           sent_is = s.sent_is;
-          commands = s.stepped.commands;
-          asked = s.stepped.asked;
-          each = all_weaker (IsBegun s.effect.listing s.effect.begun) (IsForHeld world state occasion) s.stepped.commands (for_held all.2) s.stepped.begun;
-          next = begins_of (IsBegun s.effect.listing s.effect.begun) (IsForHeld world state occasion) (for_held all.2) s.stepped.asked.part s.stepped.next;
+          sends = sends_weaker (IsBegun s.effect.listing s.effect.begun) (IsForSuch (maildrop_at world state occasion) (IsHeldAfter world state occasion)) s.sent
+              (for_such (IsHeldAfter world state occasion) (maildrop_at world state occasion) s.effect listing_or_nothing all.2) s.stepped.sends;
         },
         all.3,
         files_stay visits.step,
@@ -285,19 +292,24 @@ module _ (world : World) (state : State AccountFiles) (occasion : Occasion Accou
   left_out m (inl held) = inl (held_after m.uid held)
   left_out m (inr other) = inr other
 
-  for_one : (command : Command) → IsForHeld world state occasion command → IsForOneHeld world state occasion command
+  abbrev IsForOne : (List ℕ → Type 0) → Command → Type 0
+  IsForOne Is command = IsForSuch (maildrop_at world state occasion) Is command
+
+  abbrev IsHeldThen : List ℕ → Type 0
+  IsHeldThen id = is_held world.account occasion.after.maildir id ≡ true
+
+  for_one : (command : Command) → IsForOne (IsHeldAfter world state occasion) command → IsForOne IsHeldThen command
   for_one (Dele number) h = (h.0, h.1, h.2, held_after h.1.uid h.3)
   for_one other h = tt
 
   word_for_word : Promised world state (Fetched occasion) → IsWordForWord world state occasion
   word_for_word promised = record {
     left_out = λ ended. all_weaker IsLeftOut IsLeftOutHeld (maildrop_at world state occasion) left_out (promised.0 ended);
-    sent = promised.1.sent;
-    sent_is = promised.1.sent_is;
-    commands = promised.1.commands;
-    asked = promised.1.asked;
-    each = all_weaker (IsForHeld world state occasion) (IsForOneHeld world state occasion) promised.1.commands for_one promised.1.each;
-    next = begins_of (IsForHeld world state occasion) (IsForOneHeld world state occasion) for_one promised.1.asked.part promised.1.next;
+    deletes = record {
+      sent = promised.1.sent;
+      sent_is = promised.1.sent_is;
+      sends = sends_weaker (IsForOne (IsHeldAfter world state occasion)) (IsForOne IsHeldThen) promised.1.sent for_one promised.1.sends;
+    };
   }
 
 holds_exactly : NothingTakenHoldsExactly → (world : World) (state : State AccountFiles) → state.taken ≡ [] → HoldsAPrefix world state → HoldsExactlyAPrefix world state

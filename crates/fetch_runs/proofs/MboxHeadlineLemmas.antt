@@ -2,8 +2,6 @@
 use Rattle.std.proofs.Common.{◌≡◌, ◌⊎◌, inl, inr, ℕ, true, false, List, [], ◌∷◌, Option, None, Some, refl, sym, ap, subst, ◌∙◌}
 use Rattle.std.specs.List.{AllByRecursion}
 use Rattle.std.proofs.lemmas.Bool.{true≢false}
-use Rattle.pop3_wire.specs.declared.command.Command.{Command}
-use Rattle.pop3_wire.specs.declared.command.Command.TheVariants.{Dele}
 use Rattle.pop3_wire.specs.World.{Message, IsWorld}
 use Rattle.mail_terms.specs.UniqueId.{has_id}
 use Rattle.fetch_rules.specs.Record.{Row, Intent, RecordState, is_delivered}
@@ -20,10 +18,10 @@ use Rattle.run_law.specs.Runs.{past_limit}
 use Rattle.run_law.specs.Sessions.{IsBegun, Link, visit_of}
 use Rattle.run_law.specs.Steps.{ids_wanted}
 use Rattle.fetch_runs.specs.MboxSteps.{mbox_holds, IsMboxStep, MboxSessionIsAStep}
-use Rattle.fetch_runs.specs.MboxHeadline.{WritingsAreEvents, maildrop_at, IsMboxSession, after_session, Follows, by_record, HoldsEntries, IsEntered, IsPastCount, EndsWhole, IsForEntered, MboxPromised, IsMboxKept, MboxHeadline, MboxStartIsKept, MboxHeadlineFromStart, MboxStopsAreRuns}
-use Rattle.fetch_runs.specs.Headline.{Occasion}
-use Rattle.fetch_runs.proofs.HeadlineLemmas.{for_message}
-use Rattle.fetch_runs.proofs.TalkCommands.{all_weaker, begins_of}
+use Rattle.fetch_runs.specs.MboxHeadline.{WritingsAreEvents, maildrop_at, IsMboxSession, after_session, Follows, by_record, HoldsEntries, IsEntered, IsPastCount, EndsWhole, MboxPromised, IsMboxKept, MboxHeadline, MboxStartIsKept, MboxHeadlineFromStart, MboxStopsAreRuns}
+use Rattle.fetch_runs.specs.Headline.{Occasion, IsForSuch}
+use Rattle.fetch_runs.proofs.HeadlineLemmas.{for_such, sends_weaker}
+use Rattle.fetch_runs.proofs.TalkCommands.{all_weaker}
 use Rattle.fetch_session.specs.Session.{MboxAccountFiles}
 
 -- the laws that are used
@@ -106,11 +104,6 @@ module _ (laws : Laws) (world : MboxWorld) (state : MboxState MboxAccountFiles) 
       ends : MboxEnds world (by_record held state) (visit_of link_in s.effect)
       ends = happened.1.ends (s.ended_is.1 ended)
 
-  -- a DELE that was sent
-  for_entered : (command : Command) → IsBegun s.effect.listing s.effect.begun command → IsForEntered world state occasion command
-  for_entered (Dele number) begun = for_message (IsEntered world occasion.after) (maildrop_at world state occasion) s.effect listing_or_nothing happened.1.begun number begun
-  for_entered other begun = tt
-
   session_promised : MboxPromised world state (Fetched occasion) × IsMboxKept world (after_session state occasion)
   session_promised = (
     (
@@ -118,10 +111,8 @@ module _ (laws : Laws) (world : MboxWorld) (state : MboxState MboxAccountFiles) 
       record {
         sent = s.sent;
         sent_is = s.sent_is;
-        commands = s.stepped.commands;
-        asked = s.stepped.asked;
-        each = all_weaker (IsBegun s.effect.listing s.effect.begun) (IsForEntered world state occasion) s.stepped.commands for_entered s.stepped.begun;
-        next = begins_of (IsBegun s.effect.listing s.effect.begun) (IsForEntered world state occasion) for_entered s.stepped.asked.part s.stepped.next;
+        sends = sends_weaker (IsBegun s.effect.listing s.effect.begun) (IsForSuch (maildrop_at world state occasion) (IsEntered world occasion.after)) s.sent
+            (for_such (IsEntered world occasion.after) (maildrop_at world state occasion) s.effect listing_or_nothing happened.1.begun) s.stepped.sends;
       },
     ),
     (s.record_state', s.keeps, happened.0),

@@ -7,7 +7,6 @@ use Rattle.std.specs.Prelude.{◌≡◌, ◌≢◌, ◌⊎◌, ◌<◌, ◌-◌,
 use Rattle.std.specs.List.{AllByRecursion}
 use Rattle.pop3_wire.specs.declared.command.Command.{Command}
 use Rattle.pop3_wire.specs.declared.command.Command.TheVariants.{Dele}
-use Rattle.pop3_wire.specs.Honest.{Asked}
 use Rattle.pop3_wire.specs.Link.{Link}
 use Rattle.pop3_wire.specs.World.{Message, maildrop_of}
 use Rattle.mail_terms.specs.UniqueId.{is_legal_id, has_id}
@@ -29,7 +28,7 @@ use Rattle.run_law.specs.Steps.{ids_wanted}
 use Rattle.run_law.specs.Runs.{World, IsSound, State, Kept as IsKeptIn, HoldsExactly, HoldsWhatIsLeft, past_limit}
 use Rattle.run_law.specs.Runs.{Event, Fetched, Between, Expired, Withdrawn, TakenAway, BroughtBack, Forgotten, PowerLost}
 use Rattle.run_law.specs.Runs.{after_event, after_events, world_after, world_left}
-use Rattle.run_law.specs.Sessions.{BeginsOne, Served}
+use Rattle.run_law.specs.Sessions.{SendsOnly, Served}
 use Rattle.fetch_runs.specs.Steps.{holds}
 
 -- A `World` is whose mail it is, by the digits in the names of the account's files; the limit on sizes; and all mail that ever comes, in
@@ -149,7 +148,7 @@ pub record IsPowerLost (world : World) (state : State AccountFiles) (after : Acc
 abbrev pub after_session : State AccountFiles → Occasion AccountFiles → State AccountFiles
 after_session state occasion = record state { account = occasion.after; gone = state.gone ++ occasion.vanished }
 
--- what happens at each kind of event
+-- an event of each kind happens in this state
 abbrev pub Follows : World → State AccountFiles → Event Occasion AccountFiles → Type 0
 Follows world state (Fetched occasion) = IsSession world state occasion
 Follows world state (Between after) = IsBetween world state.account after
@@ -198,22 +197,21 @@ LeavesOutOnlyBeyondLimits world state occasion = occasion.report.outcome ≡ End
     ⊎ IsPastCount world state occasion message)
     (maildrop_at world state occasion)
 
--- a DELE gives the number, counted from 1, of a message of the maildrop that is held when the session
--- returns, or was taken away
-abbrev pub IsForHeld : World → State AccountFiles → Occasion AccountFiles → Command → Type 0
-IsForHeld world state occasion (Dele number) = (0 < number) × (message : Message)
-    × (slice_get (maildrop_at world state occasion) (number - 1) ≡ Some message)
-    × IsHeldAfter world state occasion message.uid
-IsForHeld world state occasion _ = Unit {0}
+-- a DELE gives the number, counted from 1, of a message of the maildrop whose id is of this kind
+abbrev pub IsForSuch : List Message → (List ℕ → Type 0) → Command → Type 0
+IsForSuch maildrop Is (Dele number) = (0 < number) × (message : Message)
+    × (slice_get maildrop (number - 1) ≡ Some message) × Is message.uid
+IsForSuch maildrop Is _ = Unit {0}
 
--- each DELE that was sent, the last perhaps in part, is for such a message
-pub record DeletesOnlyHeld (world : World) (state : State AccountFiles) (occasion : Occasion AccountFiles) : Type 0 where
+-- each DELE that a session sent, the last perhaps in part, is for such a message
+pub record DeletesOnly {Account : Type 0} (occasion : Occasion Account) (maildrop : List Message) (Is : List ℕ → Type 0) : Type 0 where
   pub sent : List ℕ
   pub sent_is : occasion.link'.sent ≡ occasion.link.sent ++ sent
-  pub commands : List Command
-  pub asked : Asked commands sent
-  pub each : AllByRecursion (IsForHeld world state occasion) commands
-  pub next : BeginsOne (IsForHeld world state occasion) asked.part
+  pub sends : SendsOnly (IsForSuch maildrop Is) sent
+
+-- each DELE is for a message that is held when the session returns, or was taken away before it began
+abbrev pub DeletesOnlyHeld : World → State AccountFiles → Occasion AccountFiles → Type 0
+DeletesOnlyHeld world state occasion = DeletesOnly occasion (maildrop_at world state occasion) (IsHeldAfter world state occasion)
 
 -- files of other names stay
 abbrev pub OthersStay : World → State AccountFiles → State AccountFiles → Type 0
@@ -312,25 +310,13 @@ TakesNoneAway (_ ∷ events) = TakesNoneAway events
 abbrev pub HoldsExactlyAPrefix : World → State AccountFiles → Type 0
 HoldsExactlyAPrefix world state = HoldsExactly world (holds [] state.account.maildir)
 
--- each DELE is for a message that is held when the session returns
-abbrev pub IsForOneHeld : World → State AccountFiles → Occasion AccountFiles → Command → Type 0
-IsForOneHeld world state occasion (Dele number) = (0 < number) × (message : Message)
-    × (slice_get (maildrop_at world state occasion) (number - 1) ≡ Some message)
-    × (is_held world.account occasion.after.maildir message.uid ≡ true)
-IsForOneHeld world state occasion _ = Unit {0}
-
 -- a session as the sentence has it, word for word
 pub record IsWordForWord (world : World) (state : State AccountFiles) (occasion : Occasion AccountFiles) : Type 0 where
   pub left_out : occasion.report.outcome ≡ Ended → AllByRecursion (λ (message : Message).
       (is_held world.account occasion.after.maildir message.uid ≡ true)
       ⊎ (is_selected world.max_size message ≡ false) ⊎ IsPastCount world state occasion message)
       (maildrop_at world state occasion)
-  pub sent : List ℕ
-  pub sent_is : occasion.link'.sent ≡ occasion.link.sent ++ sent
-  pub commands : List Command
-  pub asked : Asked commands sent
-  pub each : AllByRecursion (IsForOneHeld world state occasion) commands
-  pub next : BeginsOne (IsForOneHeld world state occasion) asked.part
+  pub deletes : DeletesOnly occasion (maildrop_at world state occasion) (λ id. is_held world.account occasion.after.maildir id ≡ true)
 
 abbrev pub SaysTheSentence : World → State AccountFiles → Event Occasion AccountFiles → Type 0
 SaysTheSentence world state (Fetched occasion) = IsWordForWord world state occasion

@@ -5,11 +5,8 @@
 -- next entry is left, and only what its limits exclude is left out; and DELE was sent only for messages whose
 -- entry is whole. What was recorded as delivered before the first session counts as entered here; what was withdrawn from
 -- the server before it was fetched isn't part of its mail; and after others wrote the file the sentence begins anew.
-use Rattle.std.specs.Prelude.{◌≡◌, ◌≢◌, ◌⊎◌, ◌<◌, ◌-◌, ℕ, true, false, List, [], ◌∷◌, ◌++◌, None, Some, slice_get}
+use Rattle.std.specs.Prelude.{◌≡◌, ◌≢◌, ◌⊎◌, ℕ, true, false, List, [], ◌∷◌, ◌++◌, None}
 use Rattle.std.specs.List.{AllByRecursion}
-use Rattle.pop3_wire.specs.declared.command.Command.{Command}
-use Rattle.pop3_wire.specs.declared.command.Command.TheVariants.{Dele}
-use Rattle.pop3_wire.specs.Honest.{Asked}
 use Rattle.pop3_wire.specs.World.{Message, IsWorld, maildrop_of}
 use Rattle.mail_terms.specs.UniqueId.{has_id}
 use Rattle.rc_file.specs.Settings.{IsValid}
@@ -26,9 +23,9 @@ use Rattle.run_law.specs.MboxRuns.{MboxWorld, MboxState, MboxKept as IsKeptIn, M
 use Rattle.run_law.specs.MboxRuns.{MboxEvent, Fetched, Between, Expired, Withdrawn, Rewritten}
 use Rattle.run_law.specs.MboxRuns.{after_mbox_event, after_mbox_events, mbox_world_after, mbox_world_left}
 use Rattle.run_law.specs.Runs.{past_limit}
-use Rattle.run_law.specs.Sessions.{BeginsOne, Served}
+use Rattle.run_law.specs.Sessions.{Served}
 use Rattle.run_law.specs.Steps.{ids_wanted}
-use Rattle.fetch_runs.specs.Headline.{Occasion}
+use Rattle.fetch_runs.specs.Headline.{Occasion, DeletesOnly}
 use Rattle.fetch_runs.specs.MboxSteps.{mbox_holds}
 
 -- What stays throughout, but where others write the file or messages are withdrawn, is an `MboxWorld`: the file before the
@@ -84,7 +81,7 @@ pub record IsRewritten (world : MboxWorld) (before : MboxAccountFiles) (had : Li
 abbrev pub after_session : MboxState MboxAccountFiles → Occasion MboxAccountFiles → MboxState MboxAccountFiles
 after_session state occasion = record { account = occasion.after; gone = state.gone ++ occasion.vanished }
 
--- what happens at each kind of event
+-- an event of each kind happens in this state
 abbrev pub Follows : MboxWorld → MboxState MboxAccountFiles → MboxEvent Occasion MboxAccountFiles → Type 0
 Follows world state (Fetched occasion) = IsMboxSession world state occasion
 Follows world state (Between after) = IsMboxBetween state.account after
@@ -137,22 +134,10 @@ pub record EndsWhole (world : MboxWorld) (state : MboxState MboxAccountFiles) (o
       ⊎ IsPastCount world state occasion message)
       (maildrop_at world state occasion)
 
--- a DELE gives the number, counted from 1, of a message of the maildrop whose whole entry is in the file when the
--- session returns, or that was recorded before the first session
-abbrev pub IsForEntered : MboxWorld → MboxState MboxAccountFiles → Occasion MboxAccountFiles → Command → Type 0
-IsForEntered world state occasion (Dele number) = (0 < number) × (message : Message)
-    × (slice_get (maildrop_at world state occasion) (number - 1) ≡ Some message)
-    × IsEntered world occasion.after message.uid
-IsForEntered world state occasion _ = Unit {0}
-
--- each DELE that was sent, the last perhaps in part, is for such a message
-pub record DeletesOnlyEntered (world : MboxWorld) (state : MboxState MboxAccountFiles) (occasion : Occasion MboxAccountFiles) : Type 0 where
-  pub sent : List ℕ
-  pub sent_is : occasion.link'.sent ≡ occasion.link.sent ++ sent
-  pub commands : List Command
-  pub asked : Asked commands sent
-  pub each : AllByRecursion (IsForEntered world state occasion) commands
-  pub next : BeginsOne (IsForEntered world state occasion) asked.part
+-- each DELE is for a message whose whole entry is in the file when the session returns, or that was recorded before the
+-- first session
+abbrev pub DeletesOnlyEntered : MboxWorld → MboxState MboxAccountFiles → Occasion MboxAccountFiles → Type 0
+DeletesOnlyEntered world state occasion = DeletesOnly occasion (maildrop_at world state occasion) (IsEntered world occasion.after)
 
 -- nothing is promised of what others do
 abbrev pub MboxPromised : MboxWorld → MboxState MboxAccountFiles → MboxEvent Occasion MboxAccountFiles → Type 0

@@ -132,7 +132,7 @@ visits laws world before link l = record { same = l.same; step = visit.0; vanish
   where
     visit : Honestly (Leaves before.account l.effect link.after) (Stores link.settings world.account before.account l.effect link.after) (wanted_at link.settings world.account before.account l.effect)
         (maildrop_of world.all link.come before.gone) l.effect link.vanished
-    visit = one_visit laws link.sent link.got l.effect (maildrop_of world.all link.come before.gone) link.vanished l.session.commands l.session.asked l.session.begun l.served
+    visit = one_visit laws link.sent link.got l.effect (maildrop_of world.all link.come before.gone) link.vanished l.session.sends.commands l.session.sends.asked l.session.sends.each l.served
         (wanted_at link.settings world.account before.account l.effect) (λ left. left) (λ left. left.begun) l.session.step
 
 pub mbox_visits : Readings → MboxLinksAreVisits
@@ -140,5 +140,5 @@ mbox_visits laws world before link l = record { same = l.same; only_new = l.only
   where
     visit : Honestly (MboxLeaves before.account l.effect link.after) (MboxStores link.settings before.account l.effect link.after) (mbox_wanted link.settings before.account l.effect)
         (maildrop_of world.all link.come before.gone) l.effect link.vanished
-    visit = one_visit laws link.sent link.got l.effect (maildrop_of world.all link.come before.gone) link.vanished l.session.commands l.session.asked l.session.begun l.served
+    visit = one_visit laws link.sent link.got l.effect (maildrop_of world.all link.come before.gone) link.vanished l.session.sends.commands l.session.sends.asked l.session.sends.each l.served
         (mbox_wanted link.settings before.account l.effect) (λ left. left.0) (λ left. left.0.begun) l.session.step

@@ -70,5 +70,5 @@ mbox_honest_session laws settings before sent got effect after drop marks honest
   | inr (stores, reads) ↦
       let served : Served drop sent got [] = record { marks = marks; honest = honest; quits = inl refl; marked = tt } in
       inr (appends drop settings before effect after stores
-      (session_honest laws sent got effect drop [] session.commands session.asked session.begun served (mbox_wanted settings before effect) reads))
+      (session_honest laws sent got effect drop [] session.sends.commands session.sends.asked session.sends.each served (mbox_wanted settings before effect) reads))
 ]

@@ -14,7 +14,7 @@ use Rattle.mail_store.specs.Mboxrd.{entry_of}
 use Rattle.mail_terms.specs.UniqueId.{has_id}
 use Rattle.run_law.specs.Accounts.{AccountMail}
 use Rattle.run_law.specs.Steps.{Effect, Leaves, Stores, file_for, is_unheld, ids_wanted, wanted_at, merged_rows}
-use Rattle.run_law.specs.Sessions.{IsBegun, BeginsOne}
+use Rattle.run_law.specs.Sessions.{IsBegun, BeginsOne, SendsOnly}
 use Rattle.pop3_wire.specs.declared.command.Command.{Command}
 use Rattle.pop3_wire.specs.declared.command.Command.TheVariants.{Dele}
 use Rattle.run_law.specs.Safety.{IsAmong, DeletesSaved, SessionsAreSafe}
@@ -81,6 +81,15 @@ behind_one x y xs (front, behind, is) = (y ∷ front, behind, ap (λ l. y ∷ l)
 begins : {P Q : Command → Type 0} → ((c : Command) → P c → Q c) → (part : List ℕ) → BeginsOne P part → BeginsOne Q part
 begins f part (inl none) = inl none
 begins f part (inr (command, unsent, is, begun)) = inr (command, unsent, is, f command begun)
+
+-- what is sent may be of a wider kind
+sends_weaker : (P Q : Command → Type 0) (sent : List ℕ) → ((c : Command) → P c → Q c) → SendsOnly P sent → SendsOnly Q sent
+sends_weaker P Q sent f sends = record {
+  commands = sends.commands;
+  asked = sends.asked;
+  each = all_map P Q f sends.commands sends.each;
+  next = begins f sends.asked.part sends.next;
+}
 
 -- ---- with a Maildir
 
@@ -193,10 +202,7 @@ sessions_are_safe laws settings account before sent got effect after session =
     record {
       gained = keeps.gained;
       came = keeps.came;
-      commands = session.commands;
-      asked = session.asked;
-      deletes = all_map (IsBegun effect.listing effect.begun) (DeletesSaved settings account before effect keeps.gained) deletes session.commands session.begun;
-      next = begins deletes session.asked.part session.next;
+      sends = sends_weaker (IsBegun effect.listing effect.begun) (DeletesSaved settings account before effect keeps.gained) sent deletes session.sends;
     }
 
 -- ---- with an mboxrd
@@ -287,8 +293,5 @@ mbox_sessions_are_safe laws settings before sent got effect after session =
         ]
         | inr (stores, reads) ↦ inr (_, (tail_of settings before effect after stores).1)
       ];
-      commands = session.commands;
-      asked = session.asked;
-      deletes = all_map (IsBegun effect.listing effect.begun) (MboxDeletesSaved settings before effect after) kept session.commands session.begun;
-      next = begins kept session.asked.part session.next;
+      sends = sends_weaker (IsBegun effect.listing effect.begun) (MboxDeletesSaved settings before effect after) sent kept session.sends;
     }

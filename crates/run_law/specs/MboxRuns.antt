@@ -86,7 +86,7 @@ pub record AreAllRecorded (world : MboxWorld) (account : MboxMail) (had : List M
   pub prefix : selected world.max_size world.all ≡ had ++ ahead
   pub recorded : (id : List ℕ) → is_delivered account.rows id ≡ has_id (ids_of had) id
 
--- what happens at each kind of event
+-- an event of each kind happens in this state
 abbrev pub MboxHappens : MboxWorld → MboxState MboxMail → MboxEvent Visit MboxMail → Type 0
 MboxHappens world before (Fetched visit) = MboxVisits world before visit
 MboxHappens world before (Between after) = after ≡ before.account

@@ -1,16 +1,14 @@
 -- What no server can make a session with an mboxrd do: lose or change what the file holds, except for the
 -- rest of an open intent's entry, or delete a message that isn't known.
 use Rattle.std.specs.Prelude.{◌≡◌, ◌⊎◌, ◌<◌, ◌-◌, ℕ, true, List, ◌++◌, zip, Some, slice_get}
-use Rattle.std.specs.List.{AllByRecursion}
 use Rattle.rc_file.specs.declared.settings.Settings.{Settings}
 use Rattle.fetch_rules.specs.Record.{is_delivered}
 use Rattle.mail_store.specs.Mboxrd.{entry_of}
 use Rattle.run_law.specs.Steps.{Effect}
-use Rattle.run_law.specs.Sessions.{BeginsOne}
+use Rattle.run_law.specs.Sessions.{SendsOnly}
 use Rattle.run_law.specs.Safety.{IsAmong}
 use Rattle.run_law.specs.Mboxes.{MboxMail, settled, mbox_wanted}
 use Rattle.run_law.specs.MboxSessions.{MboxSession}
-use Rattle.pop3_wire.specs.Honest.{Asked}
 use Rattle.pop3_wire.specs.declared.command.Command.{Command}
 use Rattle.pop3_wire.specs.declared.command.Command.TheVariants.{Dele}
 use Rattle.mail_terms.specs.Listing.{Item}
@@ -40,10 +38,7 @@ MboxDeletesSaved settings before effect after _ = Unit {0}
 -- last perhaps in part, asks for such a message
 pub record MboxIsSafe (settings : Settings) (before : MboxMail) (sent : List ℕ) (effect : Effect) (after : MboxMail) : Type 0 where
   pub file : (after.file ≡ before.file) ⊎ ((more : List ℕ) × (after.file ≡ (settled effect.listing before).file ++ more))
-  pub commands : List Command
-  pub asked : Asked commands sent
-  pub deletes : AllByRecursion (MboxDeletesSaved settings before effect after) commands
-  pub next : BeginsOne (MboxDeletesSaved settings before effect after) asked.part
+  pub sends : SendsOnly (MboxDeletesSaved settings before effect after) sent
 
 -- a law: every session is safe in this way, whatever its server says
 abbrev pub MboxSessionsAreSafe : Type 0

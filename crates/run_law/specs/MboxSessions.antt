@@ -3,11 +3,10 @@ use Rattle.std.specs.Prelude.{◌≡◌, ◌⊎◌, ℕ, false, List}
 use Rattle.std.specs.List.{AllByRecursion}
 use Rattle.pop3_wire.specs.declared.command.Command.{Command}
 use Rattle.pop3_wire.specs.declared.command.Command.TheVariants.{Retr, Dele}
-use Rattle.pop3_wire.specs.Honest.{Asked}
 use Rattle.pop3_wire.specs.World.{maildrop_of}
 use Rattle.rc_file.specs.declared.settings.Settings.{Settings}
 use Rattle.run_law.specs.Steps.{Effect}
-use Rattle.run_law.specs.Sessions.{IsBegun, Link, Reads, BeginsOne, Served, visit_of}
+use Rattle.run_law.specs.Sessions.{IsBegun, Link, Reads, BeginsOne, SendsOnly, Served, visit_of}
 use Rattle.run_law.specs.Mboxes.{MboxMail, mbox_wanted, MboxLeaves, MboxStores}
 use Rattle.run_law.specs.MboxRuns.{MboxWorld, MboxState, MboxVisits}
 
@@ -25,13 +24,9 @@ AsksForNone commands part = AllByRecursion AsksForNoMessage commands × BeginsOn
 -- back; or it settled the account, read the replies and appended texts
 pub record MboxSession (settings : Settings) (before : MboxMail) (sent got : List ℕ) (effect : Effect)
     (after : MboxMail) : Type 0 where
-  pub commands : List Command
-  pub asked : Asked commands sent
-  pub begun : AllByRecursion (IsBegun effect.listing effect.begun) commands
-  -- what was sent after these commands begins one more
-  pub next : BeginsOne (IsBegun effect.listing effect.begun) asked.part
-  pub step : (MboxLeaves before effect after × AsksForNone commands asked.part)
-      ⊎ (MboxStores settings before effect after × Reads (mbox_wanted settings before effect) commands sent got effect)
+  pub sends : SendsOnly (IsBegun effect.listing effect.begun) sent
+  pub step : (MboxLeaves before effect after × AsksForNone sends.commands sends.asked.part)
+      ⊎ (MboxStores settings before effect after × Reads (mbox_wanted settings before effect) sends.commands sent got effect)
 
 -- a session of the code, over an honest link
 pub record MboxLinks (world : MboxWorld) (before : MboxState MboxMail) (link : Link MboxMail) : Type 0 where

@@ -1,14 +1,12 @@
 -- What no server can make a session do: lose or change a stored text, or delete a message that isn't known.
 use Rattle.std.specs.Prelude.{◌≡◌, ◌⊎◌, ◌<◌, ◌-◌, ℕ, true, List, ◌∷◌, ◌++◌, zip, Some, slice_get}
-use Rattle.std.specs.List.{AllByRecursion}
 use Rattle.rc_file.specs.declared.settings.Settings.{Settings}
 use Rattle.fetch_rules.specs.Record.{is_delivered}
 use Rattle.mail_store.specs.Maildir.{File}
 use Rattle.mail_store.specs.FileName.{is_held, mail_file}
 use Rattle.run_law.specs.Accounts.{AccountMail}
 use Rattle.run_law.specs.Steps.{Effect, wanted_at}
-use Rattle.run_law.specs.Sessions.{BeginsOne, Session}
-use Rattle.pop3_wire.specs.Honest.{Asked}
+use Rattle.run_law.specs.Sessions.{SendsOnly, Session}
 use Rattle.pop3_wire.specs.declared.command.Command.{Command}
 use Rattle.pop3_wire.specs.declared.command.Command.TheVariants.{Dele}
 use Rattle.mail_terms.specs.Listing.{Item}
@@ -42,10 +40,7 @@ pub record IsSafe (settings : Settings) (account : List ℕ) (before : AccountMa
     (effect : Effect) (after : AccountMail) : Type 0 where
   pub gained : List File
   pub came : after.maildir.files ≡ before.maildir.files ++ gained
-  pub commands : List Command
-  pub asked : Asked commands sent
-  pub deletes : AllByRecursion (DeletesSaved settings account before effect gained) commands
-  pub next : BeginsOne (DeletesSaved settings account before effect gained) asked.part
+  pub sends : SendsOnly (DeletesSaved settings account before effect gained) sent
 
 -- a law: every session is safe in this way, whatever its server says
 abbrev pub SessionsAreSafe : Type 0

@@ -46,16 +46,19 @@ pub record Reads (wanted : List (ℕ × Item)) (commands : List Command) (sent g
 abbrev pub BeginsOne : (Command → Type 0) → List ℕ → Type 0
 BeginsOne Is part = (part ≡ []) ⊎ ((command : Command) × (unsent : List ℕ) × (ended (line_of command) ≡ part ++ unsent) × Is command)
 
+-- each command that was sent, the last perhaps in part, is of this kind
+pub record SendsOnly (Is : Command → Type 0) (sent : List ℕ) : Type 0 where
+  pub commands : List Command
+  pub asked : Asked commands sent
+  pub each : AllByRecursion Is commands
+  pub next : BeginsOne Is asked.part
+
 -- a session by what its link gained: it changed nothing, or it read the replies and stored texts
 pub record Session (settings : Settings) (account : List ℕ) (before : AccountMail) (sent got : List ℕ)
     (effect : Effect) (after : AccountMail) : Type 0 where
-  pub commands : List Command
-  pub asked : Asked commands sent
-  pub begun : AllByRecursion (IsBegun effect.listing effect.begun) commands
-  -- what was sent after these commands begins one more
-  pub next : BeginsOne (IsBegun effect.listing effect.begun) asked.part
+  pub sends : SendsOnly (IsBegun effect.listing effect.begun) sent
   pub step : Leaves before effect after
-      ⊎ (Stores settings account before effect after × Reads (wanted_at settings account before effect) commands sent got effect)
+      ⊎ (Stores settings account before effect after × Reads (wanted_at settings account before effect) sends.commands sent got effect)
 
 -- the id is that of a message that is marked
 abbrev pub IsMarked : List Message → List Bool → List ℕ → Type 0
