@@ -15,9 +15,9 @@ use Rattle.mail_terms.specs.UniqueId.{has_id, is_legal_id}
 use Rattle.pop3_wire.specs.World.{Message, IsMessage}
 use Rattle.run_law.specs.Accounts.{copies}
 use Rattle.run_law.specs.Mails.{WorldsShrink, ids_of, is_selected, messages_after, selected, texts_of, without}
-use Rattle.run_law.specs.Runs.{State, IsSound, World, HoldsOf, Event, Fetched, Between, Expired, Withdrawn, TakenAway, BroughtBack, Forgotten, PowerLost, after_event, world_after}
+use Rattle.run_law.specs.Runs.{State, IsSound, World, HoldsOf, IsNeither, Event, Fetched, Between, Expired, Withdrawn, TakenAway, BroughtBack, Forgotten, PowerLost, after_event, world_after}
 use Rattle.fetch_session.specs.Session.{AccountFiles}
-use Rattle.fetch_runs.specs.Headline.{AreTaken, AreTakings, Follows, Headline, IsKept, IsLastStored, IsNeither, IsRecorded, IsRun, KeepsRecord, contents_of, by_rows, after_session, Occasion}
+use Rattle.fetch_runs.specs.Headline.{AreTaken, AreTakings, Follows, Headline, IsKept, IsLastStored, IsRecorded, IsRun, KeepsRecord, contents_of, by_rows, after_session, Occasion}
 use Rattle.fetch_runs.specs.Power.{AllMayBeOnDisk, CanLosePower, IsSure, IsSureOrTaken, LossesAreEvents, SessionsAndPower}
 use Rattle.fetch_runs.specs.PowerRuns.{AsMuchIsSure, CanAlwaysLosePower, EventOn, EventsKeepPower, HeadlineOn, IsRunOn, KeepsSure, TakingsRunOn, events_of}
 use Rattle.fetch_runs.proofs.HeadlineLemmas.{held_in, sound_after}
@@ -145,12 +145,12 @@ module _ (one : OneRecord) {D F : Type 0} (disk : DiskGhosts D) (files : FileGho
 
   module _ (device : D) (f : F) (after : State AccountFiles) (keeps : KeepsSure disk files world was from state device f after) where
     -- the last that was stored still is
-    still_last : ((id : List ℕ) → IsRecorded after.account id → IsRecorded state.account id) → ((m : Message) → is_legal_id m.uid ≡ true → IsNeither world state m.uid → IsNeither world after m.uid)
+    still_last : ((id : List ℕ) → IsRecorded after.account id → IsRecorded state.account id) → ((m : Message) → is_legal_id m.uid ≡ true → IsNeither world.account state.account.maildir state.taken m.uid → IsNeither world.account after.account.maildir after.taken m.uid)
         → (id : List ℕ) → (has_id state.gone id ≡ false → has_id after.gone id ≡ false) → IsLastStored world state id → IsLastStored world after id
     still_last back neither id on_server lastly = record {
       unrecorded = λ recorded. lastly.unrecorded (back id recorded);
       on_server = on_server lastly.on_server;
-      last = all_both (λ (m : Message). is_legal_id m.uid ≡ true) (λ (m : Message). IsNeither world state m.uid) (λ (m : Message). IsNeither world after m.uid) neither
+      last = all_both (λ (m : Message). is_legal_id m.uid ≡ true) (λ (m : Message). IsNeither world.account state.account.maildir state.taken m.uid) (λ (m : Message). IsNeither world.account after.account.maildir after.taken m.uid) neither
           (messages_after id (selected world.max_size world.all)) (all_after (λ (m : Message). is_legal_id m.uid ≡ true) id (selected world.max_size world.all) all_legal) lastly.last;
     }
 
@@ -237,7 +237,7 @@ module _ (one : OneRecord) {D F : Type 0} (disk : DiskGhosts D) (files : FileGho
         by id legal lastly (inr on) = inr (still_last device f after keeps (λ x recorded. recorded) (λ m l neither. neither) id
             (λ before. list_any-append (bytes_eq id) state.gone ids ∙ or_from (has_id state.gone id) (has_id ids id) before on) lastly)
 
-    after_withdrawing : (ids : List (List ℕ)) → Keeps state → AllByRecursion (IsNeither world state) ids → CanLosePower disk files device f (record world { all = without ids world.all }) state
+    after_withdrawing : (ids : List (List ℕ)) → Keeps state → AllByRecursion (IsNeither world.account state.account.maildir state.taken) ids → CanLosePower disk files device f (record world { all = without ids world.all }) state
     after_withdrawing ids keeps neither = record {
       stay = λ id legal held. elim (same.stay id legal held) [
         | inl sure ↦ inl (record { one = sure.one; there = sure.there; named = sure.named; sure = sure.sure })
@@ -245,7 +245,7 @@ module _ (one : OneRecord) {D F : Type 0} (disk : DiskGhosts D) (files : FileGho
         | inr (inr lastly) ↦ inr (inr (record {
           unrecorded = lastly.unrecorded;
           on_server = lastly.on_server;
-          last = after_withdrawn (λ (m : Message). IsNeither (record world { all = without ids world.all }) state m.uid) world.max_size ids id (kept_id id held) world.all lastly.last;
+          last = after_withdrawn (λ (m : Message). IsNeither world.account state.account.maildir state.taken m.uid) world.max_size ids id (kept_id id held) world.all lastly.last;
         }))
       ];
       shows = λ left now rows may keeps_now keeps_rows id delivered. elim (same.shows left now rows may keeps_now keeps_rows id delivered) [
@@ -259,7 +259,7 @@ module _ (one : OneRecord) {D F : Type 0} (disk : DiskGhosts D) (files : FileGho
         same = can_after device f state keeps (λ id legal held. inr held) (λ id legal lastly. inr lastly) (same_shown device state (λ rows keeps_rows. keeps_rows))
 
         kept_id : (id : List ℕ) → is_held account state.account.maildir id ≡ true → has_id ids id ≡ false
-        kept_id id held = false_from_ne_true (has_id ids id) (λ has. both_ways (is_held account state.account.maildir id) (held_in (IsNeither world state) ids id neither has).0 held)
+        kept_id id held = false_from_ne_true (has_id ids id) (λ has. both_ways (is_held account state.account.maildir id) (held_in (IsNeither world.account state.account.maildir state.taken) ids id neither has).0 held)
 
     after_taking : (id : List ℕ) (after : AccountFiles) → Keeps (after_event {S = Occasion} after_session state (TakenAway id after)) → Follows world state (TakenAway id after) → CanLosePower disk files device f world (after_event {S = Occasion} after_session state (TakenAway id after))
     after_taking id after keeps taken = can_after device f next keeps
@@ -272,7 +272,7 @@ module _ (one : OneRecord) {D F : Type 0} (disk : DiskGhosts D) (files : FileGho
         next : State AccountFiles
         next = after_event {S = Occasion} after_session state (TakenAway id after)
 
-        others : (m : Message) → IsNeither world state m.uid → bytes_eq m.uid id ≡ false
+        others : (m : Message) → IsNeither world.account state.account.maildir state.taken m.uid → bytes_eq m.uid id ≡ false
         others m neither = false_from_ne_true (bytes_eq m.uid id) (λ same. both_ways (is_held account state.account.maildir m.uid) neither.0
             (subst (λ (x : List ℕ). is_held account state.account.maildir x ≡ true) (sym ((bytes_eq-Decides m.uid id).0 same)) taken.held))
 
@@ -291,7 +291,7 @@ module _ (one : OneRecord) {D F : Type 0} (disk : DiskGhosts D) (files : FileGho
         next : State AccountFiles
         next = after_event {S = Occasion} after_session state (BroughtBack id after)
 
-        others : (m : Message) → IsNeither world state m.uid → bytes_eq m.uid id ≡ false
+        others : (m : Message) → IsNeither world.account state.account.maildir state.taken m.uid → bytes_eq m.uid id ≡ false
         others m neither = false_from_ne_true (bytes_eq m.uid id) (λ same. both_ways (has_id state.taken m.uid) neither.1
             (subst (λ (x : List ℕ). has_id state.taken x ≡ true) (sym ((bytes_eq-Decides m.uid id).0 same)) brought.taken))
 

@@ -46,7 +46,7 @@ use Rattle.pop3_wire.specs.World.{Message}
 use Rattle.run_law.specs.Accounts.{copies}
 use Rattle.run_law.specs.Mails.{messages_after, selected}
 use Rattle.run_law.specs.Power.{OneMoreIsLast}
-use Rattle.fetch_runs.specs.Headline.{Occasion, IsNeither, IsRecorded, IsSession, IsKept, IsLastStored, Headline, by_rows, after_session}
+use Rattle.fetch_runs.specs.Headline.{Occasion, IsRecorded, IsSession, IsKept, IsLastStored, Headline, by_rows, after_session}
 use Rattle.fetch_runs.specs.Power.{AllButLastStay, CanLosePower, IsSessionOf, IsSure, IsSureOrTaken, SessionsAndPower, ShowsSure}
 use Rattle.fetch_runs.proofs.HeadlineLemmas.{Laws, vanished_recorded}
 use Rattle.fetch_runs.proofs.TalkCommands.{all_weaker}
@@ -54,7 +54,7 @@ use Rattle.fetch_runs.proofs.PowerEvents.{recorded_sure}
 use Rattle.fetch_runs.proofs.PowerLosses.{held_file, named_in}
 use Rattle.fetch_runs.proofs.LegalRows.{kept_legal}
 use Rattle.fetch_runs.proofs.PowerRecord.{RecordLaws, left_stands}
-use Rattle.run_law.specs.Runs.{State, IsSound, World, Fetched}
+use Rattle.run_law.specs.Runs.{State, IsSound, World, IsNeither, Fetched}
 
 -- the laws that are used
 pub record PowerLaws : Type 0 where
@@ -567,7 +567,7 @@ module _ (laws : PowerLaws) {D F : Type 0} (disk : DiskGhosts D) (files : FileGh
         | inl gone ↦ both_ways (has_id state.gone id) lastly.on_server gone
         | inr gone ↦ lastly.unrecorded (recorded_back id (vanished_recorded laws.all world state occasion sound is_kept.0 is_kept.1 is_kept.2 this_session id gone))
       ]);
-      last = all_weaker (λ (m : Message). IsNeither world state m.uid) (λ (m : Message). IsNeither world (after_session state occasion) m.uid)
+      last = all_weaker (λ (m : Message). IsNeither world.account state.account.maildir state.taken m.uid) (λ (m : Message). IsNeither world.account occasion.after.maildir state.taken m.uid)
           (messages_after id (selected world.max_size world.all)) (λ m not. (same_held m.uid ∙ not.0, not.1)) lastly.last;
     })
 

@@ -25,7 +25,7 @@ use Rattle.fetch_session.specs.declared.report.Report.{Report}
 use Rattle.run_law.specs.Mails.{listing_of, is_selected, messages_after, selected, texts_of}
 use Rattle.run_law.specs.Accounts.{AccountMail, KeepsOthers, copies, files}
 use Rattle.run_law.specs.Steps.{ids_wanted}
-use Rattle.run_law.specs.Runs.{World, IsSound, State, Kept as IsKeptIn, HoldsExactly, HoldsWhatIsLeft, past_limit}
+use Rattle.run_law.specs.Runs.{World, IsSound, State, IsHeldOrTaken, IsNeither, Kept as IsKeptIn, HoldsExactly, HoldsWhatIsLeft, past_limit}
 use Rattle.run_law.specs.Runs.{Event, Fetched, Between, Expired, Withdrawn, TakenAway, BroughtBack, Forgotten, PowerLost}
 use Rattle.run_law.specs.Runs.{after_event, after_events, world_after, world_left}
 use Rattle.run_law.specs.Sessions.{SendsOnly, Served}
@@ -110,15 +110,6 @@ pub record IsForgotten (world : World) (before after : AccountFiles) : Type 0 wh
   pub record_is : (rows : List Row) → KeepsRows before.file.content rows → ShowsNoMore after rows
   pub mail : (id : List ℕ) → is_legal_id id ≡ true → contents_of world after id ≡ contents_of world before id
 
--- it is neither held nor taken away
-abbrev pub IsNeither : World → State AccountFiles → List ℕ → Type 0
-IsNeither world state id = (is_held world.account state.account.maildir id ≡ false) × (has_id state.taken id ≡ false)
-
--- it was held, or was taken away before
-abbrev pub IsFetched : World → State AccountFiles → List ℕ → Type 0
-IsFetched world state id = (is_legal_id id ≡ true)
-    × ((is_held world.account state.account.maildir id ≡ true) ⊎ (has_id state.taken id ≡ true))
-
 -- the record's file stands for a record in which the id is delivered
 abbrev pub IsRecorded : AccountFiles → List ℕ → Type 0
 IsRecorded state id = (rows : List Row) × KeepsRows state.file.content rows × (is_delivered rows id ≡ true)
@@ -128,14 +119,14 @@ IsRecorded state id = (rows : List Row) × KeepsRows state.file.content rows × 
 pub record IsLastStored (world : World) (state : State AccountFiles) (id : List ℕ) : Type 0 where
   pub unrecorded : IsRecorded state.account id → ⊥
   pub on_server : has_id state.gone id ≡ false
-  pub last : AllByRecursion (λ (message : Message). IsNeither world state message.uid)
+  pub last : AllByRecursion (λ (message : Message). IsNeither world.account state.account.maildir state.taken message.uid)
       (messages_after id (selected world.max_size world.all))
 
 -- the record's file stands for rows of which each that is delivered was so before, or is held or was taken away
 abbrev pub ShowsWhatIsLeft : World → State AccountFiles → AccountFiles → List Row → Type 0
 ShowsWhatIsLeft world state after rows = (now : List Row) × KeepsRows after.file.content now
     × ((id : List ℕ) → is_delivered now id ≡ true
-    → (is_delivered rows id ≡ true) ⊎ IsFetched world (record state { account = after }) id)
+    → (is_delivered rows id ≡ true) ⊎ IsHeldOrTaken world.account after.maildir state.taken id)
 
 -- power is lost. For each legal id the files hold what they held; or there is none, and the message was taken away before
 -- and stored again, or is the last that was stored
@@ -152,8 +143,8 @@ after_session state occasion = record state { account = occasion.after; gone = s
 abbrev pub Follows : World → State AccountFiles → Event Occasion AccountFiles → Type 0
 Follows world state (Fetched occasion) = IsSession world state occasion
 Follows world state (Between after) = IsBetween world state.account after
-Follows world state (Expired ids) = AllByRecursion (IsFetched world state) ids
-Follows world state (Withdrawn ids) = AllByRecursion (IsNeither world state) ids
+Follows world state (Expired ids) = AllByRecursion (IsHeldOrTaken world.account state.account.maildir state.taken) ids
+Follows world state (Withdrawn ids) = AllByRecursion (IsNeither world.account state.account.maildir state.taken) ids
 Follows world state (TakenAway id after) = IsTakenAway world state.account id after
 Follows world state (BroughtBack id after) = IsBroughtBack world state id after
 Follows world state (Forgotten after) = IsForgotten world state.account after

@@ -38,7 +38,7 @@ pub between_kept : (world : World) (before : State AccountMail) (after : Account
 between_kept world before after kept same =
     forgotten_kept world before after kept (record { delivered = λ id e. ap (λ r. is_delivered r id) (sym same.rows) ∙ e; same = same.same })
 
-pub expired_kept : (world : World) (before : State AccountMail) (ids : List (List ℕ)) → Kept world before → AllByRecursion (IsHeldOrTaken world.account before) ids
+pub expired_kept : (world : World) (before : State AccountMail) (ids : List (List ℕ)) → Kept world before → AllByRecursion (IsHeldOrTaken world.account before.account.maildir before.taken) ids
     → Kept world (record before { gone = before.gone ++ ids })
 expired_kept world before ids kept all = record {
   done = kept.done;
@@ -47,7 +47,7 @@ expired_kept world before ids kept all = record {
   holds = kept.holds;
   recorded = kept.recorded;
   gone = all_append (λ id. has_id (ids_of kept.done) id ≡ true) before.gone ids kept.gone
-      (all_map (IsHeldOrTaken world.account before) (λ id. has_id (ids_of kept.done) id ≡ true)
+      (all_map (IsHeldOrTaken world.account before.account.maildir before.taken) (λ id. has_id (ids_of kept.done) id ≡ true)
       (λ id h.
       let held = held_is_done world before kept.done id (kept.holds id h.0) in
       let taken = all_ids_at (λ x. has_id (ids_of kept.done) x ≡ true) before.taken id kept.taken in
@@ -133,14 +133,14 @@ pub world_stays : (world : World) → IsSound world → (event : Event Visit Acc
 world_stays world is (Withdrawn ids) = record { account = is.account; mail = worlds_shrink world.all ids is.mail }
 world_stays world is event = is
 
-module _ (world : World) (is : IsSound world) (before : State AccountMail) (ids : List (List ℕ)) (kept : Kept world before) (all : AllByRecursion (IsNeither world.account before) ids) where
+module _ (world : World) (is : IsSound world) (before : State AccountMail) (ids : List (List ℕ)) (kept : Kept world before) (all : AllByRecursion (IsNeither world.account before.account.maildir before.taken) ids) where
   abbrev stays : Message → Bool
   stays m = not (has_id ids m.uid)
 
   -- what is done is held or was taken away, so it isn't withdrawn
   done_stays : (m : Message) → IsLegal m → has_id (ids_of kept.done) m.uid ≡ true → stays m ≡ true
   done_stays m legal done = ap not (false_from_ne_true (has_id ids m.uid) (λ withdrawn.
-      let neither = all_ids_at (IsNeither world.account before) ids m.uid all withdrawn in
+      let neither = all_ids_at (IsNeither world.account before.account.maildir before.taken) ids m.uid all withdrawn in
       elim (done_is_held world before kept.done m.uid (kept.holds m.uid legal) done) [
         | inl held ↦ both_ways (is_held world.account before.account.maildir m.uid) neither.0 held
         | inr taken ↦ both_ways (has_id before.taken m.uid) neither.1 taken

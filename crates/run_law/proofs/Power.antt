@@ -110,7 +110,7 @@ module _ (world : World) (is : IsSound world) (before : State AccountMail) (afte
     last_legal : is_legal_id last.uid ≡ true
     last_legal = all_at (λ x. is_legal_id x ≡ true) kept.done last.uid (done_legal world is kept.done kept.rest kept.prefix) last_done
 
-    last_there : IsNeither world.account before last.uid → ⊥
+    last_there : IsNeither world.account before.account.maildir before.taken last.uid → ⊥
     last_there neither = elim (done_is_held world before kept.done last.uid (kept.holds last.uid last_legal) last_done) [
       | inl held ↦ both_ways (is_held world.account before.account.maildir last.uid) neither.0 held
       | inr taken ↦ both_ways (has_id before.taken last.uid) neither.1 taken
@@ -119,8 +119,8 @@ module _ (world : World) (is : IsSound world) (before : State AccountMail) (afte
     -- an earlier one isn't the last that was stored
     not_earlier : (id : List ℕ) → IsLastStored world before id → has_id (ids_of front) id ≡ false
     not_earlier id lastly = false_from_ne_true (has_id (ids_of front) id) (λ has.
-        last_there (comes_after (λ (m : Message). IsNeither world.account before m.uid) front last kept.rest id has
-        (subst (λ l. AllByRecursion (λ (m : Message). IsNeither world.account before m.uid) (messages_after id l)) chosen lastly.last)))
+        last_there (comes_after (λ (m : Message). IsNeither world.account before.account.maildir before.taken m.uid) front last kept.rest id has
+        (subst (λ l. AllByRecursion (λ (m : Message). IsNeither world.account before.account.maildir before.taken m.uid) (messages_after id l)) chosen lastly.last)))
 
     earlier : (id : List ℕ) → bytes_eq id last.uid ≡ false → is_done id ≡ true → has_id (ids_of front) id ≡ true
     earlier id apart done = in_front front last id apart (ap (λ l. has_id (ids_of l) id) (sym are) ∙ done)

@@ -106,14 +106,14 @@ module _ (world : World) (is : IsSound world) (state : State AccountMail) (kept 
     | inr taken ↦ taken.1
   ]
 
-  neither : (m : Message) → is_legal_id m.uid ≡ true → (is_done m.uid ≡ false) × IsApart id m → IsNeither world.account now m.uid
+  neither : (m : Message) → is_legal_id m.uid ≡ true → (is_done m.uid ≡ false) × IsApart id m → IsNeither world.account now.account.maildir now.taken m.uid
   neither m l (not, apart) = (
     unheld_if world now m.uid (others m.uid l apart ∙ no_copies m.uid l not),
     among state.taken kept.taken m.uid not,
   )
 
   abbrev Neither : Message → Type 0
-  Neither m = IsNeither world.account now m.uid
+  Neither m = IsNeither world.account now.account.maildir now.taken m.uid
 
   distinct : Distinct (ids_of (kept.done ++ kept.rest))
   distinct = subst (λ (l : List Message). Distinct (ids_of l)) kept.prefix (distinct_filter _ world.all (distinct_is world.all is.mail.distinct))

@@ -5,6 +5,7 @@ use Rattle.fetch_rules.specs.Record.{is_delivered}
 use Rattle.fetch_rules.specs.Wanted.{candidates}
 use Rattle.rc_file.specs.declared.settings.Settings.{Settings}
 use Rattle.mail_store.specs.FileName.{stem_of, is_held, IsAccountText}
+use Rattle.mail_store.specs.Maildir.{Maildir}
 use Rattle.mail_terms.specs.UniqueId.{is_legal_id, has_id}
 use Rattle.pop3_wire.specs.World.{Message, IsWorld, maildrop_of}
 use Rattle.run_law.specs.Mails.{ids_of, is_selected, selected, texts_of, messages_after, without}
@@ -95,14 +96,13 @@ pub record LeavesMail (account : List ℕ) (before after : AccountMail) : Type 0
   pub rows : after.rows ≡ before.rows
   pub same : (id : List ℕ) → is_legal_id id ≡ true → copies (files after) (stem_of account id) ≡ copies (files before) (stem_of account id)
 
--- the message was held, or was taken away before
-abbrev pub IsHeldOrTaken : List ℕ → State AccountMail → List ℕ → Type 0
-IsHeldOrTaken account state id = (is_legal_id id ≡ true)
-    × ((is_held account state.account.maildir id ≡ true) ⊎ (has_id state.taken id ≡ true))
+-- the message is held in this Maildir, or is one of those that were taken away
+abbrev pub IsHeldOrTaken : List ℕ → Maildir → List (List ℕ) → List ℕ → Type 0
+IsHeldOrTaken account maildir taken id = (is_legal_id id ≡ true) × ((is_held account maildir id ≡ true) ⊎ (has_id taken id ≡ true))
 
--- the message is neither held nor taken away
-abbrev pub IsNeither : List ℕ → State AccountMail → List ℕ → Type 0
-IsNeither account state id = (is_held account state.account.maildir id ≡ false) × (has_id state.taken id ≡ false)
+-- the message is neither held there nor taken away
+abbrev pub IsNeither : List ℕ → Maildir → List (List ℕ) → List ℕ → Type 0
+IsNeither account maildir taken id = (is_held account maildir id ≡ false) × (has_id taken id ≡ false)
 
 -- the message was held and no longer is; the record has the same rows, and for each other legal id the files
 -- hold what they held
@@ -134,7 +134,7 @@ pub record Forgets (account : List ℕ) (before after : AccountMail) : Type 0 wh
 pub record IsLastStored (world : World) (before : State AccountMail) (id : List ℕ) : Type 0 where
   pub unrecorded : is_delivered before.account.rows id ≡ false
   pub on_server : has_id before.gone id ≡ false
-  pub last : AllByRecursion (λ (m : Message). IsNeither world.account before m.uid)
+  pub last : AllByRecursion (λ (m : Message). IsNeither world.account before.account.maildir before.taken m.uid)
       (messages_after id (selected world.max_size world.all))
 
 -- power is lost. For each legal id the files of its stem hold what they held; or there is none, and the message was taken
@@ -146,13 +146,13 @@ pub record LosesPower (world : World) (before : State AccountMail) (after : Acco
       ⊎ ((copies (files after) (stem_of world.account id) ≡ [])
       × ((has_id before.taken id ≡ true) ⊎ IsLastStored world before id))
   pub delivered : (id : List ℕ) → is_delivered after.rows id ≡ true
-      → (is_delivered before.account.rows id ≡ true) ⊎ IsHeldOrTaken world.account (record before { account = after }) id
+      → (is_delivered before.account.rows id ≡ true) ⊎ IsHeldOrTaken world.account after.maildir before.taken id
 
 abbrev pub Happens : World → State AccountMail → Event Visit AccountMail → Type 0
 Happens world before (Fetched visit) = Visits world before visit
 Happens world before (Between after) = LeavesMail world.account before.account after
-Happens world before (Expired ids) = AllByRecursion (IsHeldOrTaken world.account before) ids
-Happens world before (Withdrawn ids) = AllByRecursion (IsNeither world.account before) ids
+Happens world before (Expired ids) = AllByRecursion (IsHeldOrTaken world.account before.account.maildir before.taken) ids
+Happens world before (Withdrawn ids) = AllByRecursion (IsNeither world.account before.account.maildir before.taken) ids
 Happens world before (TakenAway id after) = TakesAway world.account before.account id after
 Happens world before (BroughtBack id after) = BringsBack world before id after
 Happens world before (Forgotten after) = Forgets world.account before.account after
