@@ -14,14 +14,13 @@ use Rattle.mail_store.specs.FileName.{is_held, stem_of}
 use Rattle.fetch_rules.specs.Record.{Row, is_delivered}
 use Rattle.fetch_rules.specs.RecordFile.{Two}
 use Rattle.fetch_rules.specs.RecordGrowth.{OneRecord}
-use Rattle.fetch_rules.specs.Wanted.{candidates}
 use Rattle.fetch_session.specs.Account.{digits_of}
 use Rattle.fetch_session.specs.Record.{KeepsRows}
 use Rattle.mail_terms.specs.UniqueId.{has_id, is_legal_id}
 use Rattle.run_law.specs.Mails.{item_of, listing_of, is_selected, WorldsShrink}
 use Rattle.run_law.specs.Accounts.{AccountMail, KeepsOthers, copies, files}
-use Rattle.run_law.specs.Steps.{Effect, Leaves, Stores, IsHonest, ids_wanted, merged_rows, wanted_at}
-use Rattle.run_law.specs.Runs.{IsSound, World, State, Visit, Visits, IsLastStored as LastIn, Happens, after_visit, Promises as PromisesIn, Kept as IsKeptIn, KeptStaysKept, KeptHoldsWhatIsLeft, StartsKept, LeavesOut, DeletesHeld, StoresOnlyNew as StoresNew, past_limit, NothingTakenHoldsExactly, Event, Fetched, Between, Expired, Withdrawn, TakenAway, BroughtBack, Forgotten, PowerLost, after_event, after_events, world_after, world_left}
+use Rattle.run_law.specs.Steps.{Effect, Leaves, Stores, IsHonest, merged_rows, wanted_at}
+use Rattle.run_law.specs.Runs.{IsSound, World, State, Visit, Visits, IsLastStored as LastIn, Happens, after_visit, Promises as PromisesIn, Kept as IsKeptIn, KeptStaysKept, KeptHoldsWhatIsLeft, StartsKept, LeavesOut, DeletesHeld, StoresOnlyNew as StoresNew, is_past_count, NothingTakenHoldsExactly, Event, Fetched, Between, Expired, Withdrawn, TakenAway, BroughtBack, Forgotten, PowerLost, after_event, after_events, world_after, world_left}
 use Rattle.run_law.specs.Sessions.{IsBegun, Link as LinkIn, LinksAreVisits, SendsOnly}
 use Rattle.fetch_runs.specs.Steps.{holds, IsStep, SessionIsAStep}
 use Rattle.fetch_runs.specs.Headline.{Occasion, maildrop_at, IsSession, Follows, IsLastStored, by_rows, HoldsAPrefix, IsHeldAfter, IsPastCount, LeavesOutOnlyBeyondLimits, IsForSuch, FilesStay, StoresOnlyNew, Promised, IsKept, Headline, EmptyIsKept, HeadlineFromEmpty, IsRun, contents_of, IsRecorded, HoldsExactlyAPrefix, IsWordForWord, LeaveAway, HeadlineWordForWord, StaysAway, LostRecordsAreForgotten, NewProcessesAreBetween, StopsAreRuns, after_session}
@@ -127,13 +126,13 @@ module _ (laws : Laws) (world : World) (state : State AccountFiles) (occasion : 
 
     -- an uncut session
     past_count : (message : Message) → s.effect.listing ≡ listing_of (maildrop_at world state occasion)
-        → has_id (ids_wanted (past_limit occasion.settings.max_count (candidates occasion.settings (merged_rows world.account (holds rows state.account.maildir) s.effect) s.effect.listing))) message.uid ≡ true
+        → is_past_count occasion.settings (merged_rows world.account (holds rows state.account.maildir) s.effect) s.effect.listing message.uid ≡ true
         → IsPastCount world state occasion message
     past_count message listed is_past = (rows, keeps, rw (← s.now_is, ← listed) is_past)
 
     abbrev LeftOut : Message → Type 0
     LeftOut m = (is_held world.account occasion.after.maildir m.uid ≡ true) ⊎ (has_id state.taken m.uid ≡ true) ⊎ (is_selected world.max_size m ≡ false)
-        ⊎ (has_id (ids_wanted (past_limit occasion.settings.max_count (candidates occasion.settings (merged_rows world.account (holds rows state.account.maildir) s.effect) s.effect.listing))) m.uid ≡ true)
+        ⊎ (is_past_count occasion.settings (merged_rows world.account (holds rows state.account.maildir) s.effect) s.effect.listing m.uid ≡ true)
 
     abbrev Excluded : Message → Type 0
     Excluded m = IsHeldAfter world state occasion m.uid ⊎ (is_selected world.max_size m ≡ false) ⊎ IsPastCount world state occasion m

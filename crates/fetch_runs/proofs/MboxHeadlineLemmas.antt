@@ -3,10 +3,8 @@ use Rattle.std.proofs.Common.{◌≡◌, ◌⊎◌, inl, inr, ℕ, true, false, 
 use Rattle.std.specs.List.{AllByRecursion}
 use Rattle.std.proofs.lemmas.Bool.{true≢false}
 use Rattle.pop3_wire.specs.World.{Message, IsWorld}
-use Rattle.mail_terms.specs.UniqueId.{has_id}
 use Rattle.fetch_rules.specs.Record.{Row, Intent, RecordState, is_delivered}
 use Rattle.fetch_rules.specs.RecordGrowth.{OneRecord}
-use Rattle.fetch_rules.specs.Wanted.{candidates}
 use Rattle.fetch_session.specs.Record.{Keeps}
 use Rattle.fetch_session.specs.Target.{mail_in}
 use Rattle.fetch_session.specs.declared.report.Outcome.TheVariants.{Ended}
@@ -14,9 +12,8 @@ use Rattle.run_law.specs.Mails.{listing_of, is_selected, WorldsShrink}
 use Rattle.run_law.specs.Mboxes.{MboxMail, mbox_rows}
 use Rattle.run_law.specs.MboxRuns.{MboxWorld, MboxState, MboxKept as IsKeptIn, MboxVisits, MboxEvent, Fetched, Between, Expired, Withdrawn, Rewritten, after_mbox_event, mbox_world_after, IsUnbegun, AreAllRecorded, SomeAreRecorded, MboxPromises as PromisesIn, MboxEnds, MboxHolds, MboxKeptStaysKept, MboxKeptHolds, MboxStartsKept}
 use Rattle.run_law.specs.MboxSessions.{MboxLinksAreVisits}
-use Rattle.run_law.specs.Runs.{past_limit}
+use Rattle.run_law.specs.Runs.{is_past_count}
 use Rattle.run_law.specs.Sessions.{IsBegun, Link, visit_of}
-use Rattle.run_law.specs.Steps.{ids_wanted}
 use Rattle.fetch_runs.specs.MboxSteps.{mbox_holds, IsMboxStep, MboxSessionIsAStep}
 use Rattle.fetch_runs.specs.MboxHeadline.{WritingsAreEvents, maildrop_at, IsMboxSession, after_session, Follows, by_record, HoldsEntries, IsEntered, IsPastCount, EndsWhole, MboxPromised, IsMboxKept, MboxHeadline, MboxStartIsKept, MboxHeadlineFromStart, MboxStopsAreRuns}
 use Rattle.fetch_runs.specs.Headline.{Occasion, IsForSuch}
@@ -69,13 +66,13 @@ module _ (laws : Laws) (world : MboxWorld) (state : MboxState MboxAccountFiles) 
 
   -- an uncut session
   past_count : (message : Message) → s.effect.listing ≡ listing_of (maildrop_at world state occasion)
-      → has_id (ids_wanted (past_limit occasion.settings.max_count (candidates occasion.settings (mbox_rows (mbox_holds held state.account.mbox) s.effect) s.effect.listing))) message.uid ≡ true
+      → is_past_count occasion.settings (mbox_rows (mbox_holds held state.account.mbox) s.effect) s.effect.listing message.uid ≡ true
       → IsPastCount world state occasion message
   past_count message listed is_past = (held, keeps, rw (← s.now_is, ← listed) is_past)
 
   abbrev LeftOut : Message → Type 0
   LeftOut m = (is_delivered s.record_state'.rows m.uid ≡ true) ⊎ (is_selected world.max_size m ≡ false)
-      ⊎ (has_id (ids_wanted (past_limit occasion.settings.max_count (candidates occasion.settings (mbox_rows (mbox_holds held state.account.mbox) s.effect) s.effect.listing))) m.uid ≡ true)
+      ⊎ (is_past_count occasion.settings (mbox_rows (mbox_holds held state.account.mbox) s.effect) s.effect.listing m.uid ≡ true)
 
   abbrev Excluded : Message → Type 0
   Excluded m = IsEntered world occasion.after m.uid ⊎ (is_selected world.max_size m ≡ false) ⊎ IsPastCount world state occasion m

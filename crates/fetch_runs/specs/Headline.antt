@@ -13,7 +13,6 @@ use Rattle.mail_terms.specs.UniqueId.{is_legal_id, has_id}
 use Rattle.rc_file.specs.Settings.{IsValid}
 use Rattle.rc_file.specs.declared.settings.Settings.{Settings}
 use Rattle.fetch_rules.specs.Record.{Row, is_delivered, merged}
-use Rattle.fetch_rules.specs.Wanted.{candidates}
 use Rattle.mail_store.specs.FileName.{stem_of, is_held}
 use Rattle.mail_store.specs.Held.{flags_of}
 use Rattle.mail_store.specs.Maildir.{Maildir, File, IsPart, with_files}
@@ -24,8 +23,7 @@ use Rattle.fetch_session.specs.declared.report.Outcome.TheVariants.{Ended}
 use Rattle.fetch_session.specs.declared.report.Report.{Report}
 use Rattle.run_law.specs.Mails.{listing_of, is_selected, messages_after, selected, texts_of}
 use Rattle.run_law.specs.Accounts.{AccountMail, KeepsOthers, copies, files}
-use Rattle.run_law.specs.Steps.{ids_wanted}
-use Rattle.run_law.specs.Runs.{World, IsSound, State, IsHeldOrTaken, IsNeither, Kept as IsKeptIn, HoldsExactly, HoldsWhatIsLeft, past_limit}
+use Rattle.run_law.specs.Runs.{World, IsSound, State, IsHeldOrTaken, IsNeither, Kept as IsKeptIn, HoldsExactly, HoldsWhatIsLeft, is_past_count}
 use Rattle.run_law.specs.Runs.{Event, Fetched, Between, Expired, Withdrawn, TakenAway, BroughtBack, Forgotten, PowerLost}
 use Rattle.run_law.specs.Runs.{after_event, after_events, world_after, world_left}
 use Rattle.run_law.specs.Sessions.{SendsOnly, Served}
@@ -174,10 +172,8 @@ abbrev pub IsPastCount : World → State AccountFiles → Occasion AccountFiles 
 IsPastCount world state occasion message =
     let listing = listing_of (maildrop_at world state occasion) in
     (rows : List Row) × KeepsRows state.account.file.content rows
-    × (has_id (ids_wanted (past_limit occasion.settings.max_count
-    (candidates occasion.settings
-    (merged rows listing (flags_of world.account state.account.maildir listing) occasion.now) listing)))
-    message.uid ≡ true)
+    × (is_past_count occasion.settings (merged rows listing (flags_of world.account state.account.maildir listing) occasion.now)
+    listing message.uid ≡ true)
 
 -- after an uncut session each message of the maildrop is held, or was taken away, or is larger than the
 -- limit, or is past the number that one session fetches

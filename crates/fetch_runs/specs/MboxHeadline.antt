@@ -12,7 +12,6 @@ use Rattle.mail_terms.specs.UniqueId.{has_id}
 use Rattle.rc_file.specs.Settings.{IsValid}
 use Rattle.rc_file.specs.declared.settings.Settings.{Settings}
 use Rattle.fetch_rules.specs.Record.{RecordState, is_delivered, merged}
-use Rattle.fetch_rules.specs.Wanted.{candidates}
 use Rattle.fetch_session.specs.Record.{Keeps}
 use Rattle.fetch_session.specs.Session.{MboxAccountFiles, MboxSession}
 use Rattle.fetch_session.specs.Target.{mail_in}
@@ -22,9 +21,8 @@ use Rattle.run_law.specs.Mboxes.{MboxMail, settled, none_held}
 use Rattle.run_law.specs.MboxRuns.{MboxWorld, MboxState, MboxKept as IsKeptIn, MboxHolds, HasEntry, IsUnbegun, AreAllRecorded}
 use Rattle.run_law.specs.MboxRuns.{MboxEvent, Fetched, Between, Expired, Withdrawn, Rewritten}
 use Rattle.run_law.specs.MboxRuns.{after_mbox_event, after_mbox_events, mbox_world_after, mbox_world_left}
-use Rattle.run_law.specs.Runs.{past_limit}
+use Rattle.run_law.specs.Runs.{is_past_count}
 use Rattle.run_law.specs.Sessions.{Served}
-use Rattle.run_law.specs.Steps.{ids_wanted}
 use Rattle.fetch_runs.specs.Headline.{Occasion, DeletesOnly}
 use Rattle.fetch_runs.specs.MboxSteps.{mbox_holds}
 
@@ -116,9 +114,8 @@ abbrev pub IsPastCount : MboxWorld → MboxState MboxAccountFiles → Occasion M
 IsPastCount world state occasion message =
     let listing = listing_of (maildrop_at world state occasion) in
     (record_state : RecordState) × Keeps state.account.file.content record_state
-    × (has_id (ids_wanted (past_limit occasion.settings.max_count
-    (candidates occasion.settings
-    (merged (settled listing (mbox_holds record_state state.account.mbox)).rows listing (none_held listing) occasion.now) listing)))
+    × (is_past_count occasion.settings
+    (merged (settled listing (mbox_holds record_state state.account.mbox)).rows listing (none_held listing) occasion.now) listing
     message.uid ≡ true)
 
 -- after an uncut session no intent is open and nothing of a next entry is left, and each message of the maildrop

@@ -2,14 +2,13 @@
 use Rattle.std.specs.Prelude.{◌≡◌, ◌⊎◌, ◌≤◌, ℕ, true, false, List, [], ◌∷◌, ◌++◌, map, take, length, Some, None, slice_get, bytes_eq}
 use Rattle.std.specs.List.{AllByRecursion}
 use Rattle.fetch_rules.specs.Record.{Intent, Row, is_delivered, has_row}
-use Rattle.fetch_rules.specs.Wanted.{candidates}
 use Rattle.rc_file.specs.declared.settings.Settings.{Settings}
 use Rattle.mail_store.specs.Mboxrd.{entry_of, MboxFile}
 use Rattle.mail_terms.specs.UniqueId.{has_id}
 use Rattle.pop3_wire.specs.World.{Message, IsWorld, maildrop_of}
 use Rattle.run_law.specs.Mails.{ids_of, is_selected, selected, without}
-use Rattle.run_law.specs.Steps.{IsHonest, ids_wanted}
-use Rattle.run_law.specs.Runs.{Visit, past_limit}
+use Rattle.run_law.specs.Steps.{IsHonest}
+use Rattle.run_law.specs.Runs.{Visit, is_past_count}
 use Rattle.run_law.specs.Mboxes.{MboxMail, mbox_rows, mbox_wanted, entries, intent_of, IsClosed, IsOpen, MboxLeaves, MboxStores}
 
 -- an account, and the ids that are gone from the server
@@ -127,8 +126,7 @@ pub record MboxKept (world : MboxWorld) (state : MboxState MboxMail) : Type 0 wh
 pub record MboxEnds (world : MboxWorld) (before : MboxState MboxMail) (visit : Visit MboxMail) : Type 0 where
   pub closed : visit.after.intent ≡ None
   pub leaves_out : AllByRecursion (λ (m : Message). (is_delivered visit.after.rows m.uid ≡ true) ⊎ (is_selected world.max_size m ≡ false)
-      ⊎ (has_id (ids_wanted (past_limit visit.settings.max_count
-      (candidates visit.settings (mbox_rows before.account visit.effect) visit.effect.listing))) m.uid ≡ true))
+      ⊎ (is_past_count visit.settings (mbox_rows before.account visit.effect) visit.effect.listing m.uid ≡ true))
       (mbox_shown world before visit)
 
 -- the file has the whole entry of a message with this id

@@ -1,11 +1,12 @@
 -- Sessions over one world, what happens between them, and the states that they keep.
-use Rattle.std.specs.Prelude.{◌≡◌, ◌⊎◌, ◌≤◌, ℕ, true, false, not, List, [], ◌∷◌, ◌++◌, take, drop, length, if◌then◌else◌, ◌==◌, bytes_eq}
+use Rattle.std.specs.Prelude.{◌≡◌, ◌⊎◌, ◌≤◌, ℕ, Bool, true, false, not, List, [], ◌∷◌, ◌++◌, take, drop, length, if◌then◌else◌, ◌==◌, bytes_eq}
 use Rattle.std.specs.List.{AllByRecursion, filter}
-use Rattle.fetch_rules.specs.Record.{is_delivered}
+use Rattle.fetch_rules.specs.Record.{Row, is_delivered}
 use Rattle.fetch_rules.specs.Wanted.{candidates}
 use Rattle.rc_file.specs.declared.settings.Settings.{Settings}
 use Rattle.mail_store.specs.FileName.{stem_of, is_held, IsAccountText}
 use Rattle.mail_store.specs.Maildir.{Maildir}
+use Rattle.mail_terms.specs.Listing.{Item}
 use Rattle.mail_terms.specs.UniqueId.{is_legal_id, has_id}
 use Rattle.pop3_wire.specs.World.{Message, IsWorld, maildrop_of}
 use Rattle.run_law.specs.Mails.{ids_of, is_selected, selected, texts_of, messages_after, without}
@@ -184,12 +185,15 @@ pub record Kept (world : World) (state : State AccountMail) : Type 0 where
 abbrev pub past_limit : {X : Type 0} → ℕ → List X → List X
 past_limit limit xs = if limit == 0 then [] else drop limit xs
 
+-- a message with this id could be fetched, by these rows, but comes after the first `max_count` that could
+abbrev pub is_past_count : Settings → List Row → List Item → List ℕ → Bool
+is_past_count settings rows listing id = has_id (ids_wanted (past_limit settings.max_count (candidates settings rows listing))) id
+
 -- an uncut session leaves out only what its limits exclude
 abbrev pub LeavesOut : World → State AccountMail → Visit AccountMail → Type 0
 LeavesOut world before visit = visit.effect.ended ≡ true → AllByRecursion (λ (m : Message).
     (is_held world.account visit.after.maildir m.uid ≡ true) ⊎ (has_id before.taken m.uid ≡ true) ⊎ (is_selected world.max_size m ≡ false)
-    ⊎ (has_id (ids_wanted (past_limit visit.settings.max_count
-    (candidates visit.settings (merged_rows world.account before.account visit.effect) visit.effect.listing))) m.uid ≡ true))
+    ⊎ (is_past_count visit.settings (merged_rows world.account before.account visit.effect) visit.effect.listing m.uid ≡ true))
     (shown world before visit)
 
 -- each DELE begun is for a message that is held, or was taken away
