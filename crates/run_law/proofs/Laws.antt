@@ -22,11 +22,8 @@ use Rattle.run_law.proofs.VisitKept.{visit_kept, deletes_held, keeps_others, lea
 
 -- ---- an account whose files and rows stay
 
-same_files : (before : AccountMail) (effect : Effect) (after : AccountMail) → Leaves before effect after → files after ≡ files before
-same_files before effect after h = h.same
-
 left_leaves : (account : List ℕ) (before : AccountMail) (effect : Effect) (after : AccountMail) → Leaves before effect after → LeavesMail account before after
-left_leaves account before effect after h = record { rows = h.rows; same = λ id l. ap (λ f. copies f (stem_of account id)) (same_files before effect after h) }
+left_leaves account before effect after h = record { rows = h.rows; same = λ id l. ap (λ f. copies f (stem_of account id)) h.same }
 
 left_kept : (world : World) (before : State AccountMail) (v : Visit AccountMail) → Kept world before → Leaves before.account v.effect v.after
     → AllByRecursion (λ id. has_id v.effect.begun id ≡ true) v.vanished → Kept world (after_visit before v)
@@ -39,14 +36,9 @@ left_promises : (world : World) (before : State AccountMail) (v : Visit AccountM
 left_promises world before v h = (
   (λ ended. absurd (both_ways v.effect.ended h.ended ended)),
   subst (AllByRecursion (λ id. (is_held world.account v.after.maildir id ≡ true) ⊎ (has_id before.taken id ≡ true))) (sym h.begun) tt,
-  (λ name content other. ap (λ fs. count_files fs name content) (same_files before.account v.effect v.after h)),
+  (λ name content other. ap (λ fs. count_files fs name content) h.same),
   λ only_new id l recorded. ((left_leaves world.account before.account v.effect v.after h).same id l, ap (λ r. is_delivered r id) h.rows ∙ recorded),
 )
-
--- ---- each id has one copy at most
-
-one_copy : (world : World) (state : State AccountMail) → IsSound world → (kept : Kept world state) → (id : List ℕ) → is_legal_id id ≡ true → length (copies (files state.account) (stem_of world.account id)) ≤ 1
-one_copy world state is kept id l = one_file world state kept.done id (done_distinct world is kept.done kept.rest kept.prefix) (kept.holds id l)
 
 -- ---- one event
 
@@ -91,7 +83,7 @@ holds_what_is_left world state is kept = record {
   below = let e = ap length kept.prefix in omega (arith, e, length-append kept.done kept.rest);
   contents = λ id l. subst (λ (ms : List Message). HoldsOf world state ms id) (sym (front_is kept.done kept.rest kept.prefix)) (kept.holds id l);
   ids = λ id l h. ap (λ (ms : List Message). has_id (ids_of ms) id) (front_is kept.done kept.rest kept.prefix) ∙ held_is_done world state kept.done id (kept.holds id l) h;
-  once = λ id l. one_copy world state is kept id l;
+  once = λ id l. one_file world state kept.done id (done_distinct world is kept.done kept.rest kept.prefix) (kept.holds id l);
 }
 
 pub holds_exactly : NothingTakenHoldsExactly

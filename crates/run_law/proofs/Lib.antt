@@ -1,25 +1,24 @@
 mod Below
 mod Bridge
-mod Core
+pub mod Core
 mod Ends
-mod Files
+pub mod Files
 mod Holds
 mod HonestSession
-mod Ids
+pub mod Ids
 mod Laws
 mod Linked
 mod Listed
-mod Lists
+pub mod Lists
 mod MboxHonestSession
-mod MboxKept
+pub mod MboxKept
 mod MboxOthers
-mod Next
 mod Others
 mod Power
-mod PowerCuts
+pub mod PowerCuts
 mod Records
 mod Replied
-mod Safety
+pub mod Safety
 mod Tells
 mod VisitKept
 mod Wants

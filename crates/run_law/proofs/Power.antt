@@ -1,8 +1,8 @@
 -- A loss of power leads from a kept state to a kept state: what it takes, but for what was taken away before, is the last that is done.
-use Rattle.std.proofs.Common.{◌≡◌, ◌⊎◌, inl, inr, ℕ, List, [], ◌∷◌, ◌++◌, Bool, true, false, cond, sym, refl, ◌∙◌, ap, subst, append_assoc}
+use Rattle.std.proofs.Common.{◌≡◌, ◌⊎◌, inl, inr, ℕ, List, [], ◌∷◌, ◌++◌, Bool, true, false, cond, sym, refl, ◌∙◌, ap, subst, append_assoc, arith}
 use Rattle.std.specs.Prelude.{bytes_eq}
 use Rattle.std.specs.List.{AllByRecursion}
-use Rattle.std.proofs.lemmas.Bool.{both_ways, cases_Bool, false_from_ne_true, or_cases, or_from, or_left, or_parts, or_right}
+use Rattle.std.proofs.lemmas.Bool.{both_ways, cases_Bool, false_from_ne_true, or_from, or_left, or_parts, or_right}
 use Rattle.std.proofs.lemmas.List.{append-nil}
 use Rattle.mail_terms.specs.UniqueId.{is_legal_id, has_id}
 use Rattle.pop3_wire.specs.World.{Message}
@@ -33,23 +33,13 @@ comes_after : (P : Message → Type 0) (front : List Message) (last : Message) (
 comes_after P [] last rest id has all = absurd (both_ways false refl has)
 comes_after P (m ∷ front) last rest id has all = elim (cases_Bool (bytes_eq id m.uid)) [
   | inl here ↦ (all_back P front (last ∷ rest) (subst (λ b. AllByRecursion P (cond b (front ++ last ∷ rest) (messages_after id (front ++ last ∷ rest)))) here all)).0
-  | inr apart ↦ comes_after P front last rest id (more apart (or_cases (bytes_eq id m.uid) (has_id (ids_of front) id) has))
+  | inr apart ↦ comes_after P front last rest id (grind (arith, has, apart))
       (subst (λ b. AllByRecursion P (cond b (front ++ last ∷ rest) (messages_after id (front ++ last ∷ rest)))) apart all)
 ]
-  where
-    more : bytes_eq id m.uid ≡ false → (bytes_eq id m.uid ≡ true) ⊎ (has_id (ids_of front) id ≡ true) → has_id (ids_of front) id ≡ true
-    more apart (inl same) = absurd (both_ways (bytes_eq id m.uid) apart same)
-    more apart (inr there) = there
 
 -- an id among these that isn't the last one's is among the others
 in_front : (front : List Message) (last : Message) (id : List ℕ) → bytes_eq id last.uid ≡ false → has_id (ids_of (front ++ last ∷ [])) id ≡ true → has_id (ids_of front) id ≡ true
-in_front front last id apart has = elim (or_cases (has_id (ids_of front) id) (has_id (ids_of (last ∷ [])) id) (sym (ids_both front (last ∷ []) id) ∙ has)) [
-  | inl there ↦ there
-  | inr here ↦ absurd (elim (or_cases (bytes_eq id last.uid) false here) [
-    | inl same ↦ both_ways (bytes_eq id last.uid) apart same
-    | inr never ↦ both_ways false refl never
-  ])
-]
+in_front front last id apart has = grind (arith, has, apart, ids_both front (last ∷ []) id)
 
 -- what holds of ids of which none is this one
 all_apart : (P Q : List ℕ → Type 0) (x : List ℕ) → ((id : List ℕ) → bytes_eq id x ≡ false → P id → Q id) → (ids : List (List ℕ)) → has_id ids x ≡ false
