@@ -34,6 +34,8 @@ use Rattle.fetch_session.specs.Task.{Task, deletes}
 use Rattle.fetch_session.specs.Record.{KeepsRows, Keeps}
 use Rattle.fetch_session.specs.Session.{AccountFiles, keeps_files, outcome_of, Keeping, MboxAccountFiles, keeps_entries}
 use Rattle.fetch_session.specs.Target.{AsFiles, AsEntries, mail_in, no_maildir}
+use Rattle.run_law.proofs.Lists.{all_back, all_map}
+use Rattle.run_law.proofs.Safety.{begins}
 use Rattle.fetch_runs.specs.Conversations.{tail_behind}
 use Rattle.fetch_runs.specs.Steps.{holds, SaysOnly, StopsAtList, IsStep, SessionIsAStep}
 use Rattle.fetch_runs.proofs.TalkConversation.{tail_for, Gained, talks}
@@ -43,7 +45,6 @@ use Rattle.fetch_runs.proofs.StatePlan.{IsRight, deleted_in, deleted_by}
 use Rattle.fetch_runs.proofs.StateDone.{number_found, number_of, text_found, Laws, effect_of}
 use Rattle.fetch_runs.proofs.StateCases.{is_ended, UnsavedIn}
 use Rattle.fetch_runs.proofs.StateLaw.{RefusedIn, CourseLeads, course_leads}
-use Rattle.fetch_runs.proofs.TalkCommands.{all_back, all_weaker, begins_of}
 use Rattle.fetch_runs.proofs.TalkSpeech.{Speaks}
 use Rattle.run_law.specs.Mboxes.{MboxLeaves, mbox_wanted, MboxMail, MboxStores, settled, entries}
 use Rattle.run_law.specs.MboxSessions.{AsksForNoMessage, AsksForNone, MboxSession as Stepped}
@@ -141,8 +142,8 @@ module _ (stores : CountedStores) (settings : Settings) (account : List ℕ) (no
       sends = record {
         commands = said.exchanges.0;
         asked = said.exchanges.1;
-        each = all_weaker (IsOfTask []) (IsBegun [] []) said.exchanges.0 (begun_one account before.maildir [] [] tt) said.exchanges.2;
-        next = begins_of (IsOfTask []) (IsBegun [] []) (begun_one account before.maildir [] [] tt) said.exchanges.1.part said.exchanges.3;
+        each = all_map (IsOfTask []) (IsBegun [] []) (begun_one account before.maildir [] [] tt) said.exchanges.0 said.exchanges.2;
+        next = begins (begun_one account before.maildir [] [] tt) said.exchanges.1.part said.exchanges.3;
       };
       step = inl unchanged;
     };
@@ -174,8 +175,8 @@ module _ (stores : CountedStores) (settings : Settings) (account : List ℕ) (no
       sends = record {
         commands = commands_of said.exchanges;
         asked = said.exchanges.talked.asked;
-        each = all_weaker (IsOfTask (begun_of c)) (IsBegun c.items (deleted_by c.items (begun_of c))) (commands_of said.exchanges) (begun_one account before.maildir c.items (begun_of c) left.right) said.exchanges.deletes;
-        next = begins_of (IsOfTask (begun_of c)) (IsBegun c.items (deleted_by c.items (begun_of c))) (begun_one account before.maildir c.items (begun_of c) left.right) said.exchanges.talked.asked.part said.exchanges.next;
+        each = all_map (IsOfTask (begun_of c)) (IsBegun c.items (deleted_by c.items (begun_of c))) (begun_one account before.maildir c.items (begun_of c) left.right) (commands_of said.exchanges) said.exchanges.deletes;
+        next = begins (begun_one account before.maildir c.items (begun_of c) left.right) said.exchanges.talked.asked.part said.exchanges.next;
       };
       step = inr (
         stores settings account (holds rows before.maildir) (effect_of now (is_ended result) c) (holds left.rows' after.maildir) left.figures,
@@ -215,8 +216,8 @@ no_message other is = tt
 
 asks_none : (tasks : List Task) (commands : List Command) (part : List ℕ) → tasks ≡ [] → AllByRecursion (IsOfTask tasks) commands → BeginsOne (IsOfTask tasks) part → AsksForNone commands part
 asks_none tasks commands part none all next = (
-  all_weaker (IsOfTask []) AsksForNoMessage commands no_message (subst (λ (ts : List Task). AllByRecursion (IsOfTask ts) commands) none all),
-  begins_of (IsOfTask []) AsksForNoMessage no_message part (subst (λ (ts : List Task). BeginsOne (IsOfTask ts) part) none next),
+  all_map (IsOfTask []) AsksForNoMessage no_message commands (subst (λ (ts : List Task). AllByRecursion (IsOfTask ts) commands) none all),
+  begins no_message part (subst (λ (ts : List Task). BeginsOne (IsOfTask ts) part) none next),
 )
 
 -- ---- both together
@@ -243,8 +244,8 @@ module _ (stores : MboxCountedStores) (settings : Settings) (now : ℕ) (link : 
       sends = record {
         commands = commands;
         asked = asked;
-        each = all_weaker (IsOfTask (begun_of c)) (IsBegun c.items (deleted_by c.items (begun_of c))) commands begun all;
-        next = begins_of (IsOfTask (begun_of c)) (IsBegun c.items (deleted_by c.items (begun_of c))) begun asked.part next;
+        each = all_map (IsOfTask (begun_of c)) (IsBegun c.items (deleted_by c.items (begun_of c))) begun commands all;
+        next = begins begun asked.part next;
       };
       step = inl (leaves, asks_none (begun_of c) commands asked.part none all next);
     };
@@ -274,8 +275,8 @@ module _ (stores : MboxCountedStores) (settings : Settings) (now : ℕ) (link : 
       sends = record {
         commands = commands_of said.exchanges;
         asked = said.exchanges.talked.asked;
-        each = all_weaker (IsOfTask (begun_of c)) (IsBegun c.items (deleted_by c.items (begun_of c))) (commands_of said.exchanges) begun said.exchanges.deletes;
-        next = begins_of (IsOfTask (begun_of c)) (IsBegun c.items (deleted_by c.items (begun_of c))) begun said.exchanges.talked.asked.part said.exchanges.next;
+        each = all_map (IsOfTask (begun_of c)) (IsBegun c.items (deleted_by c.items (begun_of c))) begun (commands_of said.exchanges) said.exchanges.deletes;
+        next = begins begun said.exchanges.talked.asked.part said.exchanges.next;
       };
       step = inr (
         stores settings (mbox_holds held before.mbox) (effect_of now (is_ended result) c) (mbox_holds left.record_state' after.mbox) left.figures,

@@ -22,9 +22,11 @@ use Rattle.run_law.specs.Accounts.{AccountMail, KeepsOthers, copies, files}
 use Rattle.run_law.specs.Steps.{Effect, Leaves, Stores, IsHonest, merged_rows, wanted_at}
 use Rattle.run_law.specs.Runs.{IsSound, World, State, Visit, Visits, IsLastStored as LastIn, Happens, after_visit, Promises as PromisesIn, Kept as IsKeptIn, KeptStaysKept, KeptHoldsWhatIsLeft, StartsKept, LeavesOut, DeletesHeld, StoresOnlyNew as StoresNew, is_past_count, NothingTakenHoldsExactly, Event, Fetched, Between, Expired, Withdrawn, TakenAway, BroughtBack, Forgotten, PowerLost, after_event, after_events, world_after, world_left}
 use Rattle.run_law.specs.Sessions.{IsBegun, Link as LinkIn, LinksAreVisits, SendsOnly}
+use Rattle.run_law.proofs.Ids.{all_ids_at}
+use Rattle.run_law.proofs.Lists.{all_map}
+use Rattle.run_law.proofs.Safety.{sends_weaker}
 use Rattle.fetch_runs.specs.Steps.{holds, IsStep, SessionIsAStep}
 use Rattle.fetch_runs.specs.Headline.{Occasion, maildrop_at, IsSession, Follows, IsLastStored, by_rows, HoldsAPrefix, IsHeldAfter, IsPastCount, LeavesOutOnlyBeyondLimits, IsForSuch, FilesStay, StoresOnlyNew, Promised, IsKept, Headline, EmptyIsKept, HeadlineFromEmpty, IsRun, contents_of, IsRecorded, HoldsExactlyAPrefix, IsWordForWord, LeaveAway, HeadlineWordForWord, StaysAway, LostRecordsAreForgotten, NewProcessesAreBetween, StopsAreRuns, after_session}
-use Rattle.fetch_runs.proofs.TalkCommands.{all_weaker, begins_of}
 use Rattle.fetch_session.specs.Session.{AccountFiles}
 
 -- the laws that are used
@@ -51,19 +53,12 @@ message_at [] place item e = absurd cc
 message_at (m ∷ drop) zero item e = (m, refl, same_Some (item_of m) item e)
 message_at (m ∷ drop) (suc place) item e = message_at drop place item e
 
-pub held_in : (P : List ℕ → Type 0) (ids : List (List ℕ)) (id : List ℕ) → AllByRecursion P ids → has_id ids id ≡ true → P id
-held_in P [] id all is = absurd (true≢false (sym is))
-held_in P (x ∷ ids) id all is = elim (or_cases (bytes_eq id x) (has_id ids id) is) [
-  | inl same ↦ subst P (sym ((bytes_eq-Decides id x).0 same)) all.0
-  | inr more ↦ held_in P ids id all.1 more
-]
-
 -- what holds for each id for which a DELE was begun holds for the id of the message at the DELE's number
 for_message : (P : List ℕ → Type 0) (drop : List Message) (effect : Effect) → (effect.listing ≡ listing_of drop) ⊎ ((effect.begun ≡ []) × (effect.ended ≡ false)) → AllByRecursion P effect.begun
     → (number : ℕ) → IsBegun effect.listing effect.begun (Dele number) → (0 < number) × (message : Message) × (slice_get drop (number - 1) ≡ Some message) × P message.uid
 for_message P drop effect (inl listed) all number begun =
     let at = message_at drop (number - 1) begun.0 (ap (λ (l : List Item). slice_get l (number - 1)) (sym listed) ∙ begun.1) in
-    (begun.3, at.0, at.1, subst (λ (i : Item). P i.uid) (sym at.2) (held_in P effect.begun begun.0.uid all begun.2))
+    (begun.3, at.0, at.1, subst (λ (i : Item). P i.uid) (sym at.2) (all_ids_at P effect.begun begun.0.uid all begun.2))
 for_message P drop effect (inr none) all number begun = absurd (true≢false (sym begun.2 ∙ ap (λ (ids : List (List ℕ)). has_id ids begun.0.uid) none.0))
 
 -- and so for each DELE that was sent
@@ -71,15 +66,6 @@ pub for_such : (P : List ℕ → Type 0) (drop : List Message) (effect : Effect)
     → (command : Command) → IsBegun effect.listing effect.begun command → IsForSuch drop P command
 for_such P drop effect listed all (Dele number) begun = for_message P drop effect listed all number begun
 for_such P drop effect listed all other begun = tt
-
--- what is sent may be of a wider kind
-pub sends_weaker : (Is Other : Command → Type 0) (sent : List ℕ) → ((command : Command) → Is command → Other command) → SendsOnly Is sent → SendsOnly Other sent
-sends_weaker Is Other sent weaker sends = record {
-  commands = sends.commands;
-  asked = sends.asked;
-  each = all_weaker Is Other sends.commands weaker sends.each;
-  next = begins_of Is Other weaker sends.asked.part sends.next;
-}
 
 module _ (laws : Laws) (world : World) (state : State AccountFiles) (occasion : Occasion AccountFiles) (sound : IsSound world) (rows : List Row) (keeps : KeepsRows state.account.file.content rows)
     (is_kept : IsKeptIn world (by_rows rows state)) (is : IsSession world state occasion) where
@@ -145,7 +131,7 @@ module _ (laws : Laws) (world : World) (state : State AccountFiles) (occasion : 
 
     leaves_out : LeavesOut world (by_rows rows state) (visit_of s) → LeavesOutOnlyBeyondLimits world state occasion
     leaves_out out ended = elim listing_or_nothing [
-      | inl listed ↦ all_weaker LeftOut Excluded (maildrop_at world state occasion) (excluded listed) (out (s.ended_is.1 ended))
+      | inl listed ↦ all_map LeftOut Excluded (excluded listed) (maildrop_at world state occasion) (out (s.ended_is.1 ended))
       | inr nothing ↦ absurd (true≢false (sym (s.ended_is.1 ended) ∙ nothing.1))
     ]
 
@@ -179,10 +165,10 @@ module _ (laws : Laws) (world : World) (state : State AccountFiles) (occasion : 
   -- what its QUIT removed is recorded
   pub vanished_recorded : (id : List ℕ) → has_id occasion.vanished id ≡ true → IsRecorded occasion.after id
   vanished_recorded id gone =
-      let begun = held_in (λ (x : List ℕ). has_id step.effect.begun x ≡ true) occasion.vanished id (visits step).vanished gone in
+      let begun = all_ids_at (λ (x : List ℕ). has_id step.effect.begun x ≡ true) occasion.vanished id (visits step).vanished gone in
       elim (visits step).step [
         | inl left ↦ absurd (true≢false (sym begun ∙ ap (λ (ids : List (List ℕ)). has_id ids id) left.begun))
-        | inr stored ↦ (step.rows', step.keeps, held_in (λ (x : List ℕ). is_delivered step.rows' x ≡ true) step.effect.begun id stored.0.begun begun)
+        | inr stored ↦ (step.rows', step.keeps, all_ids_at (λ (x : List ℕ). is_delivered step.rows' x ≡ true) step.effect.begun id stored.0.begun begun)
       ]
 
   pub fetched_promised : Promised world state (Fetched occasion) × IsKept world (after_session state occasion)
@@ -303,7 +289,7 @@ module _ (world : World) (state : State AccountFiles) (occasion : Occasion Accou
 
   word_for_word : Promised world state (Fetched occasion) → IsWordForWord world state occasion
   word_for_word promised = record {
-    left_out = λ ended. all_weaker IsLeftOut IsLeftOutHeld (maildrop_at world state occasion) left_out (promised.0 ended);
+    left_out = λ ended. all_map IsLeftOut IsLeftOutHeld left_out (maildrop_at world state occasion) (promised.0 ended);
     deletes = record {
       sent = promised.1.sent;
       sent_is = promised.1.sent_is;

@@ -14,11 +14,12 @@ use Rattle.run_law.specs.MboxRuns.{MboxWorld, MboxState, MboxKept as IsKeptIn, M
 use Rattle.run_law.specs.MboxSessions.{MboxLinksAreVisits}
 use Rattle.run_law.specs.Runs.{is_past_count}
 use Rattle.run_law.specs.Sessions.{IsBegun, Link, visit_of}
+use Rattle.run_law.proofs.Lists.{all_map}
+use Rattle.run_law.proofs.Safety.{sends_weaker}
 use Rattle.fetch_runs.specs.MboxSteps.{mbox_holds, IsMboxStep, MboxSessionIsAStep}
 use Rattle.fetch_runs.specs.MboxHeadline.{WritingsAreEvents, maildrop_at, IsMboxSession, after_session, Follows, by_record, HoldsEntries, IsEntered, IsPastCount, EndsWhole, MboxPromised, IsMboxKept, MboxHeadline, MboxStartIsKept, MboxHeadlineFromStart, MboxStopsAreRuns}
 use Rattle.fetch_runs.specs.Headline.{Occasion, IsForSuch}
-use Rattle.fetch_runs.proofs.HeadlineLemmas.{for_such, sends_weaker}
-use Rattle.fetch_runs.proofs.TalkCommands.{all_weaker}
+use Rattle.fetch_runs.proofs.HeadlineLemmas.{for_such}
 use Rattle.fetch_session.specs.Session.{MboxAccountFiles}
 
 -- the laws that are used
@@ -93,7 +94,7 @@ module _ (laws : Laws) (world : MboxWorld) (state : MboxState MboxAccountFiles) 
       | inr (next, behind, is_next, entry, opened) ↦ absurd (some_none _ (sym opened ∙ ends.closed))
     ];
     left_out = elim listing_or_nothing [
-      | inl listed ↦ all_weaker LeftOut Excluded (maildrop_at world state occasion) (excluded listed) ends.leaves_out
+      | inl listed ↦ all_map LeftOut Excluded (excluded listed) (maildrop_at world state occasion) ends.leaves_out
       | inr nothing ↦ absurd (true≢false (sym (s.ended_is.1 ended) ∙ nothing.1))
     ];
   }

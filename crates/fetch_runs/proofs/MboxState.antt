@@ -18,6 +18,7 @@ use Rattle.fetch_session.specs.Target.{no_maildir, AsEntries, Stores, mail_in, i
 use Rattle.run_law.specs.Steps.{Effect}
 use Rattle.run_law.specs.Mboxes.{MboxMail, settled, mbox_wanted, entries, intent_of as law_intent}
 use Rattle.run_law.specs.MboxCounted.{bytes_at, OpensAt, AllRecorded, LastUnrecorded, MboxCounted}
+use Rattle.run_law.proofs.MboxKept.{at_length}
 use Rattle.fetch_runs.proofs.Courses.{found_in, found_by, Course, course, stored_done, course_stopped, course_does, found_of, begun_of, SessionCourse, Idle, Deals, course_carried, course_carries, course_proceeded}
 use Rattle.fetch_runs.proofs.StatePlan.{key, fetched_in, fetched, IsRight}
 use Rattle.fetch_runs.proofs.StateDone.{text_found, texts_by, same_length, number_found, number_of, Laws, Inputs, rows_on, messages_on, tasks_on, rows_after, Part, effect_of, right_part, records_part, wanted_are}
@@ -68,10 +69,6 @@ texts_same items (d ∷ dones) right =
 
 -- ---- the next message
 
-get_behind : {A : Type 0} (xs : List A) (y : A) (ys : List A) → slice_get (xs ++ y ∷ ys) (length xs) ≡ Some y
-get_behind [] y ys = refl
-get_behind (x ∷ xs) y ys = get_behind xs y ys
-
 abbrev id_in : Option (ℕ × List ℕ) → List ℕ
 id_in None = []
 id_in (Some pair) = pair.1
@@ -89,7 +86,7 @@ next_wanted tasks later dones messages number uid are split answered =
     key_at messages (length (found_by dones)) (number, uid)
     (ap (λ (l : List (ℕ × List ℕ)). slice_get l (length (found_by dones))) (sym are ∙ ap fetched split ∙ flat_map-append fetched_in (tasks_of dones) (stores number uid ∷ later))
     ∙ ap (λ (n : ℕ). slice_get (fetched (tasks_of dones) ++ (number, uid) ∷ fetched later) n) (sym (same_length dones answered))
-    ∙ get_behind (fetched (tasks_of dones)) (number, uid) (fetched later))
+    ∙ at_length (fetched (tasks_of dones)) (number, uid) (fetched later))
 
 -- ---- what the law over runs takes
 
@@ -116,7 +113,7 @@ opens_at {before = before} {effect = effect} dones text message are wanted inten
   message = message;
   wanted = wanted;
   got = ap (λ (l : List (List ℕ)). slice_get l (length (found_by dones))) are
-      ∙ ap (λ (n : ℕ). slice_get (texts_by dones ++ text ∷ []) n) (sym (length-map (found_by dones) text_found)) ∙ get_behind (texts_by dones) text [];
+      ∙ ap (λ (n : ℕ). slice_get (texts_by dones ++ text ∷ []) n) (sym (length-map (found_by dones) text_found)) ∙ at_length (texts_by dones) text [];
   intent = intent ∙ ap (λ (l : List (List ℕ)). Some (law_intent ((settled effect.listing before).file ++ entries l) message.1.uid text)) (sym (front_texts effect.texts (text ∷ []) dones are));
 }
 

@@ -2,9 +2,9 @@
 use Rattle.std.proofs.Common.{◌≡◌, ◌⊎◌, inl, inr, ◌≤◌, ℕ, zero, suc, List, [], ◌∷◌, ◌++◌, map, Bool, true, false, ◌&&◌, ◌||◌, length, length-append, Option, Some, None, Result, Ok, Err, refl, sym, ap, subst, ◌∙◌, arith}
 use Rattle.std.specs.Prelude.{All, bytes_eq, Contains}
 use Rattle.std.specs.List.{AllByRecursion, list_any}
-use Rattle.std.proofs.lemmas.Bool.{both_ways, false_from_ne_true, or_cases}
+use Rattle.std.proofs.lemmas.Bool.{and_parts, both_ways, false_from_ne_true, or_cases}
 use Rattle.std.proofs.lemmas.List.{append-nil, append_cancel_left, map-append}
-use Rattle.std.proofs.lemmas.List.Elements.{filter-append, recursion_from_All}
+use Rattle.std.proofs.lemmas.List.Elements.{Contains-append_cases, Contains-append_right, recursion_from_All}
 use Rattle.std.proofs.lemmas.List.Concat.{flat_map-append}
 use Rattle.std.proofs.lemmas.List.Folds.{list_any-append}
 use Rattle.std.proofs.lemmas.Slice.Eq.{bytes_eq-Decides}
@@ -46,10 +46,13 @@ use Rattle.pop3_wire.specs.World.{Message}
 use Rattle.run_law.specs.Accounts.{copies}
 use Rattle.run_law.specs.Mails.{messages_after, selected}
 use Rattle.run_law.specs.Power.{OneMoreIsLast}
+use Rattle.run_law.proofs.Lists.{all_map}
+use Rattle.run_law.proofs.Ids.{bytes_same, bytes_self}
+use Rattle.run_law.proofs.Files.{copies-append}
 use Rattle.fetch_runs.specs.Headline.{Occasion, IsRecorded, IsSession, IsKept, IsLastStored, Headline, by_rows, after_session}
 use Rattle.fetch_runs.specs.Power.{AllButLastStay, CanLosePower, IsSessionOf, IsSure, IsSureOrTaken, SessionsAndPower, ShowsSure}
 use Rattle.fetch_runs.proofs.HeadlineLemmas.{Laws, vanished_recorded}
-use Rattle.fetch_runs.proofs.TalkCommands.{all_weaker}
+use Rattle.fetch_runs.proofs.TalkCommands.{both_none}
 use Rattle.fetch_runs.proofs.PowerEvents.{recorded_sure}
 use Rattle.fetch_runs.proofs.PowerLosses.{held_file, named_in}
 use Rattle.fetch_runs.proofs.LegalRows.{kept_legal}
@@ -79,72 +82,29 @@ named_file stems bases account uid text is =
 count_there : (fs : List File) (f : File) → Contains fs f → 1 ≤ count_named f.name fs
 count_there [] f (k, below, is) = absurd (omega (arith, below))
 count_there (x ∷ fs) f (zero, below, is) =
-    let e : bytes_eq f.name x.name ≡ true = (bytes_eq-Decides f.name x.name).1 (ap name_in (sym is)) in
-    let more : count_named f.name (x ∷ fs) ≡ suc (count_named f.name fs) = rw e refl in
-    omega (arith, more)
-count_there (x ∷ fs) f (suc k, below, is) = by (bytes_eq f.name x.name) refl (count_there fs f (k, omega (arith, below), is))
-  where
-    by : (b : Bool) → bytes_eq f.name x.name ≡ b → 1 ≤ count_named f.name fs → 1 ≤ count_named f.name (x ∷ fs)
-    by true e some = let more : count_named f.name (x ∷ fs) ≡ suc (count_named f.name fs) = rw e refl in omega (arith, more)
-    by false e some = let same : count_named f.name (x ∷ fs) ≡ count_named f.name fs = rw e refl in omega (arith, same, some)
+    let e : bytes_eq f.name x.name ≡ true = ap (bytes_eq f.name) (ap name_in is) ∙ bytes_self f.name in
+    grind (arith, e)
+count_there (x ∷ fs) f (suc k, below, is) = grind (arith, count_there fs f (k, omega (arith, below), is))
 
 -- files of one name have one stem
 count_below : (front name : List ℕ) (fs : List File) → bytes_eq front (stem name) ≡ true → count_named name fs ≤ length (copies fs front)
 count_below front name [] its = omega arith
-count_below front name (x ∷ fs) its = by (count_below front name fs its) (bytes_eq name x.name) refl (bytes_eq front (stem x.name)) refl
-  where
-    by : count_named name fs ≤ length (copies fs front) → (b : Bool) → bytes_eq name x.name ≡ b → (s : Bool) → bytes_eq front (stem x.name) ≡ s → count_named name (x ∷ fs) ≤ length (copies (x ∷ fs) front)
-    by rest true e true s =
-        let a : count_named name (x ∷ fs) ≡ suc (count_named name fs) = rw e refl in
-        let b : copies (x ∷ fs) front ≡ x.content ∷ copies fs front = rw s refl in
-        let c = ap length b in
-        omega (arith, a, c, rest)
-    by rest true e false s = absurd (both_ways (bytes_eq front (stem x.name)) s (ap (λ n. bytes_eq front (stem n)) (sym ((bytes_eq-Decides name x.name).0 e)) ∙ its))
-    by rest false e true s =
-        let a : count_named name (x ∷ fs) ≡ count_named name fs = rw e refl in
-        let b : copies (x ∷ fs) front ≡ x.content ∷ copies fs front = rw s refl in
-        let c = ap length b in
-        omega (arith, a, c, rest)
-    by rest false e false s =
-        let a : count_named name (x ∷ fs) ≡ count_named name fs = rw e refl in
-        let b : copies (x ∷ fs) front ≡ copies fs front = rw s refl in
-        let c = ap length b in
-        omega (arith, a, c, rest)
+count_below front name (x ∷ fs) its =
+    let same = λ (e : bytes_eq name x.name ≡ true). ap (λ n. bytes_eq front (stem n)) (sym (bytes_same name x.name e)) ∙ its in
+    grind (arith, same, count_below front name fs its)
 
 -- what is flagged is held
 flag_held : (account : List ℕ) (maildir : Maildir) (items : List Item) (id : List ℕ) → is_flagged items (flags_of account maildir items) id ≡ true → is_held account maildir id ≡ true
 flag_held account maildir [] id never = absurd (both_ways false refl never)
 flag_held account maildir (i ∷ items) id flagged =
-    elim (or_cases (is_held account maildir i.uid && bytes_eq i.uid id) (is_flagged items (flags_of account maildir items) id) flagged) [
-      | inl here ↦ subst (λ (x : List ℕ). is_held account maildir x ≡ true) ((bytes_eq-Decides i.uid id).0 (second (is_held account maildir i.uid) (bytes_eq i.uid id) here)) (first (is_held account maildir i.uid) (bytes_eq i.uid id) here)
-      | inr later ↦ flag_held account maildir items id later
-    ]
-  where
-    first : (a b : Bool) → (a && b) ≡ true → a ≡ true
-    first a b both = grind (arith, both)
-
-    second : (a b : Bool) → (a && b) ≡ true → b ≡ true
-    second a b both = grind (arith, both)
-
-contains_split : {A : Type 0} (xs ys : List A) (x : A) → Contains (xs ++ ys) x → Contains xs x ⊎ Contains ys x
-contains_split [] ys x there = inr there
-contains_split (y ∷ xs) ys x (zero, below, is) = inl (zero, omega arith, is)
-contains_split (y ∷ xs) ys x (suc k, below, is) = elim (contains_split xs ys x (k, omega (arith, below), is)) [
-  | inl more ↦ inl (suc more.0, omega (arith, more.1), more.2)
-  | inr more ↦ inr more
-]
+    let same = λ (e : bytes_eq i.uid id ≡ true). ap (is_held account maildir) (bytes_same i.uid id e) in
+    let later = flag_held account maildir items id in
+    grind (arith, flagged, same, later)
 
 all_there : {A : Type 0} (P : A → Type 0) (xs : List A) (x : A) → AllByRecursion P xs → Contains xs x → P x
 all_there P [] x all (k, below, is) = absurd (omega (arith, below))
 all_there P (y ∷ xs) x all (zero, below, is) = subst P is all.0
 all_there P (y ∷ xs) x all (suc k, below, is) = all_there P xs x all.1 (k, omega (arith, below), is)
-
-last_there : {A : Type 0} (xs : List A) (x : A) → Contains (xs ++ x ∷ []) x
-last_there [] x = (zero, omega arith, refl)
-last_there (y ∷ xs) x = let more = last_there xs x in (suc more.0, omega (arith, more.1), more.2)
-
-copies_both : (fs gs : List File) (front : List ℕ) → copies (fs ++ gs) front ≡ copies fs front ++ copies gs front
-copies_both fs gs front = ap (λ (l : List File). map (λ (f : File). f.content) l) (filter-append (λ (f : File). bytes_eq front (stem f.name)) fs gs) ∙ map-append (λ (f : File). f.content) _ _
 
 none_before_one : {A : Type 0} (xs : List A) (x : A) → length (xs ++ x ∷ []) ≤ 1 → xs ≡ []
 none_before_one [] x one = refl
@@ -158,14 +118,10 @@ no_more xs ys x same more =
     absurd (omega (arith, a, b, c))
 
 -- tasks that mark nothing store nothing
-none_both : {A : Type 0} (xs ys : List A) → xs ++ ys ≡ [] → (xs ≡ []) × (ys ≡ [])
-none_both [] ys none = (refl, none)
-none_both (x ∷ xs) ys none = absurd cc
-
 no_files : (account : List ℕ) (dones : List Done) → ids_ahead (tasks_of dones) ≡ [] → files_of account dones ≡ []
 no_files account [] none = refl
 no_files account (d ∷ dones) none =
-    let parts = none_both (ids_in d.task) (ids_ahead (tasks_of dones)) none in
+    let parts = both_none (ids_in d.task) (ids_ahead (tasks_of dones)) none in
     ap (λ (l : List File). l ++ files_of account dones) (by d.task parts.0) ∙ no_files account dones parts.1
   where
     by : (task : Task) → ids_in task ≡ [] → files_in account task d.replies ≡ []
@@ -204,7 +160,7 @@ module _ (laws : PowerLaws) {D F : Type 0} (disk : DiskGhosts D) (files : FileGh
     stem_is other = stem_of account other
 
     copies_more : (other : List ℕ) → copies more.files (stem_is other) ≡ copies without.files (stem_is other) ++ copies (g ∷ []) (stem_is other)
-    copies_more other = ap (λ fs. copies fs (stem_is other)) came ∙ copies_both without.files (g ∷ []) (stem_is other)
+    copies_more other = ap (λ fs. copies fs (stem_is other)) came ∙ copies-append without.files (g ∷ []) (stem_is other)
 
     its_copy : copies (g ∷ []) (stem_is id) ≡ g.content ∷ []
     its_copy = rw named refl
@@ -245,11 +201,11 @@ module _ (laws : PowerLaws) {D F : Type 0} (disk : DiskGhosts D) (files : FileGh
       → AllByRecursion (ExtraOk maildir) extra → AllButLastStay disk device world (state_with maildir)
   all_but_last maildir front extra are stays outlive goes id legal held =
       let one = held_file account id maildir.files held in
-      by one.0 one.1 one.2 (contains_split (before.maildir.files ++ front) extra one.0 (subst (λ (l : List File). Contains l one.0) are one.1))
+      by one.0 one.1 one.2 (Contains-append_cases (before.maildir.files ++ front) extra one.0 (subst (λ (l : List File). Contains l one.0) are one.1))
     where
       by : (g : File) → Contains maildir.files g → names_id account id g.name ≡ true → Contains (before.maildir.files ++ front) g ⊎ Contains extra g
           → IsSure disk device world maildir.files id ⊎ MayGo maildir id
-      by g there named (inl first) = elim (contains_split before.maildir.files front g first) [
+      by g there named (inl first) = elim (Contains-append_cases before.maildir.files front g first) [
         | inl old ↦ inl (record { one = g; there = there; named = named; sure = inl (stays g.name (named_in before.maildir.files g old)) })
         | inr new ↦ inl (record { one = g; there = there; named = named; sure = inr (all_there (disk.outlives device) front g outlive new) })
       ]
@@ -299,14 +255,11 @@ module _ (laws : PowerLaws) {D F : Type 0} (disk : DiskGhosts D) (files : FileGh
       inl (record {
         one = g;
         there = there;
-        named = subst (λ x. names_id account x g.name ≡ true) ((bytes_eq-Decides uid id).0 (second (has_row was id) (bytes_eq uid id) both)) named;
+        named = subst (λ x. names_id account x g.name ≡ true) (bytes_same uid id (and_parts (has_row was id) (bytes_eq uid id) both).1) named;
         sure = inr outlives;
       }),
     )
   ]
-    where
-      second : (a b : Bool) → (a && b) ≡ true → b ≡ true
-      second a b both = grind (arith, both)
 
   -- ---- of a session
 
@@ -370,12 +323,12 @@ module _ (laws : PowerLaws) {D F : Type 0} (disk : DiskGhosts D) (files : FileGh
         ∙ append-nil c.mid.store.maildir.files ∙ start_files c
       where
         parts : (ids_ahead (tasks_of c.does.dones) ≡ []) × (ids_ahead (c.does.next ∷ c.does.later) ≡ [])
-        parts = none_both (ids_ahead (tasks_of c.does.dones)) (ids_ahead (c.does.next ∷ c.does.later))
+        parts = both_none (ids_ahead (tasks_of c.does.dones)) (ids_ahead (c.does.next ∷ c.does.later))
             (sym (flat_map-append ids_in (tasks_of c.does.dones) (c.does.next ∷ c.does.later)) ∙ ap ids_ahead (sym c.does.split) ∙ quiet_tasks c quiet)
 
         stores_none : (number : ℕ) (uid : List ℕ) → c.does.next ≡ stores number uid → ⊥
         stores_none number uid is =
-            let none : uid ∷ [] ≡ [] = subst (λ (t : Task). ids_in t ≡ []) is (none_both (ids_in c.does.next) (ids_ahead c.does.later) parts.1).0 in
+            let none : uid ∷ [] ≡ [] = subst (λ (t : Task). ids_in t ≡ []) is (both_none (ids_in c.does.next) (ids_ahead c.does.later) parts.1).0 in
             absurd cc
 
         by : Stops (AsFiles digits) c.does.next c.does.mid cut (end_with maildir) → maildir.files ≡ c.does.mid.store.maildir.files
@@ -419,7 +372,7 @@ module _ (laws : PowerLaws) {D F : Type 0} (disk : DiskGhosts D) (files : FileGh
           → disk.outlives device g → ((rows : List Row) → KeepsRows file.content rows → Has rows) → Records
       marked_one number uid is g came named outlives within =
           shown_by maildir was (marked was uid) (subst (λ (t : Task). Leaves files f (AreLeft was (marked_all was (ids_in t)))) is lasts.0.left) within
-          (one_more maildir was uid g (subst (λ (l : List File). Contains l g) (sym came) (last_there mid.store.maildir.files g)) outlives named)
+          (one_more maildir was uid g (subst (λ (l : List File). Contains l g) (sym came) (Contains-append_right mid.store.maildir.files (g ∷ []) g (zero, omega arith, refl))) outlives named)
 
       bare : maildir.files ≡ mid.store.maildir.files → AllButLastStay disk device world (state_with maildir)
       bare same = all_but_last maildir (files_of digits c.does.dones) [] (same ∙ base ∙ sym (append-nil (before.maildir.files ++ files_of digits c.does.dones))) stay lasts.0.texts tt
@@ -567,8 +520,7 @@ module _ (laws : PowerLaws) {D F : Type 0} (disk : DiskGhosts D) (files : FileGh
         | inl gone ↦ both_ways (has_id state.gone id) lastly.on_server gone
         | inr gone ↦ lastly.unrecorded (recorded_back id (vanished_recorded laws.all world state occasion sound is_kept.0 is_kept.1 is_kept.2 this_session id gone))
       ]);
-      last = all_weaker (λ (m : Message). IsNeither world.account state.account.maildir state.taken m.uid) (λ (m : Message). IsNeither world.account occasion.after.maildir state.taken m.uid)
-          (messages_after id (selected world.max_size world.all)) (λ m not. (same_held m.uid ∙ not.0, not.1)) lastly.last;
+      last = all_map (λ (m : Message). IsNeither world.account state.account.maildir state.taken m.uid) (λ (m : Message). IsNeither world.account occasion.after.maildir state.taken m.uid) (λ m not. (same_held m.uid ∙ not.0, not.1)) (messages_after id (selected world.max_size world.all)) lastly.last;
     })
 
     as_it_was : Answered

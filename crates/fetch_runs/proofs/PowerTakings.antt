@@ -10,12 +10,11 @@ use Rattle.pop3_wire.specs.World.{Message}
 use Rattle.run_law.specs.Accounts.{copies}
 use Rattle.run_law.specs.Mails.{is_selected, messages_after, selected}
 use Rattle.fetch_session.specs.Session.{AccountFiles}
+use Rattle.run_law.proofs.Lists.{any_filter, is_some}
+use Rattle.std.proofs.lemmas.Bool.{both_ways, or_right}
 use Rattle.fetch_runs.specs.Headline.{AreTakings, IsRun, contents_of, after_session, Occasion}
 use Rattle.fetch_runs.proofs.PowerLosses.{held_file, named_in, named_some}
 use Rattle.run_law.specs.Runs.{State, World, Event, Between, TakenAway, after_events}
-
-or_second : (a b : Bool) → b ≡ true → (a || b) ≡ true
-or_second a b is = grind (arith, is)
 
 -- ---- lists
 
@@ -56,36 +55,16 @@ two_in front (x ∷ fs) f g (suc j, below, a) its (suc k, below', b) named one =
         let there : copies (x ∷ fs) front ≡ copies fs front = rw e refl in
         subst (λ (cs : List (List ℕ)). length cs ≤ 1) there one
 
-pub all_selected : (P : Message → Type 0) (limit : ℕ) (ms : List Message) → AllByRecursion P ms → AllByRecursion P (selected limit ms)
-all_selected P limit [] all = tt
-all_selected P limit (m ∷ ms) all = by (all_selected P limit ms all.1) (is_selected limit m) refl
-  where
-    by : AllByRecursion P (selected limit ms) → (b : Bool) → is_selected limit m ≡ b → AllByRecursion P (selected limit (m ∷ ms))
-    by more true e = rw e (all.0, more)
-    by more false e = rw e more
-
-pub all_after : (P : Message → Type 0) (id : List ℕ) (ms : List Message) → AllByRecursion P ms → AllByRecursion P (messages_after id ms)
-all_after P id [] all = tt
-all_after P id (m ∷ ms) all = by (all_after P id ms all.1) (bytes_eq id m.uid) refl
-  where
-    by : AllByRecursion P (messages_after id ms) → (b : Bool) → bytes_eq id m.uid ≡ b → AllByRecursion P (messages_after id (m ∷ ms))
-    by more true e = rw e all.1
-    by more false e = rw e more
-
-pub all_both : (P Q R : Message → Type 0) → ((m : Message) → P m → Q m → R m) → (ms : List Message) → AllByRecursion P ms → AllByRecursion Q ms → AllByRecursion R ms
-all_both P Q R to [] ps qs = tt
-all_both P Q R to (m ∷ ms) ps qs = (to m ps.0 qs.0, all_both P Q R to ms ps.1 qs.1)
-
 pub held_some : (account id : List ℕ) (fs : List File) → list_any (λ (f : File). names_id account id f.name) fs ≡ true → copies fs (stem_of account id) ≢ []
-held_some account id fs held =
-    let file = held_file account id fs held in
-    named_some (stem_of account id) fs file.0.name file.2 (named_in fs file.0 file.1)
+held_some account id fs held none =
+    both_ways (is_some (copies fs (stem_of account id))) (ap is_some none)
+    (sym (any_filter (λ (f : File). names_id account id f.name) (λ (f : File). f.content) fs) ∙ held)
 
 -- ---- what takings do
 
 pub stay_taken : (state : State AccountFiles) (events : List (Event Occasion AccountFiles)) (id : List ℕ) → AreTakings events → has_id state.taken id ≡ true → has_id (after_events after_session state events).taken id ≡ true
 stay_taken state [] id each taken = taken
-stay_taken state (TakenAway x after ∷ events) id each taken = stay_taken _ events id each (or_second (bytes_eq id x) (has_id state.taken id) taken)
+stay_taken state (TakenAway x after ∷ events) id each taken = stay_taken _ events id each (or_right (bytes_eq id x) (has_id state.taken id) taken)
 stay_taken state (Between after ∷ events) id each taken = stay_taken _ events id each taken
 stay_taken state (_ ∷ events) id never taken = absurd never
 

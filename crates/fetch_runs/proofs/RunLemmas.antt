@@ -8,13 +8,13 @@ use Rattle.pop3_wire.specs.World.{IsWorld}
 use Rattle.fetch_session.specs.Account.{digits_of}
 use Rattle.fetch_session.specs.declared.report.Report.{Report}
 use Rattle.fetch_session.specs.Session.{AccountFiles, MboxAccountFiles, Session}
+use Rattle.run_law.proofs.Lists.{all_append, all_back, all_front}
 use Rattle.fetch_runs.specs.declared.run.Visit.{Visit}
 use Rattle.run_law.specs.Sessions.{Fact}
 use Rattle.run_law.specs.MboxRuns.{MboxState, MboxWorld, Fetched as InMbox}
 use Rattle.fetch_runs.specs.Headline.{AreSettings, AreTakings, IsKept, Headline, TakingsAreEvents, after_session, Occasion}
 use Rattle.fetch_runs.specs.MboxHeadline.{MboxHeadline, IsMboxKept, AreSettings as AreMboxSettings, after_session as after_mbox}
 use Rattle.fetch_runs.specs.MboxRuns.{MboxRuns, AreMboxPromised}
-use Rattle.fetch_runs.proofs.TalkCommands.{all_append, all_front, all_back}
 use Rattle.fetch_runs.specs.Runs.{AreSound, RunsBy, Runs, AreServed, ArePromised, occasion_of}
 use Rattle.run_law.specs.Runs.{State, IsSound, World, Event, Fetched, Between, TakenAway, after_events, world_left}
 

@@ -12,9 +12,10 @@ use Rattle.pop3_client.specs.Turns.{IsGood, retr}
 use Rattle.fetch_session.specs.Task.{Task, stores, rereads, deletes, Done, IsAnswered, turns_in, tasks_of, files_in, files_of, lines_in, lines_of, ids_in, ids_of, ids_ahead}
 use Rattle.fetch_session.specs.Report.{is_taken, retrieved_in}
 use Rattle.run_law.specs.Steps.{file_for, is_unheld, Effect, ids_wanted}
+use Rattle.run_law.proofs.Lists.{all_append, all_front, all_map}
 use Rattle.fetch_runs.proofs.Courses.{found_in, found_by, Course, found_of, begun_of}
 use Rattle.fetch_runs.proofs.StatePlan.{key, fetched_in, fetched, IsRight, deleted_in, deleted_by, Safe, tasks_ahead, PlansFetchWanted, fetched_ahead, right_ahead, safe_ahead}
-use Rattle.fetch_runs.proofs.TalkCommands.{all_front, all_weaker, one_reply, all_append}
+use Rattle.fetch_runs.proofs.TalkCommands.{one_reply}
 use Rattle.std.specs.Prelude.{◌&&◌, ◌||◌, bytes_eq}
 use Rattle.std.proofs.lemmas.Slice.Eq.{bytes_eq-Decides}
 use Rattle.std.proofs.Math.Bool.{or-true}
@@ -228,7 +229,7 @@ marked_delivered laws rows (id ∷ ids) all = (
   still_delivered laws (marked rows id) ids id
       (laws.marks rows id id ∙ ap (λ b. is_delivered rows id || (b && bytes_eq id id)) all.0 ∙ ap (λ b. is_delivered rows id || b) ((bytes_eq-Decides id id).1 refl) ∙ or-true (is_delivered rows id)),
   marked_delivered laws (marked rows id) ids
-      (all_weaker (λ (uid : List ℕ). has_row rows uid ≡ true) (λ (uid : List ℕ). has_row (marked rows id) uid ≡ true) ids (λ other has. laws.rows rows id other ∙ has) all.1),
+      (all_map (λ (uid : List ℕ). has_row rows uid ≡ true) (λ (uid : List ℕ). has_row (marked rows id) uid ≡ true) (λ other has. laws.rows rows id other ∙ has) ids all.1),
 )
 
 pub ids_are : (dones : List Done) → ids_of dones ≡ ids_ahead (tasks_of dones)

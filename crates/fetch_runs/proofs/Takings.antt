@@ -11,6 +11,7 @@ use Rattle.mail_store.specs.FileName.{StemsDiffer, names_id, stem, stem_of}
 use Rattle.run_law.specs.Accounts.{copies}
 use Rattle.run_law.specs.Mails.{ids_of, selected}
 use Rattle.fetch_session.specs.Session.{AccountFiles, account_files}
+use Rattle.run_law.proofs.Ids.{bytes_same}
 use Rattle.fetch_runs.specs.Headline.{AreTaken, Headline, IsKept, IsTakenAway, TakingsAreEvents, after_session, Occasion}
 use Rattle.run_law.specs.Runs.{State, IsSound, World, Event, Between, TakenAway, after_event}
 
@@ -20,24 +21,15 @@ others_than front fs = filter (λ (f : File). not (bytes_eq front (stem f.name))
 -- none of them is left
 none_left : (front : List ℕ) (fs : List File) → copies (others_than front fs) front ≡ []
 none_left front [] = refl
-none_left front (f ∷ fs) = by (none_left front fs) (bytes_eq front (stem f.name)) refl
-  where
-    by : copies (others_than front fs) front ≡ [] → (b : Bool) → bytes_eq front (stem f.name) ≡ b → copies (others_than front (f ∷ fs)) front ≡ []
-    by rest true e = grind (arith, e, rest)
-    by rest false e = grind (arith, e, rest)
+none_left front (f ∷ fs) = grind (arith, none_left front fs)
 
 -- those of another stem are as they were
 others_left : (front other : List ℕ) (fs : List File) → (other ≡ front → ⊥) → copies (others_than front fs) other ≡ copies fs other
 others_left front other [] apart = refl
-others_left front other (f ∷ fs) apart = by (others_left front other fs apart) (bytes_eq front (stem f.name)) refl
-  where
-    not_other : bytes_eq front (stem f.name) ≡ true → bytes_eq other (stem f.name) ≡ false
-    not_other e = false_from_ne_true (bytes_eq other (stem f.name)) (λ same.
-        apart ((bytes_eq-Decides other (stem f.name)).0 same ∙ sym ((bytes_eq-Decides front (stem f.name)).0 e)))
-
-    by : copies (others_than front fs) other ≡ copies fs other → (b : Bool) → bytes_eq front (stem f.name) ≡ b → copies (others_than front (f ∷ fs)) other ≡ copies (f ∷ fs) other
-    by rest true e = let no = not_other e in grind (arith, e, no, rest)
-    by rest false e = grind (arith, e, rest)
+others_left front other (f ∷ fs) apart =
+    let not_other = λ (e : bytes_eq front (stem f.name) ≡ true). false_from_ne_true (bytes_eq other (stem f.name)) (λ same.
+    apart (bytes_same other (stem f.name) same ∙ sym (bytes_same front (stem f.name) e))) in
+    grind (arith, not_other, others_left front other fs apart)
 
 -- ---- what is left of an id's files
 

@@ -11,6 +11,7 @@ use Rattle.pop3_client.specs.Turns.{Turn, turn_bytes, asking, retr}
 use Rattle.pop3_client.specs.Conversation.{Talked, Talks, Broke, IsFrontOfNext, ConversationsArePaced, TurnsJoin}
 use Rattle.fetch_session.specs.Fault.{fault_of}
 use Rattle.fetch_session.specs.Tail.{tail, turns_in as tail_turns, LeftBy, Left}
+use Rattle.run_law.proofs.Lists.{all_append, all_back, all_front}
 use Rattle.fetch_runs.specs.Conversations.{SentBehind, Conversation}
 use Rattle.std.proofs.lemmas.List.Concat.{flat_map-append}
 use Rattle.pop3_wire.specs.declared.command.Command.{Command}
@@ -26,7 +27,7 @@ use Rattle.fetch_session.specs.Store.{RefusesText}
 use Rattle.fetch_session.specs.Scene.{Scene, Broken, NoFile, NoRoom, Went, Stops}
 use Rattle.fetch_session.specs.Target.{Target, AsFiles, AsEntries}
 use Rattle.fetch_runs.proofs.Courses.{Course, course, course_stopped, stored_done, spare_in, found_in, found_by, found_of, begun_of}
-use Rattle.fetch_runs.proofs.TalkCommands.{commands_in, all_append, all_front, all_back, IsPlain, commands_on, text_read, dones_read, nothing_found, turns_on}
+use Rattle.fetch_runs.proofs.TalkCommands.{commands_in, IsPlain, commands_on, text_read, dones_read, nothing_found, turns_on}
 
 pub cons_parts : {A : Type 0} (x y : A) (xs ys : List A) → x ∷ xs ≡ y ∷ ys → (x ≡ y) × (xs ≡ ys)
 cons_parts x y xs ys e = (cc, cc)

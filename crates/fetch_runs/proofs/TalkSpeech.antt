@@ -14,7 +14,8 @@ use Rattle.mail_terms.specs.declared.listing.ScanRow.{ScanRow}
 use Rattle.pop3_client.specs.Turns.{greeting, stat, IsBody, IsGood, Turn, quit, rset}
 use Rattle.run_law.specs.Readings.{IsListed, AreGood, Talked as IsTalked, Retrieves}
 use Rattle.fetch_session.specs.Opening.{opening, Opened, Enters}
-use Rattle.fetch_runs.proofs.TalkCommands.{CanBeSaid, commands_in, Commanded, commanded, both_none, begins_any, begins_one, all_append, all_front, all_back, IsCommand, IsPlain, reply_read, replies_read, said_tasks, commands_tasks, commands_split, of_tasks}
+use Rattle.run_law.proofs.Lists.{all_append, all_back, all_front}
+use Rattle.fetch_runs.proofs.TalkCommands.{CanBeSaid, commands_in, Commanded, commanded, both_none, begins_any, begins_one, IsCommand, IsPlain, reply_read, replies_read, said_tasks, commands_tasks, commands_split, of_tasks}
 use Rattle.pop3_wire.specs.declared.command.Command.{Command}
 use Rattle.pop3_wire.specs.declared.command.Command.TheVariants.{User, Pass, Stat, UidlAll, ListAll}
 use Rattle.pop3_wire.specs.Line.{ended}

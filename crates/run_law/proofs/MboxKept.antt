@@ -394,7 +394,7 @@ texts_stand adds file first (m ∷ ms) h stands =
     subst (MboxFile (file ++ (entry_of m.text ++ entries_of ms))) (append_assoc first (m.text ∷ []) (map (λ (x : Message). x.text) ms))
     (subst (λ f. MboxFile f ((first ++ m.text ∷ []) ++ map (λ (x : Message). x.text) ms)) (append_assoc file (entry_of m.text) (entries_of ms)) more)
 
-at_length : {X : Type 0} (xs : List X) (y : X) (ys : List X) → slice_get (xs ++ y ∷ ys) (length xs) ≡ Some y
+pub at_length : {X : Type 0} (xs : List X) (y : X) (ys : List X) → slice_get (xs ++ y ∷ ys) (length xs) ≡ Some y
 at_length [] y ys = refl
 at_length (x ∷ xs) y ys = at_length xs y ys
 

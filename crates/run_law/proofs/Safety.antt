@@ -78,12 +78,12 @@ only_number settings rows listing texts message text number item among same coun
 behind_one : {X : Type 0} (x y : X) (xs : List X) → IsAmong x xs → IsAmong x (y ∷ xs)
 behind_one x y xs (front, behind, is) = (y ∷ front, behind, ap (λ l. y ∷ l) is)
 
-begins : {P Q : Command → Type 0} → ((c : Command) → P c → Q c) → (part : List ℕ) → BeginsOne P part → BeginsOne Q part
+pub begins : {P Q : Command → Type 0} → ((c : Command) → P c → Q c) → (part : List ℕ) → BeginsOne P part → BeginsOne Q part
 begins f part (inl none) = inl none
 begins f part (inr (command, unsent, is, begun)) = inr (command, unsent, is, f command begun)
 
 -- what is sent may be of a wider kind
-sends_weaker : (P Q : Command → Type 0) (sent : List ℕ) → ((c : Command) → P c → Q c) → SendsOnly P sent → SendsOnly Q sent
+pub sends_weaker : (P Q : Command → Type 0) (sent : List ℕ) → ((c : Command) → P c → Q c) → SendsOnly P sent → SendsOnly Q sent
 sends_weaker P Q sent f sends = record {
   commands = sends.commands;
   asked = sends.asked;
