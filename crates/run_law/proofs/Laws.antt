@@ -15,7 +15,8 @@ use Rattle.run_law.proofs.Below.{Below}
 use Rattle.run_law.proofs.Lists.{front_is}
 use Rattle.run_law.proofs.Holds.{held_is_done, one_file}
 use Rattle.run_law.proofs.Ids.{none_vanish}
-use Rattle.run_law.proofs.Others.{between_kept, expired_kept, withdrawn_kept, taken_kept, brought_kept, forgotten_kept, world_stays, done_distinct}
+use Rattle.run_law.proofs.Core.{done_distinct}
+use Rattle.run_law.proofs.Others.{between_kept, expired_kept, withdrawn_kept, taken_kept, brought_kept, forgotten_kept, world_stays}
 use Rattle.run_law.proofs.Files.{held_done}
 use Rattle.run_law.proofs.Power.{power_kept}
 use Rattle.run_law.proofs.VisitKept.{visit_kept, deletes_held, keeps_others, leaves_out, stores_only_new}
@@ -83,7 +84,7 @@ holds_what_is_left world state is kept = record {
   below = let e = ap length kept.prefix in omega (arith, e, length-append kept.done kept.rest);
   contents = λ id l. subst (λ (ms : List Message). HoldsOf world state ms id) (sym (front_is kept.done kept.rest kept.prefix)) (kept.holds id l);
   ids = λ id l h. ap (λ (ms : List Message). has_id (ids_of ms) id) (front_is kept.done kept.rest kept.prefix) ∙ held_is_done world state kept.done id (kept.holds id l) h;
-  once = λ id l. one_file world state kept.done id (done_distinct world is kept.done kept.rest kept.prefix) (kept.holds id l);
+  once = λ id l. one_file world state kept.done id (done_distinct world.max_size world.all is.mail kept.done kept.rest kept.prefix) (kept.holds id l);
 }
 
 pub holds_exactly : NothingTakenHoldsExactly

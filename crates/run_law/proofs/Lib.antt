@@ -8,7 +8,7 @@ mod HonestSession
 pub mod Ids
 mod Laws
 mod Linked
-mod Listed
+pub mod Listed
 pub mod Lists
 mod MboxHonestSession
 pub mod MboxKept
@@ -16,7 +16,7 @@ mod MboxOthers
 mod Others
 mod Power
 pub mod PowerCuts
-mod Records
+pub mod Records
 mod Replied
 pub mod Safety
 mod Tells

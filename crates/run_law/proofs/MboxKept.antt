@@ -386,13 +386,12 @@ mbox_kept_states fronts laws filtered world start (event ∷ events) sound kept 
 
 -- ---- what a kept state holds
 
-texts_stand : EntryAddsText → (file : List ℕ) (first : List (List ℕ)) (ms : List Message) → AllByRecursion (λ (m : Message). IsWhole m.text) ms → MboxFile file first
-    → MboxFile (file ++ entries_of ms) (first ++ map (λ (m : Message). m.text) ms)
-texts_stand adds file first [] h stands = simp append-nil stands
-texts_stand adds file first (m ∷ ms) h stands =
-    let more = texts_stand adds (file ++ entry_of m.text) (first ++ m.text ∷ []) ms h.1 (adds file m.text first stands h.0) in
-    subst (MboxFile (file ++ (entry_of m.text ++ entries_of ms))) (append_assoc first (m.text ∷ []) (map (λ (x : Message). x.text) ms))
-    (subst (λ f. MboxFile f ((first ++ m.text ∷ []) ++ map (λ (x : Message). x.text) ms)) (append_assoc file (entry_of m.text) (entries_of ms)) more)
+pub texts_stand : EntryAddsText → (file : List ℕ) (first texts : List (List ℕ)) → AllByRecursion IsWhole texts → MboxFile file first → MboxFile (file ++ entries texts) (first ++ texts)
+texts_stand adds file first [] whole stands = simp append-nil stands
+texts_stand adds file first (text ∷ texts) whole stands =
+    let more = texts_stand adds (file ++ entry_of text) (first ++ text ∷ []) texts whole.1 (adds file text first stands whole.0) in
+    subst (MboxFile (file ++ (entry_of text ++ entries texts))) (append_assoc first (text ∷ []) texts)
+    (subst (λ f. MboxFile f ((first ++ text ∷ []) ++ texts)) (append_assoc file (entry_of text) (entries texts)) more)
 
 pub at_length : {X : Type 0} (xs : List X) (y : X) (ys : List X) → slice_get (xs ++ y ∷ ys) (length xs) ≡ Some y
 at_length [] y ys = refl
@@ -428,5 +427,5 @@ mbox_holds adds world state sound kept =
           subst (λ (ms : List Message). MboxFile state.account.file (first ++ map (λ (m : Message). m.text) ms)) (sym front)
           (subst (λ f. MboxFile f (first ++ map (λ (m : Message). m.text) kept.done))
           (sym (tail.1 ∙ ap (λ l. (world.start ++ entries_of kept.done) ++ l) none ∙ append-nil (world.start ++ entries_of kept.done)))
-          (texts_stand adds world.start first kept.done whole_done stands));
+          (texts_stand adds world.start first (map (λ (m : Message). m.text) kept.done) (all_mapped IsWhole (λ (m : Message). m.text) kept.done whole_done) stands));
     }

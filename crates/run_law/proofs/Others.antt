@@ -15,7 +15,7 @@ use Rattle.run_law.specs.Accounts.{AccountMail, files, copies}
 use Rattle.run_law.specs.Runs.{World, IsSound, State, Event, Visit, HoldsOf, IsHeldOrTaken, IsNeither, Kept, LeavesMail, TakesAway, BringsBack, Forgets, Withdrawn, TakenAway, BroughtBack, after_event, after_visit, world_after}
 use Rattle.run_law.proofs.Lists.{all_map, all_both, all_append, all_filter, all_front, filter_all, filter-swap, front_is, map-map}
 use Rattle.run_law.proofs.Ids.{Distinct, HasTextsOf, all_ids_at, bytes_same, distinct_filter, distinct_is, distinct_take, has_filtered, through, whole_filter, whole_take}
-use Rattle.run_law.proofs.Core.{IsLegal, members}
+use Rattle.run_law.proofs.Core.{IsLegal, done_legal, done_texts, members}
 use Rattle.run_law.proofs.Holds.{done_is_held, held_is_done}
 use Rattle.run_law.proofs.Wants.{listing_distinct}
 
@@ -73,26 +73,6 @@ taken_kept world before id after kept takes = record {
   taken = (held_is_done world before kept.done id (kept.holds id takes.legal) takes.held, kept.taken);
 }
 
--- what is done has distinct ids
-pub done_distinct : (world : World) → IsSound world → (done rest : List Message) → selected world.max_size world.all ≡ done ++ rest → Distinct (ids_of done)
-done_distinct world is done rest e =
-    subst (λ (l : List Message). Distinct (ids_of l)) (front_is done rest e)
-    (distinct_take (length done) (selected world.max_size world.all) (distinct_filter (is_selected world.max_size) world.all (distinct_is world.all is.mail.distinct)))
-
--- and legal ids
-pub done_legal : (world : World) → IsSound world → (done rest : List Message) → selected world.max_size world.all ≡ done ++ rest → AllByRecursion IsLegal done
-done_legal world is done rest e = all_front IsLegal done rest (subst (AllByRecursion IsLegal) e
-    (all_filter IsLegal (is_selected world.max_size) world.all (all_map IsMessage IsLegal (λ m h. h.legal) world.all is.mail.messages)))
-
--- an id that is done has all its texts there
-done_texts : (world : World) → IsSound world → (done rest : List Message) → selected world.max_size world.all ≡ done ++ rest → (id : List ℕ) → HasTextsOf done world.all id
-done_texts world is done rest e id =
-    let distinct = distinct_is world.all is.mail.distinct in
-    let chosen = selected world.max_size world.all in
-    through done chosen world.all id
-    (subst (λ (ms : List Message). HasTextsOf ms chosen id) (front_is done rest e) (whole_take (length done) chosen id (distinct_filter (is_selected world.max_size) world.all distinct)))
-    (whole_filter (is_selected world.max_size) world.all id distinct)
-
 pub brought_kept : (world : World) → IsSound world → (before : State AccountMail) (id : List ℕ) (after : AccountMail) → Kept world before → BringsBack world before id after
     → Kept world (after_event {S = Visit} after_visit before (BroughtBack id after))
 brought_kept world is before id after kept brings = record {
@@ -112,7 +92,7 @@ brought_kept world is before id after kept brings = record {
     Holds other = copies (files after) (stem_of world.account other) ≡ texts_of kept.done other
 
     there : Holds id
-    there = brings.text ∙ sym (done_texts world is kept.done kept.rest kept.prefix id (all_ids_at (λ x. has_id (ids_of kept.done) x ≡ true) before.taken id kept.taken brings.taken))
+    there = brings.text ∙ sym (done_texts world.max_size world.all is.mail kept.done kept.rest kept.prefix id (all_ids_at (λ x. has_id (ids_of kept.done) x ≡ true) before.taken id kept.taken brings.taken))
 
     by : (other : List ℕ) → bytes_eq other id ≡ false → copies (files after) (stem_of world.account other) ≡ copies (files before.account) (stem_of world.account other)
         → HoldsOf world before kept.done other → HoldsOf world (after_event {S = Visit} after_visit before (BroughtBack id after)) kept.done other
@@ -147,7 +127,7 @@ module _ (world : World) (is : IsSound world) (before : State AccountMail) (ids 
       ]))
 
   all_stay : AllByRecursion (λ (m : Message). stays m ≡ true) kept.done
-  all_stay = all_both IsLegal (λ (m : Message). has_id (ids_of kept.done) m.uid ≡ true) (λ (m : Message). stays m ≡ true) done_stays kept.done (done_legal world is kept.done kept.rest kept.prefix) (members kept.done)
+  all_stay = all_both IsLegal (λ (m : Message). has_id (ids_of kept.done) m.uid ≡ true) (λ (m : Message). stays m ≡ true) done_stays kept.done (done_legal world.max_size world.all is.mail kept.done kept.rest kept.prefix) (members kept.done)
 
   pub withdrawn_kept : Kept (record world { all = without ids world.all }) before
   withdrawn_kept = record {

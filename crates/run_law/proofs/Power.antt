@@ -15,7 +15,7 @@ use Rattle.run_law.specs.Runs.{World, IsSound, State, HoldsOf, IsNeither, IsLast
 use Rattle.run_law.proofs.Lists.{all_back}
 use Rattle.run_law.proofs.Ids.{all_at, all_ids_at, bytes_same, bytes_self, bytes_swap, ids_both, no_texts, texts-append}
 use Rattle.run_law.proofs.Holds.{done_is_held, held_is_done}
-use Rattle.run_law.proofs.Others.{done_legal}
+use Rattle.run_law.proofs.Core.{done_legal}
 
 -- ---- lists
 
@@ -98,7 +98,7 @@ module _ (world : World) (is : IsSound world) (before : State AccountMail) (afte
     last_done = ap (λ l. has_id (ids_of l) last.uid) are ∙ ids_both front (last ∷ []) last.uid ∙ or_right _ _ (or_left _ _ (bytes_self last.uid))
 
     last_legal : is_legal_id last.uid ≡ true
-    last_legal = all_at (λ x. is_legal_id x ≡ true) kept.done last.uid (done_legal world is kept.done kept.rest kept.prefix) last_done
+    last_legal = all_at (λ x. is_legal_id x ≡ true) kept.done last.uid (done_legal world.max_size world.all is.mail kept.done kept.rest kept.prefix) last_done
 
     last_there : IsNeither world.account before.account.maildir before.taken last.uid → ⊥
     last_there neither = elim (done_is_held world before kept.done last.uid (kept.holds last.uid last_legal) last_done) [

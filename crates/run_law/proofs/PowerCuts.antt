@@ -17,7 +17,7 @@ use Rattle.run_law.proofs.Core.{members}
 use Rattle.run_law.proofs.Holds.{done_is_held, unheld_if}
 use Rattle.run_law.proofs.Ids.{Distinct, all_ids_at, bytes_same, bytes_swap, distinct_filter, distinct_is, ids_both, no_texts, other_id}
 use Rattle.run_law.proofs.Lists.{all_back, all_both, all_map}
-use Rattle.run_law.proofs.Others.{done_legal}
+use Rattle.run_law.proofs.Core.{done_legal}
 
 -- ---- lists
 
@@ -108,7 +108,7 @@ module _ (world : World) (is : IsSound world) (state : State AccountMail) (kept 
   later : AllByRecursion Neither (messages_after id kept.rest)
   later = all_both (λ (m : Message). is_legal_id m.uid ≡ true) (λ (m : Message). (is_done m.uid ≡ false) × IsApart id m) Neither neither (messages_after id kept.rest)
       (all_after (λ (m : Message). is_legal_id m.uid ≡ true) id kept.rest
-      (all_back (λ (m : Message). is_legal_id m.uid ≡ true) kept.done kept.rest (done_legal world is (kept.done ++ kept.rest) [] (kept.prefix ∙ sym (append-nil (kept.done ++ kept.rest))))))
+      (all_back (λ (m : Message). is_legal_id m.uid ≡ true) kept.done kept.rest (done_legal world.max_size world.all is.mail (kept.done ++ kept.rest) [] (kept.prefix ∙ sym (append-nil (kept.done ++ kept.rest))))))
       (all_both (λ (m : Message). is_done m.uid ≡ false) (IsApart id) (λ (m : Message). (is_done m.uid ≡ false) × IsApart id m) (λ m not apart. (not, apart)) (messages_after id kept.rest)
       (all_after (λ (m : Message). is_done m.uid ≡ false) id kept.rest
       (all_map (λ (m : Message). has_id (ids_of kept.rest) m.uid ≡ true) (λ (m : Message). is_done m.uid ≡ false) (none_before kept.done kept.rest distinct) kept.rest (members kept.rest)))
