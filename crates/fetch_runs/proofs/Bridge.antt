@@ -57,6 +57,7 @@ use Rattle.mail_terms.specs.Text.{IsWhole}
 use Rattle.mail_store.specs.Mboxrd.{MboxFile, EntryAddsText, entry_of}
 use Rattle.run_law.specs.Readings.{Retrieves}
 use Rattle.fetch_runs.specs.MboxTexts.{AddsTexts}
+use Rattle.run_law.proofs.MboxKept.{texts_stand}
 
 -- ---- deletions
 
@@ -311,15 +312,6 @@ retrieved_whole (Retr number ∷ commands) (reply ∷ replies) found (text, more
     subst (λ (f : List (ℕ × List ℕ)). AllByRecursion IsWhole (map text_found f)) (sym is)
     (subst IsWhole (sym body.read) (lines_whole body.lines), retrieved_whole commands replies more later)
 retrieved_whole (other ∷ commands) (reply ∷ replies) found later = retrieved_whole commands replies found later
-
--- ---- entries after a file that stands for texts
-
-texts_stand : EntryAddsText → (file : List ℕ) (first texts : List (List ℕ)) → AllByRecursion IsWhole texts → MboxFile file first → MboxFile (file ++ entries texts) (first ++ texts)
-texts_stand adds file first [] whole stands = subst (MboxFile (file ++ [])) (sym (append-nil first)) (subst (λ (f : List ℕ). MboxFile f first) (sym (append-nil file)) stands)
-texts_stand adds file first (text ∷ texts) whole stands =
-    subst (MboxFile (file ++ (entry_of text ++ entries texts))) (append_assoc first (text ∷ []) texts)
-    (subst (λ (f : List ℕ). MboxFile f ((first ++ text ∷ []) ++ texts)) (append_assoc file (entry_of text) (entries texts))
-    (texts_stand adds (file ++ entry_of text) (first ++ text ∷ []) texts whole.1 (adds file text first stands whole.0)))
 
 -- ---- all that was wanted
 

@@ -1,5 +1,5 @@
 -- What a session that was cut after some whole replies sent and got comes from an honest server, if all that the whole session did.
-use Rattle.std.proofs.Common.{◌≡◌, inl, inr, ℕ, List, [], ◌∷◌, ◌++◌, Bool, true, length, refl, sym, ap, subst, ◌∙◌, append_assoc, None, Option, Some, suc}
+use Rattle.std.proofs.Common.{◌≡◌, inl, inr, ℕ, List, [], ◌∷◌, ◌++◌, Bool, true, length, refl, sym, ap, subst, ◌∙◌, append_assoc, None, Option, Some, suc, rules}
 use Rattle.std.specs.List.{AllByRecursion, AllZip, flat_map}
 use Rattle.std.proofs.lemmas.List.{append-nil, append_cancel_left}
 use Rattle.std.proofs.lemmas.List.Concat.{flat_map-append}
@@ -24,8 +24,7 @@ use Rattle.fetch_runs.proofs.TalkSpeech.{no_body, said_opening}
 pub zip_both : {A B : Type 0} (R : A → B → Type 0) (xs : List A) (ys : List B) (us : List A) (vs : List B) → AllZip R xs ys → AllZip R us vs → AllZip R (xs ++ us) (ys ++ vs)
 zip_both R [] [] us vs h k = k
 zip_both R (x ∷ xs) (y ∷ ys) us vs h k = (h.0, zip_both R xs ys us vs h.1 k)
-zip_both R [] (y ∷ ys) us vs h k = absurd h
-zip_both R (x ∷ xs) [] us vs h k = absurd h
+zip_both R xs ys us vs h k = search rules
 
 no_line : IsLine []
 no_line [] rest e = cc
@@ -47,9 +46,7 @@ asked_in ts us sent can will is = record {
 same_length : (turns : List Turn) (replies : List WholeReply) → AllByRecursion IsCommand turns → AllZip IsGood turns replies → length (commands_in turns) ≡ length replies
 same_length [] [] all good = refl
 same_length (Some command ∷ turns) (reply ∷ replies) all good = ap (λ (n : ℕ). suc n) (same_length turns replies all.1 good.1)
-same_length (Some command ∷ turns) [] all good = absurd good
-same_length [] (reply ∷ replies) all good = absurd good
-same_length (None ∷ turns) replies all good = absurd all.0
+same_length turns replies all good = search rules
 
 -- what is granted is replied
 replied_first : (drop : List Message) (marks : List Bool) (commands more : List Command) (replies : List WholeReply) → length commands ≡ length replies → AreGranted drop marks (commands ++ more) replies

@@ -99,11 +99,6 @@ module _ (laws : Laws) (world : World) (state : State AccountFiles) (occasion : 
         (all.0, all.1.0.0, all.1.0.1, all.1.0.2, all.1.0.3)
 
     -- the listing was the maildrop's, or nothing was begun and the session was cut
-    abbrev AreStored : Type 0
-    AreStored = Leaves (holds rows state.account.maildir) s.effect (holds s.rows' occasion.after.maildir)
-        ⊎ (Stores occasion.settings world.account (holds rows state.account.maildir) s.effect (holds s.rows' occasion.after.maildir)
-        × IsHonest (wanted_at occasion.settings world.account (holds rows state.account.maildir) s.effect) (maildrop_at world state occasion) s.effect)
-
     listing_or_nothing : (s.effect.listing ≡ listing_of (maildrop_at world state occasion)) ⊎ ((s.effect.begun ≡ []) × (s.effect.ended ≡ false))
     listing_or_nothing = elim visits.step [
       | inl left ↦ inr (left.begun, left.ended)
@@ -135,10 +130,6 @@ module _ (laws : Laws) (world : World) (state : State AccountFiles) (occasion : 
       | inr nothing ↦ absurd (true≢false (sym (s.ended_is.1 ended) ∙ nothing.1))
     ]
 
-    files_stay : AreStored → FilesStay state.account.maildir occasion.after.maildir
-    files_stay (inl left) = record { gained = []; came = left.same ∙ sym (append-nil state.account.maildir.files) }
-    files_stay (inr (stores, honest)) = record { gained = _; came = stores.came }
-
     stores_only_new : StoresNew world (by_rows rows state) (visit_of s) → StoresOnlyNew world state occasion
     stores_only_new new only_new id legal recorded =
         let same : rows ≡ recorded.0 = (laws.one state.account.file.content rows recorded.0 keeps.0 recorded.1.0 keeps.1 recorded.1.1).0 in
@@ -156,7 +147,10 @@ module _ (laws : Laws) (world : World) (state : State AccountFiles) (occasion : 
               (for_such (IsHeldAfter world state occasion) (maildrop_at world state occasion) s.effect listing_or_nothing all.2) s.stepped.sends;
         },
         all.3,
-        files_stay visits.step,
+        elim visits.step [
+          | inl left ↦ record { gained = []; came = left.same ∙ sym (append-nil state.account.maildir.files) }
+          | inr stored ↦ record { gained = _; came = stored.0.came }
+        ],
         stores_only_new all.4,
       ),
       (s.rows', s.keeps, all.0),

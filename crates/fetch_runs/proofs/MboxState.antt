@@ -396,9 +396,6 @@ same_closed : (intent : Option Intent) (items : List Item) (bytes : List ℕ) �
 same_closed None items bytes = refl
 same_closed (Some intent) items bytes = refl
 
-held_same : (a b : RecordState) → a.rows ≡ b.rows → a.intent ≡ b.intent → a ≡ b
-held_same a b rows intent = ap (λ (r : List Row). held_with r a.intent) rows ∙ ap (λ (i : Option Intent). held_with b.rows i) intent
-
 -- a cause leaves the mboxrd file as it was, or settled
 settled_by : (items : List Item) (fault : Fault) (mbox file mbox' file' : Stored) → MboxUnready items fault mbox file mbox' file' → IsSettledBy items file mbox mbox'
 settled_by items (BadSeen line) mbox file mbox' file' is = inl (ap (λ (s : Stored). s.content) is.1)
@@ -421,7 +418,7 @@ module _ (laws : Laws) (settings : Settings) (items : List Item) (now : ℕ) (pl
   was_held : (was : RecordState) → Keeps file.content was → was ≡ held
   was_held was stood =
       let one = laws.one file.content was.rows held.rows was.intent held.intent stood keeps in
-      held_same was held one.0 one.1
+      λ t. record { rows = one.0 t; intent = one.1 t }
 
   closed_is : (was : RecordState) (bytes : List ℕ) → Keeps file.content was → store.mbox.content ≡ Some bytes → closed_file was.intent items bytes ≡ bytes_settled items held store.mbox
   closed_is was bytes stood is =

@@ -133,13 +133,9 @@ quiet_ids [] items held quiet = refl
 quiet_ids (s ∷ ss) [] held quiet = refl
 quiet_ids (s ∷ ss) (i ∷ is) [] quiet = refl
 quiet_ids (s ∷ ss) (i ∷ is) (h ∷ hs) quiet =
+    let none : ids_ahead (fetching s.retrieve h s.number i.uid i.size ++ deleting s.delete s.number) ≡ [] = grind (arith, quiet.0.0, quiet.0.1) in
     flat_map-append ids_in (fetching s.retrieve h s.number i.uid i.size ++ deleting s.delete s.number) (tasks_planned ss is hs)
-    ∙ ap (λ (l : List (List ℕ)). l ++ ids_ahead (tasks_planned ss is hs)) (by s.retrieve s.delete quiet.0.0 quiet.0.1) ∙ quiet_ids ss is hs quiet.1
-  where
-    by : (retrieve delete : Bool) → retrieve ≡ false → delete ≡ false → ids_ahead (fetching retrieve h s.number i.uid i.size ++ deleting delete s.number) ≡ []
-    by true delete fetches deletes = absurd (cc fetches)
-    by false true fetches deletes = absurd (cc deletes)
-    by false false fetches deletes = refl
+    ∙ ap (λ (l : List (List ℕ)). l ++ ids_ahead (tasks_planned ss is hs)) none ∙ quiet_ids ss is hs quiet.1
 
 module _ (laws : PowerLaws) {D F : Type 0} (disk : DiskGhosts D) (files : FileGhosts F) (world : World) (sound : IsSound world) (before : AccountFiles) (gone taken : List (List ℕ))
     (file : Stored) (device : D) (f : F) (file_is : file ≡ files.stored f) (none_left : file.content ≡ None → (left : Option (List ℕ)) → files.may_leave f left → left ≡ None) where

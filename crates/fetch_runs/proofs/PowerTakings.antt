@@ -31,29 +31,21 @@ short : (c : List ℕ) (cs : List (List ℕ)) → length (c ∷ cs) ≤ 1 → cs
 short c [] one = refl
 short c (d ∷ cs) one = absurd (omega (arith, one))
 
+-- only this file has the stem
+alone : (front : List ℕ) (x : File) (fs : List File) (g : File) → bytes_eq front (stem x.name) ≡ true → length (copies (x ∷ fs) front) ≤ 1 → Contains fs g
+    → bytes_eq front (stem g.name) ≡ true → ⊥
+alone front x fs g its one there named = named_some front fs g.name named (named_in fs g there) (short x.content (copies fs front) (rw its at one))
+
 -- two files of a stem that only one has are the same
 pub two_in : (front : List ℕ) (fs : List File) (f g : File) → Contains fs f → bytes_eq front (stem f.name) ≡ true → Contains fs g → bytes_eq front (stem g.name) ≡ true → length (copies fs front) ≤ 1 → f ≡ g
 two_in front [] f g (k, below, is) its there named one = absurd (omega (arith, below))
 two_in front (x ∷ fs) f g (zero, below, a) its (zero, below', b) named one = sym a ∙ b
 two_in front (x ∷ fs) f g (zero, below, a) its (suc k, below', b) named one =
-    let e : bytes_eq front (stem x.name) ≡ true = ap (λ (h : File). bytes_eq front (stem h.name)) a ∙ its in
-    let there : copies (x ∷ fs) front ≡ x.content ∷ copies fs front = rw e refl in
-    absurd (named_some front fs g.name named (named_in fs g (k, omega (arith, below'), b)) (short x.content (copies fs front) (subst (λ (cs : List (List ℕ)). length cs ≤ 1) there one)))
+    absurd (alone front x fs g (ap (λ (h : File). bytes_eq front (stem h.name)) a ∙ its) one (k, omega (arith, below'), b) named)
 two_in front (x ∷ fs) f g (suc j, below, a) its (zero, below', b) named one =
-    let e : bytes_eq front (stem x.name) ≡ true = ap (λ (h : File). bytes_eq front (stem h.name)) b ∙ named in
-    let there : copies (x ∷ fs) front ≡ x.content ∷ copies fs front = rw e refl in
-    absurd (named_some front fs f.name its (named_in fs f (j, omega (arith, below), a)) (short x.content (copies fs front) (subst (λ (cs : List (List ℕ)). length cs ≤ 1) there one)))
+    absurd (alone front x fs f (ap (λ (h : File). bytes_eq front (stem h.name)) b ∙ named) one (j, omega (arith, below), a) its)
 two_in front (x ∷ fs) f g (suc j, below, a) its (suc k, below', b) named one =
-    two_in front fs f g (j, omega (arith, below), a) its (k, omega (arith, below'), b) named (by (bytes_eq front (stem x.name)) refl)
-  where
-    by : (b : Bool) → bytes_eq front (stem x.name) ≡ b → length (copies fs front) ≤ 1
-    by true e =
-        let there : copies (x ∷ fs) front ≡ x.content ∷ copies fs front = rw e refl in
-        let long = ap length there in
-        omega (arith, one, long)
-    by false e =
-        let there : copies (x ∷ fs) front ≡ copies fs front = rw e refl in
-        subst (λ (cs : List (List ℕ)). length cs ≤ 1) there one
+    two_in front fs f g (j, omega (arith, below), a) its (k, omega (arith, below'), b) named (grind (arith, one))
 
 pub held_some : (account id : List ℕ) (fs : List File) → list_any (λ (f : File). names_id account id f.name) fs ≡ true → copies fs (stem_of account id) ≢ []
 held_some account id fs held none =

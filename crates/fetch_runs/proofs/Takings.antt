@@ -14,6 +14,7 @@ use Rattle.fetch_session.specs.Session.{AccountFiles, account_files}
 use Rattle.run_law.proofs.Ids.{bytes_same}
 use Rattle.fetch_runs.specs.Headline.{AreTaken, Headline, IsKept, IsTakenAway, TakingsAreEvents, after_session, Occasion}
 use Rattle.run_law.specs.Runs.{State, IsSound, World, Event, Between, TakenAway, after_event}
+use Rattle.run_law.proofs.Lists.{any_filter, is_some}
 
 abbrev others_than : List ℕ → List File → List File
 others_than front fs = filter (λ (f : File). not (bytes_eq front (stem f.name))) fs
@@ -55,13 +56,12 @@ part_copies front (f ∷ fs) left (inr (rest, e, is)) =
 
 -- an id with files is held
 pub some_held : (account id : List ℕ) (fs : List File) → copies fs (stem_of account id) ≢ [] → list_any (λ (f : File). names_id account id f.name) fs ≡ true
-some_held account id [] some = absurd (some refl)
-some_held account id (f ∷ fs) some = by (some_held account id fs) (bytes_eq (stem_of account id) (stem f.name)) refl
+some_held account id fs some =
+    any_filter (λ (f : File). names_id account id f.name) (λ (f : File). f.content) fs ∙ there (copies fs (stem_of account id)) some
   where
-    by : (copies fs (stem_of account id) ≢ [] → list_any (λ (f : File). names_id account id f.name) fs ≡ true) → (b : Bool) → bytes_eq (stem_of account id) (stem f.name) ≡ b
-        → list_any (λ (f : File). names_id account id f.name) (f ∷ fs) ≡ true
-    by more true e = rw e refl
-    by more false e = rw e (more (λ none. some (rw e none)))
+    there : (cs : List (List ℕ)) → cs ≢ [] → is_some cs ≡ true
+    there [] none = absurd (none refl)
+    there (c ∷ cs) some = refl
 
 pub less_than_one : {A : Type 0} (xs ys : List A) → length xs < length ys → length ys ≤ 1 → (xs ≡ []) × (ys ≢ [])
 less_than_one [] ys less one = (refl, λ none. let e = ap length none in absurd (omega (arith, less, e)))

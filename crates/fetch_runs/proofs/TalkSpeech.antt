@@ -36,6 +36,7 @@ use Rattle.fetch_runs.proofs.TalkCourses.{conversation, Took, fronted, goes_tail
 use Rattle.fetch_rules.specs.declared.steps.Step.{Step}
 use Rattle.run_law.specs.Plans.{plan_commands, IsTail as IsTailOf, IsFrontOfPlan}
 use Rattle.pop3_client.specs.Conversation.{ConversationsArePaced, Stopped, Talks, TurnsJoin}
+use Rattle.run_law.proofs.Listed.{rest_same}
 
 -- ---- The opening of a session, as the law over runs reads it.
 
@@ -66,9 +67,6 @@ pub said_opening : (name word : List ℕ) → is_credential name ≡ true → is
 said_opening name word n w = (tt, ((n, tt), ((w, tt), ((refl, tt), ((refl, tt), ((refl, tt), tt))))))
 
 -- ---- how many messages are listed
-
-rest_same : (line rest other : List ℕ) → IsFirstLine line Positive rest → IsFirstLine line Positive other → rest ≡ other
-rest_same line rest other p q = p.2 ∙ ap without_space (append_cancel_left (indicator Positive) p.0 q.0 (sym p.1 ∙ q.1)) ∙ sym q.2
 
 pub few_items : (counted : WholeReply) (count : ℕ) (uids : List UidRow) (sizes : List ScanRow) (items : List Item) → IsGood stat counted → GivesCount counted count → Joins count uids sizes items
     → length items ≤ 100000
