@@ -127,7 +127,7 @@ pub served_front : HonestIsGranted → (drop : List Message) (vanished : List (L
     → (sent got : List ℕ) → cut.sent ≡ link.sent ++ sent → cut.got ≡ link.got ++ got → Served drop sent got []
 served_front law drop vanished link link' cut name word named worded first opened ts us rs commands can will good rest all_sent all_got served cut_sent cut_got sent got sent_is got_is =
     let whole = served (asking (opening name word) ++ (asking ts ++ asking us)) (flat_map reply_bytes first ++ (flat_map reply_bytes rs ++ rest))
-    (all_sent ∙ nested link.sent (asking (opening name word)) (asking ts) (asking us)) (all_got ∙ nested link.got (flat_map reply_bytes first) (flat_map reply_bytes rs) rest) in
+    (all_sent ∙ simp append_assoc) (all_got ∙ simp append_assoc) in
     let front = honest_front law drop whole.marks name word named worded first opened ts us rs commands can will good rest whole.honest in
     let said : asking (opening name word) ++ asking ts ≡ sent = append_cancel_left link.sent (asking (opening name word) ++ asking ts) sent
     (sym (append_assoc link.sent (asking (opening name word)) (asking ts)) ∙ sym cut_sent ∙ sent_is) in
@@ -139,6 +139,3 @@ served_front law drop vanished link link' cut name word named worded first opene
       quits = inl refl;
       marked = tt;
     }
-  where
-    nested : (a b c d : List ℕ) → ((a ++ b) ++ c) ++ d ≡ a ++ (b ++ (c ++ d))
-    nested a b c d = append_assoc (a ++ b) c d ∙ append_assoc a b (c ++ d)

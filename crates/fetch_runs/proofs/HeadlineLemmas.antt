@@ -53,18 +53,13 @@ message_at [] place item e = absurd cc
 message_at (m ∷ drop) zero item e = (m, refl, same_Some (item_of m) item e)
 message_at (m ∷ drop) (suc place) item e = message_at drop place item e
 
--- what holds for each id for which a DELE was begun holds for the id of the message at the DELE's number
-for_message : (P : List ℕ → Type 0) (drop : List Message) (effect : Effect) → (effect.listing ≡ listing_of drop) ⊎ ((effect.begun ≡ []) × (effect.ended ≡ false)) → AllByRecursion P effect.begun
-    → (number : ℕ) → IsBegun effect.listing effect.begun (Dele number) → (0 < number) × (message : Message) × (slice_get drop (number - 1) ≡ Some message) × P message.uid
-for_message P drop effect (inl listed) all number begun =
-    let at = message_at drop (number - 1) begun.0 (ap (λ (l : List Item). slice_get l (number - 1)) (sym listed) ∙ begun.1) in
-    (begun.3, at.0, at.1, subst (λ (i : Item). P i.uid) (sym at.2) (all_ids_at P effect.begun begun.0.uid all begun.2))
-for_message P drop effect (inr none) all number begun = absurd (true≢false (sym begun.2 ∙ ap (λ (ids : List (List ℕ)). has_id ids begun.0.uid) none.0))
-
--- and so for each DELE that was sent
+-- what holds for each id for which a DELE was begun holds for the id of the message at the number of each DELE that was sent
 pub for_such : (P : List ℕ → Type 0) (drop : List Message) (effect : Effect) → (effect.listing ≡ listing_of drop) ⊎ ((effect.begun ≡ []) × (effect.ended ≡ false)) → AllByRecursion P effect.begun
     → (command : Command) → IsBegun effect.listing effect.begun command → IsForSuch drop P command
-for_such P drop effect listed all (Dele number) begun = for_message P drop effect listed all number begun
+for_such P drop effect (inl listed) all (Dele number) begun =
+    let at = message_at drop (number - 1) begun.0 (ap (λ (l : List Item). slice_get l (number - 1)) (sym listed) ∙ begun.1) in
+    (begun.3, at.0, at.1, subst (λ (i : Item). P i.uid) (sym at.2) (all_ids_at P effect.begun begun.0.uid all begun.2))
+for_such P drop effect (inr none) all (Dele number) begun = absurd (true≢false (sym begun.2 ∙ ap (λ (ids : List (List ℕ)). has_id ids begun.0.uid) none.0))
 for_such P drop effect listed all other begun = tt
 
 module _ (laws : Laws) (world : World) (state : State AccountFiles) (occasion : Occasion AccountFiles) (sound : IsSound world) (rows : List Row) (keeps : KeepsRows state.account.file.content rows)

@@ -2,7 +2,7 @@
 use Rattle.std.proofs.Common.{◌≡◌, ◌≢◌, ◌⊎◌, inl, inr, ◌<◌, ◌≤◌, ℕ, List, [], ◌∷◌, Bool, true, false, not, length, take, refl, sym, ap, subst, ◌∙◌, arith}
 use Rattle.std.specs.Prelude.{bytes_eq}
 use Rattle.std.specs.List.{filter, list_any}
-use Rattle.std.proofs.lemmas.Bool.{cases_Bool, false_from_ne_true, or_cases, true≢false}
+use Rattle.std.proofs.lemmas.Bool.{cases_Bool, false_from_ne_true, or_cases, true≢false, cond_both}
 use Rattle.std.proofs.lemmas.Slice.Eq.{bytes_eq-Decides}
 use Rattle.mail_terms.specs.UniqueId.{has_id, is_legal_id}
 use Rattle.mail_store.specs.FlatFile.{Stored}
@@ -37,22 +37,10 @@ others_left front other (f ∷ fs) apart =
 -- all that an id's files held, or less
 pub part_copies : (front : List ℕ) (fs left : List File) → IsPart fs left → (copies left front ≡ copies fs front) ⊎ (length (copies left front) < length (copies fs front))
 part_copies front [] left is = inl (ap (λ (ts : List File). copies ts front) is)
-part_copies front (f ∷ fs) left (inl is) = by (part_copies front fs left is) (bytes_eq front (stem f.name)) refl
-  where
-    by : (copies left front ≡ copies fs front) ⊎ (length (copies left front) < length (copies fs front)) → (b : Bool) → bytes_eq front (stem f.name) ≡ b
-        → (copies left front ≡ copies (f ∷ fs) front) ⊎ (length (copies left front) < length (copies (f ∷ fs) front))
-    by rest false e = rw e rest
-    by (inl same) true e = let long = ap length same in rw e (inr (omega (arith, long)))
-    by (inr less) true e = rw e (inr (omega (arith, less)))
+part_copies front (f ∷ fs) left (inl is) = let less = part_copies front fs left is in grind (arith, less)
 part_copies front (f ∷ fs) left (inr (rest, e, is)) =
-    subst (λ (ts : List File). (copies ts front ≡ copies (f ∷ fs) front) ⊎ (length (copies ts front) < length (copies (f ∷ fs) front))) (sym e)
-    (by (part_copies front fs rest is) (bytes_eq front (stem f.name)) refl)
-  where
-    by : (copies rest front ≡ copies fs front) ⊎ (length (copies rest front) < length (copies fs front)) → (b : Bool) → bytes_eq front (stem f.name) ≡ b
-        → (copies (f ∷ rest) front ≡ copies (f ∷ fs) front) ⊎ (length (copies (f ∷ rest) front) < length (copies (f ∷ fs) front))
-    by more false e = rw e more
-    by (inl same) true e = rw e (inl (ap (λ (cs : List (List ℕ)). f.content ∷ cs) same))
-    by (inr less) true e = rw e (inr (omega (arith, less)))
+    let less = part_copies front fs rest is in
+    subst (λ (ts : List File). (copies ts front ≡ copies (f ∷ fs) front) ⊎ (length (copies ts front) < length (copies (f ∷ fs) front))) (sym e) (grind (arith, less))
 
 -- an id with files is held
 pub some_held : (account id : List ℕ) (fs : List File) → copies fs (stem_of account id) ≢ [] → list_any (λ (f : File). names_id account id f.name) fs ≡ true
@@ -80,20 +68,16 @@ LeaveParts state (event ∷ events) = IsPart state.account.maildir.files (after_
 
 others_are_part : (front : List ℕ) (fs : List File) → IsPart fs (others_than front fs)
 others_are_part front [] = refl
-others_are_part front (f ∷ fs) = by (others_are_part front fs) (bytes_eq front (stem f.name)) refl
-  where
-    by : IsPart fs (others_than front fs) → (b : Bool) → bytes_eq front (stem f.name) ≡ b → IsPart (f ∷ fs) (others_than front (f ∷ fs))
-    by more true e = let fewer : others_than front (f ∷ fs) ≡ others_than front fs = rw e refl in subst (IsPart (f ∷ fs)) (sym fewer) (inl more)
-    by more false e = let same : others_than front (f ∷ fs) ≡ f ∷ others_than front fs = rw e refl in inr (others_than front fs, same, more)
+others_are_part front (f ∷ fs) =
+    let more = others_are_part front fs in
+    cond_both (not (bytes_eq front (stem f.name))) (f ∷ others_than front fs) (others_than front fs) (IsPart (f ∷ fs)) (λ other. inr (others_than front fs, refl, more)) (λ same. inl more)
 
 -- what is left and has no file of this stem is a part of the others
 part_of_others : (front : List ℕ) (fs left : List File) → IsPart fs left → copies left front ≡ [] → IsPart (others_than front fs) left
 part_of_others front [] left is none = is
-part_of_others front (f ∷ fs) left (inl is) none = by (part_of_others front fs left is none) (bytes_eq front (stem f.name)) refl
-  where
-    by : IsPart (others_than front fs) left → (b : Bool) → bytes_eq front (stem f.name) ≡ b → IsPart (others_than front (f ∷ fs)) left
-    by more true e = let fewer : others_than front (f ∷ fs) ≡ others_than front fs = rw e refl in subst (λ (l : List File). IsPart l left) (sym fewer) more
-    by more false e = let same : others_than front (f ∷ fs) ≡ f ∷ others_than front fs = rw e refl in subst (λ (l : List File). IsPart l left) (sym same) (inl more)
+part_of_others front (f ∷ fs) left (inl is) none =
+    let more = part_of_others front fs left is none in
+    cond_both (not (bytes_eq front (stem f.name))) (f ∷ others_than front fs) (others_than front fs) (λ (l : List File). IsPart l left) (λ other. inl more) (λ same. more)
 part_of_others front (f ∷ fs) left (inr (rest, are, is)) none = by (part_of_others front fs rest is) (bytes_eq front (stem f.name)) refl
   where
     by : (copies rest front ≡ [] → IsPart (others_than front fs) rest) → (b : Bool) → bytes_eq front (stem f.name) ≡ b → IsPart (others_than front (f ∷ fs)) left

@@ -398,9 +398,6 @@ pub session_spoke : TurnsJoin → ConversationsArePaced → FrontsAreAsked → (
 session_spoke joining paced law settings valid target now link before report link' after session =
     spoke joining paced law settings valid target now link link' before after session.mid session.notes session.result session.proceeds session.leaves
 
-four : (a b c d : List Turn) → (a ++ (b ++ c)) ++ d ≡ a ++ (b ++ (c ++ d))
-four a b c d = simp append_assoc
-
 -- its commands are the first of a plan without steps
 pub follows_none : FrontsAreAsked → (settings : Settings) → IsValid settings → (turns : List Turn) → IsTail turns → (link link' : Link) → (it : OpensAlone (name_of settings) (word_of settings) turns link link')
     → Follows settings [] it.sent
@@ -408,7 +405,7 @@ follows_none law settings valid turns kind link link' it = record {
   commands = commands_in it.said.done ++ (whole.ahead ++ whole.ends);
   asked = whole.asked;
   front = front_of_plan (name_of settings) (word_of settings) [] it.said.done it.said.begun (it.said.later ++ quit ∷ []) turns it.sent
-      (ap (λ (ts : List Turn). ts ++ quit ∷ []) it.said.split ∙ four it.said.done it.said.begun it.said.later (quit ∷ [])) kind whole;
+      (ap (λ (ts : List Turn). ts ++ quit ∷ []) it.said.split ∙ simp append_assoc) kind whole;
 }
   where
     whole : Commanded it.said.done it.said.begun turns it.sent

@@ -253,9 +253,6 @@ commands_back : (commands : List Command) → commands_in (map Some commands) �
 commands_back [] = refl
 commands_back (c ∷ commands) = ap (λ (l : List Command). c ∷ l) (commands_back commands)
 
-five : (a b c d : List Command) → a ++ ((b ++ c) ++ d) ≡ (a ++ b) ++ (c ++ d)
-five a b c d = simp append_assoc
-
 pub front_of_plan : (name word : List ℕ) (steps : List Step) (done begun later turns : List Turn) (sent : List ℕ) → plan_turns name word steps ≡ done ++ (begun ++ later) → IsTail turns
     → (c : Commanded done begun turns sent) → IsFrontOfPlan name word steps (commands_in done ++ (c.ahead ++ c.ends))
 front_of_plan name word steps done begun later turns sent split kind c = record {
@@ -264,7 +261,7 @@ front_of_plan name word steps done begun later turns sent split kind c = record 
   tail = c.ends;
   plan = sym (commands_back (plan_commands name word steps)) ∙ ap commands_in split ∙ commands_split done (begun ++ later)
       ∙ ap (λ (l : List Command). commands_in done ++ l) (commands_split begun later ∙ ap (λ (l : List Command). l ++ commands_in later) c.of_begun)
-      ∙ five (commands_in done) c.ahead c.unsaid (commands_in later);
+      ∙ simp append_assoc;
   is_tail = ends_tail turns kind c.ends c.unended c.of_tail;
   sent = sym (append_assoc (commands_in done) c.ahead c.ends);
 }
