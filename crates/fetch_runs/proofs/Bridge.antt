@@ -58,6 +58,7 @@ use Rattle.mail_store.specs.Mboxrd.{MboxFile, EntryAddsText, entry_of}
 use Rattle.run_law.specs.Readings.{Retrieves}
 use Rattle.fetch_runs.specs.MboxTexts.{AddsTexts}
 use Rattle.run_law.proofs.MboxKept.{texts_stand}
+use Rattle.fetch_runs.proofs.TalkCommands.{both_none}
 
 -- ---- deletions
 
@@ -203,16 +204,9 @@ session_is_a_step laws stores joining paced fronts settings account now link bef
 
 -- ---- without a task no message is asked for
 
-none_among : (front behind : List Task) (task : Task) → [] ≡ front ++ task ∷ behind → ⊥
-none_among [] behind task e = cc
-none_among (t ∷ front) behind task e = cc
-
 no_message : (command : Command) → IsOfTask [] command → AsksForNoMessage command
-no_message (Retr n) is = absurd (none_among is.0 is.2 is.1 is.3)
-no_message (Dele n) is = absurd (no_delete n is)
-  where
-    no_delete : (n : ℕ) → IsOfTask [] (Dele n) → ⊥
-    no_delete n is = none_among is.0 is.1 (deletes n) is.2
+no_message (Retr n) (front, task, behind, is) = absurd (let never : task ∷ behind ≡ [] = (both_none front (task ∷ behind) (sym is)).1 in cc)
+no_message (Dele n) (front, behind, is) = absurd (let never : deletes n ∷ behind ≡ [] = (both_none front (deletes n ∷ behind) (sym is)).1 in cc)
 no_message other is = tt
 
 asks_none : (tasks : List Task) (commands : List Command) (part : List ℕ) → tasks ≡ [] → AllByRecursion (IsOfTask tasks) commands → BeginsOne (IsOfTask tasks) part → AsksForNone commands part
@@ -322,9 +316,6 @@ few_found found wanted numbers =
     let short : length (take (length found) wanted) ≡ min (length found) (length wanted) = length-take (length found) wanted in
     omega (arith, same, short)
 
-some_none : (i : Intent) → Some i ≡ None → ⊥
-some_none i e = cc
-
 module _ (adds : EntryAddsText) (settings : Settings) (before : MboxMail) (effect : Effect) (after : MboxMail) (ended : effect.ended ≡ true) where
   added : (commands : List Command) (sent got : List ℕ) → MboxStores settings before effect after → Reads (mbox_wanted settings before effect) commands sent got effect → AddsTexts settings before effect after
   added commands sent got stores reads = record {
@@ -348,7 +339,7 @@ module _ (adds : EntryAddsText) (settings : Settings) (before : MboxMail) (effec
       file : after.file ≡ (settled effect.listing before).file ++ entries effect.texts
       file = elim stores.ending [
         | inl closed ↦ closed.file ∙ ap (λ (l : List (List ℕ)). (settled effect.listing before).file ++ entries l) (take_all stores.stored effect.texts (omega (arith, same, few, least)))
-        | inr broken ↦ absurd (some_none _ (sym broken.opened.intent ∙ (stores.ended ended).1))
+        | inr broken ↦ absurd (let never : Some _ ≡ None = sym broken.opened.intent ∙ (stores.ended ended).1 in cc)
       ]
 
   pub adds_texts : (sent got : List ℕ) → Stepped settings before sent got effect after → AddsTexts settings before effect after

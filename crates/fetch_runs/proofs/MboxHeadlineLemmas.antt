@@ -36,9 +36,6 @@ holds_entries laws world state sound is = (is.0, is.1, laws.holds world (by_reco
 
 -- ---- one session
 
-some_none : (i : Intent) → Some i ≡ None → ⊥
-some_none i e = cc
-
 module _ (laws : Laws) (world : MboxWorld) (state : MboxState MboxAccountFiles) (occasion : Occasion MboxAccountFiles) (sound : IsWorld world.all) (held : RecordState) (keeps : Keeps state.account.file.content held)
     (is_kept : IsKeptIn world (by_record held state)) (is : IsMboxSession world state occasion)
     (s : IsMboxStep occasion.settings occasion.now occasion.link state.account held occasion.report occasion.link' occasion.after) where
@@ -91,7 +88,7 @@ module _ (laws : Laws) (world : MboxWorld) (state : MboxState MboxAccountFiles) 
     holds = holds_after;
     no_rest = elim holds_after.at_most [
       | inl (none, nothing) ↦ nothing
-      | inr (next, behind, is_next, entry, opened) ↦ absurd (some_none _ (sym opened ∙ ends.closed))
+      | inr (next, behind, is_next, entry, opened) ↦ absurd (let never : Some _ ≡ None = sym opened ∙ ends.closed in cc)
     ];
     left_out = elim listing_or_nothing [
       | inl listed ↦ all_map LeftOut Excluded (excluded listed) (maildrop_at world state occasion) ends.leaves_out

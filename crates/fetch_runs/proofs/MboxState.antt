@@ -46,19 +46,15 @@ use Rattle.fetch_session.specs.Plan.{tasks_ahead, Unprepared, Carried, Carries}
 use Rattle.fetch_session.specs.Readiness.{IsMergedAtMost, IsSettledBy, MboxUnready, Settles}
 use Rattle.fetch_session.specs.Session.{Keeping, Noted, Proceeds}
 use Rattle.run_law.specs.Mboxes as Law
+use Rattle.run_law.proofs.Lists.{map-map}
 
 -- ---- The texts that tasks appended to an mboxrd file, and the intent of the next one.
 
 -- ---- texts
 
-each_text : (number : ℕ) (replies : List WholeReply)
-    → map (λ (reply : WholeReply). body_text reply.body) replies ≡ map text_found (map (λ (reply : WholeReply). (number, body_text reply.body)) replies)
-each_text number [] = refl
-each_text number (reply ∷ replies) = ap (λ (l : List (List ℕ)). body_text reply.body ∷ l) (each_text number replies)
-
 -- no message counts as held, so each text that was retrieved was to be stored
 texts_one : (items : List Item) (task : Task) (replies : List WholeReply) → IsRight [] no_maildir items task → texts_in task replies ≡ map text_found (found_in task replies)
-texts_one items (stores number uid) replies right = each_text number replies
+texts_one items (stores number uid) replies right = sym (map-map text_found (λ (reply : WholeReply). (number, body_text reply.body)) replies)
 texts_one items (rereads number uid) replies right = absurd (true≢false (sym right.0))
 texts_one items other replies right = refl
 

@@ -2,7 +2,7 @@
 use Rattle.std.proofs.Common.{◌≡◌, ◌≢◌, ◌⊎◌, inl, inr, ℕ, List, [], ◌∷◌, ◌++◌, Bool, true, false, not, ◌&&◌, ◌||◌, Option, refl, sym, ap, subst, ◌∙◌, arith}
 use Rattle.std.specs.Prelude.{bytes_eq}
 use Rattle.std.specs.List.{AllByRecursion, filter}
-use Rattle.std.proofs.lemmas.Bool.{both_ways, cases_Bool, false_from_ne_true, or_cases, or_from}
+use Rattle.std.proofs.lemmas.Bool.{both_ways, cases_Bool, false_from_ne_true, or_cases, or_from, or_left}
 use Rattle.std.proofs.lemmas.List.Folds.{list_any-append}
 use Rattle.std.proofs.lemmas.Slice.Eq.{bytes_eq-Decides}
 use Rattle.fetch_rules.specs.Record.{Row, is_delivered}
@@ -17,7 +17,7 @@ use Rattle.run_law.specs.Accounts.{copies}
 use Rattle.run_law.specs.Mails.{WorldsShrink, ids_of, is_selected, messages_after, selected, texts_of, without}
 use Rattle.run_law.specs.Runs.{State, IsSound, World, HoldsOf, IsNeither, Event, Fetched, Between, Expired, Withdrawn, TakenAway, BroughtBack, Forgotten, PowerLost, after_event, world_after}
 use Rattle.fetch_session.specs.Session.{AccountFiles}
-use Rattle.run_law.proofs.Ids.{all_at, all_ids_at, bytes_same, has_filtered, has_texts}
+use Rattle.run_law.proofs.Ids.{all_at, all_ids_at, bytes_same, bytes_self, has_filtered, has_texts}
 use Rattle.run_law.proofs.Lists.{all_both, all_filter, all_front, all_map, filter-swap, is_some}
 use Rattle.run_law.proofs.PowerCuts.{all_after}
 use Rattle.fetch_runs.specs.Headline.{AreTaken, AreTakings, Follows, Headline, IsKept, IsLastStored, IsRecorded, IsRun, KeepsRecord, contents_of, by_rows, after_session, Occasion}
@@ -190,44 +190,41 @@ module _ (one : OneRecord) {D F : Type 0} (disk : DiskGhosts D) (files : FileGho
         kept_id : (id : List ℕ) → is_held account state.account.maildir id ≡ true → has_id ids id ≡ false
         kept_id id held = false_from_ne_true (has_id ids id) (λ has. both_ways (is_held account state.account.maildir id) (all_ids_at (IsNeither world.account state.account.maildir state.taken) ids id neither has).0 held)
 
-    after_taking : (id : List ℕ) (after : AccountFiles) → Keeps (after_event {S = Occasion} after_session state (TakenAway id after)) → Follows world state (TakenAway id after) → CanLosePower disk files device f world (after_event {S = Occasion} after_session state (TakenAway id after))
-    after_taking id after keeps taken = can_after device f next keeps
-        (λ other legal held. by other legal held (cases_Bool (bytes_eq other id)))
-        (λ other legal lastly. inr (still_last device f next keeps (same_recorded after taken.record_is) (λ m l neither.
-        let apart = others m neither in
-        (not_held after m.uid (taken.others m.uid l apart) neither.0, or_from (bytes_eq m.uid id) (has_id state.taken m.uid) apart neither.1)) other (λ on. on) lastly))
-        (same_shown device next taken.record_is)
+    -- the files of one message changed, and whether it counts as taken away
+    after_moving : (id : List ℕ) (after : AccountFiles) (taken : List (List ℕ)) → Keeps (record state { account = after; taken = taken }) → KeepsRecord state.account after
+        → ((other : List ℕ) → is_legal_id other ≡ true → bytes_eq other id ≡ false → contents_of world after other ≡ contents_of world state.account other)
+        → IsSureOrTaken disk device world (record state { account = after; taken = taken }) id
+        → ((m : Message) → IsNeither world.account state.account.maildir state.taken m.uid → (bytes_eq m.uid id ≡ false) × (has_id taken m.uid ≡ false))
+        → CanLosePower disk files device f world (record state { account = after; taken = taken })
+    after_moving id after taken keeps record_is others safe untaken = can_after device f next keeps
+        (λ other legal held. elim (cases_Bool (bytes_eq other id)) [
+          | inl same ↦ inl (subst (IsSureOrTaken disk device world next) (sym (bytes_same other id same)) safe)
+          | inr apart ↦ inr (held_back after other (others other legal apart) held)
+        ])
+        (λ other legal lastly. inr (still_last device f next keeps (same_recorded after record_is) (λ m l neither.
+        let apart = untaken m neither in
+        (not_held after m.uid (others m.uid l apart.0) neither.0, apart.1)) other (λ on. on) lastly))
+        (same_shown device next record_is)
       where
         next : State AccountFiles
-        next = after_event {S = Occasion} after_session state (TakenAway id after)
+        next = record state { account = after; taken = taken }
 
-        others : (m : Message) → IsNeither world.account state.account.maildir state.taken m.uid → bytes_eq m.uid id ≡ false
-        others m neither = false_from_ne_true (bytes_eq m.uid id) (λ same. both_ways (is_held account state.account.maildir m.uid) neither.0
-            (subst (λ (x : List ℕ). is_held account state.account.maildir x ≡ true) (sym ((bytes_eq-Decides m.uid id).0 same)) taken.held))
+    apart_if : (p : List ℕ → Bool) (a b : List ℕ) → p a ≡ false → p b ≡ true → bytes_eq a b ≡ false
+    apart_if p a b absent there = false_from_ne_true (bytes_eq a b) (λ same. both_ways (p a) absent (ap p (bytes_same a b same) ∙ there))
 
-        by : (other : List ℕ) → is_legal_id other ≡ true → is_held account after.maildir other ≡ true → (bytes_eq other id ≡ true) ⊎ (bytes_eq other id ≡ false)
-            → IsSureOrTaken disk device world next other ⊎ (is_held account state.account.maildir other ≡ true)
-        by other legal held (inl same) = inl (inr (ap (λ b. b || has_id state.taken other) same))
-        by other legal held (inr apart) = inr (held_back after other (taken.others other legal apart) held)
+    after_taking : (id : List ℕ) (after : AccountFiles) → Keeps (after_event {S = Occasion} after_session state (TakenAway id after)) → Follows world state (TakenAway id after) → CanLosePower disk files device f world (after_event {S = Occasion} after_session state (TakenAway id after))
+    after_taking id after keeps taken = after_moving id after (id ∷ state.taken) keeps taken.record_is taken.others (inr (or_left _ _ (bytes_self id)))
+        (λ m neither.
+        let apart = apart_if (is_held account state.account.maildir) m.uid id neither.0 taken.held in
+        (apart, or_from (bytes_eq m.uid id) (has_id state.taken m.uid) apart neither.1))
 
     after_bringing : (id : List ℕ) (after : AccountFiles) → Keeps (after_event {S = Occasion} after_session state (BroughtBack id after)) → Follows world state (BroughtBack id after) → CanLosePower disk files device f world (after_event {S = Occasion} after_session state (BroughtBack id after))
-    after_bringing id after keeps brought = can_after device f next keeps
-        (λ other legal held. by other legal held (cases_Bool (bytes_eq other id)))
-        (λ other legal lastly. inr (still_last device f next keeps (same_recorded after brought.record_is) (λ m l neither.
-        (not_held after m.uid (brought.others m.uid l (others m neither)) neither.0, has_filtered (λ x. not (bytes_eq x id)) state.taken m.uid ∙ ap (λ b. b && not (bytes_eq m.uid id)) neither.1)) other (λ on. on) lastly))
-        (same_shown device next brought.record_is)
-      where
-        next : State AccountFiles
-        next = after_event {S = Occasion} after_session state (BroughtBack id after)
-
-        others : (m : Message) → IsNeither world.account state.account.maildir state.taken m.uid → bytes_eq m.uid id ≡ false
-        others m neither = false_from_ne_true (bytes_eq m.uid id) (λ same. both_ways (has_id state.taken m.uid) neither.1
-            (subst (λ (x : List ℕ). has_id state.taken x ≡ true) (sym ((bytes_eq-Decides m.uid id).0 same)) brought.taken))
-
-        by : (other : List ℕ) → is_legal_id other ≡ true → is_held account after.maildir other ≡ true → (bytes_eq other id ≡ true) ⊎ (bytes_eq other id ≡ false)
-            → IsSureOrTaken disk device world next other ⊎ (is_held account state.account.maildir other ≡ true)
-        by other legal held (inl same) = inl (keeps.mail other legal (inr (subst (λ (x : List ℕ). has_id state.taken x ≡ true) (sym ((bytes_eq-Decides other id).0 same)) brought.taken)))
-        by other legal held (inr apart) = inr (held_back after other (brought.others other legal apart) held)
+    after_bringing id after keeps brought =
+        after_moving id after (filter (λ x. not (bytes_eq x id)) state.taken) keeps brought.record_is brought.others (keeps.mail id brought.legal (inr brought.taken))
+        (λ m neither. (
+          apart_if (has_id state.taken) m.uid id neither.1 brought.taken,
+          has_filtered (λ x. not (bytes_eq x id)) state.taken m.uid ∙ ap (λ b. b && not (bytes_eq m.uid id)) neither.1,
+        ))
 
     after_forgetting : (after : AccountFiles) → Keeps (record state { account = after }) → Follows world state (Forgotten after) → CanLosePower disk files device f world (record state { account = after })
     after_forgetting after keeps forgets = after_same after keeps forgets.mail back
