@@ -92,10 +92,13 @@ part_of_others front (f ∷ fs) left (inr (rest, are, is)) none = by (part_of_ot
 
 -- ---- one id after another
 
--- the files of each legal id are as they are left; or it is one of these ids, and its files are to be taken away
-abbrev AreDue : List ℕ → List File → List (List ℕ) → List File → Type 0
-AreDue account left ids fs = (id : List ℕ) → is_legal_id id ≡ true → (copies left (stem_of account id) ≡ copies fs (stem_of account id))
+-- the files of the id are as they are left; or it is one of these ids, and its files are to be taken away
+abbrev StaysOrGoes : List ℕ → List File → List (List ℕ) → List File → List ℕ → Type 0
+StaysOrGoes account left ids fs id = (copies left (stem_of account id) ≡ copies fs (stem_of account id))
     ⊎ ((has_id ids id ≡ true) × (copies left (stem_of account id) ≡ []) × (copies fs (stem_of account id) ≢ []))
+
+abbrev AreDue : List ℕ → List File → List (List ℕ) → List File → Type 0
+AreDue account left ids fs = (id : List ℕ) → is_legal_id id ≡ true → StaysOrGoes account left ids fs id
 
 module _ (differ : StemsDiffer) (world : World) (maildir : Maildir) (file : Stored) (gone : List (List ℕ)) (left : List File) where
   abbrev account : List ℕ
@@ -128,10 +131,7 @@ module _ (differ : StemsDiffer) (world : World) (maildir : Maildir) (file : Stor
   passed : (fs : List File) (id : List ℕ) (ids : List (List ℕ)) → AreDue account left (id ∷ ids) fs → (IsDue fs id → ⊥) → AreDue account left ids fs
   passed fs id ids due not other l = by (due other l)
     where
-      by : (copies left (stem_of account other) ≡ copies fs (stem_of account other))
-          ⊎ ((has_id (id ∷ ids) other ≡ true) × (copies left (stem_of account other) ≡ []) × (copies fs (stem_of account other) ≢ []))
-          → (copies left (stem_of account other) ≡ copies fs (stem_of account other))
-          ⊎ ((has_id ids other ≡ true) × (copies left (stem_of account other) ≡ []) × (copies fs (stem_of account other) ≢ []))
+      by : StaysOrGoes account left (id ∷ ids) fs other → StaysOrGoes account left ids fs other
       by (inl same) = inl same
       by (inr (among, none, some)) = elim (or_cases (bytes_eq other id) (has_id ids other) among) [
         | inl is ↦ absurd (not (subst (IsDue fs) ((bytes_eq-Decides other id).0 is) (l, none, some)))
@@ -145,10 +145,7 @@ module _ (differ : StemsDiffer) (world : World) (maildir : Maildir) (file : Stor
   took : (fs : List File) (id : List ℕ) (ids : List (List ℕ)) → AreDue account left (id ∷ ids) fs → IsDue fs id → AreDue account left ids (without id fs)
   took fs id ids due is other l = by (cases_Bool (bytes_eq other id)) (due other l)
     where
-      by : (bytes_eq other id ≡ true) ⊎ (bytes_eq other id ≡ false) → (copies left (stem_of account other) ≡ copies fs (stem_of account other))
-          ⊎ ((has_id (id ∷ ids) other ≡ true) × (copies left (stem_of account other) ≡ []) × (copies fs (stem_of account other) ≢ []))
-          → (copies left (stem_of account other) ≡ copies (without id fs) (stem_of account other))
-          ⊎ ((has_id ids other ≡ true) × (copies left (stem_of account other) ≡ []) × (copies (without id fs) (stem_of account other) ≢ []))
+      by : (bytes_eq other id ≡ true) ⊎ (bytes_eq other id ≡ false) → StaysOrGoes account left (id ∷ ids) fs other → StaysOrGoes account left ids (without id fs) other
       by (inl same) others =
           inl (subst (λ (x : List ℕ). copies left (stem_of account x) ≡ copies (without id fs) (stem_of account x)) (sym ((bytes_eq-Decides other id).0 same))
           (is.1 ∙ sym (none_left (stem_of account id) fs)))
@@ -182,9 +179,7 @@ module _ (differ : StemsDiffer) (world : World) (maildir : Maildir) (file : Stor
     (part, tt),
   )
     where
-      same : (id : List ℕ) → (copies left (stem_of account id) ≡ copies fs (stem_of account id))
-          ⊎ ((has_id [] id ≡ true) × (copies left (stem_of account id) ≡ []) × (copies fs (stem_of account id) ≢ []))
-          → copies left (stem_of account id) ≡ copies fs (stem_of account id)
+      same : (id : List ℕ) → StaysOrGoes account left [] fs id → copies left (stem_of account id) ≡ copies fs (stem_of account id)
       same id (inl is) = is
       same id (inr (never, none, some)) = absurd (true≢false (sym never))
 
@@ -208,8 +203,7 @@ takings_leave_parts law differ world state left sound is part =
     due : (ids : List (List ℕ)) (account : List ℕ) (files : List File) (id : List ℕ) → (list_any (λ (f : File). names_id account id f.name) files ≡ true → has_id ids id ≡ true)
         → length (copies files (stem_of account id)) ≤ 1
         → (copies left (stem_of account id) ≡ copies files (stem_of account id)) ⊎ (length (copies left (stem_of account id)) < length (copies files (stem_of account id)))
-        → (copies left (stem_of account id) ≡ copies files (stem_of account id))
-        ⊎ ((has_id ids id ≡ true) × (copies left (stem_of account id) ≡ []) × (copies files (stem_of account id) ≢ []))
+        → StaysOrGoes account left ids files id
     due ids account files id among once (inl same) = inl same
     due ids account files id among once (inr less) =
         let parts = less_than_one (copies left (stem_of account id)) (copies files (stem_of account id)) less once in

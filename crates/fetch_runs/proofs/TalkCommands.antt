@@ -260,23 +260,20 @@ plain_ahead settings target items now store rows few =
 
 -- ---- their turns
 
-said_first : (task : Task) (turns : List Turn) → IsPlain task → AllByRecursion CanBeSaid turns → AllByRecursion CanBeSaid (turns_in task ++ turns)
-said_first (says turn) turns is later = (subst CanBeSaid (sym is) (refl, tt), later)
-said_first (skips number size) turns is later = later
-said_first other turns is later = ((refl, is), later)
+-- what holds of QUIT, and of RETR and DELE with a small number, holds of the turns of plain tasks
+turns_all : (P : Turn → Type 0) → P quit → ((n : ℕ) → n < 2 ^ 32 → P (retr n) × P (dele n)) → (tasks : List Task) → AllByRecursion IsPlain tasks → AllByRecursion P (flat_map turns_in tasks)
+turns_all P quits some [] plain = tt
+turns_all P quits some (says turn ∷ tasks) plain = (subst P (sym plain.0) quits, turns_all P quits some tasks plain.1)
+turns_all P quits some (skips number size ∷ tasks) plain = turns_all P quits some tasks plain.1
+turns_all P quits some (stores number uid ∷ tasks) plain = ((some number plain.0).0, turns_all P quits some tasks plain.1)
+turns_all P quits some (rereads number uid ∷ tasks) plain = ((some number plain.0).0, turns_all P quits some tasks plain.1)
+turns_all P quits some (deletes number ∷ tasks) plain = ((some number plain.0).1, turns_all P quits some tasks plain.1)
 
 pub said_tasks : (tasks : List Task) → AllByRecursion IsPlain tasks → AllByRecursion CanBeSaid (flat_map turns_in tasks)
-said_tasks [] plain = tt
-said_tasks (task ∷ tasks) plain = said_first task (flat_map turns_in tasks) plain.0 (said_tasks tasks plain.1)
-
-commands_first : (task : Task) (turns : List Turn) → IsPlain task → AllByRecursion IsCommand turns → AllByRecursion IsCommand (turns_in task ++ turns)
-commands_first (says turn) turns is later = (subst IsCommand (sym is) tt, later)
-commands_first (skips number size) turns is later = later
-commands_first other turns is later = (tt, later)
+said_tasks = turns_all CanBeSaid (refl, tt) (λ n small. ((refl, small), (refl, small)))
 
 pub commands_tasks : (tasks : List Task) → AllByRecursion IsPlain tasks → AllByRecursion IsCommand (flat_map turns_in tasks)
-commands_tasks [] plain = tt
-commands_tasks (task ∷ tasks) plain = commands_first task (flat_map turns_in tasks) plain.0 (commands_tasks tasks plain.1)
+commands_tasks = turns_all IsCommand tt (λ n small. (tt, tt))
 
 -- the turns of done tasks, and of others after them
 pub turns_on : (dones : List Done) (tasks : List Task) → flat_map turns_in (tasks_of dones ++ tasks) ≡ turns_of dones ++ flat_map turns_in tasks
