@@ -19,7 +19,7 @@ use Rattle.mail_store.specs.Maildir.{Maildir}
 use Rattle.rc_file.specs.declared.settings.Settings.{Settings}
 use Rattle.mail_terms.specs.UniqueId.{has_id}
 use Rattle.pop3_wire.specs.Honest.{FrontsAreAsked, Asked}
-use Rattle.run_law.specs.Sessions.{IsBegun, Reads, BeginsOne}
+use Rattle.run_law.specs.Sessions.{IsBegun, SendsOnly, Reads, BeginsOne}
 use Rattle.run_law.specs.Steps.{Leaves, wanted_at, Effect}
 use Rattle.run_law.specs.Counted.{CountedStores}
 use Rattle.fetch_session.specs.declared.fault.Cut.{Cut}
@@ -77,6 +77,16 @@ begun_one account maildir items tasks right (Dele number) is =
     let at = (all_back (IsRight account maildir items) is.0 (deletes number ∷ is.1) (subst (AllByRecursion (IsRight account maildir items)) is.2 right)).0 in
     (at.0, at.1, ap (λ (ts : List Task). has_id (deleted_by items ts) at.0.uid) is.2 ∙ id_there items is.0 is.1 number at.0 at.1, at.2, at.3)
 begun_one account maildir items tasks right other is = tt
+
+-- each command that was sent is of this kind
+abbrev sends_of : (account : List ℕ) (maildir : Maildir) (items : List Item) (tasks : List Task) → AllByRecursion (IsRight account maildir items) tasks → {commands : List Command} {sent : List ℕ}
+    (asked : Asked commands sent) → AllByRecursion (IsOfTask tasks) commands → BeginsOne (IsOfTask tasks) asked.part → SendsOnly (IsBegun items (deleted_by items tasks)) sent
+sends_of account maildir items tasks right {commands} asked all next = record {
+  commands = commands;
+  asked = asked;
+  each = all_map (IsOfTask tasks) (IsBegun items (deleted_by items tasks)) (begun_one account maildir items tasks right) commands all;
+  next = begins (begun_one account maildir items tasks right) asked.part next;
+}
 
 -- ---- the outcome
 
@@ -141,12 +151,7 @@ module _ (stores : CountedStores) (settings : Settings) (account : List ℕ) (no
     keeps = subst (λ (k : AccountFiles). KeepsRows k.file.content rows) (sym left.1) keeps;
     left = inl (unchanged, counts ∙ ap retrieved_in left.2);
     stepped = record {
-      sends = record {
-        commands = said.exchanges.0;
-        asked = said.exchanges.1;
-        each = all_map (IsOfTask []) (IsBegun [] []) (begun_one account before.maildir [] [] tt) said.exchanges.0 said.exchanges.2;
-        next = begins (begun_one account before.maildir [] [] tt) said.exchanges.1.part said.exchanges.3;
-      };
+      sends = sends_of account before.maildir [] [] tt said.exchanges.1 said.exchanges.2 said.exchanges.3;
       step = inl unchanged;
     };
   }
@@ -174,12 +179,7 @@ module _ (stores : CountedStores) (settings : Settings) (account : List ℕ) (no
       ];
     });
     stepped = record {
-      sends = record {
-        commands = commands_of said.exchanges;
-        asked = said.exchanges.talked.asked;
-        each = all_map (IsOfTask (begun_of c)) (IsBegun c.items (deleted_by c.items (begun_of c))) (begun_one account before.maildir c.items (begun_of c) left.right) (commands_of said.exchanges) said.exchanges.deletes;
-        next = begins (begun_one account before.maildir c.items (begun_of c) left.right) said.exchanges.talked.asked.part said.exchanges.next;
-      };
+      sends = sends_of account before.maildir c.items (begun_of c) left.right said.exchanges.talked.asked said.exchanges.deletes said.exchanges.next;
       step = inr (
         stores settings account (holds rows before.maildir) (effect_of now (is_ended result) c) (holds left.rows' after.maildir) left.figures,
         reads said.exchanges now (is_ended result) (wanted_at settings account (holds rows before.maildir) (effect_of now (is_ended result) c)) left.numbers,
@@ -236,18 +236,10 @@ module _ (stores : MboxCountedStores) (settings : Settings) (now : ℕ) (link : 
     keeps = keeps';
     left = inl (leaves, counts ∙ told);
     stepped = record {
-      sends = record {
-        commands = commands;
-        asked = asked;
-        each = all_map (IsOfTask (begun_of c)) (IsBegun c.items (deleted_by c.items (begun_of c))) begun commands all;
-        next = begins begun asked.part next;
-      };
+      sends = sends_of [] no_maildir c.items (begun_of c) (subst (AllByRecursion (IsRight [] no_maildir c.items)) (sym none) tt) asked all next;
       step = inl (leaves, asks_none (begun_of c) commands asked.part none all next);
     };
   }
-    where
-      begun : (command : Command) → IsOfTask (begun_of c) command → IsBegun c.items (deleted_by c.items (begun_of c)) command
-      begun = begun_one [] no_maildir c.items (begun_of c) (subst (AllByRecursion (IsRight [] no_maildir c.items)) (sym none) tt)
 
   mbox_joined : (session_course : SessionCourse) → CourseLeaves settings now result session_course held (keeps_entries before) (keeps_entries after) lines → Gained session_course (tail_for result) link link' → IsMboxStep settings now link before held report link' after
   mbox_joined Idle left said =
@@ -267,21 +259,13 @@ module _ (stores : MboxCountedStores) (settings : Settings) (now : ℕ) (link : 
     keeps = left.keeps;
     left = inr (record { figures = left.figures; retrieved_is = counts ∙ left.counted; one_less = λ is. unsaved_is result report.outcome outcome_is (left.one_less is) });
     stepped = record {
-      sends = record {
-        commands = commands_of said.exchanges;
-        asked = said.exchanges.talked.asked;
-        each = all_map (IsOfTask (begun_of c)) (IsBegun c.items (deleted_by c.items (begun_of c))) begun (commands_of said.exchanges) said.exchanges.deletes;
-        next = begins begun said.exchanges.talked.asked.part said.exchanges.next;
-      };
+      sends = sends_of [] no_maildir c.items (begun_of c) left.right said.exchanges.talked.asked said.exchanges.deletes said.exchanges.next;
       step = inr (
         stores settings (mbox_holds held before.mbox) (effect_of now (is_ended result) c) (mbox_holds left.record_state' after.mbox) left.figures,
         reads said.exchanges now (is_ended result) (mbox_wanted settings (mbox_holds held before.mbox) (effect_of now (is_ended result) c)) left.numbers,
       );
     };
   }
-    where
-      begun : (command : Command) → IsOfTask (begun_of c) command → IsBegun c.items (deleted_by c.items (begun_of c)) command
-      begun = begun_one [] no_maildir c.items (begun_of c) left.right
 
 pub mbox_session_is_a_step : Laws → MboxCountedStores → TurnsJoin → ConversationsArePaced → FrontsAreAsked → MboxSessionIsAStep
 mbox_session_is_a_step laws stores joining paced fronts settings now link before held report link' after valid keeps is =

@@ -243,10 +243,8 @@ from_empty law empty_kept world start events sound empty run = (law world start 
 
 -- ---- one event
 
-abbrev OneEvent : World → State AccountFiles → Event Occasion AccountFiles → Type 0
-OneEvent world state event = HoldsAPrefix world state × Promised world state event × IsKept (world_after world event) (after_event after_session state event)
-
-event_kept : Headline → (world : World) (state : State AccountFiles) (event : Event Occasion AccountFiles) → IsSound world → IsKept world state → Follows world state event → OneEvent world state event
+event_kept : Headline → (world : World) (state : State AccountFiles) (event : Event Occasion AccountFiles) → IsSound world → IsKept world state → Follows world state event
+    → HoldsAPrefix world state × Promised world state event × IsKept (world_after world event) (after_event after_session state event)
 event_kept law world state event sound is follows = let all = law world state (event ∷ []) sound is (follows, tt) in (all.0.0, all.0.1, all.1)
 
 -- ---- nothing taken away

@@ -15,17 +15,17 @@ use Rattle.std.proofs.lemmas.Bool.{both_ways, or_right}
 use Rattle.fetch_runs.specs.Headline.{AreTakings, IsRun, contents_of, after_session, Occasion}
 use Rattle.fetch_runs.proofs.PowerLosses.{held_file, named_in, named_some}
 use Rattle.run_law.specs.Runs.{State, World, Event, Between, TakenAway, after_events}
+use Rattle.std.proofs.lemmas.List.Elements.{Contains-append_cases, Contains-append_left, Contains-append_right}
 
 -- ---- lists
 
 pub contains_part : (fs left : List File) (g : File) → IsPart fs left → Contains left g → Contains fs g
 contains_part [] left g is there = subst (λ (l : List File). Contains l g) is there
-contains_part (f ∷ fs) left g (inl is) there = let more = contains_part fs left g is there in (suc more.0, omega (arith, more.1), more.2)
-contains_part (f ∷ fs) left g (inr (rest, e, is)) there = by (λ inside. contains_part fs rest g is inside) (subst (λ (l : List File). Contains l g) e there)
-  where
-    by : (Contains rest g → Contains fs g) → Contains (f ∷ rest) g → Contains (f ∷ fs) g
-    by later (zero, below, same) = (zero, omega arith, same)
-    by later (suc k, below, same) = let more = later (k, omega (arith, below), same) in (suc more.0, omega (arith, more.1), more.2)
+contains_part (f ∷ fs) left g (inl is) there = Contains-append_right (f ∷ []) fs g (contains_part fs left g is there)
+contains_part (f ∷ fs) left g (inr (rest, e, is)) there = elim (Contains-append_cases (f ∷ []) rest g (subst (λ (l : List File). Contains l g) e there)) [
+  | inl first ↦ Contains-append_left (f ∷ []) fs g first
+  | inr later ↦ Contains-append_right (f ∷ []) fs g (contains_part fs rest g is later)
+]
 
 short : (c : List ℕ) (cs : List (List ℕ)) → length (c ∷ cs) ≤ 1 → cs ≡ []
 short c [] one = refl
