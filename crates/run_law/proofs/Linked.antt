@@ -11,9 +11,9 @@ use Rattle.pop3_wire.specs.Honest.{Asked, Grants, Replies, no_marks, OneListOfCo
 use Rattle.mail_terms.specs.Listing.{Item}
 use Rattle.mail_terms.specs.UniqueId.{has_id}
 use Rattle.run_law.specs.Mails.{item_of, listing_of}
-use Rattle.run_law.specs.Steps.{Effect, Leaves, Stores, IsHonest, AreTexts, wanted_at}
+use Rattle.run_law.specs.Steps.{Effect, Leaves, IsHonest, AreTexts, wanted_at}
 use Rattle.run_law.specs.Readings.{AreGranted, IsNumbered, HonestIsGranted, ListingIsMaildrop, MarksAreAsked, TextsAreMessages}
-use Rattle.run_law.specs.Mboxes.{mbox_wanted, MboxLeaves, MboxStores}
+use Rattle.run_law.specs.Mboxes.{mbox_wanted}
 use Rattle.run_law.specs.MboxSessions.{MboxLinksAreVisits}
 use Rattle.run_law.proofs.Lists.{all_map}
 use Rattle.run_law.specs.Sessions.{IsBegun, Reads, IsMarked, Served, LinksAreVisits}

@@ -1,5 +1,5 @@
 -- What happens between sessions leads from a kept state to a kept state.
-use Rattle.std.proofs.Common.{◌≡◌, inl, inr, List, ℕ, ◌++◌, Bool, true, false, not, length, sym, ◌∙◌, ap, subst, arith}
+use Rattle.std.proofs.Common.{◌≡◌, inl, inr, List, ℕ, ◌++◌, Bool, true, false, not, sym, ◌∙◌, ap, subst, arith}
 use Rattle.std.specs.Prelude.{bytes_eq}
 use Rattle.std.specs.List.{AllByRecursion, filter}
 use Rattle.std.proofs.lemmas.Bool.{both_ways, and_from, cases_Bool, false_from_ne_true}
@@ -10,11 +10,11 @@ use Rattle.mail_terms.specs.UniqueId.{has_id}
 use Rattle.pop3_wire.specs.World.{Message, IsMessage}
 use Rattle.mail_store.specs.FileName.{is_held, stem_of}
 use Rattle.fetch_rules.specs.Record.{is_delivered}
-use Rattle.run_law.specs.Mails.{ids_of, item_of, is_selected, selected, texts_of, without, WorldsShrink}
+use Rattle.run_law.specs.Mails.{ids_of, item_of, is_selected, texts_of, without, WorldsShrink}
 use Rattle.run_law.specs.Accounts.{AccountMail, files, copies}
 use Rattle.run_law.specs.Runs.{World, IsSound, State, Event, Visit, HoldsOf, IsHeldOrTaken, IsNeither, Kept, LeavesMail, TakesAway, BringsBack, Forgets, Withdrawn, TakenAway, BroughtBack, after_event, after_visit, world_after}
-use Rattle.run_law.proofs.Lists.{all_map, all_both, all_append, all_filter, all_front, filter_all, filter-swap, front_is, map-map}
-use Rattle.run_law.proofs.Ids.{Distinct, HasTextsOf, all_ids_at, bytes_same, distinct_filter, distinct_is, distinct_take, has_filtered, through, whole_filter, whole_take}
+use Rattle.run_law.proofs.Lists.{all_map, all_both, all_append, all_filter, filter_all, filter-swap, map-map}
+use Rattle.run_law.proofs.Ids.{all_ids_at, bytes_same, distinct_filter, distinct_is, has_filtered}
 use Rattle.run_law.proofs.Core.{IsLegal, done_legal, done_texts, members}
 use Rattle.run_law.proofs.Holds.{done_is_held, held_is_done}
 use Rattle.run_law.proofs.Wants.{listing_distinct}

@@ -1,5 +1,5 @@
 -- No server makes a session lose a text, or delete a message that isn't known.
-use Rattle.std.proofs.Common.{◌≡◌, inl, inr, ◌≤◌, ◌<◌, ◌-◌, ℕ, zero, suc, Bool, true, false, cond, not, ◌&&◌, List, [], ◌∷◌, ◌++◌, map, take, zip, length, refl, sym, ap, subst, ◌∙◌, arith, append_assoc}
+use Rattle.std.proofs.Common.{◌≡◌, inl, inr, ◌≤◌, ◌<◌, ◌-◌, ℕ, zero, suc, Bool, true, cond, not, ◌&&◌, List, [], ◌∷◌, ◌++◌, map, take, zip, length, refl, sym, ap, subst, ◌∙◌, arith, append_assoc}
 use Rattle.std.specs.Prelude.{bytes_eq, ◌⊎◌, Some, slice_get}
 use Rattle.std.specs.List.{filter, AllByRecursion}
 use Rattle.std.proofs.lemmas.Bool.{or_cases, or_left, or_right, and_parts, cases_Bool, true≢false}
@@ -20,7 +20,7 @@ use Rattle.run_law.specs.Sessions.{IsBegun, BeginsOne, SendsOnly}
 use Rattle.pop3_wire.specs.declared.command.Command.{Command}
 use Rattle.pop3_wire.specs.declared.command.Command.TheVariants.{Dele}
 use Rattle.run_law.specs.Safety.{IsAmong, DeletesSaved, SessionsAreSafe}
-use Rattle.run_law.specs.Mboxes.{MboxMail, settled, mbox_rows, mbox_wanted, entries, MboxStores}
+use Rattle.run_law.specs.Mboxes.{MboxMail, settled, mbox_rows, mbox_wanted, entries, IsBroken, MboxStores}
 use Rattle.run_law.specs.MboxSafety.{MboxDeletesSaved, MboxSessionsAreSafe}
 use Rattle.run_law.proofs.Lists.{all_map, all_both, all_filter, all_passing, all_back}
 use Rattle.run_law.proofs.Ids.{bytes_same, bytes_self, taken_more, all_ids_at}
@@ -234,12 +234,17 @@ sessions_are_safe laws settings account before sent got effect after session =
 
 -- ---- with an mboxrd
 
--- what comes after the entries
+-- what comes after the entries: nothing, or a beginning of the next one
 pub tail_of : (settings : Settings) (before : MboxMail) (effect : Effect) (after : MboxMail) → (s : MboxStores settings before effect after)
     → (rest : List ℕ) × (after.file ≡ (settled effect.listing before).file ++ (entries (take s.stored effect.texts) ++ rest))
+    × ((rest ≡ []) ⊎ ((broken : IsBroken settings before effect s.stored after) × (entry_of broken.text ≡ rest ++ broken.opened.behind)))
 tail_of settings before effect after s = elim s.ending [
-  | inl closed ↦ ([], closed.file ∙ ap (λ l. (settled effect.listing before).file ++ l) (sym (append-nil (entries (take s.stored effect.texts)))))
-  | inr broken ↦ (broken.opened.front, broken.opened.file ∙ append_assoc (settled effect.listing before).file (entries (take s.stored effect.texts)) broken.opened.front)
+  | inl closed ↦ ([], closed.file ∙ ap (λ l. (settled effect.listing before).file ++ l) (sym (append-nil (entries (take s.stored effect.texts)))), inl refl)
+  | inr broken ↦ (
+    broken.opened.front,
+    broken.opened.file ∙ append_assoc (settled effect.listing before).file (entries (take s.stored effect.texts)) broken.opened.front,
+    inr (broken, broken.opened.entry),
+  )
 ]
 
 module _ (laws : RowLaws) (settings : Settings) (before : MboxMail) (effect : Effect) (after : MboxMail) (s : MboxStores settings before effect after) where
