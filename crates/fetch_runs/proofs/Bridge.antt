@@ -14,7 +14,7 @@ use Rattle.pop3_wire.specs.declared.command.Command.TheVariants.{User, Pass, Sta
 use Rattle.pop3_wire.specs.Link.{Link}
 use Rattle.pop3_wire.specs.Place.{at}
 use Rattle.pop3_client.specs.Conversation.{ConversationsArePaced, TurnsJoin}
-use Rattle.fetch_rules.specs.Record.{Row, RecordState, Intent}
+use Rattle.fetch_rules.specs.Record.{Row, RecordState}
 use Rattle.mail_store.specs.Maildir.{Maildir}
 use Rattle.rc_file.specs.declared.settings.Settings.{Settings}
 use Rattle.mail_terms.specs.UniqueId.{has_id}
@@ -54,7 +54,7 @@ use Rattle.fetch_runs.proofs.MboxState.{CourseLeaves, course_leaves}
 use Rattle.pop3_wire.specs.Body.{kept, text_of, unstuffed}
 use Rattle.pop3_wire.specs.Reading.{WholeReply}
 use Rattle.mail_terms.specs.Text.{IsWhole}
-use Rattle.mail_store.specs.Mboxrd.{MboxFile, EntryAddsText, entry_of}
+use Rattle.mail_store.specs.Mboxrd.{MboxFile, EntryAddsText}
 use Rattle.run_law.specs.Readings.{Retrieves}
 use Rattle.fetch_runs.specs.MboxTexts.{AddsTexts}
 use Rattle.run_law.proofs.MboxKept.{texts_stand}

@@ -1,19 +1,17 @@
 -- What readers leave when they take files away.
-use Rattle.std.proofs.Common.{◌≡◌, ◌≢◌, ◌⊎◌, inl, inr, ◌≤◌, ℕ, zero, suc, List, [], ◌∷◌, Bool, true, false, ◌||◌, length, refl, sym, ap, subst, ◌∙◌, arith}
+use Rattle.std.proofs.Common.{◌≡◌, ◌≢◌, ◌⊎◌, inl, inr, ◌≤◌, ℕ, zero, suc, List, [], ◌∷◌, true, false, ◌||◌, length, refl, sym, ap, subst, ◌∙◌, arith}
 use Rattle.std.specs.Prelude.{bytes_eq, Contains}
-use Rattle.std.specs.List.{AllByRecursion, list_any}
+use Rattle.std.specs.List.{list_any}
 use Rattle.std.proofs.lemmas.Bool.{cases_Bool}
 use Rattle.mail_terms.specs.UniqueId.{has_id, is_legal_id}
 use Rattle.mail_store.specs.FileName.{names_id, stem, stem_of}
 use Rattle.mail_store.specs.Maildir.{File, IsPart}
-use Rattle.pop3_wire.specs.World.{Message}
 use Rattle.run_law.specs.Accounts.{copies}
-use Rattle.run_law.specs.Mails.{is_selected, messages_after, selected}
 use Rattle.fetch_session.specs.Session.{AccountFiles}
 use Rattle.run_law.proofs.Lists.{any_filter, is_some}
 use Rattle.std.proofs.lemmas.Bool.{both_ways, or_right}
 use Rattle.fetch_runs.specs.Headline.{AreTakings, IsRun, contents_of, after_session, Occasion}
-use Rattle.fetch_runs.proofs.PowerLosses.{held_file, named_in, named_some}
+use Rattle.fetch_runs.proofs.PowerLosses.{named_in, named_some}
 use Rattle.run_law.specs.Runs.{State, World, Event, Between, TakenAway, after_events}
 use Rattle.std.proofs.lemmas.List.Elements.{Contains-append_cases, Contains-append_left, Contains-append_right}
 

@@ -1,10 +1,8 @@
 -- What each session sent and read: the opening, what followed it, and the tail.
 use Rattle.std.proofs.Common.{◌≡◌, ◌≤◌, ℕ, List, [], ◌∷◌, ◌++◌, true, length, Option, None, Some, Result, refl, sym, ap, ◌∙◌, arith, inl, inr, map, subst, append_assoc, Err, rules}
 use Rattle.std.specs.List.{AllByRecursion, AllZip, flat_map}
-use Rattle.std.proofs.lemmas.List.{append_cancel_left, append-nil}
-use Rattle.pop3_wire.specs.declared.reply.Status.TheVariants.{Positive}
+use Rattle.std.proofs.lemmas.List.{append-nil}
 use Rattle.pop3_wire.specs.Fields.{number_and_size}
-use Rattle.pop3_wire.specs.Reply.{IsFirstLine, indicator, without_space}
 use Rattle.pop3_wire.specs.Place.{Place}
 use Rattle.pop3_wire.specs.Reading.{WholeReply, GivesCount, body_bytes, reply_bytes}
 use Rattle.mail_terms.specs.Credential.{is_credential}
