@@ -6,7 +6,7 @@ use Rattle.std.proofs.lemmas.Bool.{both_ways, and_from, cases_Bool, false_from_n
 use Rattle.std.proofs.lemmas.List.Elements.{filter-append}
 use Rattle.mail_terms.specs.Distinct.{AreDistinct}
 use Rattle.mail_terms.specs.Listing.{Item}
-use Rattle.mail_terms.specs.UniqueId.{has_id}
+use Rattle.mail_terms.specs.UniqueId.{has_id, is_legal_id}
 use Rattle.pop3_wire.specs.World.{Message, IsMessage}
 use Rattle.mail_store.specs.FileName.{is_held, stem_of}
 use Rattle.fetch_rules.specs.Record.{is_delivered}
@@ -19,19 +19,20 @@ use Rattle.run_law.proofs.Core.{IsLegal, done_legal, done_texts, members}
 use Rattle.run_law.proofs.Holds.{done_is_held, held_is_done}
 use Rattle.run_law.proofs.Wants.{listing_distinct}
 
+-- the same messages are done in another state
+pub still_kept : (world : World) (before after : State AccountMail) → (kept : Kept world before) → ((id : List ℕ) → is_legal_id id ≡ true → HoldsOf world after kept.done id)
+    → ((id : List ℕ) → is_delivered after.account.rows id ≡ true → has_id (ids_of kept.done) id ≡ true)
+    → AllByRecursion (λ id. has_id (ids_of kept.done) id ≡ true) after.gone → AllByRecursion (λ id. has_id (ids_of kept.done) id ≡ true) after.taken → Kept world after
+still_kept world before after kept holds recorded gone taken =
+    record { done = kept.done; rest = kept.rest; prefix = kept.prefix; holds = holds; recorded = recorded; gone = gone; taken = taken }
+
 -- ---- the record and the server
 
 pub forgotten_kept : (world : World) (before : State AccountMail) (after : AccountMail) → Kept world before → Forgets world.account before.account after
     → Kept world (record before { account = after })
-forgotten_kept world before after kept forgets = record {
-  done = kept.done;
-  rest = kept.rest;
-  prefix = kept.prefix;
-  holds = λ id l. let was = kept.holds id l in let now = forgets.same id l in grind (arith, was, now);
-  recorded = λ id e. kept.recorded id (forgets.delivered id e);
-  gone = kept.gone;
-  taken = kept.taken;
-}
+forgotten_kept world before after kept forgets = still_kept world before (record before { account = after }) kept
+    (λ id l. let was = kept.holds id l in let now = forgets.same id l in grind (arith, was, now))
+    (λ id e. kept.recorded id (forgets.delivered id e)) kept.gone kept.taken
 
 pub between_kept : (world : World) (before : State AccountMail) (after : AccountMail) → Kept world before → LeavesMail world.account before.account after
     → Kept world (record before { account = after })
@@ -40,53 +41,37 @@ between_kept world before after kept same =
 
 pub expired_kept : (world : World) (before : State AccountMail) (ids : List (List ℕ)) → Kept world before → AllByRecursion (IsHeldOrTaken world.account before.account.maildir before.taken) ids
     → Kept world (record before { gone = before.gone ++ ids })
-expired_kept world before ids kept all = record {
-  done = kept.done;
-  rest = kept.rest;
-  prefix = kept.prefix;
-  holds = kept.holds;
-  recorded = kept.recorded;
-  gone = all_append (λ id. has_id (ids_of kept.done) id ≡ true) before.gone ids kept.gone
-      (all_map (IsHeldOrTaken world.account before.account.maildir before.taken) (λ id. has_id (ids_of kept.done) id ≡ true)
-      (λ id h.
-      let held = held_is_done world before kept.done id (kept.holds id h.0) in
-      let taken = all_ids_at (λ x. has_id (ids_of kept.done) x ≡ true) before.taken id kept.taken in
-      grind (arith, h.1, held, taken)) ids all);
-  taken = kept.taken;
-}
+expired_kept world before ids kept all = still_kept world before (record before { gone = before.gone ++ ids }) kept kept.holds kept.recorded
+    (all_append (λ id. has_id (ids_of kept.done) id ≡ true) before.gone ids kept.gone
+    (all_map (IsHeldOrTaken world.account before.account.maildir before.taken) (λ id. has_id (ids_of kept.done) id ≡ true)
+    (λ id h.
+    let held = held_is_done world before kept.done id (kept.holds id h.0) in
+    let taken = all_ids_at (λ x. has_id (ids_of kept.done) x ≡ true) before.taken id kept.taken in
+    grind (arith, h.1, held, taken)) ids all))
+    kept.taken
 
 -- ---- what a reader takes away and puts back
 
 pub taken_kept : (world : World) (before : State AccountMail) (id : List ℕ) (after : AccountMail) → Kept world before → TakesAway world.account before.account id after
     → Kept world (after_event {S = Visit} after_visit before (TakenAway id after))
-taken_kept world before id after kept takes = record {
-  done = kept.done;
-  rest = kept.rest;
-  prefix = kept.prefix;
-  holds = λ other l.
-      let same = λ (e : bytes_eq other id ≡ true). ap (λ (x : List ℕ). copies (files after) (stem_of world.account x)) (bytes_same other id e) ∙ takes.none in
-      let others = takes.others other l in
-      let was = kept.holds other l in
-      grind (arith, same, others, was);
-  recorded = λ other e. kept.recorded other (ap (λ r. is_delivered r other) (sym takes.rows) ∙ e);
-  gone = kept.gone;
-  taken = (held_is_done world before kept.done id (kept.holds id takes.legal) takes.held, kept.taken);
-}
+taken_kept world before id after kept takes = still_kept world before (after_event {S = Visit} after_visit before (TakenAway id after)) kept
+    (λ other l.
+    let same = λ (e : bytes_eq other id ≡ true). ap (λ (x : List ℕ). copies (files after) (stem_of world.account x)) (bytes_same other id e) ∙ takes.none in
+    let others = takes.others other l in
+    let was = kept.holds other l in
+    grind (arith, same, others, was))
+    (λ other e. kept.recorded other (ap (λ r. is_delivered r other) (sym takes.rows) ∙ e))
+    kept.gone (held_is_done world before kept.done id (kept.holds id takes.legal) takes.held, kept.taken)
 
 pub brought_kept : (world : World) → IsSound world → (before : State AccountMail) (id : List ℕ) (after : AccountMail) → Kept world before → BringsBack world before id after
     → Kept world (after_event {S = Visit} after_visit before (BroughtBack id after))
-brought_kept world is before id after kept brings = record {
-  done = kept.done;
-  rest = kept.rest;
-  prefix = kept.prefix;
-  holds = λ other l. elim (cases_Bool (bytes_eq other id)) [
-    | inl same ↦ inl (subst Holds (sym (bytes_same other id same)) there)
-    | inr apart ↦ by other apart (brings.others other l apart) (kept.holds other l)
-  ];
-  recorded = λ other e. kept.recorded other (ap (λ r. is_delivered r other) (sym brings.rows) ∙ e);
-  gone = kept.gone;
-  taken = all_filter (λ other. has_id (ids_of kept.done) other ≡ true) (λ other. not (bytes_eq other id)) before.taken kept.taken;
-}
+brought_kept world is before id after kept brings = still_kept world before (after_event {S = Visit} after_visit before (BroughtBack id after)) kept
+    (λ other l. elim (cases_Bool (bytes_eq other id)) [
+      | inl same ↦ inl (subst Holds (sym (bytes_same other id same)) there)
+      | inr apart ↦ by other apart (brings.others other l apart) (kept.holds other l)
+    ])
+    (λ other e. kept.recorded other (ap (λ r. is_delivered r other) (sym brings.rows) ∙ e))
+    kept.gone (all_filter (λ other. has_id (ids_of kept.done) other ≡ true) (λ other. not (bytes_eq other id)) before.taken kept.taken)
   where
     Holds : List ℕ → Type 0
     Holds other = copies (files after) (stem_of world.account other) ≡ texts_of kept.done other

@@ -16,6 +16,7 @@ use Rattle.run_law.proofs.Lists.{all_back}
 use Rattle.run_law.proofs.Ids.{all_at, all_ids_at, bytes_same, bytes_self, bytes_swap, ids_both, no_texts, texts-append}
 use Rattle.run_law.proofs.Holds.{done_is_held, held_is_done}
 use Rattle.run_law.proofs.Core.{done_legal}
+use Rattle.run_law.proofs.Others.{still_kept}
 
 -- ---- lists
 
@@ -73,19 +74,13 @@ module _ (world : World) (is : IsSound world) (before : State AccountMail) (afte
 
   -- nothing of what is done is gone
   all_done : ((id : List ℕ) → is_legal_id id ≡ true → HoldsOf world left kept.done id) → Kept world left
-  all_done holds = record {
-    done = kept.done;
-    rest = kept.rest;
-    prefix = kept.prefix;
-    holds = holds;
-    recorded = λ id e. elim (loses.delivered id e) [
-      | inl was ↦ kept.recorded id was
-      | inr (legal, inl held) ↦ held_is_done world left kept.done id (holds id legal) held
-      | inr (legal, inr taken) ↦ all_ids_at (λ x. has_id (ids_of kept.done) x ≡ true) before.taken id kept.taken taken
-    ];
-    gone = kept.gone;
-    taken = kept.taken;
-  }
+  all_done holds = still_kept world before left kept holds
+      (λ id e. elim (loses.delivered id e) [
+        | inl was ↦ kept.recorded id was
+        | inr (legal, inl held) ↦ held_is_done world left kept.done id (holds id legal) held
+        | inr (legal, inr taken) ↦ all_ids_at (λ x. has_id (ids_of kept.done) x ≡ true) before.taken id kept.taken taken
+      ])
+      kept.gone kept.taken
 
   module _ (front : List Message) (last : Message) (are : kept.done ≡ front ++ last ∷ []) where
     abbrev is_done : List ℕ → Bool
