@@ -15,7 +15,6 @@ use Rattle.fetch_session.specs.Account.{digits_of}
 use Rattle.fetch_session.specs.Lasting.{AreLeft, AreSure, CarriesLast, IsUntouched, Lasts, Leaves, MergeLasts, ProceedsLast, UnreadyLasts}
 use Rattle.fetch_session.specs.Laws.{SteadyFilesKeep, UnsavedFilesKeep}
 use Rattle.fetch_session.specs.Plan.{Carried, Carries, Unprepared, tasks_ahead}
-use Rattle.fetch_session.specs.Readiness.{UnreadyCause}
 use Rattle.fetch_session.specs.Record.{KeepsRows}
 use Rattle.fetch_session.specs.Scene.{FileNotSaved, NoFile, Scene, Stops, scene}
 use Rattle.fetch_session.specs.Session.{Keeping, AccountFiles, LeavesLink, Proceeds, Session, keeps_files, account_files, outcome_of}
@@ -25,9 +24,6 @@ use Rattle.fetch_session.specs.Target.{AsFiles, Stores, flags_in, in_maildir}
 use Rattle.fetch_session.specs.Task.{Done, Task, deleting, fetching, file_from, files_in, files_of, ids_ahead, ids_in, ids_of, says, stores, tasks_of, tasks_planned}
 use Rattle.fetch_session.specs.declared.account.Store.TheVariants.{Maildir as InMaildir}
 use Rattle.fetch_session.specs.declared.fault.Cut.{Cut}
-use Rattle.fetch_session.specs.declared.fault.Fault.{Fault}
-use Rattle.fetch_session.specs.declared.fault.Fault.TheVariants.{BadSeen, NoMemory, SeenRefused, StoreRefused}
-use Rattle.fetch_session.specs.declared.fault.Why.TheVariants.{Missing, Refused}
 use Rattle.fetch_session.specs.declared.report.ReportLine.{ReportLine}
 use Rattle.fetch_session.specs.declared.report.Skips.{Skips}
 use Rattle.mail_store.specs.declared.file.flat_file.FlatFile.{Ghosts as FileGhosts}
@@ -58,6 +54,7 @@ use Rattle.fetch_runs.proofs.PowerLosses.{held_file, named_in}
 use Rattle.fetch_runs.proofs.LegalRows.{kept_legal}
 use Rattle.fetch_runs.proofs.PowerRecord.{RecordLaws, left_stands}
 use Rattle.run_law.specs.Runs.{State, IsSound, World, IsNeither, Fetched}
+use Rattle.fetch_runs.proofs.StateLaw.{unready_files}
 
 -- the laws that are used
 pub record PowerLaws : Type 0 where
@@ -553,15 +550,7 @@ module _ (laws : PowerLaws) {D F : Type 0} (disk : DiskGhosts D) (files : FileGh
       (scene place' (in_maildir occasion.after.maildir) occasion.after.file rows' lines))
       (lasts : UnreadyLasts disk files (InMaildir was) from (AsFiles digits_here) items occasion.now (in_maildir state.account.maildir) state.account.file (InMaildir device) f) where
     same_files : occasion.after.maildir.files ≡ state.account.maildir.files
-    same_files = by cut.fault unprepared.unready.cause
-      where
-        by : (fault : Fault) → UnreadyCause fault state.account.maildir state.account.file occasion.after.maildir occasion.after.file → occasion.after.maildir.files ≡ state.account.maildir.files
-        by SeenRefused cause = ap (λ (m : Maildir). m.files) cause.1
-        by (BadSeen line) cause = ap (λ (m : Maildir). m.files) cause.1
-        by (StoreRefused Missing) cause = ap (λ (m : Maildir). m.files) cause.1
-        by (StoreRefused Refused) cause = ap (λ (m : Maildir). m.files) cause
-        by NoMemory cause = ap (λ (m : Maildir). m.files) cause
-        by _ never = absurd never
+    same_files = unready_files cut.fault state.account.maildir state.account.file occasion.after.maildir occasion.after.file unprepared.unready.cause
 
     sure_left : (id : List ℕ) → is_legal_id id ≡ true → IsSure disk was world state.account.maildir.files id → IsSure disk device world occasion.after.maildir.files id
     sure_left id legal one = record {
