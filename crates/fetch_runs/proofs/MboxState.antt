@@ -1,5 +1,5 @@
 -- What a session leaves of an account with an mboxrd file.
-use Rattle.std.proofs.Common.{◌≡◌, inl, inr, ◌+◌, ℕ, zero, suc, List, [], ◌∷◌, ◌++◌, map, take, length, Option, None, Some, refl, sym, ap, ◌∙◌, ◌⊎◌, Bool, true, false, Result, Ok, Err, subst, append_assoc, rules}
+use Rattle.std.proofs.Common.{arith, ◌≡◌, inl, inr, ◌+◌, ℕ, zero, suc, List, [], ◌∷◌, ◌++◌, map, take, length, Option, None, Some, refl, sym, ap, ◌∙◌, ◌⊎◌, Bool, true, false, Result, Ok, Err, subst, append_assoc, rules}
 use Rattle.std.specs.Prelude.{slice_get, option_map}
 use Rattle.std.specs.List.{AllByRecursion, flat_map, AllZip}
 use Rattle.std.proofs.lemmas.Bool.{true≢false}
@@ -10,7 +10,6 @@ use Rattle.rc_file.specs.declared.settings.Settings.{Settings}
 use Rattle.mail_store.specs.Mboxrd.{entry_of}
 use Rattle.mail_store.specs.MboxCalls.{RefusesLook}
 use Rattle.mail_store.specs.declared.fault.StoreFault.{StoreFault}
-use Rattle.mail_store.specs.declared.fault.StoreFault.TheVariants as looked
 use Rattle.pop3_wire.specs.Reading.{WholeReply}
 use Rattle.pop3_client.specs.Texts.{body_text}
 use Rattle.fetch_session.specs.Task.{Task, stores, rereads, Done, IsAnswered, tasks_of, texts_in, texts_of}
@@ -191,10 +190,7 @@ module _ (steadies : SteadyFilesKeep) (unsaved : UnsavedFilesKeep) (mbox file : 
 
 -- a file that was only looked at is as it was
 look_content : (why : StoreFault) (old new : Stored) → RefusesLook old why new → new.content ≡ old.content
-look_content looked.Missing old new is = ap (λ (s : Stored). s.content) is.1
-look_content looked.Refused old new is = ap (λ (s : Stored). s.content) is
-look_content looked.NotMbox old new is = ap (λ (s : Stored). s.content) is.1
-look_content looked.NoMemory old new never = absurd never
+look_content why old new is = grind arith
 
 -- ---- the account that a session left, and what it found
 
