@@ -34,8 +34,7 @@ use Rattle.fetch_session.specs.Task.{Task, deletes}
 use Rattle.fetch_session.specs.Record.{KeepsRows, Keeps}
 use Rattle.fetch_session.specs.Session.{AccountFiles, keeps_files, outcome_of, Keeping, MboxAccountFiles, keeps_entries}
 use Rattle.fetch_session.specs.Target.{AsFiles, AsEntries, mail_in, no_maildir}
-use Rattle.run_law.proofs.Lists.{all_back, all_map}
-use Rattle.run_law.proofs.Safety.{begins}
+use Rattle.fetch_runs.proofs.Lists.{all_back, all_map}
 use Rattle.fetch_runs.specs.Conversations.{tail_behind}
 use Rattle.fetch_runs.specs.Steps.{holds, SaysOnly, StopsAtList, IsStep, SessionIsAStep}
 use Rattle.fetch_runs.proofs.TalkConversation.{tail_for, Gained, talks}
@@ -54,11 +53,10 @@ use Rattle.fetch_runs.proofs.MboxState.{CourseLeaves, course_leaves}
 use Rattle.pop3_wire.specs.Body.{kept, text_of, unstuffed}
 use Rattle.pop3_wire.specs.Reading.{WholeReply}
 use Rattle.mail_terms.specs.Text.{IsWhole}
-use Rattle.mail_store.specs.Mboxrd.{MboxFile, EntryAddsText}
+use Rattle.mail_store.specs.Mboxrd.{MboxFile, EntryAddsText, entry_of}
 use Rattle.run_law.specs.Readings.{Retrieves}
 use Rattle.fetch_runs.specs.MboxTexts.{AddsTexts}
-use Rattle.run_law.proofs.MboxKept.{texts_stand}
-use Rattle.fetch_runs.proofs.TalkCommands.{both_none}
+use Rattle.fetch_runs.proofs.TalkCommands.{begins_of, both_none}
 
 -- ---- deletions
 
@@ -85,7 +83,7 @@ sends_of account maildir items tasks right {commands} asked all next = record {
   commands = commands;
   asked = asked;
   each = all_map (IsOfTask tasks) (IsBegun items (deleted_by items tasks)) (begun_one account maildir items tasks right) commands all;
-  next = begins (begun_one account maildir items tasks right) asked.part next;
+  next = begins_of (begun_one account maildir items tasks right) asked.part next;
 }
 
 -- ---- the outcome
@@ -212,7 +210,7 @@ no_message other is = tt
 asks_none : (tasks : List Task) (commands : List Command) (part : List ℕ) → tasks ≡ [] → AllByRecursion (IsOfTask tasks) commands → BeginsOne (IsOfTask tasks) part → AsksForNone commands part
 asks_none tasks commands part none all next = (
   all_map (IsOfTask []) AsksForNoMessage no_message commands (subst (λ (ts : List Task). AllByRecursion (IsOfTask ts) commands) none all),
-  begins no_message part (subst (λ (ts : List Task). BeginsOne (IsOfTask ts) part) none next),
+  begins_of no_message part (subst (λ (ts : List Task). BeginsOne (IsOfTask ts) part) none next),
 )
 
 -- ---- both together
@@ -290,6 +288,15 @@ retrieved_whole (Retr number ∷ commands) (reply ∷ replies) found (text, more
     subst (λ (f : List (ℕ × List ℕ)). AllByRecursion IsWhole (map text_found f)) (sym is)
     (subst IsWhole (sym body.read) (lines_whole body.lines), retrieved_whole commands replies more later)
 retrieved_whole (other ∷ commands) (reply ∷ replies) found later = retrieved_whole commands replies found later
+
+-- ---- entries after a file that stands for texts
+
+texts_stand : EntryAddsText → (file : List ℕ) (first texts : List (List ℕ)) → AllByRecursion IsWhole texts → MboxFile file first → MboxFile (file ++ entries texts) (first ++ texts)
+texts_stand adds file first [] whole stands = simp append-nil stands
+texts_stand adds file first (text ∷ texts) whole stands =
+    let more = texts_stand adds (file ++ entry_of text) (first ++ text ∷ []) texts whole.1 (adds file text first stands whole.0) in
+    subst (MboxFile (file ++ (entry_of text ++ entries texts))) (append_assoc first (text ∷ []) texts)
+    (subst (λ f. MboxFile f ((first ++ text ∷ []) ++ texts)) (append_assoc file (entry_of text) (entries texts)) more)
 
 -- ---- all that was wanted
 

@@ -17,7 +17,7 @@ use Rattle.pop3_client.specs.Turns.{Turn, IsGood, asking, list, pass, stat, turn
 use Rattle.fetch_session.specs.Opening.{opening}
 use Rattle.run_law.specs.Readings.{AreGranted, HonestIsGranted, Talked as IsTalked}
 use Rattle.run_law.specs.Sessions.{Served}
-use Rattle.run_law.proofs.Lists.{all_append}
+use Rattle.fetch_runs.proofs.Lists.{all_append}
 use Rattle.fetch_runs.proofs.TalkCommands.{CanBeSaid, IsCommand, commands_in, numbers_in, octets_same, replies_read, sendable_in}
 use Rattle.fetch_runs.proofs.TalkSpeech.{no_body, said_opening}
 

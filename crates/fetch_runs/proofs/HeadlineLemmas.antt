@@ -21,12 +21,12 @@ use Rattle.run_law.specs.Mails.{item_of, listing_of, is_selected, WorldsShrink}
 use Rattle.run_law.specs.Accounts.{AccountMail, KeepsOthers, copies, files}
 use Rattle.run_law.specs.Steps.{Effect, merged_rows}
 use Rattle.run_law.specs.Runs.{IsSound, World, State, Visit, Visits, IsLastStored as LastIn, Happens, after_visit, Promises as PromisesIn, Kept as IsKeptIn, KeptStaysKept, KeptHoldsWhatIsLeft, StartsKept, LeavesOut, DeletesHeld, StoresOnlyNew as StoresNew, is_past_count, NothingTakenHoldsExactly, Event, Fetched, Between, Expired, Withdrawn, TakenAway, BroughtBack, Forgotten, PowerLost, after_event, after_events, world_after, world_left}
-use Rattle.run_law.specs.Sessions.{IsBegun, Link as LinkIn, LinksAreVisits}
-use Rattle.run_law.proofs.Ids.{all_ids_at}
-use Rattle.run_law.proofs.Lists.{all_map}
-use Rattle.run_law.proofs.Safety.{sends_weaker}
+use Rattle.run_law.specs.Sessions.{IsBegun, Link as LinkIn, LinksAreVisits, SendsOnly}
+use Rattle.fetch_runs.proofs.Ids.{all_ids_at}
+use Rattle.fetch_runs.proofs.Lists.{all_map}
 use Rattle.fetch_runs.specs.Steps.{holds, IsStep, SessionIsAStep}
 use Rattle.fetch_runs.specs.Headline.{Occasion, maildrop_at, IsSession, Follows, IsLastStored, by_rows, HoldsAPrefix, IsHeldAfter, IsPastCount, LeavesOutOnlyBeyondLimits, IsForSuch, StoresOnlyNew, Promised, IsKept, Headline, EmptyIsKept, HeadlineFromEmpty, IsRun, contents_of, IsRecorded, HoldsExactlyAPrefix, IsWordForWord, LeaveAway, HeadlineWordForWord, StaysAway, LostRecordsAreForgotten, NewProcessesAreBetween, StopsAreRuns, after_session}
+use Rattle.fetch_runs.proofs.TalkCommands.{begins_of}
 use Rattle.fetch_session.specs.Session.{AccountFiles}
 
 -- the laws that are used
@@ -61,6 +61,15 @@ for_such P drop effect (inl listed) all (Dele number) begun =
     (begun.3, at.0, at.1, subst (λ (i : Item). P i.uid) (sym at.2) (all_ids_at P effect.begun begun.0.uid all begun.2))
 for_such P drop effect (inr none) all (Dele number) begun = absurd (true≢false (sym begun.2 ∙ ap (λ (ids : List (List ℕ)). has_id ids begun.0.uid) none.0))
 for_such P drop effect listed all other begun = tt
+
+-- what is sent may be of a wider kind
+pub sends_weaker : (Is Other : Command → Type 0) (sent : List ℕ) → ((command : Command) → Is command → Other command) → SendsOnly Is sent → SendsOnly Other sent
+sends_weaker Is Other sent weaker sends = record {
+  commands = sends.commands;
+  asked = sends.asked;
+  each = all_map Is Other weaker sends.commands sends.each;
+  next = begins_of weaker sends.asked.part sends.next;
+}
 
 module _ (laws : Laws) (world : World) (state : State AccountFiles) (occasion : Occasion AccountFiles) (sound : IsSound world) (rows : List Row) (keeps : KeepsRows state.account.file.content rows)
     (is_kept : IsKeptIn world (by_rows rows state)) (is : IsSession world state occasion) where

@@ -11,7 +11,7 @@ use Rattle.fetch_rules.specs.RecordMeaning.{Ends, Fails, Fault, Judged, InBase, 
 use Rattle.fetch_rules.specs.declared.seen.SeenFault.{SeenFault}
 use Rattle.fetch_rules.specs.declared.seen.SeenFault.TheVariants.{BadRow}
 use Rattle.fetch_session.specs.Record.{KeepsRows}
-use Rattle.run_law.proofs.Lists.{all_append}
+use Rattle.fetch_runs.proofs.Lists.{all_append}
 
 abbrev AreLegal : List Row → Type 0
 AreLegal rows = AllByRecursion (λ (row : Row). is_legal_id row.uid ≡ true) rows

@@ -14,12 +14,11 @@ use Rattle.run_law.specs.MboxRuns.{MboxWorld, MboxState, MboxKept as IsKeptIn, M
 use Rattle.run_law.specs.MboxSessions.{MboxLinksAreVisits}
 use Rattle.run_law.specs.Runs.{is_past_count}
 use Rattle.run_law.specs.Sessions.{IsBegun, Link, visit_of}
-use Rattle.run_law.proofs.Lists.{all_map}
-use Rattle.run_law.proofs.Safety.{sends_weaker}
+use Rattle.fetch_runs.proofs.Lists.{all_map}
 use Rattle.fetch_runs.specs.MboxSteps.{mbox_holds, IsMboxStep, MboxSessionIsAStep}
 use Rattle.fetch_runs.specs.MboxHeadline.{WritingsAreEvents, maildrop_at, IsMboxSession, after_session, Follows, by_record, HoldsEntries, IsEntered, IsPastCount, EndsWhole, MboxPromised, IsMboxKept, MboxHeadline, MboxStartIsKept, MboxHeadlineFromStart, MboxStopsAreRuns}
 use Rattle.fetch_runs.specs.Headline.{Occasion, IsForSuch}
-use Rattle.fetch_runs.proofs.HeadlineLemmas.{for_such}
+use Rattle.fetch_runs.proofs.HeadlineLemmas.{for_such, sends_weaker}
 use Rattle.fetch_session.specs.Session.{MboxAccountFiles}
 
 -- the laws that are used

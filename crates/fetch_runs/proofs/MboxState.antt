@@ -17,7 +17,6 @@ use Rattle.fetch_session.specs.Target.{no_maildir, AsEntries, Stores, mail_in, i
 use Rattle.run_law.specs.Steps.{Effect}
 use Rattle.run_law.specs.Mboxes.{MboxMail, settled, mbox_wanted, entries, intent_of as law_intent}
 use Rattle.run_law.specs.MboxCounted.{bytes_at, OpensAt, AllRecorded, LastUnrecorded, MboxCounted}
-use Rattle.run_law.proofs.MboxKept.{at_length}
 use Rattle.fetch_runs.proofs.Courses.{found_in, found_by, Course, course, stored_done, course_stopped, course_does, found_of, begun_of, SessionCourse, Idle, Deals, course_carried, course_carries, course_proceeded}
 use Rattle.fetch_runs.proofs.StatePlan.{key, fetched_in, fetched, IsRight}
 use Rattle.fetch_runs.proofs.StateDone.{text_found, texts_by, same_length, number_found, number_of, Laws, Inputs, rows_on, messages_on, tasks_on, rows_after, Part, effect_of, right_part, records_part, wanted_are}
@@ -45,7 +44,7 @@ use Rattle.fetch_session.specs.Plan.{tasks_ahead, Unprepared, Carried, Carries}
 use Rattle.fetch_session.specs.Readiness.{IsMergedAtMost, IsSettledBy, MboxUnready, Settles}
 use Rattle.fetch_session.specs.Session.{Keeping, Noted, Proceeds}
 use Rattle.run_law.specs.Mboxes as Law
-use Rattle.run_law.proofs.Lists.{map-map}
+use Rattle.std.proofs.lemmas.Simd.{map-map}
 
 -- ---- The texts that tasks appended to an mboxrd file, and the intent of the next one.
 
@@ -63,6 +62,10 @@ texts_same items (d ∷ dones) right =
     simp (map-append, texts_one items d.task d.replies right.0, texts_same items dones right.1)
 
 -- ---- the next message
+
+at_length : {A : Type 0} (xs : List A) (y : A) (ys : List A) → slice_get (xs ++ y ∷ ys) (length xs) ≡ Some y
+at_length [] y ys = refl
+at_length (x ∷ xs) y ys = at_length xs y ys
 
 abbrev id_in : Option (ℕ × List ℕ) → List ℕ
 id_in None = []

@@ -16,9 +16,8 @@ use Rattle.run_law.specs.Accounts.{copies}
 use Rattle.run_law.specs.Mails.{WorldsShrink, ids_of, is_selected, messages_after, selected, texts_of, without}
 use Rattle.run_law.specs.Runs.{State, IsSound, World, HoldsOf, IsNeither, Event, Fetched, Between, Expired, Withdrawn, TakenAway, BroughtBack, Forgotten, PowerLost, after_event, world_after}
 use Rattle.fetch_session.specs.Session.{AccountFiles}
-use Rattle.run_law.proofs.Ids.{all_at, all_ids_at, bytes_same, bytes_self, has_filtered, has_texts}
-use Rattle.run_law.proofs.Lists.{all_both, all_filter, all_front, all_map, filter-swap, is_some}
-use Rattle.run_law.proofs.PowerCuts.{all_after}
+use Rattle.fetch_runs.proofs.Ids.{all_at, all_ids_at, bytes_same, bytes_self, has_filtered, has_texts}
+use Rattle.fetch_runs.proofs.Lists.{all_both, all_filter, all_front, all_map, filter-swap, is_some}
 use Rattle.fetch_runs.specs.Headline.{AreTaken, AreTakings, Follows, Headline, IsKept, IsLastStored, IsRecorded, IsRun, KeepsRecord, contents_of, by_rows, after_session, Occasion}
 use Rattle.fetch_runs.specs.Power.{AllMayBeOnDisk, CanLosePower, IsSure, IsSureOrTaken, LossesAreEvents, SessionsAndPower}
 use Rattle.fetch_runs.specs.PowerRuns.{AsMuchIsSure, CanAlwaysLosePower, EventOn, EventsKeepPower, HeadlineOn, IsRunOn, KeepsSure, TakingsRunOn, events_of}
@@ -34,6 +33,10 @@ pub record EventLaws {D F : Type 0} (disk : DiskGhosts D) (files : FileGhosts F)
   pub losses : LossesAreEvents disk files
   pub begins : AllMayBeOnDisk disk files
   pub sessions : SessionsAndPower disk files
+
+all_after : (P : Message → Type 0) (id : List ℕ) (ms : List Message) → AllByRecursion P ms → AllByRecursion P (messages_after id ms)
+all_after P id [] all = tt
+all_after P id (m ∷ ms) all = grind (arith, all.1, all_after P id ms all.1)
 
 -- ---- one event
 

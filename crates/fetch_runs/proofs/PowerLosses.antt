@@ -12,7 +12,7 @@ use Rattle.std.proofs.lemmas.Bool.{both_ways}
 use Rattle.mail_store.specs.Maildir.{File, name_in, names_of}
 use Rattle.mail_store.specs.declared.maildir.disk.MaildirDisk.{Ghosts as DiskGhosts}
 use Rattle.run_law.specs.Accounts.{copies}
-use Rattle.run_law.proofs.Lists.{any_filter, is_some}
+use Rattle.fetch_runs.proofs.Lists.{any_filter, is_some}
 use Rattle.std.proofs.lemmas.List.Folds.{Any-from_list_any}
 use Rattle.std.proofs.lemmas.Bool.{or_left, or_right}
 use Rattle.fetch_runs.specs.Headline.{Headline, IsLastStored, contents_of}

@@ -1,10 +1,10 @@
 -- What a loss of power may leave after a session is an event of a run.
-use Rattle.std.proofs.Common.{◌≡◌, ◌⊎◌, inl, inr, ◌≤◌, ℕ, zero, suc, List, [], ◌∷◌, ◌++◌, Bool, true, false, ◌&&◌, ◌||◌, length, length-append, Option, Some, None, Result, Ok, Err, refl, sym, ap, subst, ◌∙◌, arith}
+use Rattle.std.proofs.Common.{◌≡◌, ◌⊎◌, inl, inr, ◌≤◌, ℕ, zero, suc, List, [], ◌∷◌, ◌++◌, map, Bool, true, false, ◌&&◌, ◌||◌, length, length-append, Option, Some, None, Result, Ok, Err, refl, sym, ap, subst, ◌∙◌, arith}
 use Rattle.std.specs.Prelude.{All, bytes_eq, Contains}
 use Rattle.std.specs.List.{AllByRecursion, list_any}
 use Rattle.std.proofs.lemmas.Bool.{and_parts, both_ways, false_from_ne_true, or_cases}
-use Rattle.std.proofs.lemmas.List.{append-nil, append_cancel_left}
-use Rattle.std.proofs.lemmas.List.Elements.{Contains-append_cases, Contains-append_right, recursion_from_All}
+use Rattle.std.proofs.lemmas.List.{append-nil, append_cancel_left, map-append}
+use Rattle.std.proofs.lemmas.List.Elements.{Contains-append_cases, Contains-append_right, filter-append, recursion_from_All}
 use Rattle.std.proofs.lemmas.List.Concat.{flat_map-append}
 use Rattle.std.proofs.lemmas.List.Folds.{list_any-append}
 use Rattle.std.proofs.lemmas.Slice.Eq.{bytes_eq-Decides}
@@ -42,9 +42,8 @@ use Rattle.pop3_wire.specs.World.{Message}
 use Rattle.run_law.specs.Accounts.{copies}
 use Rattle.run_law.specs.Mails.{messages_after, selected}
 use Rattle.run_law.specs.Power.{OneMoreIsLast}
-use Rattle.run_law.proofs.Lists.{all_map}
-use Rattle.run_law.proofs.Ids.{bytes_same, bytes_self}
-use Rattle.run_law.proofs.Files.{copies-append}
+use Rattle.fetch_runs.proofs.Lists.{all_map}
+use Rattle.fetch_runs.proofs.Ids.{bytes_same, bytes_self}
 use Rattle.fetch_runs.specs.Headline.{Occasion, IsRecorded, IsSession, IsKept, IsLastStored, Headline, by_rows, after_session}
 use Rattle.fetch_runs.specs.Power.{AllButLastStay, CanLosePower, IsSessionOf, IsSure, IsSureOrTaken, SessionsAndPower, ShowsSure}
 use Rattle.fetch_runs.proofs.HeadlineLemmas.{Laws, vanished_recorded}
@@ -153,7 +152,8 @@ module _ (laws : PowerLaws) {D F : Type 0} (disk : DiskGhosts D) (files : FileGh
     stem_is other = stem_of account other
 
     copies_more : (other : List ℕ) → copies more.files (stem_is other) ≡ copies without.files (stem_is other) ++ copies (g ∷ []) (stem_is other)
-    copies_more other = ap (λ fs. copies fs (stem_is other)) came ∙ copies-append without.files (g ∷ []) (stem_is other)
+    copies_more other = ap (λ fs. copies fs (stem_is other)) came ∙ ap (map (λ (f : File). f.content)) (filter-append (λ (f : File). bytes_eq (stem_is other) (stem f.name)) without.files (g ∷ []))
+        ∙ map-append (λ (f : File). f.content) _ _
 
     its_copy : copies (g ∷ []) (stem_is id) ≡ g.content ∷ []
     its_copy = rw named refl

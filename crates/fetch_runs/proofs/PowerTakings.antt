@@ -8,7 +8,7 @@ use Rattle.mail_store.specs.FileName.{names_id, stem, stem_of}
 use Rattle.mail_store.specs.Maildir.{File, IsPart}
 use Rattle.run_law.specs.Accounts.{copies}
 use Rattle.fetch_session.specs.Session.{AccountFiles}
-use Rattle.run_law.proofs.Lists.{any_filter, is_some}
+use Rattle.fetch_runs.proofs.Lists.{any_filter, is_some}
 use Rattle.std.proofs.lemmas.Bool.{both_ways, or_right}
 use Rattle.fetch_runs.specs.Headline.{AreTakings, IsRun, contents_of, after_session, Occasion}
 use Rattle.fetch_runs.proofs.PowerLosses.{named_in, named_some}

@@ -8,7 +8,7 @@ use Rattle.pop3_wire.specs.World.{IsWorld}
 use Rattle.fetch_session.specs.Account.{digits_of}
 use Rattle.fetch_session.specs.declared.report.Report.{Report}
 use Rattle.fetch_session.specs.Session.{AccountFiles, MboxAccountFiles, Session}
-use Rattle.run_law.proofs.Lists.{all_append, all_back, all_front}
+use Rattle.fetch_runs.proofs.Lists.{all_append, all_back, all_front}
 use Rattle.fetch_runs.specs.declared.run.Visit.{Visit}
 use Rattle.run_law.specs.Sessions.{Fact}
 use Rattle.run_law.specs.MboxRuns.{MboxState, MboxWorld, Fetched as InMbox}

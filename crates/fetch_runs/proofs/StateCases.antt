@@ -18,7 +18,7 @@ use Rattle.fetch_session.specs.Record.{Keeps, Steady, Saves}
 use Rattle.fetch_session.specs.Report.{retrieved_in}
 use Rattle.fetch_session.specs.Scene.{Scene, Went, Fell}
 use Rattle.fetch_session.specs.Target.{Target}
-use Rattle.run_law.proofs.Lists.{all_append, all_front}
+use Rattle.fetch_runs.proofs.Lists.{all_append, all_front}
 use Rattle.fetch_runs.proofs.Courses.{course, stored_done, found_in, found_by, found_of}
 use Rattle.fetch_runs.proofs.StatePlan.{Safe, deleted_by}
 use Rattle.fetch_runs.proofs.StateDone.{number_found, number_of, text_found, counted_by, safe_next, safe_done, Laws, Inputs, rows_on, tasks_on, messages_on, rows_after, IsRecorded, IsRightOn, Part, safe_tasks, right_front, recorded_all, numbers_part, wanted_all}

@@ -12,20 +12,21 @@ use Rattle.pop3_client.specs.Turns.{IsGood, retr}
 use Rattle.fetch_session.specs.Task.{Task, stores, rereads, deletes, Done, IsAnswered, turns_in, tasks_of, files_in, files_of, lines_in, lines_of, ids_in, ids_of, ids_ahead}
 use Rattle.fetch_session.specs.Report.{is_taken, retrieved_in}
 use Rattle.run_law.specs.Steps.{file_for, is_unheld, Effect, ids_wanted}
-use Rattle.run_law.proofs.Lists.{all_append, all_front, all_map, map-map}
+use Rattle.std.proofs.lemmas.Simd.{map-map}
+use Rattle.fetch_runs.proofs.Lists.{all_append, all_front, all_map}
 use Rattle.fetch_runs.proofs.Courses.{found_in, found_by, Course, found_of, begun_of}
 use Rattle.fetch_runs.proofs.StatePlan.{key, fetched_in, fetched, IsRight, deleted_in, deleted_by, Safe, tasks_ahead, PlansFetchWanted, fetched_ahead, right_ahead, safe_ahead}
 use Rattle.fetch_runs.proofs.TalkCommands.{one_reply}
 use Rattle.std.specs.Prelude.{◌&&◌, ◌||◌, bytes_eq}
 use Rattle.std.proofs.lemmas.Slice.Eq.{bytes_eq-Decides}
 use Rattle.std.proofs.Math.Bool.{or-true}
+use Rattle.std.proofs.lemmas.Bool.{or_left}
 use Rattle.fetch_rules.specs.Record.{Row, is_of, has_row, is_delivered, with_delivered, marked, marked_all, new_ids, with_held, merged}
 use Rattle.mail_store.specs.Held.{flags_of}
 use Rattle.rc_file.specs.declared.settings.Settings.{Settings}
 use Rattle.fetch_rules.specs.RecordGrowth.{OneRecord}
 use Rattle.fetch_rules.specs.Wanted.{wanted}
 use Rattle.fetch_session.specs.Laws.{SteadyFilesKeep, UnsavedFilesKeep}
-use Rattle.run_law.proofs.Records.{marks_stay}
 
 abbrev pub number_found : ℕ × List ℕ → ℕ
 number_found found = found.0
@@ -214,11 +215,15 @@ marks_by account maildir items (d ∷ dones) rows settled right = by d.task righ
 
 -- ---- what is recorded as delivered
 
+marks_stay : Laws → (rows : List Row) (ids : List (List ℕ)) (uid : List ℕ) → is_delivered rows uid ≡ true → is_delivered (marked_all rows ids) uid ≡ true
+marks_stay laws rows [] uid is = is
+marks_stay laws rows (id ∷ ids) uid is = marks_stay laws (marked rows id) ids uid (laws.marks rows id uid ∙ or_left _ _ is)
+
 pub marked_delivered : Laws → (rows : List Row) (ids : List (List ℕ)) → AllByRecursion (λ (uid : List ℕ). has_row rows uid ≡ true) ids
     → AllByRecursion (λ (uid : List ℕ). is_delivered (marked_all rows ids) uid ≡ true) ids
 marked_delivered laws rows [] all = tt
 marked_delivered laws rows (id ∷ ids) all = (
-  marks_stay laws.marks (marked rows id) ids id
+  marks_stay laws (marked rows id) ids id
       (laws.marks rows id id ∙ ap (λ b. is_delivered rows id || (b && bytes_eq id id)) all.0 ∙ ap (λ b. is_delivered rows id || b) ((bytes_eq-Decides id id).1 refl) ∙ or-true (is_delivered rows id)),
   marked_delivered laws (marked rows id) ids
       (all_map (λ (uid : List ℕ). has_row rows uid ≡ true) (λ (uid : List ℕ). has_row (marked rows id) uid ≡ true) (λ other has. laws.rows rows id other ∙ has) ids all.1),
@@ -317,8 +322,8 @@ pub record Part (tasks : List Task) (dones : List Done) : Type 0 where
 module _ (laws : Laws) (p : Inputs) where
   pub safe_tasks : (dones : List Done) → Safe (IsRecorded p dones) p.items (tasks_on p)
   safe_tasks dones =
-      safe_ahead (IsRecorded p dones) p.settings p.account p.items p.now p.maildir (rows_on p) (λ uid known. marks_stay laws.marks (rows_on p) (ids_of dones) uid known)
-      (λ uid listed held. marks_stay laws.marks (rows_on p) (ids_of dones) uid (held_delivered laws p.account p.maildir p.items p.now p.rows uid listed held))
+      safe_ahead (IsRecorded p dones) p.settings p.account p.items p.now p.maildir (rows_on p) (λ uid known. marks_stay laws (rows_on p) (ids_of dones) uid known)
+      (λ uid listed held. marks_stay laws (rows_on p) (ids_of dones) uid (held_delivered laws p.account p.maildir p.items p.now p.rows uid listed held))
 
   pub right_front : (front rest : List Task) → tasks_on p ≡ front ++ rest → AllByRecursion (IsRightOn p) front
   right_front front rest split = all_front (IsRightOn p) front rest (subst (AllByRecursion (IsRightOn p)) split (right_ahead p.settings p.account p.items p.now p.maildir (rows_on p)))

@@ -1,5 +1,5 @@
 -- The tasks of a plan: what they fetch, whether it is held, and what comes before a deletion.
-use Rattle.run_law.proofs.Lists.{all_append}
+use Rattle.fetch_runs.proofs.Lists.{all_append}
 use Rattle.std.proofs.Common.{◌≡◌, ◌⊎◌, inl, inr, ◌+◌, ◌-◌, ℕ, Bool, true, false, cond, List, [], ◌∷◌, ◌++◌, map, zip, Option, None, Some, refl, sym, ap, subst, ◌∙◌, append_assoc, length, length-append, arith, rules}
 use Rattle.std.specs.Prelude.{◌&&◌, ◌||◌, ◌<◌, bytes_eq, slice_get}
 use Rattle.std.specs.List.{flat_map, filter, AllByRecursion, enumerate_from}

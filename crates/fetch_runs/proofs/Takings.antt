@@ -11,10 +11,10 @@ use Rattle.mail_store.specs.FileName.{StemsDiffer, names_id, stem, stem_of}
 use Rattle.run_law.specs.Accounts.{copies}
 use Rattle.run_law.specs.Mails.{ids_of, selected}
 use Rattle.fetch_session.specs.Session.{AccountFiles, account_files}
-use Rattle.run_law.proofs.Ids.{bytes_same}
+use Rattle.fetch_runs.proofs.Ids.{bytes_same}
 use Rattle.fetch_runs.specs.Headline.{AreTaken, Headline, IsKept, IsTakenAway, TakingsAreEvents, after_session, Occasion}
 use Rattle.run_law.specs.Runs.{State, IsSound, World, Event, Between, TakenAway, after_event}
-use Rattle.run_law.proofs.Lists.{any_filter, is_some}
+use Rattle.fetch_runs.proofs.Lists.{any_filter, is_some}
 
 abbrev others_than : List ℕ → List File → List File
 others_than front fs = filter (λ (f : File). not (bytes_eq front (stem f.name))) fs

@@ -11,7 +11,7 @@ use Rattle.pop3_wire.specs.Honest.{Asked, BeginsNext, FrontsAreAsked}
 use Rattle.pop3_wire.specs.Reading.{WholeReply, body_bytes, has_body, IsBodyIf}
 use Rattle.pop3_client.specs.Turns.{Turn, asking, retr, dele, quit, IsBody, IsGood}
 use Rattle.run_law.specs.Sessions.{BeginsOne}
-use Rattle.run_law.proofs.Lists.{all_append}
+use Rattle.fetch_runs.proofs.Lists.{all_append}
 use Rattle.fetch_runs.specs.Conversations.{SentBehind, Conversation}
 use Rattle.std.proofs.lemmas.Bool.{true≢false}
 use Rattle.pop3_wire.specs.declared.command.Command.TheVariants.{Retr, Dele, Quit}
@@ -88,6 +88,10 @@ Spoken commands next sent = (asked : Asked commands sent) × BeginsNext next ask
 pub begins_one : (Is : Command → Type 0) (next : List Command) (part : List ℕ) → BeginsNext next part → AllByRecursion Is next → BeginsOne Is part
 begins_one Is [] part none all = inl none
 begins_one Is (command ∷ next) part (unsent, is) all = inr (command, unsent, is, all.0)
+
+pub begins_of : {Is Other : Command → Type 0} → ((command : Command) → Is command → Other command) → (part : List ℕ) → BeginsOne Is part → BeginsOne Other part
+begins_of on part (inl none) = inl none
+begins_of on part (inr (command, unsent, is, holds)) = inr (command, unsent, is, on command holds)
 
 -- the commands that were sent whole: those of the completed turns, of the one that was begun, and of the tail
 pub record Commanded (done begun tail : List Turn) (sent : List ℕ) : Type 0 where

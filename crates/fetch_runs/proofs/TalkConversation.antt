@@ -33,7 +33,7 @@ use Rattle.fetch_session.specs.Scene.{Scene, scene, Fell, Stops, Does}
 use Rattle.fetch_session.specs.Target.{Target, AsFiles, AsEntries, Stores}
 use Rattle.fetch_session.specs.Session.{LeavesLink, outcome_of, Keeping, Noted, NotEntered, NoRoom, Dealt, Proceeds, SessionIn, keeps_entries, AccountFiles, keeps_files}
 use Rattle.fetch_session.specs.Store.{RefusesText}
-use Rattle.run_law.proofs.Lists.{all_front}
+use Rattle.fetch_runs.proofs.Lists.{all_front}
 use Rattle.fetch_runs.specs.Conversations.{AreFound, tail_behind, is_retrieval, retrieved_by, Conversation, plan_turns, FollowsPlan, MboxSessionsFollowPlans, Converses, CountsTexts, Opens, SpeaksByPlan, SessionsAreConversations}
 use Rattle.fetch_runs.proofs.Courses.{Course, course, stored_done, spare_in, spare_of, course_stopped, course_does, course_carried, course_carries, begun_of, SessionCourse, Idle, Deals, course_dealt, course_proceeded, session_course_of, IsOfTask}
 use Rattle.fetch_runs.proofs.TalkCommands.{IsPlain, plain_ahead, one_reply, commands_in, CanBeSaid, Commanded, said_tasks, both_none}

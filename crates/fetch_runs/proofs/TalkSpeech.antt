@@ -1,8 +1,10 @@
 -- What each session sent and read: the opening, what followed it, and the tail.
 use Rattle.std.proofs.Common.{◌≡◌, ◌≤◌, ℕ, List, [], ◌∷◌, ◌++◌, true, length, Option, None, Some, Result, refl, sym, ap, ◌∙◌, arith, inl, inr, map, subst, append_assoc, Err, rules}
 use Rattle.std.specs.List.{AllByRecursion, AllZip, flat_map}
-use Rattle.std.proofs.lemmas.List.{append-nil}
+use Rattle.std.proofs.lemmas.List.{append_cancel_left, append-nil}
+use Rattle.pop3_wire.specs.declared.reply.Status.TheVariants.{Positive}
 use Rattle.pop3_wire.specs.Fields.{number_and_size}
+use Rattle.pop3_wire.specs.Reply.{IsFirstLine, indicator, without_space}
 use Rattle.pop3_wire.specs.Place.{Place}
 use Rattle.pop3_wire.specs.Reading.{WholeReply, GivesCount, body_bytes, reply_bytes}
 use Rattle.mail_terms.specs.Credential.{is_credential}
@@ -12,7 +14,7 @@ use Rattle.mail_terms.specs.declared.listing.ScanRow.{ScanRow}
 use Rattle.pop3_client.specs.Turns.{greeting, stat, IsBody, IsGood, Turn, quit, rset}
 use Rattle.run_law.specs.Readings.{IsListed, AreGood, Talked as IsTalked, Retrieves}
 use Rattle.fetch_session.specs.Opening.{opening, Opened, Enters}
-use Rattle.run_law.proofs.Lists.{all_append, all_back, all_front}
+use Rattle.fetch_runs.proofs.Lists.{all_append, all_back, all_front}
 use Rattle.fetch_runs.proofs.TalkCommands.{CanBeSaid, commands_in, Commanded, commanded, both_none, begins_any, begins_one, IsCommand, IsPlain, reply_read, replies_read, said_tasks, commands_tasks, commands_split, of_tasks}
 use Rattle.pop3_wire.specs.declared.command.Command.{Command}
 use Rattle.pop3_wire.specs.declared.command.Command.TheVariants.{User, Pass, Stat, UidlAll, ListAll}
@@ -34,7 +36,6 @@ use Rattle.fetch_runs.proofs.TalkCourses.{conversation, Took, fronted, goes_tail
 use Rattle.fetch_rules.specs.declared.steps.Step.{Step}
 use Rattle.run_law.specs.Plans.{plan_commands, IsTail as IsTailOf, IsFrontOfPlan}
 use Rattle.pop3_client.specs.Conversation.{ConversationsArePaced, Stopped, Talks, TurnsJoin}
-use Rattle.run_law.proofs.Listed.{rest_same}
 
 -- ---- The opening of a session, as the law over runs reads it.
 
@@ -65,6 +66,9 @@ pub said_opening : (name word : List ℕ) → is_credential name ≡ true → is
 said_opening name word n w = (tt, ((n, tt), ((w, tt), ((refl, tt), ((refl, tt), ((refl, tt), tt))))))
 
 -- ---- how many messages are listed
+
+rest_same : (line rest other : List ℕ) → IsFirstLine line Positive rest → IsFirstLine line Positive other → rest ≡ other
+rest_same line rest other p q = p.2 ∙ ap without_space (append_cancel_left (indicator Positive) p.0 q.0 (sym p.1 ∙ q.1)) ∙ sym q.2
 
 pub few_items : (counted : WholeReply) (count : ℕ) (uids : List UidRow) (sizes : List ScanRow) (items : List Item) → IsGood stat counted → GivesCount counted count → Joins count uids sizes items
     → length items ≤ 100000

@@ -30,7 +30,14 @@ use Rattle.pop3_server.specs.LoopLink.{Loop, Serves}
 use Rattle.local_fetch.specs.Local.{AreSessions, AreMboxSessions, AreWithout, FetchesBy, FetchesFrom, MboxFetchesFrom, loop_to, unused}
 use Rattle.run_law.specs.Plans.{asked_if, step_commands, plan_commands, IsTail, IsFrontOfPlan}
 use Rattle.pop3_server.specs.HonestServer.{IsOfSession, IsAsked, IsClosedByQuit, AreLeft, Gone, lines_of}
-use Rattle.run_law.proofs.Lists.{all_append, all_front, all_map}
+
+all_append : {A : Type 0} (P : A → Type 0) (xs ys : List A) → AllByRecursion P xs → AllByRecursion P ys → AllByRecursion P (xs ++ ys)
+all_append P [] ys first then = then
+all_append P (x ∷ xs) ys first then = (first.0, all_append P xs ys first.1 then)
+
+all_front : {A : Type 0} (P : A → Type 0) (xs ys : List A) → AllByRecursion P (xs ++ ys) → AllByRecursion P xs
+all_front P [] ys all = tt
+all_front P (x ∷ xs) ys all = (all.0, all_front P xs ys all.1)
 
 asked_steps : (retrieve delete : Bool) (number : ℕ) (commands : List Command) → AllByRecursion IsOfSession commands
     → AllByRecursion IsOfSession ((asked_if retrieve (Retr number) ++ asked_if delete (Dele number)) ++ commands)
@@ -79,8 +86,9 @@ few_refused old new (WasCut fault) none (inr up) = let one : new.failures ≡ 1 
 
 later_marked : (message : Message) (mark : Bool) (messages : List Message) (marks : List Bool) (ids : List (List ℕ)) → AllByRecursion (IsMarked messages marks) ids
     → AllByRecursion (IsMarked (message ∷ messages) (mark ∷ marks)) ids
-later_marked message mark messages marks ids all =
-    all_map (IsMarked messages marks) (IsMarked (message ∷ messages) (mark ∷ marks)) (λ id h. (suc h.0, h.1, h.2, h.3, h.4)) ids all
+later_marked message mark messages marks [] all = tt
+later_marked message mark messages marks (id ∷ ids) all =
+    ((suc all.0.0, all.0.1, all.0.2, all.0.3, all.0.4), later_marked message mark messages marks ids all.1)
 
 -- the ids of the marked messages that are gone
 record Missing (before : List Message) (marks : List Bool) (after : List Message) : Type 0 where

@@ -1,24 +1,24 @@
 mod Below
 mod Bridge
-pub mod Core
+mod Core
 mod Ends
-pub mod Files
+mod Files
 mod Holds
 mod HonestSession
-pub mod Ids
+mod Ids
 mod Laws
 mod Linked
-pub mod Listed
-pub mod Lists
+mod Listed
+mod Lists
 mod MboxHonestSession
-pub mod MboxKept
+mod MboxKept
 mod MboxOthers
 mod Others
 mod Power
-pub mod PowerCuts
-pub mod Records
+mod PowerCuts
+mod Records
 mod Replied
-pub mod Safety
+mod Safety
 mod Tells
 mod VisitKept
 mod Wants
