@@ -14,12 +14,12 @@ use Rattle.pop3_wire.specs.declared.command.Command.TheVariants.{User, Pass, Sta
 use Rattle.pop3_wire.specs.Link.{Link}
 use Rattle.pop3_wire.specs.Place.{at}
 use Rattle.pop3_client.specs.Conversation.{ConversationsArePaced, TurnsJoin}
-use Rattle.fetch_rules.specs.Record.{Row, RecordState, Intent}
+use Rattle.fetch_rules.specs.Record.{Row, RecordState}
 use Rattle.mail_store.specs.Maildir.{Maildir}
 use Rattle.rc_file.specs.declared.settings.Settings.{Settings}
 use Rattle.mail_terms.specs.UniqueId.{has_id}
 use Rattle.pop3_wire.specs.Honest.{FrontsAreAsked, Asked}
-use Rattle.run_law.specs.Sessions.{IsBegun, Reads, BeginsOne}
+use Rattle.run_law.specs.Sessions.{IsBegun, SendsOnly, Reads, BeginsOne}
 use Rattle.run_law.specs.Steps.{Leaves, wanted_at, Effect}
 use Rattle.run_law.specs.Counted.{CountedStores}
 use Rattle.fetch_session.specs.declared.fault.Cut.{Cut}
@@ -34,6 +34,7 @@ use Rattle.fetch_session.specs.Task.{Task, deletes}
 use Rattle.fetch_session.specs.Record.{KeepsRows, Keeps}
 use Rattle.fetch_session.specs.Session.{AccountFiles, keeps_files, outcome_of, Keeping, MboxAccountFiles, keeps_entries}
 use Rattle.fetch_session.specs.Target.{AsFiles, AsEntries, mail_in, no_maildir}
+use Rattle.fetch_runs.proofs.Lists.{all_back, all_map}
 use Rattle.fetch_runs.specs.Conversations.{tail_behind}
 use Rattle.fetch_runs.specs.Steps.{holds, SaysOnly, StopsAtList, IsStep, SessionIsAStep}
 use Rattle.fetch_runs.proofs.TalkConversation.{tail_for, Gained, talks}
@@ -43,7 +44,6 @@ use Rattle.fetch_runs.proofs.StatePlan.{IsRight, deleted_in, deleted_by}
 use Rattle.fetch_runs.proofs.StateDone.{number_found, number_of, text_found, Laws, effect_of}
 use Rattle.fetch_runs.proofs.StateCases.{is_ended, UnsavedIn}
 use Rattle.fetch_runs.proofs.StateLaw.{RefusedIn, CourseLeads, course_leads}
-use Rattle.fetch_runs.proofs.TalkCommands.{all_back, all_weaker, begins_of}
 use Rattle.fetch_runs.proofs.TalkSpeech.{Speaks}
 use Rattle.run_law.specs.Mboxes.{MboxLeaves, mbox_wanted, MboxMail, MboxStores, settled, entries}
 use Rattle.run_law.specs.MboxSessions.{AsksForNoMessage, AsksForNone, MboxSession as Stepped}
@@ -56,6 +56,7 @@ use Rattle.mail_terms.specs.Text.{IsWhole}
 use Rattle.mail_store.specs.Mboxrd.{MboxFile, EntryAddsText, entry_of}
 use Rattle.run_law.specs.Readings.{Retrieves}
 use Rattle.fetch_runs.specs.MboxTexts.{AddsTexts}
+use Rattle.fetch_runs.proofs.TalkCommands.{begins_of, both_none}
 
 -- ---- deletions
 
@@ -74,6 +75,16 @@ begun_one account maildir items tasks right (Dele number) is =
     let at = (all_back (IsRight account maildir items) is.0 (deletes number ∷ is.1) (subst (AllByRecursion (IsRight account maildir items)) is.2 right)).0 in
     (at.0, at.1, ap (λ (ts : List Task). has_id (deleted_by items ts) at.0.uid) is.2 ∙ id_there items is.0 is.1 number at.0 at.1, at.2, at.3)
 begun_one account maildir items tasks right other is = tt
+
+-- each command that was sent is of this kind
+abbrev sends_of : (account : List ℕ) (maildir : Maildir) (items : List Item) (tasks : List Task) → AllByRecursion (IsRight account maildir items) tasks → {commands : List Command} {sent : List ℕ}
+    (asked : Asked commands sent) → AllByRecursion (IsOfTask tasks) commands → BeginsOne (IsOfTask tasks) asked.part → SendsOnly (IsBegun items (deleted_by items tasks)) sent
+sends_of account maildir items tasks right {commands} asked all next = record {
+  commands = commands;
+  asked = asked;
+  each = all_map (IsOfTask tasks) (IsBegun items (deleted_by items tasks)) (begun_one account maildir items tasks right) commands all;
+  next = begins_of (begun_one account maildir items tasks right) asked.part next;
+}
 
 -- ---- the outcome
 
@@ -138,10 +149,7 @@ module _ (stores : CountedStores) (settings : Settings) (account : List ℕ) (no
     keeps = subst (λ (k : AccountFiles). KeepsRows k.file.content rows) (sym left.1) keeps;
     left = inl (unchanged, counts ∙ ap retrieved_in left.2);
     stepped = record {
-      commands = said.exchanges.0;
-      asked = said.exchanges.1;
-      begun = all_weaker (IsOfTask []) (IsBegun [] []) said.exchanges.0 (begun_one account before.maildir [] [] tt) said.exchanges.2;
-      next = begins_of (IsOfTask []) (IsBegun [] []) (begun_one account before.maildir [] [] tt) said.exchanges.1.part said.exchanges.3;
+      sends = sends_of account before.maildir [] [] tt said.exchanges.1 said.exchanges.2 said.exchanges.3;
       step = inl unchanged;
     };
   }
@@ -169,10 +177,7 @@ module _ (stores : CountedStores) (settings : Settings) (account : List ℕ) (no
       ];
     });
     stepped = record {
-      commands = commands_of said.exchanges;
-      asked = said.exchanges.talked.asked;
-      begun = all_weaker (IsOfTask (begun_of c)) (IsBegun c.items (deleted_by c.items (begun_of c))) (commands_of said.exchanges) (begun_one account before.maildir c.items (begun_of c) left.right) said.exchanges.deletes;
-      next = begins_of (IsOfTask (begun_of c)) (IsBegun c.items (deleted_by c.items (begun_of c))) (begun_one account before.maildir c.items (begun_of c) left.right) said.exchanges.talked.asked.part said.exchanges.next;
+      sends = sends_of account before.maildir c.items (begun_of c) left.right said.exchanges.talked.asked said.exchanges.deletes said.exchanges.next;
       step = inr (
         stores settings account (holds rows before.maildir) (effect_of now (is_ended result) c) (holds left.rows' after.maildir) left.figures,
         reads said.exchanges now (is_ended result) (wanted_at settings account (holds rows before.maildir) (effect_of now (is_ended result) c)) left.numbers,
@@ -197,22 +202,15 @@ session_is_a_step laws stores joining paced fronts settings account now link bef
 
 -- ---- without a task no message is asked for
 
-none_among : (front behind : List Task) (task : Task) → [] ≡ front ++ task ∷ behind → ⊥
-none_among [] behind task e = cc
-none_among (t ∷ front) behind task e = cc
-
 no_message : (command : Command) → IsOfTask [] command → AsksForNoMessage command
-no_message (Retr n) is = absurd (none_among is.0 is.2 is.1 is.3)
-no_message (Dele n) is = absurd (no_delete n is)
-  where
-    no_delete : (n : ℕ) → IsOfTask [] (Dele n) → ⊥
-    no_delete n is = none_among is.0 is.1 (deletes n) is.2
+no_message (Retr n) (front, task, behind, is) = absurd (let never : task ∷ behind ≡ [] = (both_none front (task ∷ behind) (sym is)).1 in cc)
+no_message (Dele n) (front, behind, is) = absurd (let never : deletes n ∷ behind ≡ [] = (both_none front (deletes n ∷ behind) (sym is)).1 in cc)
 no_message other is = tt
 
 asks_none : (tasks : List Task) (commands : List Command) (part : List ℕ) → tasks ≡ [] → AllByRecursion (IsOfTask tasks) commands → BeginsOne (IsOfTask tasks) part → AsksForNone commands part
 asks_none tasks commands part none all next = (
-  all_weaker (IsOfTask []) AsksForNoMessage commands no_message (subst (λ (ts : List Task). AllByRecursion (IsOfTask ts) commands) none all),
-  begins_of (IsOfTask []) AsksForNoMessage no_message part (subst (λ (ts : List Task). BeginsOne (IsOfTask ts) part) none next),
+  all_map (IsOfTask []) AsksForNoMessage no_message commands (subst (λ (ts : List Task). AllByRecursion (IsOfTask ts) commands) none all),
+  begins_of no_message part (subst (λ (ts : List Task). BeginsOne (IsOfTask ts) part) none next),
 )
 
 -- ---- both together
@@ -236,16 +234,10 @@ module _ (stores : MboxCountedStores) (settings : Settings) (now : ℕ) (link : 
     keeps = keeps';
     left = inl (leaves, counts ∙ told);
     stepped = record {
-      commands = commands;
-      asked = asked;
-      begun = all_weaker (IsOfTask (begun_of c)) (IsBegun c.items (deleted_by c.items (begun_of c))) commands begun all;
-      next = begins_of (IsOfTask (begun_of c)) (IsBegun c.items (deleted_by c.items (begun_of c))) begun asked.part next;
+      sends = sends_of [] no_maildir c.items (begun_of c) (subst (AllByRecursion (IsRight [] no_maildir c.items)) (sym none) tt) asked all next;
       step = inl (leaves, asks_none (begun_of c) commands asked.part none all next);
     };
   }
-    where
-      begun : (command : Command) → IsOfTask (begun_of c) command → IsBegun c.items (deleted_by c.items (begun_of c)) command
-      begun = begun_one [] no_maildir c.items (begun_of c) (subst (AllByRecursion (IsRight [] no_maildir c.items)) (sym none) tt)
 
   mbox_joined : (session_course : SessionCourse) → CourseLeaves settings now result session_course held (keeps_entries before) (keeps_entries after) lines → Gained session_course (tail_for result) link link' → IsMboxStep settings now link before held report link' after
   mbox_joined Idle left said =
@@ -265,19 +257,13 @@ module _ (stores : MboxCountedStores) (settings : Settings) (now : ℕ) (link : 
     keeps = left.keeps;
     left = inr (record { figures = left.figures; retrieved_is = counts ∙ left.counted; one_less = λ is. unsaved_is result report.outcome outcome_is (left.one_less is) });
     stepped = record {
-      commands = commands_of said.exchanges;
-      asked = said.exchanges.talked.asked;
-      begun = all_weaker (IsOfTask (begun_of c)) (IsBegun c.items (deleted_by c.items (begun_of c))) (commands_of said.exchanges) begun said.exchanges.deletes;
-      next = begins_of (IsOfTask (begun_of c)) (IsBegun c.items (deleted_by c.items (begun_of c))) begun said.exchanges.talked.asked.part said.exchanges.next;
+      sends = sends_of [] no_maildir c.items (begun_of c) left.right said.exchanges.talked.asked said.exchanges.deletes said.exchanges.next;
       step = inr (
         stores settings (mbox_holds held before.mbox) (effect_of now (is_ended result) c) (mbox_holds left.record_state' after.mbox) left.figures,
         reads said.exchanges now (is_ended result) (mbox_wanted settings (mbox_holds held before.mbox) (effect_of now (is_ended result) c)) left.numbers,
       );
     };
   }
-    where
-      begun : (command : Command) → IsOfTask (begun_of c) command → IsBegun c.items (deleted_by c.items (begun_of c)) command
-      begun = begun_one [] no_maildir c.items (begun_of c) left.right
 
 pub mbox_session_is_a_step : Laws → MboxCountedStores → TurnsJoin → ConversationsArePaced → FrontsAreAsked → MboxSessionIsAStep
 mbox_session_is_a_step laws stores joining paced fronts settings now link before held report link' after valid keeps is =
@@ -306,11 +292,11 @@ retrieved_whole (other ∷ commands) (reply ∷ replies) found later = retrieved
 -- ---- entries after a file that stands for texts
 
 texts_stand : EntryAddsText → (file : List ℕ) (first texts : List (List ℕ)) → AllByRecursion IsWhole texts → MboxFile file first → MboxFile (file ++ entries texts) (first ++ texts)
-texts_stand adds file first [] whole stands = subst (MboxFile (file ++ [])) (sym (append-nil first)) (subst (λ (f : List ℕ). MboxFile f first) (sym (append-nil file)) stands)
+texts_stand adds file first [] whole stands = simp append-nil stands
 texts_stand adds file first (text ∷ texts) whole stands =
+    let more = texts_stand adds (file ++ entry_of text) (first ++ text ∷ []) texts whole.1 (adds file text first stands whole.0) in
     subst (MboxFile (file ++ (entry_of text ++ entries texts))) (append_assoc first (text ∷ []) texts)
-    (subst (λ (f : List ℕ). MboxFile f ((first ++ text ∷ []) ++ texts)) (append_assoc file (entry_of text) (entries texts))
-    (texts_stand adds (file ++ entry_of text) (first ++ text ∷ []) texts whole.1 (adds file text first stands whole.0)))
+    (subst (λ f. MboxFile f ((first ++ text ∷ []) ++ texts)) (append_assoc file (entry_of text) (entries texts)) more)
 
 -- ---- all that was wanted
 
@@ -320,9 +306,6 @@ few_found found wanted numbers =
     sym (length-map found (λ (p : ℕ × List ℕ). p.0)) ∙ ap (λ (l : List ℕ). length l) numbers ∙ length-map (take (length found) wanted) (λ (p : ℕ × Item). p.0) in
     let short : length (take (length found) wanted) ≡ min (length found) (length wanted) = length-take (length found) wanted in
     omega (arith, same, short)
-
-some_none : (i : Intent) → Some i ≡ None → ⊥
-some_none i e = cc
 
 module _ (adds : EntryAddsText) (settings : Settings) (before : MboxMail) (effect : Effect) (after : MboxMail) (ended : effect.ended ≡ true) where
   added : (commands : List Command) (sent got : List ℕ) → MboxStores settings before effect after → Reads (mbox_wanted settings before effect) commands sent got effect → AddsTexts settings before effect after
@@ -347,11 +330,11 @@ module _ (adds : EntryAddsText) (settings : Settings) (before : MboxMail) (effec
       file : after.file ≡ (settled effect.listing before).file ++ entries effect.texts
       file = elim stores.ending [
         | inl closed ↦ closed.file ∙ ap (λ (l : List (List ℕ)). (settled effect.listing before).file ++ entries l) (take_all stores.stored effect.texts (omega (arith, same, few, least)))
-        | inr broken ↦ absurd (some_none _ (sym broken.opened.intent ∙ (stores.ended ended).1))
+        | inr broken ↦ absurd (let never : Some _ ≡ None = sym broken.opened.intent ∙ (stores.ended ended).1 in cc)
       ]
 
   pub adds_texts : (sent got : List ℕ) → Stepped settings before sent got effect after → AddsTexts settings before effect after
   adds_texts sent got session = elim session.step [
     | inl (leaves, none) ↦ absurd (true≢false (sym ended ∙ leaves.ended))
-    | inr (stores, reads) ↦ added session.commands sent got stores reads
+    | inr (stores, reads) ↦ added session.sends.commands sent got stores reads
   ]

@@ -38,10 +38,11 @@ use Rattle.pop3_wire.specs.World.{Message}
 use Rattle.rc_file.specs.Settings.{IsValid}
 use Rattle.run_law.specs.Readings.{HonestIsGranted}
 use Rattle.run_law.specs.Sessions.{Served}
+use Rattle.fetch_runs.proofs.Lists.{all_append, all_back, all_front}
 use Rattle.fetch_runs.specs.Headline.{maildrop_at}
 use Rattle.fetch_runs.specs.Fronts.{FrontsAreSessions, IsCutThere, IsLeftBetween, IsLeftWithin, Uncut, UncutSessionsDoTasks}
 use Rattle.fetch_runs.proofs.FrontsHonest.{served_front, zip_both}
-use Rattle.fetch_runs.proofs.TalkCommands.{CanBeSaid, IsCommand, IsPlain, all_append, all_back, all_front, commands_tasks, one_reply, plain_ahead, said_tasks}
+use Rattle.fetch_runs.proofs.TalkCommands.{CanBeSaid, IsCommand, IsPlain, commands_tasks, one_reply, plain_ahead, said_tasks}
 use Rattle.fetch_runs.proofs.TalkSpeech.{few_items, replied}
 
 -- ---- the tasks of an uncut session

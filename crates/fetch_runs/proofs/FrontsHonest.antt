@@ -1,5 +1,5 @@
 -- What a session that was cut after some whole replies sent and got comes from an honest server, if all that the whole session did.
-use Rattle.std.proofs.Common.{◌≡◌, inl, inr, ℕ, List, [], ◌∷◌, ◌++◌, Bool, true, length, refl, sym, ap, subst, ◌∙◌, append_assoc, None, Option, Some, suc}
+use Rattle.std.proofs.Common.{◌≡◌, inl, inr, ℕ, List, [], ◌∷◌, ◌++◌, Bool, true, length, refl, sym, ap, subst, ◌∙◌, append_assoc, Option, Some, suc, rules}
 use Rattle.std.specs.List.{AllByRecursion, AllZip, flat_map}
 use Rattle.std.proofs.lemmas.List.{append-nil, append_cancel_left}
 use Rattle.std.proofs.lemmas.List.Concat.{flat_map-append}
@@ -17,14 +17,14 @@ use Rattle.pop3_client.specs.Turns.{Turn, IsGood, asking, list, pass, stat, turn
 use Rattle.fetch_session.specs.Opening.{opening}
 use Rattle.run_law.specs.Readings.{AreGranted, HonestIsGranted, Talked as IsTalked}
 use Rattle.run_law.specs.Sessions.{Served}
-use Rattle.fetch_runs.proofs.TalkCommands.{CanBeSaid, IsCommand, all_append, commands_in, numbers_in, octets_same, replies_read, sendable_in}
+use Rattle.fetch_runs.proofs.Lists.{all_append}
+use Rattle.fetch_runs.proofs.TalkCommands.{CanBeSaid, IsCommand, commands_in, numbers_in, octets_same, replies_read, sendable_in}
 use Rattle.fetch_runs.proofs.TalkSpeech.{no_body, said_opening}
 
 pub zip_both : {A B : Type 0} (R : A → B → Type 0) (xs : List A) (ys : List B) (us : List A) (vs : List B) → AllZip R xs ys → AllZip R us vs → AllZip R (xs ++ us) (ys ++ vs)
 zip_both R [] [] us vs h k = k
 zip_both R (x ∷ xs) (y ∷ ys) us vs h k = (h.0, zip_both R xs ys us vs h.1 k)
-zip_both R [] (y ∷ ys) us vs h k = absurd h
-zip_both R (x ∷ xs) [] us vs h k = absurd h
+zip_both R xs ys us vs h k = search rules
 
 no_line : IsLine []
 no_line [] rest e = cc
@@ -46,9 +46,7 @@ asked_in ts us sent can will is = record {
 same_length : (turns : List Turn) (replies : List WholeReply) → AllByRecursion IsCommand turns → AllZip IsGood turns replies → length (commands_in turns) ≡ length replies
 same_length [] [] all good = refl
 same_length (Some command ∷ turns) (reply ∷ replies) all good = ap (λ (n : ℕ). suc n) (same_length turns replies all.1 good.1)
-same_length (Some command ∷ turns) [] all good = absurd good
-same_length [] (reply ∷ replies) all good = absurd good
-same_length (None ∷ turns) replies all good = absurd all.0
+same_length turns replies all good = search rules
 
 -- what is granted is replied
 replied_first : (drop : List Message) (marks : List Bool) (commands more : List Command) (replies : List WholeReply) → length commands ≡ length replies → AreGranted drop marks (commands ++ more) replies
@@ -129,7 +127,7 @@ pub served_front : HonestIsGranted → (drop : List Message) (vanished : List (L
     → (sent got : List ℕ) → cut.sent ≡ link.sent ++ sent → cut.got ≡ link.got ++ got → Served drop sent got []
 served_front law drop vanished link link' cut name word named worded first opened ts us rs commands can will good rest all_sent all_got served cut_sent cut_got sent got sent_is got_is =
     let whole = served (asking (opening name word) ++ (asking ts ++ asking us)) (flat_map reply_bytes first ++ (flat_map reply_bytes rs ++ rest))
-    (all_sent ∙ nested link.sent (asking (opening name word)) (asking ts) (asking us)) (all_got ∙ nested link.got (flat_map reply_bytes first) (flat_map reply_bytes rs) rest) in
+    (all_sent ∙ simp append_assoc) (all_got ∙ simp append_assoc) in
     let front = honest_front law drop whole.marks name word named worded first opened ts us rs commands can will good rest whole.honest in
     let said : asking (opening name word) ++ asking ts ≡ sent = append_cancel_left link.sent (asking (opening name word) ++ asking ts) sent
     (sym (append_assoc link.sent (asking (opening name word)) (asking ts)) ∙ sym cut_sent ∙ sent_is) in
@@ -141,6 +139,3 @@ served_front law drop vanished link link' cut name word named worded first opene
       quits = inl refl;
       marked = tt;
     }
-  where
-    nested : (a b c d : List ℕ) → ((a ++ b) ++ c) ++ d ≡ a ++ (b ++ (c ++ d))
-    nested a b c d = append_assoc (a ++ b) c d ∙ append_assoc a b (c ++ d)

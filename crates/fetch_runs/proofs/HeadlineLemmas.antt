@@ -1,8 +1,8 @@
 -- From a kept state every list of sessions, and of what happens between them, keeps what is promised.
-use Rattle.std.proofs.Common.{◌≡◌, ◌⊎◌, inl, inr, ◌-◌, ◌<◌, ℕ, zero, suc, true, false, List, [], ◌∷◌, Option, None, Some, refl, sym, ap, subst, ◌∙◌}
+use Rattle.std.proofs.Common.{◌≡◌, ◌⊎◌, inl, inr, ◌-◌, ℕ, zero, suc, true, false, List, [], ◌∷◌, Option, None, Some, refl, sym, ap, subst, ◌∙◌}
 use Rattle.std.specs.Prelude.{bytes_eq, slice_get}
 use Rattle.std.specs.List.{AllByRecursion}
-use Rattle.std.proofs.lemmas.Bool.{or_cases, true≢false, cases_Bool, false_from_ne_true}
+use Rattle.std.proofs.lemmas.Bool.{true≢false, cases_Bool, false_from_ne_true}
 use Rattle.std.proofs.lemmas.List.{append-nil}
 use Rattle.std.proofs.lemmas.Slice.Eq.{bytes_eq-Decides}
 use Rattle.std.proofs.lemmas.Option.{same_Some}
@@ -14,18 +14,19 @@ use Rattle.mail_store.specs.FileName.{is_held, stem_of}
 use Rattle.fetch_rules.specs.Record.{Row, is_delivered}
 use Rattle.fetch_rules.specs.RecordFile.{Two}
 use Rattle.fetch_rules.specs.RecordGrowth.{OneRecord}
-use Rattle.fetch_rules.specs.Wanted.{candidates}
 use Rattle.fetch_session.specs.Account.{digits_of}
 use Rattle.fetch_session.specs.Record.{KeepsRows}
 use Rattle.mail_terms.specs.UniqueId.{has_id, is_legal_id}
 use Rattle.run_law.specs.Mails.{item_of, listing_of, is_selected, WorldsShrink}
 use Rattle.run_law.specs.Accounts.{AccountMail, KeepsOthers, copies, files}
-use Rattle.run_law.specs.Steps.{Effect, Leaves, Stores, IsHonest, ids_wanted, merged_rows, wanted_at}
-use Rattle.run_law.specs.Runs.{IsSound, World, State, Visit, Event as EventIn, Visited, Between as BetweenIn, Expired as ExpiredIn, Withdrawn as WithdrawnIn, TakenAway as TakenIn, BroughtBack as BroughtIn, Forgotten as ForgottenIn, PowerLost as PowerLostIn, Visits, IsLastStored as LastIn, Happens, after_event as after_in, world_after as world_in, Promises as PromisesIn, Kept as IsKeptIn, KeptStaysKept, KeptHoldsWhatIsLeft, StartsKept, LeavesOut, DeletesHeld, StoresOnlyNew as StoresNew, past_limit, NothingTakenHoldsExactly}
-use Rattle.run_law.specs.Sessions.{IsBegun, Link as LinkIn, LinksAreVisits}
+use Rattle.run_law.specs.Steps.{Effect, merged_rows}
+use Rattle.run_law.specs.Runs.{IsSound, World, State, Visit, Visits, IsLastStored as LastIn, Happens, after_visit, Promises as PromisesIn, Kept as IsKeptIn, KeptStaysKept, KeptHoldsWhatIsLeft, StartsKept, LeavesOut, DeletesHeld, StoresOnlyNew as StoresNew, is_past_count, NothingTakenHoldsExactly, Event, Fetched, Between, Expired, Withdrawn, TakenAway, BroughtBack, Forgotten, PowerLost, after_event, after_events, world_after, world_left}
+use Rattle.run_law.specs.Sessions.{IsBegun, Link as LinkIn, LinksAreVisits, SendsOnly}
+use Rattle.fetch_runs.proofs.Ids.{all_ids_at}
+use Rattle.fetch_runs.proofs.Lists.{all_map}
 use Rattle.fetch_runs.specs.Steps.{holds, IsStep, SessionIsAStep}
-use Rattle.fetch_runs.specs.Headline.{Occasion, Event, Fetched, Between, Expired, Withdrawn, TakenAway, BroughtBack, Forgotten, PowerLost, maildrop_at, IsSession, after_event, world_after, world_left, Follows, IsLastStored, by_rows, HoldsAPrefix, IsHeldAfter, IsPastCount, LeavesOutOnlyBeyondLimits, IsForHeld, FilesStay, StoresOnlyNew, Promised, IsKept, Headline, EmptyIsKept, HeadlineFromEmpty, state_after, IsRun, contents_of, IsRecorded, HoldsExactlyAPrefix, IsForOneHeld, IsWordForWord, LeaveAway, HeadlineWordForWord, StaysAway, LostRecordsAreForgotten, NewProcessesAreBetween, StopsAreRuns}
-use Rattle.fetch_runs.proofs.TalkCommands.{all_weaker, begins_of}
+use Rattle.fetch_runs.specs.Headline.{Occasion, maildrop_at, IsSession, Follows, IsLastStored, by_rows, HoldsAPrefix, IsHeldAfter, IsPastCount, LeavesOutOnlyBeyondLimits, IsForSuch, StoresOnlyNew, Promised, IsKept, Headline, EmptyIsKept, HeadlineFromEmpty, IsRun, contents_of, IsRecorded, HoldsExactlyAPrefix, IsWordForWord, LeaveAway, HeadlineWordForWord, StaysAway, LostRecordsAreForgotten, NewProcessesAreBetween, StopsAreRuns, after_session}
+use Rattle.fetch_runs.proofs.TalkCommands.{begins_of}
 use Rattle.fetch_session.specs.Session.{AccountFiles}
 
 -- the laws that are used
@@ -52,22 +53,25 @@ message_at [] place item e = absurd cc
 message_at (m ∷ drop) zero item e = (m, refl, same_Some (item_of m) item e)
 message_at (m ∷ drop) (suc place) item e = message_at drop place item e
 
-pub held_in : (P : List ℕ → Type 0) (ids : List (List ℕ)) (id : List ℕ) → AllByRecursion P ids → has_id ids id ≡ true → P id
-held_in P [] id all is = absurd (true≢false (sym is))
-held_in P (x ∷ ids) id all is = elim (or_cases (bytes_eq id x) (has_id ids id) is) [
-  | inl same ↦ subst P (sym ((bytes_eq-Decides id x).0 same)) all.0
-  | inr more ↦ held_in P ids id all.1 more
-]
-
--- what holds for each id for which a DELE was begun holds for the id of the message at the DELE's number
-pub for_message : (P : List ℕ → Type 0) (drop : List Message) (effect : Effect) → (effect.listing ≡ listing_of drop) ⊎ ((effect.begun ≡ []) × (effect.ended ≡ false)) → AllByRecursion P effect.begun
-    → (number : ℕ) → IsBegun effect.listing effect.begun (Dele number) → (0 < number) × (message : Message) × (slice_get drop (number - 1) ≡ Some message) × P message.uid
-for_message P drop effect (inl listed) all number begun =
+-- what holds for each id for which a DELE was begun holds for the id of the message at the number of each DELE that was sent
+pub for_such : (P : List ℕ → Type 0) (drop : List Message) (effect : Effect) → (effect.listing ≡ listing_of drop) ⊎ ((effect.begun ≡ []) × (effect.ended ≡ false)) → AllByRecursion P effect.begun
+    → (command : Command) → IsBegun effect.listing effect.begun command → IsForSuch drop P command
+for_such P drop effect (inl listed) all (Dele number) begun =
     let at = message_at drop (number - 1) begun.0 (ap (λ (l : List Item). slice_get l (number - 1)) (sym listed) ∙ begun.1) in
-    (begun.3, at.0, at.1, subst (λ (i : Item). P i.uid) (sym at.2) (held_in P effect.begun begun.0.uid all begun.2))
-for_message P drop effect (inr none) all number begun = absurd (true≢false (sym begun.2 ∙ ap (λ (ids : List (List ℕ)). has_id ids begun.0.uid) none.0))
+    (begun.3, at.0, at.1, subst (λ (i : Item). P i.uid) (sym at.2) (all_ids_at P effect.begun begun.0.uid all begun.2))
+for_such P drop effect (inr none) all (Dele number) begun = absurd (true≢false (sym begun.2 ∙ ap (λ (ids : List (List ℕ)). has_id ids begun.0.uid) none.0))
+for_such P drop effect listed all other begun = tt
 
-module _ (laws : Laws) (world : World) (state : State AccountFiles) (occasion : Occasion) (sound : IsSound world) (rows : List Row) (keeps : KeepsRows state.account.file.content rows)
+-- what is sent may be of a wider kind
+pub sends_weaker : (Is Other : Command → Type 0) (sent : List ℕ) → ((command : Command) → Is command → Other command) → SendsOnly Is sent → SendsOnly Other sent
+sends_weaker Is Other sent weaker sends = record {
+  commands = sends.commands;
+  asked = sends.asked;
+  each = all_map Is Other weaker sends.commands sends.each;
+  next = begins_of weaker sends.asked.part sends.next;
+}
+
+module _ (laws : Laws) (world : World) (state : State AccountFiles) (occasion : Occasion AccountFiles) (sound : IsSound world) (rows : List Row) (keeps : KeepsRows state.account.file.content rows)
     (is_kept : IsKeptIn world (by_rows rows state)) (is : IsSession world state occasion) where
   abbrev IsStepFor : List ℕ → Type 0
   IsStepFor account = IsStep occasion.settings account occasion.now occasion.link state.account rows occasion.report occasion.link' occasion.after
@@ -76,10 +80,10 @@ module _ (laws : Laws) (world : World) (state : State AccountFiles) (occasion : 
   step = subst IsStepFor is.settings.account
       (laws.steps occasion.settings (digits_of occasion.settings) occasion.now occasion.link state.account rows occasion.report occasion.link' occasion.after is.settings.valid keeps is.session)
 
-  abbrev link_of : IsStepFor world.account → LinkIn
+  abbrev link_of : IsStepFor world.account → LinkIn AccountMail
   link_of s = record { settings = occasion.settings; come = occasion.come; sent = s.sent; got = s.got; vanished = occasion.vanished; after = holds s.rows' occasion.after.maildir }
 
-  abbrev visit_of : IsStepFor world.account → Visit
+  abbrev visit_of : IsStepFor world.account → Visit AccountMail
   visit_of s = record { settings = occasion.settings; come = occasion.come; effect = s.effect; vanished = occasion.vanished; after = holds s.rows' occasion.after.maildir }
 
   module _ (s : IsStepFor world.account) where
@@ -89,21 +93,16 @@ module _ (laws : Laws) (world : World) (state : State AccountFiles) (occasion : 
 
     -- what the law over runs says of it
     abbrev promised : Type 0
-    promised = IsKeptIn world (by_rows s.rows' (after_event state (Fetched occasion)))
+    promised = IsKeptIn world (by_rows s.rows' (after_session state occasion))
         × LeavesOut world (by_rows rows state) (visit_of s) × DeletesHeld world (by_rows rows state) (visit_of s)
         × KeepsOthers world.account (holds rows state.account.maildir) (holds s.rows' occasion.after.maildir) × StoresNew world (by_rows rows state) (visit_of s)
 
     happened : promised
     happened =
-        let all = laws.stays world (by_rows rows state) (Visited (visit_of s) ∷ []) sound is_kept (visits, tt) in
+        let all = laws.stays world (by_rows rows state) (Fetched (visit_of s) ∷ []) sound is_kept (visits, tt) in
         (all.0, all.1.0.0, all.1.0.1, all.1.0.2, all.1.0.3)
 
     -- the listing was the maildrop's, or nothing was begun and the session was cut
-    abbrev AreStored : Type 0
-    AreStored = Leaves (holds rows state.account.maildir) s.effect (holds s.rows' occasion.after.maildir)
-        ⊎ (Stores occasion.settings world.account (holds rows state.account.maildir) s.effect (holds s.rows' occasion.after.maildir)
-        × IsHonest (wanted_at occasion.settings world.account (holds rows state.account.maildir) s.effect) (maildrop_at world state occasion) s.effect)
-
     listing_or_nothing : (s.effect.listing ≡ listing_of (maildrop_at world state occasion)) ⊎ ((s.effect.begun ≡ []) × (s.effect.ended ≡ false))
     listing_or_nothing = elim visits.step [
       | inl left ↦ inr (left.begun, left.ended)
@@ -112,13 +111,13 @@ module _ (laws : Laws) (world : World) (state : State AccountFiles) (occasion : 
 
     -- an uncut session
     past_count : (message : Message) → s.effect.listing ≡ listing_of (maildrop_at world state occasion)
-        → has_id (ids_wanted (past_limit occasion.settings.max_count (candidates occasion.settings (merged_rows world.account (holds rows state.account.maildir) s.effect) s.effect.listing))) message.uid ≡ true
+        → is_past_count occasion.settings (merged_rows world.account (holds rows state.account.maildir) s.effect) s.effect.listing message.uid ≡ true
         → IsPastCount world state occasion message
     past_count message listed is_past = (rows, keeps, rw (← s.now_is, ← listed) is_past)
 
     abbrev LeftOut : Message → Type 0
     LeftOut m = (is_held world.account occasion.after.maildir m.uid ≡ true) ⊎ (has_id state.taken m.uid ≡ true) ⊎ (is_selected world.max_size m ≡ false)
-        ⊎ (has_id (ids_wanted (past_limit occasion.settings.max_count (candidates occasion.settings (merged_rows world.account (holds rows state.account.maildir) s.effect) s.effect.listing))) m.uid ≡ true)
+        ⊎ (is_past_count occasion.settings (merged_rows world.account (holds rows state.account.maildir) s.effect) s.effect.listing m.uid ≡ true)
 
     abbrev Excluded : Message → Type 0
     Excluded m = IsHeldAfter world state occasion m.uid ⊎ (is_selected world.max_size m ≡ false) ⊎ IsPastCount world state occasion m
@@ -131,19 +130,9 @@ module _ (laws : Laws) (world : World) (state : State AccountFiles) (occasion : 
 
     leaves_out : LeavesOut world (by_rows rows state) (visit_of s) → LeavesOutOnlyBeyondLimits world state occasion
     leaves_out out ended = elim listing_or_nothing [
-      | inl listed ↦ all_weaker LeftOut Excluded (maildrop_at world state occasion) (excluded listed) (out (s.ended_is.1 ended))
+      | inl listed ↦ all_map LeftOut Excluded (excluded listed) (maildrop_at world state occasion) (out (s.ended_is.1 ended))
       | inr nothing ↦ absurd (true≢false (sym (s.ended_is.1 ended) ∙ nothing.1))
     ]
-
-    -- a DELE that was sent
-    for_held : AllByRecursion (IsHeldAfter world state occasion) s.effect.begun → (command : Command)
-        → IsBegun s.effect.listing s.effect.begun command → IsForHeld world state occasion command
-    for_held held (Dele number) begun = for_message (IsHeldAfter world state occasion) (maildrop_at world state occasion) s.effect listing_or_nothing held number begun
-    for_held held other begun = tt
-
-    files_stay : AreStored → FilesStay state.account.maildir occasion.after.maildir
-    files_stay (inl left) = record { gained = []; came = left.same ∙ sym (append-nil state.account.maildir.files) }
-    files_stay (inr (stores, honest)) = record { gained = _; came = stores.came }
 
     stores_only_new : StoresNew world (by_rows rows state) (visit_of s) → StoresOnlyNew world state occasion
     stores_only_new new only_new id legal recorded =
@@ -151,20 +140,21 @@ module _ (laws : Laws) (world : World) (state : State AccountFiles) (occasion : 
         let now = new only_new id legal (ap (λ (rs : List Row). is_delivered rs id) same ∙ recorded.2) in
         (now.0, (s.rows', s.keeps, now.1))
 
-    session_promised : promised → Promised world state (Fetched occasion) × IsKept world (after_event state (Fetched occasion))
+    session_promised : promised → Promised world state (Fetched occasion) × IsKept world (after_session state occasion)
     session_promised all = (
       (
         leaves_out all.1,
         record {
           sent = s.sent;
           sent_is = s.sent_is;
-          commands = s.stepped.commands;
-          asked = s.stepped.asked;
-          each = all_weaker (IsBegun s.effect.listing s.effect.begun) (IsForHeld world state occasion) s.stepped.commands (for_held all.2) s.stepped.begun;
-          next = begins_of (IsBegun s.effect.listing s.effect.begun) (IsForHeld world state occasion) (for_held all.2) s.stepped.asked.part s.stepped.next;
+          sends = sends_weaker (IsBegun s.effect.listing s.effect.begun) (IsForSuch (maildrop_at world state occasion) (IsHeldAfter world state occasion)) s.sent
+              (for_such (IsHeldAfter world state occasion) (maildrop_at world state occasion) s.effect listing_or_nothing all.2) s.stepped.sends;
         },
         all.3,
-        files_stay visits.step,
+        elim visits.step [
+          | inl left ↦ record { gained = []; came = left.same ∙ sym (append-nil state.account.maildir.files) }
+          | inr stored ↦ record { gained = _; came = stored.0.came }
+        ],
         stores_only_new all.4,
       ),
       (s.rows', s.keeps, all.0),
@@ -173,20 +163,20 @@ module _ (laws : Laws) (world : World) (state : State AccountFiles) (occasion : 
   -- what its QUIT removed is recorded
   pub vanished_recorded : (id : List ℕ) → has_id occasion.vanished id ≡ true → IsRecorded occasion.after id
   vanished_recorded id gone =
-      let begun = held_in (λ (x : List ℕ). has_id step.effect.begun x ≡ true) occasion.vanished id (visits step).vanished gone in
+      let begun = all_ids_at (λ (x : List ℕ). has_id step.effect.begun x ≡ true) occasion.vanished id (visits step).vanished gone in
       elim (visits step).step [
         | inl left ↦ absurd (true≢false (sym begun ∙ ap (λ (ids : List (List ℕ)). has_id ids id) left.begun))
-        | inr stored ↦ (step.rows', step.keeps, held_in (λ (x : List ℕ). is_delivered step.rows' x ≡ true) step.effect.begun id stored.0.begun begun)
+        | inr stored ↦ (step.rows', step.keeps, all_ids_at (λ (x : List ℕ). is_delivered step.rows' x ≡ true) step.effect.begun id stored.0.begun begun)
       ]
 
-  pub fetched_promised : Promised world state (Fetched occasion) × IsKept world (after_event state (Fetched occasion))
+  pub fetched_promised : Promised world state (Fetched occasion) × IsKept world (after_session state occasion)
   fetched_promised = session_promised step (happened step)
 
 -- ---- what happens between sessions
 
 -- what the law over runs says of one event
-one_event : Laws → (world : World) (state : State AccountFiles) (event : EventIn) (rows : List Row) → IsSound world → IsKeptIn world (by_rows rows state) → Happens world (by_rows rows state) event
-    → IsKeptIn (world_in world event) (after_in (by_rows rows state) event) × PromisesIn world (by_rows rows state) event
+one_event : Laws → (world : World) (state : State AccountFiles) (event : Event Visit AccountMail) (rows : List Row) → IsSound world → IsKeptIn world (by_rows rows state) → Happens world (by_rows rows state) event
+    → IsKeptIn (world_after world event) (after_event after_visit (by_rows rows state) event) × PromisesIn world (by_rows rows state) event
 one_event laws world state event rows sound kept happens =
     let all = laws.stays world (by_rows rows state) (event ∷ []) sound kept (happens, tt) in (all.0, all.1.0)
 
@@ -205,39 +195,39 @@ power_mail laws world state after rows keeps id (inr (none, inr lastly)) = inr (
   }),
 )
 
-event_promised : Laws → (world : World) (state : State AccountFiles) (event : Event) → IsSound world → IsKept world state → Follows world state event
-    → Promised world state event × IsKept (world_after world event) (after_event state event)
+event_promised : Laws → (world : World) (state : State AccountFiles) (event : Event Occasion AccountFiles) → IsSound world → IsKept world state → Follows world state event
+    → Promised world state event × IsKept (world_after world event) (after_event after_session state event)
 event_promised laws world state (Fetched occasion) sound is follows = fetched_promised laws world state occasion sound is.0 is.1 is.2 follows
 event_promised laws world state (Between after) sound is between =
-    let all = one_event laws world state (BetweenIn (holds is.0 after.maildir)) is.0 sound is.2 (record { rows = refl; same = between.mail }) in
+    let all = one_event laws world state (Between (holds is.0 after.maildir)) is.0 sound is.2 (record { rows = refl; same = between.mail }) in
     (tt, (is.0, between.record_is is.0 is.1, all.0))
 event_promised laws world state (Expired ids) sound is expired =
-    let all = one_event laws world state (ExpiredIn ids) is.0 sound is.2 expired in
+    let all = one_event laws world state (Expired ids) is.0 sound is.2 expired in
     (tt, (is.0, is.1, all.0))
 event_promised laws world state (TakenAway id after) sound is taken =
-    let all = one_event laws world state (TakenIn id (holds is.0 after.maildir)) is.0 sound is.2
+    let all = one_event laws world state (TakenAway id (holds is.0 after.maildir)) is.0 sound is.2
     (record { legal = taken.legal; held = taken.held; none = taken.none; rows = refl; others = taken.others }) in
     (tt, (is.0, taken.record_is is.0 is.1, all.0))
 event_promised laws world state (Withdrawn ids) sound is withdrawn =
-    let all = one_event laws world state (WithdrawnIn ids) is.0 sound is.2 withdrawn in
+    let all = one_event laws world state (Withdrawn ids) is.0 sound is.2 withdrawn in
     (tt, (is.0, is.1, all.0))
 event_promised laws world state (BroughtBack id after) sound is brought =
-    let all = one_event laws world state (BroughtIn id (holds is.0 after.maildir)) is.0 sound is.2
+    let all = one_event laws world state (BroughtBack id (holds is.0 after.maildir)) is.0 sound is.2
     (record { legal = brought.legal; taken = brought.taken; text = brought.text; rows = refl; others = brought.others }) in
     (tt, (is.0, brought.record_is is.0 is.1, all.0))
 event_promised laws world state (Forgotten after) sound is forgotten =
     let now = forgotten.record_is is.0 is.1 in
-    let all = one_event laws world state (ForgottenIn (holds now.0 after.maildir)) is.0 sound is.2 (record { delivered = now.2; same = forgotten.mail }) in
+    let all = one_event laws world state (Forgotten (holds now.0 after.maildir)) is.0 sound is.2 (record { delivered = now.2; same = forgotten.mail }) in
     (tt, (now.0, now.1, all.0))
 event_promised laws world state (PowerLost after) sound is lost =
     let now = lost.record_is is.0 is.1 in
-    let all = one_event laws world state (PowerLostIn (holds now.0 after.maildir)) is.0 sound is.2 (record { mail = λ id legal. power_mail laws world state after is.0 is.1 id (lost.mail id legal); delivered = now.2 }) in
+    let all = one_event laws world state (PowerLost (holds now.0 after.maildir)) is.0 sound is.2 (record { mail = λ id legal. power_mail laws world state after is.0 is.1 id (lost.mail id legal); delivered = now.2 }) in
     (tt, (now.0, now.1, all.0))
 
 -- ---- any list of them
 
 -- what is left of the mail is sound
-pub sound_after : WorldsShrink → (world : World) (event : Event) → IsSound world → IsSound (world_after world event)
+pub sound_after : WorldsShrink → (world : World) (event : Event Occasion AccountFiles) → IsSound world → IsSound (world_after world event)
 sound_after shrink world (Withdrawn ids) sound = record { account = sound.account; mail = shrink world.all ids sound.mail }
 sound_after shrink world event sound = sound
 
@@ -245,7 +235,7 @@ pub headline : Laws → Headline
 headline laws world start [] sound is run = (holds_prefix laws world start sound is, is)
 headline laws world start (event ∷ events) sound is run =
     let first = event_promised laws world start event sound is run.0 in
-    let later = headline laws (world_after world event) (after_event start event) events (sound_after laws.shrink world event sound) first.1 run.1 in
+    let later = headline laws (world_after world event) (after_event after_session start event) events (sound_after laws.shrink world event sound) first.1 run.1 in
     ((holds_prefix laws world start sound is, first.0, later.0), later.1)
 
 pub empty_is_kept : StartsKept → EmptyIsKept
@@ -262,15 +252,13 @@ from_empty law empty_kept world start events sound empty run = (law world start 
 
 -- ---- one event
 
-abbrev OneEvent : World → State AccountFiles → Event → Type 0
-OneEvent world state event = HoldsAPrefix world state × Promised world state event × IsKept (world_after world event) (after_event state event)
-
-event_kept : Headline → (world : World) (state : State AccountFiles) (event : Event) → IsSound world → IsKept world state → Follows world state event → OneEvent world state event
+event_kept : Headline → (world : World) (state : State AccountFiles) (event : Event Occasion AccountFiles) → IsSound world → IsKept world state → Follows world state event
+    → HoldsAPrefix world state × Promised world state event × IsKept (world_after world event) (after_event after_session state event)
 event_kept law world state event sound is follows = let all = law world state (event ∷ []) sound is (follows, tt) in (all.0.0, all.0.1, all.1)
 
 -- ---- nothing taken away
 
-module _ (world : World) (state : State AccountFiles) (occasion : Occasion) (none : state.taken ≡ []) where
+module _ (world : World) (state : State AccountFiles) (occasion : Occasion AccountFiles) (none : state.taken ≡ []) where
   held_after : (id : List ℕ) → IsHeldAfter world state occasion id → is_held world.account occasion.after.maildir id ≡ true
   held_after id (inl held) = held
   held_after id (inr taken) = absurd (true≢false (sym taken ∙ ap (λ (ids : List (List ℕ)). has_id ids id) none))
@@ -285,19 +273,24 @@ module _ (world : World) (state : State AccountFiles) (occasion : Occasion) (non
   left_out m (inl held) = inl (held_after m.uid held)
   left_out m (inr other) = inr other
 
-  for_one : (command : Command) → IsForHeld world state occasion command → IsForOneHeld world state occasion command
+  abbrev IsForOne : (List ℕ → Type 0) → Command → Type 0
+  IsForOne Is command = IsForSuch (maildrop_at world state occasion) Is command
+
+  abbrev IsHeldThen : List ℕ → Type 0
+  IsHeldThen id = is_held world.account occasion.after.maildir id ≡ true
+
+  for_one : (command : Command) → IsForOne (IsHeldAfter world state occasion) command → IsForOne IsHeldThen command
   for_one (Dele number) h = (h.0, h.1, h.2, held_after h.1.uid h.3)
   for_one other h = tt
 
   word_for_word : Promised world state (Fetched occasion) → IsWordForWord world state occasion
   word_for_word promised = record {
-    left_out = λ ended. all_weaker IsLeftOut IsLeftOutHeld (maildrop_at world state occasion) left_out (promised.0 ended);
-    sent = promised.1.sent;
-    sent_is = promised.1.sent_is;
-    commands = promised.1.commands;
-    asked = promised.1.asked;
-    each = all_weaker (IsForHeld world state occasion) (IsForOneHeld world state occasion) promised.1.commands for_one promised.1.each;
-    next = begins_of (IsForHeld world state occasion) (IsForOneHeld world state occasion) for_one promised.1.asked.part promised.1.next;
+    left_out = λ ended. all_map IsLeftOut IsLeftOutHeld left_out (maildrop_at world state occasion) (promised.0 ended);
+    deletes = record {
+      sent = promised.1.sent;
+      sent_is = promised.1.sent_is;
+      sends = sends_weaker (IsForOne (IsHeldAfter world state occasion)) (IsForOne IsHeldThen) promised.1.sent for_one promised.1.sends;
+    };
   }
 
 holds_exactly : NothingTakenHoldsExactly → (world : World) (state : State AccountFiles) → state.taken ≡ [] → HoldsAPrefix world state → HoldsExactlyAPrefix world state
@@ -309,7 +302,7 @@ headline_word_for_word law nothing world start (Fetched occasion ∷ events) sou
     let one = event_kept law world start (Fetched occasion) sound is run.0 in (
       holds_exactly nothing world start none one.0,
       word_for_word world start occasion none one.1,
-      headline_word_for_word law nothing world (after_event start (Fetched occasion)) events sound one.2 run.1 none takes_none,
+      headline_word_for_word law nothing world (after_session start occasion) events sound one.2 run.1 none takes_none,
     )
 headline_word_for_word law nothing world start (TakenAway id after ∷ events) sound is run none takes_none = absurd takes_none
 headline_word_for_word law nothing world start (Withdrawn ids ∷ events) sound is run none takes_none = absurd takes_none
@@ -317,7 +310,7 @@ headline_word_for_word law nothing world start (BroughtBack id after ∷ events)
     absurd (true≢false (sym run.0.taken ∙ ap (λ (ids : List (List ℕ)). has_id ids id) none))
 headline_word_for_word law nothing world start (event ∷ events) sound is run none takes_none =
     let one = event_kept law world start event sound is run.0 in
-    (holds_exactly nothing world start none one.0, tt, headline_word_for_word law nothing world (after_event start event) events sound one.2 run.1 none takes_none)
+    (holds_exactly nothing world start none one.0, tt, headline_word_for_word law nothing world (after_event after_session start event) events sound one.2 run.1 none takes_none)
 
 -- ---- what is taken away stays away
 
@@ -328,8 +321,8 @@ IsAway world state id = IsRecorded state id × (contents_of world state id ≡ [
 recorded_in : (before after : AccountFiles) (id : List ℕ) → ((rows : List Row) → KeepsRows before.file.content rows → KeepsRows after.file.content rows) → IsRecorded before id → IsRecorded after id
 recorded_in before after id same recorded = (recorded.0, same recorded.0 recorded.1, recorded.2)
 
-still_away : Headline → (world : World) (state : State AccountFiles) (event : Event) (id : List ℕ) → IsSound world → IsKept world state → Follows world state event
-    → LeaveAway id (event ∷ []) → is_legal_id id ≡ true → IsAway world state.account id → IsAway (world_after world event) (after_event state event).account id
+still_away : Headline → (world : World) (state : State AccountFiles) (event : Event Occasion AccountFiles) (id : List ℕ) → IsSound world → IsKept world state → Follows world state event
+    → LeaveAway id (event ∷ []) → is_legal_id id ≡ true → IsAway world state.account id → IsAway (world_after world event) (after_event after_session state event).account id
 still_away laws world state (Fetched occasion) id sound is follows leave legal away =
     let now = (event_kept laws world state (Fetched occasion) sound is follows).1.4 leave.0 id legal away.0 in (now.1, now.0 ∙ away.1)
 still_away laws world state (Between after) id sound is between leave legal away = (recorded_in state.account after id between.record_is away.0, between.mail id legal ∙ away.1)
@@ -352,32 +345,32 @@ still_away laws world state (PowerLost after) id sound is lost leave legal away 
     none_left (inl same) = same ∙ away.1
     none_left (inr gone) = gone.0
 
-one_left : (id : List ℕ) (event : Event) (events : List Event) → LeaveAway id (event ∷ events) → LeaveAway id (event ∷ []) × LeaveAway id events
+one_left : (id : List ℕ) (event : Event Occasion AccountFiles) (events : List (Event Occasion AccountFiles)) → LeaveAway id (event ∷ events) → LeaveAway id (event ∷ []) × LeaveAway id events
 one_left id (Fetched occasion) events h = ((h.0, tt), h.1)
 one_left id (BroughtBack other after) events h = ((h.0, tt), h.1)
 one_left id (Forgotten after) events h = ((h.0, tt), h.1)
 one_left id (PowerLost after) events h = ((h.0, tt), h.1)
 one_left id other events h = (tt, h)
 
-stay_all : WorldsShrink → Headline → (world : World) (start : State AccountFiles) (events : List Event) (id : List ℕ) → IsSound world → IsKept world start → IsRun world start events
-    → LeaveAway id events → is_legal_id id ≡ true → IsAway world start.account id → IsAway (world_left world events) (state_after start events).account id
+stay_all : WorldsShrink → Headline → (world : World) (start : State AccountFiles) (events : List (Event Occasion AccountFiles)) (id : List ℕ) → IsSound world → IsKept world start → IsRun world start events
+    → LeaveAway id events → is_legal_id id ≡ true → IsAway world start.account id → IsAway (world_left world events) (after_events after_session start events).account id
 stay_all shrink laws world start [] id sound is run leave legal away = away
 stay_all shrink laws world start (event ∷ events) id sound is run leave legal away =
     let split = one_left id event events leave in
-    stay_all shrink laws (world_after world event) (after_event start event) events id (sound_after shrink world event sound) (event_kept laws world start event sound is run.0).2 run.1
+    stay_all shrink laws (world_after world event) (after_event after_session start event) events id (sound_after shrink world event sound) (event_kept laws world start event sound is run.0).2 run.1
     split.1 legal (still_away laws world start event id sound is run.0 split.0 legal away)
 
-same_account : (world : World) (events : List Event) → (world_left world events).account ≡ world.account
+same_account : (world : World) (events : List (Event Occasion AccountFiles)) → (world_left world events).account ≡ world.account
 same_account world [] = refl
 same_account world (event ∷ events) = same_account (world_after world event) events ∙ by event
   where
-    by : (event : Event) → (world_after world event).account ≡ world.account
+    by : (event : Event Occasion AccountFiles) → (world_after world event).account ≡ world.account
     by (Withdrawn ids) = refl
     by event = refl
 
 pub stays_away : WorldsShrink → Headline → StaysAway
 stays_away shrink laws world start events id sound is run leave legal recorded none =
-    subst (λ (account : List ℕ). copies (files (holds [] (state_after start events).account.maildir)) (stem_of account id) ≡ []) (same_account world events)
+    subst (λ (account : List ℕ). copies (files (holds [] (after_events after_session start events).account.maildir)) (stem_of account id) ≡ []) (same_account world events)
     (stay_all shrink laws world start events id sound is run leave legal (recorded, none)).1
 
 -- ---- a record that is lost

@@ -1,7 +1,7 @@
 -- Each id that a record delivers is legal, if a file stands for it.
-use Rattle.std.proofs.Common.{◌≡◌, inl, inr, ℕ, zero, suc, ◌+◌, List, [], ◌∷◌, ◌++◌, Bool, true, false, ◌&&◌, ◌||◌, cond, Option, None, Some, refl, sym, subst, arith}
+use Rattle.std.proofs.Common.{◌≡◌, inl, inr, ℕ, zero, suc, ◌+◌, List, [], ◌∷◌, ◌++◌, Bool, true, false, ◌&&◌, ◌||◌, cond, Option, None, Some, refl, sym, subst}
 use Rattle.std.specs.List.{AllByRecursion}
-use Rattle.std.proofs.lemmas.Bool.{both_ways, or_cases}
+use Rattle.std.proofs.lemmas.Bool.{and_parts, both_ways, cond_both, or_cases}
 use Rattle.std.proofs.lemmas.List.Elements.{recursion_from_All}
 use Rattle.std.proofs.lemmas.Slice.Eq.{bytes_eq-Decides}
 use Rattle.mail_terms.specs.UniqueId.{is_legal_id}
@@ -11,24 +11,18 @@ use Rattle.fetch_rules.specs.RecordMeaning.{Ends, Fails, Fault, Judged, InBase, 
 use Rattle.fetch_rules.specs.declared.seen.SeenFault.{SeenFault}
 use Rattle.fetch_rules.specs.declared.seen.SeenFault.TheVariants.{BadRow}
 use Rattle.fetch_session.specs.Record.{KeepsRows}
+use Rattle.fetch_runs.proofs.Lists.{all_append}
 
 abbrev AreLegal : List Row → Type 0
 AreLegal rows = AllByRecursion (λ (row : Row). is_legal_id row.uid ≡ true) rows
-
-more_legal : (rows : List Row) (row : Row) → AreLegal rows → is_legal_id row.uid ≡ true → AreLegal (rows ++ row ∷ [])
-more_legal [] row all one = (one, tt)
-more_legal (r ∷ rows) row all one = (all.0, more_legal rows row all.1 one)
 
 marked_legal : (rows : List Row) (uid : List ℕ) → AreLegal rows → AreLegal (marked rows uid)
 marked_legal [] uid all = tt
 marked_legal (r ∷ rows) uid all = (all.0, marked_legal rows uid all.1)
 
 taken_legal : (rows : List Row) (row : Row) → AreLegal rows → is_legal_id row.uid ≡ true → AreLegal (taken rows row)
-taken_legal rows row all one = by (has_row rows row.uid) refl
-  where
-    by : (b : Bool) → has_row rows row.uid ≡ b → AreLegal (taken rows row)
-    by true e = rw e (marked_legal rows row.uid all)
-    by false e = rw e (more_legal rows row all one)
+taken_legal rows row all one = cond_both (has_row rows row.uid) (marked rows row.uid) (rows ++ row ∷ []) AreLegal
+    (λ there. marked_legal rows row.uid all) (λ absent. all_append (λ (r : Row). is_legal_id r.uid ≡ true) rows (row ∷ []) all (one, tt))
 
 abbrev Legal : Judged → Type 0
 Legal (Stands (InBase rows)) = AreLegal rows
@@ -50,7 +44,7 @@ intent_legal Two n rows (Some other) intent all = tt
 intent_legal Two n rows None intent all = if_stands (has_row rows intent.uid) (Stands (BetweenGroups rows (Some intent))) _ all
 
 line_legal : (version : Version) (n : ℕ) (progress : Progress) (line : Line) → Legal (Stands progress) → IsLine line → Legal (after_line version n progress line)
-line_legal version n (InBase rows) (RowLine row) all is = if_fails (has_row rows row.uid) (Stands (InBase (rows ++ row ∷ []))) _ (more_legal rows row all is.legal)
+line_legal version n (InBase rows) (RowLine row) all is = if_fails (has_row rows row.uid) (Stands (InBase (rows ++ row ∷ []))) _ (all_append (λ (r : Row). is_legal_id r.uid ≡ true) rows (row ∷ []) all (is.legal, tt))
 line_legal version n (InBase rows) (GroupLine count) all is = (all, all)
 line_legal version n (InBase rows) (IntentLine intent) all is = intent_legal version n rows None intent all
 line_legal version n (BetweenGroups rows before) (RowLine row) all is = tt
@@ -95,13 +89,10 @@ means_legal bytes version rows intent torn (inr (inr by_lines)) =
     ends_legal version rows intent torn by_lines.version _ (judged by_lines.version 0 (Stands (InBase [])) by_lines.lines) by_lines.rest
     (lines_legal by_lines.version 0 (Stands (InBase [])) by_lines.lines tt (recursion_from_All IsLine by_lines.lines by_lines.cut.each)) by_lines.ends
 
-and_first : (a b : Bool) → (a && b) ≡ true → a ≡ true
-and_first a b both = grind (arith, both)
-
 delivered_legal : (rows : List Row) (id : List ℕ) → AreLegal rows → is_delivered rows id ≡ true → is_legal_id id ≡ true
 delivered_legal [] id all never = absurd (both_ways false refl never)
 delivered_legal (row ∷ rows) id all delivered = elim (or_cases (is_of id row && row.delivered) (is_delivered rows id) delivered) [
-  | inl here ↦ subst (λ (x : List ℕ). is_legal_id x ≡ true) (sym ((bytes_eq-Decides id row.uid).0 (and_first (is_of id row) row.delivered here))) all.0
+  | inl here ↦ subst (λ (x : List ℕ). is_legal_id x ≡ true) (sym ((bytes_eq-Decides id row.uid).0 (and_parts (is_of id row) row.delivered here).0)) all.0
   | inr later ↦ delivered_legal rows id all.1 later
 ]
 

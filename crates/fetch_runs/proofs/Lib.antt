@@ -3,7 +3,9 @@ mod Courses
 mod Fronts
 mod FrontsHonest
 mod HeadlineLemmas
+mod Ids
 mod LegalRows
+mod Lists
 mod MboxHeadlineLemmas
 mod MboxState
 mod PowerEvents

@@ -1,28 +1,24 @@
 -- From a kept state every list of sessions with an mboxrd file, and of what happens between them, keeps what is promised.
-use Rattle.std.proofs.Common.{◌≡◌, ◌⊎◌, inl, inr, ℕ, true, false, List, [], ◌∷◌, Option, None, Some, sym, ap, subst, ◌∙◌}
+use Rattle.std.proofs.Common.{◌≡◌, ◌⊎◌, inl, inr, ℕ, true, false, List, [], ◌∷◌, Option, None, Some, refl, sym, ap, subst, ◌∙◌}
 use Rattle.std.specs.List.{AllByRecursion}
 use Rattle.std.proofs.lemmas.Bool.{true≢false}
-use Rattle.pop3_wire.specs.declared.command.Command.{Command}
-use Rattle.pop3_wire.specs.declared.command.Command.TheVariants.{Dele}
 use Rattle.pop3_wire.specs.World.{Message, IsWorld}
-use Rattle.mail_terms.specs.UniqueId.{has_id}
 use Rattle.fetch_rules.specs.Record.{Row, Intent, RecordState, is_delivered}
 use Rattle.fetch_rules.specs.RecordGrowth.{OneRecord}
-use Rattle.fetch_rules.specs.Wanted.{candidates}
 use Rattle.fetch_session.specs.Record.{Keeps}
 use Rattle.fetch_session.specs.Target.{mail_in}
 use Rattle.fetch_session.specs.declared.report.Outcome.TheVariants.{Ended}
 use Rattle.run_law.specs.Mails.{listing_of, is_selected, WorldsShrink}
 use Rattle.run_law.specs.Mboxes.{MboxMail, mbox_rows}
-use Rattle.run_law.specs.MboxRuns.{MboxWorld, MboxState, MboxKept as IsKeptIn, MboxVisits, MboxVisited, MboxExpired, MboxWithdrawn, MboxRewritten, IsUnbegun, AreAllRecorded, SomeAreRecorded, MboxPromises as PromisesIn, MboxEnds, MboxHolds, MboxKeptStaysKept, MboxKeptHolds, MboxStartsKept}
-use Rattle.run_law.specs.MboxSessions.{MboxLink, MboxLinksAreVisits, mbox_visit_of}
-use Rattle.run_law.specs.Runs.{past_limit}
-use Rattle.run_law.specs.Sessions.{IsBegun}
-use Rattle.run_law.specs.Steps.{ids_wanted}
+use Rattle.run_law.specs.MboxRuns.{MboxWorld, MboxState, MboxKept as IsKeptIn, MboxVisits, MboxEvent, Fetched, Between, Expired, Withdrawn, Rewritten, after_mbox_event, mbox_world_after, IsUnbegun, AreAllRecorded, SomeAreRecorded, MboxPromises as PromisesIn, MboxEnds, MboxHolds, MboxKeptStaysKept, MboxKeptHolds, MboxStartsKept}
+use Rattle.run_law.specs.MboxSessions.{MboxLinksAreVisits}
+use Rattle.run_law.specs.Runs.{is_past_count}
+use Rattle.run_law.specs.Sessions.{IsBegun, Link, visit_of}
+use Rattle.fetch_runs.proofs.Lists.{all_map}
 use Rattle.fetch_runs.specs.MboxSteps.{mbox_holds, IsMboxStep, MboxSessionIsAStep}
-use Rattle.fetch_runs.specs.MboxHeadline.{MboxOccasion, MboxEvent, Fetched, Between, Expired, Withdrawn, Rewritten, WritingsAreEvents, maildrop_at, IsMboxSession, after_event, world_after, Follows, by_record, HoldsEntries, IsEntered, IsPastCount, EndsWhole, IsForEntered, MboxPromised, IsMboxKept, MboxHeadline, MboxStartIsKept, MboxHeadlineFromStart, MboxStopsAreRuns}
-use Rattle.fetch_runs.proofs.HeadlineLemmas.{for_message}
-use Rattle.fetch_runs.proofs.TalkCommands.{all_weaker, begins_of}
+use Rattle.fetch_runs.specs.MboxHeadline.{WritingsAreEvents, maildrop_at, IsMboxSession, after_session, Follows, by_record, HoldsEntries, IsEntered, IsPastCount, EndsWhole, MboxPromised, IsMboxKept, MboxHeadline, MboxStartIsKept, MboxHeadlineFromStart, MboxStopsAreRuns}
+use Rattle.fetch_runs.specs.Headline.{Occasion, IsForSuch}
+use Rattle.fetch_runs.proofs.HeadlineLemmas.{for_such, sends_weaker}
 use Rattle.fetch_session.specs.Session.{MboxAccountFiles}
 
 -- the laws that are used
@@ -39,27 +35,24 @@ holds_entries laws world state sound is = (is.0, is.1, laws.holds world (by_reco
 
 -- ---- one session
 
-some_none : (i : Intent) → Some i ≡ None → ⊥
-some_none i e = cc
-
-module _ (laws : Laws) (world : MboxWorld) (state : MboxState MboxAccountFiles) (occasion : MboxOccasion) (sound : IsWorld world.all) (held : RecordState) (keeps : Keeps state.account.file.content held)
+module _ (laws : Laws) (world : MboxWorld) (state : MboxState MboxAccountFiles) (occasion : Occasion MboxAccountFiles) (sound : IsWorld world.all) (held : RecordState) (keeps : Keeps state.account.file.content held)
     (is_kept : IsKeptIn world (by_record held state)) (is : IsMboxSession world state occasion)
     (s : IsMboxStep occasion.settings occasion.now occasion.link state.account held occasion.report occasion.link' occasion.after) where
-  abbrev link_in : MboxLink
+  abbrev link_in : Link MboxMail
   link_in = record { settings = occasion.settings; come = occasion.come; sent = s.sent; got = s.got; vanished = occasion.vanished; after = mbox_holds s.record_state' occasion.after.mbox }
 
-  visits : MboxVisits world (by_record held state) (mbox_visit_of link_in s.effect)
+  visits : MboxVisits world (by_record held state) (visit_of link_in s.effect)
   visits = laws.visits world (by_record held state) link_in
       (record { same = is.settings.max_size; only_new = is.settings.only_new; effect = s.effect; session = s.stepped; served = is.served s.sent s.got s.sent_is s.got_is })
 
   -- what the law over runs says of it
-  happened : IsKeptIn world (by_record s.record_state' (after_event state (Fetched occasion))) × PromisesIn world (by_record held state) (mbox_visit_of link_in s.effect)
+  happened : IsKeptIn world (by_record s.record_state' (after_session state occasion)) × PromisesIn world (by_record held state) (visit_of link_in s.effect)
   happened =
-      let all = laws.stays world (by_record held state) (MboxVisited (mbox_visit_of link_in s.effect) ∷ []) sound is_kept (visits, tt) in
+      let all = laws.stays world (by_record held state) (Fetched (visit_of link_in s.effect) ∷ []) sound is_kept (visits, tt) in
       (all.0, all.1.0)
 
   holds_after : MboxHolds world (mbox_holds s.record_state' occasion.after.mbox)
-  holds_after = laws.holds world (by_record s.record_state' (after_event state (Fetched occasion))) sound happened.0
+  holds_after = laws.holds world (by_record s.record_state' (after_session state occasion)) sound happened.0
 
   -- the listing was the maildrop's, or nothing was begun
   listing_or_nothing : (s.effect.listing ≡ listing_of (maildrop_at world state occasion)) ⊎ ((s.effect.begun ≡ []) × (s.effect.ended ≡ false))
@@ -70,13 +63,13 @@ module _ (laws : Laws) (world : MboxWorld) (state : MboxState MboxAccountFiles) 
 
   -- an uncut session
   past_count : (message : Message) → s.effect.listing ≡ listing_of (maildrop_at world state occasion)
-      → has_id (ids_wanted (past_limit occasion.settings.max_count (candidates occasion.settings (mbox_rows (mbox_holds held state.account.mbox) s.effect) s.effect.listing))) message.uid ≡ true
+      → is_past_count occasion.settings (mbox_rows (mbox_holds held state.account.mbox) s.effect) s.effect.listing message.uid ≡ true
       → IsPastCount world state occasion message
   past_count message listed is_past = (held, keeps, rw (← s.now_is, ← listed) is_past)
 
   abbrev LeftOut : Message → Type 0
   LeftOut m = (is_delivered s.record_state'.rows m.uid ≡ true) ⊎ (is_selected world.max_size m ≡ false)
-      ⊎ (has_id (ids_wanted (past_limit occasion.settings.max_count (candidates occasion.settings (mbox_rows (mbox_holds held state.account.mbox) s.effect) s.effect.listing))) m.uid ≡ true)
+      ⊎ (is_past_count occasion.settings (mbox_rows (mbox_holds held state.account.mbox) s.effect) s.effect.listing m.uid ≡ true)
 
   abbrev Excluded : Message → Type 0
   Excluded m = IsEntered world occasion.after m.uid ⊎ (is_selected world.max_size m ≡ false) ⊎ IsPastCount world state occasion m
@@ -94,33 +87,26 @@ module _ (laws : Laws) (world : MboxWorld) (state : MboxState MboxAccountFiles) 
     holds = holds_after;
     no_rest = elim holds_after.at_most [
       | inl (none, nothing) ↦ nothing
-      | inr (next, behind, is_next, entry, opened) ↦ absurd (some_none _ (sym opened ∙ ends.closed))
+      | inr (next, behind, is_next, entry, opened) ↦ absurd (let never : Some _ ≡ None = sym opened ∙ ends.closed in cc)
     ];
     left_out = elim listing_or_nothing [
-      | inl listed ↦ all_weaker LeftOut Excluded (maildrop_at world state occasion) (excluded listed) ends.leaves_out
+      | inl listed ↦ all_map LeftOut Excluded (excluded listed) (maildrop_at world state occasion) ends.leaves_out
       | inr nothing ↦ absurd (true≢false (sym (s.ended_is.1 ended) ∙ nothing.1))
     ];
   }
     where
-      ends : MboxEnds world (by_record held state) (mbox_visit_of link_in s.effect)
+      ends : MboxEnds world (by_record held state) (visit_of link_in s.effect)
       ends = happened.1.ends (s.ended_is.1 ended)
 
-  -- a DELE that was sent
-  for_entered : (command : Command) → IsBegun s.effect.listing s.effect.begun command → IsForEntered world state occasion command
-  for_entered (Dele number) begun = for_message (IsEntered world occasion.after) (maildrop_at world state occasion) s.effect listing_or_nothing happened.1.begun number begun
-  for_entered other begun = tt
-
-  session_promised : MboxPromised world state (Fetched occasion) × IsMboxKept world (after_event state (Fetched occasion))
+  session_promised : MboxPromised world state (Fetched occasion) × IsMboxKept world (after_session state occasion)
   session_promised = (
     (
       ends_whole,
       record {
         sent = s.sent;
         sent_is = s.sent_is;
-        commands = s.stepped.commands;
-        asked = s.stepped.asked;
-        each = all_weaker (IsBegun s.effect.listing s.effect.begun) (IsForEntered world state occasion) s.stepped.commands for_entered s.stepped.begun;
-        next = begins_of (IsBegun s.effect.listing s.effect.begun) (IsForEntered world state occasion) for_entered s.stepped.asked.part s.stepped.next;
+        sends = sends_weaker (IsBegun s.effect.listing s.effect.begun) (IsForSuch (maildrop_at world state occasion) (IsEntered world occasion.after)) s.sent
+            (for_such (IsEntered world occasion.after) (maildrop_at world state occasion) s.effect listing_or_nothing happened.1.begun) s.stepped.sends;
       },
     ),
     (s.record_state', s.keeps, happened.0),
@@ -128,50 +114,48 @@ module _ (laws : Laws) (world : MboxWorld) (state : MboxState MboxAccountFiles) 
 
 -- ---- what happens between sessions
 
+-- an account with this record and these bytes in its mboxrd file
+abbrev with_file : RecordState → List ℕ → MboxMail
+with_file held bytes = record { rows = held.rows; intent = held.intent; file = bytes }
+
 -- a file stands for one record
 same_held : OneRecord → (content : Option (List ℕ)) (a b : RecordState) → Keeps content a → Keeps content b → a ≡ b
 same_held one content a b x y = let same = one content a.rows b.rows a.intent b.intent x y in rw (same.0, same.1)
 
-event_promised : Laws → (world : MboxWorld) (state : MboxState MboxAccountFiles) (event : MboxEvent) → IsWorld world.all → IsMboxKept world state → Follows world state event
-    → MboxPromised world state event × IsMboxKept (world_after world event) (after_event state event)
+event_promised : Laws → (world : MboxWorld) (state : MboxState MboxAccountFiles) (event : MboxEvent Occasion MboxAccountFiles) → IsWorld world.all → IsMboxKept world state → Follows world state event
+    → MboxPromised world state event × IsMboxKept (mbox_world_after world event) (after_mbox_event after_session state event)
 event_promised laws world state (Fetched occasion) sound (held, keeps, kept) is =
     session_promised laws world state occasion sound held keeps kept is
     (laws.steps occasion.settings occasion.now occasion.link state.account held occasion.report occasion.link' occasion.after is.settings.valid keeps is.session)
-event_promised laws world state (Between after) sound (held, keeps, kept) between = (
-  tt,
-  (
-    held,
-    between.record_is held keeps,
-    subst (λ (bytes : List ℕ). IsKeptIn world (let s : MboxState MboxMail = record { account = record { rows = held.rows; intent = held.intent; file = bytes }; gone = state.gone } in s)) (sym between.mail) kept,
-  ),
-)
+event_promised laws world state (Between after) sound (held, keeps, kept) between =
+    let next = laws.stays world (by_record held state) (Between (mbox_holds held after.mbox) ∷ []) sound kept (ap (with_file held) between.mail, tt) in
+    (tt, (held, between.record_is held keeps, next.0))
 event_promised laws world state (Expired ids) sound (held, keeps, kept) (other, stood, all) =
     let same = laws.one state.account.file.content other.rows held.rows other.intent held.intent stood keeps in
-    let after = laws.stays world (by_record held state) (MboxExpired ids ∷ []) sound kept (subst (λ (rows : List Row). AllByRecursion (λ (id : List ℕ). is_delivered rows id ≡ true) ids) same.0 all, tt) in
+    let after = laws.stays world (by_record held state) (Expired ids ∷ []) sound kept (subst (λ (rows : List Row). AllByRecursion (λ (id : List ℕ). is_delivered rows id ≡ true) ids) same.0 all, tt) in
     (tt, (held, keeps, after.0))
 event_promised laws world state (Withdrawn ids) sound (held, keeps, kept) (other, stood, all) =
     let same = same_held laws.one state.account.file.content other held stood keeps in
-    let after = laws.stays world (by_record held state) (MboxWithdrawn ids ∷ []) sound kept
+    let after = laws.stays world (by_record held state) (Withdrawn ids ∷ []) sound kept
     (subst (λ (h : RecordState). AllByRecursion (IsUnbegun (mbox_holds h state.account.mbox)) ids) same all, tt) in
     (tt, (held, keeps, after.0))
-event_promised laws world state (Rewritten had after) sound (held, keeps, kept) is =
+event_promised laws world state (Rewritten had file after) sound (held, keeps, kept) is =
     let same = same_held laws.one state.account.file.content is.record_state held is.stood_for keeps in
-    let next = laws.stays world (by_record held state) (MboxRewritten had (mail_in after.mbox.content) ∷ []) sound kept
-    (subst (λ (h : RecordState). AreAllRecorded world (mbox_holds h state.account.mbox) had) same is.recorded, tt) in
+    let next = laws.stays world (by_record held state) (Rewritten had file (mbox_holds held after.mbox) ∷ []) sound kept
+    ((subst (λ (h : RecordState). AreAllRecorded world (mbox_holds h state.account.mbox) had) same is.recorded, ap (with_file held) is.file_is), tt) in
     (tt, (held, subst (Keeps after.file.content) same is.stands_for, next.0))
 
 -- ---- any list of them
 
-sound_after : WorldsShrink → (world : MboxWorld) (event : MboxEvent) → IsWorld world.all → IsWorld (world_after world event).all
+sound_after : WorldsShrink → (world : MboxWorld) (event : MboxEvent Occasion MboxAccountFiles) → IsWorld world.all → IsWorld (mbox_world_after world event).all
 sound_after shrink world (Withdrawn ids) sound = shrink world.all ids sound
-sound_after shrink world (Rewritten had after) sound = sound
 sound_after shrink world event sound = sound
 
 pub mbox_headline : Laws → MboxHeadline
 mbox_headline laws world start [] sound is run = (holds_entries laws world start sound is, is)
 mbox_headline laws world start (event ∷ events) sound is run =
     let first = event_promised laws world start event sound is run.0 in
-    let later = mbox_headline laws (world_after world event) (after_event start event) events (sound_after laws.shrink world event sound) first.1 run.1 in
+    let later = mbox_headline laws (mbox_world_after world event) (after_mbox_event after_session start event) events (sound_after laws.shrink world event sound) first.1 run.1 in
     ((holds_entries laws world start sound is, first.0, later.0), later.1)
 
 pub start_is_kept : MboxStartsKept → MboxStartIsKept
@@ -192,7 +176,7 @@ pub writings_are_events : SomeAreRecorded → OneRecord → WritingsAreEvents
 writings_are_events some one world state after (held, keeps, kept) others =
     let same = same_held one state.account.file.content others.record_state held others.stood_for keeps in
     let all = some world (by_record held state) kept (subst (λ (h : RecordState). h.intent ≡ None) same others.closed) in
-    (all.0, record { record_state = held; stood_for = keeps; stands_for = subst (Keeps after.file.content) same others.stands_for; recorded = all.1 })
+    (all.0, record { file_is = refl; record_state = held; stood_for = keeps; stands_for = subst (Keeps after.file.content) same others.stands_for; recorded = all.1 })
 
 pub stops_are_runs : MboxStopsAreRuns
 stops_are_runs world state occasion left stopped = (

@@ -1,5 +1,5 @@
 -- What a session leaves of an account with an mboxrd file.
-use Rattle.std.proofs.Common.{◌≡◌, inl, inr, ◌+◌, ℕ, zero, suc, List, [], ◌∷◌, ◌++◌, map, take, length, Option, None, Some, refl, sym, ap, ◌∙◌, ◌⊎◌, Bool, true, false, Result, Ok, Err, subst, append_assoc, rules}
+use Rattle.std.proofs.Common.{arith, ◌≡◌, inl, inr, ◌+◌, ℕ, zero, suc, List, [], ◌∷◌, ◌++◌, map, take, length, Option, None, Some, refl, sym, ap, ◌∙◌, ◌⊎◌, Bool, true, false, Result, Ok, Err, subst, append_assoc, rules}
 use Rattle.std.specs.Prelude.{slice_get, option_map}
 use Rattle.std.specs.List.{AllByRecursion, flat_map, AllZip}
 use Rattle.std.proofs.lemmas.Bool.{true≢false}
@@ -10,7 +10,6 @@ use Rattle.rc_file.specs.declared.settings.Settings.{Settings}
 use Rattle.mail_store.specs.Mboxrd.{entry_of}
 use Rattle.mail_store.specs.MboxCalls.{RefusesLook}
 use Rattle.mail_store.specs.declared.fault.StoreFault.{StoreFault}
-use Rattle.mail_store.specs.declared.fault.StoreFault.TheVariants as looked
 use Rattle.pop3_wire.specs.Reading.{WholeReply}
 use Rattle.pop3_client.specs.Texts.{body_text}
 use Rattle.fetch_session.specs.Task.{Task, stores, rereads, Done, IsAnswered, tasks_of, texts_in, texts_of}
@@ -45,19 +44,15 @@ use Rattle.fetch_session.specs.Plan.{tasks_ahead, Unprepared, Carried, Carries}
 use Rattle.fetch_session.specs.Readiness.{IsMergedAtMost, IsSettledBy, MboxUnready, Settles}
 use Rattle.fetch_session.specs.Session.{Keeping, Noted, Proceeds}
 use Rattle.run_law.specs.Mboxes as Law
+use Rattle.std.proofs.lemmas.Simd.{map-map}
 
 -- ---- The texts that tasks appended to an mboxrd file, and the intent of the next one.
 
 -- ---- texts
 
-each_text : (number : ℕ) (replies : List WholeReply)
-    → map (λ (reply : WholeReply). body_text reply.body) replies ≡ map text_found (map (λ (reply : WholeReply). (number, body_text reply.body)) replies)
-each_text number [] = refl
-each_text number (reply ∷ replies) = ap (λ (l : List (List ℕ)). body_text reply.body ∷ l) (each_text number replies)
-
 -- no message counts as held, so each text that was retrieved was to be stored
 texts_one : (items : List Item) (task : Task) (replies : List WholeReply) → IsRight [] no_maildir items task → texts_in task replies ≡ map text_found (found_in task replies)
-texts_one items (stores number uid) replies right = each_text number replies
+texts_one items (stores number uid) replies right = sym (map-map text_found (λ (reply : WholeReply). (number, body_text reply.body)) replies)
 texts_one items (rereads number uid) replies right = absurd (true≢false (sym right.0))
 texts_one items other replies right = refl
 
@@ -68,9 +63,9 @@ texts_same items (d ∷ dones) right =
 
 -- ---- the next message
 
-get_behind : {A : Type 0} (xs : List A) (y : A) (ys : List A) → slice_get (xs ++ y ∷ ys) (length xs) ≡ Some y
-get_behind [] y ys = refl
-get_behind (x ∷ xs) y ys = get_behind xs y ys
+at_length : {A : Type 0} (xs : List A) (y : A) (ys : List A) → slice_get (xs ++ y ∷ ys) (length xs) ≡ Some y
+at_length [] y ys = refl
+at_length (x ∷ xs) y ys = at_length xs y ys
 
 abbrev id_in : Option (ℕ × List ℕ) → List ℕ
 id_in None = []
@@ -89,7 +84,7 @@ next_wanted tasks later dones messages number uid are split answered =
     key_at messages (length (found_by dones)) (number, uid)
     (ap (λ (l : List (ℕ × List ℕ)). slice_get l (length (found_by dones))) (sym are ∙ ap fetched split ∙ flat_map-append fetched_in (tasks_of dones) (stores number uid ∷ later))
     ∙ ap (λ (n : ℕ). slice_get (fetched (tasks_of dones) ++ (number, uid) ∷ fetched later) n) (sym (same_length dones answered))
-    ∙ get_behind (fetched (tasks_of dones)) (number, uid) (fetched later))
+    ∙ at_length (fetched (tasks_of dones)) (number, uid) (fetched later))
 
 -- ---- what the law over runs takes
 
@@ -116,7 +111,7 @@ opens_at {before = before} {effect = effect} dones text message are wanted inten
   message = message;
   wanted = wanted;
   got = ap (λ (l : List (List ℕ)). slice_get l (length (found_by dones))) are
-      ∙ ap (λ (n : ℕ). slice_get (texts_by dones ++ text ∷ []) n) (sym (length-map (found_by dones) text_found)) ∙ get_behind (texts_by dones) text [];
+      ∙ ap (λ (n : ℕ). slice_get (texts_by dones ++ text ∷ []) n) (sym (length-map (found_by dones) text_found)) ∙ at_length (texts_by dones) text [];
   intent = intent ∙ ap (λ (l : List (List ℕ)). Some (law_intent ((settled effect.listing before).file ++ entries l) message.1.uid text)) (sym (front_texts effect.texts (text ∷ []) dones are));
 }
 
@@ -198,10 +193,7 @@ module _ (steadies : SteadyFilesKeep) (unsaved : UnsavedFilesKeep) (mbox file : 
 
 -- a file that was only looked at is as it was
 look_content : (why : StoreFault) (old new : Stored) → RefusesLook old why new → new.content ≡ old.content
-look_content looked.Missing old new is = ap (λ (s : Stored). s.content) is.1
-look_content looked.Refused old new is = ap (λ (s : Stored). s.content) is
-look_content looked.NotMbox old new is = ap (λ (s : Stored). s.content) is.1
-look_content looked.NoMemory old new never = absurd never
+look_content why old new is = grind arith
 
 -- ---- the account that a session left, and what it found
 
@@ -399,9 +391,6 @@ same_closed : (intent : Option Intent) (items : List Item) (bytes : List ℕ) �
 same_closed None items bytes = refl
 same_closed (Some intent) items bytes = refl
 
-held_same : (a b : RecordState) → a.rows ≡ b.rows → a.intent ≡ b.intent → a ≡ b
-held_same a b rows intent = ap (λ (r : List Row). held_with r a.intent) rows ∙ ap (λ (i : Option Intent). held_with b.rows i) intent
-
 -- a cause leaves the mboxrd file as it was, or settled
 settled_by : (items : List Item) (fault : Fault) (mbox file mbox' file' : Stored) → MboxUnready items fault mbox file mbox' file' → IsSettledBy items file mbox mbox'
 settled_by items (BadSeen line) mbox file mbox' file' is = inl (ap (λ (s : Stored). s.content) is.1)
@@ -424,7 +413,7 @@ module _ (laws : Laws) (settings : Settings) (items : List Item) (now : ℕ) (pl
   was_held : (was : RecordState) → Keeps file.content was → was ≡ held
   was_held was stood =
       let one = laws.one file.content was.rows held.rows was.intent held.intent stood keeps in
-      held_same was held one.0 one.1
+      λ t. record { rows = one.0 t; intent = one.1 t }
 
   closed_is : (was : RecordState) (bytes : List ℕ) → Keeps file.content was → store.mbox.content ≡ Some bytes → closed_file was.intent items bytes ≡ bytes_settled items held store.mbox
   closed_is was bytes stood is =

@@ -1,10 +1,9 @@
 -- Each event of a run leaves a state in which a loss of power is one.
-use Rattle.std.proofs.Common.{◌≡◌, ◌≢◌, ◌⊎◌, inl, inr, ℕ, List, [], ◌∷◌, ◌++◌, Bool, true, false, not, ◌||◌, Option, refl, sym, ap, subst, ◌∙◌, arith}
+use Rattle.std.proofs.Common.{◌≡◌, ◌≢◌, ◌⊎◌, inl, inr, ℕ, List, [], ◌∷◌, ◌++◌, Bool, true, false, not, ◌&&◌, Option, refl, sym, ap, subst, ◌∙◌, arith}
 use Rattle.std.specs.Prelude.{bytes_eq}
 use Rattle.std.specs.List.{AllByRecursion, filter}
-use Rattle.std.proofs.lemmas.Bool.{both_ways, cases_Bool, false_from_ne_true, or_cases, or_from}
+use Rattle.std.proofs.lemmas.Bool.{both_ways, cases_Bool, false_from_ne_true, or_from, or_left}
 use Rattle.std.proofs.lemmas.List.Folds.{list_any-append}
-use Rattle.std.proofs.lemmas.Slice.Eq.{bytes_eq-Decides}
 use Rattle.fetch_rules.specs.Record.{Row, is_delivered}
 use Rattle.fetch_rules.specs.RecordGrowth.{OneRecord}
 use Rattle.fetch_session.specs.Record.{KeepsRows}
@@ -15,14 +14,16 @@ use Rattle.mail_terms.specs.UniqueId.{has_id, is_legal_id}
 use Rattle.pop3_wire.specs.World.{Message, IsMessage}
 use Rattle.run_law.specs.Accounts.{copies}
 use Rattle.run_law.specs.Mails.{WorldsShrink, ids_of, is_selected, messages_after, selected, texts_of, without}
-use Rattle.run_law.specs.Runs.{State, IsSound, World, HoldsOf}
+use Rattle.run_law.specs.Runs.{State, IsSound, World, HoldsOf, IsNeither, Event, Fetched, Between, Expired, Withdrawn, TakenAway, BroughtBack, Forgotten, PowerLost, after_event, world_after}
 use Rattle.fetch_session.specs.Session.{AccountFiles}
-use Rattle.fetch_runs.specs.Headline.{AreTaken, AreTakings, Event, Fetched, Between, Expired, Withdrawn, TakenAway, BroughtBack, Forgotten, PowerLost, Follows, Headline, IsKept, IsLastStored, IsNeither, IsRecorded, IsRun, KeepsRecord, after_event, contents_of, by_rows, world_after}
+use Rattle.fetch_runs.proofs.Ids.{all_at, all_ids_at, bytes_same, bytes_self, has_filtered, has_texts}
+use Rattle.fetch_runs.proofs.Lists.{all_both, all_filter, all_front, all_map, filter-swap, is_some}
+use Rattle.fetch_runs.specs.Headline.{AreTaken, AreTakings, Follows, Headline, IsKept, IsLastStored, IsRecorded, IsRun, KeepsRecord, contents_of, by_rows, after_session, Occasion}
 use Rattle.fetch_runs.specs.Power.{AllMayBeOnDisk, CanLosePower, IsSure, IsSureOrTaken, LossesAreEvents, SessionsAndPower}
 use Rattle.fetch_runs.specs.PowerRuns.{AsMuchIsSure, CanAlwaysLosePower, EventOn, EventsKeepPower, HeadlineOn, IsRunOn, KeepsSure, TakingsRunOn, events_of}
-use Rattle.fetch_runs.proofs.HeadlineLemmas.{held_in, sound_after}
+use Rattle.fetch_runs.proofs.HeadlineLemmas.{sound_after}
 use Rattle.fetch_runs.proofs.PowerLosses.{held_file, named_in, named_some}
-use Rattle.fetch_runs.proofs.PowerTakings.{all_after, all_both, all_selected, contains_part, held_some, same_or_taken, stay_taken, two_in}
+use Rattle.fetch_runs.proofs.PowerTakings.{contains_part, held_some, same_or_taken, stay_taken, two_in}
 use Rattle.fetch_runs.proofs.Takings.{LeaveParts, some_held, takings_leave_parts}
 
 -- the laws that are used
@@ -33,66 +34,9 @@ pub record EventLaws {D F : Type 0} (disk : DiskGhosts D) (files : FileGhosts F)
   pub begins : AllMayBeOnDisk disk files
   pub sessions : SessionsAndPower disk files
 
--- ---- lists
-
-or_second : (a b : Bool) → b ≡ true → (a || b) ≡ true
-or_second a b is = grind (arith, is)
-
-not_none : {A : Type 0} (x : A) (xs : List A) → x ∷ xs ≢ []
-not_none x xs none = cc
-
--- an id of some of these messages is legal
-legal_in : (done rest : List Message) (id : List ℕ) → AllByRecursion (λ (m : Message). is_legal_id m.uid ≡ true) (done ++ rest) → has_id (ids_of done) id ≡ true → is_legal_id id ≡ true
-legal_in [] rest id all never = absurd (both_ways false refl never)
-legal_in (m ∷ done) rest id all has = elim (or_cases (bytes_eq id m.uid) (has_id (ids_of done) id) has) [
-  | inl same ↦ subst (λ (x : List ℕ). is_legal_id x ≡ true) (sym ((bytes_eq-Decides id m.uid).0 same)) all.0
-  | inr more ↦ legal_in done rest id all.1 more
-]
-
-texts_some : (done : List Message) (id : List ℕ) → has_id (ids_of done) id ≡ true → texts_of done id ≢ []
-texts_some [] id never = absurd (both_ways false refl never)
-texts_some (m ∷ done) id has = by (texts_some done id) (bytes_eq id m.uid) refl (or_cases (bytes_eq id m.uid) (has_id (ids_of done) id) has)
-  where
-    by : (has_id (ids_of done) id ≡ true → texts_of done id ≢ []) → (b : Bool) → bytes_eq id m.uid ≡ b → (bytes_eq id m.uid ≡ true) ⊎ (has_id (ids_of done) id ≡ true) → texts_of (m ∷ done) id ≢ []
-    by more true e either none =
-        let there : texts_of (m ∷ done) id ≡ m.text ∷ texts_of done id = rw e refl in
-        not_none m.text (texts_of done id) (sym there ∙ none)
-    by more false e (inl same) none = absurd (both_ways (bytes_eq id m.uid) e same)
-    by more false e (inr later) none =
-        let there : texts_of (m ∷ done) id ≡ texts_of done id = rw e refl in
-        more later (sym there ∙ none)
-
-none_filtered : (p : List ℕ → Bool) (ids : List (List ℕ)) (id : List ℕ) → has_id ids id ≡ false → has_id (filter p ids) id ≡ false
-none_filtered p [] id none = refl
-none_filtered p (x ∷ ids) id none = by (none_filtered p ids id rest) (p x) refl
-  where
-    first : bytes_eq id x ≡ false
-    first = false_from_ne_true (bytes_eq id x) (λ same. both_ways (has_id (x ∷ ids) id) none (ap (λ b. b || has_id ids id) same))
-
-    rest : has_id ids id ≡ false
-    rest = false_from_ne_true (has_id ids id) (λ has. both_ways (has_id (x ∷ ids) id) none (or_second (bytes_eq id x) (has_id ids id) has))
-
-    by : has_id (filter p ids) id ≡ false → (b : Bool) → p x ≡ b → has_id (filter p (x ∷ ids)) id ≡ false
-    by more true e = rw e (or_from (bytes_eq id x) (has_id (filter p ids) id) first more)
-    by more false e = rw e more
-
--- what holds of all later messages holds of those that aren't withdrawn
-all_without : (P : Message → Type 0) (limit : ℕ) (ids : List (List ℕ)) (ms : List Message) → AllByRecursion P (selected limit ms) → AllByRecursion P (selected limit (without ids ms))
-all_without P limit ids [] all = tt
-all_without P limit ids (m ∷ ms) all = by (all_without P limit ids ms) (is_selected limit m) refl (has_id ids m.uid) refl
-  where
-    first : is_selected limit m ≡ true → P m × AllByRecursion P (selected limit ms)
-    first s = let there : selected limit (m ∷ ms) ≡ m ∷ selected limit ms = rw s refl in subst (AllByRecursion P) there all
-
-    others : is_selected limit m ≡ false → AllByRecursion P (selected limit ms)
-    others s = let there : selected limit (m ∷ ms) ≡ selected limit ms = rw s refl in subst (AllByRecursion P) there all
-
-    by : (AllByRecursion P (selected limit ms) → AllByRecursion P (selected limit (without ids ms))) → (b : Bool) → is_selected limit m ≡ b → (w : Bool) → has_id ids m.uid ≡ w
-        → AllByRecursion P (selected limit (without ids (m ∷ ms)))
-    by next true s true w = rw w (next (first s).1)
-    by next true s false w = rw (w, s) ((first s).0, next (first s).1)
-    by next false s true w = rw w (next (others s))
-    by next false s false w = rw (w, s) (next (others s))
+all_after : (P : Message → Type 0) (id : List ℕ) (ms : List Message) → AllByRecursion P ms → AllByRecursion P (messages_after id ms)
+all_after P id [] all = tt
+all_after P id (m ∷ ms) all = grind (arith, all.1, all_after P id ms all.1)
 
 -- ---- one event
 
@@ -102,8 +46,8 @@ module _ (one : OneRecord) {D F : Type 0} (disk : DiskGhosts D) (files : FileGho
   account = world.account
 
   all_legal : AllByRecursion (λ (m : Message). is_legal_id m.uid ≡ true) (selected world.max_size world.all)
-  all_legal = all_selected (λ (m : Message). is_legal_id m.uid ≡ true) world.max_size world.all
-      (all_both IsMessage IsMessage (λ (m : Message). is_legal_id m.uid ≡ true) (λ m a b. a.legal) world.all sound.mail.messages sound.mail.messages)
+  all_legal = all_filter (λ (m : Message). is_legal_id m.uid ≡ true) (is_selected world.max_size) world.all
+      (all_map IsMessage (λ (m : Message). is_legal_id m.uid ≡ true) (λ m h. h.legal) world.all sound.mail.messages)
 
   -- what is recorded has a file that stays, or was taken away
   pub recorded_sure : (id : List ℕ) → is_delivered is.0 id ≡ true → (is_legal_id id ≡ true) × IsSureOrTaken disk was world state id
@@ -113,11 +57,12 @@ module _ (one : OneRecord) {D F : Type 0} (disk : DiskGhosts D) (files : FileGho
       has = is.2.recorded id delivered
 
       legal : is_legal_id id ≡ true
-      legal = legal_in is.2.done is.2.rest id (subst (AllByRecursion (λ (m : Message). is_legal_id m.uid ≡ true)) is.2.prefix all_legal) has
+      legal = all_at (λ x. is_legal_id x ≡ true) is.2.done id
+          (all_front (λ (m : Message). is_legal_id m.uid ≡ true) is.2.done is.2.rest (subst (AllByRecursion (λ (m : Message). is_legal_id m.uid ≡ true)) is.2.prefix all_legal)) has
 
       by : HoldsOf world (by_rows is.0 state) is.2.done id → IsSureOrTaken disk was world state id
       by (inr taken) = inr taken.0
-      by (inl same) = elim (can.stay id legal (some_held account id state.account.maildir.files (λ none. texts_some is.2.done id has (sym same ∙ none)))) [
+      by (inl same) = elim (can.stay id legal (some_held account id state.account.maildir.files (λ none. both_ways (is_some (texts_of is.2.done id)) (ap is_some (sym same ∙ none)) (sym (has_texts is.2.done id) ∙ has)))) [
         | inl sure ↦ inl sure
         | inr (inl taken) ↦ inr taken
         | inr (inr lastly) ↦ absurd (lastly.unrecorded (is.0, is.1, delivered))
@@ -145,12 +90,12 @@ module _ (one : OneRecord) {D F : Type 0} (disk : DiskGhosts D) (files : FileGho
 
   module _ (device : D) (f : F) (after : State AccountFiles) (keeps : KeepsSure disk files world was from state device f after) where
     -- the last that was stored still is
-    still_last : ((id : List ℕ) → IsRecorded after.account id → IsRecorded state.account id) → ((m : Message) → is_legal_id m.uid ≡ true → IsNeither world state m.uid → IsNeither world after m.uid)
+    still_last : ((id : List ℕ) → IsRecorded after.account id → IsRecorded state.account id) → ((m : Message) → is_legal_id m.uid ≡ true → IsNeither world.account state.account.maildir state.taken m.uid → IsNeither world.account after.account.maildir after.taken m.uid)
         → (id : List ℕ) → (has_id state.gone id ≡ false → has_id after.gone id ≡ false) → IsLastStored world state id → IsLastStored world after id
     still_last back neither id on_server lastly = record {
       unrecorded = λ recorded. lastly.unrecorded (back id recorded);
       on_server = on_server lastly.on_server;
-      last = all_both (λ (m : Message). is_legal_id m.uid ≡ true) (λ (m : Message). IsNeither world state m.uid) (λ (m : Message). IsNeither world after m.uid) neither
+      last = all_both (λ (m : Message). is_legal_id m.uid ≡ true) (λ (m : Message). IsNeither world.account state.account.maildir state.taken m.uid) (λ (m : Message). IsNeither world.account after.account.maildir after.taken m.uid) neither
           (messages_after id (selected world.max_size world.all)) (all_after (λ (m : Message). is_legal_id m.uid ≡ true) id (selected world.max_size world.all) all_legal) lastly.last;
     }
 
@@ -183,31 +128,15 @@ module _ (one : OneRecord) {D F : Type 0} (disk : DiskGhosts D) (files : FileGho
         placed id (inl (inr taken)) = inr (inl taken)
         placed id (inr lastly) = inr (inr lastly)
 
-  -- the last that was stored still is if other messages are withdrawn
-  after_withdrawn : (P : Message → Type 0) (limit : ℕ) (ids : List (List ℕ)) (id : List ℕ) → has_id ids id ≡ false → (ms : List Message)
-      → AllByRecursion P (messages_after id (selected limit ms)) → AllByRecursion P (messages_after id (selected limit (without ids ms)))
-  after_withdrawn P limit ids id kept [] all = tt
-  after_withdrawn P limit ids id kept (m ∷ ms) all = by (after_withdrawn P limit ids id kept ms) (is_selected limit m) refl (has_id ids m.uid) refl (bytes_eq id m.uid) refl
-    where
-      next_is : Type 0
-      next_is = AllByRecursion P (messages_after id (selected limit ms)) → AllByRecursion P (messages_after id (selected limit (without ids ms)))
-
-      unselected : is_selected limit m ≡ false → AllByRecursion P (messages_after id (selected limit ms))
-      unselected s = let there : messages_after id (selected limit (m ∷ ms)) ≡ messages_after id (selected limit ms) = rw s refl in subst (AllByRecursion P) there all
-
-      later : is_selected limit m ≡ true → bytes_eq id m.uid ≡ false → AllByRecursion P (messages_after id (selected limit ms))
-      later s apart = let there : messages_after id (selected limit (m ∷ ms)) ≡ messages_after id (selected limit ms) = rw (s, apart) refl in subst (AllByRecursion P) there all
-
-      here : is_selected limit m ≡ true → bytes_eq id m.uid ≡ true → AllByRecursion P (selected limit ms)
-      here s same = let there : messages_after id (selected limit (m ∷ ms)) ≡ selected limit ms = rw (s, same) refl in subst (AllByRecursion P) there all
-
-      by : next_is → (b : Bool) → is_selected limit m ≡ b → (w : Bool) → has_id ids m.uid ≡ w → (e : Bool) → bytes_eq id m.uid ≡ e → AllByRecursion P (messages_after id (selected limit (without ids (m ∷ ms))))
-      by next false s true w e same = rw w (next (unselected s))
-      by next false s false w e same = rw (w, s) (next (unselected s))
-      by next true s true w true same = absurd (both_ways (has_id ids id) kept (subst (λ (x : List ℕ). has_id ids x ≡ true) (sym ((bytes_eq-Decides id m.uid).0 same)) w))
-      by next true s true w false same = rw w (next (later s same))
-      by next true s false w true same = rw (w, s, same) (all_without P limit ids ms (here s same))
-      by next true s false w false same = rw (w, s, same) (next (later s same))
+  -- what holds of those after a message holds of those that aren't withdrawn
+  after_without : (P : Message → Type 0) (ids : List (List ℕ)) (id : List ℕ) → has_id ids id ≡ false → (ms : List Message)
+      → AllByRecursion P (messages_after id ms) → AllByRecursion P (messages_after id (without ids ms))
+  after_without P ids id kept [] all = tt
+  after_without P ids id kept (m ∷ ms) all =
+      let stays = λ (e : bytes_eq id m.uid ≡ true). ap (has_id ids) (sym (bytes_same id m.uid e)) ∙ kept in
+      let here = all_filter P (λ (x : Message). not (has_id ids x.uid)) ms in
+      let later = after_without P ids id kept ms in
+      grind (arith, all, stays, here, later)
 
   module _ (device : D) (f : F) where
     abbrev Keeps : State AccountFiles → Type 0
@@ -233,11 +162,11 @@ module _ (one : OneRecord) {D F : Type 0} (disk : DiskGhosts D) (files : FileGho
 
         by : (id : List ℕ) → is_legal_id id ≡ true → IsLastStored world state id → (has_id ids id ≡ true) ⊎ (has_id ids id ≡ false)
             → IsSureOrTaken disk device world after id ⊎ IsLastStored world after id
-        by id legal lastly (inl gone) = inl (keeps.mail id legal (held_in (λ x. IsLastStored world state x → IsSureOrTaken disk was world state x) ids id safe gone lastly))
+        by id legal lastly (inl gone) = inl (keeps.mail id legal (all_ids_at (λ x. IsLastStored world state x → IsSureOrTaken disk was world state x) ids id safe gone lastly))
         by id legal lastly (inr on) = inr (still_last device f after keeps (λ x recorded. recorded) (λ m l neither. neither) id
             (λ before. list_any-append (bytes_eq id) state.gone ids ∙ or_from (has_id state.gone id) (has_id ids id) before on) lastly)
 
-    after_withdrawing : (ids : List (List ℕ)) → Keeps state → AllByRecursion (IsNeither world state) ids → CanLosePower disk files device f (record world { all = without ids world.all }) state
+    after_withdrawing : (ids : List (List ℕ)) → Keeps state → AllByRecursion (IsNeither world.account state.account.maildir state.taken) ids → CanLosePower disk files device f (record world { all = without ids world.all }) state
     after_withdrawing ids keeps neither = record {
       stay = λ id legal held. elim (same.stay id legal held) [
         | inl sure ↦ inl (record { one = sure.one; there = sure.there; named = sure.named; sure = sure.sure })
@@ -245,7 +174,9 @@ module _ (one : OneRecord) {D F : Type 0} (disk : DiskGhosts D) (files : FileGho
         | inr (inr lastly) ↦ inr (inr (record {
           unrecorded = lastly.unrecorded;
           on_server = lastly.on_server;
-          last = after_withdrawn (λ (m : Message). IsNeither (record world { all = without ids world.all }) state m.uid) world.max_size ids id (kept_id id held) world.all lastly.last;
+          last = subst (λ (ms : List Message). AllByRecursion (λ (m : Message). IsNeither world.account state.account.maildir state.taken m.uid) (messages_after id ms))
+              (filter-swap (λ (m : Message). not (has_id ids m.uid)) (is_selected world.max_size) world.all)
+              (after_without (λ (m : Message). IsNeither world.account state.account.maildir state.taken m.uid) ids id (kept_id id held) (selected world.max_size world.all) lastly.last);
         }))
       ];
       shows = λ left now rows may keeps_now keeps_rows id delivered. elim (same.shows left now rows may keeps_now keeps_rows id delivered) [
@@ -259,46 +190,43 @@ module _ (one : OneRecord) {D F : Type 0} (disk : DiskGhosts D) (files : FileGho
         same = can_after device f state keeps (λ id legal held. inr held) (λ id legal lastly. inr lastly) (same_shown device state (λ rows keeps_rows. keeps_rows))
 
         kept_id : (id : List ℕ) → is_held account state.account.maildir id ≡ true → has_id ids id ≡ false
-        kept_id id held = false_from_ne_true (has_id ids id) (λ has. both_ways (is_held account state.account.maildir id) (held_in (IsNeither world state) ids id neither has).0 held)
+        kept_id id held = false_from_ne_true (has_id ids id) (λ has. both_ways (is_held account state.account.maildir id) (all_ids_at (IsNeither world.account state.account.maildir state.taken) ids id neither has).0 held)
 
-    after_taking : (id : List ℕ) (after : AccountFiles) → Keeps (after_event state (TakenAway id after)) → Follows world state (TakenAway id after) → CanLosePower disk files device f world (after_event state (TakenAway id after))
-    after_taking id after keeps taken = can_after device f next keeps
-        (λ other legal held. by other legal held (cases_Bool (bytes_eq other id)))
-        (λ other legal lastly. inr (still_last device f next keeps (same_recorded after taken.record_is) (λ m l neither.
-        let apart = others m neither in
-        (not_held after m.uid (taken.others m.uid l apart) neither.0, or_from (bytes_eq m.uid id) (has_id state.taken m.uid) apart neither.1)) other (λ on. on) lastly))
-        (same_shown device next taken.record_is)
+    -- the files of one message changed, and whether it counts as taken away
+    after_moving : (id : List ℕ) (after : AccountFiles) (taken : List (List ℕ)) → Keeps (record state { account = after; taken = taken }) → KeepsRecord state.account after
+        → ((other : List ℕ) → is_legal_id other ≡ true → bytes_eq other id ≡ false → contents_of world after other ≡ contents_of world state.account other)
+        → IsSureOrTaken disk device world (record state { account = after; taken = taken }) id
+        → ((m : Message) → IsNeither world.account state.account.maildir state.taken m.uid → (bytes_eq m.uid id ≡ false) × (has_id taken m.uid ≡ false))
+        → CanLosePower disk files device f world (record state { account = after; taken = taken })
+    after_moving id after taken keeps record_is others safe untaken = can_after device f next keeps
+        (λ other legal held. elim (cases_Bool (bytes_eq other id)) [
+          | inl same ↦ inl (subst (IsSureOrTaken disk device world next) (sym (bytes_same other id same)) safe)
+          | inr apart ↦ inr (held_back after other (others other legal apart) held)
+        ])
+        (λ other legal lastly. inr (still_last device f next keeps (same_recorded after record_is) (λ m l neither.
+        let apart = untaken m neither in
+        (not_held after m.uid (others m.uid l apart.0) neither.0, apart.1)) other (λ on. on) lastly))
+        (same_shown device next record_is)
       where
         next : State AccountFiles
-        next = after_event state (TakenAway id after)
+        next = record state { account = after; taken = taken }
 
-        others : (m : Message) → IsNeither world state m.uid → bytes_eq m.uid id ≡ false
-        others m neither = false_from_ne_true (bytes_eq m.uid id) (λ same. both_ways (is_held account state.account.maildir m.uid) neither.0
-            (subst (λ (x : List ℕ). is_held account state.account.maildir x ≡ true) (sym ((bytes_eq-Decides m.uid id).0 same)) taken.held))
+    apart_if : (p : List ℕ → Bool) (a b : List ℕ) → p a ≡ false → p b ≡ true → bytes_eq a b ≡ false
+    apart_if p a b absent there = false_from_ne_true (bytes_eq a b) (λ same. both_ways (p a) absent (ap p (bytes_same a b same) ∙ there))
 
-        by : (other : List ℕ) → is_legal_id other ≡ true → is_held account after.maildir other ≡ true → (bytes_eq other id ≡ true) ⊎ (bytes_eq other id ≡ false)
-            → IsSureOrTaken disk device world next other ⊎ (is_held account state.account.maildir other ≡ true)
-        by other legal held (inl same) = inl (inr (ap (λ b. b || has_id state.taken other) same))
-        by other legal held (inr apart) = inr (held_back after other (taken.others other legal apart) held)
+    after_taking : (id : List ℕ) (after : AccountFiles) → Keeps (after_event {S = Occasion} after_session state (TakenAway id after)) → Follows world state (TakenAway id after) → CanLosePower disk files device f world (after_event {S = Occasion} after_session state (TakenAway id after))
+    after_taking id after keeps taken = after_moving id after (id ∷ state.taken) keeps taken.record_is taken.others (inr (or_left _ _ (bytes_self id)))
+        (λ m neither.
+        let apart = apart_if (is_held account state.account.maildir) m.uid id neither.0 taken.held in
+        (apart, or_from (bytes_eq m.uid id) (has_id state.taken m.uid) apart neither.1))
 
-    after_bringing : (id : List ℕ) (after : AccountFiles) → Keeps (after_event state (BroughtBack id after)) → Follows world state (BroughtBack id after) → CanLosePower disk files device f world (after_event state (BroughtBack id after))
-    after_bringing id after keeps brought = can_after device f next keeps
-        (λ other legal held. by other legal held (cases_Bool (bytes_eq other id)))
-        (λ other legal lastly. inr (still_last device f next keeps (same_recorded after brought.record_is) (λ m l neither.
-        (not_held after m.uid (brought.others m.uid l (others m neither)) neither.0, none_filtered (λ x. not (bytes_eq x id)) state.taken m.uid neither.1)) other (λ on. on) lastly))
-        (same_shown device next brought.record_is)
-      where
-        next : State AccountFiles
-        next = after_event state (BroughtBack id after)
-
-        others : (m : Message) → IsNeither world state m.uid → bytes_eq m.uid id ≡ false
-        others m neither = false_from_ne_true (bytes_eq m.uid id) (λ same. both_ways (has_id state.taken m.uid) neither.1
-            (subst (λ (x : List ℕ). has_id state.taken x ≡ true) (sym ((bytes_eq-Decides m.uid id).0 same)) brought.taken))
-
-        by : (other : List ℕ) → is_legal_id other ≡ true → is_held account after.maildir other ≡ true → (bytes_eq other id ≡ true) ⊎ (bytes_eq other id ≡ false)
-            → IsSureOrTaken disk device world next other ⊎ (is_held account state.account.maildir other ≡ true)
-        by other legal held (inl same) = inl (keeps.mail other legal (inr (subst (λ (x : List ℕ). has_id state.taken x ≡ true) (sym ((bytes_eq-Decides other id).0 same)) brought.taken)))
-        by other legal held (inr apart) = inr (held_back after other (brought.others other legal apart) held)
+    after_bringing : (id : List ℕ) (after : AccountFiles) → Keeps (after_event {S = Occasion} after_session state (BroughtBack id after)) → Follows world state (BroughtBack id after) → CanLosePower disk files device f world (after_event {S = Occasion} after_session state (BroughtBack id after))
+    after_bringing id after keeps brought =
+        after_moving id after (filter (λ x. not (bytes_eq x id)) state.taken) keeps brought.record_is brought.others (keeps.mail id brought.legal (inr brought.taken))
+        (λ m neither. (
+          apart_if (has_id state.taken) m.uid id neither.1 brought.taken,
+          has_filtered (λ x. not (bytes_eq x id)) state.taken m.uid ∙ ap (λ b. b && not (bytes_eq m.uid id)) neither.1,
+        ))
 
     after_forgetting : (after : AccountFiles) → Keeps (record state { account = after }) → Follows world state (Forgotten after) → CanLosePower disk files device f world (record state { account = after })
     after_forgetting after keeps forgets = after_same after keeps forgets.mail back
@@ -341,7 +269,7 @@ run_on disk files law shrink keep world state was from [] sound is can run = (tt
 run_on disk files law shrink keep world state was from (on ∷ ons) sound is can run =
     let now = keep world state was from on.event on.device on.file sound is can run.0 in
     let after = (law world state (on.event ∷ []) sound is (now.0, tt)).1 in
-    let later = run_on disk files law shrink keep (world_after world on.event) (after_event state on.event) on.device on.file ons (sound_after shrink world on.event sound) after now.1 run.1 in
+    let later = run_on disk files law shrink keep (world_after world on.event) (after_event after_session state on.event) on.device on.file ons (sound_after shrink world on.event sound) after now.1 run.1 in
     ((now.0, later.0), (can, later.1))
 
 pub headline_on : {D F : Type 0} (disk : DiskGhosts D) (files : FileGhosts F) → Headline → WorldsShrink → EventsKeepPower disk files → HeadlineOn disk files
@@ -359,7 +287,7 @@ as_much_is_sure law disk files world state was from event device f sound is take
 }
   where
     next : State AccountFiles
-    next = after_event state event
+    next = after_event after_session state event
 
     front : List ℕ → List ℕ
     front id = stem_of world.account id
@@ -382,24 +310,24 @@ as_much_is_sure law disk files world state was from event device f sound is take
           ];
         })
 
-abbrev on_same : {D F : Type 0} → D → F → List Event → List (EventOn D F)
+abbrev on_same : {D F : Type 0} → D → F → List (Event Occasion AccountFiles) → List (EventOn D F)
 on_same device f [] = []
 on_same device f (event ∷ events) = record { event = event; device = device; file = f } ∷ on_same device f events
 
-same_events : {D F : Type 0} (device : D) (f : F) (events : List Event) → events_of (on_same device f events) ≡ events
+same_events : {D F : Type 0} (device : D) (f : F) (events : List (Event Occasion AccountFiles)) → events_of (on_same device f events) ≡ events
 same_events device f [] = refl
-same_events device f (event ∷ events) = ap (λ (es : List Event). event ∷ es) (same_events device f events)
+same_events device f (event ∷ events) = ap (λ (es : List (Event Occasion AccountFiles)). event ∷ es) (same_events device f events)
 
-taking_on : Headline → {D F : Type 0} (disk : DiskGhosts D) (files : FileGhosts F) (device : D) (f : F) (world : World) (state : State AccountFiles) (events : List Event) → IsSound world → IsKept world state
+taking_on : Headline → {D F : Type 0} (disk : DiskGhosts D) (files : FileGhosts F) (device : D) (f : F) (world : World) (state : State AccountFiles) (events : List (Event Occasion AccountFiles)) → IsSound world → IsKept world state
     → AreTakings events → IsRun world state events → LeaveParts state events → IsRunOn disk files world state device f (on_same device f events)
 taking_on law disk files device f world state [] sound is each run parts = tt
 taking_on law disk files device f world state (TakenAway id after ∷ events) sound is each run parts = (
   (run.0, tt, as_much_is_sure law disk files world state device f (TakenAway id after) device f sound is tt run.0 parts.0 (record { mail = (λ name stays. stays, λ one outlives. outlives); record_is = λ left may. may })),
-  taking_on law disk files device f world (after_event state (TakenAway id after)) events sound (law world state (TakenAway id after ∷ []) sound is (run.0, tt)).1 each run.1 parts.1,
+  taking_on law disk files device f world (after_event {S = Occasion} after_session state (TakenAway id after)) events sound (law world state (TakenAway id after ∷ []) sound is (run.0, tt)).1 each run.1 parts.1,
 )
 taking_on law disk files device f world state (Between after ∷ events) sound is each run parts = (
   (run.0, tt, as_much_is_sure law disk files world state device f (Between after) device f sound is tt run.0 parts.0 (record { mail = (λ name stays. stays, λ one outlives. outlives); record_is = λ left may. may })),
-  taking_on law disk files device f world (after_event state (Between after)) events sound (law world state (Between after ∷ []) sound is (run.0, tt)).1 each run.1 parts.1,
+  taking_on law disk files device f world (after_event {S = Occasion} after_session state (Between after)) events sound (law world state (Between after ∷ []) sound is (run.0, tt)).1 each run.1 parts.1,
 )
 taking_on law disk files device f world state (_ ∷ events) sound is never run parts = absurd never
 

@@ -1,5 +1,5 @@
 -- A loss of power that leaves some of the files is an event of a run.
-use Rattle.std.proofs.Common.{◌≡◌, ◌≢◌, ◌⊎◌, inl, inr, ◌<◌, ◌≤◌, ℕ, zero, suc, List, [], ◌∷◌, Bool, true, false, ◌||◌, Option, length, ap, refl, sym, subst, ◌∙◌, arith}
+use Rattle.std.proofs.Common.{◌≡◌, ◌≢◌, ◌⊎◌, inl, inr, ◌<◌, ◌≤◌, ℕ, zero, suc, List, [], ◌∷◌, Bool, true, Option, length, ap, sym, subst, ◌∙◌, arith}
 use Rattle.std.specs.Prelude.{bytes_eq, Contains}
 use Rattle.mail_terms.specs.UniqueId.{has_id, is_legal_id}
 use Rattle.mail_store.specs.FileName.{names_id, stem, stem_of}
@@ -8,10 +8,13 @@ use Rattle.fetch_rules.specs.Record.{Row, is_delivered}
 use Rattle.fetch_rules.specs.RecordGrowth.{OneRecord}
 use Rattle.fetch_session.specs.Record.{KeepsRows}
 use Rattle.std.specs.List.{list_any}
-use Rattle.std.proofs.lemmas.Bool.{both_ways, or_cases}
+use Rattle.std.proofs.lemmas.Bool.{both_ways}
 use Rattle.mail_store.specs.Maildir.{File, name_in, names_of}
 use Rattle.mail_store.specs.declared.maildir.disk.MaildirDisk.{Ghosts as DiskGhosts}
 use Rattle.run_law.specs.Accounts.{copies}
+use Rattle.fetch_runs.proofs.Lists.{any_filter, is_some}
+use Rattle.std.proofs.lemmas.List.Folds.{Any-from_list_any}
+use Rattle.std.proofs.lemmas.Bool.{or_left, or_right}
 use Rattle.fetch_runs.specs.Headline.{Headline, IsLastStored, contents_of}
 use Rattle.fetch_runs.specs.Power.{AllMayBeOnDisk, IsSure, LossesAreEvents}
 use Rattle.fetch_runs.proofs.Takings.{less_than_one, part_copies, some_held}
@@ -24,44 +27,23 @@ named_in (x ∷ fs) f (suc k, below, is) =
     let more = named_in fs f (k, omega (arith, below), is) in
     (suc more.0, omega (arith, more.1), more.2)
 
-not_none : {A : Type 0} (x : A) (xs : List A) → x ∷ xs ≢ []
-not_none x xs none = cc
+-- a test that this name of a file passes finds a file
+passes : (p : List ℕ → Bool) (fs : List File) (name : List ℕ) → Contains (names_of fs) name → p name ≡ true → list_any (λ (f : File). p f.name) fs ≡ true
+passes p [] name (k, below, is) named = absurd (omega (arith, below))
+passes p (x ∷ fs) name (zero, below, is) named = or_left _ _ (ap p is ∙ named)
+passes p (x ∷ fs) name (suc k, below, is) named = or_right _ _ (passes p fs name (k, omega (arith, below), is) named)
 
 -- a name with this stem is that of a file with it
 pub named_some : (front : List ℕ) (fs : List File) (name : List ℕ) → bytes_eq front (stem name) ≡ true → Contains (names_of fs) name → copies fs front ≢ []
-named_some front [] name same (k, below, is) = absurd (omega (arith, below))
-named_some front (f ∷ fs) name same (zero, below, is) = λ none.
-    let e : bytes_eq front (stem f.name) ≡ true = ap (λ n. bytes_eq front (stem n)) is ∙ same in
-    let there : copies (f ∷ fs) front ≡ f.content ∷ copies fs front = rw e refl in
-    not_none f.content (copies fs front) (sym there ∙ none)
-named_some front (f ∷ fs) name same (suc k, below, is) = by (bytes_eq front (stem f.name)) refl (named_some front fs name same (k, omega (arith, below), is))
-  where
-    by : (b : Bool) → bytes_eq front (stem f.name) ≡ b → copies fs front ≢ [] → copies (f ∷ fs) front ≢ []
-    by true e some none =
-        let there : copies (f ∷ fs) front ≡ f.content ∷ copies fs front = rw e refl in
-        not_none f.content (copies fs front) (sym there ∙ none)
-    by false e some none =
-        let more : copies (f ∷ fs) front ≡ copies fs front = rw e refl in
-        some (sym more ∙ none)
+named_some front fs name same there none =
+    both_ways (is_some (copies fs front)) (ap is_some none)
+    (sym (any_filter (λ (f : File). bytes_eq front (stem f.name)) (λ (f : File). f.content) fs) ∙ passes (λ n. bytes_eq front (stem n)) fs name there same)
 
 -- a file of a held id
 pub held_file : (account id : List ℕ) (fs : List File) → list_any (λ (f : File). names_id account id f.name) fs ≡ true → (f : File) × Contains fs f × (names_id account id f.name ≡ true)
-held_file account id [] held = absurd (both_ways false refl held)
-held_file account id (f ∷ fs) held = elim (or_cases (names_id account id f.name) (list_any (λ (g : File). names_id account id g.name) fs) held) [
-  | inl here ↦ (f, (zero, omega arith, refl), here)
-  | inr there ↦
-      let more = held_file account id fs there in
-      (more.0, (suc more.1.0, omega (arith, more.1.1), more.1.2), more.2)
-]
-
--- a file of this name holds the id
-held_named : (account id : List ℕ) (fs : List File) (name : List ℕ) → Contains (names_of fs) name → names_id account id name ≡ true → list_any (λ (g : File). names_id account id g.name) fs ≡ true
-held_named account id [] name (k, below, is) named = absurd (omega (arith, below))
-held_named account id (x ∷ fs) name (zero, below, is) named = ap (λ b. b || list_any (λ (g : File). names_id account id g.name) fs) (ap (names_id account id) is ∙ named)
-held_named account id (x ∷ fs) name (suc k, below, is) named = or_second (names_id account id x.name) (list_any (λ (g : File). names_id account id g.name) fs) (held_named account id fs name (k, omega (arith, below), is) named)
-  where
-    or_second : (a b : Bool) → b ≡ true → (a || b) ≡ true
-    or_second a b is = grind (arith, is)
+held_file account id fs held =
+    let one = Any-from_list_any (λ (f : File). names_id account id f.name) fs held in
+    (one.1, (one.0, one.2, one.3), one.4)
 
 pub losses_are_events : Headline → {D F : Type 0} (disk : DiskGhosts D) (files : FileGhosts F) → LossesAreEvents disk files
 losses_are_events law disk files device f world state after now sound is can may may_file keeps = record {
@@ -70,7 +52,7 @@ losses_are_events law disk files device f world state after now sound is can may
     keeps,
     λ id d. elim (can.shows after.file.content now rows may_file keeps keeps_rows id d) [
       | inl was ↦ inl was
-      | inr (legal, inl one) ↦ inr (legal, inl (held_named world.account id after.maildir.files one.one.name (named_left id one one.sure) one.named))
+      | inr (legal, inl one) ↦ inr (legal, inl (passes (names_id world.account id) after.maildir.files one.one.name (named_left id one one.sure) one.named))
       | inr (legal, inr taken) ↦ inr (legal, inr taken)
     ],
   );

@@ -2,7 +2,7 @@
 use Rattle.std.proofs.Common.{◌≡◌, ◌≢◌, ◌⊎◌, inl, inr, ℕ, suc, ◌+◌, ◌-◌, ◌%◌, ◌==◌, ◌&&◌, ◌||◌, List, [], ◌∷◌, ◌++◌, Bool, true, false, take, length, Option, Some, ap, subst, ◌∙◌, arith}
 use Rattle.std.specs.Prelude.{bytes_eq}
 use Rattle.std.specs.List.{list_all}
-use Rattle.std.proofs.lemmas.Bool.{cases_Bool}
+use Rattle.std.proofs.lemmas.Bool.{both_ways, cases_Bool}
 use Rattle.std.proofs.lemmas.Bool.Decides.{nat_tests}
 use Rattle.std.proofs.lemmas.List.{append-nil}
 use Rattle.std.proofs.lemmas.Slice.Eq.{bytes_eq-Decides}
@@ -82,8 +82,5 @@ module _ (laws : RecordLaws) where
           (Two, false, is.file.stands)).0
       by (inr some) = elim (cases_Bool (bytes_eq is.file.behind is.added)) [
         | inl same ↦ whole some ((bytes_eq-Decides is.file.behind is.added).0 same)
-        | inr apart ↦ part some (λ same. absurd (not_both apart ((bytes_eq-Decides is.file.behind is.added).1 same)))
+        | inr apart ↦ part some (λ same. both_ways (bytes_eq is.file.behind is.added) apart ((bytes_eq-Decides is.file.behind is.added).1 same))
       ]
-        where
-          not_both : {b : Bool} → b ≡ false → b ≡ true → ⊥
-          not_both f t = cc

@@ -2,9 +2,9 @@
 use Rattle.std.proofs.Common.{◌≡◌, ◌⊎◌, inl, inr, ◌≤◌, ℕ, zero, suc, List, [], ◌∷◌, ◌++◌, map, Bool, true, false, ◌&&◌, ◌||◌, length, length-append, Option, Some, None, Result, Ok, Err, refl, sym, ap, subst, ◌∙◌, arith}
 use Rattle.std.specs.Prelude.{All, bytes_eq, Contains}
 use Rattle.std.specs.List.{AllByRecursion, list_any}
-use Rattle.std.proofs.lemmas.Bool.{both_ways, false_from_ne_true, or_cases}
+use Rattle.std.proofs.lemmas.Bool.{and_parts, both_ways, false_from_ne_true, or_cases}
 use Rattle.std.proofs.lemmas.List.{append-nil, append_cancel_left, map-append}
-use Rattle.std.proofs.lemmas.List.Elements.{filter-append, recursion_from_All}
+use Rattle.std.proofs.lemmas.List.Elements.{Contains-append_cases, Contains-append_right, filter-append, recursion_from_All}
 use Rattle.std.proofs.lemmas.List.Concat.{flat_map-append}
 use Rattle.std.proofs.lemmas.List.Folds.{list_any-append}
 use Rattle.std.proofs.lemmas.Slice.Eq.{bytes_eq-Decides}
@@ -15,7 +15,6 @@ use Rattle.fetch_session.specs.Account.{digits_of}
 use Rattle.fetch_session.specs.Lasting.{AreLeft, AreSure, CarriesLast, IsUntouched, Lasts, Leaves, MergeLasts, ProceedsLast, UnreadyLasts}
 use Rattle.fetch_session.specs.Laws.{SteadyFilesKeep, UnsavedFilesKeep}
 use Rattle.fetch_session.specs.Plan.{Carried, Carries, Unprepared, tasks_ahead}
-use Rattle.fetch_session.specs.Readiness.{UnreadyCause}
 use Rattle.fetch_session.specs.Record.{KeepsRows}
 use Rattle.fetch_session.specs.Scene.{FileNotSaved, NoFile, Scene, Stops, scene}
 use Rattle.fetch_session.specs.Session.{Keeping, AccountFiles, LeavesLink, Proceeds, Session, keeps_files, account_files, outcome_of}
@@ -25,9 +24,6 @@ use Rattle.fetch_session.specs.Target.{AsFiles, Stores, flags_in, in_maildir}
 use Rattle.fetch_session.specs.Task.{Done, Task, deleting, fetching, file_from, files_in, files_of, ids_ahead, ids_in, ids_of, says, stores, tasks_of, tasks_planned}
 use Rattle.fetch_session.specs.declared.account.Store.TheVariants.{Maildir as InMaildir}
 use Rattle.fetch_session.specs.declared.fault.Cut.{Cut}
-use Rattle.fetch_session.specs.declared.fault.Fault.{Fault}
-use Rattle.fetch_session.specs.declared.fault.Fault.TheVariants.{BadSeen, NoMemory, SeenRefused, StoreRefused}
-use Rattle.fetch_session.specs.declared.fault.Why.TheVariants.{Missing, Refused}
 use Rattle.fetch_session.specs.declared.report.ReportLine.{ReportLine}
 use Rattle.fetch_session.specs.declared.report.Skips.{Skips}
 use Rattle.mail_store.specs.declared.file.flat_file.FlatFile.{Ghosts as FileGhosts}
@@ -46,15 +42,18 @@ use Rattle.pop3_wire.specs.World.{Message}
 use Rattle.run_law.specs.Accounts.{copies}
 use Rattle.run_law.specs.Mails.{messages_after, selected}
 use Rattle.run_law.specs.Power.{OneMoreIsLast}
-use Rattle.fetch_runs.specs.Headline.{Occasion, Fetched, IsNeither, IsRecorded, IsSession, IsKept, IsLastStored, Headline, after_event, by_rows}
+use Rattle.fetch_runs.proofs.Lists.{all_map}
+use Rattle.fetch_runs.proofs.Ids.{bytes_same, bytes_self}
+use Rattle.fetch_runs.specs.Headline.{Occasion, IsRecorded, IsSession, IsKept, IsLastStored, Headline, by_rows, after_session}
 use Rattle.fetch_runs.specs.Power.{AllButLastStay, CanLosePower, IsSessionOf, IsSure, IsSureOrTaken, SessionsAndPower, ShowsSure}
 use Rattle.fetch_runs.proofs.HeadlineLemmas.{Laws, vanished_recorded}
-use Rattle.fetch_runs.proofs.TalkCommands.{all_weaker}
+use Rattle.fetch_runs.proofs.TalkCommands.{both_none}
 use Rattle.fetch_runs.proofs.PowerEvents.{recorded_sure}
 use Rattle.fetch_runs.proofs.PowerLosses.{held_file, named_in}
 use Rattle.fetch_runs.proofs.LegalRows.{kept_legal}
 use Rattle.fetch_runs.proofs.PowerRecord.{RecordLaws, left_stands}
-use Rattle.run_law.specs.Runs.{State, IsSound, World}
+use Rattle.run_law.specs.Runs.{State, IsSound, World, IsNeither, Fetched}
+use Rattle.fetch_runs.proofs.StateLaw.{unready_files}
 
 -- the laws that are used
 pub record PowerLaws : Type 0 where
@@ -79,72 +78,29 @@ named_file stems bases account uid text is =
 count_there : (fs : List File) (f : File) → Contains fs f → 1 ≤ count_named f.name fs
 count_there [] f (k, below, is) = absurd (omega (arith, below))
 count_there (x ∷ fs) f (zero, below, is) =
-    let e : bytes_eq f.name x.name ≡ true = (bytes_eq-Decides f.name x.name).1 (ap name_in (sym is)) in
-    let more : count_named f.name (x ∷ fs) ≡ suc (count_named f.name fs) = rw e refl in
-    omega (arith, more)
-count_there (x ∷ fs) f (suc k, below, is) = by (bytes_eq f.name x.name) refl (count_there fs f (k, omega (arith, below), is))
-  where
-    by : (b : Bool) → bytes_eq f.name x.name ≡ b → 1 ≤ count_named f.name fs → 1 ≤ count_named f.name (x ∷ fs)
-    by true e some = let more : count_named f.name (x ∷ fs) ≡ suc (count_named f.name fs) = rw e refl in omega (arith, more)
-    by false e some = let same : count_named f.name (x ∷ fs) ≡ count_named f.name fs = rw e refl in omega (arith, same, some)
+    let e : bytes_eq f.name x.name ≡ true = ap (bytes_eq f.name) (ap name_in is) ∙ bytes_self f.name in
+    grind (arith, e)
+count_there (x ∷ fs) f (suc k, below, is) = grind (arith, count_there fs f (k, omega (arith, below), is))
 
 -- files of one name have one stem
 count_below : (front name : List ℕ) (fs : List File) → bytes_eq front (stem name) ≡ true → count_named name fs ≤ length (copies fs front)
 count_below front name [] its = omega arith
-count_below front name (x ∷ fs) its = by (count_below front name fs its) (bytes_eq name x.name) refl (bytes_eq front (stem x.name)) refl
-  where
-    by : count_named name fs ≤ length (copies fs front) → (b : Bool) → bytes_eq name x.name ≡ b → (s : Bool) → bytes_eq front (stem x.name) ≡ s → count_named name (x ∷ fs) ≤ length (copies (x ∷ fs) front)
-    by rest true e true s =
-        let a : count_named name (x ∷ fs) ≡ suc (count_named name fs) = rw e refl in
-        let b : copies (x ∷ fs) front ≡ x.content ∷ copies fs front = rw s refl in
-        let c = ap length b in
-        omega (arith, a, c, rest)
-    by rest true e false s = absurd (both_ways (bytes_eq front (stem x.name)) s (ap (λ n. bytes_eq front (stem n)) (sym ((bytes_eq-Decides name x.name).0 e)) ∙ its))
-    by rest false e true s =
-        let a : count_named name (x ∷ fs) ≡ count_named name fs = rw e refl in
-        let b : copies (x ∷ fs) front ≡ x.content ∷ copies fs front = rw s refl in
-        let c = ap length b in
-        omega (arith, a, c, rest)
-    by rest false e false s =
-        let a : count_named name (x ∷ fs) ≡ count_named name fs = rw e refl in
-        let b : copies (x ∷ fs) front ≡ copies fs front = rw s refl in
-        let c = ap length b in
-        omega (arith, a, c, rest)
+count_below front name (x ∷ fs) its =
+    let same = λ (e : bytes_eq name x.name ≡ true). ap (λ n. bytes_eq front (stem n)) (sym (bytes_same name x.name e)) ∙ its in
+    grind (arith, same, count_below front name fs its)
 
 -- what is flagged is held
 flag_held : (account : List ℕ) (maildir : Maildir) (items : List Item) (id : List ℕ) → is_flagged items (flags_of account maildir items) id ≡ true → is_held account maildir id ≡ true
 flag_held account maildir [] id never = absurd (both_ways false refl never)
 flag_held account maildir (i ∷ items) id flagged =
-    elim (or_cases (is_held account maildir i.uid && bytes_eq i.uid id) (is_flagged items (flags_of account maildir items) id) flagged) [
-      | inl here ↦ subst (λ (x : List ℕ). is_held account maildir x ≡ true) ((bytes_eq-Decides i.uid id).0 (second (is_held account maildir i.uid) (bytes_eq i.uid id) here)) (first (is_held account maildir i.uid) (bytes_eq i.uid id) here)
-      | inr later ↦ flag_held account maildir items id later
-    ]
-  where
-    first : (a b : Bool) → (a && b) ≡ true → a ≡ true
-    first a b both = grind (arith, both)
-
-    second : (a b : Bool) → (a && b) ≡ true → b ≡ true
-    second a b both = grind (arith, both)
-
-contains_split : {A : Type 0} (xs ys : List A) (x : A) → Contains (xs ++ ys) x → Contains xs x ⊎ Contains ys x
-contains_split [] ys x there = inr there
-contains_split (y ∷ xs) ys x (zero, below, is) = inl (zero, omega arith, is)
-contains_split (y ∷ xs) ys x (suc k, below, is) = elim (contains_split xs ys x (k, omega (arith, below), is)) [
-  | inl more ↦ inl (suc more.0, omega (arith, more.1), more.2)
-  | inr more ↦ inr more
-]
+    let same = λ (e : bytes_eq i.uid id ≡ true). ap (is_held account maildir) (bytes_same i.uid id e) in
+    let later = flag_held account maildir items id in
+    grind (arith, flagged, same, later)
 
 all_there : {A : Type 0} (P : A → Type 0) (xs : List A) (x : A) → AllByRecursion P xs → Contains xs x → P x
 all_there P [] x all (k, below, is) = absurd (omega (arith, below))
 all_there P (y ∷ xs) x all (zero, below, is) = subst P is all.0
 all_there P (y ∷ xs) x all (suc k, below, is) = all_there P xs x all.1 (k, omega (arith, below), is)
-
-last_there : {A : Type 0} (xs : List A) (x : A) → Contains (xs ++ x ∷ []) x
-last_there [] x = (zero, omega arith, refl)
-last_there (y ∷ xs) x = let more = last_there xs x in (suc more.0, omega (arith, more.1), more.2)
-
-copies_both : (fs gs : List File) (front : List ℕ) → copies (fs ++ gs) front ≡ copies fs front ++ copies gs front
-copies_both fs gs front = ap (λ (l : List File). map (λ (f : File). f.content) l) (filter-append (λ (f : File). bytes_eq front (stem f.name)) fs gs) ∙ map-append (λ (f : File). f.content) _ _
 
 none_before_one : {A : Type 0} (xs : List A) (x : A) → length (xs ++ x ∷ []) ≤ 1 → xs ≡ []
 none_before_one [] x one = refl
@@ -158,14 +114,10 @@ no_more xs ys x same more =
     absurd (omega (arith, a, b, c))
 
 -- tasks that mark nothing store nothing
-none_both : {A : Type 0} (xs ys : List A) → xs ++ ys ≡ [] → (xs ≡ []) × (ys ≡ [])
-none_both [] ys none = (refl, none)
-none_both (x ∷ xs) ys none = absurd cc
-
 no_files : (account : List ℕ) (dones : List Done) → ids_ahead (tasks_of dones) ≡ [] → files_of account dones ≡ []
 no_files account [] none = refl
 no_files account (d ∷ dones) none =
-    let parts = none_both (ids_in d.task) (ids_ahead (tasks_of dones)) none in
+    let parts = both_none (ids_in d.task) (ids_ahead (tasks_of dones)) none in
     ap (λ (l : List File). l ++ files_of account dones) (by d.task parts.0) ∙ no_files account dones parts.1
   where
     by : (task : Task) → ids_in task ≡ [] → files_in account task d.replies ≡ []
@@ -177,13 +129,9 @@ quiet_ids [] items held quiet = refl
 quiet_ids (s ∷ ss) [] held quiet = refl
 quiet_ids (s ∷ ss) (i ∷ is) [] quiet = refl
 quiet_ids (s ∷ ss) (i ∷ is) (h ∷ hs) quiet =
+    let none : ids_ahead (fetching s.retrieve h s.number i.uid i.size ++ deleting s.delete s.number) ≡ [] = grind (arith, quiet.0.0, quiet.0.1) in
     flat_map-append ids_in (fetching s.retrieve h s.number i.uid i.size ++ deleting s.delete s.number) (tasks_planned ss is hs)
-    ∙ ap (λ (l : List (List ℕ)). l ++ ids_ahead (tasks_planned ss is hs)) (by s.retrieve s.delete quiet.0.0 quiet.0.1) ∙ quiet_ids ss is hs quiet.1
-  where
-    by : (retrieve delete : Bool) → retrieve ≡ false → delete ≡ false → ids_ahead (fetching retrieve h s.number i.uid i.size ++ deleting delete s.number) ≡ []
-    by true delete fetches deletes = absurd (cc fetches)
-    by false true fetches deletes = absurd (cc deletes)
-    by false false fetches deletes = refl
+    ∙ ap (λ (l : List (List ℕ)). l ++ ids_ahead (tasks_planned ss is hs)) none ∙ quiet_ids ss is hs quiet.1
 
 module _ (laws : PowerLaws) {D F : Type 0} (disk : DiskGhosts D) (files : FileGhosts F) (world : World) (sound : IsSound world) (before : AccountFiles) (gone taken : List (List ℕ))
     (file : Stored) (device : D) (f : F) (file_is : file ≡ files.stored f) (none_left : file.content ≡ None → (left : Option (List ℕ)) → files.may_leave f left → left ≡ None) where
@@ -204,7 +152,8 @@ module _ (laws : PowerLaws) {D F : Type 0} (disk : DiskGhosts D) (files : FileGh
     stem_is other = stem_of account other
 
     copies_more : (other : List ℕ) → copies more.files (stem_is other) ≡ copies without.files (stem_is other) ++ copies (g ∷ []) (stem_is other)
-    copies_more other = ap (λ fs. copies fs (stem_is other)) came ∙ copies_both without.files (g ∷ []) (stem_is other)
+    copies_more other = ap (λ fs. copies fs (stem_is other)) came ∙ ap (map (λ (f : File). f.content)) (filter-append (λ (f : File). bytes_eq (stem_is other) (stem f.name)) without.files (g ∷ []))
+        ∙ map-append (λ (f : File). f.content) _ _
 
     its_copy : copies (g ∷ []) (stem_is id) ≡ g.content ∷ []
     its_copy = rw named refl
@@ -245,11 +194,11 @@ module _ (laws : PowerLaws) {D F : Type 0} (disk : DiskGhosts D) (files : FileGh
       → AllByRecursion (ExtraOk maildir) extra → AllButLastStay disk device world (state_with maildir)
   all_but_last maildir front extra are stays outlive goes id legal held =
       let one = held_file account id maildir.files held in
-      by one.0 one.1 one.2 (contains_split (before.maildir.files ++ front) extra one.0 (subst (λ (l : List File). Contains l one.0) are one.1))
+      by one.0 one.1 one.2 (Contains-append_cases (before.maildir.files ++ front) extra one.0 (subst (λ (l : List File). Contains l one.0) are one.1))
     where
       by : (g : File) → Contains maildir.files g → names_id account id g.name ≡ true → Contains (before.maildir.files ++ front) g ⊎ Contains extra g
           → IsSure disk device world maildir.files id ⊎ MayGo maildir id
-      by g there named (inl first) = elim (contains_split before.maildir.files front g first) [
+      by g there named (inl first) = elim (Contains-append_cases before.maildir.files front g first) [
         | inl old ↦ inl (record { one = g; there = there; named = named; sure = inl (stays g.name (named_in before.maildir.files g old)) })
         | inr new ↦ inl (record { one = g; there = there; named = named; sure = inr (all_there (disk.outlives device) front g outlive new) })
       ]
@@ -299,14 +248,11 @@ module _ (laws : PowerLaws) {D F : Type 0} (disk : DiskGhosts D) (files : FileGh
       inl (record {
         one = g;
         there = there;
-        named = subst (λ x. names_id account x g.name ≡ true) ((bytes_eq-Decides uid id).0 (second (has_row was id) (bytes_eq uid id) both)) named;
+        named = subst (λ x. names_id account x g.name ≡ true) (bytes_same uid id (and_parts (has_row was id) (bytes_eq uid id) both).1) named;
         sure = inr outlives;
       }),
     )
   ]
-    where
-      second : (a b : Bool) → (a && b) ≡ true → b ≡ true
-      second a b both = grind (arith, both)
 
   -- ---- of a session
 
@@ -370,12 +316,12 @@ module _ (laws : PowerLaws) {D F : Type 0} (disk : DiskGhosts D) (files : FileGh
         ∙ append-nil c.mid.store.maildir.files ∙ start_files c
       where
         parts : (ids_ahead (tasks_of c.does.dones) ≡ []) × (ids_ahead (c.does.next ∷ c.does.later) ≡ [])
-        parts = none_both (ids_ahead (tasks_of c.does.dones)) (ids_ahead (c.does.next ∷ c.does.later))
+        parts = both_none (ids_ahead (tasks_of c.does.dones)) (ids_ahead (c.does.next ∷ c.does.later))
             (sym (flat_map-append ids_in (tasks_of c.does.dones) (c.does.next ∷ c.does.later)) ∙ ap ids_ahead (sym c.does.split) ∙ quiet_tasks c quiet)
 
         stores_none : (number : ℕ) (uid : List ℕ) → c.does.next ≡ stores number uid → ⊥
         stores_none number uid is =
-            let none : uid ∷ [] ≡ [] = subst (λ (t : Task). ids_in t ≡ []) is (none_both (ids_in c.does.next) (ids_ahead c.does.later) parts.1).0 in
+            let none : uid ∷ [] ≡ [] = subst (λ (t : Task). ids_in t ≡ []) is (both_none (ids_in c.does.next) (ids_ahead c.does.later) parts.1).0 in
             absurd cc
 
         by : Stops (AsFiles digits) c.does.next c.does.mid cut (end_with maildir) → maildir.files ≡ c.does.mid.store.maildir.files
@@ -419,7 +365,7 @@ module _ (laws : PowerLaws) {D F : Type 0} (disk : DiskGhosts D) (files : FileGh
           → disk.outlives device g → ((rows : List Row) → KeepsRows file.content rows → Has rows) → Records
       marked_one number uid is g came named outlives within =
           shown_by maildir was (marked was uid) (subst (λ (t : Task). Leaves files f (AreLeft was (marked_all was (ids_in t)))) is lasts.0.left) within
-          (one_more maildir was uid g (subst (λ (l : List File). Contains l g) (sym came) (last_there mid.store.maildir.files g)) outlives named)
+          (one_more maildir was uid g (subst (λ (l : List File). Contains l g) (sym came) (Contains-append_right mid.store.maildir.files (g ∷ []) g (zero, omega arith, refl))) outlives named)
 
       bare : maildir.files ≡ mid.store.maildir.files → AllButLastStay disk device world (state_with maildir)
       bare same = all_but_last maildir (files_of digits c.does.dones) [] (same ∙ base ∙ sym (append-nil (before.maildir.files ++ files_of digits c.does.dones))) stay lasts.0.texts tt
@@ -523,7 +469,7 @@ module _ (laws : PowerLaws) {D F : Type 0} (disk : DiskGhosts D) (files : FileGh
 
 -- ---- the session as a whole
 
-module _ (laws : PowerLaws) {D F : Type 0} (disk : DiskGhosts D) (files : FileGhosts F) (world : World) (state : State AccountFiles) (occasion : Occasion) (was : D) (from : F) (device : D) (f : F)
+module _ (laws : PowerLaws) {D F : Type 0} (disk : DiskGhosts D) (files : FileGhosts F) (world : World) (state : State AccountFiles) (occasion : Occasion AccountFiles) (was : D) (from : F) (device : D) (f : F)
     (sound : IsSound world) (is_kept : IsKept world state) (is : IsSessionOf disk files world state occasion was from device f) (can : CanLosePower disk files was from world state) where
   abbrev gone_after : List (List ℕ)
   gone_after = state.gone ++ occasion.vanished
@@ -531,7 +477,7 @@ module _ (laws : PowerLaws) {D F : Type 0} (disk : DiskGhosts D) (files : FileGh
   abbrev digits_here : List ℕ
   digits_here = digits_of occasion.settings
 
-  abbrev with_maildir : Maildir → Occasion
+  abbrev with_maildir : Maildir → Occasion AccountFiles
   with_maildir m = record occasion { after = account_files m occasion.after.file }
 
   abbrev SessionTo : Maildir → Type 0
@@ -547,7 +493,7 @@ module _ (laws : PowerLaws) {D F : Type 0} (disk : DiskGhosts D) (files : FileGh
   this_session = is_session occasion.after.maildir is.session
 
   abbrev pub Answered : Type 0
-  Answered = CanLosePower disk files device f world (after_event state (Fetched occasion))
+  Answered = CanLosePower disk files device f world (after_session state occasion)
 
   -- the files and the record are as they were, and no more may be left
   module _ (same : occasion.after.maildir.files ≡ state.account.maildir.files) (same_content : occasion.after.file.content ≡ state.account.file.content)
@@ -559,7 +505,7 @@ module _ (laws : PowerLaws) {D F : Type 0} (disk : DiskGhosts D) (files : FileGh
     recorded_back : (id : List ℕ) → IsRecorded occasion.after id → IsRecorded state.account id
     recorded_back id r = (r.0, subst (λ (c : Option (List ℕ)). KeepsRows c r.0) same_content r.1, r.2)
 
-    go_on : (id : List ℕ) → (has_id state.taken id ≡ true) ⊎ IsLastStored world state id → (has_id state.taken id ≡ true) ⊎ IsLastStored world (after_event state (Fetched occasion)) id
+    go_on : (id : List ℕ) → (has_id state.taken id ≡ true) ⊎ IsLastStored world state id → (has_id state.taken id ≡ true) ⊎ IsLastStored world (after_session state occasion) id
     go_on id (inl taken) = inl taken
     go_on id (inr lastly) = inr (record {
       unrecorded = λ r. lastly.unrecorded (recorded_back id r);
@@ -567,8 +513,7 @@ module _ (laws : PowerLaws) {D F : Type 0} (disk : DiskGhosts D) (files : FileGh
         | inl gone ↦ both_ways (has_id state.gone id) lastly.on_server gone
         | inr gone ↦ lastly.unrecorded (recorded_back id (vanished_recorded laws.all world state occasion sound is_kept.0 is_kept.1 is_kept.2 this_session id gone))
       ]);
-      last = all_weaker (λ (m : Message). IsNeither world state m.uid) (λ (m : Message). IsNeither world (after_event state (Fetched occasion)) m.uid)
-          (messages_after id (selected world.max_size world.all)) (λ m not. (same_held m.uid ∙ not.0, not.1)) lastly.last;
+      last = all_map (λ (m : Message). IsNeither world.account state.account.maildir state.taken m.uid) (λ (m : Message). IsNeither world.account occasion.after.maildir state.taken m.uid) (λ m not. (same_held m.uid ∙ not.0, not.1)) (messages_after id (selected world.max_size world.all)) lastly.last;
     })
 
     as_it_was : Answered
@@ -605,15 +550,7 @@ module _ (laws : PowerLaws) {D F : Type 0} (disk : DiskGhosts D) (files : FileGh
       (scene place' (in_maildir occasion.after.maildir) occasion.after.file rows' lines))
       (lasts : UnreadyLasts disk files (InMaildir was) from (AsFiles digits_here) items occasion.now (in_maildir state.account.maildir) state.account.file (InMaildir device) f) where
     same_files : occasion.after.maildir.files ≡ state.account.maildir.files
-    same_files = by cut.fault unprepared.unready.cause
-      where
-        by : (fault : Fault) → UnreadyCause fault state.account.maildir state.account.file occasion.after.maildir occasion.after.file → occasion.after.maildir.files ≡ state.account.maildir.files
-        by SeenRefused cause = ap (λ (m : Maildir). m.files) cause.1
-        by (BadSeen line) cause = ap (λ (m : Maildir). m.files) cause.1
-        by (StoreRefused Missing) cause = ap (λ (m : Maildir). m.files) cause.1
-        by (StoreRefused Refused) cause = ap (λ (m : Maildir). m.files) cause
-        by NoMemory cause = ap (λ (m : Maildir). m.files) cause
-        by _ never = absurd never
+    same_files = unready_files cut.fault state.account.maildir state.account.file occasion.after.maildir occasion.after.file unprepared.unready.cause
 
     sure_left : (id : List ℕ) → is_legal_id id ≡ true → IsSure disk was world state.account.maildir.files id → IsSure disk device world occasion.after.maildir.files id
     sure_left id legal one = record {
@@ -655,9 +592,9 @@ module _ (laws : PowerLaws) {D F : Type 0} (disk : DiskGhosts D) (files : FileGh
           }
 
       abbrev Shows : List ℕ → List Row → Type 0
-      Shows id rows = (is_delivered rows id ≡ true) ⊎ ((is_legal_id id ≡ true) × IsSureOrTaken disk device world (after_event state (Fetched occasion)) id)
+      Shows id rows = (is_delivered rows id ≡ true) ⊎ ((is_legal_id id ≡ true) × IsSureOrTaken disk device world (after_session state occasion) id)
 
-      moved : (id : List ℕ) → is_legal_id id ≡ true → IsSureOrTaken disk was world state id → IsSureOrTaken disk device world (after_event state (Fetched occasion)) id
+      moved : (id : List ℕ) → is_legal_id id ≡ true → IsSureOrTaken disk was world state id → IsSureOrTaken disk device world (after_session state occasion) id
       moved id legal (inl sure) = inl (sure_left id legal sure)
       moved id legal (inr taken) = inr taken
 

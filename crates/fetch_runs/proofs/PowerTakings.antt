@@ -1,97 +1,66 @@
 -- What readers leave when they take files away.
-use Rattle.std.proofs.Common.{◌≡◌, ◌≢◌, ◌⊎◌, inl, inr, ◌≤◌, ℕ, zero, suc, List, [], ◌∷◌, Bool, true, false, ◌||◌, length, refl, sym, ap, subst, ◌∙◌, arith}
+use Rattle.std.proofs.Common.{◌≡◌, ◌≢◌, ◌⊎◌, inl, inr, ◌≤◌, ℕ, zero, suc, List, [], ◌∷◌, true, false, ◌||◌, length, refl, sym, ap, subst, ◌∙◌, arith}
 use Rattle.std.specs.Prelude.{bytes_eq, Contains}
-use Rattle.std.specs.List.{AllByRecursion, list_any}
+use Rattle.std.specs.List.{list_any}
 use Rattle.std.proofs.lemmas.Bool.{cases_Bool}
 use Rattle.mail_terms.specs.UniqueId.{has_id, is_legal_id}
 use Rattle.mail_store.specs.FileName.{names_id, stem, stem_of}
 use Rattle.mail_store.specs.Maildir.{File, IsPart}
-use Rattle.pop3_wire.specs.World.{Message}
 use Rattle.run_law.specs.Accounts.{copies}
-use Rattle.run_law.specs.Mails.{is_selected, messages_after, selected}
 use Rattle.fetch_session.specs.Session.{AccountFiles}
-use Rattle.fetch_runs.specs.Headline.{Event, Between, TakenAway, AreTakings, IsRun, contents_of, state_after}
-use Rattle.fetch_runs.proofs.PowerLosses.{held_file, named_in, named_some}
-use Rattle.run_law.specs.Runs.{State, World}
-
-or_second : (a b : Bool) → b ≡ true → (a || b) ≡ true
-or_second a b is = grind (arith, is)
+use Rattle.fetch_runs.proofs.Lists.{any_filter, is_some}
+use Rattle.std.proofs.lemmas.Bool.{both_ways, or_right}
+use Rattle.fetch_runs.specs.Headline.{AreTakings, IsRun, contents_of, after_session, Occasion}
+use Rattle.fetch_runs.proofs.PowerLosses.{named_in, named_some}
+use Rattle.run_law.specs.Runs.{State, World, Event, Between, TakenAway, after_events}
+use Rattle.std.proofs.lemmas.List.Elements.{Contains-append_cases, Contains-append_left, Contains-append_right}
 
 -- ---- lists
 
 pub contains_part : (fs left : List File) (g : File) → IsPart fs left → Contains left g → Contains fs g
 contains_part [] left g is there = subst (λ (l : List File). Contains l g) is there
-contains_part (f ∷ fs) left g (inl is) there = let more = contains_part fs left g is there in (suc more.0, omega (arith, more.1), more.2)
-contains_part (f ∷ fs) left g (inr (rest, e, is)) there = by (λ inside. contains_part fs rest g is inside) (subst (λ (l : List File). Contains l g) e there)
-  where
-    by : (Contains rest g → Contains fs g) → Contains (f ∷ rest) g → Contains (f ∷ fs) g
-    by later (zero, below, same) = (zero, omega arith, same)
-    by later (suc k, below, same) = let more = later (k, omega (arith, below), same) in (suc more.0, omega (arith, more.1), more.2)
+contains_part (f ∷ fs) left g (inl is) there = Contains-append_right (f ∷ []) fs g (contains_part fs left g is there)
+contains_part (f ∷ fs) left g (inr (rest, e, is)) there = elim (Contains-append_cases (f ∷ []) rest g (subst (λ (l : List File). Contains l g) e there)) [
+  | inl first ↦ Contains-append_left (f ∷ []) fs g first
+  | inr later ↦ Contains-append_right (f ∷ []) fs g (contains_part fs rest g is later)
+]
 
 short : (c : List ℕ) (cs : List (List ℕ)) → length (c ∷ cs) ≤ 1 → cs ≡ []
 short c [] one = refl
 short c (d ∷ cs) one = absurd (omega (arith, one))
+
+-- only this file has the stem
+alone : (front : List ℕ) (x : File) (fs : List File) (g : File) → bytes_eq front (stem x.name) ≡ true → length (copies (x ∷ fs) front) ≤ 1 → Contains fs g
+    → bytes_eq front (stem g.name) ≡ true → ⊥
+alone front x fs g its one there named = named_some front fs g.name named (named_in fs g there) (short x.content (copies fs front) (rw its at one))
 
 -- two files of a stem that only one has are the same
 pub two_in : (front : List ℕ) (fs : List File) (f g : File) → Contains fs f → bytes_eq front (stem f.name) ≡ true → Contains fs g → bytes_eq front (stem g.name) ≡ true → length (copies fs front) ≤ 1 → f ≡ g
 two_in front [] f g (k, below, is) its there named one = absurd (omega (arith, below))
 two_in front (x ∷ fs) f g (zero, below, a) its (zero, below', b) named one = sym a ∙ b
 two_in front (x ∷ fs) f g (zero, below, a) its (suc k, below', b) named one =
-    let e : bytes_eq front (stem x.name) ≡ true = ap (λ (h : File). bytes_eq front (stem h.name)) a ∙ its in
-    let there : copies (x ∷ fs) front ≡ x.content ∷ copies fs front = rw e refl in
-    absurd (named_some front fs g.name named (named_in fs g (k, omega (arith, below'), b)) (short x.content (copies fs front) (subst (λ (cs : List (List ℕ)). length cs ≤ 1) there one)))
+    absurd (alone front x fs g (ap (λ (h : File). bytes_eq front (stem h.name)) a ∙ its) one (k, omega (arith, below'), b) named)
 two_in front (x ∷ fs) f g (suc j, below, a) its (zero, below', b) named one =
-    let e : bytes_eq front (stem x.name) ≡ true = ap (λ (h : File). bytes_eq front (stem h.name)) b ∙ named in
-    let there : copies (x ∷ fs) front ≡ x.content ∷ copies fs front = rw e refl in
-    absurd (named_some front fs f.name its (named_in fs f (j, omega (arith, below), a)) (short x.content (copies fs front) (subst (λ (cs : List (List ℕ)). length cs ≤ 1) there one)))
+    absurd (alone front x fs f (ap (λ (h : File). bytes_eq front (stem h.name)) b ∙ named) one (j, omega (arith, below), a) its)
 two_in front (x ∷ fs) f g (suc j, below, a) its (suc k, below', b) named one =
-    two_in front fs f g (j, omega (arith, below), a) its (k, omega (arith, below'), b) named (by (bytes_eq front (stem x.name)) refl)
-  where
-    by : (b : Bool) → bytes_eq front (stem x.name) ≡ b → length (copies fs front) ≤ 1
-    by true e =
-        let there : copies (x ∷ fs) front ≡ x.content ∷ copies fs front = rw e refl in
-        let long = ap length there in
-        omega (arith, one, long)
-    by false e =
-        let there : copies (x ∷ fs) front ≡ copies fs front = rw e refl in
-        subst (λ (cs : List (List ℕ)). length cs ≤ 1) there one
-
-pub all_selected : (P : Message → Type 0) (limit : ℕ) (ms : List Message) → AllByRecursion P ms → AllByRecursion P (selected limit ms)
-all_selected P limit [] all = tt
-all_selected P limit (m ∷ ms) all = by (all_selected P limit ms all.1) (is_selected limit m) refl
-  where
-    by : AllByRecursion P (selected limit ms) → (b : Bool) → is_selected limit m ≡ b → AllByRecursion P (selected limit (m ∷ ms))
-    by more true e = rw e (all.0, more)
-    by more false e = rw e more
-
-pub all_after : (P : Message → Type 0) (id : List ℕ) (ms : List Message) → AllByRecursion P ms → AllByRecursion P (messages_after id ms)
-all_after P id [] all = tt
-all_after P id (m ∷ ms) all = by (all_after P id ms all.1) (bytes_eq id m.uid) refl
-  where
-    by : AllByRecursion P (messages_after id ms) → (b : Bool) → bytes_eq id m.uid ≡ b → AllByRecursion P (messages_after id (m ∷ ms))
-    by more true e = rw e all.1
-    by more false e = rw e more
-
-pub all_both : (P Q R : Message → Type 0) → ((m : Message) → P m → Q m → R m) → (ms : List Message) → AllByRecursion P ms → AllByRecursion Q ms → AllByRecursion R ms
-all_both P Q R to [] ps qs = tt
-all_both P Q R to (m ∷ ms) ps qs = (to m ps.0 qs.0, all_both P Q R to ms ps.1 qs.1)
+    two_in front fs f g (j, omega (arith, below), a) its (k, omega (arith, below'), b) named (grind (arith, one))
 
 pub held_some : (account id : List ℕ) (fs : List File) → list_any (λ (f : File). names_id account id f.name) fs ≡ true → copies fs (stem_of account id) ≢ []
-held_some account id fs held =
-    let file = held_file account id fs held in
-    named_some (stem_of account id) fs file.0.name file.2 (named_in fs file.0 file.1)
+held_some account id fs held none =
+    both_ways (is_some (copies fs (stem_of account id))) (ap is_some none)
+    (sym (any_filter (λ (f : File). names_id account id f.name) (λ (f : File). f.content) fs) ∙ held)
 
 -- ---- what takings do
 
-pub stay_taken : (state : State AccountFiles) (events : List Event) (id : List ℕ) → AreTakings events → has_id state.taken id ≡ true → has_id (state_after state events).taken id ≡ true
+pub stay_taken : (state : State AccountFiles) (events : List (Event Occasion AccountFiles)) (id : List ℕ) → AreTakings events → has_id state.taken id ≡ true → has_id (after_events after_session state events).taken id ≡ true
 stay_taken state [] id each taken = taken
-stay_taken state (TakenAway x after ∷ events) id each taken = stay_taken _ events id each (or_second (bytes_eq id x) (has_id state.taken id) taken)
+stay_taken state (TakenAway x after ∷ events) id each taken = stay_taken _ events id each (or_right (bytes_eq id x) (has_id state.taken id) taken)
 stay_taken state (Between after ∷ events) id each taken = stay_taken _ events id each taken
 stay_taken state (_ ∷ events) id never taken = absurd never
 
 -- an id's files are as they were, or it was taken away
-pub same_or_taken : (world : World) (state : State AccountFiles) (events : List Event) (id : List ℕ) → is_legal_id id ≡ true → AreTakings events → IsRun world state events
-    → (contents_of world (state_after state events).account id ≡ contents_of world state.account id) ⊎ (has_id (state_after state events).taken id ≡ true)
+pub same_or_taken : (world : World) (state : State AccountFiles) (events : List (Event Occasion AccountFiles)) (id : List ℕ) → is_legal_id id ≡ true → AreTakings events → IsRun world state events
+    → (contents_of world (after_events after_session state events).account id ≡ contents_of world state.account id) ⊎ (has_id (after_events after_session state events).taken id ≡ true)
 same_or_taken world state [] id legal each run = inl refl
 same_or_taken world state (TakenAway x after ∷ events) id legal each run =
     by (same_or_taken world (record state { account = after; taken = x ∷ state.taken }) events id legal each run.1) (cases_Bool (bytes_eq id x))
@@ -100,7 +69,7 @@ same_or_taken world state (TakenAway x after ∷ events) id legal each run =
     next = record state { account = after; taken = x ∷ state.taken }
 
     Result : AccountFiles → Type 0
-    Result old = (contents_of world (state_after next events).account id ≡ contents_of world old id) ⊎ (has_id (state_after next events).taken id ≡ true)
+    Result old = (contents_of world (after_events after_session next events).account id ≡ contents_of world old id) ⊎ (has_id (after_events after_session next events).taken id ≡ true)
 
     by : Result after → (bytes_eq id x ≡ true) ⊎ (bytes_eq id x ≡ false) → Result state.account
     by later (inl same) = inr (stay_taken next events id each (ap (λ b. b || has_id state.taken id) same))

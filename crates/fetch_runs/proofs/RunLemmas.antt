@@ -8,15 +8,15 @@ use Rattle.pop3_wire.specs.World.{IsWorld}
 use Rattle.fetch_session.specs.Account.{digits_of}
 use Rattle.fetch_session.specs.declared.report.Report.{Report}
 use Rattle.fetch_session.specs.Session.{AccountFiles, MboxAccountFiles, Session}
+use Rattle.fetch_runs.proofs.Lists.{all_append, all_back, all_front}
 use Rattle.fetch_runs.specs.declared.run.Visit.{Visit}
 use Rattle.run_law.specs.Sessions.{Fact}
-use Rattle.run_law.specs.MboxRuns.{MboxState, MboxWorld}
-use Rattle.fetch_runs.specs.Headline.{AreSettings, AreTakings, Event, Between, Fetched, TakenAway, after_event, state_after, world_left, IsKept, Headline, TakingsAreEvents}
-use Rattle.fetch_runs.specs.MboxHeadline.{MboxHeadline, IsMboxKept, AreSettings as AreMboxSettings, Fetched as InMbox, after_event as after_mbox}
-use Rattle.fetch_runs.specs.MboxRuns.{MboxRuns, AreMboxPromised, mbox_occasion}
-use Rattle.fetch_runs.proofs.TalkCommands.{all_append, all_front, all_back}
+use Rattle.run_law.specs.MboxRuns.{MboxState, MboxWorld, Fetched as InMbox}
+use Rattle.fetch_runs.specs.Headline.{AreSettings, AreTakings, IsKept, Headline, TakingsAreEvents, after_session, Occasion}
+use Rattle.fetch_runs.specs.MboxHeadline.{MboxHeadline, IsMboxKept, AreSettings as AreMboxSettings, after_session as after_mbox}
+use Rattle.fetch_runs.specs.MboxRuns.{MboxRuns, AreMboxPromised}
 use Rattle.fetch_runs.specs.Runs.{AreSound, RunsBy, Runs, AreServed, ArePromised, occasion_of}
-use Rattle.run_law.specs.Runs.{State, IsSound, World}
+use Rattle.run_law.specs.Runs.{State, IsSound, World, Event, Fetched, Between, TakenAway, after_events, world_left}
 
 -- the first of the visits were made
 pub record Ran {W K : Type 0} (sound : W → Type 0) (Made : Visit W → K → Report → Visit W → K → Type 0) (olds : List (Visit W)) (start : K) (at_start : Type 0) (reports : List Report) (news : List (Visit W)) (last : K) (at_last : Type 0) : Type 0 where
@@ -67,7 +67,7 @@ made_all olds news i ran past same all held =
 -- ---- what is promised of them
 
 -- what readers take away leaves the mail of the server as it is
-takings_leave : (world : World) (events : List Event) → AreTakings events → world_left world events ≡ world
+takings_leave : (world : World) (events : List (Event Occasion AccountFiles)) → AreTakings events → world_left world events ≡ world
 takings_leave world [] takings = refl
 takings_leave world (TakenAway id after ∷ events) takings = takings_leave world events takings
 takings_leave world (Between after ∷ events) takings = takings_leave world events takings
@@ -79,7 +79,7 @@ pub runs_promised : {W : Type 0} → Headline → TakingsAreEvents → (seen : W
 runs_promised law takings seen settings world [] state [] [] [] last sound are is served runs = ((law world state [] sound is tt).0, is, sym runs)
 runs_promised law takings seen settings world (old ∷ olds) state (report ∷ reports) (new ∷ news) (fact ∷ facts) last sound are is served (between, ((left, part, session), same), runs) =
     let told = takings world state left sound is part in
-    let mid = state_after state told.0 in
+    let mid = after_events after_session state told.0 in
     let occasion = occasion_of seen settings old report new fact between in
     let held = subst (λ (w : World). IsKept w mid) (takings_leave world told.0 told.1.each) (law world state told.0 sound is told.1.run).1 in
     let went = subst (λ (k : AccountFiles). Session settings (digits_of settings) old.now (seen old.wire) k report (seen new.wire) between) (sym told.1.account) session in
@@ -95,7 +95,7 @@ runs_promised law takings seen settings world (old ∷ olds) state (report ∷ r
         holds = one.0.0;
         promised = one.0.1;
       },
-      runs_promised law takings seen settings world olds (after_event mid (Fetched occasion)) reports news facts last sound are one.1 here.1 runs,
+      runs_promised law takings seen settings world olds (after_session mid occasion) reports news facts last sound are one.1 here.1 runs,
     )
 runs_promised law takings seen settings world olds state reports news facts last sound are is served runs = search rules
 
@@ -104,7 +104,7 @@ pub mbox_runs_promised : {W : Type 0} → MboxHeadline → (seen : W → Link) (
     → MboxRuns seen settings olds state.account reports news last → AreMboxPromised seen settings world state olds reports news facts last
 mbox_runs_promised law seen settings world [] state [] [] [] last sound are is served runs = ((law world state [] sound is tt).0, is, sym runs)
 mbox_runs_promised law seen settings world (old ∷ olds) state (report ∷ reports) (new ∷ news) (fact ∷ facts) last sound are is served runs =
-    let occasion = mbox_occasion seen settings old report new fact runs.0 in
+    let occasion = occasion_of seen settings old report new fact runs.0 in
     let one = law world state (InMbox occasion ∷ []) sound is (record { settings = are; session = runs.1.0; served = served.0 }, tt) in
-    (runs.0, runs.1.0, one.0.0, one.0.1, mbox_runs_promised law seen settings world olds (after_mbox state (InMbox occasion)) reports news facts last sound are one.1 served.1 runs.2)
+    (runs.0, runs.1.0, one.0.0, one.0.1, mbox_runs_promised law seen settings world olds (after_mbox state occasion) reports news facts last sound are one.1 served.1 runs.2)
 mbox_runs_promised law seen settings world olds state reports news facts last sound are is served runs = search rules

@@ -18,10 +18,11 @@ use Rattle.fetch_session.specs.Record.{Keeps, Steady, Saves}
 use Rattle.fetch_session.specs.Report.{retrieved_in}
 use Rattle.fetch_session.specs.Scene.{Scene, Went, Fell}
 use Rattle.fetch_session.specs.Target.{Target}
+use Rattle.fetch_runs.proofs.Lists.{all_append, all_front}
 use Rattle.fetch_runs.proofs.Courses.{course, stored_done, found_in, found_by, found_of}
 use Rattle.fetch_runs.proofs.StatePlan.{Safe, deleted_by}
 use Rattle.fetch_runs.proofs.StateDone.{number_found, number_of, text_found, counted_by, safe_next, safe_done, Laws, Inputs, rows_on, tasks_on, messages_on, rows_after, IsRecorded, IsRightOn, Part, safe_tasks, right_front, recorded_all, numbers_part, wanted_all}
-use Rattle.fetch_runs.proofs.TalkCommands.{all_append, all_front, nothing_found}
+use Rattle.fetch_runs.proofs.TalkCommands.{nothing_found}
 
 abbrev pub is_ended : Result (Unit {0}) Cut → Bool
 is_ended (Ok done) = true
@@ -72,25 +73,39 @@ module _ (laws : Laws) (p : Inputs) where
     pub tally_number : length (map text_found (found_of (course p.items taken spare under))) ≡ length (found_by full)
     tally_number = rw t.found (length-map (found_by full) text_found)
 
+  -- each task that was begun was done
+  tally_done : {ended : Bool} {lines : List ReportLine} {refused unsaved : Type 0} (taken noted : List Done) → Part (tasks_on p) taken → Part (tasks_on p) noted
+      → (length (found_by noted) ≡ length (found_by taken)) ⊎ (length (found_by noted) + 1 ≡ length (found_by taken)) → AllByRecursion (IsRecorded p noted) (deleted_by p.items (tasks_of taken))
+      → (ended ≡ true → (length (found_by taken) ≡ length (messages_on p)) × (length (found_by noted) ≡ length (messages_on p))) → retrieved_in lines ≡ length (found_by taken)
+      → (length (found_by noted) + 1 ≡ length (found_by taken) → unsaved) → Tally p ended taken [] [] taken noted lines refused unsaved
+  tally_done taken noted done part mark begun ends counts less = record {
+    found = append-nil (found_by taken);
+    whole = done;
+    part = part;
+    number = inl refl;
+    mark = mark;
+    begun = rw (append-nil (tasks_of taken)) begun;
+    later = done.rest;
+    front = rw (append-nil (tasks_of taken)) done.split;
+    ends = ends;
+    counts = counts;
+    one_more = λ is. absurd (omega (arith, is));
+    one_less = less;
+  }
+
+  -- and recorded
+  tally_recorded : {ended : Bool} {lines : List ReportLine} {refused unsaved : Type 0} (dones : List Done) → Part (tasks_on p) dones → (ended ≡ true → length (found_by dones) ≡ length (messages_on p))
+      → retrieved_in lines ≡ length (found_by dones) → Tally p ended dones [] [] dones dones lines refused unsaved
+  tally_recorded dones part ends counts = tally_done dones dones part part (inl refl)
+      (safe_done (IsRecorded p dones) p.items (tasks_of dones) part.rest (subst (Safe (IsRecorded p dones) p.items) part.split (safe_tasks laws p dones)) (recorded_all laws p dones part))
+      (λ ended. (ends ended, ends ended)) counts (λ is. absurd (omega (arith, is)))
+
+  not_ended : {P : Type 0} → false ≡ true → P
+  not_ended never = absurd (true≢false (sym never))
+
   -- nothing was done
   pub tally_none : {refused unsaved : Type 0} (lines : List ReportLine) → retrieved_in lines ≡ 0 → Tally p false [] [] [] [] [] lines refused unsaved
-  tally_none lines counts = record {
-    found = refl;
-    whole = nothing;
-    part = nothing;
-    number = inl refl;
-    mark = inl refl;
-    begun = tt;
-    later = tasks_on p;
-    front = refl;
-    ends = λ never. absurd (true≢false (sym never));
-    counts = counts;
-    one_more = λ never. absurd (omega (arith, never));
-    one_less = λ never. absurd (omega (arith, never));
-  }
-    where
-      nothing : Part (tasks_on p) []
-      nothing = record { rest = tasks_on p; split = refl; answered = tt }
+  tally_none lines counts = tally_recorded [] (record { rest = tasks_on p; split = refl; answered = tt }) not_ended counts
 
   module _ {target : Target} {tasks : List Task} {old : Scene} (starts : Starts p tasks old) where
     pub mid_rows : (dones : List Done) (mid : Scene) → Went target dones old mid → mid.rows ≡ rows_after p dones
@@ -110,27 +125,8 @@ module _ (laws : Laws) (p : Inputs) where
     part_all dones new all went = record { rest = []; split = sym starts.tasks_are ∙ all ∙ sym (append-nil (tasks_of dones)); answered = went.each }
 
     pub tally_all : {refused unsaved : Type 0} (dones : List Done) (new : Scene) → tasks ≡ tasks_of dones → Went target dones old new → Tally p true dones [] [] dones dones new.lines refused unsaved
-    tally_all dones new all went = record {
-      found = append-nil (found_by dones);
-      whole = part;
-      part = part;
-      number = inl refl;
-      mark = inl refl;
-      begun = rw (append-nil (tasks_of dones))
-          (safe_done (IsRecorded p dones) p.items (tasks_of dones) [] (subst (Safe (IsRecorded p dones) p.items) part.split (safe_tasks laws p dones)) (recorded_all laws p dones part));
-      later = [];
-      front = part.split ∙ ap (λ (ts : List Task). ts ++ []) (sym (append-nil (tasks_of dones)));
-      ends = λ ended. (count, count);
-      counts = mid_count dones new went;
-      one_more = λ is. absurd (omega (arith, is));
-      one_less = λ is. absurd (omega (arith, is));
-    }
-      where
-        part : Part (tasks_on p) dones
-        part = part_all dones new all went
-
-        count : length (found_by dones) ≡ length (messages_on p)
-        count = wanted_all laws p dones (sym starts.tasks_are ∙ all) went.each
+    tally_all dones new all went =
+        tally_recorded dones (part_all dones new all went) (λ ended. wanted_all laws p dones (sym starts.tasks_are ∙ all) went.each) (mid_count dones new went)
 
     -- ---- where the tasks stopped
 
@@ -147,9 +143,6 @@ module _ (laws : Laws) (p : Inputs) where
 
       pub front_next : tasks_on p ≡ (tasks_of fell.dones ++ fell.next ∷ []) ++ fell.later
       front_next = part_done.split ∙ sym (append_assoc (tasks_of fell.dones) (fell.next ∷ []) fell.later)
-
-      not_ended : {P : Type 0} → false ≡ true → P
-      not_ended never = absurd (true≢false (sym never))
 
       -- nothing is in the report of the next task
       tally_next : {refused unsaved : Type 0} {spare : List WholeReply} {full : List Done} → found_of (course p.items fell.dones spare (fell.next ∷ [])) ≡ found_by full → Part (tasks_on p) full
@@ -176,21 +169,7 @@ module _ (laws : Laws) (p : Inputs) where
 
       -- the next task wasn't begun
       pub tally_before : {refused unsaved : Type 0} → new.lines ≡ fell.mid.lines → Tally p false fell.dones [] [] fell.dones fell.dones new.lines refused unsaved
-      tally_before told = record {
-        found = append-nil (found_by fell.dones);
-        whole = part_done;
-        part = part_done;
-        number = inl refl;
-        mark = inl refl;
-        begun = rw (append-nil (tasks_of fell.dones))
-            (safe_done (IsRecorded p fell.dones) p.items (tasks_of fell.dones) (fell.next ∷ fell.later) (subst (Safe (IsRecorded p fell.dones) p.items) part_done.split (safe_tasks laws p fell.dones)) recorded_done);
-        later = fell.next ∷ fell.later;
-        front = part_done.split ∙ ap (λ (ts : List Task). ts ++ (fell.next ∷ fell.later)) (sym (append-nil (tasks_of fell.dones)));
-        ends = not_ended;
-        counts = ap retrieved_in told ∙ mid_count fell.dones fell.mid fell.went;
-        one_more = λ is. absurd (omega (arith, is));
-        one_less = λ is. absurd (omega (arith, is));
-      }
+      tally_before told = tally_recorded fell.dones part_done not_ended (ap retrieved_in told ∙ mid_count fell.dones fell.mid fell.went)
 
       -- the next task retrieved a text
       module _ (number : ℕ) (uid : List ℕ) (reply : WholeReply) (is : fell.next ≡ stores number uid) (answered : AllZip IsGood (retr number ∷ []) (reply ∷ [])) where
@@ -221,21 +200,9 @@ module _ (laws : Laws) (p : Inputs) where
         tally_kept : {refused unsaved : Type 0} (noted : List Done) → Part (tasks_on p) noted → AllByRecursion (IsRecorded p noted) (ids_ahead (tasks_of fell.dones))
             → (length (found_by noted) ≡ length (found_by full)) ⊎ (length (found_by noted) + 1 ≡ length (found_by full)) → new.lines ≡ fell.mid.lines ++ delivered number reply ∷ []
             → (length (found_by noted) + 1 ≡ length (found_by full) → unsaved) → Tally p false full [] [] full noted new.lines refused unsaved
-        tally_kept noted part recorded mark told less = record {
-          found = append-nil (found_by full);
-          whole = part_full;
-          part = part;
-          number = inl refl;
-          mark = mark;
-          begun = rw (append-nil (tasks_of full), full_tasks) (begun_next noted recorded);
-          later = fell.later;
-          front = rw (append-nil (tasks_of full)) part_full.split;
-          ends = not_ended;
-          counts = ap retrieved_in (told ∙ ap (λ (l : List ReportLine). l ++ delivered number reply ∷ []) (mid_lines fell.dones fell.mid fell.went)
-              ∙ sym (flat_map-append (λ (d : Done). lines_in d.task d.replies) fell.dones (stored_done number uid reply ∷ []))) ∙ counted_by full part_full.answered;
-          one_more = λ one. absurd (omega (arith, one));
-          one_less = less;
-        }
+        tally_kept noted part recorded mark told less = tally_done full noted part_full part mark (rw full_tasks (begun_next noted recorded)) not_ended
+            (ap retrieved_in (told ∙ ap (λ (l : List ReportLine). l ++ delivered number reply ∷ []) (mid_lines fell.dones fell.mid fell.went)
+            ∙ sym (flat_map-append (λ (d : Done). lines_in d.task d.replies) fell.dones (stored_done number uid reply ∷ []))) ∙ counted_by full part_full.answered) less
 
         pub tally_old : {refused unsaved : Type 0} → new.lines ≡ fell.mid.lines ++ delivered number reply ∷ [] → unsaved → Tally p false full [] [] full fell.dones new.lines refused unsaved
         tally_old told less = tally_kept fell.dones part_done recorded_done (inr one_found) told (λ one. less)

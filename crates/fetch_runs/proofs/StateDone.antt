@@ -12,12 +12,15 @@ use Rattle.pop3_client.specs.Turns.{IsGood, retr}
 use Rattle.fetch_session.specs.Task.{Task, stores, rereads, deletes, Done, IsAnswered, turns_in, tasks_of, files_in, files_of, lines_in, lines_of, ids_in, ids_of, ids_ahead}
 use Rattle.fetch_session.specs.Report.{is_taken, retrieved_in}
 use Rattle.run_law.specs.Steps.{file_for, is_unheld, Effect, ids_wanted}
+use Rattle.std.proofs.lemmas.Simd.{map-map}
+use Rattle.fetch_runs.proofs.Lists.{all_append, all_front, all_map}
 use Rattle.fetch_runs.proofs.Courses.{found_in, found_by, Course, found_of, begun_of}
 use Rattle.fetch_runs.proofs.StatePlan.{key, fetched_in, fetched, IsRight, deleted_in, deleted_by, Safe, tasks_ahead, PlansFetchWanted, fetched_ahead, right_ahead, safe_ahead}
-use Rattle.fetch_runs.proofs.TalkCommands.{all_front, all_weaker, one_reply, all_append}
+use Rattle.fetch_runs.proofs.TalkCommands.{one_reply}
 use Rattle.std.specs.Prelude.{◌&&◌, ◌||◌, bytes_eq}
 use Rattle.std.proofs.lemmas.Slice.Eq.{bytes_eq-Decides}
 use Rattle.std.proofs.Math.Bool.{or-true}
+use Rattle.std.proofs.lemmas.Bool.{or_left}
 use Rattle.fetch_rules.specs.Record.{Row, is_of, has_row, is_delivered, with_delivered, marked, marked_all, new_ids, with_held, merged}
 use Rattle.mail_store.specs.Held.{flags_of}
 use Rattle.rc_file.specs.declared.settings.Settings.{Settings}
@@ -102,11 +105,7 @@ pub numbers_first : (tasks rest : List Task) (dones : List Done) (messages : Lis
     → AllByRecursion IsAnswered dones → map number_found (found_by dones) ≡ map number_of (take (length (found_by dones)) messages)
 numbers_first tasks rest dones messages are split answered =
     numbers_by dones answered ∙ ap (map (λ (p : ℕ × List ℕ). p.0)) (fetched_first tasks rest dones messages are split answered)
-    ∙ keys_numbers (take (length (found_by dones)) messages)
-  where
-    keys_numbers : (qs : List (ℕ × Item)) → map (λ (p : ℕ × List ℕ). p.0) (map key qs) ≡ map number_of qs
-    keys_numbers [] = refl
-    keys_numbers (q ∷ qs) = ap (λ l. q.0 ∷ l) (keys_numbers qs)
+    ∙ map-map (λ (p : ℕ × List ℕ). p.0) key (take (length (found_by dones)) messages)
 
 -- by their files
 pub files_first : (account : List ℕ) (maildir : Maildir) (items : List Item) (tasks rest : List Task) (dones : List Done) (messages : List (ℕ × Item))
@@ -216,19 +215,18 @@ marks_by account maildir items (d ∷ dones) rows settled right = by d.task righ
 
 -- ---- what is recorded as delivered
 
-pub still_delivered : Laws → (rows : List Row) (ids : List (List ℕ)) (uid : List ℕ) → is_delivered rows uid ≡ true → is_delivered (marked_all rows ids) uid ≡ true
-still_delivered laws rows [] uid is = is
-still_delivered laws rows (id ∷ ids) uid is =
-    still_delivered laws (marked rows id) ids uid (laws.marks rows id uid ∙ ap (λ b. b || (has_row rows uid && bytes_eq id uid)) is)
+marks_stay : Laws → (rows : List Row) (ids : List (List ℕ)) (uid : List ℕ) → is_delivered rows uid ≡ true → is_delivered (marked_all rows ids) uid ≡ true
+marks_stay laws rows [] uid is = is
+marks_stay laws rows (id ∷ ids) uid is = marks_stay laws (marked rows id) ids uid (laws.marks rows id uid ∙ or_left _ _ is)
 
 pub marked_delivered : Laws → (rows : List Row) (ids : List (List ℕ)) → AllByRecursion (λ (uid : List ℕ). has_row rows uid ≡ true) ids
     → AllByRecursion (λ (uid : List ℕ). is_delivered (marked_all rows ids) uid ≡ true) ids
 marked_delivered laws rows [] all = tt
 marked_delivered laws rows (id ∷ ids) all = (
-  still_delivered laws (marked rows id) ids id
+  marks_stay laws (marked rows id) ids id
       (laws.marks rows id id ∙ ap (λ b. is_delivered rows id || (b && bytes_eq id id)) all.0 ∙ ap (λ b. is_delivered rows id || b) ((bytes_eq-Decides id id).1 refl) ∙ or-true (is_delivered rows id)),
   marked_delivered laws (marked rows id) ids
-      (all_weaker (λ (uid : List ℕ). has_row rows uid ≡ true) (λ (uid : List ℕ). has_row (marked rows id) uid ≡ true) ids (λ other has. laws.rows rows id other ∙ has) all.1),
+      (all_map (λ (uid : List ℕ). has_row rows uid ≡ true) (λ (uid : List ℕ). has_row (marked rows id) uid ≡ true) (λ other has. laws.rows rows id other ∙ has) ids all.1),
 )
 
 pub ids_are : (dones : List Done) → ids_of dones ≡ ids_ahead (tasks_of dones)
@@ -321,15 +319,11 @@ pub record Part (tasks : List Task) (dones : List Done) : Type 0 where
   pub split : tasks ≡ tasks_of dones ++ rest
   pub answered : AllByRecursion IsAnswered dones
 
-ids_of_keys : (qs : List (ℕ × Item)) → map (λ (p : ℕ × List ℕ). p.1) (map key qs) ≡ ids_wanted qs
-ids_of_keys [] = refl
-ids_of_keys (q ∷ qs) = ap (λ l. q.1.uid ∷ l) (ids_of_keys qs)
-
 module _ (laws : Laws) (p : Inputs) where
   pub safe_tasks : (dones : List Done) → Safe (IsRecorded p dones) p.items (tasks_on p)
   safe_tasks dones =
-      safe_ahead (IsRecorded p dones) p.settings p.account p.items p.now p.maildir (rows_on p) (λ uid known. still_delivered laws (rows_on p) (ids_of dones) uid known)
-      (λ uid listed held. still_delivered laws (rows_on p) (ids_of dones) uid (held_delivered laws p.account p.maildir p.items p.now p.rows uid listed held))
+      safe_ahead (IsRecorded p dones) p.settings p.account p.items p.now p.maildir (rows_on p) (λ uid known. marks_stay laws (rows_on p) (ids_of dones) uid known)
+      (λ uid listed held. marks_stay laws (rows_on p) (ids_of dones) uid (held_delivered laws p.account p.maildir p.items p.now p.rows uid listed held))
 
   pub right_front : (front rest : List Task) → tasks_on p ≡ front ++ rest → AllByRecursion (IsRightOn p) front
   right_front front rest split = all_front (IsRightOn p) front rest (subst (AllByRecursion (IsRightOn p)) split (right_ahead p.settings p.account p.items p.now p.maildir (rows_on p)))
@@ -351,7 +345,7 @@ module _ (laws : Laws) (p : Inputs) where
   records_part dones part =
       marks_by p.account p.maildir p.items dones (rows_on p) (held_settled laws p.account p.maildir p.items p.now p.rows) (right_part dones part)
       ∙ ap (λ (l : List (ℕ × List ℕ)). marked_all (rows_on p) (map (λ (p : ℕ × List ℕ). p.1) l)) (fetched_first (tasks_on p) part.rest dones (messages_on p) wanted_are part.split part.answered)
-      ∙ ap (marked_all (rows_on p)) (ids_of_keys (take (length (found_by dones)) (messages_on p)))
+      ∙ ap (marked_all (rows_on p)) (map-map (λ (p : ℕ × List ℕ). p.1) key (take (length (found_by dones)) (messages_on p)))
 
   pub numbers_part : (dones : List Done) → Part (tasks_on p) dones → map number_found (found_by dones) ≡ map number_of (take (length (found_by dones)) (messages_on p))
   numbers_part dones part = numbers_first (tasks_on p) part.rest dones (messages_on p) wanted_are part.split part.answered

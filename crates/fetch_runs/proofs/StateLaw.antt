@@ -186,10 +186,10 @@ module _ (laws : Laws) (p : Inputs) where
 -- ---- of a session
 
 -- the files are as they were
-abbrev SameFiles : Maildir → Maildir → Type 0
+abbrev pub SameFiles : Maildir → Maildir → Type 0
 SameFiles old new = new.files ≡ old.files
 
-unready_files : (fault : Fault) (old : Maildir) (file : Stored) (new : Maildir) (file' : Stored) → UnreadyCause fault old file new file' → SameFiles old new
+pub unready_files : (fault : Fault) (old : Maildir) (file : Stored) (new : Maildir) (file' : Stored) → UnreadyCause fault old file new file' → SameFiles old new
 unready_files (StoreRefused why.Refused) old file new file' is = subst (SameFiles old) (sym is) refl
 unready_files fault old file new file' is = grind arith
 

@@ -1,4 +1,5 @@
 -- The tasks of a plan: what they fetch, whether it is held, and what comes before a deletion.
+use Rattle.fetch_runs.proofs.Lists.{all_append}
 use Rattle.std.proofs.Common.{◌≡◌, ◌⊎◌, inl, inr, ◌+◌, ◌-◌, ℕ, Bool, true, false, cond, List, [], ◌∷◌, ◌++◌, map, zip, Option, None, Some, refl, sym, ap, subst, ◌∙◌, append_assoc, length, length-append, arith, rules}
 use Rattle.std.specs.Prelude.{◌&&◌, ◌||◌, ◌<◌, bytes_eq, slice_get}
 use Rattle.std.specs.List.{flat_map, filter, AllByRecursion, enumerate_from}
@@ -20,7 +21,6 @@ use Rattle.pop3_client.specs.Turns.{quit}
 use Rattle.fetch_session.specs.Task.{Task, says, stores, rereads, deletes, fetching, deleting, tasks_in, tasks_planned}
 use Rattle.fetch_session.specs.Plan as Session
 use Rattle.fetch_session.specs.Target.{AsFiles, in_maildir}
-use Rattle.fetch_runs.proofs.TalkCommands.{all_append}
 
 -- the tasks of an account with a Maildir
 abbrev pub tasks_ahead : Settings → List ℕ → List Item → ℕ → Maildir → List Row → List Task

@@ -2,7 +2,7 @@
 use Rattle.std.proofs.Common.{◌≡◌, ◌≢◌, ◌⊎◌, inl, inr, ◌<◌, ◌≤◌, ℕ, List, [], ◌∷◌, Bool, true, false, not, length, take, refl, sym, ap, subst, ◌∙◌, arith}
 use Rattle.std.specs.Prelude.{bytes_eq}
 use Rattle.std.specs.List.{filter, list_any}
-use Rattle.std.proofs.lemmas.Bool.{cases_Bool, false_from_ne_true, or_cases, true≢false}
+use Rattle.std.proofs.lemmas.Bool.{cases_Bool, false_from_ne_true, or_cases, true≢false, cond_both}
 use Rattle.std.proofs.lemmas.Slice.Eq.{bytes_eq-Decides}
 use Rattle.mail_terms.specs.UniqueId.{has_id, is_legal_id}
 use Rattle.mail_store.specs.FlatFile.{Stored}
@@ -11,8 +11,10 @@ use Rattle.mail_store.specs.FileName.{StemsDiffer, names_id, stem, stem_of}
 use Rattle.run_law.specs.Accounts.{copies}
 use Rattle.run_law.specs.Mails.{ids_of, selected}
 use Rattle.fetch_session.specs.Session.{AccountFiles, account_files}
-use Rattle.fetch_runs.specs.Headline.{Event, Between, TakenAway, AreTaken, Headline, IsKept, IsTakenAway, TakingsAreEvents, after_event}
-use Rattle.run_law.specs.Runs.{State, IsSound, World}
+use Rattle.fetch_runs.proofs.Ids.{bytes_same}
+use Rattle.fetch_runs.specs.Headline.{AreTaken, Headline, IsKept, IsTakenAway, TakingsAreEvents, after_session, Occasion}
+use Rattle.run_law.specs.Runs.{State, IsSound, World, Event, Between, TakenAway, after_event}
+use Rattle.fetch_runs.proofs.Lists.{any_filter, is_some}
 
 abbrev others_than : List ℕ → List File → List File
 others_than front fs = filter (λ (f : File). not (bytes_eq front (stem f.name))) fs
@@ -20,56 +22,34 @@ others_than front fs = filter (λ (f : File). not (bytes_eq front (stem f.name))
 -- none of them is left
 none_left : (front : List ℕ) (fs : List File) → copies (others_than front fs) front ≡ []
 none_left front [] = refl
-none_left front (f ∷ fs) = by (none_left front fs) (bytes_eq front (stem f.name)) refl
-  where
-    by : copies (others_than front fs) front ≡ [] → (b : Bool) → bytes_eq front (stem f.name) ≡ b → copies (others_than front (f ∷ fs)) front ≡ []
-    by rest true e = grind (arith, e, rest)
-    by rest false e = grind (arith, e, rest)
+none_left front (f ∷ fs) = grind (arith, none_left front fs)
 
 -- those of another stem are as they were
 others_left : (front other : List ℕ) (fs : List File) → (other ≡ front → ⊥) → copies (others_than front fs) other ≡ copies fs other
 others_left front other [] apart = refl
-others_left front other (f ∷ fs) apart = by (others_left front other fs apart) (bytes_eq front (stem f.name)) refl
-  where
-    not_other : bytes_eq front (stem f.name) ≡ true → bytes_eq other (stem f.name) ≡ false
-    not_other e = false_from_ne_true (bytes_eq other (stem f.name)) (λ same.
-        apart ((bytes_eq-Decides other (stem f.name)).0 same ∙ sym ((bytes_eq-Decides front (stem f.name)).0 e)))
-
-    by : copies (others_than front fs) other ≡ copies fs other → (b : Bool) → bytes_eq front (stem f.name) ≡ b → copies (others_than front (f ∷ fs)) other ≡ copies (f ∷ fs) other
-    by rest true e = let no = not_other e in grind (arith, e, no, rest)
-    by rest false e = grind (arith, e, rest)
+others_left front other (f ∷ fs) apart =
+    let not_other = λ (e : bytes_eq front (stem f.name) ≡ true). false_from_ne_true (bytes_eq other (stem f.name)) (λ same.
+    apart (bytes_same other (stem f.name) same ∙ sym (bytes_same front (stem f.name) e))) in
+    grind (arith, not_other, others_left front other fs apart)
 
 -- ---- what is left of an id's files
 
 -- all that an id's files held, or less
 pub part_copies : (front : List ℕ) (fs left : List File) → IsPart fs left → (copies left front ≡ copies fs front) ⊎ (length (copies left front) < length (copies fs front))
 part_copies front [] left is = inl (ap (λ (ts : List File). copies ts front) is)
-part_copies front (f ∷ fs) left (inl is) = by (part_copies front fs left is) (bytes_eq front (stem f.name)) refl
-  where
-    by : (copies left front ≡ copies fs front) ⊎ (length (copies left front) < length (copies fs front)) → (b : Bool) → bytes_eq front (stem f.name) ≡ b
-        → (copies left front ≡ copies (f ∷ fs) front) ⊎ (length (copies left front) < length (copies (f ∷ fs) front))
-    by rest false e = rw e rest
-    by (inl same) true e = let long = ap length same in rw e (inr (omega (arith, long)))
-    by (inr less) true e = rw e (inr (omega (arith, less)))
+part_copies front (f ∷ fs) left (inl is) = let less = part_copies front fs left is in grind (arith, less)
 part_copies front (f ∷ fs) left (inr (rest, e, is)) =
-    subst (λ (ts : List File). (copies ts front ≡ copies (f ∷ fs) front) ⊎ (length (copies ts front) < length (copies (f ∷ fs) front))) (sym e)
-    (by (part_copies front fs rest is) (bytes_eq front (stem f.name)) refl)
-  where
-    by : (copies rest front ≡ copies fs front) ⊎ (length (copies rest front) < length (copies fs front)) → (b : Bool) → bytes_eq front (stem f.name) ≡ b
-        → (copies (f ∷ rest) front ≡ copies (f ∷ fs) front) ⊎ (length (copies (f ∷ rest) front) < length (copies (f ∷ fs) front))
-    by more false e = rw e more
-    by (inl same) true e = rw e (inl (ap (λ (cs : List (List ℕ)). f.content ∷ cs) same))
-    by (inr less) true e = rw e (inr (omega (arith, less)))
+    let less = part_copies front fs rest is in
+    subst (λ (ts : List File). (copies ts front ≡ copies (f ∷ fs) front) ⊎ (length (copies ts front) < length (copies (f ∷ fs) front))) (sym e) (grind (arith, less))
 
 -- an id with files is held
 pub some_held : (account id : List ℕ) (fs : List File) → copies fs (stem_of account id) ≢ [] → list_any (λ (f : File). names_id account id f.name) fs ≡ true
-some_held account id [] some = absurd (some refl)
-some_held account id (f ∷ fs) some = by (some_held account id fs) (bytes_eq (stem_of account id) (stem f.name)) refl
+some_held account id fs some =
+    any_filter (λ (f : File). names_id account id f.name) (λ (f : File). f.content) fs ∙ there (copies fs (stem_of account id)) some
   where
-    by : (copies fs (stem_of account id) ≢ [] → list_any (λ (f : File). names_id account id f.name) fs ≡ true) → (b : Bool) → bytes_eq (stem_of account id) (stem f.name) ≡ b
-        → list_any (λ (f : File). names_id account id f.name) (f ∷ fs) ≡ true
-    by more true e = rw e refl
-    by more false e = rw e (more (λ none. some (rw e none)))
+    there : (cs : List (List ℕ)) → cs ≢ [] → is_some cs ≡ true
+    there [] none = absurd (none refl)
+    there (c ∷ cs) some = refl
 
 pub less_than_one : {A : Type 0} (xs ys : List A) → length xs < length ys → length ys ≤ 1 → (xs ≡ []) × (ys ≢ [])
 less_than_one [] ys less one = (refl, λ none. let e = ap length none in absurd (omega (arith, less, e)))
@@ -82,26 +62,22 @@ nothing_or_some (x ∷ xs) = inr (λ none. cc)
 -- ---- parts
 
 -- each event leaves some of the files
-abbrev pub LeaveParts : State AccountFiles → List Event → Type 0
+abbrev pub LeaveParts : State AccountFiles → List (Event Occasion AccountFiles) → Type 0
 LeaveParts state [] = Unit {0}
-LeaveParts state (event ∷ events) = IsPart state.account.maildir.files (after_event state event).account.maildir.files × LeaveParts (after_event state event) events
+LeaveParts state (event ∷ events) = IsPart state.account.maildir.files (after_event after_session state event).account.maildir.files × LeaveParts (after_event after_session state event) events
 
 others_are_part : (front : List ℕ) (fs : List File) → IsPart fs (others_than front fs)
 others_are_part front [] = refl
-others_are_part front (f ∷ fs) = by (others_are_part front fs) (bytes_eq front (stem f.name)) refl
-  where
-    by : IsPart fs (others_than front fs) → (b : Bool) → bytes_eq front (stem f.name) ≡ b → IsPart (f ∷ fs) (others_than front (f ∷ fs))
-    by more true e = let fewer : others_than front (f ∷ fs) ≡ others_than front fs = rw e refl in subst (IsPart (f ∷ fs)) (sym fewer) (inl more)
-    by more false e = let same : others_than front (f ∷ fs) ≡ f ∷ others_than front fs = rw e refl in inr (others_than front fs, same, more)
+others_are_part front (f ∷ fs) =
+    let more = others_are_part front fs in
+    cond_both (not (bytes_eq front (stem f.name))) (f ∷ others_than front fs) (others_than front fs) (IsPart (f ∷ fs)) (λ other. inr (others_than front fs, refl, more)) (λ same. inl more)
 
 -- what is left and has no file of this stem is a part of the others
 part_of_others : (front : List ℕ) (fs left : List File) → IsPart fs left → copies left front ≡ [] → IsPart (others_than front fs) left
 part_of_others front [] left is none = is
-part_of_others front (f ∷ fs) left (inl is) none = by (part_of_others front fs left is none) (bytes_eq front (stem f.name)) refl
-  where
-    by : IsPart (others_than front fs) left → (b : Bool) → bytes_eq front (stem f.name) ≡ b → IsPart (others_than front (f ∷ fs)) left
-    by more true e = let fewer : others_than front (f ∷ fs) ≡ others_than front fs = rw e refl in subst (λ (l : List File). IsPart l left) (sym fewer) more
-    by more false e = let same : others_than front (f ∷ fs) ≡ f ∷ others_than front fs = rw e refl in subst (λ (l : List File). IsPart l left) (sym same) (inl more)
+part_of_others front (f ∷ fs) left (inl is) none =
+    let more = part_of_others front fs left is none in
+    cond_both (not (bytes_eq front (stem f.name))) (f ∷ others_than front fs) (others_than front fs) (λ (l : List File). IsPart l left) (λ other. inl more) (λ same. more)
 part_of_others front (f ∷ fs) left (inr (rest, are, is)) none = by (part_of_others front fs rest is) (bytes_eq front (stem f.name)) refl
   where
     by : (copies rest front ≡ [] → IsPart (others_than front fs) rest) → (b : Bool) → bytes_eq front (stem f.name) ≡ b → IsPart (others_than front (f ∷ fs)) left
@@ -116,10 +92,13 @@ part_of_others front (f ∷ fs) left (inr (rest, are, is)) none = by (part_of_ot
 
 -- ---- one id after another
 
--- the files of each legal id are as they are left; or it is one of these ids, and its files are to be taken away
-abbrev AreDue : List ℕ → List File → List (List ℕ) → List File → Type 0
-AreDue account left ids fs = (id : List ℕ) → is_legal_id id ≡ true → (copies left (stem_of account id) ≡ copies fs (stem_of account id))
+-- the files of the id are as they are left; or it is one of these ids, and its files are to be taken away
+abbrev StaysOrGoes : List ℕ → List File → List (List ℕ) → List File → List ℕ → Type 0
+StaysOrGoes account left ids fs id = (copies left (stem_of account id) ≡ copies fs (stem_of account id))
     ⊎ ((has_id ids id ≡ true) × (copies left (stem_of account id) ≡ []) × (copies fs (stem_of account id) ≢ []))
+
+abbrev AreDue : List ℕ → List File → List (List ℕ) → List File → Type 0
+AreDue account left ids fs = (id : List ℕ) → is_legal_id id ≡ true → StaysOrGoes account left ids fs id
 
 module _ (differ : StemsDiffer) (world : World) (maildir : Maildir) (file : Stored) (gone : List (List ℕ)) (left : List File) where
   abbrev account : List ℕ
@@ -129,7 +108,7 @@ module _ (differ : StemsDiffer) (world : World) (maildir : Maildir) (file : Stor
   with_files_left fs taken = record { account = account_files (with_files fs maildir) file; gone = gone; taken = taken }
 
   abbrev HasEvents : List File → List (List ℕ) → Type 0
-  HasEvents fs taken = (events : List Event) × AreTaken world (with_files_left fs taken) left events × LeaveParts (with_files_left fs taken) events
+  HasEvents fs taken = (events : List (Event Occasion AccountFiles)) × AreTaken world (with_files_left fs taken) left events × LeaveParts (with_files_left fs taken) events
 
   -- its files are taken away
   abbrev IsDue : List File → List ℕ → Type 0
@@ -152,10 +131,7 @@ module _ (differ : StemsDiffer) (world : World) (maildir : Maildir) (file : Stor
   passed : (fs : List File) (id : List ℕ) (ids : List (List ℕ)) → AreDue account left (id ∷ ids) fs → (IsDue fs id → ⊥) → AreDue account left ids fs
   passed fs id ids due not other l = by (due other l)
     where
-      by : (copies left (stem_of account other) ≡ copies fs (stem_of account other))
-          ⊎ ((has_id (id ∷ ids) other ≡ true) × (copies left (stem_of account other) ≡ []) × (copies fs (stem_of account other) ≢ []))
-          → (copies left (stem_of account other) ≡ copies fs (stem_of account other))
-          ⊎ ((has_id ids other ≡ true) × (copies left (stem_of account other) ≡ []) × (copies fs (stem_of account other) ≢ []))
+      by : StaysOrGoes account left (id ∷ ids) fs other → StaysOrGoes account left ids fs other
       by (inl same) = inl same
       by (inr (among, none, some)) = elim (or_cases (bytes_eq other id) (has_id ids other) among) [
         | inl is ↦ absurd (not (subst (IsDue fs) ((bytes_eq-Decides other id).0 is) (l, none, some)))
@@ -169,10 +145,7 @@ module _ (differ : StemsDiffer) (world : World) (maildir : Maildir) (file : Stor
   took : (fs : List File) (id : List ℕ) (ids : List (List ℕ)) → AreDue account left (id ∷ ids) fs → IsDue fs id → AreDue account left ids (without id fs)
   took fs id ids due is other l = by (cases_Bool (bytes_eq other id)) (due other l)
     where
-      by : (bytes_eq other id ≡ true) ⊎ (bytes_eq other id ≡ false) → (copies left (stem_of account other) ≡ copies fs (stem_of account other))
-          ⊎ ((has_id (id ∷ ids) other ≡ true) × (copies left (stem_of account other) ≡ []) × (copies fs (stem_of account other) ≢ []))
-          → (copies left (stem_of account other) ≡ copies (without id fs) (stem_of account other))
-          ⊎ ((has_id ids other ≡ true) × (copies left (stem_of account other) ≡ []) × (copies (without id fs) (stem_of account other) ≢ []))
+      by : (bytes_eq other id ≡ true) ⊎ (bytes_eq other id ≡ false) → StaysOrGoes account left (id ∷ ids) fs other → StaysOrGoes account left ids (without id fs) other
       by (inl same) others =
           inl (subst (λ (x : List ℕ). copies left (stem_of account x) ≡ copies (without id fs) (stem_of account x)) (sym ((bytes_eq-Decides other id).0 same))
           (is.1 ∙ sym (none_left (stem_of account id) fs)))
@@ -206,9 +179,7 @@ module _ (differ : StemsDiffer) (world : World) (maildir : Maildir) (file : Stor
     (part, tt),
   )
     where
-      same : (id : List ℕ) → (copies left (stem_of account id) ≡ copies fs (stem_of account id))
-          ⊎ ((has_id [] id ≡ true) × (copies left (stem_of account id) ≡ []) × (copies fs (stem_of account id) ≢ []))
-          → copies left (stem_of account id) ≡ copies fs (stem_of account id)
+      same : (id : List ℕ) → StaysOrGoes account left [] fs id → copies left (stem_of account id) ≡ copies fs (stem_of account id)
       same id (inl is) = is
       same id (inr (never, none, some)) = absurd (true≢false (sym never))
 
@@ -220,7 +191,7 @@ module _ (differ : StemsDiffer) (world : World) (maildir : Maildir) (file : Stor
   ]
 
 pub takings_leave_parts : Headline → StemsDiffer → (world : World) (state : State AccountFiles) (left : List File) → IsSound world → IsKept world state
-    → IsPart state.account.maildir.files left → (events : List Event) × AreTaken world state left events × LeaveParts state events
+    → IsPart state.account.maildir.files left → (events : List (Event Occasion AccountFiles)) × AreTaken world state left events × LeaveParts state events
 takings_leave_parts law differ world state left sound is part =
     let holds = (law world state [] sound is tt).0 in
     let account = world.account in
@@ -232,8 +203,7 @@ takings_leave_parts law differ world state left sound is part =
     due : (ids : List (List ℕ)) (account : List ℕ) (files : List File) (id : List ℕ) → (list_any (λ (f : File). names_id account id f.name) files ≡ true → has_id ids id ≡ true)
         → length (copies files (stem_of account id)) ≤ 1
         → (copies left (stem_of account id) ≡ copies files (stem_of account id)) ⊎ (length (copies left (stem_of account id)) < length (copies files (stem_of account id)))
-        → (copies left (stem_of account id) ≡ copies files (stem_of account id))
-        ⊎ ((has_id ids id ≡ true) × (copies left (stem_of account id) ≡ []) × (copies files (stem_of account id) ≢ []))
+        → StaysOrGoes account left ids files id
     due ids account files id among once (inl same) = inl same
     due ids account files id among once (inr less) =
         let parts = less_than_one (copies left (stem_of account id)) (copies files (stem_of account id)) less once in

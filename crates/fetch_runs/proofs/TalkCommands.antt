@@ -11,6 +11,7 @@ use Rattle.pop3_wire.specs.Honest.{Asked, BeginsNext, FrontsAreAsked}
 use Rattle.pop3_wire.specs.Reading.{WholeReply, body_bytes, has_body, IsBodyIf}
 use Rattle.pop3_client.specs.Turns.{Turn, asking, retr, dele, quit, IsBody, IsGood}
 use Rattle.run_law.specs.Sessions.{BeginsOne}
+use Rattle.fetch_runs.proofs.Lists.{all_append}
 use Rattle.fetch_runs.specs.Conversations.{SentBehind, Conversation}
 use Rattle.std.proofs.lemmas.Bool.{true≢false}
 use Rattle.pop3_wire.specs.declared.command.Command.TheVariants.{Retr, Dele, Quit}
@@ -41,22 +42,6 @@ commands_in turns = flat_map said_in turns
 abbrev pub CanBeSaid : Turn → Type 0
 CanBeSaid None = Unit {0}
 CanBeSaid (Some command) = (can_be_sent command ≡ true) × HasNumbers command
-
-pub all_append : {A : Type 0} (P : A → Type 0) (xs ys : List A) → AllByRecursion P xs → AllByRecursion P ys → AllByRecursion P (xs ++ ys)
-all_append P [] ys first then = then
-all_append P (x ∷ xs) ys first then = (first.0, all_append P xs ys first.1 then)
-
-pub all_weaker : {A : Type 0} (P Q : A → Type 0) (xs : List A) → ((x : A) → P x → Q x) → AllByRecursion P xs → AllByRecursion Q xs
-all_weaker P Q [] weaker all = tt
-all_weaker P Q (x ∷ xs) weaker all = (weaker x all.0, all_weaker P Q xs weaker all.1)
-
-pub all_front : {A : Type 0} (P : A → Type 0) (xs ys : List A) → AllByRecursion P (xs ++ ys) → AllByRecursion P xs
-all_front P [] ys all = tt
-all_front P (x ∷ xs) ys all = (all.0, all_front P xs ys all.1)
-
-pub all_back : {A : Type 0} (P : A → Type 0) (xs ys : List A) → AllByRecursion P (xs ++ ys) → AllByRecursion P ys
-all_back P [] ys all = all
-all_back P (x ∷ xs) ys all = all_back P xs ys all.1
 
 -- if two lists are empty together, each is empty
 pub both_none : {A : Type 0} (xs ys : List A) → xs ++ ys ≡ [] → (xs ≡ []) × (ys ≡ [])
@@ -104,9 +89,9 @@ pub begins_one : (Is : Command → Type 0) (next : List Command) (part : List �
 begins_one Is [] part none all = inl none
 begins_one Is (command ∷ next) part (unsent, is) all = inr (command, unsent, is, all.0)
 
-pub begins_of : (Is Other : Command → Type 0) → ((command : Command) → Is command → Other command) → (part : List ℕ) → BeginsOne Is part → BeginsOne Other part
-begins_of Is Other on part (inl none) = inl none
-begins_of Is Other on part (inr (command, unsent, is, holds)) = inr (command, unsent, is, on command holds)
+pub begins_of : {Is Other : Command → Type 0} → ((command : Command) → Is command → Other command) → (part : List ℕ) → BeginsOne Is part → BeginsOne Other part
+begins_of on part (inl none) = inl none
+begins_of on part (inr (command, unsent, is, holds)) = inr (command, unsent, is, on command holds)
 
 -- the commands that were sent whole: those of the completed turns, of the one that was begun, and of the tail
 pub record Commanded (done begun tail : List Turn) (sent : List ℕ) : Type 0 where
@@ -218,10 +203,7 @@ read_first (deletes number) replies others commands found is good later =
     one_reply (λ (rs : List WholeReply). Retrieves (Dele number ∷ commands) (rs ++ others) found) (dele number) replies good (λ r g. later)
 
 pub commands_on : (xs ys : List Turn) (more : List Command) → commands_in (xs ++ ys) ++ more ≡ commands_in xs ++ (commands_in ys ++ more)
-commands_on [] ys more = refl
-commands_on (x ∷ xs) ys more =
-    append_assoc (said_in x) (commands_in (xs ++ ys)) more ∙ ap (λ (l : List Command). said_in x ++ l) (commands_on xs ys more)
-    ∙ sym (append_assoc (said_in x) (commands_in xs) (commands_in ys ++ more))
+commands_on xs ys more = ap (λ (l : List Command). l ++ more) (flat_map-append said_in xs ys) ∙ append_assoc (commands_in xs) (commands_in ys) more
 
 -- what the replies to done tasks retrieve, before others
 pub dones_read : (dones : List Done) (others : List WholeReply) (commands : List Command) (found : List (ℕ × List ℕ)) → AllByRecursion IsPlain (tasks_of dones) → AllByRecursion IsAnswered dones
@@ -282,23 +264,20 @@ plain_ahead settings target items now store rows few =
 
 -- ---- their turns
 
-said_first : (task : Task) (turns : List Turn) → IsPlain task → AllByRecursion CanBeSaid turns → AllByRecursion CanBeSaid (turns_in task ++ turns)
-said_first (says turn) turns is later = (subst CanBeSaid (sym is) (refl, tt), later)
-said_first (skips number size) turns is later = later
-said_first other turns is later = ((refl, is), later)
+-- what holds of QUIT, and of RETR and DELE with a small number, holds of the turns of plain tasks
+turns_all : (P : Turn → Type 0) → P quit → ((n : ℕ) → n < 2 ^ 32 → P (retr n) × P (dele n)) → (tasks : List Task) → AllByRecursion IsPlain tasks → AllByRecursion P (flat_map turns_in tasks)
+turns_all P quits some [] plain = tt
+turns_all P quits some (says turn ∷ tasks) plain = (subst P (sym plain.0) quits, turns_all P quits some tasks plain.1)
+turns_all P quits some (skips number size ∷ tasks) plain = turns_all P quits some tasks plain.1
+turns_all P quits some (stores number uid ∷ tasks) plain = ((some number plain.0).0, turns_all P quits some tasks plain.1)
+turns_all P quits some (rereads number uid ∷ tasks) plain = ((some number plain.0).0, turns_all P quits some tasks plain.1)
+turns_all P quits some (deletes number ∷ tasks) plain = ((some number plain.0).1, turns_all P quits some tasks plain.1)
 
 pub said_tasks : (tasks : List Task) → AllByRecursion IsPlain tasks → AllByRecursion CanBeSaid (flat_map turns_in tasks)
-said_tasks [] plain = tt
-said_tasks (task ∷ tasks) plain = said_first task (flat_map turns_in tasks) plain.0 (said_tasks tasks plain.1)
-
-commands_first : (task : Task) (turns : List Turn) → IsPlain task → AllByRecursion IsCommand turns → AllByRecursion IsCommand (turns_in task ++ turns)
-commands_first (says turn) turns is later = (subst IsCommand (sym is) tt, later)
-commands_first (skips number size) turns is later = later
-commands_first other turns is later = (tt, later)
+said_tasks = turns_all CanBeSaid (refl, tt) (λ n small. ((refl, small), (refl, small)))
 
 pub commands_tasks : (tasks : List Task) → AllByRecursion IsPlain tasks → AllByRecursion IsCommand (flat_map turns_in tasks)
-commands_tasks [] plain = tt
-commands_tasks (task ∷ tasks) plain = commands_first task (flat_map turns_in tasks) plain.0 (commands_tasks tasks plain.1)
+commands_tasks = turns_all IsCommand tt (λ n small. (tt, tt))
 
 -- the turns of done tasks, and of others after them
 pub turns_on : (dones : List Done) (tasks : List Task) → flat_map turns_in (tasks_of dones ++ tasks) ≡ turns_of dones ++ flat_map turns_in tasks
@@ -317,8 +296,7 @@ of_first front behind (rereads number uid) commands is later = ((front, rereads 
 of_first front behind (deletes number) commands is later = ((front, behind, refl), later)
 
 pub commands_split : (xs ys : List Turn) → commands_in (xs ++ ys) ≡ commands_in xs ++ commands_in ys
-commands_split [] ys = refl
-commands_split (x ∷ xs) ys = ap (λ (l : List Command). said_in x ++ l) (commands_split xs ys) ∙ sym (append_assoc (said_in x) (commands_in xs) (commands_in ys))
+commands_split xs ys = flat_map-append said_in xs ys
 
 pub of_tasks : (front tasks : List Task) → AllByRecursion IsPlain tasks → AllByRecursion (IsOfTask (front ++ tasks)) (commands_in (flat_map turns_in tasks))
 of_tasks front [] plain = tt

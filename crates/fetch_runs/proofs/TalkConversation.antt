@@ -33,9 +33,10 @@ use Rattle.fetch_session.specs.Scene.{Scene, scene, Fell, Stops, Does}
 use Rattle.fetch_session.specs.Target.{Target, AsFiles, AsEntries, Stores}
 use Rattle.fetch_session.specs.Session.{LeavesLink, outcome_of, Keeping, Noted, NotEntered, NoRoom, Dealt, Proceeds, SessionIn, keeps_entries, AccountFiles, keeps_files}
 use Rattle.fetch_session.specs.Store.{RefusesText}
+use Rattle.fetch_runs.proofs.Lists.{all_front}
 use Rattle.fetch_runs.specs.Conversations.{AreFound, tail_behind, is_retrieval, retrieved_by, Conversation, plan_turns, FollowsPlan, MboxSessionsFollowPlans, Converses, CountsTexts, Opens, SpeaksByPlan, SessionsAreConversations}
 use Rattle.fetch_runs.proofs.Courses.{Course, course, stored_done, spare_in, spare_of, course_stopped, course_does, course_carried, course_carries, begun_of, SessionCourse, Idle, Deals, course_dealt, course_proceeded, session_course_of, IsOfTask}
-use Rattle.fetch_runs.proofs.TalkCommands.{all_front, IsPlain, plain_ahead, one_reply, commands_in, CanBeSaid, Commanded, said_tasks, both_none}
+use Rattle.fetch_runs.proofs.TalkCommands.{IsPlain, plain_ahead, one_reply, commands_in, CanBeSaid, Commanded, said_tasks, both_none}
 use Rattle.fetch_runs.proofs.TalkCourses.{Took, took_stopped, took_nothing, all_done, goes_nothing}
 use Rattle.fetch_runs.proofs.TalkSpeech.{IsTail, is_tail, silent, front_of_plan, OpensAlone, opens_all, opens_cut, commanded_opening, replied, few_items, Speaks, spoken, commanded_after, idle_said, Replied, listed}
 use Rattle.std.proofs.lemmas.List.Sums.{sum_by-append}
@@ -397,9 +398,6 @@ pub session_spoke : TurnsJoin → ConversationsArePaced → FrontsAreAsked → (
 session_spoke joining paced law settings valid target now link before report link' after session =
     spoke joining paced law settings valid target now link link' before after session.mid session.notes session.result session.proceeds session.leaves
 
-four : (a b c d : List Turn) → (a ++ (b ++ c)) ++ d ≡ a ++ (b ++ (c ++ d))
-four a b c d = simp append_assoc
-
 -- its commands are the first of a plan without steps
 pub follows_none : FrontsAreAsked → (settings : Settings) → IsValid settings → (turns : List Turn) → IsTail turns → (link link' : Link) → (it : OpensAlone (name_of settings) (word_of settings) turns link link')
     → Follows settings [] it.sent
@@ -407,7 +405,7 @@ follows_none law settings valid turns kind link link' it = record {
   commands = commands_in it.said.done ++ (whole.ahead ++ whole.ends);
   asked = whole.asked;
   front = front_of_plan (name_of settings) (word_of settings) [] it.said.done it.said.begun (it.said.later ++ quit ∷ []) turns it.sent
-      (ap (λ (ts : List Turn). ts ++ quit ∷ []) it.said.split ∙ four it.said.done it.said.begun it.said.later (quit ∷ [])) kind whole;
+      (ap (λ (ts : List Turn). ts ++ quit ∷ []) it.said.split ∙ simp append_assoc) kind whole;
 }
   where
     whole : Commanded it.said.done it.said.begun turns it.sent

@@ -11,6 +11,7 @@ use Rattle.pop3_client.specs.Turns.{Turn, turn_bytes, asking, retr}
 use Rattle.pop3_client.specs.Conversation.{Talked, Talks, Broke, IsFrontOfNext, ConversationsArePaced, TurnsJoin}
 use Rattle.fetch_session.specs.Fault.{fault_of}
 use Rattle.fetch_session.specs.Tail.{tail, turns_in as tail_turns, LeftBy, Left}
+use Rattle.fetch_runs.proofs.Lists.{all_append, all_back, all_front}
 use Rattle.fetch_runs.specs.Conversations.{SentBehind, Conversation}
 use Rattle.std.proofs.lemmas.List.Concat.{flat_map-append}
 use Rattle.pop3_wire.specs.declared.command.Command.{Command}
@@ -26,14 +27,10 @@ use Rattle.fetch_session.specs.Store.{RefusesText}
 use Rattle.fetch_session.specs.Scene.{Scene, Broken, NoFile, NoRoom, Went, Stops}
 use Rattle.fetch_session.specs.Target.{Target, AsFiles, AsEntries}
 use Rattle.fetch_runs.proofs.Courses.{Course, course, course_stopped, stored_done, spare_in, found_in, found_by, found_of, begun_of}
-use Rattle.fetch_runs.proofs.TalkCommands.{commands_in, all_append, all_front, all_back, IsPlain, commands_on, text_read, dones_read, nothing_found, turns_on}
+use Rattle.fetch_runs.proofs.TalkCommands.{both_none, commands_in, IsPlain, commands_on, text_read, dones_read, nothing_found, turns_on}
 
 pub cons_parts : {A : Type 0} (x y : A) (xs ys : List A) → x ∷ xs ≡ y ∷ ys → (x ≡ y) × (xs ≡ ys)
 cons_parts x y xs ys e = (cc, cc)
-
-nothing_front : (front rest : List ℕ) → [] ≡ front ++ rest → front ≡ []
-nothing_front [] rest e = refl
-nothing_front (x ∷ front) rest e = absurd (let f : [] ≡ x ∷ (front ++ rest) = e in cc)
 
 -- a prefix of these turns' octets was sent, and something was got
 pub record Fronted (turns : List Turn) (old new : Link) : Type 0 where
@@ -83,7 +80,7 @@ goes_part turn tail old mid new front rest split sent got f = record {
   gained = f.gained;
   got = f.got ∙ ap (λ (l : List ℕ). l ++ f.gained) got;
   behind = front;
-  sent = f.sent ∙ ap (λ (l : List ℕ). mid.sent ++ l) (nothing_front f.part f.later f.split) ∙ append-nil mid.sent ∙ sent;
+  sent = f.sent ∙ ap (λ (l : List ℕ). mid.sent ++ l) (both_none f.part f.later (sym f.split)).0 ∙ append-nil mid.sent ∙ sent;
   sent_behind = inl (rest, append-nil (turn_bytes turn) ∙ split);
 }
 
@@ -170,9 +167,6 @@ pub record Took (c : Course) (start : Place) (tail : List Turn) (link : Link) : 
   pub asks : (done ≡ turns_of c.taken) ⊎ ((number : ℕ) × (done ≡ turns_of c.taken ++ retr number ∷ []) × (begun ≡ []) × ((reply : WholeReply) × (c.spare ≡ reply ∷ [])))
   pub whole : c.under ≡ [] → begun ≡ []
 
-cons_nil : (task : Task) (tasks : List Task) → task ∷ tasks ≡ [] → ⊥
-cons_nil task tasks e = cc
-
 -- the texts of done tasks
 read_dones : (dones : List Done) (others : List (ℕ × List ℕ)) → others ≡ [] → AllByRecursion IsPlain (tasks_of dones) → AllByRecursion IsAnswered dones
     → (more : List Command) → Retrieves (commands_in (turns_of dones) ++ more) (replies_of dones) (found_by dones ++ others)
@@ -217,7 +211,7 @@ module _ (joining : TurnsJoin) (paced : ConversationsArePaced) (items : List Ite
     -- the next turn was begun, and its text isn't stored
     begun_next : (turn : Turn) (tail : List Turn) (link : Link) → turns_in next ≡ turn ∷ [] → Goes (turn ∷ []) tail mid.place.link link → Took (course items dones [] (next ∷ [])) first tail link
     begun_next turn tail link takes =
-        after_dones dones (next ∷ []) (turn ∷ []) tail first mid.place link (append-nil (turns_in next) ∙ takes) (inr (turn, refl)) (λ none. absurd (cons_nil next [] none))
+        after_dones dones (next ∷ []) (turn ∷ []) tail first mid.place link (append-nil (turns_in next) ∙ takes) (inr (turn, refl)) (λ none. absurd cc)
         (append-nil (found_in next []) ∙ nothing_found next) talked plain each
 
     -- the text was read to its end, and it isn't in the report

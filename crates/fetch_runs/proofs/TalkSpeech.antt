@@ -14,7 +14,8 @@ use Rattle.mail_terms.specs.declared.listing.ScanRow.{ScanRow}
 use Rattle.pop3_client.specs.Turns.{greeting, stat, IsBody, IsGood, Turn, quit, rset}
 use Rattle.run_law.specs.Readings.{IsListed, AreGood, Talked as IsTalked, Retrieves}
 use Rattle.fetch_session.specs.Opening.{opening, Opened, Enters}
-use Rattle.fetch_runs.proofs.TalkCommands.{CanBeSaid, commands_in, Commanded, commanded, both_none, begins_any, begins_one, all_append, all_front, all_back, IsCommand, IsPlain, reply_read, replies_read, said_tasks, commands_tasks, commands_split, of_tasks}
+use Rattle.fetch_runs.proofs.Lists.{all_append, all_back, all_front}
+use Rattle.fetch_runs.proofs.TalkCommands.{CanBeSaid, commands_in, Commanded, commanded, both_none, begins_any, begins_one, IsCommand, IsPlain, reply_read, replies_read, said_tasks, commands_tasks, commands_split, of_tasks}
 use Rattle.pop3_wire.specs.declared.command.Command.{Command}
 use Rattle.pop3_wire.specs.declared.command.Command.TheVariants.{User, Pass, Stat, UidlAll, ListAll}
 use Rattle.pop3_wire.specs.Line.{ended}
@@ -254,9 +255,6 @@ commands_back : (commands : List Command) → commands_in (map Some commands) �
 commands_back [] = refl
 commands_back (c ∷ commands) = ap (λ (l : List Command). c ∷ l) (commands_back commands)
 
-five : (a b c d : List Command) → a ++ ((b ++ c) ++ d) ≡ (a ++ b) ++ (c ++ d)
-five a b c d = simp append_assoc
-
 pub front_of_plan : (name word : List ℕ) (steps : List Step) (done begun later turns : List Turn) (sent : List ℕ) → plan_turns name word steps ≡ done ++ (begun ++ later) → IsTail turns
     → (c : Commanded done begun turns sent) → IsFrontOfPlan name word steps (commands_in done ++ (c.ahead ++ c.ends))
 front_of_plan name word steps done begun later turns sent split kind c = record {
@@ -265,7 +263,7 @@ front_of_plan name word steps done begun later turns sent split kind c = record 
   tail = c.ends;
   plan = sym (commands_back (plan_commands name word steps)) ∙ ap commands_in split ∙ commands_split done (begun ++ later)
       ∙ ap (λ (l : List Command). commands_in done ++ l) (commands_split begun later ∙ ap (λ (l : List Command). l ++ commands_in later) c.of_begun)
-      ∙ five (commands_in done) c.ahead c.unsaid (commands_in later);
+      ∙ simp append_assoc;
   is_tail = ends_tail turns kind c.ends c.unended c.of_tail;
   sent = sym (append_assoc (commands_in done) c.ahead c.ends);
 }

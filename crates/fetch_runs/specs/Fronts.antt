@@ -76,13 +76,13 @@ pub record IsCutThere (settings : Settings) (account : List ℕ) (now : ℕ) (li
       → Session settings account now link before report cut after
 
 -- the session, cut there, with this report
-abbrev pub cut_at : Occasion → Link → AccountFiles → Report → Occasion
+abbrev pub cut_at : Occasion AccountFiles → Link → AccountFiles → Report → Occasion AccountFiles
 cut_at occasion link after report = record occasion { report = report; link' = link; after = after; vanished = [] }
 
 -- a law: at each such point of an uncut session of a run, a session was cut there and left what is there. It is one of the
 -- run, too, whatever the report that tells of it
 abbrev pub FrontsAreSessions : Type 0
-FrontsAreSessions = (world : World) (state : State AccountFiles) (occasion : Occasion) → IsSession world state occasion
+FrontsAreSessions = (world : World) (state : State AccountFiles) (occasion : Occasion AccountFiles) → IsSession world state occasion
     → (uncut : Uncut occasion.settings (digits_of occasion.settings) occasion.now occasion.link state.account occasion.link' occasion.after)
     → (front back : List Done) (next : Done) (left : AccountFiles) → uncut.dones ≡ front ++ next ∷ back
     → IsLeftBetween (digits_of occasion.settings) state.account uncut.ready front next left

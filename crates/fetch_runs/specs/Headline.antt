@@ -3,18 +3,16 @@
 -- maildrop order, each once, byte for byte with lines ended by LF; an uncut session leaves out only what its
 -- limits exclude; and DELE was sent only for messages held. What a reader took away counts as held here, and
 -- what was withdrawn from the server before it was fetched isn't part of its mail.
-use Rattle.std.specs.Prelude.{◌≡◌, ◌≢◌, ◌⊎◌, ◌<◌, ◌-◌, ℕ, true, false, not, List, [], ◌∷◌, ◌++◌, None, Some, slice_get, bytes_eq}
-use Rattle.std.specs.List.{AllByRecursion, filter}
+use Rattle.std.specs.Prelude.{◌≡◌, ◌≢◌, ◌⊎◌, ◌<◌, ◌-◌, ℕ, true, false, List, [], ◌∷◌, ◌++◌, None, Some, slice_get, bytes_eq}
+use Rattle.std.specs.List.{AllByRecursion}
 use Rattle.pop3_wire.specs.declared.command.Command.{Command}
 use Rattle.pop3_wire.specs.declared.command.Command.TheVariants.{Dele}
-use Rattle.pop3_wire.specs.Honest.{Asked}
 use Rattle.pop3_wire.specs.Link.{Link}
 use Rattle.pop3_wire.specs.World.{Message, maildrop_of}
 use Rattle.mail_terms.specs.UniqueId.{is_legal_id, has_id}
 use Rattle.rc_file.specs.Settings.{IsValid}
 use Rattle.rc_file.specs.declared.settings.Settings.{Settings}
 use Rattle.fetch_rules.specs.Record.{Row, is_delivered, merged}
-use Rattle.fetch_rules.specs.Wanted.{candidates}
 use Rattle.mail_store.specs.FileName.{stem_of, is_held}
 use Rattle.mail_store.specs.Held.{flags_of}
 use Rattle.mail_store.specs.Maildir.{Maildir, File, IsPart, with_files}
@@ -23,11 +21,12 @@ use Rattle.fetch_session.specs.Record.{KeepsRows}
 use Rattle.fetch_session.specs.Session.{AccountFiles, Session, account_files}
 use Rattle.fetch_session.specs.declared.report.Outcome.TheVariants.{Ended}
 use Rattle.fetch_session.specs.declared.report.Report.{Report}
-use Rattle.run_law.specs.Mails.{listing_of, is_selected, messages_after, selected, texts_of, without}
+use Rattle.run_law.specs.Mails.{listing_of, is_selected, messages_after, selected, texts_of}
 use Rattle.run_law.specs.Accounts.{AccountMail, KeepsOthers, copies, files}
-use Rattle.run_law.specs.Steps.{ids_wanted}
-use Rattle.run_law.specs.Runs.{World, IsSound, State, Kept as IsKeptIn, HoldsExactly, HoldsWhatIsLeft, past_limit}
-use Rattle.run_law.specs.Sessions.{BeginsOne, Served}
+use Rattle.run_law.specs.Runs.{World, IsSound, State, IsHeldOrTaken, IsNeither, Kept as IsKeptIn, HoldsExactly, HoldsWhatIsLeft, is_past_count}
+use Rattle.run_law.specs.Runs.{Event, Fetched, Between, Expired, Withdrawn, TakenAway, BroughtBack, Forgotten, PowerLost}
+use Rattle.run_law.specs.Runs.{after_event, after_events, world_after, world_left}
+use Rattle.run_law.specs.Sessions.{SendsOnly, Served}
 use Rattle.fetch_runs.specs.Steps.{holds}
 
 -- A `World` is whose mail it is, by the digits in the names of the account's files; the limit on sizes; and all mail that ever comes, in
@@ -44,35 +43,22 @@ pub record AreSettings (world : World) (settings : Settings) : Type 0 where
 
 -- one session: its settings, its time, its report, its link before and after it, and what it left; how much
 -- mail had come by then, and which ids its QUIT removed from the server
-pub record Occasion : Type 0 where
+pub record Occasion (Account : Type 0) : Type 0 where
   pub settings : Settings
   pub now : ℕ
   pub report : Report
   pub link : Link
   pub link' : Link
-  pub after : AccountFiles
+  pub after : Account
   pub come : ℕ
   pub vanished : List (List ℕ)
 
--- a session; anything that leaves the record and the account's messages as they are; messages that are gone from the
--- server after they were fetched, or before; a message that its reader throws away or files elsewhere, or puts back; a
--- record that is lost, or is replaced by an older one; and a loss of power
-pub data Event : Type 0 where
-  Fetched : Occasion → Event
-  Between : AccountFiles → Event
-  Expired : List (List ℕ) → Event
-  Withdrawn : List (List ℕ) → Event
-  TakenAway : List ℕ → AccountFiles → Event
-  BroughtBack : List ℕ → AccountFiles → Event
-  Forgotten : AccountFiles → Event
-  PowerLost : AccountFiles → Event
-
 -- the maildrop of an occasion
-abbrev pub maildrop_at : World → State AccountFiles → Occasion → List Message
+abbrev pub maildrop_at : World → State AccountFiles → Occasion AccountFiles → List Message
 maildrop_at world state occasion = maildrop_of world.all occasion.come state.gone
 
 -- it was a session, whatever cut it, and all that its link gained came from an honest server with this maildrop
-pub record IsSession (world : World) (state : State AccountFiles) (occasion : Occasion) : Type 0 where
+pub record IsSession (world : World) (state : State AccountFiles) (occasion : Occasion AccountFiles) : Type 0 where
   pub settings : AreSettings world occasion.settings
   pub session : Session occasion.settings (digits_of occasion.settings) occasion.now occasion.link state.account
       occasion.report occasion.link' occasion.after
@@ -122,15 +108,6 @@ pub record IsForgotten (world : World) (before after : AccountFiles) : Type 0 wh
   pub record_is : (rows : List Row) → KeepsRows before.file.content rows → ShowsNoMore after rows
   pub mail : (id : List ℕ) → is_legal_id id ≡ true → contents_of world after id ≡ contents_of world before id
 
--- it is neither held nor taken away
-abbrev pub IsNeither : World → State AccountFiles → List ℕ → Type 0
-IsNeither world state id = (is_held world.account state.account.maildir id ≡ false) × (has_id state.taken id ≡ false)
-
--- it was held, or was taken away before
-abbrev pub IsFetched : World → State AccountFiles → List ℕ → Type 0
-IsFetched world state id = (is_legal_id id ≡ true)
-    × ((is_held world.account state.account.maildir id ≡ true) ⊎ (has_id state.taken id ≡ true))
-
 -- the record's file stands for a record in which the id is delivered
 abbrev pub IsRecorded : AccountFiles → List ℕ → Type 0
 IsRecorded state id = (rows : List Row) × KeepsRows state.file.content rows × (is_delivered rows id ≡ true)
@@ -140,14 +117,14 @@ IsRecorded state id = (rows : List Row) × KeepsRows state.file.content rows × 
 pub record IsLastStored (world : World) (state : State AccountFiles) (id : List ℕ) : Type 0 where
   pub unrecorded : IsRecorded state.account id → ⊥
   pub on_server : has_id state.gone id ≡ false
-  pub last : AllByRecursion (λ (message : Message). IsNeither world state message.uid)
+  pub last : AllByRecursion (λ (message : Message). IsNeither world.account state.account.maildir state.taken message.uid)
       (messages_after id (selected world.max_size world.all))
 
 -- the record's file stands for rows of which each that is delivered was so before, or is held or was taken away
 abbrev pub ShowsWhatIsLeft : World → State AccountFiles → AccountFiles → List Row → Type 0
 ShowsWhatIsLeft world state after rows = (now : List Row) × KeepsRows after.file.content now
     × ((id : List ℕ) → is_delivered now id ≡ true
-    → (is_delivered rows id ≡ true) ⊎ IsFetched world (record state { account = after }) id)
+    → (is_delivered rows id ≡ true) ⊎ IsHeldOrTaken world.account after.maildir state.taken id)
 
 -- power is lost. For each legal id the files hold what they held; or there is none, and the message was taken away before
 -- and stored again, or is the last that was stored
@@ -156,34 +133,24 @@ pub record IsPowerLost (world : World) (state : State AccountFiles) (after : Acc
   pub mail : (id : List ℕ) → is_legal_id id ≡ true → (contents_of world after id ≡ contents_of world state.account id)
       ⊎ ((contents_of world after id ≡ []) × ((has_id state.taken id ≡ true) ⊎ IsLastStored world state id))
 
-abbrev pub after_event : State AccountFiles → Event → State AccountFiles
-after_event state (Fetched occasion) = record state { account = occasion.after; gone = state.gone ++ occasion.vanished }
-after_event state (Between after) = record state { account = after }
-after_event state (Expired ids) = record state { gone = state.gone ++ ids }
-after_event state (Withdrawn ids) = state
-after_event state (TakenAway id after) = record state { account = after; taken = id ∷ state.taken }
-after_event state (BroughtBack id after) = record state { account = after; taken = filter (λ other. not (bytes_eq other id)) state.taken }
-after_event state (Forgotten after) = record state { account = after }
-after_event state (PowerLost after) = record state { account = after }
+-- what a session leaves
+abbrev pub after_session : State AccountFiles → Occasion AccountFiles → State AccountFiles
+after_session state occasion = record state { account = occasion.after; gone = state.gone ++ occasion.vanished }
 
--- all mail goes on without the messages that are withdrawn
-abbrev pub world_after : World → Event → World
-world_after world (Withdrawn ids) = record world { all = without ids world.all }
-world_after world _ = world
-
-abbrev pub Follows : World → State AccountFiles → Event → Type 0
+-- an event of each kind happens in this state
+abbrev pub Follows : World → State AccountFiles → Event Occasion AccountFiles → Type 0
 Follows world state (Fetched occasion) = IsSession world state occasion
 Follows world state (Between after) = IsBetween world state.account after
-Follows world state (Expired ids) = AllByRecursion (IsFetched world state) ids
-Follows world state (Withdrawn ids) = AllByRecursion (IsNeither world state) ids
+Follows world state (Expired ids) = AllByRecursion (IsHeldOrTaken world.account state.account.maildir state.taken) ids
+Follows world state (Withdrawn ids) = AllByRecursion (IsNeither world.account state.account.maildir state.taken) ids
 Follows world state (TakenAway id after) = IsTakenAway world state.account id after
 Follows world state (BroughtBack id after) = IsBroughtBack world state id after
 Follows world state (Forgotten after) = IsForgotten world state.account after
 Follows world state (PowerLost after) = IsPowerLost world state after
 
-abbrev pub IsRun : World → State AccountFiles → List Event → Type 0
+abbrev pub IsRun : World → State AccountFiles → List (Event Occasion AccountFiles) → Type 0
 IsRun world state [] = Unit {0}
-IsRun world state (event ∷ events) = Follows world state event × IsRun (world_after world event) (after_event state event) events
+IsRun world state (event ∷ events) = Follows world state event × IsRun (world_after world event) (after_event after_session state event) events
 
 -- ---- what is promised
 
@@ -197,44 +164,41 @@ abbrev pub HoldsAPrefix : World → State AccountFiles → Type 0
 HoldsAPrefix world state = HoldsWhatIsLeft world (by_rows [] state)
 
 -- a message is held when a session returns, or was taken away before it began
-abbrev pub IsHeldAfter : World → State AccountFiles → Occasion → List ℕ → Type 0
+abbrev pub IsHeldAfter : World → State AccountFiles → Occasion AccountFiles → List ℕ → Type 0
 IsHeldAfter world state occasion id = (is_held world.account occasion.after.maildir id ≡ true) ⊎ (has_id state.taken id ≡ true)
 
 -- the message could be fetched, but comes after the first `max_count` that could; 0 is no limit
-abbrev pub IsPastCount : World → State AccountFiles → Occasion → Message → Type 0
+abbrev pub IsPastCount : World → State AccountFiles → Occasion AccountFiles → Message → Type 0
 IsPastCount world state occasion message =
     let listing = listing_of (maildrop_at world state occasion) in
     (rows : List Row) × KeepsRows state.account.file.content rows
-    × (has_id (ids_wanted (past_limit occasion.settings.max_count
-    (candidates occasion.settings
-    (merged rows listing (flags_of world.account state.account.maildir listing) occasion.now) listing)))
-    message.uid ≡ true)
+    × (is_past_count occasion.settings (merged rows listing (flags_of world.account state.account.maildir listing) occasion.now)
+    listing message.uid ≡ true)
 
 -- after an uncut session each message of the maildrop is held, or was taken away, or is larger than the
 -- limit, or is past the number that one session fetches
-abbrev pub LeavesOutOnlyBeyondLimits : World → State AccountFiles → Occasion → Type 0
+abbrev pub LeavesOutOnlyBeyondLimits : World → State AccountFiles → Occasion AccountFiles → Type 0
 LeavesOutOnlyBeyondLimits world state occasion = occasion.report.outcome ≡ Ended → AllByRecursion (λ (message : Message).
     IsHeldAfter world state occasion message.uid
     ⊎ (is_selected world.max_size message ≡ false)
     ⊎ IsPastCount world state occasion message)
     (maildrop_at world state occasion)
 
--- a DELE gives the number, counted from 1, of a message of the maildrop that is held when the session
--- returns, or was taken away
-abbrev pub IsForHeld : World → State AccountFiles → Occasion → Command → Type 0
-IsForHeld world state occasion (Dele number) = (0 < number) × (message : Message)
-    × (slice_get (maildrop_at world state occasion) (number - 1) ≡ Some message)
-    × IsHeldAfter world state occasion message.uid
-IsForHeld world state occasion _ = Unit {0}
+-- a DELE gives the number, counted from 1, of a message of the maildrop whose id is of this kind
+abbrev pub IsForSuch : List Message → (List ℕ → Type 0) → Command → Type 0
+IsForSuch maildrop Is (Dele number) = (0 < number) × (message : Message)
+    × (slice_get maildrop (number - 1) ≡ Some message) × Is message.uid
+IsForSuch maildrop Is _ = Unit {0}
 
--- each DELE that was sent, the last perhaps in part, is for such a message
-pub record DeletesOnlyHeld (world : World) (state : State AccountFiles) (occasion : Occasion) : Type 0 where
+-- each DELE that a session sent, the last perhaps in part, is for such a message
+pub record DeletesOnly {Account : Type 0} (occasion : Occasion Account) (maildrop : List Message) (Is : List ℕ → Type 0) : Type 0 where
   pub sent : List ℕ
   pub sent_is : occasion.link'.sent ≡ occasion.link.sent ++ sent
-  pub commands : List Command
-  pub asked : Asked commands sent
-  pub each : AllByRecursion (IsForHeld world state occasion) commands
-  pub next : BeginsOne (IsForHeld world state occasion) asked.part
+  pub sends : SendsOnly (IsForSuch maildrop Is) sent
+
+-- each DELE is for a message that is held when the session returns, or was taken away before it began
+abbrev pub DeletesOnlyHeld : World → State AccountFiles → Occasion AccountFiles → Type 0
+DeletesOnlyHeld world state occasion = DeletesOnly occasion (maildrop_at world state occasion) (IsHeldAfter world state occasion)
 
 -- files of other names stay
 abbrev pub OthersStay : World → State AccountFiles → State AccountFiles → Type 0
@@ -247,24 +211,24 @@ pub record FilesStay (before after : Maildir) : Type 0 where
   pub came : after.files ≡ before.files ++ gained
 
 -- if delivered messages aren't read again, none that is recorded as delivered is stored, and it stays recorded
-abbrev pub StoresOnlyNew : World → State AccountFiles → Occasion → Type 0
+abbrev pub StoresOnlyNew : World → State AccountFiles → Occasion AccountFiles → Type 0
 StoresOnlyNew world state occasion = occasion.settings.read_all ≡ false → (id : List ℕ) → is_legal_id id ≡ true
     → IsRecorded state.account id
     → (contents_of world occasion.after id ≡ contents_of world state.account id) × IsRecorded occasion.after id
 
 -- nothing is promised of what others do
-abbrev pub Promised : World → State AccountFiles → Event → Type 0
+abbrev pub Promised : World → State AccountFiles → Event Occasion AccountFiles → Type 0
 Promised world state (Fetched occasion) =
     LeavesOutOnlyBeyondLimits world state occasion × DeletesOnlyHeld world state occasion
-    × OthersStay world state (after_event state (Fetched occasion))
+    × OthersStay world state (after_session state occasion)
     × FilesStay state.account.maildir occasion.after.maildir × StoresOnlyNew world state occasion
 Promised world state _ = Unit {0}
 
 -- a prefix is held before and after each event, and each event keeps its promises
-abbrev pub Promises : World → State AccountFiles → List Event → Type 0
+abbrev pub Promises : World → State AccountFiles → List (Event Occasion AccountFiles) → Type 0
 Promises world state [] = HoldsAPrefix world state
 Promises world state (event ∷ events) = HoldsAPrefix world state × Promised world state event
-    × Promises (world_after world event) (after_event state event) events
+    × Promises (world_after world event) (after_event after_session state event) events
 
 -- ---- the states in which it can begin and go on
 
@@ -273,41 +237,34 @@ Promises world state (event ∷ events) = HoldsAPrefix world state × Promised w
 abbrev pub IsKept : World → State AccountFiles → Type 0
 IsKept world state = (rows : List Row) × KeepsRows state.account.file.content rows × IsKeptIn world (by_rows rows state)
 
-abbrev pub state_after : State AccountFiles → List Event → State AccountFiles
-state_after state [] = state
-state_after state (event ∷ events) = state_after (after_event state event) events
-
-abbrev pub world_left : World → List Event → World
-world_left world [] = world
-world_left world (event ∷ events) = world_left (world_after world event) events
-
 -- the sentence: from a kept state, over any list of sessions and of what happens between them
 abbrev pub Headline : Type 0
-Headline = (world : World) (start : State AccountFiles) (events : List Event) → IsSound world → IsKept world start
+Headline = (world : World) (start : State AccountFiles) (events : List (Event Occasion AccountFiles)) → IsSound world → IsKept world start
     → IsRun world start events
-    → Promises world start events × IsKept (world_left world events) (state_after start events)
+    → Promises world start events × IsKept (world_left world events) (after_events after_session start events)
 
 -- ---- what is taken away during a session
 
 -- messages and files of other names are taken away
-abbrev pub AreTakings : List Event → Type 0
+abbrev pub AreTakings : List (Event Occasion AccountFiles) → Type 0
 AreTakings [] = Unit {0}
 AreTakings (TakenAway id after ∷ events) = AreTakings events
 AreTakings (Between after ∷ events) = AreTakings events
 AreTakings (_ ∷ events) = ⊥
 
 -- these events take all files away but those that are left
-pub record AreTaken (world : World) (state : State AccountFiles) (left : List File) (events : List Event) : Type 0 where
+pub record AreTaken (world : World) (state : State AccountFiles) (left : List File)
+    (events : List (Event Occasion AccountFiles)) : Type 0 where
   pub each : AreTakings events
   pub run : IsRun world state events
-  pub account : (state_after state events).account ≡ account_files (with_files left state.account.maildir) state.account.file
-  pub gone : (state_after state events).gone ≡ state.gone
+  pub account : (after_events after_session state events).account ≡ account_files (with_files left state.account.maildir) state.account.file
+  pub gone : (after_events after_session state events).gone ≡ state.gone
 
 -- whichever files are taken away in a kept state, there are such events. What is taken away during a session is taken
 -- away before the names are told, and so before the session; or after that, and so after the session, which sees none of it
 abbrev pub TakingsAreEvents : Type 0
 TakingsAreEvents = (world : World) (state : State AccountFiles) (left : List File) → IsSound world → IsKept world state
-    → IsPart state.account.maildir.files left → (events : List Event) × AreTaken world state left events
+    → IsPart state.account.maildir.files left → (events : List (Event Occasion AccountFiles)) × AreTaken world state left events
 
 -- ---- from the first session on
 
@@ -325,12 +282,12 @@ EmptyIsKept = (world : World) (start : State AccountFiles) → IsEmpty world sta
 
 -- so the sentence holds from the first session on
 abbrev pub HeadlineFromEmpty : Type 0
-HeadlineFromEmpty = (world : World) (start : State AccountFiles) (events : List Event) → IsSound world
+HeadlineFromEmpty = (world : World) (start : State AccountFiles) (events : List (Event Occasion AccountFiles)) → IsSound world
     → IsEmpty world start → IsRun world start events → Promises world start events
 
 -- ---- if nothing is taken away or withdrawn
 
-abbrev pub TakesNoneAway : List Event → Type 0
+abbrev pub TakesNoneAway : List (Event Occasion AccountFiles) → Type 0
 TakesNoneAway [] = Unit {0}
 TakesNoneAway (TakenAway id after ∷ events) = ⊥
 TakesNoneAway (Withdrawn ids ∷ events) = ⊥
@@ -340,46 +297,34 @@ TakesNoneAway (_ ∷ events) = TakesNoneAway events
 abbrev pub HoldsExactlyAPrefix : World → State AccountFiles → Type 0
 HoldsExactlyAPrefix world state = HoldsExactly world (holds [] state.account.maildir)
 
--- each DELE is for a message that is held when the session returns
-abbrev pub IsForOneHeld : World → State AccountFiles → Occasion → Command → Type 0
-IsForOneHeld world state occasion (Dele number) = (0 < number) × (message : Message)
-    × (slice_get (maildrop_at world state occasion) (number - 1) ≡ Some message)
-    × (is_held world.account occasion.after.maildir message.uid ≡ true)
-IsForOneHeld world state occasion _ = Unit {0}
-
 -- a session as the sentence has it, word for word
-pub record IsWordForWord (world : World) (state : State AccountFiles) (occasion : Occasion) : Type 0 where
+pub record IsWordForWord (world : World) (state : State AccountFiles) (occasion : Occasion AccountFiles) : Type 0 where
   pub left_out : occasion.report.outcome ≡ Ended → AllByRecursion (λ (message : Message).
       (is_held world.account occasion.after.maildir message.uid ≡ true)
       ⊎ (is_selected world.max_size message ≡ false) ⊎ IsPastCount world state occasion message)
       (maildrop_at world state occasion)
-  pub sent : List ℕ
-  pub sent_is : occasion.link'.sent ≡ occasion.link.sent ++ sent
-  pub commands : List Command
-  pub asked : Asked commands sent
-  pub each : AllByRecursion (IsForOneHeld world state occasion) commands
-  pub next : BeginsOne (IsForOneHeld world state occasion) asked.part
+  pub deletes : DeletesOnly occasion (maildrop_at world state occasion) (λ id. is_held world.account occasion.after.maildir id ≡ true)
 
-abbrev pub SaysTheSentence : World → State AccountFiles → Event → Type 0
+abbrev pub SaysTheSentence : World → State AccountFiles → Event Occasion AccountFiles → Type 0
 SaysTheSentence world state (Fetched occasion) = IsWordForWord world state occasion
 SaysTheSentence world state _ = Unit {0}
 
-abbrev pub SayTheSentence : World → State AccountFiles → List Event → Type 0
+abbrev pub SayTheSentence : World → State AccountFiles → List (Event Occasion AccountFiles) → Type 0
 SayTheSentence world state [] = HoldsExactlyAPrefix world state
 SayTheSentence world state (event ∷ events) = HoldsExactlyAPrefix world state
-    × SaysTheSentence world state event × SayTheSentence world (after_event state event) events
+    × SaysTheSentence world state event × SayTheSentence world (after_event after_session state event) events
 
 -- then the sentence holds word for word
 abbrev pub HeadlineWordForWord : Type 0
-HeadlineWordForWord = (world : World) (start : State AccountFiles) (events : List Event) → IsSound world → IsKept world start
-    → IsRun world start events
+HeadlineWordForWord = (world : World) (start : State AccountFiles) (events : List (Event Occasion AccountFiles)) → IsSound world
+    → IsKept world start → IsRun world start events
     → start.taken ≡ [] → TakesNoneAway events → SayTheSentence world start events
 
 -- ---- what is taken away stays away
 
 -- each of these sessions reads only what is new, no record forgets this message, also where power is lost, and nobody
 -- puts it back
-abbrev pub LeaveAway : List ℕ → List Event → Type 0
+abbrev pub LeaveAway : List ℕ → List (Event Occasion AccountFiles) → Type 0
 LeaveAway id [] = Unit {0}
 LeaveAway id (Fetched occasion ∷ events) = (occasion.settings.read_all ≡ false) × LeaveAway id events
 LeaveAway id (BroughtBack other after ∷ events) = (bytes_eq id other ≡ false) × LeaveAway id events
@@ -389,10 +334,10 @@ LeaveAway id (_ ∷ events) = LeaveAway id events
 
 -- then a message that is recorded as delivered and isn't held is never stored again
 abbrev pub StaysAway : Type 0
-StaysAway = (world : World) (start : State AccountFiles) (events : List Event) (id : List ℕ) → IsSound world
+StaysAway = (world : World) (start : State AccountFiles) (events : List (Event Occasion AccountFiles)) (id : List ℕ) → IsSound world
     → IsKept world start → IsRun world start events
     → LeaveAway id events → is_legal_id id ≡ true → IsRecorded start.account id → contents_of world start.account id ≡ []
-    → contents_of world (state_after start events).account id ≡ []
+    → contents_of world (after_events after_session start events).account id ≡ []
 
 -- ---- a record that is lost
 
@@ -419,13 +364,13 @@ NewProcessesAreBetween = (world : World) (before after : AccountFiles) → HasTh
 
 -- a program was stopped in a session: the files are as that session leaves them if every call is refused from
 -- that moment on, the first of them with or without effect. That is a session that was cut
-pub record IsStopped (world : World) (state : State AccountFiles) (occasion : Occasion) (left : AccountFiles) : Type 0 where
+pub record IsStopped (world : World) (state : State AccountFiles) (occasion : Occasion AccountFiles) (left : AccountFiles) : Type 0 where
   pub session : IsSession world state occasion
   pub cut : occasion.report.outcome ≢ Ended
   pub files : HasTheSameFiles occasion.after left
 
 -- so a stop is a run: the session, and then a new process
 abbrev pub StopsAreRuns : Type 0
-StopsAreRuns = (world : World) (state : State AccountFiles) (occasion : Occasion) (left : AccountFiles)
+StopsAreRuns = (world : World) (state : State AccountFiles) (occasion : Occasion AccountFiles) (left : AccountFiles)
     → IsStopped world state occasion left
     → IsRun world state (Fetched occasion ∷ Between left ∷ [])

@@ -5,29 +5,25 @@
 -- next entry is left, and only what its limits exclude is left out; and DELE was sent only for messages whose
 -- entry is whole. What was recorded as delivered before the first session counts as entered here; what was withdrawn from
 -- the server before it was fetched isn't part of its mail; and after others wrote the file the sentence begins anew.
-use Rattle.std.specs.Prelude.{◌≡◌, ◌≢◌, ◌⊎◌, ◌<◌, ◌-◌, ℕ, true, false, List, [], ◌∷◌, ◌++◌, None, Some, slice_get}
+use Rattle.std.specs.Prelude.{◌≡◌, ◌≢◌, ◌⊎◌, ℕ, true, false, List, [], ◌∷◌, ◌++◌, None}
 use Rattle.std.specs.List.{AllByRecursion}
-use Rattle.pop3_wire.specs.declared.command.Command.{Command}
-use Rattle.pop3_wire.specs.declared.command.Command.TheVariants.{Dele}
-use Rattle.pop3_wire.specs.Honest.{Asked}
-use Rattle.pop3_wire.specs.Link.{Link}
 use Rattle.pop3_wire.specs.World.{Message, IsWorld, maildrop_of}
 use Rattle.mail_terms.specs.UniqueId.{has_id}
 use Rattle.rc_file.specs.Settings.{IsValid}
 use Rattle.rc_file.specs.declared.settings.Settings.{Settings}
 use Rattle.fetch_rules.specs.Record.{RecordState, is_delivered, merged}
-use Rattle.fetch_rules.specs.Wanted.{candidates}
 use Rattle.fetch_session.specs.Record.{Keeps}
 use Rattle.fetch_session.specs.Session.{MboxAccountFiles, MboxSession}
 use Rattle.fetch_session.specs.Target.{mail_in}
 use Rattle.fetch_session.specs.declared.report.Outcome.TheVariants.{Ended}
-use Rattle.fetch_session.specs.declared.report.Report.{Report}
-use Rattle.run_law.specs.Mails.{ids_of, listing_of, is_selected, selected, without}
+use Rattle.run_law.specs.Mails.{ids_of, listing_of, is_selected, selected}
 use Rattle.run_law.specs.Mboxes.{MboxMail, settled, none_held}
 use Rattle.run_law.specs.MboxRuns.{MboxWorld, MboxState, MboxKept as IsKeptIn, MboxHolds, HasEntry, IsUnbegun, AreAllRecorded}
-use Rattle.run_law.specs.Runs.{past_limit}
-use Rattle.run_law.specs.Sessions.{BeginsOne, Served}
-use Rattle.run_law.specs.Steps.{ids_wanted}
+use Rattle.run_law.specs.MboxRuns.{MboxEvent, Fetched, Between, Expired, Withdrawn, Rewritten}
+use Rattle.run_law.specs.MboxRuns.{after_mbox_event, after_mbox_events, mbox_world_after, mbox_world_left}
+use Rattle.run_law.specs.Runs.{is_past_count}
+use Rattle.run_law.specs.Sessions.{Served}
+use Rattle.fetch_runs.specs.Headline.{Occasion, DeletesOnly}
 use Rattle.fetch_runs.specs.MboxSteps.{mbox_holds}
 
 -- What stays throughout, but where others write the file or messages are withdrawn, is an `MboxWorld`: the file before the
@@ -42,34 +38,12 @@ pub record AreSettings (world : MboxWorld) (settings : Settings) : Type 0 where
 
 -- ---- any list of sessions
 
--- one session: its settings, its time, its report, its link before and after it, and what it left; how much
--- mail had come by then, and which ids its QUIT removed from the server
-pub record MboxOccasion : Type 0 where
-  pub settings : Settings
-  pub now : ℕ
-  pub report : Report
-  pub link : Link
-  pub link' : Link
-  pub after : MboxAccountFiles
-  pub come : ℕ
-  pub vanished : List (List ℕ)
-
--- a session; anything else that leaves the record and the mboxrd file's bytes as they are; messages that are gone from the
--- server without a session, after they were recorded as delivered, or before; and others who write the mboxrd file, while
--- these messages are recorded
-pub data MboxEvent : Type 0 where
-  Fetched : MboxOccasion → MboxEvent
-  Between : MboxAccountFiles → MboxEvent
-  Expired : List (List ℕ) → MboxEvent
-  Withdrawn : List (List ℕ) → MboxEvent
-  Rewritten : List Message → MboxAccountFiles → MboxEvent
-
 -- the maildrop of an occasion
-abbrev pub maildrop_at : MboxWorld → MboxState MboxAccountFiles → MboxOccasion → List Message
+abbrev pub maildrop_at : MboxWorld → MboxState MboxAccountFiles → Occasion MboxAccountFiles → List Message
 maildrop_at world state occasion = maildrop_of world.all occasion.come state.gone
 
 -- it was a session, whatever cut it, and all that its link gained came from an honest server with this maildrop
-pub record IsMboxSession (world : MboxWorld) (state : MboxState MboxAccountFiles) (occasion : MboxOccasion) : Type 0 where
+pub record IsMboxSession (world : MboxWorld) (state : MboxState MboxAccountFiles) (occasion : Occasion MboxAccountFiles) : Type 0 where
   pub settings : AreSettings world occasion.settings
   pub session : MboxSession occasion.settings occasion.now occasion.link state.account occasion.report occasion.link' occasion.after
   pub served : (sent got : List ℕ) → occasion.link'.sent ≡ occasion.link.sent ++ sent → occasion.link'.got ≡ occasion.link.got ++ got
@@ -91,45 +65,32 @@ abbrev pub AreUnbegun : MboxState MboxAccountFiles → List (List ℕ) → Type 
 AreUnbegun state ids = (record_state : RecordState) × Keeps state.account.file.content record_state
     × AllByRecursion (IsUnbegun (mbox_holds record_state state.account.mbox)) ids
 
--- the mboxrd file may hold anything now. The record's file still stands for its record, which has no open intent and shows
--- exactly these messages as delivered
-pub record IsRewritten (world : MboxWorld) (before : MboxAccountFiles) (had : List Message) (after : MboxAccountFiles) : Type 0 where
+-- the mboxrd file holds these bytes now, which may be any. The record's file still stands for its record, which has no open
+-- intent and shows exactly these messages as delivered
+pub record IsRewritten (world : MboxWorld) (before : MboxAccountFiles) (had : List Message) (file : List ℕ)
+    (after : MboxAccountFiles) : Type 0 where
+  pub file_is : mail_in after.mbox.content ≡ file
   pub record_state : RecordState
   pub stood_for : Keeps before.file.content record_state
   pub stands_for : Keeps after.file.content record_state
   pub recorded : AreAllRecorded world (mbox_holds record_state before.mbox) had
 
-abbrev pub after_event : MboxState MboxAccountFiles → MboxEvent → MboxState MboxAccountFiles
-after_event state (Fetched occasion) = record { account = occasion.after; gone = state.gone ++ occasion.vanished }
-after_event state (Between after) = record state { account = after }
-after_event state (Expired ids) = record state { gone = state.gone ++ ids }
-after_event state (Withdrawn ids) = state
-after_event state (Rewritten had after) = record state { account = after }
+-- what a session leaves
+abbrev pub after_session : MboxState MboxAccountFiles → Occasion MboxAccountFiles → MboxState MboxAccountFiles
+after_session state occasion = record { account = occasion.after; gone = state.gone ++ occasion.vanished }
 
--- all mail goes on without the messages that are withdrawn; what others write is what the file begins with
-abbrev pub world_after : MboxWorld → MboxEvent → MboxWorld
-world_after world (Withdrawn ids) = record world { all = without ids world.all }
-world_after world (Rewritten had after) = record world { start = mail_in after.mbox.content; had = had }
-world_after world _ = world
-
-abbrev pub Follows : MboxWorld → MboxState MboxAccountFiles → MboxEvent → Type 0
+-- an event of each kind happens in this state
+abbrev pub Follows : MboxWorld → MboxState MboxAccountFiles → MboxEvent Occasion MboxAccountFiles → Type 0
 Follows world state (Fetched occasion) = IsMboxSession world state occasion
 Follows world state (Between after) = IsMboxBetween state.account after
 Follows world state (Expired ids) = AreRecorded state.account ids
 Follows world state (Withdrawn ids) = AreUnbegun state ids
-Follows world state (Rewritten had after) = IsRewritten world state.account had after
+Follows world state (Rewritten had file after) = IsRewritten world state.account had file after
 
-abbrev pub IsMboxRun : MboxWorld → MboxState MboxAccountFiles → List MboxEvent → Type 0
+abbrev pub IsMboxRun : MboxWorld → MboxState MboxAccountFiles → List (MboxEvent Occasion MboxAccountFiles) → Type 0
 IsMboxRun world state [] = Unit {0}
-IsMboxRun world state (event ∷ events) = Follows world state event × IsMboxRun (world_after world event) (after_event state event) events
-
-abbrev pub state_after : MboxState MboxAccountFiles → List MboxEvent → MboxState MboxAccountFiles
-state_after state [] = state
-state_after state (event ∷ events) = state_after (after_event state event) events
-
-abbrev pub world_left : MboxWorld → List MboxEvent → MboxWorld
-world_left world [] = world
-world_left world (event ∷ events) = world_left (world_after world event) events
+IsMboxRun world state (event ∷ events) = Follows world state event
+    × IsMboxRun (mbox_world_after world event) (after_mbox_event after_session state event) events
 
 -- ---- what is promised
 
@@ -149,18 +110,17 @@ abbrev pub IsEntered : MboxWorld → MboxAccountFiles → List ℕ → Type 0
 IsEntered world state id = (has_id (ids_of world.had) id ≡ true) ⊎ HasEntry world (mail_in state.mbox.content) id
 
 -- the message could be fetched, but comes after the first `max_count` that could; 0 is no limit
-abbrev pub IsPastCount : MboxWorld → MboxState MboxAccountFiles → MboxOccasion → Message → Type 0
+abbrev pub IsPastCount : MboxWorld → MboxState MboxAccountFiles → Occasion MboxAccountFiles → Message → Type 0
 IsPastCount world state occasion message =
     let listing = listing_of (maildrop_at world state occasion) in
     (record_state : RecordState) × Keeps state.account.file.content record_state
-    × (has_id (ids_wanted (past_limit occasion.settings.max_count
-    (candidates occasion.settings
-    (merged (settled listing (mbox_holds record_state state.account.mbox)).rows listing (none_held listing) occasion.now) listing)))
+    × (is_past_count occasion.settings
+    (merged (settled listing (mbox_holds record_state state.account.mbox)).rows listing (none_held listing) occasion.now) listing
     message.uid ≡ true)
 
 -- after an uncut session no intent is open and nothing of a next entry is left, and each message of the maildrop
 -- has its entry, or is larger than the limit, or is past the number that one session fetches
-pub record EndsWhole (world : MboxWorld) (state : MboxState MboxAccountFiles) (occasion : MboxOccasion) : Type 0 where
+pub record EndsWhole (world : MboxWorld) (state : MboxState MboxAccountFiles) (occasion : Occasion MboxAccountFiles) : Type 0 where
   pub record_state : RecordState
   pub stands_for : Keeps occasion.after.file.content record_state
   pub closed : record_state.intent ≡ None
@@ -171,34 +131,22 @@ pub record EndsWhole (world : MboxWorld) (state : MboxState MboxAccountFiles) (o
       ⊎ IsPastCount world state occasion message)
       (maildrop_at world state occasion)
 
--- a DELE gives the number, counted from 1, of a message of the maildrop whose whole entry is in the file when the
--- session returns, or that was recorded before the first session
-abbrev pub IsForEntered : MboxWorld → MboxState MboxAccountFiles → MboxOccasion → Command → Type 0
-IsForEntered world state occasion (Dele number) = (0 < number) × (message : Message)
-    × (slice_get (maildrop_at world state occasion) (number - 1) ≡ Some message)
-    × IsEntered world occasion.after message.uid
-IsForEntered world state occasion _ = Unit {0}
-
--- each DELE that was sent, the last perhaps in part, is for such a message
-pub record DeletesOnlyEntered (world : MboxWorld) (state : MboxState MboxAccountFiles) (occasion : MboxOccasion) : Type 0 where
-  pub sent : List ℕ
-  pub sent_is : occasion.link'.sent ≡ occasion.link.sent ++ sent
-  pub commands : List Command
-  pub asked : Asked commands sent
-  pub each : AllByRecursion (IsForEntered world state occasion) commands
-  pub next : BeginsOne (IsForEntered world state occasion) asked.part
+-- each DELE is for a message whose whole entry is in the file when the session returns, or that was recorded before the
+-- first session
+abbrev pub DeletesOnlyEntered : MboxWorld → MboxState MboxAccountFiles → Occasion MboxAccountFiles → Type 0
+DeletesOnlyEntered world state occasion = DeletesOnly occasion (maildrop_at world state occasion) (IsEntered world occasion.after)
 
 -- nothing is promised of what others do
-abbrev pub MboxPromised : MboxWorld → MboxState MboxAccountFiles → MboxEvent → Type 0
+abbrev pub MboxPromised : MboxWorld → MboxState MboxAccountFiles → MboxEvent Occasion MboxAccountFiles → Type 0
 MboxPromised world state (Fetched occasion) =
     (occasion.report.outcome ≡ Ended → EndsWhole world state occasion) × DeletesOnlyEntered world state occasion
 MboxPromised world state _ = Unit {0}
 
 -- the file holds these entries before and after each event, and each event keeps its promises
-abbrev pub MboxPromises : MboxWorld → MboxState MboxAccountFiles → List MboxEvent → Type 0
+abbrev pub MboxPromises : MboxWorld → MboxState MboxAccountFiles → List (MboxEvent Occasion MboxAccountFiles) → Type 0
 MboxPromises world state [] = HoldsEntries world state
 MboxPromises world state (event ∷ events) = HoldsEntries world state × MboxPromised world state event
-    × MboxPromises (world_after world event) (after_event state event) events
+    × MboxPromises (mbox_world_after world event) (after_mbox_event after_session state event) events
 
 -- ---- the states in which it can begin and go on
 
@@ -208,9 +156,9 @@ IsMboxKept world state = (record_state : RecordState) × Keeps state.account.fil
 
 -- the second sentence: from a kept state, over any list of sessions and of what happens between them
 abbrev pub MboxHeadline : Type 0
-MboxHeadline = (world : MboxWorld) (start : MboxState MboxAccountFiles) (events : List MboxEvent) → IsWorld world.all
-    → IsMboxKept world start → IsMboxRun world start events
-    → MboxPromises world start events × IsMboxKept (world_left world events) (state_after start events)
+MboxHeadline = (world : MboxWorld) (start : MboxState MboxAccountFiles) (events : List (MboxEvent Occasion MboxAccountFiles))
+    → IsWorld world.all → IsMboxKept world start → IsMboxRun world start events
+    → MboxPromises world start events × IsMboxKept (mbox_world_left world events) (after_mbox_events after_session start events)
 
 -- the record has no open intent, and what it shows as delivered is exactly a prefix of the selected messages, as it
 -- is with an empty record; only messages of this prefix may be gone. The mboxrd file may hold anything
@@ -230,8 +178,8 @@ MboxStartIsKept = (world : MboxWorld) (start : MboxState MboxAccountFiles) → I
 
 -- so the sentence holds from the first session on
 abbrev pub MboxHeadlineFromStart : Type 0
-MboxHeadlineFromStart = (world : MboxWorld) (start : MboxState MboxAccountFiles) (events : List MboxEvent) → IsWorld world.all
-    → IsMboxStart world start → IsMboxRun world start events
+MboxHeadlineFromStart = (world : MboxWorld) (start : MboxState MboxAccountFiles) (events : List (MboxEvent Occasion MboxAccountFiles))
+    → IsWorld world.all → IsMboxStart world start → IsMboxRun world start events
     → MboxPromises world start events
 
 -- ---- what others write
@@ -247,7 +195,7 @@ pub record AreOthers (before after : MboxAccountFiles) : Type 0 where
 abbrev pub WritingsAreEvents : Type 0
 WritingsAreEvents = (world : MboxWorld) (state : MboxState MboxAccountFiles) (after : MboxAccountFiles) → IsMboxKept world state
     → AreOthers state.account after
-    → (had : List Message) × IsRewritten world state.account had after
+    → (had : List Message) × IsRewritten world state.account had (mail_in after.mbox.content) after
 
 -- ---- a program that starts anew, and one that is stopped
 
@@ -258,7 +206,7 @@ pub record HasTheSameBytes (before after : MboxAccountFiles) : Type 0 where
 
 -- a program was stopped in a session: the files are as that session leaves them if every call is refused from
 -- that moment on, the first of them with or without effect. That is a session that was cut
-pub record IsMboxStopped (world : MboxWorld) (state : MboxState MboxAccountFiles) (occasion : MboxOccasion)
+pub record IsMboxStopped (world : MboxWorld) (state : MboxState MboxAccountFiles) (occasion : Occasion MboxAccountFiles)
     (left : MboxAccountFiles) : Type 0 where
   pub session : IsMboxSession world state occasion
   pub cut : occasion.report.outcome ≢ Ended
@@ -266,6 +214,6 @@ pub record IsMboxStopped (world : MboxWorld) (state : MboxState MboxAccountFiles
 
 -- so a stop is a run: the session, and then a new process
 abbrev pub MboxStopsAreRuns : Type 0
-MboxStopsAreRuns = (world : MboxWorld) (state : MboxState MboxAccountFiles) (occasion : MboxOccasion) (left : MboxAccountFiles)
+MboxStopsAreRuns = (world : MboxWorld) (state : MboxState MboxAccountFiles) (occasion : Occasion MboxAccountFiles) (left : MboxAccountFiles)
     → IsMboxStopped world state occasion left
     → IsMboxRun world state (Fetched occasion ∷ Between left ∷ [])

@@ -5,10 +5,10 @@ use Rattle.rc_file.specs.declared.settings.Settings.{Settings}
 use Rattle.fetch_session.specs.declared.report.Report.{Report}
 use Rattle.fetch_session.specs.Session.{MboxAccountFiles, MboxSession}
 use Rattle.run_law.specs.Sessions.{Fact}
-use Rattle.run_law.specs.MboxRuns.{MboxState, MboxWorld}
+use Rattle.run_law.specs.MboxRuns.{MboxState, MboxWorld, Fetched}
 use Rattle.fetch_runs.specs.declared.run.Visit.{Visit}
-use Rattle.fetch_runs.specs.MboxHeadline.{MboxOccasion, Fetched, after_event, HoldsEntries, MboxPromised, IsMboxKept}
-use Rattle.fetch_runs.specs.Runs.{RunsBy}
+use Rattle.fetch_runs.specs.MboxHeadline.{after_session, HoldsEntries, MboxPromised, IsMboxKept}
+use Rattle.fetch_runs.specs.Runs.{RunsBy, occasion_of}
 
 -- the visit was one session at its time
 abbrev pub WasMadeInMbox : {W : Type 0} → (W → Link) → Settings → Visit W → MboxAccountFiles → Report → Visit W → MboxAccountFiles → Type 0
@@ -25,19 +25,6 @@ MboxRuns seen settings olds first reports news last = RunsBy (WasMadeInMbox seen
 abbrev pub mbox_state : MboxAccountFiles → List (List ℕ) → MboxState MboxAccountFiles
 mbox_state account gone = record { account = account; gone = gone }
 
--- a visit as an occasion of the headline
-abbrev pub mbox_occasion : {W : Type 0} → (W → Link) → Settings → Visit W → Report → Visit W → Fact → MboxAccountFiles → MboxOccasion
-mbox_occasion seen settings old report new fact after = record {
-  settings = settings;
-  now = old.now;
-  report = report;
-  link = seen old.wire;
-  link' = seen new.wire;
-  after = after;
-  come = fact.come;
-  vanished = fact.vanished;
-}
-
 -- the mboxrd file is as the headline says before and after each visit, each visit keeps its promises, and the
 -- last state is kept
 abbrev pub AreMboxPromised : {W : Type 0} → (W → Link) → Settings → MboxWorld → MboxState MboxAccountFiles → List (Visit W)
@@ -45,8 +32,8 @@ abbrev pub AreMboxPromised : {W : Type 0} → (W → Link) → Settings → Mbox
 AreMboxPromised seen settings world state [] [] [] [] last = HoldsEntries world state × IsMboxKept world state × (state.account ≡ last)
 AreMboxPromised seen settings world state (old ∷ olds) (report ∷ reports) (new ∷ news) (fact ∷ facts) last =
     (between : MboxAccountFiles) × MboxSession settings old.now (seen old.wire) state.account report (seen new.wire) between
-    × HoldsEntries world state × MboxPromised world state (Fetched (mbox_occasion seen settings old report new fact between))
+    × HoldsEntries world state × MboxPromised world state (Fetched (occasion_of seen settings old report new fact between))
     × AreMboxPromised seen settings world
-    (after_event state (Fetched (mbox_occasion seen settings old report new fact between)))
+    (after_session state (occasion_of seen settings old report new fact between))
     olds reports news facts last
 AreMboxPromised seen settings world state olds reports news facts last = ⊥

@@ -16,8 +16,8 @@ use Rattle.mail_store.specs.Power.{AllStay}
 use Rattle.mail_terms.specs.UniqueId.{has_id, is_legal_id}
 use Rattle.run_law.specs.Accounts.{copies}
 use Rattle.run_law.specs.Sessions.{Served}
-use Rattle.fetch_runs.specs.Headline.{Occasion, Fetched, AreSettings, IsSession, IsKept, IsLastStored}
-use Rattle.fetch_runs.specs.Headline.{IsPowerLost, after_event, maildrop_at}
+use Rattle.fetch_runs.specs.Headline.{Occasion, AreSettings, IsSession, IsKept, IsLastStored}
+use Rattle.fetch_runs.specs.Headline.{IsPowerLost, after_session, maildrop_at}
 use Rattle.run_law.specs.Runs.{State, IsSound, World}
 
 -- a file of the message stays
@@ -67,7 +67,7 @@ AllMayBeOnDisk {D} {F} disk files = (device : D) (f : F) (world : World) (state 
 -- a session of a run, as `session` says it of its devices: no flush of the record's file was refused before it, its Maildir's device had
 -- seen at most one file of each message, and if there is no record's file after it, a loss of power leaves none
 pub record IsSessionOf {D F : Type 0} (disk : DiskGhosts D) (files : FileGhosts F) (world : World) (state : State AccountFiles)
-    (occasion : Occasion) (was : D) (from : F) (device : D) (f : F) : Type 0 where
+    (occasion : Occasion AccountFiles) (was : D) (from : F) (device : D) (f : F) : Type 0 where
   pub settings : AreSettings world occasion.settings
   pub sure : files.is_sure from
   pub session : SessionIn occasion.settings (AsFiles (digits_of occasion.settings)) occasion.now
@@ -83,8 +83,8 @@ pub record IsSessionOf {D F : Type 0} (disk : DiskGhosts D) (files : FileGhosts 
 
 -- a law: if each loss of power was an event before such a session, it is one after it, so it is one after any list of them
 abbrev pub SessionsAndPower : {D F : Type 0} → DiskGhosts D → FileGhosts F → Type 0
-SessionsAndPower {D} {F} disk files = (world : World) (state : State AccountFiles) (occasion : Occasion) (was : D) (from : F)
+SessionsAndPower {D} {F} disk files = (world : World) (state : State AccountFiles) (occasion : Occasion AccountFiles) (was : D) (from : F)
     (device : D) (f : F)
     → IsSound world → IsKept world state → IsSessionOf disk files world state occasion was from device f
     → CanLosePower disk files was from world state
-    → IsSession world state occasion × CanLosePower disk files device f world (after_event state (Fetched occasion))
+    → IsSession world state occasion × CanLosePower disk files device f world (after_session state occasion)

@@ -10,14 +10,15 @@ use Rattle.mail_store.specs.Loss.{MayLeave}
 use Rattle.mail_store.specs.Maildir.{File, IsPart}
 use Rattle.mail_store.specs.Power.{AllStay, KeepsMail, LeavesNoMore}
 use Rattle.mail_terms.specs.UniqueId.{is_legal_id}
-use Rattle.fetch_runs.specs.Headline.{Event, Fetched, Expired, PowerLost, AreTaken, AreTakings, Follows, IsKept, IsLastStored}
-use Rattle.fetch_runs.specs.Headline.{IsRun, Promises, after_event, state_after, world_after, world_left}
+use Rattle.fetch_runs.specs.Headline.{Occasion, AreTaken, AreTakings, Follows, IsKept, IsLastStored}
+use Rattle.fetch_runs.specs.Headline.{IsRun, Promises, after_session}
 use Rattle.fetch_runs.specs.Power.{CanLosePower, IsSessionOf, IsSureOrTaken}
-use Rattle.run_law.specs.Runs.{State, IsSound, World}
+use Rattle.run_law.specs.Runs.{State, IsSound, World, Event, Fetched, Expired, PowerLost}
+use Rattle.run_law.specs.Runs.{after_event, after_events, world_after, world_left}
 
 -- an event, and the devices that hold what it leaves
 pub record EventOn (D F : Type 0) : Type 0 where
-  pub event : Event
+  pub event : Event Occasion AccountFiles
   pub device : D
   pub file : F
 
@@ -25,16 +26,14 @@ pub record EventOn (D F : Type 0) : Type 0 where
 
 -- each message of which a file stayed, or which was taken away, has a file that stays now, or was taken away; and nothing may be left of
 -- the record's file but what it holds and what could have been left before
-pub record KeepsSure {D F : Type 0} (disk : DiskGhosts D) (files : FileGhosts F) (world : World) (was : D) (from : F)
-    (before : State AccountFiles)
-    (device : D) (f : F) (after : State AccountFiles) : Type 0 where
+pub record KeepsSure {D F : Type 0} (disk : DiskGhosts D) (files : FileGhosts F) (world : World)
+    (was : D) (from : F) (before : State AccountFiles) (device : D) (f : F) (after : State AccountFiles) : Type 0 where
   pub mail : (id : List ℕ) → is_legal_id id ≡ true → IsSureOrTaken disk was world before id → IsSureOrTaken disk device world after id
   pub record_is : (left : Option (List ℕ)) → files.may_leave f left → (left ≡ after.account.file.content) ⊎ files.may_leave from left
 
 -- a loss of power left this state, the record's file can be read, and all of it is on the disk by what the new devices say
-pub record IsLeftBy {D F : Type 0} (disk : DiskGhosts D) (files : FileGhosts F) (was : D) (from : F) (before : AccountFiles) (device : D)
-    (f : F)
-    (after : AccountFiles) : Type 0 where
+pub record IsLeftBy {D F : Type 0} (disk : DiskGhosts D) (files : FileGhosts F)
+    (was : D) (from : F) (before : AccountFiles) (device : D) (f : F) (after : AccountFiles) : Type 0 where
   pub mail : MayLeave disk was before.maildir.files after.maildir.files
   pub record_is : files.may_leave from after.file.content
   pub readable : (rows : List Row) × KeepsRows after.file.content rows
@@ -42,33 +41,35 @@ pub record IsLeftBy {D F : Type 0} (disk : DiskGhosts D) (files : FileGhosts F) 
   pub same : (left : Option (List ℕ)) → files.may_leave f left → left ≡ after.file.content
 
 -- what holds of an event besides: a message that expires isn't the last that was stored, or a file of it stays
-abbrev pub LosesNone : {D : Type 0} → DiskGhosts D → D → World → State AccountFiles → Event → Type 0
+abbrev pub LosesNone : {D : Type 0} → DiskGhosts D → D → World → State AccountFiles → Event Occasion AccountFiles → Type 0
 LosesNone disk was world state (Expired ids) =
     AllByRecursion (λ id. IsLastStored world state id → IsSureOrTaken disk was world state id) ids
 LosesNone disk was world state event = Unit {0}
 
 -- the event happens, and the devices after it hold what it leaves
-abbrev pub FollowsOn : {D F : Type 0} → DiskGhosts D → FileGhosts F → World → State AccountFiles → D → F → Event → D → F → Type 0
+abbrev pub FollowsOn : {D F : Type 0} → DiskGhosts D → FileGhosts F → World → State AccountFiles → D → F
+    → Event Occasion AccountFiles → D → F → Type 0
 FollowsOn disk files world state was from (Fetched occasion) device f = IsSessionOf disk files world state occasion was from device f
 FollowsOn disk files world state was from (PowerLost after) device f = IsLeftBy disk files was from state.account device f after
 FollowsOn disk files world state was from event device f = Follows world state event × LosesNone disk was world state event
-    × KeepsSure disk files world was from state device f (after_event state event)
+    × KeepsSure disk files world was from state device f (after_event after_session state event)
 
 -- a law: then it is an event of a run, and each loss of power after it is one, if each before it was
 abbrev pub EventsKeepPower : {D F : Type 0} → DiskGhosts D → FileGhosts F → Type 0
-EventsKeepPower {D} {F} disk files = (world : World) (state : State AccountFiles) (was : D) (from : F) (event : Event) (device : D) (f : F)
+EventsKeepPower {D} {F} disk files = (world : World) (state : State AccountFiles) (was : D) (from : F)
+    (event : Event Occasion AccountFiles) (device : D) (f : F)
     → IsSound world → IsKept world state → CanLosePower disk files was from world state
     → FollowsOn disk files world state was from event device f
-    → Follows world state event × CanLosePower disk files device f (world_after world event) (after_event state event)
+    → Follows world state event × CanLosePower disk files device f (world_after world event) (after_event after_session state event)
 
 -- ---- a run
 
 abbrev pub IsRunOn : {D F : Type 0} → DiskGhosts D → FileGhosts F → World → State AccountFiles → D → F → List (EventOn D F) → Type 0
 IsRunOn disk files world state was from [] = Unit {0}
 IsRunOn disk files world state was from (on ∷ ons) = FollowsOn disk files world state was from on.event on.device on.file
-    × IsRunOn disk files (world_after world on.event) (after_event state on.event) on.device on.file ons
+    × IsRunOn disk files (world_after world on.event) (after_event after_session state on.event) on.device on.file ons
 
-abbrev pub events_of : {D F : Type 0} → List (EventOn D F) → List Event
+abbrev pub events_of : {D F : Type 0} → List (EventOn D F) → List (Event Occasion AccountFiles)
 events_of {D} {F} ons = map (λ (on : EventOn D F). on.event) ons
 
 -- before and after each event whatever a loss of power may leave is an event
@@ -76,14 +77,15 @@ abbrev pub CanAlwaysLosePower : {D F : Type 0} → DiskGhosts D → FileGhosts F
     → Type 0
 CanAlwaysLosePower disk files world state was from [] = CanLosePower disk files was from world state
 CanAlwaysLosePower disk files world state was from (on ∷ ons) = CanLosePower disk files was from world state
-    × CanAlwaysLosePower disk files (world_after world on.event) (after_event state on.event) on.device on.file ons
+    × CanAlwaysLosePower disk files (world_after world on.event) (after_event after_session state on.event) on.device on.file ons
 
 -- a law, the sentence over devices: of any list of sessions, losses of power and other events all is promised that the headline says
 abbrev pub HeadlineOn : {D F : Type 0} → DiskGhosts D → FileGhosts F → Type 0
 HeadlineOn {D} {F} disk files = (world : World) (start : State AccountFiles) (was : D) (from : F) (ons : List (EventOn D F))
     → IsSound world → IsKept world start → CanLosePower disk files was from world start → IsRunOn disk files world start was from ons
     → IsRun world start (events_of ons) × Promises world start (events_of ons)
-    × IsKept (world_left world (events_of ons)) (state_after start (events_of ons)) × CanAlwaysLosePower disk files world start was from ons
+    × IsKept (world_left world (events_of ons)) (after_events after_session start (events_of ons))
+    × CanAlwaysLosePower disk files world start was from ons
 
 -- ---- devices made anew, and readers that take files away
 
@@ -94,10 +96,12 @@ pub record LeavesAsMuch {D F : Type 0} (disk : DiskGhosts D) (files : FileGhosts
 
 -- a law: such devices keep it, whatever files readers take away, if the others stay as they are
 abbrev pub AsMuchIsSure : {D F : Type 0} → DiskGhosts D → FileGhosts F → Type 0
-AsMuchIsSure {D} {F} disk files = (world : World) (state : State AccountFiles) (was : D) (from : F) (event : Event) (device : D) (f : F)
+AsMuchIsSure {D} {F} disk files = (world : World) (state : State AccountFiles) (was : D) (from : F)
+    (event : Event Occasion AccountFiles) (device : D) (f : F)
     → IsSound world → IsKept world state → AreTakings (event ∷ []) → Follows world state event
-    → IsPart state.account.maildir.files (after_event state event).account.maildir.files → LeavesAsMuch disk files was from device f
-    → KeepsSure disk files world was from state device f (after_event state event)
+    → IsPart state.account.maildir.files (after_event after_session state event).account.maildir.files
+    → LeavesAsMuch disk files was from device f
+    → KeepsSure disk files world was from state device f (after_event after_session state event)
 
 -- a law: whichever files readers take away from a kept state, also during a session, such events lead over the same devices to the state
 -- without them

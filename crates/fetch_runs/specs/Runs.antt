@@ -10,8 +10,8 @@ use Rattle.fetch_session.specs.Session.{AccountFiles, Session, account_files}
 use Rattle.mail_store.specs.Maildir.{AfterTaking, File, Maildir}
 use Rattle.run_law.specs.Sessions.{Fact, Served}
 use Rattle.fetch_runs.specs.declared.run.Visit.{Visit}
-use Rattle.fetch_runs.specs.Headline.{Event, Occasion, Fetched, AreTaken, after_event, state_after, HoldsAPrefix, Promised, IsKept}
-use Rattle.run_law.specs.Runs.{State, World}
+use Rattle.fetch_runs.specs.Headline.{Occasion, AreTaken, after_session, HoldsAPrefix, Promised, IsKept}
+use Rattle.run_law.specs.Runs.{State, World, Event, Fetched, after_events}
 
 -- the links of these visits do what is promised of links
 abbrev pub AreSound : {W : Type 0} → (W → Type 0) → List (Visit W) → Type 0
@@ -52,7 +52,7 @@ abbrev pub state_of : AccountFiles → List (List ℕ) → List (List ℕ) → S
 state_of account gone taken = record { account = account; gone = gone; taken = taken }
 
 -- a visit as an occasion of the headline
-abbrev pub occasion_of : {W : Type 0} → (W → Link) → Settings → Visit W → Report → Visit W → Fact → AccountFiles → Occasion
+abbrev pub occasion_of : {W K : Type 0} → (W → Link) → Settings → Visit W → Report → Visit W → Fact → K → Occasion K
 occasion_of seen settings old report new fact after = record {
   settings = settings;
   now = old.now;
@@ -78,14 +78,14 @@ AreServed seen all gone olds news facts = ⊥
 pub record IsPromised {W : Type 0} (seen : W → Link) (settings : Settings) (world : World) (state : State AccountFiles) (old : Visit W)
     (report : Report) (new : Visit W) (fact : Fact) : Type 0 where
   pub left : List File
-  pub takings : List Event
+  pub takings : List (Event Occasion AccountFiles)
   pub taken : AreTaken world state left takings
   pub between : AccountFiles
-  pub session : Session settings (digits_of settings) old.now (seen old.wire) (state_after state takings).account report
+  pub session : Session settings (digits_of settings) old.now (seen old.wire) (after_events after_session state takings).account report
       (seen new.wire) between
   pub before : HoldsAPrefix world state
-  pub holds : HoldsAPrefix world (state_after state takings)
-  pub promised : Promised world (state_after state takings) (Fetched (occasion_of seen settings old report new fact between))
+  pub holds : HoldsAPrefix world (after_events after_session state takings)
+  pub promised : Promised world (after_events after_session state takings) (Fetched (occasion_of seen settings old report new fact between))
 
 -- each visit is promised, from what the one before left, and a prefix is held in the last state, which is kept
 abbrev pub ArePromised : {W : Type 0} → (W → Link) → Settings → World → State AccountFiles → List (Visit W) → List Report
@@ -94,6 +94,6 @@ ArePromised seen settings world state [] [] [] [] last = HoldsAPrefix world stat
 ArePromised seen settings world state (old ∷ olds) (report ∷ reports) (new ∷ news) (fact ∷ facts) last =
     (is : IsPromised seen settings world state old report new fact)
     × ArePromised seen settings world
-    (after_event (state_after state is.takings) (Fetched (occasion_of seen settings old report new fact is.between)))
+    (after_session (after_events after_session state is.takings) (occasion_of seen settings old report new fact is.between))
     olds reports news facts last
 ArePromised seen settings world state olds reports news facts last = ⊥

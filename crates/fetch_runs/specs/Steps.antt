@@ -68,7 +68,8 @@ pub record IsStep (settings : Settings) (account : List ℕ) (now : ℕ) (link :
   pub keeps : KeepsRows after.file.content rows'
   pub stepped : Stepped settings account (holds rows before.maildir) sent got effect (holds rows' after.maildir)
   pub left : (Leaves (holds rows before.maildir) effect (holds rows' after.maildir) × (report.retrieved ≡ 0))
-      ⊎ IsCounted settings account (holds rows before.maildir) effect (holds rows' after.maildir) report stepped.commands stepped.asked.part
+      ⊎ IsCounted settings account (holds rows before.maildir) effect (holds rows' after.maildir) report stepped.sends.commands
+      stepped.sends.asked.part
 
 -- a law: if the record's file stood for these rows, a session is a step
 abbrev pub SessionIsAStep : Type 0

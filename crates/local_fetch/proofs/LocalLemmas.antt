@@ -1,5 +1,5 @@
 -- A session sends only commands that a server answers honestly.
-use Rattle.std.proofs.Common.{◌≡◌, inl, inr, ◌⊎◌, ℕ, suc, Option, Some, List, [], ◌∷◌, ◌++◌, Bool, true, false, refl, sym, ap, subst, ◌∙◌, ◌<◌, arith}
+use Rattle.std.proofs.Common.{◌≡◌, inl, inr, ◌⊎◌, ℕ, suc, Option, Some, List, [], ◌∷◌, ◌++◌, Bool, true, refl, sym, ap, subst, ◌∙◌, ◌<◌, arith}
 use Rattle.std.specs.String.{string_bytes}
 use Rattle.std.specs.List.{flat_map, AllByRecursion}
 use Rattle.pop3_wire.specs.declared.command.Command.{Command}
@@ -41,10 +41,7 @@ all_front P (x ∷ xs) ys all = (all.0, all_front P xs ys all.1)
 
 asked_steps : (retrieve delete : Bool) (number : ℕ) (commands : List Command) → AllByRecursion IsOfSession commands
     → AllByRecursion IsOfSession ((asked_if retrieve (Retr number) ++ asked_if delete (Dele number)) ++ commands)
-asked_steps true true number commands later = (tt, (tt, later))
-asked_steps true false number commands later = (tt, later)
-asked_steps false true number commands later = (tt, later)
-asked_steps false false number commands later = later
+asked_steps retrieve delete number commands later = grind (arith, later)
 
 of_steps : (steps : List Step) → AllByRecursion IsOfSession (flat_map step_commands steps)
 of_steps [] = tt

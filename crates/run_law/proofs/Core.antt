@@ -36,6 +36,25 @@ members (m ∷ ms) = (
   all_map (λ (x : Message). has_id (ids_of ms) x.uid ≡ true) (λ (x : Message). has_id (ids_of (m ∷ ms)) x.uid ≡ true) (λ x h. or_right _ _ h) ms (members ms),
 )
 
+abbrev pub IsLegal : Message → Type 0
+IsLegal m = is_legal_id m.uid ≡ true
+
+-- the first of the selected messages have distinct and legal ids, and all the texts of these
+module _ (limit : ℕ) (all : List Message) (mail : IsWorld all) (done rest : List Message) (prefix : selected limit all ≡ done ++ rest) where
+  pub done_distinct : Distinct (ids_of done)
+  done_distinct = subst (λ (l : List Message). Distinct (ids_of l)) (front_is done rest prefix)
+      (distinct_take (length done) (selected limit all) (distinct_filter (is_selected limit) all (distinct_is all mail.distinct)))
+
+  pub done_legal : AllByRecursion IsLegal done
+  done_legal = all_front IsLegal done rest (subst (AllByRecursion IsLegal) prefix
+      (all_filter IsLegal (is_selected limit) all (all_map IsMessage IsLegal (λ m h. h.legal) all mail.messages)))
+
+  pub done_texts : (id : List ℕ) → HasTextsOf done all id
+  done_texts id = through done (selected limit all) all id
+      (subst (λ (l : List Message). HasTextsOf l (selected limit all) id) (front_is done rest prefix)
+      (whole_take (length done) (selected limit all) id (distinct_filter (is_selected limit) all (distinct_is all mail.distinct))))
+      (whole_filter (is_selected limit) all id (distinct_is all mail.distinct))
+
 -- all mail, what is gone and how much has come; the settings, and the merged record; which of the selected
 -- messages are done, and which aren't
 pub record Scene : Type 0 where
@@ -70,9 +89,6 @@ added s n = filter (λ (m : Message). not (is_done s m.uid)) (take n (fetched s)
 
 abbrev pub is_done_after : Scene → ℕ → List ℕ → Bool
 is_done_after s n id = has_id (ids_of (s.done ++ added s n)) id
-
-abbrev pub IsLegal : Message → Type 0
-IsLegal m = is_legal_id m.uid ≡ true
 
 module _ (s : Scene) (is : IsScene s) where
   abbrev come : List Message
@@ -206,7 +222,7 @@ module _ (s : Scene) (is : IsScene s) where
 
   pub legal_after : (n : ℕ) (id : List ℕ) → is_done_after s n id ≡ true → is_legal_id id ≡ true
   legal_after n id e = all_at (λ x. is_legal_id x ≡ true) (s.done ++ added s n) id
-      (all_front IsLegal (s.done ++ added s n) (added_begins n).0 (subst (AllByRecursion IsLegal) (prefix_after n) (all_filter IsLegal (is_selected s.settings.max_size) s.all legal_all))) e
+      (done_legal s.settings.max_size s.all is.mail (s.done ++ added s n) (added_begins n).0 (prefix_after n)) e
 
   -- ---- texts
 
@@ -227,10 +243,7 @@ module _ (s : Scene) (is : IsScene s) where
 
   -- and so are those of an id that is done
   pub texts_done : (id : List ℕ) → HasTextsOf s.done s.all id
-  texts_done id = through s.done (selected s.settings.max_size s.all) s.all id
-      (subst (λ (l : List Message). HasTextsOf l (selected s.settings.max_size s.all) id) (front_is s.done s.rest is.prefix)
-      (whole_take (length s.done) (selected s.settings.max_size s.all) id (distinct_filter fit s.all distinct_all)))
-      (whole_filter fit s.all id distinct_all)
+  texts_done = done_texts s.settings.max_size s.all is.mail s.done s.rest is.prefix
 
   -- ---- what an uncut session leaves out
 

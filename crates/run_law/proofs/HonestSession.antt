@@ -39,7 +39,7 @@ honest_session laws settings account before sent got effect after drop marks hon
   | inl left ↦ inl left
   | inr (stores, reads) ↦
       let served : Served drop sent got [] = record { marks = marks; honest = honest; quits = inl refl; marked = tt } in
-      let is = session_honest laws sent got effect drop [] session.commands session.asked session.begun served (wanted_at settings account before effect) reads in
+      let is = session_honest laws sent got effect drop [] session.sends.commands session.sends.asked session.sends.each served (wanted_at settings account before effect) reads in
       let first = wanted_first settings (merged_rows account before effect) effect.listing in
       inr (record {
         listing = is.listing;

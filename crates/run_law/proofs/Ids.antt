@@ -111,7 +111,7 @@ no_texts [] id e = refl
 no_texts (m ∷ ms) id e = let parts = or_parts (bytes_eq id m.uid) (has_id (ids_of ms) id) e in grind (arith, parts.0, no_texts ms id parts.1)
 
 -- an id that an earlier message has isn't among these
-other_id : (m : Message) (ms : List Message) (id : List ℕ) → has_id (ids_of ms) m.uid ≡ false → bytes_eq id m.uid ≡ true → has_id (ids_of ms) id ≡ false
+pub other_id : (m : Message) (ms : List Message) (id : List ℕ) → has_id (ids_of ms) m.uid ≡ false → bytes_eq id m.uid ≡ true → has_id (ids_of ms) id ≡ false
 other_id m ms id none same = ap (has_id (ids_of ms)) (bytes_same id m.uid same) ∙ none
 
 pub lone : (ms : List Message) (id : List ℕ) → Distinct (ids_of ms) → length (texts_of ms id) ≤ 1

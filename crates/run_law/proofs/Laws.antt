@@ -1,5 +1,5 @@
 -- The law over runs, by induction over the events.
-use Rattle.std.proofs.Common.{◌≡◌, ◌≤◌, ◌⊎◌, inl, inr, ℕ, List, [], ◌∷◌, ◌++◌, true, length, take, sym, ◌∙◌, ap, subst, arith, length-append}
+use Rattle.std.proofs.Common.{◌≡◌, ◌⊎◌, inl, inr, ℕ, List, [], ◌∷◌, ◌++◌, true, length, take, sym, ◌∙◌, ap, subst, arith, length-append}
 use Rattle.std.specs.List.{AllByRecursion}
 use Rattle.std.proofs.lemmas.Bool.{both_ways}
 use Rattle.std.proofs.lemmas.List.{append-nil}
@@ -10,48 +10,41 @@ use Rattle.mail_store.specs.FileName.{is_held, stem_of}
 use Rattle.run_law.specs.Mails.{ids_of, selected, texts_of}
 use Rattle.run_law.specs.Accounts.{AccountMail, files, copies, count_files}
 use Rattle.run_law.specs.Steps.{Effect, Leaves}
-use Rattle.run_law.specs.Runs.{World, IsSound, State, Visit, Event, Visited, Between, Expired, Withdrawn, TakenAway, BroughtBack, Forgotten, PowerLost, Visits, Run, HoldsOf, Kept, LeavesMail, after_event, world_after, Promises, KeptStaysKept, KeptHoldsWhatIsLeft, NothingTakenHoldsExactly}
+use Rattle.run_law.specs.Runs.{World, IsSound, State, Visit, Event, Fetched, Between, Expired, Withdrawn, TakenAway, BroughtBack, Forgotten, PowerLost, Visits, Run, HoldsOf, Kept, LeavesMail, after_event, after_visit, world_after, Promises, KeptStaysKept, KeptHoldsWhatIsLeft, NothingTakenHoldsExactly}
 use Rattle.run_law.proofs.Below.{Below}
 use Rattle.run_law.proofs.Lists.{front_is}
 use Rattle.run_law.proofs.Holds.{held_is_done, one_file}
 use Rattle.run_law.proofs.Ids.{none_vanish}
-use Rattle.run_law.proofs.Others.{between_kept, expired_kept, withdrawn_kept, taken_kept, brought_kept, forgotten_kept, world_stays, done_distinct}
+use Rattle.run_law.proofs.Core.{done_distinct}
+use Rattle.run_law.proofs.Others.{between_kept, expired_kept, withdrawn_kept, taken_kept, brought_kept, forgotten_kept, world_stays}
 use Rattle.run_law.proofs.Files.{held_done}
 use Rattle.run_law.proofs.Power.{power_kept}
 use Rattle.run_law.proofs.VisitKept.{visit_kept, deletes_held, keeps_others, leaves_out, stores_only_new}
 
 -- ---- an account whose files and rows stay
 
-same_files : (before : AccountMail) (effect : Effect) (after : AccountMail) → Leaves before effect after → files after ≡ files before
-same_files before effect after h = h.same
-
 left_leaves : (account : List ℕ) (before : AccountMail) (effect : Effect) (after : AccountMail) → Leaves before effect after → LeavesMail account before after
-left_leaves account before effect after h = record { rows = h.rows; same = λ id l. ap (λ f. copies f (stem_of account id)) (same_files before effect after h) }
+left_leaves account before effect after h = record { rows = h.rows; same = λ id l. ap (λ f. copies f (stem_of account id)) h.same }
 
-left_kept : (world : World) (before : State AccountMail) (v : Visit) → Kept world before → Leaves before.account v.effect v.after
-    → AllByRecursion (λ id. has_id v.effect.begun id ≡ true) v.vanished → Kept world (after_event before (Visited v))
+left_kept : (world : World) (before : State AccountMail) (v : Visit AccountMail) → Kept world before → Leaves before.account v.effect v.after
+    → AllByRecursion (λ id. has_id v.effect.begun id ≡ true) v.vanished → Kept world (after_visit before v)
 left_kept world before v kept h vanished =
     subst (λ (gone : List (List ℕ)). Kept world (record { account = v.after; gone = gone; taken = before.taken }))
     (sym (append-nil before.gone) ∙ ap (λ l. before.gone ++ l) (sym (none_vanish v.vanished v.effect.begun h.begun vanished)))
     (between_kept world before v.after kept (left_leaves world.account before.account v.effect v.after h))
 
-left_promises : (world : World) (before : State AccountMail) (v : Visit) → Leaves before.account v.effect v.after → Promises world before (Visited v)
+left_promises : (world : World) (before : State AccountMail) (v : Visit AccountMail) → Leaves before.account v.effect v.after → Promises world before (Fetched v)
 left_promises world before v h = (
   (λ ended. absurd (both_ways v.effect.ended h.ended ended)),
   subst (AllByRecursion (λ id. (is_held world.account v.after.maildir id ≡ true) ⊎ (has_id before.taken id ≡ true))) (sym h.begun) tt,
-  (λ name content other. ap (λ fs. count_files fs name content) (same_files before.account v.effect v.after h)),
+  (λ name content other. ap (λ fs. count_files fs name content) h.same),
   λ only_new id l recorded. ((left_leaves world.account before.account v.effect v.after h).same id l, ap (λ r. is_delivered r id) h.rows ∙ recorded),
 )
 
--- ---- each id has one copy at most
-
-one_copy : (world : World) (state : State AccountMail) → IsSound world → (kept : Kept world state) → (id : List ℕ) → is_legal_id id ≡ true → length (copies (files state.account) (stem_of world.account id)) ≤ 1
-one_copy world state is kept id l = one_file world state kept.done id (done_distinct world is kept.done kept.rest kept.prefix) (kept.holds id l)
-
 -- ---- one event
 
-visited : Below → (world : World) (before : State AccountMail) (v : Visit) → IsSound world → Kept world before → Visits world before v
-    → Kept world (after_event before (Visited v)) × Promises world before (Visited v)
+visited : Below → (world : World) (before : State AccountMail) (v : Visit AccountMail) → IsSound world → Kept world before → Visits world before v
+    → Kept world (after_visit before v) × Promises world before (Fetched v)
 visited laws world before v is kept h = elim h.step [
   | inl left ↦ (left_kept world before v kept left h.vanished, left_promises world before v left)
   | inr (stores, honest) ↦ (
@@ -65,9 +58,9 @@ visited laws world before v is kept h = elim h.step [
   )
 ]
 
-happened : Below → (world : World) (before : State AccountMail) (event : Event) → IsSound world → Kept world before → Run world before (event ∷ [])
-    → Kept (world_after world event) (after_event before event) × Promises world before event
-happened laws world before (Visited v) is kept h = visited laws world before v is kept h.0
+happened : Below → (world : World) (before : State AccountMail) (event : Event Visit AccountMail) → IsSound world → Kept world before → Run world before (event ∷ [])
+    → Kept (world_after world event) (after_event after_visit before event) × Promises world before event
+happened laws world before (Fetched v) is kept h = visited laws world before v is kept h.0
 happened laws world before (Between after) is kept h = (between_kept world before after kept h.0, tt)
 happened laws world before (Expired ids) is kept h = (expired_kept world before ids kept h.0, tt)
 happened laws world before (Withdrawn ids) is kept h = (withdrawn_kept world is before ids kept h.0, tt)
@@ -80,7 +73,7 @@ pub kept_states : Below → KeptStaysKept
 kept_states laws world start [] is kept run = (kept, tt)
 kept_states laws world start (event ∷ events) is kept run =
     let one = happened laws world start event is kept (run.0, tt) in
-    let more = kept_states laws (world_after world event) (after_event start event) events (world_stays world is event) one.0 run.1 in
+    let more = kept_states laws (world_after world event) (after_event after_visit start event) events (world_stays world is event) one.0 run.1 in
     (more.0, (one.1, one.0, more.1))
 
 -- ---- the headline's words
@@ -91,7 +84,7 @@ holds_what_is_left world state is kept = record {
   below = let e = ap length kept.prefix in omega (arith, e, length-append kept.done kept.rest);
   contents = λ id l. subst (λ (ms : List Message). HoldsOf world state ms id) (sym (front_is kept.done kept.rest kept.prefix)) (kept.holds id l);
   ids = λ id l h. ap (λ (ms : List Message). has_id (ids_of ms) id) (front_is kept.done kept.rest kept.prefix) ∙ held_is_done world state kept.done id (kept.holds id l) h;
-  once = λ id l. one_copy world state is kept id l;
+  once = λ id l. one_file world state kept.done id (done_distinct world.max_size world.all is.mail kept.done kept.rest kept.prefix) (kept.holds id l);
 }
 
 pub holds_exactly : NothingTakenHoldsExactly

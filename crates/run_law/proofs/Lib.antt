@@ -13,7 +13,6 @@ mod Lists
 mod MboxHonestSession
 mod MboxKept
 mod MboxOthers
-mod Next
 mod Others
 mod Power
 mod PowerCuts

@@ -11,9 +11,9 @@ use Rattle.pop3_wire.specs.Honest.{Asked, Grants, Replies, no_marks, OneListOfCo
 use Rattle.mail_terms.specs.Listing.{Item}
 use Rattle.mail_terms.specs.UniqueId.{has_id}
 use Rattle.run_law.specs.Mails.{item_of, listing_of}
-use Rattle.run_law.specs.Steps.{Effect, Leaves, Stores, IsHonest, AreTexts, wanted_at}
+use Rattle.run_law.specs.Steps.{Effect, Leaves, IsHonest, AreTexts, wanted_at}
 use Rattle.run_law.specs.Readings.{AreGranted, IsNumbered, HonestIsGranted, ListingIsMaildrop, MarksAreAsked, TextsAreMessages}
-use Rattle.run_law.specs.Mboxes.{mbox_wanted, MboxLeaves, MboxStores}
+use Rattle.run_law.specs.Mboxes.{mbox_wanted}
 use Rattle.run_law.specs.MboxSessions.{MboxLinksAreVisits}
 use Rattle.run_law.proofs.Lists.{all_map}
 use Rattle.run_law.specs.Sessions.{IsBegun, Reads, IsMarked, Served, LinksAreVisits}
@@ -128,17 +128,13 @@ module _ (laws : Readings) (sent got : List ℕ) (effect : Effect) (drop : List 
   one_visit wanted leaves none (inr (stores, reads)) = let honest = session_honest wanted reads in (inr (stores, honest), vanished_begun (inr honest.listing))
 
 pub visits : Readings → LinksAreVisits
-visits laws world before link l = record { same = l.same; step = visit.0; vanished = visit.1 }
-  where
-    visit : Honestly (Leaves before.account l.effect link.after) (Stores link.settings world.account before.account l.effect link.after) (wanted_at link.settings world.account before.account l.effect)
-        (maildrop_of world.all link.come before.gone) l.effect link.vanished
-    visit = one_visit laws link.sent link.got l.effect (maildrop_of world.all link.come before.gone) link.vanished l.session.commands l.session.asked l.session.begun l.served
-        (wanted_at link.settings world.account before.account l.effect) (λ left. left) (λ left. left.begun) l.session.step
+visits laws world before link l =
+    let visit = one_visit laws link.sent link.got l.effect (maildrop_of world.all link.come before.gone) link.vanished l.session.sends.commands l.session.sends.asked l.session.sends.each l.served
+    (wanted_at link.settings world.account before.account l.effect) (λ (left : Leaves before.account l.effect link.after). left) (λ left. left.begun) l.session.step in
+    record { same = l.same; step = visit.0; vanished = visit.1 }
 
 pub mbox_visits : Readings → MboxLinksAreVisits
-mbox_visits laws world before link l = record { same = l.same; only_new = l.only_new; step = visit.0; vanished = visit.1 }
-  where
-    visit : Honestly (MboxLeaves before.account l.effect link.after) (MboxStores link.settings before.account l.effect link.after) (mbox_wanted link.settings before.account l.effect)
-        (maildrop_of world.all link.come before.gone) l.effect link.vanished
-    visit = one_visit laws link.sent link.got l.effect (maildrop_of world.all link.come before.gone) link.vanished l.session.commands l.session.asked l.session.begun l.served
-        (mbox_wanted link.settings before.account l.effect) (λ left. left.0) (λ left. left.0.begun) l.session.step
+mbox_visits laws world before link l =
+    let visit = one_visit laws link.sent link.got l.effect (maildrop_of world.all link.come before.gone) link.vanished l.session.sends.commands l.session.sends.asked l.session.sends.each l.served
+    (mbox_wanted link.settings before.account l.effect) (λ left. left.0) (λ left. left.0.begun) l.session.step in
+    record { same = l.same; only_new = l.only_new; step = visit.0; vanished = visit.1 }

@@ -126,7 +126,7 @@ listed_lines one lists IsRow command drop marks reply first body lines good whol
     same = (lists l.lines lines [] [] l.content content (ap (λ b. b ++ []) (sym l.whole ∙ behind ∙ ap body_bytes is))).0
 
 -- STAT's count
-rest_same : (line rest other : List ℕ) → IsFirstLine line Positive rest → IsFirstLine line Positive other → rest ≡ other
+pub rest_same : (line rest other : List ℕ) → IsFirstLine line Positive rest → IsFirstLine line Positive other → rest ≡ other
 rest_same line rest other p q = p.2 ∙ ap without_space (append_cancel_left (indicator Positive) p.0 q.0 (sym p.1 ∙ q.1)) ∙ sym q.2
 
 count_same : OneLine → (drop : List Message) (marks next : List Bool) (stat : WholeReply) (count : ℕ) → IsGood Stat stat → Grants drop marks Stat (reply_bytes stat) next → GivesCount stat count

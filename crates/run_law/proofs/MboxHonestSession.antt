@@ -1,18 +1,19 @@
 -- What one session with an mboxrd appends if its server is honest.
-use Rattle.std.proofs.Common.{◌≡◌, ◌⊎◌, inl, inr, ◌-◌, ℕ, zero, suc, List, [], ◌∷◌, ◌++◌, map, take, refl, sym, ◌∙◌, ap, append_assoc, Some, slice_get}
+use Rattle.std.proofs.Common.{◌≡◌, inl, inr, ◌-◌, ℕ, zero, suc, List, [], ◌∷◌, ◌++◌, map, take, refl, sym, ◌∙◌, ap, Some, slice_get}
 use Rattle.std.specs.List.{AllByRecursion}
-use Rattle.std.proofs.lemmas.List.{append-nil, take-map}
+use Rattle.std.proofs.lemmas.List.{take-map}
 use Rattle.std.proofs.lemmas.Option.{same_Some}
 use Rattle.pop3_wire.specs.World.{Message}
 use Rattle.mail_terms.specs.Listing.{Item}
 use Rattle.rc_file.specs.declared.settings.Settings.{Settings}
 use Rattle.mail_store.specs.Mboxrd.{entry_of}
-use Rattle.run_law.specs.Mboxes.{MboxMail, MboxStores, IsBroken, IsClosed, entries, mbox_wanted, settled}
+use Rattle.run_law.specs.Mboxes.{MboxMail, MboxStores, entries, mbox_wanted, settled}
 use Rattle.run_law.specs.MboxHonestSession.{IsIn, AppendsMessages, MboxHonestSession}
 use Rattle.run_law.specs.Sessions.{Served}
 use Rattle.run_law.specs.Steps.{AreTexts, Effect, IsHonest}
 use Rattle.run_law.proofs.Lists.{all_take}
 use Rattle.run_law.proofs.Linked.{Readings, session_honest}
+use Rattle.run_law.proofs.Safety.{tail_of}
 
 -- texts of a maildrop's messages, and these messages
 messages_of : (drop : List Message) (wanted : List (ℕ × Item)) (texts : List (List ℕ)) → AreTexts drop wanted texts
@@ -36,24 +37,10 @@ text_at drop (w ∷ wanted) (t ∷ texts) (suc n) text are e = text_at drop want
 
 module _ (drop : List Message) (settings : Settings) (before : MboxMail) (effect : Effect) (after : MboxMail) (s : MboxStores settings before effect after)
     (honest : IsHonest (mbox_wanted settings before effect) drop effect) where
-  -- what comes after the whole entries
-  abbrev Tail : Type 0
-  Tail = (rest : List ℕ) × (after.file ≡ (settled effect.listing before).file ++ (entries (take s.stored effect.texts) ++ rest))
-      × ((rest ≡ []) ⊎ ((next : Message) × (behind : List ℕ) × IsIn drop next × (entry_of next.text ≡ rest ++ behind)))
-
-  tail_of : IsClosed ((settled effect.listing before).file ++ entries (take s.stored effect.texts)) after ⊎ IsBroken settings before effect s.stored after → Tail
-  tail_of (inl closed) = ([], closed.file ∙ ap (λ l. (settled effect.listing before).file ++ l) (sym (append-nil (entries (take s.stored effect.texts)))), inl refl)
-  tail_of (inr broken) =
-      let at = text_at drop (mbox_wanted settings before effect) effect.texts s.stored broken.text honest.texts broken.got in (
-        broken.opened.front,
-        broken.opened.file ∙ append_assoc (settled effect.listing before).file (entries (take s.stored effect.texts)) broken.opened.front,
-        inr (at.0, broken.opened.behind, at.1, sym (ap entry_of at.2) ∙ broken.opened.entry),
-      )
-
   appends : AppendsMessages drop before effect after
   appends =
       let found = messages_of drop (mbox_wanted settings before effect) effect.texts honest.texts in
-      let tail = tail_of s.ending in
+      let tail = tail_of settings before effect after s in
       let stored = ap (λ l. entries (take s.stored l)) (sym found.2) ∙ ap entries (take-map (λ (m : Message). m.text) s.stored found.0) in
       record {
         listing = honest.listing;
@@ -61,7 +48,12 @@ module _ (drop : List Message) (settings : Settings) (before : MboxMail) (effect
         each = all_take (IsIn drop) s.stored found.0 found.1;
         rest = tail.0;
         file = tail.1 ∙ ap (λ l. (settled effect.listing before).file ++ (l ++ tail.0)) stored;
-        at_most = tail.2;
+        at_most = elim tail.2 [
+          | inl none ↦ inl none
+          | inr (broken, entry) ↦
+              let at = text_at drop (mbox_wanted settings before effect) effect.texts s.stored broken.text honest.texts broken.got in
+              inr (at.0, broken.opened.behind, at.1, sym (ap entry_of at.2) ∙ entry)
+        ];
       }
 
 pub mbox_honest_session : Readings → MboxHonestSession
@@ -70,5 +62,5 @@ mbox_honest_session laws settings before sent got effect after drop marks honest
   | inr (stores, reads) ↦
       let served : Served drop sent got [] = record { marks = marks; honest = honest; quits = inl refl; marked = tt } in
       inr (appends drop settings before effect after stores
-      (session_honest laws sent got effect drop [] session.commands session.asked session.begun served (mbox_wanted settings before effect) reads))
+      (session_honest laws sent got effect drop [] session.sends.commands session.sends.asked session.sends.each served (mbox_wanted settings before effect) reads))
 ]

@@ -18,9 +18,9 @@ use Rattle.mail_store.specs.Mboxrd.{entry_of, MboxFile, EntryAddsText}
 use Rattle.mail_store.specs.Settling.{listed_size, stands_whole, settled_file, FrontsAreSettled}
 use Rattle.run_law.specs.Mails.{ids_of, is_selected, selected}
 use Rattle.run_law.specs.Steps.{IsHonest, AreTexts, ids_wanted}
-use Rattle.run_law.specs.Runs.{past_limit}
+use Rattle.run_law.specs.Runs.{Visit, past_limit}
 use Rattle.run_law.specs.Mboxes.{MboxMail, is_stored, closed_file, settled, mbox_rows, mbox_wanted, none_held, entries, intent_of, IsClosed, IsOpen, IsBroken, MboxLeaves, MboxStores}
-use Rattle.run_law.specs.MboxRuns.{MboxState, MboxVisit, MboxWorld, MboxVisits, MboxKept, MboxEnds, MboxPromises, HasEntry, IsNextOpen, after_visit, mbox_shown, entries_of, MboxEvent, MboxVisited, MboxExpired, MboxWithdrawn, MboxRewritten, MboxHappens, MboxPromised, after_mbox_event, mbox_world_after, MboxKeptStaysKept, MboxKeptHolds}
+use Rattle.run_law.specs.MboxRuns.{MboxState, MboxWorld, MboxVisits, MboxKept, MboxEnds, MboxPromises, HasEntry, IsNextOpen, after_visit, mbox_shown, entries_of, MboxEvent, Fetched, Between, Expired, Withdrawn, Rewritten, MboxHappens, MboxPromised, after_mbox_event, mbox_world_after, MboxKeptStaysKept, MboxKeptHolds}
 use Rattle.run_law.proofs.Core as core
 use Rattle.run_law.proofs.Core.{Scene, IsScene, fetched}
 use Rattle.run_law.proofs.Lists.{all_map, all_front, all_back, all_mapped, all_take, all_filter}
@@ -112,7 +112,7 @@ reopened fronts bytes uid text listing before after whole-text o i f = elim (fro
     cut : after.file ≡ settled_file (length bytes) (length (entry_of text)) (listed_size listing uid) (bytes ++ o.front)
     cut = f ∙ (settled_is bytes uid text listing before o).1
 
-left_kept : FrontsAreSettled → (world : MboxWorld) (before : MboxState MboxMail) (v : MboxVisit) → IsWorld world.all → MboxKept world before → MboxLeaves before.account v.effect v.after
+left_kept : FrontsAreSettled → (world : MboxWorld) (before : MboxState MboxMail) (v : Visit MboxMail) → IsWorld world.all → MboxKept world before → MboxLeaves before.account v.effect v.after
     → AllByRecursion (λ id. has_id v.effect.begun id ≡ true) v.vanished → MboxKept world (after_visit before v)
 left_kept fronts world before v sound kept h vanished = record {
   done = kept.done;
@@ -200,7 +200,7 @@ at_place drop' (q ∷ qs) (x ∷ texts) (suc n) message text h t w g =
 
 -- ---- one session that stored something
 
-module _ (fronts : FrontsAreSettled) (laws : RowLaws) (filtered : DistinctAreFiltered) (world : MboxWorld) (sound : IsWorld world.all) (before : MboxState MboxMail) (v : MboxVisit) (kept : MboxKept world before)
+module _ (fronts : FrontsAreSettled) (laws : RowLaws) (filtered : DistinctAreFiltered) (world : MboxWorld) (sound : IsWorld world.all) (before : MboxState MboxMail) (v : Visit MboxMail) (kept : MboxKept world before)
     (same : v.settings.max_size ≡ world.max_size) (only_new : v.settings.read_all ≡ false) (s : MboxStores v.settings before.account v.effect v.after)
     (honest : IsHonest (mbox_wanted v.settings before.account v.effect) (mbox_shown world before v) v.effect) where
   abbrev rows : List Row
@@ -349,7 +349,7 @@ module _ (fronts : FrontsAreSettled) (laws : RowLaws) (filtered : DistinctAreFil
 
 -- ---- one session
 
-visited : FrontsAreSettled → RowLaws → DistinctAreFiltered → (world : MboxWorld) (before : MboxState MboxMail) (v : MboxVisit) → IsWorld world.all → MboxKept world before → MboxVisits world before v
+visited : FrontsAreSettled → RowLaws → DistinctAreFiltered → (world : MboxWorld) (before : MboxState MboxMail) (v : Visit MboxMail) → IsWorld world.all → MboxKept world before → MboxVisits world before v
     → MboxKept world (after_visit before v) × MboxPromises world before v
 visited fronts laws filtered world before v sound kept h = elim h.step [
   | inl left ↦ (
@@ -366,31 +366,34 @@ visited fronts laws filtered world before v sound kept h = elim h.step [
       )
 ]
 
-happened : FrontsAreSettled → RowLaws → DistinctAreFiltered → (world : MboxWorld) (before : MboxState MboxMail) (event : MboxEvent) → IsWorld world.all → MboxKept world before → MboxHappens world before event
-    → MboxKept (mbox_world_after world event) (after_mbox_event before event) × MboxPromised world before event
-happened fronts laws filtered world before (MboxVisited v) sound kept h = visited fronts laws filtered world before v sound kept h
-happened fronts laws filtered world before (MboxExpired ids) sound kept h = (expired_kept world before ids kept h, tt)
-happened fronts laws filtered world before (MboxWithdrawn ids) sound kept h = (withdrawn_kept world before ids kept h, tt)
-happened fronts laws filtered world before (MboxRewritten had file) sound kept h = (rewritten_kept world before had file kept h, tt)
+happened : FrontsAreSettled → RowLaws → DistinctAreFiltered → (world : MboxWorld) (before : MboxState MboxMail) (event : MboxEvent Visit MboxMail) → IsWorld world.all → MboxKept world before → MboxHappens world before event
+    → MboxKept (mbox_world_after world event) (after_mbox_event after_visit before event) × MboxPromised world before event
+happened fronts laws filtered world before (Fetched v) sound kept h = visited fronts laws filtered world before v sound kept h
+happened fronts laws filtered world before (Between after) sound kept h = (subst (λ (k : MboxMail). MboxKept world (record before { account = k })) (sym h) kept, tt)
+happened fronts laws filtered world before (Expired ids) sound kept h = (expired_kept world before ids kept h, tt)
+happened fronts laws filtered world before (Withdrawn ids) sound kept h = (withdrawn_kept world before ids kept h, tt)
+happened fronts laws filtered world before (Rewritten had file after) sound kept h = (
+  subst (λ (k : MboxMail). MboxKept (record world { start = file; had = had }) (record before { account = k })) (sym h.1) (rewritten_kept world before had file kept h.0),
+  tt,
+)
 
 pub mbox_kept_states : FrontsAreSettled → RowLaws → DistinctAreFiltered → MboxKeptStaysKept
 mbox_kept_states fronts laws filtered world start [] sound kept run = (kept, tt)
 mbox_kept_states fronts laws filtered world start (event ∷ events) sound kept run =
     let one = happened fronts laws filtered world start event sound kept run.0 in
-    let more = mbox_kept_states fronts laws filtered (mbox_world_after world event) (after_mbox_event start event) events (mbox_world_stays world sound event) one.0 run.1 in
+    let more = mbox_kept_states fronts laws filtered (mbox_world_after world event) (after_mbox_event after_visit start event) events (mbox_world_stays world sound event) one.0 run.1 in
     (more.0, (one.1, one.0, more.1))
 
 -- ---- what a kept state holds
 
-texts_stand : EntryAddsText → (file : List ℕ) (first : List (List ℕ)) (ms : List Message) → AllByRecursion (λ (m : Message). IsWhole m.text) ms → MboxFile file first
-    → MboxFile (file ++ entries_of ms) (first ++ map (λ (m : Message). m.text) ms)
-texts_stand adds file first [] h stands = simp append-nil stands
-texts_stand adds file first (m ∷ ms) h stands =
-    let more = texts_stand adds (file ++ entry_of m.text) (first ++ m.text ∷ []) ms h.1 (adds file m.text first stands h.0) in
-    subst (MboxFile (file ++ (entry_of m.text ++ entries_of ms))) (append_assoc first (m.text ∷ []) (map (λ (x : Message). x.text) ms))
-    (subst (λ f. MboxFile f ((first ++ m.text ∷ []) ++ map (λ (x : Message). x.text) ms)) (append_assoc file (entry_of m.text) (entries_of ms)) more)
+pub texts_stand : EntryAddsText → (file : List ℕ) (first texts : List (List ℕ)) → AllByRecursion IsWhole texts → MboxFile file first → MboxFile (file ++ entries texts) (first ++ texts)
+texts_stand adds file first [] whole stands = simp append-nil stands
+texts_stand adds file first (text ∷ texts) whole stands =
+    let more = texts_stand adds (file ++ entry_of text) (first ++ text ∷ []) texts whole.1 (adds file text first stands whole.0) in
+    subst (MboxFile (file ++ (entry_of text ++ entries texts))) (append_assoc first (text ∷ []) texts)
+    (subst (λ f. MboxFile f ((first ++ text ∷ []) ++ texts)) (append_assoc file (entry_of text) (entries texts)) more)
 
-at_length : {X : Type 0} (xs : List X) (y : X) (ys : List X) → slice_get (xs ++ y ∷ ys) (length xs) ≡ Some y
+pub at_length : {X : Type 0} (xs : List X) (y : X) (ys : List X) → slice_get (xs ++ y ∷ ys) (length xs) ≡ Some y
 at_length [] y ys = refl
 at_length (x ∷ xs) y ys = at_length xs y ys
 
@@ -424,5 +427,5 @@ mbox_holds adds world state sound kept =
           subst (λ (ms : List Message). MboxFile state.account.file (first ++ map (λ (m : Message). m.text) ms)) (sym front)
           (subst (λ f. MboxFile f (first ++ map (λ (m : Message). m.text) kept.done))
           (sym (tail.1 ∙ ap (λ l. (world.start ++ entries_of kept.done) ++ l) none ∙ append-nil (world.start ++ entries_of kept.done)))
-          (texts_stand adds world.start first kept.done whole_done stands));
+          (texts_stand adds world.start first (map (λ (m : Message). m.text) kept.done) (all_mapped IsWhole (λ (m : Message). m.text) kept.done whole_done) stands));
     }

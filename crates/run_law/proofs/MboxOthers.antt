@@ -9,20 +9,20 @@ use Rattle.mail_terms.specs.UniqueId.{has_id}
 use Rattle.pop3_wire.specs.World.{Message, IsWorld}
 use Rattle.fetch_rules.specs.Record.{is_delivered}
 use Rattle.run_law.specs.Mails.{ids_of, is_selected, without}
-use Rattle.run_law.specs.MboxRuns.{MboxState, MboxWorld, MboxKept, MboxEvent, MboxExpired, MboxWithdrawn, MboxRewritten, MboxStartsKept, SomeAreRecorded, AreAllRecorded, IsUnbegun, IsNextOpen, after_mbox_event, entries_of, mbox_world_after}
+use Rattle.run_law.specs.MboxRuns.{MboxState, MboxWorld, MboxKept, MboxEvent, Withdrawn, MboxStartsKept, SomeAreRecorded, AreAllRecorded, IsUnbegun, IsNextOpen, entries_of, mbox_world_after}
 use Rattle.run_law.proofs.Core.{members}
 use Rattle.run_law.proofs.Ids.{all_ids_at, bytes_self}
 use Rattle.run_law.proofs.Lists.{all_append, all_map, filter-swap, filter_all}
 use Rattle.run_law.proofs.Others.{worlds_shrink}
 use Rattle.run_law.specs.Mboxes.{MboxMail}
+use Rattle.run_law.specs.Runs.{Visit}
 
-pub mbox_world_stays : (world : MboxWorld) → IsWorld world.all → (event : MboxEvent) → IsWorld (mbox_world_after world event).all
-mbox_world_stays world sound (MboxWithdrawn ids) = worlds_shrink world.all ids sound
-mbox_world_stays world sound (MboxRewritten had file) = sound
+pub mbox_world_stays : (world : MboxWorld) → IsWorld world.all → (event : MboxEvent Visit MboxMail) → IsWorld (mbox_world_after world event).all
+mbox_world_stays world sound (Withdrawn ids) = worlds_shrink world.all ids sound
 mbox_world_stays world sound event = sound
 
 pub expired_kept : (world : MboxWorld) (before : MboxState MboxMail) (ids : List (List ℕ)) → MboxKept world before → AllByRecursion (λ id. is_delivered before.account.rows id ≡ true) ids
-    → MboxKept world (after_mbox_event before (MboxExpired ids))
+    → MboxKept world (record before { gone = before.gone ++ ids })
 expired_kept world before ids kept all = record {
   done = kept.done;
   rest = kept.rest;
@@ -62,7 +62,7 @@ module _ (world : MboxWorld) (before : MboxState MboxMail) (ids : List (List ℕ
     row = o.row;
   }
 
-  pub withdrawn_kept : MboxKept (mbox_world_after world (MboxWithdrawn ids)) (after_mbox_event before (MboxWithdrawn ids))
+  pub withdrawn_kept : MboxKept (record world { all = without ids world.all }) before
   withdrawn_kept = record {
     done = kept.done;
     rest = without ids kept.rest;
@@ -89,7 +89,7 @@ mbox_starts world found rest gone prefix recorded recorded_gone = record {
 -- ---- others write the file
 
 pub rewritten_kept : (world : MboxWorld) (before : MboxState MboxMail) (had : List Message) (file : List ℕ) → MboxKept world before → AreAllRecorded world before.account had
-    → MboxKept (mbox_world_after world (MboxRewritten had file)) (after_mbox_event before (MboxRewritten had file))
+    → MboxKept (record world { start = file; had = had }) (record before { account = record before.account { file = file } })
 rewritten_kept world before had file kept is = record {
   done = [];
   rest = is.ahead;

@@ -1,121 +1,86 @@
 -- What happens between sessions leads from a kept state to a kept state.
-use Rattle.std.proofs.Common.{◌≡◌, inl, inr, List, ℕ, ◌++◌, Bool, true, false, not, length, sym, ◌∙◌, ap, subst, arith}
+use Rattle.std.proofs.Common.{◌≡◌, inl, inr, List, ℕ, ◌++◌, Bool, true, false, not, sym, ◌∙◌, ap, subst, arith}
 use Rattle.std.specs.Prelude.{bytes_eq}
 use Rattle.std.specs.List.{AllByRecursion, filter}
 use Rattle.std.proofs.lemmas.Bool.{both_ways, and_from, cases_Bool, false_from_ne_true}
 use Rattle.std.proofs.lemmas.List.Elements.{filter-append}
 use Rattle.mail_terms.specs.Distinct.{AreDistinct}
 use Rattle.mail_terms.specs.Listing.{Item}
-use Rattle.mail_terms.specs.UniqueId.{has_id}
+use Rattle.mail_terms.specs.UniqueId.{has_id, is_legal_id}
 use Rattle.pop3_wire.specs.World.{Message, IsMessage}
 use Rattle.mail_store.specs.FileName.{is_held, stem_of}
 use Rattle.fetch_rules.specs.Record.{is_delivered}
-use Rattle.run_law.specs.Mails.{ids_of, item_of, is_selected, selected, texts_of, without, WorldsShrink}
+use Rattle.run_law.specs.Mails.{ids_of, item_of, is_selected, texts_of, without, WorldsShrink}
 use Rattle.run_law.specs.Accounts.{AccountMail, files, copies}
-use Rattle.run_law.specs.Runs.{World, IsSound, State, Event, HoldsOf, IsHeldOrTaken, IsNeither, Kept, LeavesMail, TakesAway, BringsBack, Forgets, Between, Expired, Withdrawn, TakenAway, BroughtBack, Forgotten, after_event, world_after}
-use Rattle.run_law.proofs.Lists.{all_map, all_both, all_append, all_filter, all_front, filter_all, filter-swap, front_is, map-map}
-use Rattle.run_law.proofs.Ids.{Distinct, HasTextsOf, all_ids_at, bytes_same, distinct_filter, distinct_is, distinct_take, has_filtered, through, whole_filter, whole_take}
-use Rattle.run_law.proofs.Core.{IsLegal, members}
+use Rattle.run_law.specs.Runs.{World, IsSound, State, Event, Visit, HoldsOf, IsHeldOrTaken, IsNeither, Kept, LeavesMail, TakesAway, BringsBack, Forgets, Withdrawn, TakenAway, BroughtBack, after_event, after_visit, world_after}
+use Rattle.run_law.proofs.Lists.{all_map, all_both, all_append, all_filter, filter_all, filter-swap, map-map}
+use Rattle.run_law.proofs.Ids.{all_ids_at, bytes_same, distinct_filter, distinct_is, has_filtered}
+use Rattle.run_law.proofs.Core.{IsLegal, done_legal, done_texts, members}
 use Rattle.run_law.proofs.Holds.{done_is_held, held_is_done}
 use Rattle.run_law.proofs.Wants.{listing_distinct}
+
+-- the same messages are done in another state
+pub still_kept : (world : World) (before after : State AccountMail) → (kept : Kept world before) → ((id : List ℕ) → is_legal_id id ≡ true → HoldsOf world after kept.done id)
+    → ((id : List ℕ) → is_delivered after.account.rows id ≡ true → has_id (ids_of kept.done) id ≡ true)
+    → AllByRecursion (λ id. has_id (ids_of kept.done) id ≡ true) after.gone → AllByRecursion (λ id. has_id (ids_of kept.done) id ≡ true) after.taken → Kept world after
+still_kept world before after kept holds recorded gone taken =
+    record { done = kept.done; rest = kept.rest; prefix = kept.prefix; holds = holds; recorded = recorded; gone = gone; taken = taken }
 
 -- ---- the record and the server
 
 pub forgotten_kept : (world : World) (before : State AccountMail) (after : AccountMail) → Kept world before → Forgets world.account before.account after
-    → Kept world (after_event before (Forgotten after))
-forgotten_kept world before after kept forgets = record {
-  done = kept.done;
-  rest = kept.rest;
-  prefix = kept.prefix;
-  holds = λ id l. let was = kept.holds id l in let now = forgets.same id l in grind (arith, was, now);
-  recorded = λ id e. kept.recorded id (forgets.delivered id e);
-  gone = kept.gone;
-  taken = kept.taken;
-}
+    → Kept world (record before { account = after })
+forgotten_kept world before after kept forgets = still_kept world before (record before { account = after }) kept
+    (λ id l. let was = kept.holds id l in let now = forgets.same id l in grind (arith, was, now))
+    (λ id e. kept.recorded id (forgets.delivered id e)) kept.gone kept.taken
 
 pub between_kept : (world : World) (before : State AccountMail) (after : AccountMail) → Kept world before → LeavesMail world.account before.account after
-    → Kept world (after_event before (Between after))
+    → Kept world (record before { account = after })
 between_kept world before after kept same =
     forgotten_kept world before after kept (record { delivered = λ id e. ap (λ r. is_delivered r id) (sym same.rows) ∙ e; same = same.same })
 
-pub expired_kept : (world : World) (before : State AccountMail) (ids : List (List ℕ)) → Kept world before → AllByRecursion (IsHeldOrTaken world.account before) ids
-    → Kept world (after_event before (Expired ids))
-expired_kept world before ids kept all = record {
-  done = kept.done;
-  rest = kept.rest;
-  prefix = kept.prefix;
-  holds = kept.holds;
-  recorded = kept.recorded;
-  gone = all_append (λ id. has_id (ids_of kept.done) id ≡ true) before.gone ids kept.gone
-      (all_map (IsHeldOrTaken world.account before) (λ id. has_id (ids_of kept.done) id ≡ true)
-      (λ id h.
-      let held = held_is_done world before kept.done id (kept.holds id h.0) in
-      let taken = all_ids_at (λ x. has_id (ids_of kept.done) x ≡ true) before.taken id kept.taken in
-      grind (arith, h.1, held, taken)) ids all);
-  taken = kept.taken;
-}
+pub expired_kept : (world : World) (before : State AccountMail) (ids : List (List ℕ)) → Kept world before → AllByRecursion (IsHeldOrTaken world.account before.account.maildir before.taken) ids
+    → Kept world (record before { gone = before.gone ++ ids })
+expired_kept world before ids kept all = still_kept world before (record before { gone = before.gone ++ ids }) kept kept.holds kept.recorded
+    (all_append (λ id. has_id (ids_of kept.done) id ≡ true) before.gone ids kept.gone
+    (all_map (IsHeldOrTaken world.account before.account.maildir before.taken) (λ id. has_id (ids_of kept.done) id ≡ true)
+    (λ id h.
+    let held = held_is_done world before kept.done id (kept.holds id h.0) in
+    let taken = all_ids_at (λ x. has_id (ids_of kept.done) x ≡ true) before.taken id kept.taken in
+    grind (arith, h.1, held, taken)) ids all))
+    kept.taken
 
 -- ---- what a reader takes away and puts back
 
 pub taken_kept : (world : World) (before : State AccountMail) (id : List ℕ) (after : AccountMail) → Kept world before → TakesAway world.account before.account id after
-    → Kept world (after_event before (TakenAway id after))
-taken_kept world before id after kept takes = record {
-  done = kept.done;
-  rest = kept.rest;
-  prefix = kept.prefix;
-  holds = λ other l.
-      let same = λ (e : bytes_eq other id ≡ true). ap (λ (x : List ℕ). copies (files after) (stem_of world.account x)) (bytes_same other id e) ∙ takes.none in
-      let others = takes.others other l in
-      let was = kept.holds other l in
-      grind (arith, same, others, was);
-  recorded = λ other e. kept.recorded other (ap (λ r. is_delivered r other) (sym takes.rows) ∙ e);
-  gone = kept.gone;
-  taken = (held_is_done world before kept.done id (kept.holds id takes.legal) takes.held, kept.taken);
-}
-
--- what is done has distinct ids
-pub done_distinct : (world : World) → IsSound world → (done rest : List Message) → selected world.max_size world.all ≡ done ++ rest → Distinct (ids_of done)
-done_distinct world is done rest e =
-    subst (λ (l : List Message). Distinct (ids_of l)) (front_is done rest e)
-    (distinct_take (length done) (selected world.max_size world.all) (distinct_filter (is_selected world.max_size) world.all (distinct_is world.all is.mail.distinct)))
-
--- and legal ids
-pub done_legal : (world : World) → IsSound world → (done rest : List Message) → selected world.max_size world.all ≡ done ++ rest → AllByRecursion IsLegal done
-done_legal world is done rest e = all_front IsLegal done rest (subst (AllByRecursion IsLegal) e
-    (all_filter IsLegal (is_selected world.max_size) world.all (all_map IsMessage IsLegal (λ m h. h.legal) world.all is.mail.messages)))
-
--- an id that is done has all its texts there
-done_texts : (world : World) → IsSound world → (done rest : List Message) → selected world.max_size world.all ≡ done ++ rest → (id : List ℕ) → HasTextsOf done world.all id
-done_texts world is done rest e id =
-    let distinct = distinct_is world.all is.mail.distinct in
-    let chosen = selected world.max_size world.all in
-    through done chosen world.all id
-    (subst (λ (ms : List Message). HasTextsOf ms chosen id) (front_is done rest e) (whole_take (length done) chosen id (distinct_filter (is_selected world.max_size) world.all distinct)))
-    (whole_filter (is_selected world.max_size) world.all id distinct)
+    → Kept world (after_event {S = Visit} after_visit before (TakenAway id after))
+taken_kept world before id after kept takes = still_kept world before (after_event {S = Visit} after_visit before (TakenAway id after)) kept
+    (λ other l.
+    let same = λ (e : bytes_eq other id ≡ true). ap (λ (x : List ℕ). copies (files after) (stem_of world.account x)) (bytes_same other id e) ∙ takes.none in
+    let others = takes.others other l in
+    let was = kept.holds other l in
+    grind (arith, same, others, was))
+    (λ other e. kept.recorded other (ap (λ r. is_delivered r other) (sym takes.rows) ∙ e))
+    kept.gone (held_is_done world before kept.done id (kept.holds id takes.legal) takes.held, kept.taken)
 
 pub brought_kept : (world : World) → IsSound world → (before : State AccountMail) (id : List ℕ) (after : AccountMail) → Kept world before → BringsBack world before id after
-    → Kept world (after_event before (BroughtBack id after))
-brought_kept world is before id after kept brings = record {
-  done = kept.done;
-  rest = kept.rest;
-  prefix = kept.prefix;
-  holds = λ other l. elim (cases_Bool (bytes_eq other id)) [
-    | inl same ↦ inl (subst Holds (sym (bytes_same other id same)) there)
-    | inr apart ↦ by other apart (brings.others other l apart) (kept.holds other l)
-  ];
-  recorded = λ other e. kept.recorded other (ap (λ r. is_delivered r other) (sym brings.rows) ∙ e);
-  gone = kept.gone;
-  taken = all_filter (λ other. has_id (ids_of kept.done) other ≡ true) (λ other. not (bytes_eq other id)) before.taken kept.taken;
-}
+    → Kept world (after_event {S = Visit} after_visit before (BroughtBack id after))
+brought_kept world is before id after kept brings = still_kept world before (after_event {S = Visit} after_visit before (BroughtBack id after)) kept
+    (λ other l. elim (cases_Bool (bytes_eq other id)) [
+      | inl same ↦ inl (subst Holds (sym (bytes_same other id same)) there)
+      | inr apart ↦ by other apart (brings.others other l apart) (kept.holds other l)
+    ])
+    (λ other e. kept.recorded other (ap (λ r. is_delivered r other) (sym brings.rows) ∙ e))
+    kept.gone (all_filter (λ other. has_id (ids_of kept.done) other ≡ true) (λ other. not (bytes_eq other id)) before.taken kept.taken)
   where
     Holds : List ℕ → Type 0
     Holds other = copies (files after) (stem_of world.account other) ≡ texts_of kept.done other
 
     there : Holds id
-    there = brings.text ∙ sym (done_texts world is kept.done kept.rest kept.prefix id (all_ids_at (λ x. has_id (ids_of kept.done) x ≡ true) before.taken id kept.taken brings.taken))
+    there = brings.text ∙ sym (done_texts world.max_size world.all is.mail kept.done kept.rest kept.prefix id (all_ids_at (λ x. has_id (ids_of kept.done) x ≡ true) before.taken id kept.taken brings.taken))
 
     by : (other : List ℕ) → bytes_eq other id ≡ false → copies (files after) (stem_of world.account other) ≡ copies (files before.account) (stem_of world.account other)
-        → HoldsOf world before kept.done other → HoldsOf world (after_event before (BroughtBack id after)) kept.done other
+        → HoldsOf world before kept.done other → HoldsOf world (after_event {S = Visit} after_visit before (BroughtBack id after)) kept.done other
     by other apart same (inl e) = inl (same ∙ e)
     by other apart same (inr (taken, none)) =
         inr (has_filtered (λ x. not (bytes_eq x id)) before.taken other ∙ and_from _ _ taken (ap not apart), same ∙ none)
@@ -129,27 +94,27 @@ worlds_shrink all ids is = record {
       (listing_distinct (without ids all) (distinct_filter (λ (m : Message). not (has_id ids m.uid)) all (distinct_is all is.distinct)));
 }
 
-pub world_stays : (world : World) → IsSound world → (event : Event) → IsSound (world_after world event)
+pub world_stays : (world : World) → IsSound world → (event : Event Visit AccountMail) → IsSound (world_after world event)
 world_stays world is (Withdrawn ids) = record { account = is.account; mail = worlds_shrink world.all ids is.mail }
 world_stays world is event = is
 
-module _ (world : World) (is : IsSound world) (before : State AccountMail) (ids : List (List ℕ)) (kept : Kept world before) (all : AllByRecursion (IsNeither world.account before) ids) where
+module _ (world : World) (is : IsSound world) (before : State AccountMail) (ids : List (List ℕ)) (kept : Kept world before) (all : AllByRecursion (IsNeither world.account before.account.maildir before.taken) ids) where
   abbrev stays : Message → Bool
   stays m = not (has_id ids m.uid)
 
   -- what is done is held or was taken away, so it isn't withdrawn
   done_stays : (m : Message) → IsLegal m → has_id (ids_of kept.done) m.uid ≡ true → stays m ≡ true
   done_stays m legal done = ap not (false_from_ne_true (has_id ids m.uid) (λ withdrawn.
-      let neither = all_ids_at (IsNeither world.account before) ids m.uid all withdrawn in
+      let neither = all_ids_at (IsNeither world.account before.account.maildir before.taken) ids m.uid all withdrawn in
       elim (done_is_held world before kept.done m.uid (kept.holds m.uid legal) done) [
         | inl held ↦ both_ways (is_held world.account before.account.maildir m.uid) neither.0 held
         | inr taken ↦ both_ways (has_id before.taken m.uid) neither.1 taken
       ]))
 
   all_stay : AllByRecursion (λ (m : Message). stays m ≡ true) kept.done
-  all_stay = all_both IsLegal (λ (m : Message). has_id (ids_of kept.done) m.uid ≡ true) (λ (m : Message). stays m ≡ true) done_stays kept.done (done_legal world is kept.done kept.rest kept.prefix) (members kept.done)
+  all_stay = all_both IsLegal (λ (m : Message). has_id (ids_of kept.done) m.uid ≡ true) (λ (m : Message). stays m ≡ true) done_stays kept.done (done_legal world.max_size world.all is.mail kept.done kept.rest kept.prefix) (members kept.done)
 
-  pub withdrawn_kept : Kept (world_after world (Withdrawn ids)) (after_event before (Withdrawn ids))
+  pub withdrawn_kept : Kept (record world { all = without ids world.all }) before
   withdrawn_kept = record {
     done = kept.done;
     rest = without ids kept.rest;

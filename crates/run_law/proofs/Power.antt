@@ -1,8 +1,8 @@
 -- A loss of power leads from a kept state to a kept state: what it takes, but for what was taken away before, is the last that is done.
-use Rattle.std.proofs.Common.{◌≡◌, ◌⊎◌, inl, inr, ℕ, List, [], ◌∷◌, ◌++◌, Bool, true, false, cond, sym, refl, ◌∙◌, ap, subst, append_assoc}
+use Rattle.std.proofs.Common.{◌≡◌, ◌⊎◌, inl, inr, ℕ, List, [], ◌∷◌, ◌++◌, Bool, true, false, cond, sym, refl, ◌∙◌, ap, subst, append_assoc, arith}
 use Rattle.std.specs.Prelude.{bytes_eq}
 use Rattle.std.specs.List.{AllByRecursion}
-use Rattle.std.proofs.lemmas.Bool.{both_ways, cases_Bool, false_from_ne_true, or_cases, or_from, or_left, or_parts, or_right}
+use Rattle.std.proofs.lemmas.Bool.{both_ways, cases_Bool, false_from_ne_true, or_from, or_left, or_parts, or_right}
 use Rattle.std.proofs.lemmas.List.{append-nil}
 use Rattle.mail_terms.specs.UniqueId.{is_legal_id, has_id}
 use Rattle.pop3_wire.specs.World.{Message}
@@ -11,11 +11,12 @@ use Rattle.mail_store.specs.FileName.{is_held, stem_of}
 use Rattle.run_law.specs.Mails.{ids_of, selected, texts_of, messages_after}
 use Rattle.run_law.specs.Accounts.{AccountMail, files, copies}
 use Rattle.run_law.specs.Power.{AllMayBeLeft}
-use Rattle.run_law.specs.Runs.{World, IsSound, State, HoldsOf, IsNeither, IsLastStored, Kept, LosesPower, PowerLost, after_event}
+use Rattle.run_law.specs.Runs.{World, IsSound, State, HoldsOf, IsNeither, IsLastStored, Kept, LosesPower}
 use Rattle.run_law.proofs.Lists.{all_back}
 use Rattle.run_law.proofs.Ids.{all_at, all_ids_at, bytes_same, bytes_self, bytes_swap, ids_both, no_texts, texts-append}
 use Rattle.run_law.proofs.Holds.{done_is_held, held_is_done}
-use Rattle.run_law.proofs.Others.{done_legal}
+use Rattle.run_law.proofs.Core.{done_legal}
+use Rattle.run_law.proofs.Others.{still_kept}
 
 -- ---- lists
 
@@ -33,23 +34,13 @@ comes_after : (P : Message → Type 0) (front : List Message) (last : Message) (
 comes_after P [] last rest id has all = absurd (both_ways false refl has)
 comes_after P (m ∷ front) last rest id has all = elim (cases_Bool (bytes_eq id m.uid)) [
   | inl here ↦ (all_back P front (last ∷ rest) (subst (λ b. AllByRecursion P (cond b (front ++ last ∷ rest) (messages_after id (front ++ last ∷ rest)))) here all)).0
-  | inr apart ↦ comes_after P front last rest id (more apart (or_cases (bytes_eq id m.uid) (has_id (ids_of front) id) has))
+  | inr apart ↦ comes_after P front last rest id (grind (arith, has, apart))
       (subst (λ b. AllByRecursion P (cond b (front ++ last ∷ rest) (messages_after id (front ++ last ∷ rest)))) apart all)
 ]
-  where
-    more : bytes_eq id m.uid ≡ false → (bytes_eq id m.uid ≡ true) ⊎ (has_id (ids_of front) id ≡ true) → has_id (ids_of front) id ≡ true
-    more apart (inl same) = absurd (both_ways (bytes_eq id m.uid) apart same)
-    more apart (inr there) = there
 
 -- an id among these that isn't the last one's is among the others
 in_front : (front : List Message) (last : Message) (id : List ℕ) → bytes_eq id last.uid ≡ false → has_id (ids_of (front ++ last ∷ [])) id ≡ true → has_id (ids_of front) id ≡ true
-in_front front last id apart has = elim (or_cases (has_id (ids_of front) id) (has_id (ids_of (last ∷ [])) id) (sym (ids_both front (last ∷ []) id) ∙ has)) [
-  | inl there ↦ there
-  | inr here ↦ absurd (elim (or_cases (bytes_eq id last.uid) false here) [
-    | inl same ↦ both_ways (bytes_eq id last.uid) apart same
-    | inr never ↦ both_ways false refl never
-  ])
-]
+in_front front last id apart has = grind (arith, has, apart, ids_both front (last ∷ []) id)
 
 -- what holds of ids of which none is this one
 all_apart : (P Q : List ℕ → Type 0) (x : List ℕ) → ((id : List ℕ) → bytes_eq id x ≡ false → P id → Q id) → (ids : List (List ℕ)) → has_id ids x ≡ false
@@ -63,7 +54,7 @@ all_apart P Q x f (id ∷ ids) none all =
 
 module _ (world : World) (is : IsSound world) (before : State AccountMail) (after : AccountMail) (kept : Kept world before) (loses : LosesPower world before after) where
   abbrev left : State AccountMail
-  left = after_event before (PowerLost after)
+  left = record before { account = after }
 
   abbrev AreNone : List ℕ → Type 0
   AreNone id = copies (files after) (stem_of world.account id) ≡ []
@@ -83,19 +74,13 @@ module _ (world : World) (is : IsSound world) (before : State AccountMail) (afte
 
   -- nothing of what is done is gone
   all_done : ((id : List ℕ) → is_legal_id id ≡ true → HoldsOf world left kept.done id) → Kept world left
-  all_done holds = record {
-    done = kept.done;
-    rest = kept.rest;
-    prefix = kept.prefix;
-    holds = holds;
-    recorded = λ id e. elim (loses.delivered id e) [
-      | inl was ↦ kept.recorded id was
-      | inr (legal, inl held) ↦ held_is_done world left kept.done id (holds id legal) held
-      | inr (legal, inr taken) ↦ all_ids_at (λ x. has_id (ids_of kept.done) x ≡ true) before.taken id kept.taken taken
-    ];
-    gone = kept.gone;
-    taken = kept.taken;
-  }
+  all_done holds = still_kept world before left kept holds
+      (λ id e. elim (loses.delivered id e) [
+        | inl was ↦ kept.recorded id was
+        | inr (legal, inl held) ↦ held_is_done world left kept.done id (holds id legal) held
+        | inr (legal, inr taken) ↦ all_ids_at (λ x. has_id (ids_of kept.done) x ≡ true) before.taken id kept.taken taken
+      ])
+      kept.gone kept.taken
 
   module _ (front : List Message) (last : Message) (are : kept.done ≡ front ++ last ∷ []) where
     abbrev is_done : List ℕ → Bool
@@ -108,9 +93,9 @@ module _ (world : World) (is : IsSound world) (before : State AccountMail) (afte
     last_done = ap (λ l. has_id (ids_of l) last.uid) are ∙ ids_both front (last ∷ []) last.uid ∙ or_right _ _ (or_left _ _ (bytes_self last.uid))
 
     last_legal : is_legal_id last.uid ≡ true
-    last_legal = all_at (λ x. is_legal_id x ≡ true) kept.done last.uid (done_legal world is kept.done kept.rest kept.prefix) last_done
+    last_legal = all_at (λ x. is_legal_id x ≡ true) kept.done last.uid (done_legal world.max_size world.all is.mail kept.done kept.rest kept.prefix) last_done
 
-    last_there : IsNeither world.account before last.uid → ⊥
+    last_there : IsNeither world.account before.account.maildir before.taken last.uid → ⊥
     last_there neither = elim (done_is_held world before kept.done last.uid (kept.holds last.uid last_legal) last_done) [
       | inl held ↦ both_ways (is_held world.account before.account.maildir last.uid) neither.0 held
       | inr taken ↦ both_ways (has_id before.taken last.uid) neither.1 taken
@@ -119,8 +104,8 @@ module _ (world : World) (is : IsSound world) (before : State AccountMail) (afte
     -- an earlier one isn't the last that was stored
     not_earlier : (id : List ℕ) → IsLastStored world before id → has_id (ids_of front) id ≡ false
     not_earlier id lastly = false_from_ne_true (has_id (ids_of front) id) (λ has.
-        last_there (comes_after (λ (m : Message). IsNeither world.account before m.uid) front last kept.rest id has
-        (subst (λ l. AllByRecursion (λ (m : Message). IsNeither world.account before m.uid) (messages_after id l)) chosen lastly.last)))
+        last_there (comes_after (λ (m : Message). IsNeither world.account before.account.maildir before.taken m.uid) front last kept.rest id has
+        (subst (λ l. AllByRecursion (λ (m : Message). IsNeither world.account before.account.maildir before.taken m.uid) (messages_after id l)) chosen lastly.last)))
 
     earlier : (id : List ℕ) → bytes_eq id last.uid ≡ false → is_done id ≡ true → has_id (ids_of front) id ≡ true
     earlier id apart done = in_front front last id apart (ap (λ l. has_id (ids_of l) id) (sym are) ∙ done)

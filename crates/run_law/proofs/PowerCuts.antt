@@ -1,8 +1,8 @@
 -- One more file than in a kept state is that of the last message that was stored, or of one that was taken away.
-use Rattle.std.proofs.Common.{◌≡◌, inl, inr, ℕ, List, [], ◌∷◌, ◌++◌, Bool, true, false, cond, refl, sym, ◌∙◌, ap, subst}
+use Rattle.std.proofs.Common.{◌≡◌, inl, inr, ℕ, List, [], ◌∷◌, ◌++◌, Bool, true, false, cond, refl, sym, ◌∙◌, ap, subst, arith}
 use Rattle.std.specs.Prelude.{bytes_eq}
 use Rattle.std.specs.List.{AllByRecursion}
-use Rattle.std.proofs.lemmas.Bool.{both_ways, cases_Bool, false_from_ne_true, or_from, or_parts}
+use Rattle.std.proofs.lemmas.Bool.{both_ways, cases_Bool, false_from_ne_true, or_parts}
 use Rattle.std.proofs.lemmas.List.{append-nil}
 use Rattle.mail_store.specs.FileName.{is_held, stem_of}
 use Rattle.mail_store.specs.Maildir.{Maildir}
@@ -13,10 +13,11 @@ use Rattle.run_law.specs.Accounts.{AccountMail, files, copies}
 use Rattle.run_law.specs.Mails.{ids_of, messages_after}
 use Rattle.run_law.specs.Power.{OneMoreIsLast, with_maildir}
 use Rattle.run_law.specs.Runs.{World, IsSound, State, IsNeither, IsLastStored, Kept}
+use Rattle.run_law.proofs.Core.{members}
 use Rattle.run_law.proofs.Holds.{done_is_held, unheld_if}
-use Rattle.run_law.proofs.Ids.{Distinct, all_ids_at, bytes_same, bytes_swap, distinct_filter, distinct_is, ids_both, no_texts}
-use Rattle.run_law.proofs.Lists.{all_back, all_both}
-use Rattle.run_law.proofs.Others.{done_legal}
+use Rattle.run_law.proofs.Ids.{Distinct, all_ids_at, bytes_same, bytes_swap, distinct_filter, distinct_is, ids_both, no_texts, other_id}
+use Rattle.run_law.proofs.Lists.{all_back, all_both, all_map}
+use Rattle.run_law.proofs.Core.{done_legal}
 
 -- ---- lists
 
@@ -28,12 +29,9 @@ after_later id (f ∷ front) rest none =
     ap (λ b. cond b (front ++ rest) (messages_after id (front ++ rest))) parts.0 ∙ after_later id front rest parts.1
 
 -- what holds of messages holds of those after an id
-all_after : (P : Message → Type 0) (id : List ℕ) (ms : List Message) → AllByRecursion P ms → AllByRecursion P (messages_after id ms)
+pub all_after : (P : Message → Type 0) (id : List ℕ) (ms : List Message) → AllByRecursion P ms → AllByRecursion P (messages_after id ms)
 all_after P id [] all = tt
-all_after P id (m ∷ ms) all = elim (cases_Bool (bytes_eq id m.uid)) [
-  | inl here ↦ subst (λ b. AllByRecursion P (cond b ms (messages_after id ms))) (sym here) all.1
-  | inr apart ↦ subst (λ b. AllByRecursion P (cond b ms (messages_after id ms))) (sym apart) (all_after P id ms all.1)
-]
+all_after P id (m ∷ ms) all = grind (arith, all.1, all_after P id ms all.1)
 
 abbrev IsApart : List ℕ → Message → Type 0
 IsApart id m = bytes_eq m.uid id ≡ false
@@ -47,32 +45,21 @@ all_apart id (m ∷ ms) none =
 -- none of them has the id
 apart_after : (id : List ℕ) (ms : List Message) → Distinct (ids_of ms) → AllByRecursion (IsApart id) (messages_after id ms)
 apart_after id [] d = tt
-apart_after id (m ∷ ms) d = elim (cases_Bool (bytes_eq id m.uid)) [
-  | inl here ↦ subst (λ b. AllByRecursion (IsApart id) (cond b ms (messages_after id ms))) (sym here)
-      (all_apart id ms (subst (λ x. has_id (ids_of ms) x ≡ false) (sym (bytes_same id m.uid here)) d.0))
-  | inr apart ↦ subst (λ b. AllByRecursion (IsApart id) (cond b ms (messages_after id ms))) (sym apart) (apart_after id ms d.1)
-]
+apart_after id (m ∷ ms) d =
+    let here = λ (e : bytes_eq id m.uid ≡ true). all_apart id ms (other_id m ms id d.0 e) in
+    grind (arith, here, apart_after id ms d.1)
 
 distinct_back : (front rest : List Message) → Distinct (ids_of (front ++ rest)) → Distinct (ids_of rest)
 distinct_back [] rest d = d
 distinct_back (f ∷ front) rest d = distinct_back front rest d.1
 
 -- no id of the second part is among those of the first
-none_before : (front rest : List Message) → Distinct (ids_of (front ++ rest)) → AllByRecursion (λ (m : Message). has_id (ids_of front) m.uid ≡ false) rest
-none_before [] rest d = each rest
-  where
-    each : (ms : List Message) → AllByRecursion (λ (m : Message). has_id (ids_of []) m.uid ≡ false) ms
-    each [] = tt
-    each (m ∷ ms) = (refl, each ms)
-none_before (f ∷ front) rest d =
-    both rest (or_parts (has_id (ids_of front) f.uid) (has_id (ids_of rest) f.uid) (sym (ids_both front rest f.uid) ∙ d.0)).1 (none_before front rest d.1)
-  where
-    both : (ms : List Message) → has_id (ids_of ms) f.uid ≡ false → AllByRecursion (λ (m : Message). has_id (ids_of front) m.uid ≡ false) ms
-        → AllByRecursion (λ (m : Message). has_id (ids_of (f ∷ front)) m.uid ≡ false) ms
-    both [] none all = tt
-    both (m ∷ ms) none all =
-        let parts = or_parts (bytes_eq f.uid m.uid) (has_id (ids_of ms) f.uid) none in
-        (or_from (bytes_eq m.uid f.uid) (has_id (ids_of front) m.uid) (bytes_swap m.uid f.uid ∙ parts.0) all.0, both ms parts.1 all.1)
+none_before : (front rest : List Message) → Distinct (ids_of (front ++ rest))
+    → (m : Message) → has_id (ids_of rest) m.uid ≡ true → has_id (ids_of front) m.uid ≡ false
+none_before [] rest d m there = refl
+none_before (f ∷ front) rest d m there =
+    let same = λ (e : bytes_eq m.uid f.uid ≡ true). ap (has_id (ids_of rest)) (bytes_same m.uid f.uid e) in
+    grind (arith, same, there, d.0, ids_both front rest f.uid, none_before front rest d.1 m there)
 
 -- ---- a kept state, and one more file
 
@@ -106,14 +93,14 @@ module _ (world : World) (is : IsSound world) (state : State AccountMail) (kept 
     | inr taken ↦ taken.1
   ]
 
-  neither : (m : Message) → is_legal_id m.uid ≡ true → (is_done m.uid ≡ false) × IsApart id m → IsNeither world.account now m.uid
+  neither : (m : Message) → is_legal_id m.uid ≡ true → (is_done m.uid ≡ false) × IsApart id m → IsNeither world.account now.account.maildir now.taken m.uid
   neither m l (not, apart) = (
     unheld_if world now m.uid (others m.uid l apart ∙ no_copies m.uid l not),
     among state.taken kept.taken m.uid not,
   )
 
   abbrev Neither : Message → Type 0
-  Neither m = IsNeither world.account now m.uid
+  Neither m = IsNeither world.account now.account.maildir now.taken m.uid
 
   distinct : Distinct (ids_of (kept.done ++ kept.rest))
   distinct = subst (λ (l : List Message). Distinct (ids_of l)) kept.prefix (distinct_filter _ world.all (distinct_is world.all is.mail.distinct))
@@ -121,9 +108,10 @@ module _ (world : World) (is : IsSound world) (state : State AccountMail) (kept 
   later : AllByRecursion Neither (messages_after id kept.rest)
   later = all_both (λ (m : Message). is_legal_id m.uid ≡ true) (λ (m : Message). (is_done m.uid ≡ false) × IsApart id m) Neither neither (messages_after id kept.rest)
       (all_after (λ (m : Message). is_legal_id m.uid ≡ true) id kept.rest
-      (all_back (λ (m : Message). is_legal_id m.uid ≡ true) kept.done kept.rest (done_legal world is (kept.done ++ kept.rest) [] (kept.prefix ∙ sym (append-nil (kept.done ++ kept.rest))))))
+      (all_back (λ (m : Message). is_legal_id m.uid ≡ true) kept.done kept.rest (done_legal world.max_size world.all is.mail (kept.done ++ kept.rest) [] (kept.prefix ∙ sym (append-nil (kept.done ++ kept.rest))))))
       (all_both (λ (m : Message). is_done m.uid ≡ false) (IsApart id) (λ (m : Message). (is_done m.uid ≡ false) × IsApart id m) (λ m not apart. (not, apart)) (messages_after id kept.rest)
-      (all_after (λ (m : Message). is_done m.uid ≡ false) id kept.rest (none_before kept.done kept.rest distinct))
+      (all_after (λ (m : Message). is_done m.uid ≡ false) id kept.rest
+      (all_map (λ (m : Message). has_id (ids_of kept.rest) m.uid ≡ true) (λ (m : Message). is_done m.uid ≡ false) (none_before kept.done kept.rest distinct) kept.rest (members kept.rest)))
       (apart_after id kept.rest (distinct_back kept.done kept.rest distinct)))
 
   pub lastly : IsLastStored world now id

@@ -1,9 +1,11 @@
 -- No server makes a session lose a text, or delete a message that isn't known.
-use Rattle.std.proofs.Common.{◌≡◌, inl, inr, ◌≤◌, ◌<◌, ◌-◌, ℕ, zero, suc, Bool, true, false, cond, not, ◌&&◌, List, [], ◌∷◌, ◌++◌, map, take, zip, length, refl, sym, ap, subst, ◌∙◌, arith, append_assoc}
+use Rattle.std.proofs.Common.{◌≡◌, inl, inr, ◌≤◌, ◌<◌, ◌-◌, ℕ, zero, suc, Bool, true, cond, not, ◌&&◌, List, [], ◌∷◌, ◌++◌, map, take, zip, length, refl, sym, ap, subst, ◌∙◌, arith, append_assoc}
 use Rattle.std.specs.Prelude.{bytes_eq, ◌⊎◌, Some, slice_get}
 use Rattle.std.specs.List.{filter, AllByRecursion}
 use Rattle.std.proofs.lemmas.Bool.{or_cases, or_left, or_right, and_parts, cases_Bool, true≢false}
-use Rattle.std.proofs.lemmas.List.{append-nil, length-take}
+use Rattle.std.proofs.lemmas.List.{append-nil, map-append}
+use Rattle.std.proofs.lemmas.List.Elements.{filter-append}
+use Rattle.std.proofs.lemmas.Grind.{flat_map-append}
 use Rattle.mail_terms.specs.Listing.{Item, has_item, numbered, is_first, is_last}
 use Rattle.fetch_rules.specs.Wanted.{is_candidate, candidates, wanted}
 use Rattle.rc_file.specs.declared.settings.Settings.{Settings}
@@ -14,12 +16,12 @@ use Rattle.mail_store.specs.Mboxrd.{entry_of}
 use Rattle.mail_terms.specs.UniqueId.{has_id}
 use Rattle.run_law.specs.Accounts.{AccountMail}
 use Rattle.run_law.specs.Steps.{Effect, Leaves, Stores, file_for, is_unheld, ids_wanted, wanted_at, merged_rows}
-use Rattle.run_law.specs.Sessions.{IsBegun, BeginsOne}
+use Rattle.run_law.specs.Sessions.{IsBegun, BeginsOne, SendsOnly}
 use Rattle.pop3_wire.specs.declared.command.Command.{Command}
 use Rattle.pop3_wire.specs.declared.command.Command.TheVariants.{Dele}
-use Rattle.run_law.specs.Safety.{IsAmong, DeletesKept, SessionsAreSafe}
-use Rattle.run_law.specs.Mboxes.{MboxMail, settled, mbox_rows, mbox_wanted, entries, MboxStores}
-use Rattle.run_law.specs.MboxSafety.{MboxDeletesKept, MboxSessionsAreSafe}
+use Rattle.run_law.specs.Safety.{IsAmong, DeletesSaved, SessionsAreSafe}
+use Rattle.run_law.specs.Mboxes.{MboxMail, settled, mbox_rows, mbox_wanted, entries, IsBroken, MboxStores}
+use Rattle.run_law.specs.MboxSafety.{MboxDeletesSaved, MboxSessionsAreSafe}
 use Rattle.run_law.proofs.Lists.{all_map, all_both, all_filter, all_passing, all_back}
 use Rattle.run_law.proofs.Ids.{bytes_same, bytes_self, taken_more, all_ids_at}
 use Rattle.run_law.proofs.Below.{Records, RowLaws}
@@ -78,9 +80,64 @@ only_number settings rows listing texts message text number item among same coun
 behind_one : {X : Type 0} (x y : X) (xs : List X) → IsAmong x xs → IsAmong x (y ∷ xs)
 behind_one x y xs (front, behind, is) = (y ∷ front, behind, ap (λ l. y ∷ l) is)
 
-begins : {P Q : Command → Type 0} → ((c : Command) → P c → Q c) → (part : List ℕ) → BeginsOne P part → BeginsOne Q part
+pub begins : {P Q : Command → Type 0} → ((c : Command) → P c → Q c) → (part : List ℕ) → BeginsOne P part → BeginsOne Q part
 begins f part (inl none) = inl none
 begins f part (inr (command, unsent, is, begun)) = inr (command, unsent, is, f command begun)
+
+-- what is sent may be of a wider kind
+pub sends_weaker : (P Q : Command → Type 0) (sent : List ℕ) → ((c : Command) → P c → Q c) → SendsOnly P sent → SendsOnly Q sent
+sends_weaker P Q sent f sends = record {
+  commands = sends.commands;
+  asked = sends.asked;
+  each = all_map P Q f sends.commands sends.each;
+  next = begins f sends.asked.part sends.next;
+}
+
+-- ---- the text of a wanted message
+
+-- a message of the id and its text, among the first of these
+record FoundIn (qs : List (ℕ × Item)) (texts : List (List ℕ)) (n : ℕ) (id : List ℕ) : Type 0 where
+  message : ℕ × Item
+  text : List ℕ
+  among : IsAmong (message, text) (zip qs texts)
+  id_is : message.1.uid ≡ id
+  taken : IsAmong (message, text) (zip (take n qs) texts)
+  listed : IsAmong text (take n texts)
+
+found_in : (n : ℕ) (qs : List (ℕ × Item)) (texts : List (List ℕ)) (id : List ℕ) → n ≤ length texts → has_id (ids_wanted (take n qs)) id ≡ true → FoundIn qs texts n id
+found_in zero qs texts id less never = absurd (true≢false (sym never))
+found_in (suc n) [] texts id less never = absurd (true≢false (sym never))
+found_in (suc n) (q ∷ qs) [] id less is = absurd (let no : ⊥ = omega (arith, less) in no)
+found_in (suc n) (q ∷ qs) (t ∷ ts) id less is = elim (or_cases _ _ is) [
+  | inl same ↦ record {
+    message = q;
+    text = t;
+    among = ([], zip qs ts, refl);
+    id_is = sym (bytes_same id q.1.uid same);
+    taken = ([], zip (take n qs) ts, refl);
+    listed = ([], take n ts, refl);
+  }
+  | inr more ↦
+      let there = found_in n qs ts id (omega (arith, less)) more in
+      record {
+        message = there.message;
+        text = there.text;
+        among = behind_one (there.message, there.text) (q, t) (zip qs ts) there.among;
+        id_is = there.id_is;
+        taken = behind_one (there.message, there.text) (q, t) (zip (take n qs) ts) there.taken;
+        listed = behind_one there.text t (take n ts) there.listed;
+      }
+]
+
+-- what is made of an element that passes is among what is made of all that do
+among_made : {X Y : Type 0} (p : X → Bool) (f : X → Y) (x : X) (xs : List X) → IsAmong x xs → p x ≡ true → IsAmong (f x) (map f (filter p xs))
+among_made p f x xs (front, behind, is) passes = (
+  map f (filter p front),
+  map f (filter p behind),
+  ap (λ l. map f (filter p l)) is
+      ∙ ap (map f) (filter-append p front (x ∷ behind) ∙ ap (λ b. filter p front ++ cond b (x ∷ filter p behind) (filter p behind)) passes)
+      ∙ map-append f (filter p front) (x ∷ filter p behind),
+)
 
 -- ---- with a Maildir
 
@@ -103,30 +160,6 @@ record KeepsAll (settings : Settings) (account : List ℕ) (before : AccountMail
 abbrev brought : List ℕ → Maildir → List ((ℕ × Item) × List ℕ) → List File
 brought account maildir pairs = map (file_for account) (filter (is_unheld account maildir) pairs)
 
-found : (account : List ℕ) (maildir : Maildir) (n : ℕ) (qs : List (ℕ × Item)) (texts : List (List ℕ)) (id : List ℕ) → length (take n qs) ≤ length texts
-    → has_id (ids_wanted (take n qs)) id ≡ true → is_held account maildir id ≡ false → StoredBy account qs texts (brought account maildir (zip (take n qs) texts)) id
-found account maildir zero qs texts id less never free = absurd (true≢false (sym never))
-found account maildir (suc n) [] texts id less never free = absurd (true≢false (sym never))
-found account maildir (suc n) (q ∷ qs) [] id less is free = absurd (let no : ⊥ = omega (arith, less) in no)
-found account maildir (suc n) (q ∷ qs) (t ∷ ts) id less is free = elim (or_cases _ _ is) [
-  | inl here ↦
-      let same = bytes_same id q.1.uid here in
-      (q, t, ([], zip qs ts, refl), sym same, ([], map (file_for account) later, first same))
-  | inr more ↦
-      let there = found account maildir n qs ts id (omega (arith, less)) more free in
-      (there.0, there.1, behind_one (there.0, there.1) (q, t) (zip qs ts) there.2, there.3, next (is_unheld account maildir (q, t)) there.1 there.4)
-]
-  where
-    later : List ((ℕ × Item) × List ℕ)
-    later = filter (is_unheld account maildir) (zip (take n qs) ts)
-
-    first : id ≡ q.1.uid → brought account maildir (zip (take (suc n) (q ∷ qs)) (t ∷ ts)) ≡ mail_file account id t ∷ map (file_for account) later
-    first same = grind (arith, same, free)
-
-    next : (b : Bool) (text : List ℕ) → IsAmong (mail_file account id text) (map (file_for account) later) → IsAmong (mail_file account id text) (map (file_for account) (cond b ((q, t) ∷ later) later))
-    next true text there = behind_one (mail_file account id text) (file_for account (q, t)) (map (file_for account) later) there
-    next false text there = there
-
 module _ (laws : Records) (settings : Settings) (account : List ℕ) (before : AccountMail) (effect : Effect) (after : AccountMail) (stores : Stores settings account before effect after) where
   abbrev qs : List (ℕ × Item)
   qs = wanted_at settings account before effect
@@ -137,8 +170,11 @@ module _ (laws : Records) (settings : Settings) (account : List ℕ) (before : A
   stored_ids : (id : List ℕ) → has_id (ids_wanted (take stores.recorded qs)) id ≡ true → KeptBy settings account before effect gained id
   stored_ids id is = elim (cases_Bool (is_held account before.maildir id)) [
     | inl held ↦ inr (inl held)
-    | inr free ↦ inr (inr (found account before.maildir stores.stored qs effect.texts id (omega (arith, length-take stores.stored qs, stores.fetched))
-        (taken_more (λ (q : ℕ × Item). q.1.uid) stores.recorded stores.stored qs id stores.order is) free))
+    | inr free ↦
+        let pairs = zip (take stores.stored qs) effect.texts in
+        let there = found_in stores.stored qs effect.texts id stores.fetched (taken_more (λ (q : ℕ × Item). q.1.uid) stores.recorded stores.stored qs id stores.order is) in
+        let file = among_made (is_unheld account before.maildir) (file_for account) (there.message, there.text) pairs there.taken (ap not (ap (is_held account before.maildir) there.id_is ∙ free)) in
+        inr (inr (there.message, there.text, there.among, there.id_is, subst (λ i. IsAmong (mail_file account i there.text) gained) there.id_is file))
   ]
 
   kept_ids : (id : List ℕ) → is_delivered after.rows id ≡ true → KeptBy settings account before effect gained id
@@ -168,7 +204,7 @@ kept_none settings account before effect after leaves = record {
 }
 
 deletes_kept : (settings : Settings) (account : List ℕ) (before : AccountMail) (effect : Effect) (after : AccountMail) (keeps : KeepsAll settings account before effect after) (command : Command)
-    → IsBegun effect.listing effect.begun command → DeletesKept settings account before effect keeps.gained command
+    → IsBegun effect.listing effect.begun command → DeletesSaved settings account before effect keeps.gained command
 deletes_kept settings account before effect after keeps (Dele number) (item, at, is, counted, alone) = (
   counted,
   item,
@@ -193,59 +229,32 @@ sessions_are_safe laws settings account before sent got effect after session =
     record {
       gained = keeps.gained;
       came = keeps.came;
-      commands = session.commands;
-      asked = session.asked;
-      deletes = all_map (IsBegun effect.listing effect.begun) (DeletesKept settings account before effect keeps.gained) deletes session.commands session.begun;
-      next = begins deletes session.asked.part session.next;
+      sends = sends_weaker (IsBegun effect.listing effect.begun) (DeletesSaved settings account before effect keeps.gained) sent deletes session.sends;
     }
 
 -- ---- with an mboxrd
 
--- the entry of a wanted message's text is among the entries
-record HasText (qs : List (ℕ × Item)) (texts : List (List ℕ)) (id bytes : List ℕ) : Type 0 where
-  message : ℕ × Item
-  text : List ℕ
-  among : IsAmong (message, text) (zip qs texts)
-  id_is : message.1.uid ≡ id
-  front : List ℕ
-  behind : List ℕ
-  stands : bytes ≡ front ++ (entry_of text ++ behind)
-
-has_text : (n : ℕ) (qs : List (ℕ × Item)) (texts : List (List ℕ)) (id : List ℕ) → n ≤ length texts → has_id (ids_wanted (take n qs)) id ≡ true → HasText qs texts id (entries (take n texts))
-has_text zero qs texts id less never = absurd (true≢false (sym never))
-has_text (suc n) [] texts id less never = absurd (true≢false (sym never))
-has_text (suc n) (q ∷ qs) [] id less is = absurd (let no : ⊥ = omega (arith, less) in no)
-has_text (suc n) (q ∷ qs) (t ∷ ts) id less is = elim (or_cases _ _ is) [
-  | inl same ↦ record { message = q; text = t; among = ([], zip qs ts, refl); id_is = sym (bytes_same id q.1.uid same); front = []; behind = entries (take n ts); stands = refl }
-  | inr more ↦
-      let there = has_text n qs ts id (omega (arith, less)) more in
-      record {
-        message = there.message;
-        text = there.text;
-        among = behind_one (there.message, there.text) (q, t) (zip qs ts) there.among;
-        id_is = there.id_is;
-        front = entry_of t ++ there.front;
-        behind = there.behind;
-        stands = ap (λ l. entry_of t ++ l) there.stands ∙ sym (append_assoc (entry_of t) there.front (entry_of there.text ++ there.behind));
-      }
-]
-
--- what comes after the entries
+-- what comes after the entries: nothing, or a beginning of the next one
 pub tail_of : (settings : Settings) (before : MboxMail) (effect : Effect) (after : MboxMail) → (s : MboxStores settings before effect after)
     → (rest : List ℕ) × (after.file ≡ (settled effect.listing before).file ++ (entries (take s.stored effect.texts) ++ rest))
+    × ((rest ≡ []) ⊎ ((broken : IsBroken settings before effect s.stored after) × (entry_of broken.text ≡ rest ++ broken.opened.behind)))
 tail_of settings before effect after s = elim s.ending [
-  | inl closed ↦ ([], closed.file ∙ ap (λ l. (settled effect.listing before).file ++ l) (sym (append-nil (entries (take s.stored effect.texts)))))
-  | inr broken ↦ (broken.opened.front, broken.opened.file ∙ append_assoc (settled effect.listing before).file (entries (take s.stored effect.texts)) broken.opened.front)
+  | inl closed ↦ ([], closed.file ∙ ap (λ l. (settled effect.listing before).file ++ l) (sym (append-nil (entries (take s.stored effect.texts)))), inl refl)
+  | inr broken ↦ (
+    broken.opened.front,
+    broken.opened.file ∙ append_assoc (settled effect.listing before).file (entries (take s.stored effect.texts)) broken.opened.front,
+    inr (broken, broken.opened.entry),
+  )
 ]
 
 module _ (laws : RowLaws) (settings : Settings) (before : MboxMail) (effect : Effect) (after : MboxMail) (s : MboxStores settings before effect after) where
-  kept_id : (id : List ℕ) → is_delivered after.rows id ≡ true → (is_delivered (settled effect.listing before).rows id ≡ true) ⊎ HasText (mbox_wanted settings before effect) effect.texts id (entries (take s.stored effect.texts))
+  kept_id : (id : List ℕ) → is_delivered after.rows id ≡ true → (is_delivered (settled effect.listing before).rows id ≡ true) ⊎ FoundIn (mbox_wanted settings before effect) effect.texts s.stored id
   kept_id id e = elim (delivered_marked laws.marks (mbox_rows before effect) (ids_wanted (take s.stored (mbox_wanted settings before effect))) id (ap (λ r. is_delivered r id) (sym s.rows) ∙ e)) [
     | inl known ↦ inl (sym (delivered_unheld laws (settled effect.listing before).rows effect.listing effect.now id) ∙ known)
-    | inr stored ↦ inr (has_text s.stored (mbox_wanted settings before effect) effect.texts id s.fetched stored)
+    | inr stored ↦ inr (found_in s.stored (mbox_wanted settings before effect) effect.texts id s.fetched stored)
   ]
 
-  deletes : (command : Command) → IsBegun effect.listing effect.begun command → MboxDeletesKept settings before effect after command
+  deletes : (command : Command) → IsBegun effect.listing effect.begun command → MboxDeletesSaved settings before effect after command
   deletes (Dele number) (item, at, is, counted, alone) = (
     counted,
     item,
@@ -260,22 +269,22 @@ module _ (laws : RowLaws) (settings : Settings) (before : MboxMail) (effect : Ef
             among = t.among;
             number_is = only_number settings (mbox_rows before effect) effect.listing effect.texts t.message t.text number item t.among t.id_is counted at alone;
             id_is = t.id_is;
-            front = t.front;
-            behind = t.behind ++ tail.0;
-            stands = tail.1 ∙ ap (λ l. (settled effect.listing before).file ++ (l ++ tail.0)) t.stands ∙ simp append_assoc;
+            front = entries t.listed.0;
+            behind = entries t.listed.1 ++ tail.0;
+            stands = tail.1 ∙ ap (λ l. (settled effect.listing before).file ++ (l ++ tail.0)) (ap entries t.listed.2 ∙ flat_map-append entry_of t.listed.0 (t.text ∷ t.listed.1)) ∙ simp append_assoc;
           })
     ],
   )
   deletes other is = tt
 
 -- nothing was begun
-none_begun : (settings : Settings) (before : MboxMail) (effect : Effect) (after : MboxMail) → effect.begun ≡ [] → (command : Command) → IsBegun effect.listing effect.begun command → MboxDeletesKept settings before effect after command
+none_begun : (settings : Settings) (before : MboxMail) (effect : Effect) (after : MboxMail) → effect.begun ≡ [] → (command : Command) → IsBegun effect.listing effect.begun command → MboxDeletesSaved settings before effect after command
 none_begun settings before effect after none (Dele number) (item, at, is, counted, alone) = absurd (true≢false (sym is ∙ ap (λ l. has_id l item.uid) none))
 none_begun settings before effect after none command is = tt
 
 pub mbox_sessions_are_safe : RowLaws → MboxSessionsAreSafe
 mbox_sessions_are_safe laws settings before sent got effect after session =
-    let kept : (command : Command) → IsBegun effect.listing effect.begun command → MboxDeletesKept settings before effect after command = elim session.step [
+    let kept : (command : Command) → IsBegun effect.listing effect.begun command → MboxDeletesSaved settings before effect after command = elim session.step [
       | inl (leaves, none) ↦ none_begun settings before effect after leaves.begun
       | inr (stores, reads) ↦ deletes laws settings before effect after stores
     ] in
@@ -287,8 +296,5 @@ mbox_sessions_are_safe laws settings before sent got effect after session =
         ]
         | inr (stores, reads) ↦ inr (_, (tail_of settings before effect after stores).1)
       ];
-      commands = session.commands;
-      asked = session.asked;
-      deletes = all_map (IsBegun effect.listing effect.begun) (MboxDeletesKept settings before effect after) kept session.commands session.begun;
-      next = begins kept session.asked.part session.next;
+      sends = sends_weaker (IsBegun effect.listing effect.begun) (MboxDeletesSaved settings before effect after) sent kept session.sends;
     }

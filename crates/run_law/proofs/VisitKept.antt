@@ -2,7 +2,7 @@
 use Rattle.std.proofs.Common.{◌≡◌, ◌⊎◌, inl, inr, ℕ, List, [], ◌++◌, Bool, true, false, not, cond, ◌&&◌, ◌||◌, length, take, map, refl, sym, ◌∙◌, ap, subst, arith}
 use Rattle.std.specs.Prelude.{zip}
 use Rattle.std.specs.List.{filter, AllByRecursion}
-use Rattle.std.proofs.lemmas.Bool.{both_ways, or_left, cases_Bool, false_from_ne_true, cond_both}
+use Rattle.std.proofs.lemmas.Bool.{both_ways, or_cases, or_left, and_parts, cases_Bool, false_from_ne_true, cond_both}
 use Rattle.std.proofs.lemmas.List.{append-nil}
 use Rattle.mail_terms.specs.UniqueId.{is_legal_id, has_id}
 use Rattle.pop3_wire.specs.World.{Message}
@@ -13,19 +13,18 @@ use Rattle.mail_store.specs.FileName.{is_held, stem_of}
 use Rattle.run_law.specs.Mails.{ids_of, is_selected, selected, texts_of}
 use Rattle.run_law.specs.Accounts.{AccountMail, files, copies, KeepsOthers}
 use Rattle.run_law.specs.Steps.{Stores, IsHonest, AreTexts, wanted_at, merged_rows, ids_wanted, file_for, is_unheld}
-use Rattle.run_law.specs.Runs.{World, IsSound, State, Visit, Visited, HoldsOf, Kept, after_event, shown, LeavesOut, DeletesHeld, StoresOnlyNew, past_limit}
+use Rattle.run_law.specs.Runs.{World, IsSound, State, Visit, HoldsOf, Kept, after_visit, shown, LeavesOut, DeletesHeld, StoresOnlyNew, past_limit}
 use Rattle.run_law.proofs.Core as core
-use Rattle.run_law.proofs.Next as plan
 use Rattle.run_law.proofs.Core.{Scene, IsScene, IsLegal, fetched, added}
 use Rattle.run_law.proofs.Lists.{all_map, all_filter, all_take}
 use Rattle.run_law.proofs.Ids.{texts-append, texts_filtered, no_texts, taken_more, all_at, all_ids_at, gone_is_done}
 use Rattle.run_law.proofs.Below.{Below}
-use Rattle.run_law.proofs.Records.{delivered_marked, marks_stay}
+use Rattle.run_law.proofs.Records.{delivered_marked, delivered_merged, marks_stay}
 use Rattle.run_law.proofs.Files.{held_done, copies-append, copies_messages, message_file, deliveries_keep}
-use Rattle.run_law.proofs.Wants.{num_item, wants_by_number, stored_files}
-use Rattle.run_law.proofs.Holds.{done_is_held, unheld_if}
+use Rattle.run_law.proofs.Wants.{num_item, wants_by_number, stored_files, has_listed}
+use Rattle.run_law.proofs.Holds.{done_is_held, held_is_done, unheld_if}
 
-module _ (laws : Below) (world : World) (is : IsSound world) (before : State AccountMail) (v : Visit) (kept : Kept world before) (same : v.settings.max_size ≡ world.max_size)
+module _ (laws : Below) (world : World) (is : IsSound world) (before : State AccountMail) (v : Visit AccountMail) (kept : Kept world before) (same : v.settings.max_size ≡ world.max_size)
     (s : Stores v.settings world.account before.account v.effect v.after) (honest : IsHonest (wanted_at v.settings world.account before.account v.effect) (shown world before v) v.effect) where
   abbrev rows : List Row
   rows = merged_rows world.account before.account v.effect
@@ -41,15 +40,23 @@ module _ (laws : Below) (world : World) (is : IsSound world) (before : State Acc
 
   -- ---- held, known, done
 
-  pub is_scene : IsScene scene
-  is_scene = plan.is_scene laws.records world is before kept v.settings v.come v.effect.now v.effect.listing honest.listing same
-
   known_parts : (id : List ℕ) → is_delivered rows id ≡ (is_delivered before.account.rows id || (has_item v.effect.listing id && held id))
-  known_parts id = plan.known_parts laws.records world is before kept v.settings v.come v.effect.now v.effect.listing honest.listing same id
+  known_parts id = delivered_merged laws.records world.account before.account.maildir before.account.rows v.effect.listing v.effect.now id
+
+  listed_is : (id : List ℕ) → has_item v.effect.listing id ≡ has_id (ids_of here) id
+  listed_is id = ap (λ l. has_item l id) honest.listing ∙ has_listed here id
+
+  done_if : (id : List ℕ) → (has_id (ids_of here) id ≡ true → is_legal_id id ≡ true) → is_delivered rows id ≡ true → core.is_done scene id ≡ true
+  done_if id legal e = elim (or_cases _ _ (sym (known_parts id) ∙ e)) [
+    | inl old ↦ kept.recorded id old
+    | inr now' ↦ let parts = and_parts _ _ now' in held_is_done world before kept.done id (kept.holds id (legal (sym (listed_is id) ∙ parts.0))) parts.1
+  ]
+
+  pub is_scene : IsScene scene
+  is_scene = record { mail = is.mail; prefix = ap (λ k. selected k world.all) same ∙ kept.prefix; gone = kept.gone; known = λ id l e d. done_if id (λ there. l) d }
 
   pub known_done : (id : List ℕ) → is_delivered rows id ≡ true → core.is_done scene id ≡ true
-  known_done id e = plan.known_done laws.records world is before kept v.settings v.come v.effect.now v.effect.listing honest.listing same id
-      (all_at (λ x. is_legal_id x ≡ true) here id (core.legal_here scene is_scene)) e
+  known_done id e = done_if id (all_at (λ x. is_legal_id x ≡ true) here id (core.legal_here scene is_scene)) e
 
   -- ---- what came into the Maildir
 
@@ -75,14 +82,11 @@ module _ (laws : Below) (world : World) (is : IsSound world) (before : State Acc
   legal_delivered : AllByRecursion IsLegal delivered
   legal_delivered = all_filter IsLegal (λ (m : Message). not (held m.uid)) got (all_take IsLegal s.stored (fetched scene) (core.legal_fetched scene is_scene))
 
-  new_is : v.after.maildir.files ≡ before.account.maildir.files ++ map (message_file world.account) delivered
-  new_is = s.came
+  files_are : files v.after ≡ files before.account ++ map (message_file world.account) delivered
+  files_are = s.came
       ∙ ap (λ l. before.account.maildir.files ++ map (file_for world.account) (filter (is_unheld world.account before.account.maildir) l)) zipped_is
       ∙ ap (λ l. before.account.maildir.files ++ l) (stored_files world.account before.account.maildir (take s.stored (wants_by_number v.settings rows here))
       ∙ ap (λ l. map (message_file world.account) (filter (λ (m : Message). not (held m.uid)) l)) (core.taken_is scene is_scene s.stored))
-
-  files_are : files v.after ≡ files before.account ++ map (message_file world.account) delivered
-  files_are = new_is
 
   pub copies_are : (id : List ℕ) → is_legal_id id ≡ true → copies (files v.after) (stem_of world.account id)
       ≡ copies (files before.account) (stem_of world.account id) ++ cond (not (held id)) (texts_of got id) []
@@ -95,7 +99,7 @@ module _ (laws : Below) (world : World) (is : IsSound world) (before : State Acc
   texts_after : (id : List ℕ) → texts_of (kept.done ++ stored) id ≡ texts_of kept.done id ++ cond (not (core.is_done scene id)) (texts_of got id) []
   texts_after id = texts-append kept.done stored id ∙ ap (λ t. texts_of kept.done id ++ t) (texts_filtered (λ x. not (core.is_done scene x)) got id)
 
-  pub holds_after : (id : List ℕ) → is_legal_id id ≡ true → HoldsOf world (after_event before (Visited v)) (kept.done ++ stored) id
+  pub holds_after : (id : List ℕ) → is_legal_id id ≡ true → HoldsOf world (after_visit before v) (kept.done ++ stored) id
   holds_after id l = elim (kept.holds id l) [
     | inl e ↦ inl (cc (copies_are id l, e, held_done world.account before.account kept.done id e, texts_after id))
     | inr (taken, none) ↦
@@ -128,7 +132,7 @@ module _ (laws : Below) (world : World) (is : IsSound world) (before : State Acc
   begun_done : AllByRecursion (λ id. is_done_after id ≡ true) v.effect.begun
   begun_done = all_map (λ id. is_delivered v.after.rows id ≡ true) (λ id. is_done_after id ≡ true) recorded_after v.effect.begun s.begun
 
-  pub visit_kept : AllByRecursion (λ id. has_id v.effect.begun id ≡ true) v.vanished → Kept world (after_event before (Visited v))
+  pub visit_kept : AllByRecursion (λ id. has_id v.effect.begun id ≡ true) v.vanished → Kept world (after_visit before v)
   visit_kept vanished = record {
     done = kept.done ++ stored;
     rest = (core.added_begins scene is_scene s.stored).0;
@@ -142,7 +146,7 @@ module _ (laws : Below) (world : World) (is : IsSound world) (before : State Acc
   -- ---- promises
 
   held_after : (id : List ℕ) → is_done_after id ≡ true → (is_held world.account v.after.maildir id ≡ true) ⊎ (has_id before.taken id ≡ true)
-  held_after id e = done_is_held world (after_event before (Visited v)) (kept.done ++ stored) id (holds_after id (core.legal_after scene is_scene s.stored id e)) e
+  held_after id e = done_is_held world (after_visit before v) (kept.done ++ stored) id (holds_after id (core.legal_after scene is_scene s.stored id e)) e
 
   pub deletes_held : DeletesHeld world before v
   deletes_held = all_map (λ id. is_done_after id ≡ true) (λ id. (is_held world.account v.after.maildir id ≡ true) ⊎ (has_id before.taken id ≡ true)) held_after v.effect.begun begun_done

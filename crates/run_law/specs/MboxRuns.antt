@@ -2,14 +2,13 @@
 use Rattle.std.specs.Prelude.{◌≡◌, ◌⊎◌, ◌≤◌, ℕ, true, false, List, [], ◌∷◌, ◌++◌, map, take, length, Some, None, slice_get, bytes_eq}
 use Rattle.std.specs.List.{AllByRecursion}
 use Rattle.fetch_rules.specs.Record.{Intent, Row, is_delivered, has_row}
-use Rattle.fetch_rules.specs.Wanted.{candidates}
 use Rattle.rc_file.specs.declared.settings.Settings.{Settings}
 use Rattle.mail_store.specs.Mboxrd.{entry_of, MboxFile}
 use Rattle.mail_terms.specs.UniqueId.{has_id}
 use Rattle.pop3_wire.specs.World.{Message, IsWorld, maildrop_of}
 use Rattle.run_law.specs.Mails.{ids_of, is_selected, selected, without}
-use Rattle.run_law.specs.Steps.{Effect, IsHonest, ids_wanted}
-use Rattle.run_law.specs.Runs.{past_limit}
+use Rattle.run_law.specs.Steps.{IsHonest}
+use Rattle.run_law.specs.Runs.{Visit, is_past_count}
 use Rattle.run_law.specs.Mboxes.{MboxMail, mbox_rows, mbox_wanted, entries, intent_of, IsClosed, IsOpen, MboxLeaves, MboxStores}
 
 -- an account, and the ids that are gone from the server
@@ -17,16 +16,7 @@ pub record MboxState (K : Type 0) : Type 0 where
   pub account : K
   pub gone : List (List ℕ)
 
--- one session: its settings, how much mail had come, what it did, which ids its QUIT removed from the server,
--- and the account that it left
-pub record MboxVisit : Type 0 where
-  pub settings : Settings
-  pub come : ℕ
-  pub effect : Effect
-  pub vanished : List (List ℕ)
-  pub after : MboxMail
-
-abbrev pub after_visit : MboxState MboxMail → MboxVisit → MboxState MboxMail
+abbrev pub after_visit : MboxState MboxMail → Visit MboxMail → MboxState MboxMail
 after_visit before visit = record { account = visit.after; gone = before.gone ++ visit.vanished }
 
 -- what stays throughout, but where others write the file or messages are withdrawn: the file before the first session, the
@@ -37,10 +27,10 @@ pub record MboxWorld : Type 0 where
   pub max_size : ℕ
   pub all : List Message
 
-abbrev pub mbox_shown : MboxWorld → MboxState MboxMail → MboxVisit → List Message
+abbrev pub mbox_shown : MboxWorld → MboxState MboxMail → Visit MboxMail → List Message
 mbox_shown world before visit = maildrop_of world.all visit.come before.gone
 
-pub record MboxVisits (world : MboxWorld) (before : MboxState MboxMail) (visit : MboxVisit) : Type 0 where
+pub record MboxVisits (world : MboxWorld) (before : MboxState MboxMail) (visit : Visit MboxMail) : Type 0 where
   pub same : visit.settings.max_size ≡ world.max_size
   pub only_new : visit.settings.read_all ≡ false
   pub step : MboxLeaves before.account visit.effect visit.after
@@ -48,25 +38,40 @@ pub record MboxVisits (world : MboxWorld) (before : MboxState MboxMail) (visit :
       × IsHonest (mbox_wanted visit.settings before.account visit.effect) (mbox_shown world before visit) visit.effect)
   pub vanished : AllByRecursion (λ id. has_id visit.effect.begun id ≡ true) visit.vanished
 
--- a session; messages that are gone from the server after they were recorded as delivered, or before; and others who write
--- the file, which holds these bytes then, while these messages are recorded
-pub data MboxEvent : Type 0 where
-  MboxVisited : MboxVisit → MboxEvent
-  MboxExpired : List (List ℕ) → MboxEvent
-  MboxWithdrawn : List (List ℕ) → MboxEvent
-  MboxRewritten : List Message → List ℕ → MboxEvent
+-- a session; anything else that leaves the record and the mboxrd file's bytes as they are; messages that are gone from the
+-- server without a session, after they were recorded as delivered, or before; and others who write the mboxrd file, which
+-- holds these bytes then, while these messages are recorded
+pub data MboxEvent (Session : Type 0 → Type 0) (Account : Type 0) : Type 0 where
+  Fetched : Session Account → MboxEvent Session Account
+  Between : Account → MboxEvent Session Account
+  Expired : List (List ℕ) → MboxEvent Session Account
+  Withdrawn : List (List ℕ) → MboxEvent Session Account
+  Rewritten : List Message → List ℕ → Account → MboxEvent Session Account
 
-abbrev pub after_mbox_event : MboxState MboxMail → MboxEvent → MboxState MboxMail
-after_mbox_event before (MboxVisited visit) = after_visit before visit
-after_mbox_event before (MboxExpired ids) = record before { gone = before.gone ++ ids }
-after_mbox_event before (MboxWithdrawn ids) = before
-after_mbox_event before (MboxRewritten had file) = record before { account = record before.account { file = file } }
+-- what an event leaves, if sessions leave what `after_session` says
+abbrev pub after_mbox_event : {S : Type 0 → Type 0} {K : Type 0} → (MboxState K → S K → MboxState K) → MboxState K → MboxEvent S K
+    → MboxState K
+after_mbox_event after_session before (Fetched session) = after_session before session
+after_mbox_event after_session before (Between after) = record before { account = after }
+after_mbox_event after_session before (Expired ids) = record before { gone = before.gone ++ ids }
+after_mbox_event after_session before (Withdrawn ids) = before
+after_mbox_event after_session before (Rewritten had file after) = record before { account = after }
+
+abbrev pub after_mbox_events : {S : Type 0 → Type 0} {K : Type 0} → (MboxState K → S K → MboxState K) → MboxState K → List (MboxEvent S K)
+    → MboxState K
+after_mbox_events after_session before [] = before
+after_mbox_events after_session before (event ∷ events) =
+    after_mbox_events after_session (after_mbox_event after_session before event) events
 
 -- all mail goes on without the messages that are withdrawn; what others write is what the file begins with
-abbrev pub mbox_world_after : MboxWorld → MboxEvent → MboxWorld
-mbox_world_after world (MboxWithdrawn ids) = record world { all = without ids world.all }
-mbox_world_after world (MboxRewritten had file) = record world { start = file; had = had }
+abbrev pub mbox_world_after : {S : Type 0 → Type 0} {K : Type 0} → MboxWorld → MboxEvent S K → MboxWorld
+mbox_world_after world (Withdrawn ids) = record world { all = without ids world.all }
+mbox_world_after world (Rewritten had file after) = record world { start = file; had = had }
 mbox_world_after world _ = world
+
+abbrev pub mbox_world_left : {S : Type 0 → Type 0} {K : Type 0} → MboxWorld → List (MboxEvent S K) → MboxWorld
+mbox_world_left world [] = world
+mbox_world_left world (event ∷ events) = mbox_world_left (mbox_world_after world event) events
 
 -- the message isn't recorded as delivered, and no intent is open for it
 abbrev pub IsUnbegun : MboxMail → List ℕ → Type 0
@@ -80,25 +85,19 @@ pub record AreAllRecorded (world : MboxWorld) (account : MboxMail) (had : List M
   pub prefix : selected world.max_size world.all ≡ had ++ ahead
   pub recorded : (id : List ℕ) → is_delivered account.rows id ≡ has_id (ids_of had) id
 
--- nothing else happens to the record between two sessions
-abbrev pub MboxHappens : MboxWorld → MboxState MboxMail → MboxEvent → Type 0
-MboxHappens world before (MboxVisited visit) = MboxVisits world before visit
-MboxHappens world before (MboxExpired ids) = AllByRecursion (λ id. is_delivered before.account.rows id ≡ true) ids
-MboxHappens world before (MboxWithdrawn ids) = AllByRecursion (IsUnbegun before.account) ids
-MboxHappens world before (MboxRewritten had file) = AreAllRecorded world before.account had
+-- an event of each kind happens in this state
+abbrev pub MboxHappens : MboxWorld → MboxState MboxMail → MboxEvent Visit MboxMail → Type 0
+MboxHappens world before (Fetched visit) = MboxVisits world before visit
+MboxHappens world before (Between after) = after ≡ before.account
+MboxHappens world before (Expired ids) = AllByRecursion (λ id. is_delivered before.account.rows id ≡ true) ids
+MboxHappens world before (Withdrawn ids) = AllByRecursion (IsUnbegun before.account) ids
+MboxHappens world before (Rewritten had file after) = AreAllRecorded world before.account had
+    × (after ≡ record before.account { file = file })
 
-abbrev pub MboxRun : MboxWorld → MboxState MboxMail → List MboxEvent → Type 0
+abbrev pub MboxRun : MboxWorld → MboxState MboxMail → List (MboxEvent Visit MboxMail) → Type 0
 MboxRun world before [] = Unit {0}
 MboxRun world before (event ∷ events) = MboxHappens world before event
-    × MboxRun (mbox_world_after world event) (after_mbox_event before event) events
-
-abbrev pub after_mbox_events : MboxState MboxMail → List MboxEvent → MboxState MboxMail
-after_mbox_events before [] = before
-after_mbox_events before (event ∷ events) = after_mbox_events (after_mbox_event before event) events
-
-abbrev pub mbox_world_after_all : MboxWorld → List MboxEvent → MboxWorld
-mbox_world_after_all world [] = world
-mbox_world_after_all world (event ∷ events) = mbox_world_after_all (mbox_world_after world event) events
+    × MboxRun (mbox_world_after world event) (after_mbox_event after_visit before event) events
 
 -- the entries of these messages
 abbrev pub entries_of : List Message → List ℕ
@@ -124,11 +123,10 @@ pub record MboxKept (world : MboxWorld) (state : MboxState MboxMail) : Type 0 wh
   pub stands : IsClosed (world.start ++ entries_of done) state.account ⊎ IsNextOpen (world.start ++ entries_of done) rest state.account
 
 -- an uncut session leaves out only what its limits exclude, and leaves no intent open
-pub record MboxEnds (world : MboxWorld) (before : MboxState MboxMail) (visit : MboxVisit) : Type 0 where
+pub record MboxEnds (world : MboxWorld) (before : MboxState MboxMail) (visit : Visit MboxMail) : Type 0 where
   pub closed : visit.after.intent ≡ None
   pub leaves_out : AllByRecursion (λ (m : Message). (is_delivered visit.after.rows m.uid ≡ true) ⊎ (is_selected world.max_size m ≡ false)
-      ⊎ (has_id (ids_wanted (past_limit visit.settings.max_count
-      (candidates visit.settings (mbox_rows before.account visit.effect) visit.effect.listing))) m.uid ≡ true))
+      ⊎ (is_past_count visit.settings (mbox_rows before.account visit.effect) visit.effect.listing m.uid ≡ true))
       (mbox_shown world before visit)
 
 -- the file has the whole entry of a message with this id
@@ -143,26 +141,26 @@ pub record HasEntry (world : MboxWorld) (file id : List ℕ) : Type 0 where
 
 -- what a session promises: an uncut one ends in this way; each DELE begun is for a message whose whole entry
 -- is in the file, or that was recorded before the first session
-pub record MboxPromises (world : MboxWorld) (before : MboxState MboxMail) (visit : MboxVisit) : Type 0 where
+pub record MboxPromises (world : MboxWorld) (before : MboxState MboxMail) (visit : Visit MboxMail) : Type 0 where
   pub ends : visit.effect.ended ≡ true → MboxEnds world before visit
   pub begun : AllByRecursion (λ id. (has_id (ids_of world.had) id ≡ true) ⊎ HasEntry world visit.after.file id) visit.effect.begun
 
 -- nothing is promised of what others do
-abbrev pub MboxPromised : MboxWorld → MboxState MboxMail → MboxEvent → Type 0
-MboxPromised world before (MboxVisited visit) = MboxPromises world before visit
+abbrev pub MboxPromised : MboxWorld → MboxState MboxMail → MboxEvent Visit MboxMail → Type 0
+MboxPromised world before (Fetched visit) = MboxPromises world before visit
 MboxPromised world before _ = Unit {0}
 
-abbrev pub AllMboxPromised : MboxWorld → MboxState MboxMail → List MboxEvent → Type 0
+abbrev pub AllMboxPromised : MboxWorld → MboxState MboxMail → List (MboxEvent Visit MboxMail) → Type 0
 AllMboxPromised world before [] = Unit {0}
 AllMboxPromised world before (event ∷ events) = MboxPromised world before event
-    × MboxKept (mbox_world_after world event) (after_mbox_event before event)
-    × AllMboxPromised (mbox_world_after world event) (after_mbox_event before event) events
+    × MboxKept (mbox_world_after world event) (after_mbox_event after_visit before event)
+    × AllMboxPromised (mbox_world_after world event) (after_mbox_event after_visit before event) events
 
 -- the law: from a kept state any events lead to a kept state, and each keeps its promises
 abbrev pub MboxKeptStaysKept : Type 0
-MboxKeptStaysKept = (world : MboxWorld) (start : MboxState MboxMail) (events : List MboxEvent) → IsWorld world.all
+MboxKeptStaysKept = (world : MboxWorld) (start : MboxState MboxMail) (events : List (MboxEvent Visit MboxMail)) → IsWorld world.all
     → MboxKept world start → MboxRun world start events
-    → MboxKept (mbox_world_after_all world events) (after_mbox_events start events) × AllMboxPromised world start events
+    → MboxKept (mbox_world_left world events) (after_mbox_events after_visit start events) × AllMboxPromised world start events
 
 -- the file is the one before the first session, followed by the entries of the next j of the selected messages
 -- after those that were recorded before the first session, in order, each once, and by at most a prefix of the
@@ -205,4 +203,4 @@ SomeAreRecorded = (world : MboxWorld) (state : MboxState MboxMail) → MboxKept 
 abbrev pub MboxCanEnd : Type 0
 MboxCanEnd = (world : MboxWorld) (before : MboxState MboxMail) (settings : Settings) (come now : ℕ)
     → IsWorld world.all → settings.max_size ≡ world.max_size → settings.read_all ≡ false
-    → (visit : MboxVisit) × MboxVisits world before visit × (visit.effect.ended ≡ true) × (visit.come ≡ come)
+    → (visit : Visit MboxMail) × MboxVisits world before visit × (visit.effect.ended ≡ true) × (visit.come ≡ come)

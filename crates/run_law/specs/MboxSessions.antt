@@ -3,13 +3,12 @@ use Rattle.std.specs.Prelude.{◌≡◌, ◌⊎◌, ℕ, false, List}
 use Rattle.std.specs.List.{AllByRecursion}
 use Rattle.pop3_wire.specs.declared.command.Command.{Command}
 use Rattle.pop3_wire.specs.declared.command.Command.TheVariants.{Retr, Dele}
-use Rattle.pop3_wire.specs.Honest.{Asked}
 use Rattle.pop3_wire.specs.World.{maildrop_of}
 use Rattle.rc_file.specs.declared.settings.Settings.{Settings}
 use Rattle.run_law.specs.Steps.{Effect}
-use Rattle.run_law.specs.Sessions.{IsBegun, Reads, BeginsOne, Served}
+use Rattle.run_law.specs.Sessions.{IsBegun, Link, Reads, BeginsOne, SendsOnly, Served, visit_of}
 use Rattle.run_law.specs.Mboxes.{MboxMail, mbox_wanted, MboxLeaves, MboxStores}
-use Rattle.run_law.specs.MboxRuns.{MboxWorld, MboxState, MboxVisit, MboxVisits}
+use Rattle.run_law.specs.MboxRuns.{MboxWorld, MboxState, MboxVisits}
 
 -- neither RETR nor DELE
 abbrev pub AsksForNoMessage : Command → Type 0
@@ -25,41 +24,19 @@ AsksForNone commands part = AllByRecursion AsksForNoMessage commands × BeginsOn
 -- back; or it settled the account, read the replies and appended texts
 pub record MboxSession (settings : Settings) (before : MboxMail) (sent got : List ℕ) (effect : Effect)
     (after : MboxMail) : Type 0 where
-  pub commands : List Command
-  pub asked : Asked commands sent
-  pub begun : AllByRecursion (IsBegun effect.listing effect.begun) commands
-  -- what was sent after these commands begins one more
-  pub next : BeginsOne (IsBegun effect.listing effect.begun) asked.part
-  pub step : (MboxLeaves before effect after × AsksForNone commands asked.part)
-      ⊎ (MboxStores settings before effect after × Reads (mbox_wanted settings before effect) commands sent got effect)
-
--- one session over its link
-pub record MboxLink : Type 0 where
-  pub settings : Settings
-  pub come : ℕ
-  pub sent : List ℕ
-  pub got : List ℕ
-  pub vanished : List (List ℕ)
-  pub after : MboxMail
+  pub sends : SendsOnly (IsBegun effect.listing effect.begun) sent
+  pub step : (MboxLeaves before effect after × AsksForNone sends.commands sends.asked.part)
+      ⊎ (MboxStores settings before effect after × Reads (mbox_wanted settings before effect) sends.commands sent got effect)
 
 -- a session of the code, over an honest link
-pub record MboxLinks (world : MboxWorld) (before : MboxState MboxMail) (link : MboxLink) : Type 0 where
+pub record MboxLinks (world : MboxWorld) (before : MboxState MboxMail) (link : Link MboxMail) : Type 0 where
   pub same : link.settings.max_size ≡ world.max_size
   pub only_new : link.settings.read_all ≡ false
   pub effect : Effect
   pub session : MboxSession link.settings before.account link.sent link.got effect link.after
   pub served : Served (maildrop_of world.all link.come before.gone) link.sent link.got link.vanished
 
-abbrev pub mbox_visit_of : MboxLink → Effect → MboxVisit
-mbox_visit_of link effect = record {
-  settings = link.settings;
-  come = link.come;
-  effect = effect;
-  vanished = link.vanished;
-  after = link.after;
-}
-
 -- a law: a session over an honest link is a visit of the law over runs
 abbrev pub MboxLinksAreVisits : Type 0
-MboxLinksAreVisits = (world : MboxWorld) (before : MboxState MboxMail) (link : MboxLink)
-    → (l : MboxLinks world before link) → MboxVisits world before (mbox_visit_of link l.effect)
+MboxLinksAreVisits = (world : MboxWorld) (before : MboxState MboxMail) (link : Link MboxMail)
+    → (l : MboxLinks world before link) → MboxVisits world before (visit_of link l.effect)

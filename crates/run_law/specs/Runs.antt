@@ -1,10 +1,12 @@
 -- Sessions over one world, what happens between them, and the states that they keep.
-use Rattle.std.specs.Prelude.{◌≡◌, ◌⊎◌, ◌≤◌, ℕ, true, false, not, List, [], ◌∷◌, ◌++◌, take, drop, length, if◌then◌else◌, ◌==◌, bytes_eq}
+use Rattle.std.specs.Prelude.{◌≡◌, ◌⊎◌, ◌≤◌, ℕ, Bool, true, false, not, List, [], ◌∷◌, ◌++◌, take, drop, length, if◌then◌else◌, ◌==◌, bytes_eq}
 use Rattle.std.specs.List.{AllByRecursion, filter}
-use Rattle.fetch_rules.specs.Record.{is_delivered}
+use Rattle.fetch_rules.specs.Record.{Row, is_delivered}
 use Rattle.fetch_rules.specs.Wanted.{candidates}
 use Rattle.rc_file.specs.declared.settings.Settings.{Settings}
 use Rattle.mail_store.specs.FileName.{stem_of, is_held, IsAccountText}
+use Rattle.mail_store.specs.Maildir.{Maildir}
+use Rattle.mail_terms.specs.Listing.{Item}
 use Rattle.mail_terms.specs.UniqueId.{is_legal_id, has_id}
 use Rattle.pop3_wire.specs.World.{Message, IsWorld, maildrop_of}
 use Rattle.run_law.specs.Mails.{ids_of, is_selected, selected, texts_of, messages_after, without}
@@ -20,36 +22,44 @@ pub record State (K : Type 0) : Type 0 where
 
 -- one session: its settings, how much mail had come, what it did, which ids its QUIT removed from the server,
 -- and the account that it left
-pub record Visit : Type 0 where
+pub record Visit (Account : Type 0) : Type 0 where
   pub settings : Settings
   pub come : ℕ
   pub effect : Effect
   pub vanished : List (List ℕ)
-  pub after : AccountMail
+  pub after : Account
 
 -- a session; anything that leaves the record and the messages of the account as they are; messages that are gone from the
 -- server after they were fetched, or before; a message that its reader throws away or files elsewhere, or puts back; a
 -- record that is lost, or is replaced by an older one; and a loss of power
-pub data Event : Type 0 where
-  Visited : Visit → Event
-  Between : AccountMail → Event
-  Expired : List (List ℕ) → Event
-  Withdrawn : List (List ℕ) → Event
-  TakenAway : List ℕ → AccountMail → Event
-  BroughtBack : List ℕ → AccountMail → Event
-  Forgotten : AccountMail → Event
-  PowerLost : AccountMail → Event
+pub data Event (Session : Type 0 → Type 0) (Account : Type 0) : Type 0 where
+  Fetched : Session Account → Event Session Account
+  Between : Account → Event Session Account
+  Expired : List (List ℕ) → Event Session Account
+  Withdrawn : List (List ℕ) → Event Session Account
+  TakenAway : List ℕ → Account → Event Session Account
+  BroughtBack : List ℕ → Account → Event Session Account
+  Forgotten : Account → Event Session Account
+  PowerLost : Account → Event Session Account
 
-abbrev pub after_event : State AccountMail → Event → State AccountMail
-after_event before (Visited visit) = record before { account = visit.after; gone = before.gone ++ visit.vanished }
-after_event before (Between after) = record before { account = after }
-after_event before (Expired ids) = record before { gone = before.gone ++ ids }
-after_event before (Withdrawn ids) = before
-after_event before (TakenAway id after) = record before { account = after; taken = id ∷ before.taken }
-after_event before (BroughtBack id after) =
+-- what an event leaves, if sessions leave what `after_session` says
+abbrev pub after_event : {S : Type 0 → Type 0} {K : Type 0} → (State K → S K → State K) → State K → Event S K → State K
+after_event after_session before (Fetched session) = after_session before session
+after_event after_session before (Between after) = record before { account = after }
+after_event after_session before (Expired ids) = record before { gone = before.gone ++ ids }
+after_event after_session before (Withdrawn ids) = before
+after_event after_session before (TakenAway id after) = record before { account = after; taken = id ∷ before.taken }
+after_event after_session before (BroughtBack id after) =
     record before { account = after; taken = filter (λ other. not (bytes_eq other id)) before.taken }
-after_event before (Forgotten after) = record before { account = after }
-after_event before (PowerLost after) = record before { account = after }
+after_event after_session before (Forgotten after) = record before { account = after }
+after_event after_session before (PowerLost after) = record before { account = after }
+
+abbrev pub after_events : {S : Type 0 → Type 0} {K : Type 0} → (State K → S K → State K) → State K → List (Event S K) → State K
+after_events after_session before [] = before
+after_events after_session before (event ∷ events) = after_events after_session (after_event after_session before event) events
+
+abbrev pub after_visit : State AccountMail → Visit AccountMail → State AccountMail
+after_visit before visit = record before { account = visit.after; gone = before.gone ++ visit.vanished }
 
 -- what stays throughout: the account's text, the limit on sizes, and all mail that wasn't withdrawn
 pub record World : Type 0 where
@@ -63,15 +73,19 @@ pub record IsSound (world : World) : Type 0 where
   pub mail : IsWorld world.all
 
 -- all mail goes on without the messages that are withdrawn
-abbrev pub world_after : World → Event → World
+abbrev pub world_after : {S : Type 0 → Type 0} {K : Type 0} → World → Event S K → World
 world_after world (Withdrawn ids) = record world { all = without ids world.all }
 world_after world _ = world
 
+abbrev pub world_left : {S : Type 0 → Type 0} {K : Type 0} → World → List (Event S K) → World
+world_left world [] = world
+world_left world (event ∷ events) = world_left (world_after world event) events
+
 -- the messages that the server showed
-abbrev pub shown : World → State AccountMail → Visit → List Message
+abbrev pub shown : World → State AccountMail → Visit AccountMail → List Message
 shown world before visit = maildrop_of world.all visit.come before.gone
 
-pub record Visits (world : World) (before : State AccountMail) (visit : Visit) : Type 0 where
+pub record Visits (world : World) (before : State AccountMail) (visit : Visit AccountMail) : Type 0 where
   pub same : visit.settings.max_size ≡ world.max_size
   pub step : Leaves before.account visit.effect visit.after
       ⊎ (Stores visit.settings world.account before.account visit.effect visit.after
@@ -83,14 +97,13 @@ pub record LeavesMail (account : List ℕ) (before after : AccountMail) : Type 0
   pub rows : after.rows ≡ before.rows
   pub same : (id : List ℕ) → is_legal_id id ≡ true → copies (files after) (stem_of account id) ≡ copies (files before) (stem_of account id)
 
--- the message was held, or was taken away before
-abbrev pub IsHeldOrTaken : List ℕ → State AccountMail → List ℕ → Type 0
-IsHeldOrTaken account state id = (is_legal_id id ≡ true)
-    × ((is_held account state.account.maildir id ≡ true) ⊎ (has_id state.taken id ≡ true))
+-- the message is held in this Maildir, or is one of those that were taken away
+abbrev pub IsHeldOrTaken : List ℕ → Maildir → List (List ℕ) → List ℕ → Type 0
+IsHeldOrTaken account maildir taken id = (is_legal_id id ≡ true) × ((is_held account maildir id ≡ true) ⊎ (has_id taken id ≡ true))
 
--- the message is neither held nor taken away
-abbrev pub IsNeither : List ℕ → State AccountMail → List ℕ → Type 0
-IsNeither account state id = (is_held account state.account.maildir id ≡ false) × (has_id state.taken id ≡ false)
+-- the message is neither held there nor taken away
+abbrev pub IsNeither : List ℕ → Maildir → List (List ℕ) → List ℕ → Type 0
+IsNeither account maildir taken id = (is_held account maildir id ≡ false) × (has_id taken id ≡ false)
 
 -- the message was held and no longer is; the record has the same rows, and for each other legal id the files
 -- hold what they held
@@ -122,7 +135,7 @@ pub record Forgets (account : List ℕ) (before after : AccountMail) : Type 0 wh
 pub record IsLastStored (world : World) (before : State AccountMail) (id : List ℕ) : Type 0 where
   pub unrecorded : is_delivered before.account.rows id ≡ false
   pub on_server : has_id before.gone id ≡ false
-  pub last : AllByRecursion (λ (m : Message). IsNeither world.account before m.uid)
+  pub last : AllByRecursion (λ (m : Message). IsNeither world.account before.account.maildir before.taken m.uid)
       (messages_after id (selected world.max_size world.all))
 
 -- power is lost. For each legal id the files of its stem hold what they held; or there is none, and the message was taken
@@ -134,30 +147,22 @@ pub record LosesPower (world : World) (before : State AccountMail) (after : Acco
       ⊎ ((copies (files after) (stem_of world.account id) ≡ [])
       × ((has_id before.taken id ≡ true) ⊎ IsLastStored world before id))
   pub delivered : (id : List ℕ) → is_delivered after.rows id ≡ true
-      → (is_delivered before.account.rows id ≡ true) ⊎ IsHeldOrTaken world.account (record before { account = after }) id
+      → (is_delivered before.account.rows id ≡ true) ⊎ IsHeldOrTaken world.account after.maildir before.taken id
 
-abbrev pub Happens : World → State AccountMail → Event → Type 0
-Happens world before (Visited visit) = Visits world before visit
+abbrev pub Happens : World → State AccountMail → Event Visit AccountMail → Type 0
+Happens world before (Fetched visit) = Visits world before visit
 Happens world before (Between after) = LeavesMail world.account before.account after
-Happens world before (Expired ids) = AllByRecursion (IsHeldOrTaken world.account before) ids
-Happens world before (Withdrawn ids) = AllByRecursion (IsNeither world.account before) ids
+Happens world before (Expired ids) = AllByRecursion (IsHeldOrTaken world.account before.account.maildir before.taken) ids
+Happens world before (Withdrawn ids) = AllByRecursion (IsNeither world.account before.account.maildir before.taken) ids
 Happens world before (TakenAway id after) = TakesAway world.account before.account id after
 Happens world before (BroughtBack id after) = BringsBack world before id after
 Happens world before (Forgotten after) = Forgets world.account before.account after
 Happens world before (PowerLost after) = LosesPower world before after
 
 -- the events happen in this order
-abbrev pub Run : World → State AccountMail → List Event → Type 0
+abbrev pub Run : World → State AccountMail → List (Event Visit AccountMail) → Type 0
 Run world before [] = Unit {0}
-Run world before (event ∷ events) = Happens world before event × Run (world_after world event) (after_event before event) events
-
-abbrev pub after_events : State AccountMail → List Event → State AccountMail
-after_events before [] = before
-after_events before (event ∷ events) = after_events (after_event before event) events
-
-abbrev pub world_after_all : World → List Event → World
-world_after_all world [] = world
-world_after_all world (event ∷ events) = world_after_all (world_after world event) events
+Run world before (event ∷ events) = Happens world before event × Run (world_after world event) (after_event after_visit before event) events
 
 -- the files of the id's stem hold the texts of these messages that have the id; or the id's message was taken
 -- away, and there is no file
@@ -180,22 +185,25 @@ pub record Kept (world : World) (state : State AccountMail) : Type 0 where
 abbrev pub past_limit : {X : Type 0} → ℕ → List X → List X
 past_limit limit xs = if limit == 0 then [] else drop limit xs
 
+-- a message with this id could be fetched, by these rows, but comes after the first `max_count` that could
+abbrev pub is_past_count : Settings → List Row → List Item → List ℕ → Bool
+is_past_count settings rows listing id = has_id (ids_wanted (past_limit settings.max_count (candidates settings rows listing))) id
+
 -- an uncut session leaves out only what its limits exclude
-abbrev pub LeavesOut : World → State AccountMail → Visit → Type 0
+abbrev pub LeavesOut : World → State AccountMail → Visit AccountMail → Type 0
 LeavesOut world before visit = visit.effect.ended ≡ true → AllByRecursion (λ (m : Message).
     (is_held world.account visit.after.maildir m.uid ≡ true) ⊎ (has_id before.taken m.uid ≡ true) ⊎ (is_selected world.max_size m ≡ false)
-    ⊎ (has_id (ids_wanted (past_limit visit.settings.max_count
-    (candidates visit.settings (merged_rows world.account before.account visit.effect) visit.effect.listing))) m.uid ≡ true))
+    ⊎ (is_past_count visit.settings (merged_rows world.account before.account visit.effect) visit.effect.listing m.uid ≡ true))
     (shown world before visit)
 
 -- each DELE begun is for a message that is held, or was taken away
-abbrev pub DeletesHeld : World → State AccountMail → Visit → Type 0
+abbrev pub DeletesHeld : World → State AccountMail → Visit AccountMail → Type 0
 DeletesHeld world before visit = AllByRecursion
     (λ id. (is_held world.account visit.after.maildir id ≡ true) ⊎ (has_id before.taken id ≡ true))
     visit.effect.begun
 
 -- if delivered messages aren't read again, none that is recorded as delivered is stored, and it stays recorded
-abbrev pub StoresOnlyNew : World → State AccountMail → Visit → Type 0
+abbrev pub StoresOnlyNew : World → State AccountMail → Visit AccountMail → Type 0
 StoresOnlyNew world before visit = visit.settings.read_all ≡ false → (id : List ℕ) → is_legal_id id ≡ true
     → is_delivered before.account.rows id ≡ true
     → (copies (files visit.after) (stem_of world.account id)
@@ -203,22 +211,22 @@ StoresOnlyNew world before visit = visit.settings.read_all ≡ false → (id : L
     × (is_delivered visit.after.rows id ≡ true)
 
 -- nothing is promised of what others do
-abbrev pub Promises : World → State AccountMail → Event → Type 0
-Promises world before (Visited visit) = LeavesOut world before visit × DeletesHeld world before visit
+abbrev pub Promises : World → State AccountMail → Event Visit AccountMail → Type 0
+Promises world before (Fetched visit) = LeavesOut world before visit × DeletesHeld world before visit
     × KeepsOthers world.account before.account visit.after × StoresOnlyNew world before visit
 Promises world before _ = Unit {0}
 
 -- each event keeps its promises, and each state is kept
-abbrev pub AllPromised : World → State AccountMail → List Event → Type 0
+abbrev pub AllPromised : World → State AccountMail → List (Event Visit AccountMail) → Type 0
 AllPromised world before [] = Unit {0}
-AllPromised world before (event ∷ events) = Promises world before event × Kept (world_after world event) (after_event before event)
-    × AllPromised (world_after world event) (after_event before event) events
+AllPromised world before (event ∷ events) = Promises world before event × Kept (world_after world event) (after_event after_visit before event)
+    × AllPromised (world_after world event) (after_event after_visit before event) events
 
 -- the law: from a kept state any events lead to a kept state, and each keeps its promises
 abbrev pub KeptStaysKept : Type 0
-KeptStaysKept = (world : World) (start : State AccountMail) (events : List Event) → IsSound world → Kept world start
+KeptStaysKept = (world : World) (start : State AccountMail) (events : List (Event Visit AccountMail)) → IsSound world → Kept world start
     → Run world start events
-    → Kept (world_after_all world events) (after_events start events) × AllPromised world start events
+    → Kept (world_left world events) (after_events after_visit start events) × AllPromised world start events
 
 -- the account holds exactly the first j of the selected messages, each in one file with its text
 pub record HoldsExactly (world : World) (account : AccountMail) : Type 0 where
@@ -258,4 +266,4 @@ StartsKept = (world : World) (account : AccountMail) → account.rows ≡ []
 abbrev pub CanEnd : Type 0
 CanEnd = (world : World) (before : State AccountMail) (settings : Settings) (come now : ℕ) → IsSound world
     → settings.max_size ≡ world.max_size
-    → (visit : Visit) × Visits world before visit × (visit.effect.ended ≡ true) × (visit.come ≡ come)
+    → (visit : Visit AccountMail) × Visits world before visit × (visit.effect.ended ≡ true) × (visit.come ≡ come)

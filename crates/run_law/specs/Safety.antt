@@ -1,14 +1,12 @@
 -- What no server can make a session do: lose or change a stored text, or delete a message that isn't known.
 use Rattle.std.specs.Prelude.{◌≡◌, ◌⊎◌, ◌<◌, ◌-◌, ℕ, true, List, ◌∷◌, ◌++◌, zip, Some, slice_get}
-use Rattle.std.specs.List.{AllByRecursion}
 use Rattle.rc_file.specs.declared.settings.Settings.{Settings}
 use Rattle.fetch_rules.specs.Record.{is_delivered}
 use Rattle.mail_store.specs.Maildir.{File}
 use Rattle.mail_store.specs.FileName.{is_held, mail_file}
 use Rattle.run_law.specs.Accounts.{AccountMail}
 use Rattle.run_law.specs.Steps.{Effect, wanted_at}
-use Rattle.run_law.specs.Sessions.{BeginsOne, Session}
-use Rattle.pop3_wire.specs.Honest.{Asked}
+use Rattle.run_law.specs.Sessions.{SendsOnly, Session}
 use Rattle.pop3_wire.specs.declared.command.Command.{Command}
 use Rattle.pop3_wire.specs.declared.command.Command.TheVariants.{Dele}
 use Rattle.mail_terms.specs.Listing.{Item}
@@ -25,16 +23,16 @@ WasStored settings account before effect gained number id = (message : ℕ × It
 
 -- the id was recorded as delivered before the session, or was held, or the session stored the text that it
 -- got by this number
-abbrev pub IsKept : Settings → List ℕ → AccountMail → Effect → List File → ℕ → List ℕ → Type 0
-IsKept settings account before effect gained number id = (is_delivered before.rows id ≡ true)
+abbrev pub IsSaved : Settings → List ℕ → AccountMail → Effect → List File → ℕ → List ℕ → Type 0
+IsSaved settings account before effect gained number id = (is_delivered before.rows id ≡ true)
     ⊎ (is_held account before.maildir id ≡ true) ⊎ WasStored settings account before effect gained number id
 
--- a DELE gives the number, counted from 1, of a message that is kept in this way; no other command deletes
-abbrev pub DeletesKept : Settings → List ℕ → AccountMail → Effect → List File → Command → Type 0
-DeletesKept settings account before effect gained (Dele number) =
+-- a DELE gives the number, counted from 1, of a message that is saved in this way; no other command deletes
+abbrev pub DeletesSaved : Settings → List ℕ → AccountMail → Effect → List File → Command → Type 0
+DeletesSaved settings account before effect gained (Dele number) =
     (0 < number) × (item : Item) × (slice_get effect.listing (number - 1) ≡ Some item)
-    × IsKept settings account before effect gained number item.uid
-DeletesKept settings account before effect gained _ = Unit {0}
+    × IsSaved settings account before effect gained number item.uid
+DeletesSaved settings account before effect gained _ = Unit {0}
 
 -- every file of `new` and `cur` is still there, with what it held; and each DELE that was sent, the last
 -- perhaps in part, asks for such a message
@@ -42,10 +40,7 @@ pub record IsSafe (settings : Settings) (account : List ℕ) (before : AccountMa
     (effect : Effect) (after : AccountMail) : Type 0 where
   pub gained : List File
   pub came : after.maildir.files ≡ before.maildir.files ++ gained
-  pub commands : List Command
-  pub asked : Asked commands sent
-  pub deletes : AllByRecursion (DeletesKept settings account before effect gained) commands
-  pub next : BeginsOne (DeletesKept settings account before effect gained) asked.part
+  pub sends : SendsOnly (DeletesSaved settings account before effect gained) sent
 
 -- a law: every session is safe in this way, whatever its server says
 abbrev pub SessionsAreSafe : Type 0

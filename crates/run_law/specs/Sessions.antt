@@ -14,7 +14,7 @@ use Rattle.run_law.specs.Accounts.{AccountMail}
 use Rattle.run_law.specs.Steps.{Effect, Leaves, Stores, wanted_at}
 use Rattle.pop3_wire.specs.Reading.{WholeReply}
 use Rattle.run_law.specs.Readings.{Talked, Retrieves, IsListed}
-use Rattle.run_law.specs.Runs.{World, State, Visits}
+use Rattle.run_law.specs.Runs.{World, State, Visit, Visits}
 
 -- a DELE's number counts from 1, the id of its message is among those begun, and no other message of the
 -- listing has that id
@@ -46,16 +46,19 @@ pub record Reads (wanted : List (ℕ × Item)) (commands : List Command) (sent g
 abbrev pub BeginsOne : (Command → Type 0) → List ℕ → Type 0
 BeginsOne Is part = (part ≡ []) ⊎ ((command : Command) × (unsent : List ℕ) × (ended (line_of command) ≡ part ++ unsent) × Is command)
 
+-- each command that was sent, the last perhaps in part, is of this kind
+pub record SendsOnly (Is : Command → Type 0) (sent : List ℕ) : Type 0 where
+  pub commands : List Command
+  pub asked : Asked commands sent
+  pub each : AllByRecursion Is commands
+  pub next : BeginsOne Is asked.part
+
 -- a session by what its link gained: it changed nothing, or it read the replies and stored texts
 pub record Session (settings : Settings) (account : List ℕ) (before : AccountMail) (sent got : List ℕ)
     (effect : Effect) (after : AccountMail) : Type 0 where
-  pub commands : List Command
-  pub asked : Asked commands sent
-  pub begun : AllByRecursion (IsBegun effect.listing effect.begun) commands
-  -- what was sent after these commands begins one more
-  pub next : BeginsOne (IsBegun effect.listing effect.begun) asked.part
+  pub sends : SendsOnly (IsBegun effect.listing effect.begun) sent
   pub step : Leaves before effect after
-      ⊎ (Stores settings account before effect after × Reads (wanted_at settings account before effect) commands sent got effect)
+      ⊎ (Stores settings account before effect after × Reads (wanted_at settings account before effect) sends.commands sent got effect)
 
 -- the id is that of a message that is marked
 abbrev pub IsMarked : List Message → List Bool → List ℕ → Type 0
@@ -70,31 +73,34 @@ pub record Served (drop : List Message) (sent got : List ℕ) (vanished : List (
   pub marked : AllByRecursion (IsMarked drop marks) vanished
 
 -- one session over its link
-pub record Link : Type 0 where
+pub record Link (Account : Type 0) : Type 0 where
   pub settings : Settings
   pub come : ℕ
   pub sent : List ℕ
   pub got : List ℕ
   pub vanished : List (List ℕ)
-  pub after : AccountMail
+  pub after : Account
 
 -- a session of the code, over an honest link
-pub record Links (world : World) (before : State AccountMail) (link : Link) : Type 0 where
+pub record Links (world : World) (before : State AccountMail) (link : Link AccountMail) : Type 0 where
   pub same : link.settings.max_size ≡ world.max_size
   pub effect : Effect
   pub session : Session link.settings world.account before.account link.sent link.got effect link.after
   pub served : Served (maildrop_of world.all link.come before.gone) link.sent link.got link.vanished
 
+abbrev pub visit_of : {K : Type 0} → Link K → Effect → Visit K
+visit_of link effect = record {
+  settings = link.settings;
+  come = link.come;
+  effect = effect;
+  vanished = link.vanished;
+  after = link.after;
+}
+
 -- a law: a session over an honest link is a visit of the law over runs
 abbrev pub LinksAreVisits : Type 0
-LinksAreVisits = (world : World) (before : State AccountMail) (link : Link) → (l : Links world before link)
-    → Visits world before (record {
-      settings = link.settings;
-      come = link.come;
-      effect = l.effect;
-      vanished = link.vanished;
-      after = link.after;
-    })
+LinksAreVisits = (world : World) (before : State AccountMail) (link : Link AccountMail) → (l : Links world before link)
+    → Visits world before (visit_of link l.effect)
 
 -- how much mail had come at a session, and which ids its QUIT removed from the server
 pub record Fact : Type 0 where
