@@ -41,6 +41,8 @@ pub record AreSettings (world : World) (settings : Settings) : Type 0 where
 
 -- ---- any list of sessions
 
+-- An `Event` is a session, or what happens between sessions.
+
 -- one session: its settings, its time, its report, its link before and after it, and what it left; how much
 -- mail had come by then, and which ids its QUIT removed from the server
 pub record Occasion (Account : Type 0) : Type 0 where
@@ -137,7 +139,7 @@ pub record IsPowerLost (world : World) (state : State AccountFiles) (after : Acc
 abbrev pub after_session : State AccountFiles → Occasion AccountFiles → State AccountFiles
 after_session state occasion = record state { account = occasion.after; gone = state.gone ++ occasion.vanished }
 
--- an event of each kind happens in this state
+-- the event happens in this state
 abbrev pub Follows : World → State AccountFiles → Event Occasion AccountFiles → Type 0
 Follows world state (Fetched occasion) = IsSession world state occasion
 Follows world state (Between after) = IsBetween world state.account after
@@ -150,7 +152,8 @@ Follows world state (PowerLost after) = IsPowerLost world state after
 
 abbrev pub IsRun : World → State AccountFiles → List (Event Occasion AccountFiles) → Type 0
 IsRun world state [] = Unit {0}
-IsRun world state (event ∷ events) = Follows world state event × IsRun (world_after world event) (after_event after_session state event) events
+IsRun world state (event ∷ events) = Follows world state event
+    × IsRun (world_after world event) (after_event after_session state event) events
 
 -- ---- what is promised
 
@@ -184,7 +187,7 @@ LeavesOutOnlyBeyondLimits world state occasion = occasion.report.outcome ≡ End
     ⊎ IsPastCount world state occasion message)
     (maildrop_at world state occasion)
 
--- a DELE gives the number, counted from 1, of a message of the maildrop whose id is of this kind
+-- a DELE gives the number, counted from 1, of a message of the maildrop whose id is of this kind; no other command deletes
 abbrev pub IsForSuch : List Message → (List ℕ → Type 0) → Command → Type 0
 IsForSuch maildrop Is (Dele number) = (0 < number) × (message : Message)
     × (slice_get maildrop (number - 1) ≡ Some message) × Is message.uid

@@ -38,6 +38,8 @@ pub record AreSettings (world : MboxWorld) (settings : Settings) : Type 0 where
 
 -- ---- any list of sessions
 
+-- An `MboxEvent` is a session, or what happens between sessions.
+
 -- the maildrop of an occasion
 abbrev pub maildrop_at : MboxWorld → MboxState MboxAccountFiles → Occasion MboxAccountFiles → List Message
 maildrop_at world state occasion = maildrop_of world.all occasion.come state.gone
@@ -79,7 +81,7 @@ pub record IsRewritten (world : MboxWorld) (before : MboxAccountFiles) (had : Li
 abbrev pub after_session : MboxState MboxAccountFiles → Occasion MboxAccountFiles → MboxState MboxAccountFiles
 after_session state occasion = record { account = occasion.after; gone = state.gone ++ occasion.vanished }
 
--- an event of each kind happens in this state
+-- the event happens in this state
 abbrev pub Follows : MboxWorld → MboxState MboxAccountFiles → MboxEvent Occasion MboxAccountFiles → Type 0
 Follows world state (Fetched occasion) = IsMboxSession world state occasion
 Follows world state (Between after) = IsMboxBetween state.account after

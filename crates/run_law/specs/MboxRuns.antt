@@ -16,6 +16,7 @@ pub record MboxState (K : Type 0) : Type 0 where
   pub account : K
   pub gone : List (List ℕ)
 
+-- what a session leaves
 abbrev pub after_visit : MboxState MboxMail → Visit MboxMail → MboxState MboxMail
 after_visit before visit = record { account = visit.after; gone = before.gone ++ visit.vanished }
 
@@ -40,7 +41,7 @@ pub record MboxVisits (world : MboxWorld) (before : MboxState MboxMail) (visit :
 
 -- a session; anything else that leaves the record and the mboxrd file's bytes as they are; messages that are gone from the
 -- server without a session, after they were recorded as delivered, or before; and others who write the mboxrd file, which
--- holds these bytes then, while these messages are recorded
+-- holds these bytes then, while these messages are recorded. `Session` is as in `Event`
 pub data MboxEvent (Session : Type 0 → Type 0) (Account : Type 0) : Type 0 where
   Fetched : Session Account → MboxEvent Session Account
   Between : Account → MboxEvent Session Account
@@ -57,6 +58,7 @@ after_mbox_event after_session before (Expired ids) = record before { gone = bef
 after_mbox_event after_session before (Withdrawn ids) = before
 after_mbox_event after_session before (Rewritten had file after) = record before { account = after }
 
+-- what a list of events leaves
 abbrev pub after_mbox_events : {S : Type 0 → Type 0} {K : Type 0} → (MboxState K → S K → MboxState K) → MboxState K → List (MboxEvent S K)
     → MboxState K
 after_mbox_events after_session before [] = before
@@ -69,6 +71,7 @@ mbox_world_after world (Withdrawn ids) = record world { all = without ids world.
 mbox_world_after world (Rewritten had file after) = record world { start = file; had = had }
 mbox_world_after world _ = world
 
+-- the world after a list of events
 abbrev pub mbox_world_left : {S : Type 0 → Type 0} {K : Type 0} → MboxWorld → List (MboxEvent S K) → MboxWorld
 mbox_world_left world [] = world
 mbox_world_left world (event ∷ events) = mbox_world_left (mbox_world_after world event) events
@@ -85,7 +88,7 @@ pub record AreAllRecorded (world : MboxWorld) (account : MboxMail) (had : List M
   pub prefix : selected world.max_size world.all ≡ had ++ ahead
   pub recorded : (id : List ℕ) → is_delivered account.rows id ≡ has_id (ids_of had) id
 
--- an event of each kind happens in this state
+-- the event happens in this state
 abbrev pub MboxHappens : MboxWorld → MboxState MboxMail → MboxEvent Visit MboxMail → Type 0
 MboxHappens world before (Fetched visit) = MboxVisits world before visit
 MboxHappens world before (Between after) = after ≡ before.account

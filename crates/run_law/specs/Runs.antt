@@ -31,7 +31,8 @@ pub record Visit (Account : Type 0) : Type 0 where
 
 -- a session; anything that leaves the record and the messages of the account as they are; messages that are gone from the
 -- server after they were fetched, or before; a message that its reader throws away or files elsewhere, or puts back; a
--- record that is lost, or is replaced by an older one; and a loss of power
+-- record that is lost, or is replaced by an older one; and a loss of power. `Session` is what is known of a session: here a
+-- `Visit`, in the headline an `Occasion`
 pub data Event (Session : Type 0 → Type 0) (Account : Type 0) : Type 0 where
   Fetched : Session Account → Event Session Account
   Between : Account → Event Session Account
@@ -54,10 +55,12 @@ after_event after_session before (BroughtBack id after) =
 after_event after_session before (Forgotten after) = record before { account = after }
 after_event after_session before (PowerLost after) = record before { account = after }
 
+-- what a list of events leaves
 abbrev pub after_events : {S : Type 0 → Type 0} {K : Type 0} → (State K → S K → State K) → State K → List (Event S K) → State K
 after_events after_session before [] = before
 after_events after_session before (event ∷ events) = after_events after_session (after_event after_session before event) events
 
+-- what a session leaves
 abbrev pub after_visit : State AccountMail → Visit AccountMail → State AccountMail
 after_visit before visit = record before { account = visit.after; gone = before.gone ++ visit.vanished }
 
@@ -77,6 +80,7 @@ abbrev pub world_after : {S : Type 0 → Type 0} {K : Type 0} → World → Even
 world_after world (Withdrawn ids) = record world { all = without ids world.all }
 world_after world _ = world
 
+-- the world after a list of events
 abbrev pub world_left : {S : Type 0 → Type 0} {K : Type 0} → World → List (Event S K) → World
 world_left world [] = world
 world_left world (event ∷ events) = world_left (world_after world event) events
@@ -149,6 +153,7 @@ pub record LosesPower (world : World) (before : State AccountMail) (after : Acco
   pub delivered : (id : List ℕ) → is_delivered after.rows id ≡ true
       → (is_delivered before.account.rows id ≡ true) ⊎ IsHeldOrTaken world.account after.maildir before.taken id
 
+-- the event happens in this state
 abbrev pub Happens : World → State AccountMail → Event Visit AccountMail → Type 0
 Happens world before (Fetched visit) = Visits world before visit
 Happens world before (Between after) = LeavesMail world.account before.account after
@@ -185,7 +190,7 @@ pub record Kept (world : World) (state : State AccountMail) : Type 0 where
 abbrev pub past_limit : {X : Type 0} → ℕ → List X → List X
 past_limit limit xs = if limit == 0 then [] else drop limit xs
 
--- a message with this id could be fetched, by these rows, but comes after the first `max_count` that could
+-- a message with this id could be fetched, by these rows, but comes after the first `max_count` that could; 0 is no limit
 abbrev pub is_past_count : Settings → List Row → List Item → List ℕ → Bool
 is_past_count settings rows listing id = has_id (ids_wanted (past_limit settings.max_count (candidates settings rows listing))) id
 
@@ -219,7 +224,8 @@ Promises world before _ = Unit {0}
 -- each event keeps its promises, and each state is kept
 abbrev pub AllPromised : World → State AccountMail → List (Event Visit AccountMail) → Type 0
 AllPromised world before [] = Unit {0}
-AllPromised world before (event ∷ events) = Promises world before event × Kept (world_after world event) (after_event after_visit before event)
+AllPromised world before (event ∷ events) = Promises world before event
+    × Kept (world_after world event) (after_event after_visit before event)
     × AllPromised (world_after world event) (after_event after_visit before event) events
 
 -- the law: from a kept state any events lead to a kept state, and each keeps its promises

@@ -88,6 +88,7 @@ pub record Links (world : World) (before : State AccountMail) (link : Link Accou
   pub session : Session link.settings world.account before.account link.sent link.got effect link.after
   pub served : Served (maildrop_of world.all link.come before.gone) link.sent link.got link.vanished
 
+-- a session over its link, as a visit with what it did
 abbrev pub visit_of : {K : Type 0} → Link K → Effect → Visit K
 visit_of link effect = record {
   settings = link.settings;
