@@ -1,4 +1,4 @@
--- No server makes a session lose a text, or delete a message that isn't known.
+-- No server makes a session lose a text, or delete a message that may not be deleted.
 use Rattle.std.proofs.Common.{◌≡◌, inl, inr, ◌≤◌, ◌<◌, ◌-◌, ℕ, zero, suc, Bool, true, cond, not, ◌&&◌, List, [], ◌∷◌, ◌++◌, map, take, zip, length, refl, sym, ap, subst, ◌∙◌, arith, append_assoc}
 use Rattle.std.specs.Prelude.{bytes_eq, ◌⊎◌, Some, slice_get}
 use Rattle.std.specs.List.{filter, AllByRecursion}
@@ -19,9 +19,9 @@ use Rattle.run_law.specs.Steps.{Effect, Leaves, Stores, file_for, is_unheld, ids
 use Rattle.run_law.specs.Sessions.{IsBegun, BeginsOne, SendsOnly}
 use Rattle.pop3_wire.specs.declared.command.Command.{Command}
 use Rattle.pop3_wire.specs.declared.command.Command.TheVariants.{Dele}
-use Rattle.run_law.specs.Safety.{IsAmong, DeletesSaved, SessionsAreSafe}
+use Rattle.run_law.specs.Safety.{IsAmong, DeletesAllowed, SessionsAreSafe}
 use Rattle.run_law.specs.Mboxes.{MboxMail, settled, mbox_rows, mbox_wanted, entries, IsBroken, MboxStores}
-use Rattle.run_law.specs.MboxSafety.{MboxDeletesSaved, MboxSessionsAreSafe}
+use Rattle.run_law.specs.MboxSafety.{MboxDeletesAllowed, MboxSessionsAreSafe}
 use Rattle.run_law.proofs.Lists.{all_map, all_both, all_filter, all_passing, all_back}
 use Rattle.run_law.proofs.Ids.{bytes_same, bytes_self, taken_more, all_ids_at}
 use Rattle.run_law.proofs.Below.{Records, RowLaws}
@@ -204,7 +204,7 @@ kept_none settings account before effect after leaves = record {
 }
 
 deletes_kept : (settings : Settings) (account : List ℕ) (before : AccountMail) (effect : Effect) (after : AccountMail) (keeps : KeepsAll settings account before effect after) (command : Command)
-    → IsBegun effect.listing effect.begun command → DeletesSaved settings account before effect keeps.gained command
+    → IsBegun effect.listing effect.begun command → DeletesAllowed settings account before effect keeps.gained command
 deletes_kept settings account before effect after keeps (Dele number) (item, at, is, counted, alone) = (
   counted,
   item,
@@ -229,7 +229,7 @@ sessions_are_safe laws settings account before sent got effect after session =
     record {
       gained = keeps.gained;
       came = keeps.came;
-      sends = sends_weaker (IsBegun effect.listing effect.begun) (DeletesSaved settings account before effect keeps.gained) sent deletes session.sends;
+      sends = sends_weaker (IsBegun effect.listing effect.begun) (DeletesAllowed settings account before effect keeps.gained) sent deletes session.sends;
     }
 
 -- ---- with an mboxrd
@@ -254,7 +254,7 @@ module _ (laws : RowLaws) (settings : Settings) (before : MboxMail) (effect : Ef
     | inr stored ↦ inr (found_in s.stored (mbox_wanted settings before effect) effect.texts id s.fetched stored)
   ]
 
-  deletes : (command : Command) → IsBegun effect.listing effect.begun command → MboxDeletesSaved settings before effect after command
+  deletes : (command : Command) → IsBegun effect.listing effect.begun command → MboxDeletesAllowed settings before effect after command
   deletes (Dele number) (item, at, is, counted, alone) = (
     counted,
     item,
@@ -278,13 +278,13 @@ module _ (laws : RowLaws) (settings : Settings) (before : MboxMail) (effect : Ef
   deletes other is = tt
 
 -- nothing was begun
-none_begun : (settings : Settings) (before : MboxMail) (effect : Effect) (after : MboxMail) → effect.begun ≡ [] → (command : Command) → IsBegun effect.listing effect.begun command → MboxDeletesSaved settings before effect after command
+none_begun : (settings : Settings) (before : MboxMail) (effect : Effect) (after : MboxMail) → effect.begun ≡ [] → (command : Command) → IsBegun effect.listing effect.begun command → MboxDeletesAllowed settings before effect after command
 none_begun settings before effect after none (Dele number) (item, at, is, counted, alone) = absurd (true≢false (sym is ∙ ap (λ l. has_id l item.uid) none))
 none_begun settings before effect after none command is = tt
 
 pub mbox_sessions_are_safe : RowLaws → MboxSessionsAreSafe
 mbox_sessions_are_safe laws settings before sent got effect after session =
-    let kept : (command : Command) → IsBegun effect.listing effect.begun command → MboxDeletesSaved settings before effect after command = elim session.step [
+    let kept : (command : Command) → IsBegun effect.listing effect.begun command → MboxDeletesAllowed settings before effect after command = elim session.step [
       | inl (leaves, none) ↦ none_begun settings before effect after leaves.begun
       | inr (stores, reads) ↦ deletes laws settings before effect after stores
     ] in
@@ -296,5 +296,5 @@ mbox_sessions_are_safe laws settings before sent got effect after session =
         ]
         | inr (stores, reads) ↦ inr (_, (tail_of settings before effect after stores).1)
       ];
-      sends = sends_weaker (IsBegun effect.listing effect.begun) (MboxDeletesSaved settings before effect after) sent kept session.sends;
+      sends = sends_weaker (IsBegun effect.listing effect.begun) (MboxDeletesAllowed settings before effect after) sent kept session.sends;
     }

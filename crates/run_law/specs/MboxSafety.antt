@@ -1,5 +1,5 @@
 -- What no server can make a session with an mboxrd do: lose or change what the file holds, except for the
--- rest of an open intent's entry, or delete a message that isn't known.
+-- rest of an open intent's entry, or delete a message that may not be deleted.
 use Rattle.std.specs.Prelude.{◌≡◌, ◌⊎◌, ◌<◌, ◌-◌, ℕ, true, List, ◌++◌, zip, Some, slice_get}
 use Rattle.rc_file.specs.declared.settings.Settings.{Settings}
 use Rattle.fetch_rules.specs.Record.{is_delivered}
@@ -28,17 +28,17 @@ pub record WasAppended (settings : Settings) (before : MboxMail) (effect : Effec
 
 -- a DELE gives the number, counted from 1, of a message that the settled record shows as delivered, or whose
 -- entry the session appended; no other command deletes
-abbrev pub MboxDeletesSaved : Settings → MboxMail → Effect → MboxMail → Command → Type 0
-MboxDeletesSaved settings before effect after (Dele number) =
+abbrev pub MboxDeletesAllowed : Settings → MboxMail → Effect → MboxMail → Command → Type 0
+MboxDeletesAllowed settings before effect after (Dele number) =
     (0 < number) × (item : Item) × (slice_get effect.listing (number - 1) ≡ Some item)
     × ((is_delivered (settled effect.listing before).rows item.uid ≡ true) ⊎ WasAppended settings before effect after number item.uid)
-MboxDeletesSaved settings before effect after _ = Unit {0}
+MboxDeletesAllowed settings before effect after _ = Unit {0}
 
 -- the file is as it was, or begins with what it held after it was settled; and each DELE that was sent, the
 -- last perhaps in part, asks for such a message
 pub record MboxIsSafe (settings : Settings) (before : MboxMail) (sent : List ℕ) (effect : Effect) (after : MboxMail) : Type 0 where
   pub file : (after.file ≡ before.file) ⊎ ((more : List ℕ) × (after.file ≡ (settled effect.listing before).file ++ more))
-  pub sends : SendsOnly (MboxDeletesSaved settings before effect after) sent
+  pub sends : SendsOnly (MboxDeletesAllowed settings before effect after) sent
 
 -- a law: every session is safe in this way, whatever its server says
 abbrev pub MboxSessionsAreSafe : Type 0

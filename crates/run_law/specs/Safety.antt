@@ -1,4 +1,4 @@
--- What no server can make a session do: lose or change a stored text, or delete a message that isn't known.
+-- What no server can make a session do: lose or change a stored text, or delete a message that may not be deleted.
 use Rattle.std.specs.Prelude.{◌≡◌, ◌⊎◌, ◌<◌, ◌-◌, ℕ, true, List, ◌∷◌, ◌++◌, zip, Some, slice_get}
 use Rattle.rc_file.specs.declared.settings.Settings.{Settings}
 use Rattle.fetch_rules.specs.Record.{is_delivered}
@@ -23,16 +23,16 @@ WasStored settings account before effect gained number id = (message : ℕ × It
 
 -- the id was recorded as delivered before the session, or was held, or the session stored the text that it
 -- got by this number
-abbrev pub IsSaved : Settings → List ℕ → AccountMail → Effect → List File → ℕ → List ℕ → Type 0
-IsSaved settings account before effect gained number id = (is_delivered before.rows id ≡ true)
+abbrev pub MayBeDeleted : Settings → List ℕ → AccountMail → Effect → List File → ℕ → List ℕ → Type 0
+MayBeDeleted settings account before effect gained number id = (is_delivered before.rows id ≡ true)
     ⊎ (is_held account before.maildir id ≡ true) ⊎ WasStored settings account before effect gained number id
 
--- a DELE gives the number, counted from 1, of a message that is saved in this way; no other command deletes
-abbrev pub DeletesSaved : Settings → List ℕ → AccountMail → Effect → List File → Command → Type 0
-DeletesSaved settings account before effect gained (Dele number) =
+-- a DELE gives the number, counted from 1, of a message that may be deleted in this way; no other command deletes
+abbrev pub DeletesAllowed : Settings → List ℕ → AccountMail → Effect → List File → Command → Type 0
+DeletesAllowed settings account before effect gained (Dele number) =
     (0 < number) × (item : Item) × (slice_get effect.listing (number - 1) ≡ Some item)
-    × IsSaved settings account before effect gained number item.uid
-DeletesSaved settings account before effect gained _ = Unit {0}
+    × MayBeDeleted settings account before effect gained number item.uid
+DeletesAllowed settings account before effect gained _ = Unit {0}
 
 -- every file of `new` and `cur` is still there, with what it held; and each DELE that was sent, the last
 -- perhaps in part, asks for such a message
@@ -40,7 +40,7 @@ pub record IsSafe (settings : Settings) (account : List ℕ) (before : AccountMa
     (effect : Effect) (after : AccountMail) : Type 0 where
   pub gained : List File
   pub came : after.maildir.files ≡ before.maildir.files ++ gained
-  pub sends : SendsOnly (DeletesSaved settings account before effect gained) sent
+  pub sends : SendsOnly (DeletesAllowed settings account before effect gained) sent
 
 -- a law: every session is safe in this way, whatever its server says
 abbrev pub SessionsAreSafe : Type 0
