@@ -14,7 +14,7 @@ use Rattle.fetch_rules.specs.Wanted.{DistinctAreFiltered, at_most, wanted, candi
 use Rattle.run_law.specs.Mails.{ids_of, listing_of, is_selected, selected}
 use Rattle.run_law.specs.Steps.{AreTexts, ids_wanted}
 use Rattle.run_law.specs.Runs.{past_limit}
-use Rattle.run_law.proofs.Lists.{front_is, filter-filter, filter_all, all_map, all_both, all_filter, all_passing, all_take, all_front}
+use Rattle.run_law.proofs.Lists.{front_is, filter-filter, filter_all, all_map, all_both, all_filter, all_passing, all_take, all_parts}
 use Rattle.run_law.proofs.Ids.{Distinct, distinct_is, distinct_take, distinct_filter, ids_filtered, ids_both, all_at, all_ids_at, bytes_self, HasTextsOf, through, whole_take, whole_filter}
 use Rattle.run_law.proofs.Wants.{num_item, all_at_most, with_text, asked, offered, wants, offered_by_number, wants_by_number, wanted_are, candidates_are, wants_snd, offered_snd, wants_placed, zipped, ids_are, begins, both_parts, past-map, snd}
 use Rattle.run_law.proofs.Bridge.{IsLeft, BeginsWith, bridge, left_is}
@@ -46,8 +46,8 @@ module _ (limit : ℕ) (all : List Message) (mail : IsWorld all) (done rest : Li
       (distinct_take (length done) (selected limit all) (distinct_filter (is_selected limit) all (distinct_is all mail.distinct)))
 
   pub done_legal : AllByRecursion IsLegal done
-  done_legal = all_front IsLegal done rest (subst (AllByRecursion IsLegal) prefix
-      (all_filter IsLegal (is_selected limit) all (all_map IsMessage IsLegal (λ m h. h.legal) all mail.messages)))
+  done_legal = (all_parts IsLegal done rest (subst (AllByRecursion IsLegal) prefix
+      (all_filter IsLegal (is_selected limit) all (all_map IsMessage IsLegal (λ m h. h.legal) all mail.messages)))).0
 
   pub done_texts : (id : List ℕ) → HasTextsOf done all id
   done_texts id = through done (selected limit all) all id

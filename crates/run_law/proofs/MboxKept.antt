@@ -23,7 +23,7 @@ use Rattle.run_law.specs.Mboxes.{MboxMail, is_stored, closed_file, settled, mbox
 use Rattle.run_law.specs.MboxRuns.{MboxState, MboxWorld, MboxVisits, MboxKept, MboxEnds, MboxPromises, HasEntry, IsNextOpen, after_visit, mbox_shown, entries_of, MboxEvent, Fetched, Between, Expired, Withdrawn, Rewritten, MboxHappens, MboxPromised, after_mbox_event, mbox_world_after, MboxKeptStaysKept, MboxKeptHolds}
 use Rattle.run_law.proofs.Core as core
 use Rattle.run_law.proofs.Core.{Scene, IsScene, fetched}
-use Rattle.run_law.proofs.Lists.{all_map, all_front, all_back, all_mapped, all_take, all_filter}
+use Rattle.run_law.proofs.Lists.{all_map, all_parts, all_mapped, all_take, all_filter}
 use Rattle.run_law.proofs.Ids.{ids_both, gone_is_done, bytes_same, none_vanish}
 use Rattle.run_law.proofs.Below.{RowLaws}
 use Rattle.run_law.proofs.MboxOthers.{expired_kept, withdrawn_kept, rewritten_kept, mbox_world_stays}
@@ -58,8 +58,8 @@ selected_whole world sound = all_filter (λ (m : Message). IsWhole m.text) (is_s
 -- the text of the next message is whole
 next_whole : (world : MboxWorld) (state : MboxState MboxMail) → IsWorld world.all → (kept : MboxKept world state) → (next : Message) (more : List Message) → kept.rest ≡ next ∷ more → IsWhole next.text
 next_whole world state sound kept next more is =
-    (all_back (λ (m : Message). IsWhole m.text) (world.had ++ kept.done) (next ∷ more)
-    (subst (AllByRecursion (λ (m : Message). IsWhole m.text)) (kept.prefix ∙ ap (λ l. (world.had ++ kept.done) ++ l) is) (selected_whole world sound))).0
+    (all_parts (λ (m : Message). IsWhole m.text) (world.had ++ kept.done) (next ∷ more)
+    (subst (AllByRecursion (λ (m : Message). IsWhole m.text)) (kept.prefix ∙ ap (λ l. (world.had ++ kept.done) ++ l) is) (selected_whole world sound))).1.0
 
 -- what settling makes of an account with this open intent
 settled_is : (bytes uid text : List ℕ) (listing : List Item) (account : MboxMail) → (o : IsOpen bytes uid text account)
@@ -312,8 +312,8 @@ module _ (fronts : FrontsAreSettled) (laws : RowLaws) (filtered : DistinctAreFil
           ∙ ap (λ l. l ++ place.0.1 ∷ []) (core.taken_is scene is_scene s.stored)
 
       row_of_next : has_row rows place.0.1.uid ≡ true
-      row_of_next = (all_back (λ (m : Message). has_row rows m.uid ≡ true) (take s.stored ws) (place.0.1 ∷ [])
-          (subst (AllByRecursion (λ (m : Message). has_row rows m.uid ≡ true)) taken (has_rows (suc s.stored)))).0
+      row_of_next = (all_parts (λ (m : Message). has_row rows m.uid ≡ true) (take s.stored ws) (place.0.1 ∷ [])
+          (subst (AllByRecursion (λ (m : Message). has_row rows m.uid ≡ true)) taken (has_rows (suc s.stored)))).1.0
 
   next : Next
   next = elim s.ending [
@@ -402,8 +402,8 @@ mbox_holds adds world state sound kept =
     let tail = rest_of world state kept in
     let whole : selected world.max_size world.all ≡ world.had ++ (kept.done ++ kept.rest) = kept.prefix ∙ append_assoc world.had kept.done kept.rest in
     let front : take (length kept.done) (kept.done ++ kept.rest) ≡ kept.done = take_at kept.done kept.rest (length kept.done) refl in
-    let whole_done = all_front (λ (m : Message). IsWhole m.text) kept.done kept.rest (all_back (λ (m : Message). IsWhole m.text) world.had (kept.done ++ kept.rest)
-    (subst (AllByRecursion (λ (m : Message). IsWhole m.text)) whole (selected_whole world sound))) in
+    let whole_done = (all_parts (λ (m : Message). IsWhole m.text) kept.done kept.rest (all_parts (λ (m : Message). IsWhole m.text) world.had (kept.done ++ kept.rest)
+    (subst (AllByRecursion (λ (m : Message). IsWhole m.text)) whole (selected_whole world sound))).1).0 in
     record {
       j = length kept.done;
       later = kept.done ++ kept.rest;

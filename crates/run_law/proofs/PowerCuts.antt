@@ -16,7 +16,7 @@ use Rattle.run_law.specs.Runs.{World, IsSound, State, IsNeither, IsLastStored, K
 use Rattle.run_law.proofs.Core.{members}
 use Rattle.run_law.proofs.Holds.{done_is_held, unheld_if}
 use Rattle.run_law.proofs.Ids.{Distinct, all_ids_at, bytes_same, bytes_swap, distinct_filter, distinct_is, ids_both, no_texts, other_id}
-use Rattle.run_law.proofs.Lists.{all_back, all_both, all_map}
+use Rattle.run_law.proofs.Lists.{all_parts, all_both, all_map}
 use Rattle.run_law.proofs.Core.{done_legal}
 
 -- ---- lists

@@ -22,7 +22,7 @@ use Rattle.pop3_wire.specs.declared.command.Command.TheVariants.{Dele}
 use Rattle.run_law.specs.Safety.{IsAmong, DeletesSaved, SessionsAreSafe}
 use Rattle.run_law.specs.Mboxes.{MboxMail, settled, mbox_rows, mbox_wanted, entries, IsBroken, MboxStores}
 use Rattle.run_law.specs.MboxSafety.{MboxDeletesSaved, MboxSessionsAreSafe}
-use Rattle.run_law.proofs.Lists.{all_map, all_both, all_filter, all_passing, all_back}
+use Rattle.run_law.proofs.Lists.{all_map, all_both, all_filter, all_passing, all_parts}
 use Rattle.run_law.proofs.Ids.{bytes_same, bytes_self, taken_more, all_ids_at}
 use Rattle.run_law.proofs.Below.{Records, RowLaws}
 use Rattle.run_law.proofs.Records.{delivered_marked, delivered_merged, delivered_unheld}
@@ -67,7 +67,7 @@ all_zip P (x ∷ xs) (y ∷ ys) h = (h.0, all_zip P xs ys h.1)
 
 among_zip : {X Y : Type 0} (P : X → Type 0) (xs : List X) (ys : List Y) (x : X) (y : Y) → AllByRecursion P xs → IsAmong (x, y) (zip xs ys) → P x
 among_zip {X} {Y} P xs ys x y h (front, behind, is) =
-    (all_back (λ (p : X × Y). P p.0) front ((x, y) ∷ behind) (subst (AllByRecursion (λ (p : X × Y). P p.0)) is (all_zip P xs ys h))).0
+    (all_parts (λ (p : X × Y). P p.0) front ((x, y) ∷ behind) (subst (AllByRecursion (λ (p : X × Y). P p.0)) is (all_zip P xs ys h))).1.0
 
 -- a DELE that was begun is for the first message of its id, so a wanted message of that id has its number
 only_number : (settings : Settings) (rows : List Row) (listing : List Item) (texts : List (List ℕ)) (message : ℕ × Item) (text : List ℕ) (number : ℕ) (item : Item)
