@@ -87,9 +87,7 @@ are_distinct (id ∷ ids) d = AllPairs-cons (λ (a b : List ℕ). a ≢ b) id id
     (λ k e l same. both_ways _ d.0 (list_any_at (bytes_eq id) ids k e l (ap (bytes_eq id) (sym same) ∙ bytes_self id))) (are_distinct ids d.1)
 
 none_take : (n : ℕ) (ms : List Message) (id : List ℕ) → has_id (ids_of ms) id ≡ false → has_id (ids_of (take n ms)) id ≡ false
-none_take zero ms id e = refl
-none_take (suc n) [] id e = refl
-none_take (suc n) (m ∷ ms) id e = let parts = or_parts _ _ e in or_from _ _ parts.0 (none_take n ms id parts.1)
+none_take n ms id e = (or_parts _ _ (sym (ids_both (take n ms) (drop n ms) id) ∙ rw (take-append-drop n ms) e)).0
 
 pub distinct_take : (n : ℕ) (ms : List Message) → Distinct (ids_of ms) → Distinct (ids_of (take n ms))
 distinct_take zero ms d = tt
