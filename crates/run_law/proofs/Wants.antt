@@ -1,14 +1,13 @@
 -- Which messages of a maildrop are wanted, and which texts belong to them.
-use Rattle.std.proofs.Common.{◌≡◌, ◌≤◌, ◌≢◌, ◌<◌, ◌+◌, ◌-◌, ℕ, zero, suc, List, [], ◌∷◌, ◌++◌, Bool, false, not, cond, ◌&&◌, ◌||◌, ◌==◌, length, take, drop, map, refl, sym, ◌∙◌, ap, arith, append_assoc, take-append-drop, Some, slice_get}
+use Rattle.std.proofs.Common.{◌≡◌, ◌≤◌, ◌<◌, ◌+◌, ◌-◌, ℕ, zero, suc, List, [], ◌∷◌, ◌++◌, Bool, not, cond, ◌&&◌, ◌||◌, ◌==◌, length, take, drop, map, refl, sym, ◌∙◌, ap, subst, arith, append_assoc, take-append-drop, Some, slice_get}
 use Rattle.std.specs.Prelude.{bytes_eq, zip}
 use Rattle.std.specs.List.{filter, enumerate_from, AllByRecursion}
-use Rattle.std.proofs.lemmas.Bool.{both_ways, or_parts, cond_both}
+use Rattle.std.proofs.lemmas.Bool.{cond_both}
 use Rattle.std.proofs.lemmas.List.{take-map, drop-map, append-nil}
-use Rattle.std.proofs.lemmas.List.Elements.{All-from_recursion}
-use Rattle.std.proofs.lemmas.List.Kept.{AllPairs-cons}
 use Rattle.std.proofs.lemmas.Option.{same_Some}
 use Rattle.pop3_wire.specs.World.{Message}
-use Rattle.mail_terms.specs.Listing.{Item, HasDistinctIds, has_item}
+use Rattle.mail_terms.specs.Distinct.{AreDistinct}
+use Rattle.mail_terms.specs.Listing.{Item, has_item}
 use Rattle.fetch_rules.specs.Record.{Row, is_delivered}
 use Rattle.fetch_rules.specs.Wanted.{is_within, is_asked_for, candidates, at_most, wanted, DistinctAreFiltered}
 use Rattle.rc_file.specs.declared.settings.Settings.{Settings}
@@ -18,24 +17,9 @@ use Rattle.mail_terms.specs.UniqueId.{has_id}
 use Rattle.run_law.specs.Mails.{ids_of, item_of, listing_of}
 use Rattle.run_law.specs.Steps.{AreTexts, file_for, is_unheld, ids_wanted}
 use Rattle.run_law.specs.Runs.{past_limit}
-use Rattle.run_law.proofs.Lists.{push_cond, filter-map, any-map, map-map, all_map, all_take, all_filter}
-use Rattle.run_law.proofs.Ids.{Distinct, bytes_self}
+use Rattle.run_law.proofs.Lists.{filter-map, any-map, map-map, all_map, all_take, all_filter}
+use Rattle.run_law.proofs.Ids.{Distinct, are_distinct}
 use Rattle.run_law.proofs.Files.{message_file}
-
--- ---- the listing of distinct messages
-
-others : (m : Message) (ms : List Message) → has_id (ids_of ms) m.uid ≡ false → AllByRecursion (λ (id : List ℕ). m.uid ≢ id) (map (λ (i : Item). i.uid) (listing_of ms))
-others m [] e = tt
-others m (x ∷ ms) e =
-    let parts = or_parts _ _ e in
-    (λ same. both_ways (bytes_eq m.uid x.uid) parts.0 (ap (bytes_eq m.uid) (sym same) ∙ bytes_self m.uid), others m ms parts.1)
-
-pub listing_distinct : (ms : List Message) → Distinct (ids_of ms) → HasDistinctIds (listing_of ms)
-listing_distinct [] d = λ i j e before inside. absurd (omega arith)
-listing_distinct (m ∷ ms) d =
-    AllPairs-cons (λ (a b : List ℕ). a ≢ b) m.uid (map (λ (i : Item). i.uid) (listing_of ms))
-    (All-from_recursion (λ (id : List ℕ). m.uid ≢ id) (map (λ (i : Item). i.uid) (listing_of ms)) (others m ms d.0))
-    (listing_distinct ms d.1)
 
 pub has_listed : (ms : List Message) (id : List ℕ) → has_item (listing_of ms) id ≡ has_id (ids_of ms) id
 has_listed ms id = any-map (λ (i : Item). bytes_eq id i.uid) item_of ms ∙ sym (any-map (bytes_eq id) (λ (m : Message). m.uid) ms)
@@ -65,12 +49,12 @@ enumerate_map n [] = refl
 enumerate_map n (m ∷ ms) = ap (λ (l : List (ℕ × Item)). (n, item_of m) ∷ l) (enumerate_map (n + 1) ms)
 
 pub at_most-map : {X Y : Type 0} (f : X → Y) (n : ℕ) (xs : List X) → at_most n (map f xs) ≡ map f (at_most n xs)
-at_most-map f n xs = ap (cond (n == 0) (map f xs)) (take-map f n xs) ∙ sym (push_cond (map f) (n == 0) xs (take n xs))
+at_most-map f n xs = grind (arith, take-map f n xs)
 
 pub candidates_are : DistinctAreFiltered → (settings : Settings) (rows : List Row) (ms : List Message) → Distinct (ids_of ms)
     → candidates settings rows (listing_of ms) ≡ map num_item (offered_by_number settings rows ms)
 candidates_are filtered settings rows ms d =
-    filtered settings rows (listing_of ms) (listing_distinct ms d)
+    filtered settings rows (listing_of ms) (subst AreDistinct (sym (map-map (λ (i : Item). i.uid) item_of ms)) (are_distinct (ids_of ms) d))
     ∙ ap (filter (is_asked_for settings rows)) (enumerate_map 1 ms)
     ∙ filter-map (is_asked_for settings rows) num_item (enumerate_from 1 ms)
 
@@ -83,7 +67,7 @@ snd q = q.1
 
 snds : (p : Message → Bool) (n : ℕ) (ms : List Message) → map snd (filter (λ (q : ℕ × Message). p q.1) (enumerate_from n ms)) ≡ filter p ms
 snds p n [] = refl
-snds p n (m ∷ ms) = push_cond (map snd) (p m) _ _ ∙ ap (λ l. cond (p m) (m ∷ l) l) (snds p (n + 1) ms)
+snds p n (m ∷ ms) = grind (arith, snds p (n + 1) ms)
 
 pub offered_snd : (settings : Settings) (rows : List Row) (ms : List Message) → map snd (offered_by_number settings rows ms) ≡ offered settings rows ms
 offered_snd settings rows ms = snds (asked settings rows) 1 ms
@@ -154,4 +138,4 @@ begins n limit xs =
     rw (← append_assoc (take n (at_most limit xs)) (drop n (at_most limit xs)) (past_limit limit xs), take-append-drop n (at_most limit xs)) (both_parts limit xs)
 
 pub past-map : {X Y : Type 0} (f : X → Y) (n : ℕ) (xs : List X) → past_limit n (map f xs) ≡ map f (past_limit n xs)
-past-map f n xs = ap (cond (n == 0) []) (drop-map f n xs) ∙ sym (push_cond (map f) (n == 0) [] (drop n xs))
+past-map f n xs = grind (arith, drop-map f n xs)
