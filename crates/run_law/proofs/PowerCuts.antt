@@ -1,10 +1,10 @@
 -- One more file than in a kept state is that of the last message that was stored, or of one that was taken away.
-use Rattle.std.proofs.Common.{◌≡◌, inl, inr, ℕ, List, [], ◌∷◌, ◌++◌, Bool, true, false, cond, refl, sym, ◌∙◌, ap, subst, arith}
+use Rattle.std.proofs.Common.{◌≡◌, inl, inr, ℕ, List, [], ◌∷◌, ◌++◌, Bool, true, false, refl, sym, ◌∙◌, ap, subst, arith}
 use Rattle.std.specs.Prelude.{bytes_eq}
 use Rattle.std.specs.List.{AllByRecursion}
 use Rattle.std.proofs.lemmas.Bool.{both_ways, cases_Bool, false_from_ne_true, or_parts}
 use Rattle.std.proofs.lemmas.List.{append-nil}
-use Rattle.mail_store.specs.FileName.{is_held, stem_of}
+use Rattle.mail_store.specs.FileName.{stem_of}
 use Rattle.mail_store.specs.Maildir.{Maildir}
 use Rattle.mail_terms.specs.UniqueId.{is_legal_id, has_id}
 use Rattle.pop3_wire.specs.World.{Message}
@@ -13,11 +13,10 @@ use Rattle.run_law.specs.Accounts.{AccountMail, files, copies}
 use Rattle.run_law.specs.Mails.{ids_of, messages_after}
 use Rattle.run_law.specs.Power.{OneMoreIsLast, with_maildir}
 use Rattle.run_law.specs.Runs.{World, IsSound, State, IsNeither, IsLastStored, Kept}
-use Rattle.run_law.proofs.Core.{members}
-use Rattle.run_law.proofs.Holds.{done_is_held, unheld_if}
-use Rattle.run_law.proofs.Ids.{Distinct, all_ids_at, bytes_same, bytes_swap, distinct_filter, distinct_is, ids_both, no_texts, other_id}
+use Rattle.run_law.proofs.Core.{IsLegal, done_legal, members}
+use Rattle.run_law.proofs.Holds.{not_neither, unheld_if}
+use Rattle.run_law.proofs.Ids.{Distinct, all_ids_at, bytes_same, distinct_filter, distinct_is, ids_both, no_texts, other_id}
 use Rattle.run_law.proofs.Lists.{all_parts, all_both, all_map}
-use Rattle.run_law.proofs.Core.{done_legal}
 
 -- ---- lists
 
@@ -26,7 +25,7 @@ after_later : (id : List ℕ) (front rest : List Message) → has_id (ids_of fro
 after_later id [] rest none = refl
 after_later id (f ∷ front) rest none =
     let parts = or_parts (bytes_eq id f.uid) (has_id (ids_of front) id) none in
-    ap (λ b. cond b (front ++ rest) (messages_after id (front ++ rest))) parts.0 ∙ after_later id front rest parts.1
+    rw parts.0 (after_later id front rest parts.1)
 
 -- what holds of messages holds of those after an id
 pub all_after : (P : Message → Type 0) (id : List ℕ) (ms : List Message) → AllByRecursion P ms → AllByRecursion P (messages_after id ms)
@@ -37,10 +36,9 @@ abbrev IsApart : List ℕ → Message → Type 0
 IsApart id m = bytes_eq m.uid id ≡ false
 
 all_apart : (id : List ℕ) (ms : List Message) → has_id (ids_of ms) id ≡ false → AllByRecursion (IsApart id) ms
-all_apart id [] none = tt
-all_apart id (m ∷ ms) none =
-    let parts = or_parts (bytes_eq id m.uid) (has_id (ids_of ms) id) none in
-    (bytes_swap m.uid id ∙ parts.0, all_apart id ms parts.1)
+all_apart id ms none = all_map (λ (m : Message). has_id (ids_of ms) m.uid ≡ true) (IsApart id)
+    (λ m there. false_from_ne_true (bytes_eq m.uid id) (λ e. both_ways (has_id (ids_of ms) id) none (ap (has_id (ids_of ms)) (sym (bytes_same m.uid id e)) ∙ there)))
+    ms (members ms)
 
 -- none of them has the id
 apart_after : (id : List ℕ) (ms : List Message) → Distinct (ids_of ms) → AllByRecursion (IsApart id) (messages_after id ms)
@@ -73,11 +71,11 @@ module _ (world : World) (is : IsSound world) (state : State AccountMail) (kept 
   abbrev now : State AccountMail
   now = with_maildir maildir state
 
+  abbrev Neither : Message → Type 0
+  Neither m = IsNeither world.account now.account.maildir now.taken m.uid
+
   undone : is_done id ≡ false
-  undone = false_from_ne_true (is_done id) (λ done. elim (done_is_held world state kept.done id (kept.holds id legal) done) [
-    | inl held ↦ both_ways (is_held world.account state.account.maildir id) (unheld_if world state id none) held
-    | inr taken ↦ both_ways (has_id state.taken id) untaken taken
-  ])
+  undone = false_from_ne_true (is_done id) (λ done. not_neither world state kept.done id (kept.holds id legal) done (unheld_if world state id none, untaken))
 
   -- what would be done then isn't
   never : (p : List ℕ → Bool) (x : List ℕ) → is_done x ≡ false → (p x ≡ true → is_done x ≡ true) → p x ≡ false
@@ -88,38 +86,29 @@ module _ (world : World) (is : IsSound world) (state : State AccountMail) (kept 
 
   -- no file of a message that isn't done
   no_copies : (x : List ℕ) → is_legal_id x ≡ true → is_done x ≡ false → copies (files state.account) (stem_of world.account x) ≡ []
-  no_copies x l not = elim (kept.holds x l) [
-    | inl e ↦ e ∙ no_texts kept.done x not
-    | inr taken ↦ taken.1
-  ]
-
-  neither : (m : Message) → is_legal_id m.uid ≡ true → (is_done m.uid ≡ false) × IsApart id m → IsNeither world.account now.account.maildir now.taken m.uid
-  neither m l (not, apart) = (
-    unheld_if world now m.uid (others m.uid l apart ∙ no_copies m.uid l not),
-    among state.taken kept.taken m.uid not,
-  )
-
-  abbrev Neither : Message → Type 0
-  Neither m = IsNeither world.account now.account.maildir now.taken m.uid
+  no_copies x l not = grind (arith, kept.holds x l, no_texts kept.done x not)
 
   distinct : Distinct (ids_of (kept.done ++ kept.rest))
   distinct = subst (λ (l : List Message). Distinct (ids_of l)) kept.prefix (distinct_filter _ world.all (distinct_is world.all is.mail.distinct))
 
+  neither : (m : Message) → IsLegal m → has_id (ids_of kept.rest) m.uid ≡ true → IsApart id m → Neither m
+  neither m l there apart =
+      let not = none_before kept.done kept.rest distinct m there in
+      (unheld_if world now m.uid (others m.uid l apart ∙ no_copies m.uid l not), among state.taken kept.taken m.uid not)
+
   later : AllByRecursion Neither (messages_after id kept.rest)
-  later = all_both (λ (m : Message). is_legal_id m.uid ≡ true) (λ (m : Message). (is_done m.uid ≡ false) × IsApart id m) Neither neither (messages_after id kept.rest)
-      (all_after (λ (m : Message). is_legal_id m.uid ≡ true) id kept.rest
-      (all_back (λ (m : Message). is_legal_id m.uid ≡ true) kept.done kept.rest (done_legal world.max_size world.all is.mail (kept.done ++ kept.rest) [] (kept.prefix ∙ sym (append-nil (kept.done ++ kept.rest))))))
-      (all_both (λ (m : Message). is_done m.uid ≡ false) (IsApart id) (λ (m : Message). (is_done m.uid ≡ false) × IsApart id m) (λ m not apart. (not, apart)) (messages_after id kept.rest)
-      (all_after (λ (m : Message). is_done m.uid ≡ false) id kept.rest
-      (all_map (λ (m : Message). has_id (ids_of kept.rest) m.uid ≡ true) (λ (m : Message). is_done m.uid ≡ false) (none_before kept.done kept.rest distinct) kept.rest (members kept.rest)))
-      (apart_after id kept.rest (distinct_back kept.done kept.rest distinct)))
+  later = all_both (λ (m : Message). IsApart id m → Neither m) (IsApart id) Neither (λ m f. f) (messages_after id kept.rest)
+      (all_after (λ (m : Message). IsApart id m → Neither m) id kept.rest
+      (all_both IsLegal (λ (m : Message). has_id (ids_of kept.rest) m.uid ≡ true) (λ (m : Message). IsApart id m → Neither m) neither kept.rest
+      (all_parts IsLegal kept.done kept.rest (done_legal world.max_size world.all is.mail (kept.done ++ kept.rest) [] (kept.prefix ∙ sym (append-nil (kept.done ++ kept.rest))))).1
+      (members kept.rest)))
+      (apart_after id kept.rest (distinct_back kept.done kept.rest distinct))
 
   pub lastly : IsLastStored world now id
   lastly = record {
     unrecorded = never (is_delivered state.account.rows) id undone (λ e. kept.recorded id e);
     on_server = among state.gone kept.gone id undone;
-    last = subst (λ (l : List Message). AllByRecursion Neither (messages_after id l)) (sym kept.prefix)
-        (subst (AllByRecursion Neither) (sym (after_later id kept.done kept.rest undone)) later);
+    last = rw (kept.prefix, after_later id kept.done kept.rest undone) later;
   }
 
 pub one_more_is_last : OneMoreIsLast
