@@ -45,15 +45,10 @@ pub can_end : DistinctAreFiltered → CanEnd
 can_end filtered world before settings come now is same =
     let here : List Message = maildrop_of world.all come before.gone in
     let rows : List Row = merged before.account.rows (listing_of here) (flags_of world.account before.account.maildir (listing_of here)) now in
-    let wants : List (ℕ × Item) = wanted settings rows (listing_of here) in
     let effect : Effect = all_fetched now settings rows here in
     let n : ℕ = length effect.texts in
     let can = can_fetch filtered world.all is.mail come before.gone now settings rows in
-    let new : List File = map (file_for world.account) (filter (is_unheld world.account before.account.maildir) (zip (take n wants) effect.texts)) in
-    let after : AccountMail = record {
-      rows = marked_all rows (ids_wanted (take n wants));
-      maildir = record before.account.maildir { files = before.account.maildir.files ++ new };
-    } in
+    let after : AccountMail = record { rows = _; maildir = record before.account.maildir { files = _ } } in
     let stores : Stores settings world.account before.account effect after = record {
       stored = n;
       recorded = n;
@@ -77,11 +72,7 @@ mbox_can_end filtered world before settings come now sound same only_new =
     let effect : Effect = all_fetched now settings rows here in
     let n : ℕ = length effect.texts in
     let can = can_fetch filtered world.all sound come before.gone now settings rows in
-    let after : MboxMail = record {
-      rows = marked_all rows (ids_wanted (take n (wanted settings rows (listing_of here))));
-      intent = None;
-      file = (settled (listing_of here) before.account).file ++ entries (take n effect.texts);
-    } in
+    let after : MboxMail = record { rows = _; intent = None; file = _ } in
     let stores : MboxStores settings before.account effect after = record {
       stored = n;
       fetched = omega arith;
