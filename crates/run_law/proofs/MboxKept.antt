@@ -65,12 +65,7 @@ next_whole world state sound kept next more is =
 settled_is : (bytes uid text : List ℕ) (listing : List Item) (account : MboxMail) → (o : IsOpen bytes uid text account)
     → ((settled listing account).rows ≡ cond (stands_whole (length bytes) (length (entry_of text)) (listed_size listing uid) (bytes ++ o.front)) (marked account.rows uid) account.rows)
     × ((settled listing account).file ≡ settled_file (length bytes) (length (entry_of text)) (listed_size listing uid) (bytes ++ o.front))
-settled_is bytes uid text listing account o = (
-  ap (λ i. closed_rows (is_stored i listing account.file) account.rows i) o.intent
-      ∙ ap (λ f. closed_rows (is_stored (Some (intent_of bytes uid text)) listing f) account.rows (Some (intent_of bytes uid text))) o.file,
-  ap (λ i. closed_file i listing account.file) o.intent ∙ ap (closed_file (Some (intent_of bytes uid text)) listing) o.file,
-)
-
+settled_is bytes uid text listing account o = (rw (o.intent, o.file), rw (o.intent, o.file))
 pub settle : FrontsAreSettled → RowLaws → (world : MboxWorld) (listing : List Item) (state : MboxState MboxMail) → IsWorld world.all → (kept : MboxKept world state) → IsSettled world listing state.account kept.done
 settle fronts laws world listing state sound kept = elim kept.stands [
   | inl closed ↦ no_more (ap (λ i. closed_rows (is_stored i listing state.account.file) state.account.rows i) closed.intent) (ap (λ i. closed_file i listing state.account.file) closed.intent ∙ closed.file)
