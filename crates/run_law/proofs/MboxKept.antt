@@ -66,6 +66,7 @@ settled_is : (bytes uid text : List ℕ) (listing : List Item) (account : MboxMa
     → ((settled listing account).rows ≡ cond (stands_whole (length bytes) (length (entry_of text)) (listed_size listing uid) (bytes ++ o.front)) (marked account.rows uid) account.rows)
     × ((settled listing account).file ≡ settled_file (length bytes) (length (entry_of text)) (listed_size listing uid) (bytes ++ o.front))
 settled_is bytes uid text listing account o = (rw (o.intent, o.file), rw (o.intent, o.file))
+
 pub settle : FrontsAreSettled → RowLaws → (world : MboxWorld) (listing : List Item) (state : MboxState MboxMail) → IsWorld world.all → (kept : MboxKept world state) → IsSettled world listing state.account kept.done
 settle fronts laws world listing state sound kept = elim kept.stands [
   | inl closed ↦ no_more (ap (λ i. closed_rows (is_stored i listing state.account.file) state.account.rows i) closed.intent) (ap (λ i. closed_file i listing state.account.file) closed.intent ∙ closed.file)
@@ -79,14 +80,9 @@ settle fronts laws world listing state sound kept = elim kept.stands [
           rest = o.more;
           prefix = kept.prefix ∙ ap (λ l. (world.had ++ kept.done) ++ l) o.is_next ∙ simp append_assoc;
           recorded = λ id. ap (λ r. is_delivered r id) (is.0 ∙ ap rows whole.0)
-              ∙ delivered_one laws state.account.rows o.next.uid id o.row
-              ∙ ap (λ b. b || bytes_eq id o.next.uid) (kept.recorded id)
-              ∙ sym (with_next world kept.done o.next id);
+              ∙ rw (delivered_one laws state.account.rows o.next.uid id o.row, kept.recorded id, with_next world kept.done o.next id);
           more = λ id e. with_next world kept.done o.next id ∙ or_left _ _ e;
-          file = is.1 ∙ whole.1
-              ∙ ap (λ l. bytes ++ l) (whole.2 ∙ sym (append-nil (entry_of o.next.text)))
-              ∙ append_assoc world.start (entries_of kept.done) (entries_of (o.next ∷ []))
-              ∙ ap (λ l. world.start ++ l) (sym (entries-append kept.done (o.next ∷ [])));
+          file = is.1 ∙ whole.1 ∙ rw (whole.2, entries-append kept.done (o.next ∷ [])) (simp (append_assoc, append-nil));
         }
         | inr part ↦ no_more (is.0 ∙ ap rows part.0) (is.1 ∙ part.1)
       ]
