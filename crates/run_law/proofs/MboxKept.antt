@@ -48,8 +48,7 @@ pub record IsSettled (world : MboxWorld) (listing : List Item) (account : MboxMa
 
 with_next : (world : MboxWorld) (done : List Message) (m : Message) (id : List ℕ)
     → has_id (ids_of (world.had ++ (done ++ m ∷ []))) id ≡ (has_id (ids_of (world.had ++ done)) id || bytes_eq id m.uid)
-with_next world done m id = ap (λ (ms : List Message). has_id (ids_of ms) id) (sym (append_assoc world.had done (m ∷ []))) ∙ ids_both (world.had ++ done) (m ∷ []) id
-    ∙ ap (λ b. has_id (ids_of (world.had ++ done)) id || b) (or-false (bytes_eq id m.uid))
+with_next world done m id = rw (← append_assoc world.had done (m ∷ []), ids_both (world.had ++ done) (m ∷ []) id, or-false (bytes_eq id m.uid))
 
 selected_whole : (world : MboxWorld) → IsWorld world.all → AllByRecursion (λ (m : Message). IsWhole m.text) (selected world.max_size world.all)
 selected_whole world sound = all_filter (λ (m : Message). IsWhole m.text) (is_selected world.max_size) world.all
