@@ -231,8 +231,7 @@ module _ (fronts : FrontsAreSettled) (laws : RowLaws) (filtered : DistinctAreFil
   -- the first of the wanted messages are the next of the selected ones
   prefix_of : (n : ℕ) → selected world.max_size world.all ≡ (world.had ++ (origin.done ++ take n ws)) ++ (core.added_begins scene is_scene n).0
   prefix_of n = ap (λ k. selected k world.all) (sym same) ∙ core.prefix_after scene is_scene n
-      ∙ ap (λ l. ((world.had ++ origin.done) ++ l) ++ (core.added_begins scene is_scene n).0) (core.all_added scene is_scene (λ id l h d. known id ∙ d) only_new n)
-      ∙ ap (λ l. l ++ (core.added_begins scene is_scene n).0) (append_assoc world.had origin.done (take n ws))
+      ∙ rw (core.all_added scene is_scene (λ id l h d. known id ∙ d) only_new n) (simp append_assoc)
 
   ids_after : (id : List ℕ) → has_id (ids_of (world.had ++ (origin.done ++ take s.stored ws))) id ≡ (core.is_done scene id || has_id (ids_of (take s.stored ws)) id)
   ids_after id = ap (λ (ms : List Message). has_id (ids_of ms) id) (sym (append_assoc world.had origin.done (take s.stored ws))) ∙ ids_both (world.had ++ origin.done) (take s.stored ws) id
