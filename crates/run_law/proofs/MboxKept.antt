@@ -375,10 +375,8 @@ mbox_kept_states fronts laws filtered world start (event ∷ events) sound kept 
 
 pub texts_stand : EntryAddsText → (file : List ℕ) (first texts : List (List ℕ)) → AllByRecursion IsWhole texts → MboxFile file first → MboxFile (file ++ entries texts) (first ++ texts)
 texts_stand adds file first [] whole stands = simp append-nil stands
-texts_stand adds file first (text ∷ texts) whole stands =
-    let more = texts_stand adds (file ++ entry_of text) (first ++ text ∷ []) texts whole.1 (adds file text first stands whole.0) in
-    subst (MboxFile (file ++ (entry_of text ++ entries texts))) (append_assoc first (text ∷ []) texts)
-    (subst (λ f. MboxFile f ((first ++ text ∷ []) ++ texts)) (append_assoc file (entry_of text) (entries texts)) more)
+texts_stand adds file first (text ∷ texts) whole stands = simp append_assoc
+    (simp append_assoc at (texts_stand adds (file ++ entry_of text) (first ++ text ∷ []) texts whole.1 (adds file text first stands whole.0)))
 
 pub at_length : {X : Type 0} (xs : List X) (y : X) (ys : List X) → slice_get (xs ++ y ∷ ys) (length xs) ≡ Some y
 at_length [] y ys = refl
