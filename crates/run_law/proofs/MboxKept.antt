@@ -3,9 +3,9 @@ use Rattle.std.proofs.Common.{◌≡◌, ◌≤◌, ◌⊎◌, inl, inr, ℕ, ze
 use Rattle.std.specs.Prelude.{bytes_eq}
 use Rattle.std.specs.List.{AllByRecursion}
 use Rattle.std.proofs.lemmas.Bool.{both_ways, or_cases, or_left, or_right}
-use Rattle.std.proofs.lemmas.List.{append-nil, map-append, take_at}
+use Rattle.std.proofs.lemmas.List.{append-nil, get_or_at, map-append, take_at}
 use Rattle.std.proofs.lemmas.Grind.{flat_map-append}
-use Rattle.std.proofs.lemmas.Option.{same_Some}
+use Rattle.std.proofs.lemmas.Option.{same_Some, slice_get_read}
 use Rattle.std.proofs.Math.Bool.{or-false}
 use Rattle.mail_terms.specs.UniqueId.{has_id}
 use Rattle.mail_terms.specs.Text.{IsWhole}
@@ -378,10 +378,6 @@ texts_stand adds file first [] whole stands = simp append-nil stands
 texts_stand adds file first (text ∷ texts) whole stands = simp append_assoc
     (simp append_assoc at (texts_stand adds (file ++ entry_of text) (first ++ text ∷ []) texts whole.1 (adds file text first stands whole.0)))
 
-pub at_length : {X : Type 0} (xs : List X) (y : X) (ys : List X) → slice_get (xs ++ y ∷ ys) (length xs) ≡ Some y
-at_length [] y ys = refl
-at_length (x ∷ xs) y ys = at_length xs y ys
-
 pub mbox_holds : EntryAddsText → MboxKeptHolds
 mbox_holds adds world state sound kept =
     let tail = rest_of world state kept in
@@ -401,7 +397,9 @@ mbox_holds adds world state sound kept =
         | inr (next, behind, more, is, entry, opened) ↦ inr (
           next,
           behind,
-          ap (λ (l : List Message). slice_get (kept.done ++ l) (length kept.done)) is ∙ at_length kept.done next more,
+          ap (λ (l : List Message). slice_get (kept.done ++ l) (length kept.done)) is
+              ∙ slice_get_read (kept.done ++ next ∷ more) (length (kept.done ++ next ∷ more)) (length kept.done) next refl
+              (omega (arith, length-append kept.done (next ∷ more))) (sym (get_or_at kept.done next more next (length kept.done) refl)),
           entry,
           opened ∙ ap (λ (ms : List Message). Some (intent_of (world.start ++ entries_of ms) next.uid next.text)) (sym front),
         )
