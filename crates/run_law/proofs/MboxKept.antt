@@ -406,9 +406,6 @@ mbox_holds adds world state sound kept =
       ];
       ids = λ id. kept.recorded id ∙ ap (λ (ms : List Message). has_id (ids_of (world.had ++ ms)) id) (sym front);
       entered = has_entry world state kept;
-      texts = λ none first stands.
-          subst (λ (ms : List Message). MboxFile state.account.file (first ++ map (λ (m : Message). m.text) ms)) (sym front)
-          (subst (λ f. MboxFile f (first ++ map (λ (m : Message). m.text) kept.done))
-          (sym (tail.1 ∙ ap (λ l. (world.start ++ entries_of kept.done) ++ l) none ∙ append-nil (world.start ++ entries_of kept.done)))
-          (texts_stand adds world.start first (map (λ (m : Message). m.text) kept.done) (all_mapped IsWhole (λ (m : Message). m.text) kept.done whole_done) stands));
+      texts = λ none first stands. rw (front, tail.1, none, append-nil (world.start ++ entries_of kept.done))
+          (texts_stand adds world.start first (map (λ (m : Message). m.text) kept.done) (all_mapped IsWhole (λ (m : Message). m.text) kept.done whole_done) stands);
     }
