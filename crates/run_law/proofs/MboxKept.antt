@@ -359,10 +359,7 @@ happened fronts laws filtered world before (Fetched v) sound kept h = visited fr
 happened fronts laws filtered world before (Between after) sound kept h = (subst (λ (k : MboxMail). MboxKept world (record before { account = k })) (sym h) kept, tt)
 happened fronts laws filtered world before (Expired ids) sound kept h = (expired_kept world before ids kept h, tt)
 happened fronts laws filtered world before (Withdrawn ids) sound kept h = (withdrawn_kept world before ids kept h, tt)
-happened fronts laws filtered world before (Rewritten had file after) sound kept h = (
-  subst (λ (k : MboxMail). MboxKept (record world { start = file; had = had }) (record before { account = k })) (sym h.1) (rewritten_kept world before had file kept h.0),
-  tt,
-)
+happened fronts laws filtered world before (Rewritten had file after) sound kept h = (rw h.1 (rewritten_kept world before had file kept h.0), tt)
 
 pub mbox_kept_states : FrontsAreSettled → RowLaws → DistinctAreFiltered → MboxKeptStaysKept
 mbox_kept_states fronts laws filtered world start [] sound kept run = (kept, tt)
