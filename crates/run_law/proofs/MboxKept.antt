@@ -334,11 +334,11 @@ module _ (fronts : FrontsAreSettled) (laws : RowLaws) (filtered : DistinctAreFil
         ) here (core.left_out scene is_scene s.stored (let l = (s.ended ended).0 in omega (arith, l, ap length wanted_is, core.wanted_length scene is_scene)));
   }
 
--- ---- one session
+-- ---- one event
 
-visited : FrontsAreSettled → RowLaws → DistinctAreFiltered → (world : MboxWorld) (before : MboxState MboxMail) (v : Visit MboxMail) → IsWorld world.all → MboxKept world before → MboxVisits world before v
-    → MboxKept world (after_visit before v) × MboxPromises world before v
-visited fronts laws filtered world before v sound kept h = elim h.step [
+happened : FrontsAreSettled → RowLaws → DistinctAreFiltered → (world : MboxWorld) (before : MboxState MboxMail) (event : MboxEvent Visit MboxMail) → IsWorld world.all → MboxKept world before → MboxHappens world before event
+    → MboxKept (mbox_world_after world event) (after_mbox_event after_visit before event) × MboxPromised world before event
+happened fronts laws filtered world before (Fetched v) sound kept h = elim h.step [
   | inl left ↦ (
     left_kept fronts world before v sound kept left h.vanished,
     record { ends = λ ended. absurd (both_ways v.effect.ended left.ended ended); begun = subst (AllByRecursion (λ id. (has_id (ids_of world.had) id ≡ true) ⊎ HasEntry world v.after.file id)) (sym left.begun) tt },
@@ -352,10 +352,6 @@ visited fronts laws filtered world before v sound kept h = elim h.step [
         },
       )
 ]
-
-happened : FrontsAreSettled → RowLaws → DistinctAreFiltered → (world : MboxWorld) (before : MboxState MboxMail) (event : MboxEvent Visit MboxMail) → IsWorld world.all → MboxKept world before → MboxHappens world before event
-    → MboxKept (mbox_world_after world event) (after_mbox_event after_visit before event) × MboxPromised world before event
-happened fronts laws filtered world before (Fetched v) sound kept h = visited fronts laws filtered world before v sound kept h
 happened fronts laws filtered world before (Between after) sound kept h = (subst (λ (k : MboxMail). MboxKept world (record before { account = k })) (sym h) kept, tt)
 happened fronts laws filtered world before (Expired ids) sound kept h = (expired_kept world before ids kept h, tt)
 happened fronts laws filtered world before (Withdrawn ids) sound kept h = (withdrawn_kept world before ids kept h, tt)
