@@ -2,7 +2,7 @@
 use Rattle.std.proofs.Common.{◌≡◌, ◌⊎◌, inl, inr, ℕ, List, [], ◌++◌, Bool, true, false, not, cond, ◌&&◌, ◌||◌, length, take, map, refl, sym, ◌∙◌, ap, subst, arith}
 use Rattle.std.specs.Prelude.{zip}
 use Rattle.std.specs.List.{filter, AllByRecursion}
-use Rattle.std.proofs.lemmas.Bool.{both_ways, or_cases, or_left, and_parts, cases_Bool, false_from_ne_true, cond_both}
+use Rattle.std.proofs.lemmas.Bool.{both_ways, or_cases, or_left, and_parts, cases_Bool, false_from_ne_true}
 use Rattle.std.proofs.lemmas.List.{append-nil}
 use Rattle.mail_terms.specs.UniqueId.{is_legal_id, has_id}
 use Rattle.pop3_wire.specs.World.{Message}
@@ -173,9 +173,6 @@ module _ (laws : Below) (world : World) (is : IsSound world) (before : State Acc
       unasked = false_from_ne_true _ (λ e. both_ways (is_delivered rows id)
           (all_at (λ x. is_delivered rows x ≡ false) got id
           (all_take (λ (m : Message). is_delivered rows m.uid ≡ false) s.stored (fetched scene) (core.none_recorded scene is_scene only_new)) e) known)
-
-      nothing : cond (not (held id)) (texts_of got id) [] ≡ []
-      nothing = cond_both (not (held id)) (texts_of got id) [] (λ (l : List (List ℕ)). l ≡ []) (λ t. no_texts got id unasked) (λ f. refl)
 
   pub leaves_out : LeavesOut world before v
   leaves_out ended = all_map (core.IsOut scene is_scene s.stored) (λ (m : Message). (is_held world.account v.after.maildir m.uid ≡ true) ⊎ (has_id before.taken m.uid ≡ true) ⊎ (is_selected world.max_size m ≡ false)
