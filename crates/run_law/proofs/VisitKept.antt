@@ -177,11 +177,9 @@ module _ (laws : Below) (world : World) (is : IsSound world) (before : State Acc
   pub leaves_out : LeavesOut world before v
   leaves_out ended = all_map (core.IsOut scene is_scene s.stored) (λ (m : Message). (is_held world.account v.after.maildir m.uid ≡ true) ⊎ (has_id before.taken m.uid ≡ true) ⊎ (is_selected world.max_size m ≡ false)
       ⊎ (has_id (ids_wanted (past_limit v.settings.max_count (candidates v.settings rows v.effect.listing))) m.uid ≡ true))
-      (λ m o. elim o [
-        | inl done ↦ elim (held_after m.uid done) [
-          | inl held' ↦ inl held'
-          | inr taken ↦ inr (inl taken)
-        ]
-        | inr (inl unfit) ↦ inr (inr (inl (ap (λ k. is_selected k m) (sym same) ∙ unfit)))
-        | inr (inr past) ↦ inr (inr (inr (ap (λ l. has_id l m.uid) (core.past_ids scene is_scene laws.filtered v.effect.listing honest.listing) ∙ past)))
-      ]) here (core.left_out scene is_scene s.stored (let l = s.ended ended in omega (arith, l, ap length wanted_is, core.wanted_length scene is_scene)))
+      (λ m o.
+      let held' = held_after m.uid in
+      let large = ap (λ k. is_selected k m) same in
+      let past = ap (λ l. has_id l m.uid) (core.past_ids scene is_scene laws.filtered v.effect.listing honest.listing) in
+      grind (arith, o, held', large, past)
+      ) here (core.left_out scene is_scene s.stored (let l = s.ended ended in omega (arith, l, ap length wanted_is, core.wanted_length scene is_scene)))
