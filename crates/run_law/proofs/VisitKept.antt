@@ -156,9 +156,7 @@ module _ (laws : Below) (world : World) (is : IsSound world) (before : State Acc
 
   pub stores_only_new : StoresOnlyNew world before v
   stores_only_new only_new id l recorded = (
-    copies_are id l
-        ∙ ap (λ t. copies (files before.account) (stem_of world.account id) ++ t) nothing
-        ∙ append-nil (copies (files before.account) (stem_of world.account id)),
+    copies_are id l ∙ grind (arith, no_texts got id unasked, append-nil (copies (files before.account) (stem_of world.account id))),
     elim s.rows [
       | inl old ↦ ap (λ r. is_delivered r id) old ∙ recorded
       | inr new ↦ ap (λ r. is_delivered r id) new
