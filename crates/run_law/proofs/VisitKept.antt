@@ -83,10 +83,8 @@ module _ (laws : Below) (world : World) (is : IsSound world) (before : State Acc
   legal_delivered = all_filter IsLegal (λ (m : Message). not (held m.uid)) got (all_take IsLegal s.stored (fetched scene) (core.legal_fetched scene is_scene))
 
   files_are : files v.after ≡ files before.account ++ map (message_file world.account) delivered
-  files_are = s.came
-      ∙ ap (λ l. before.account.maildir.files ++ map (file_for world.account) (filter (is_unheld world.account before.account.maildir) l)) zipped_is
-      ∙ ap (λ l. before.account.maildir.files ++ l) (stored_files world.account before.account.maildir (take s.stored (wants_by_number v.settings rows here))
-      ∙ ap (λ l. map (message_file world.account) (filter (λ (m : Message). not (held m.uid)) l)) (core.taken_is scene is_scene s.stored))
+  files_are = s.came ∙ rw (zipped_is, stored_files world.account before.account.maildir (take s.stored (wants_by_number v.settings rows here)),
+      core.taken_is scene is_scene s.stored)
 
   pub copies_are : (id : List ℕ) → is_legal_id id ≡ true → copies (files v.after) (stem_of world.account id)
       ≡ copies (files before.account) (stem_of world.account id) ++ cond (not (held id)) (texts_of got id) []
