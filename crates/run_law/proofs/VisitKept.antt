@@ -89,10 +89,8 @@ module _ (laws : Below) (world : World) (is : IsSound world) (before : State Acc
   pub copies_are : (id : List ℕ) → is_legal_id id ≡ true → copies (files v.after) (stem_of world.account id)
       ≡ copies (files before.account) (stem_of world.account id) ++ cond (not (held id)) (texts_of got id) []
   copies_are id l = ap (λ f. copies f (stem_of world.account id)) files_are
-      ∙ copies-append (files before.account) (map (message_file world.account) delivered) (stem_of world.account id)
-      ∙ ap (λ t. copies (files before.account) (stem_of world.account id) ++ t)
-      (copies_messages laws.differ laws.stems laws.own world.account delivered id is.account l legal_delivered
-      ∙ texts_filtered (λ x. not (held x)) got id)
+      ∙ rw (copies-append (files before.account) (map (message_file world.account) delivered) (stem_of world.account id),
+      copies_messages laws.differ laws.stems laws.own world.account delivered id is.account l legal_delivered, texts_filtered (λ x. not (held x)) got id)
 
   texts_after : (id : List ℕ) → texts_of (kept.done ++ stored) id ≡ texts_of kept.done id ++ cond (not (core.is_done scene id)) (texts_of got id) []
   texts_after id = texts-append kept.done stored id ∙ ap (λ t. texts_of kept.done id ++ t) (texts_filtered (λ x. not (core.is_done scene x)) got id)
