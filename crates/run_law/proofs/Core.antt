@@ -196,10 +196,7 @@ module _ (s : Scene) (is : IsScene s) where
   -- if only what is new is read, no message that is offered or wanted is recorded
   new_offered : s.settings.read_all ≡ false → AllByRecursion (λ (m : Message). is_delivered s.rows m.uid ≡ false) os
   new_offered only_new = all_map (λ (m : Message). asked s.settings s.rows m ≡ true) (λ (m : Message). is_delivered s.rows m.uid ≡ false)
-      (λ m a. new (fit m) s.settings.read_all (is_delivered s.rows m.uid) only_new a) os (all_passing (asked s.settings s.rows) (here s))
-    where
-      new : (f r k : Bool) → r ≡ false → (f && (r || not k)) ≡ true → k ≡ false
-      new f r k e a = grind arith
+      (λ m a. grind (arith, a, only_new)) os (all_passing (asked s.settings s.rows) (here s))
 
   pub none_recorded : s.settings.read_all ≡ false → AllByRecursion (λ (m : Message). is_delivered s.rows m.uid ≡ false) ws
   none_recorded only_new = all_at_most (λ (m : Message). is_delivered s.rows m.uid ≡ false) s.settings.max_count os (new_offered only_new)
