@@ -84,20 +84,6 @@ zip_at P (x ∷ xs) (row ∷ rows) h zero d l = (row, omega arith, refl, h.0)
 zip_at P (x ∷ xs) (row ∷ rows) h (suc j) d l =
     let r = zip_at P xs rows h.1 j d (omega (arith, l)) in (r.0, (let b = r.1 in omega (arith, b)), r.2, r.3)
 
--- each message has a row, whatever its place
-row_of_place : {R V : Type 0} (number : R → ℕ) (value : R → V) (of : Message → V) (drop : List Message) (numbered : List (ℕ × Message)) (rows : List R)
-    → IsPermutation (enumerate_from 1 drop) numbered → AllZip (Shows number value of) numbered rows → (k : ℕ) (d : Message) → k < length drop
-    → (j : ℕ) × (row : R) × (j < length rows) × (get_or rows j row ≡ row) × (number row ≡ 1 + k) × (value row ≡ of (get_or drop k d))
-row_of_place number value of drop numbered rows same zip k d inside =
-    let q : ℕ × Message = (1 + k, get_or drop k d) in
-    let there : Contains (enumerate_from 1 drop) q = (k, (omega (arith, inside, length-enumerate_from 1 drop)), get_or-enumerate_from 1 drop k q inside ∙ placed q.1) in
-    let c = Contains-permutation (enumerate_from 1 drop) numbered q same there in
-    let r = zip_at (Shows number value of) numbered rows zip c.0 q c.1 in
-    (c.0, r.0, r.1, r.2, r.3.0 ∙ ap (λ (p : ℕ × Message). p.0) c.2, r.3.1 ∙ ap (λ (p : ℕ × Message). of p.1) c.2)
-  where
-    placed : (e : Message) → pair_of (1 + k) (get_or drop k e) ≡ pair_of (1 + k) (get_or drop k d)
-    placed e = ap (pair_of (1 + k)) (get_or_default drop k e d inside)
-
 -- ---- the three replies
 
 -- the lines of a listing are those that the server wrote
@@ -166,8 +152,13 @@ listing_is_maildrop one lists drop name word commands user pass stat uidl list r
     row_at IsLineOf IsRowOf number value of f marks numbered lines rows fresh_marks all zip read_are k inside =
         let same = subst (λ (l : List (ℕ × Message)). IsPermutation l numbered) (ap (unmarked_from 1 drop) fresh_marks ∙ fresh 1 drop) all in
         let pairs = both_read IsLineOf IsRowOf number value of f numbered lines rows zip read_are in
-        let r = row_of_place number value of drop numbered rows same pairs k nobody inside in
-        (r.0, r.1, r.2, r.3, (let n = r.4 in omega (arith, n)), r.5)
+        let q : ℕ × Message = (1 + k, get_or drop k nobody) in
+        let placed = get_or-enumerate_from 1 drop k q inside ∙ ap (pair_of (1 + k)) (get_or_default drop k q.1 nobody inside) in
+        let there : Contains (enumerate_from 1 drop) q = (k, (omega (arith, inside, length-enumerate_from 1 drop)), placed) in
+        let c = Contains-permutation (enumerate_from 1 drop) numbered q same there in
+        let r = zip_at (Shows number value of) numbered rows pairs c.0 q c.1 in
+        let counted = r.3.0 ∙ ap (λ (p : ℕ × Message). p.0) c.2 in
+        (c.0, r.0, r.1, r.2, (omega (arith, counted)), r.3.1 ∙ ap (λ (p : ℕ × Message). of p.1) c.2)
 
     uid_at : (k : ℕ) → k < length drop → (get_or items k (item_of nobody)).uid ≡ (get_or drop k nobody).uid
     uid_at k inside =
