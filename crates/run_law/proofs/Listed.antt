@@ -133,12 +133,6 @@ listing_is_maildrop one lists drop name word commands user pass stat uidl list r
     marks_two : are.2.0 ≡ no_marks drop
     marks_two = are.2.1.1 ∙ are.1.1
 
-    marks_three : are.2.2.0 ≡ no_marks drop
-    marks_three = are.2.2.1.4 ∙ marks_two
-
-    marks_four : are.2.2.2.0 ≡ no_marks drop
-    marks_four = are.2.2.2.1.5 ∙ marks_three
-
     total : length items ≡ length drop
     total = listed.joined.count ∙ count_same one drop are.2.0 are.2.2.0 stat listed.count good.1.1.0 are.2.2.1 listed.counts ∙ ap (count_by not) marks_two ∙ fresh_count drop
 
@@ -165,7 +159,7 @@ listing_is_maildrop one lists drop name word commands user pass stat uidl list r
         let g = are.2.2.2.1 in
         let zip = listed_lines one lists IsUidRow UidlAll drop are.2.2.0 uidl g.0 g.1 listed.named.0 good.1.1.1.0 g.2 g.3 g.4 listed.named.1 in
         let r = row_at IsUidLine IsUidRow (λ row. row.number) (λ row. row.uid.items) (λ m. m.uid) (λ q line row h r. same_row _ _ _ _ (sym r ∙ h))
-        are.2.2.0 g.4.numbered listed.named.0 listed.uids marks_three g.4.all zip listed.named.2 k inside in
+        are.2.2.0 g.4.numbered listed.named.0 listed.uids (are.2.2.1.4 ∙ marks_two) g.4.all zip listed.named.2 k inside in
         ap (λ j. (get_or items j (item_of nobody)).uid) (sym r.4 ∙ ap (λ (row : UidRow). row.number - 1) (sym r.3))
         ∙ listed.joined.ids r.0 r.1 r.2 (item_of nobody) ∙ ap (λ (row : UidRow). row.uid.items) r.3 ∙ r.5
 
@@ -174,6 +168,6 @@ listing_is_maildrop one lists drop name word commands user pass stat uidl list r
         let g = are.2.2.2.2.1 in
         let zip = listed_lines one lists IsScanRow ListAll drop are.2.2.2.0 list g.0 g.1 listed.sized.0 good.1.1.1.1.0 g.2 g.3 g.4 listed.sized.1 in
         let r = row_at IsScanLine IsScanRow (λ row. row.number) (λ row. row.size) (λ m. m.size) (λ q line row h r. same_row _ _ _ _ (sym r ∙ h))
-        are.2.2.2.0 g.4.numbered listed.sized.0 listed.sizes marks_four g.4.all zip listed.sized.2 k inside in
+        are.2.2.2.0 g.4.numbered listed.sized.0 listed.sizes (are.2.2.2.1.5 ∙ are.2.2.1.4 ∙ marks_two) g.4.all zip listed.sized.2 k inside in
         ap (λ j. (get_or items j (item_of nobody)).size) (sym r.4 ∙ ap (λ (row : ScanRow). row.number - 1) (sym r.3))
         ∙ listed.joined.octets r.0 r.1 r.2 (item_of nobody) ∙ ap (λ (row : ScanRow). row.size) r.3 ∙ r.5
