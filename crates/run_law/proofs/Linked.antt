@@ -12,7 +12,7 @@ use Rattle.mail_terms.specs.Listing.{Item}
 use Rattle.mail_terms.specs.UniqueId.{has_id}
 use Rattle.run_law.specs.Mails.{item_of, listing_of}
 use Rattle.run_law.specs.Steps.{Effect, Leaves, IsHonest, AreTexts, wanted_at}
-use Rattle.run_law.specs.Readings.{AreGranted, IsNumbered, HonestIsGranted, ListingIsMaildrop, MarksAreAsked, TextsAreMessages}
+use Rattle.run_law.specs.Readings.{IsNumbered, HonestIsGranted, ListingIsMaildrop, MarksAreAsked, TextsAreMessages}
 use Rattle.run_law.specs.Mboxes.{mbox_wanted}
 use Rattle.run_law.specs.MboxSessions.{MboxLinksAreVisits}
 use Rattle.run_law.proofs.Lists.{all_map}
@@ -102,17 +102,14 @@ module _ (laws : Readings) (sent got : List ℕ) (effect : Effect) (drop : List 
   vanished_begun listing_is = all_map (IsMarked drop served.marks) (λ id. has_id effect.begun id ≡ true) (went_begun listing_is) vanished served.marked
 
   pub session_honest : (wanted : List (ℕ × Item)) → Reads wanted commands sent got effect → IsHonest wanted drop effect
-  session_honest wanted r = record { listing = listing; texts = subst (AreTexts drop wanted) (sym r.texts) (texts r.found wanted r.numbers numbered) }
+  session_honest wanted r =
+      let asked = User r.name ∷ Pass r.word ∷ Stat ∷ UidlAll ∷ ListAll ∷ r.more in
+      let replies = r.user ∷ r.pass ∷ r.stat ∷ r.uidl ∷ r.list ∷ r.replies in
+      let granted = laws.granted drop sent got served.marks asked replies served.honest r.talked in
+      let listing = laws.listing drop r.name r.word r.more r.user r.pass r.stat r.uidl r.list r.replies effect.listing r.talked.good granted r.listed in
+      let numbered = laws.texts drop (no_marks drop) asked replies r.found r.talked.good granted r.retrieves in
+      record { listing = listing; texts = subst (AreTexts drop wanted) (sym r.texts) (texts r.found wanted r.numbers numbered) }
     where
-      granted : AreGranted drop (no_marks drop) (User r.name ∷ Pass r.word ∷ Stat ∷ UidlAll ∷ ListAll ∷ r.more) (r.user ∷ r.pass ∷ r.stat ∷ r.uidl ∷ r.list ∷ r.replies)
-      granted = laws.granted drop sent got served.marks (User r.name ∷ Pass r.word ∷ Stat ∷ UidlAll ∷ ListAll ∷ r.more) (r.user ∷ r.pass ∷ r.stat ∷ r.uidl ∷ r.list ∷ r.replies) served.honest r.talked
-
-      listing : effect.listing ≡ listing_of drop
-      listing = laws.listing drop r.name r.word r.more r.user r.pass r.stat r.uidl r.list r.replies effect.listing r.talked.good granted r.listed
-
-      numbered : AllByRecursion (IsNumbered drop) r.found
-      numbered = laws.texts drop (no_marks drop) (User r.name ∷ Pass r.word ∷ Stat ∷ UidlAll ∷ ListAll ∷ r.more) (r.user ∷ r.pass ∷ r.stat ∷ r.uidl ∷ r.list ∷ r.replies) r.found r.talked.good granted r.retrieves
-
       texts : (found : List (ℕ × List ℕ)) (wanted : List (ℕ × Item)) → map (λ (p : ℕ × List ℕ). p.0) found ≡ map (λ (p : ℕ × Item). p.0) (take (length found) wanted)
           → AllByRecursion (IsNumbered drop) found → AreTexts drop wanted (map (λ (p : ℕ × List ℕ). p.1) found)
       texts [] wanted e h = tt
