@@ -15,7 +15,7 @@ use Rattle.run_law.specs.Steps.{Effect, Leaves, IsHonest, AreTexts, wanted_at}
 use Rattle.run_law.specs.Readings.{IsNumbered, HonestIsGranted, ListingIsMaildrop, MarksAreAsked, TextsAreMessages}
 use Rattle.run_law.specs.Mboxes.{mbox_wanted}
 use Rattle.run_law.specs.MboxSessions.{MboxLinksAreVisits}
-use Rattle.run_law.proofs.Lists.{all_map}
+use Rattle.run_law.proofs.Lists.{all_map, all_parts}
 use Rattle.run_law.specs.Sessions.{IsBegun, Reads, IsMarked, Served, LinksAreVisits}
 
 -- ---- marks
@@ -62,11 +62,6 @@ marks_are_asked drop sent got marks honest place e = elim (marks_from drop (no_m
 
 -- ---- for each message that was removed a DELE was begun
 
-begun_at : (listing : List Item) (begun : List (List ℕ)) (front behind : List Command) (number : ℕ) → AllByRecursion (IsBegun listing begun) (front ++ Dele number ∷ behind)
-    → (item : Item) × (slice_get listing (number - 1) ≡ Some item) × (has_id begun item.uid ≡ true)
-begun_at listing begun [] behind number h = (h.0.0, h.0.1, h.0.2)
-begun_at listing begun (command ∷ front) behind number h = begun_at listing begun front behind number h.1
-
 pub item_at : (drop : List Message) (place : ℕ) (m : Message) → slice_get drop place ≡ Some m → slice_get (listing_of drop) place ≡ Some (item_of m)
 item_at drop place m e = slice_get-map item_of drop place ∙ ap (option_map item_of) e
 
@@ -90,7 +85,8 @@ module _ (laws : Readings) (sent got : List ℕ) (effect : Effect) (drop : List 
   went_begun : (listing_is : (effect.begun ≡ []) ⊎ (effect.listing ≡ listing_of drop)) (id : List ℕ) → IsMarked drop served.marks id → has_id effect.begun id ≡ true
   went_begun listing_is id m =
       let asked = marks_are_asked drop sent got served.marks served.honest m.0 m.2 in
-      let begun = begun_at effect.listing effect.begun asked.0 asked.1 asked.2 (subst (AllByRecursion (IsBegun effect.listing effect.begun)) (sym same ∙ asked.3) begun_are) in
+      let begun = (all_parts (IsBegun effect.listing effect.begun) asked.0 (Dele asked.2 ∷ asked.1)
+      (subst (AllByRecursion (IsBegun effect.listing effect.begun)) (sym same ∙ asked.3) begun_are)).1.0 in
       elim listing_is [
         | inl none ↦ absurd (both_ways false refl (sym (ap (λ b. has_id b begun.0.uid) none) ∙ begun.2))
         | inr is ↦
