@@ -82,8 +82,9 @@ module _ (laws : Readings) (sent got : List ℕ) (effect : Effect) (drop : List 
   same = laws.commands served.honest.commands commands sent served.honest.asked sent_are
 
   -- if the listing is the maildrop's, or nothing was begun
-  went_begun : (listing_is : (effect.begun ≡ []) ⊎ (effect.listing ≡ listing_of drop)) (id : List ℕ) → IsMarked drop served.marks id → has_id effect.begun id ≡ true
-  went_begun listing_is id m =
+  pub vanished_begun : (effect.begun ≡ []) ⊎ (effect.listing ≡ listing_of drop) → AllByRecursion (λ id. has_id effect.begun id ≡ true) vanished
+  vanished_begun listing_is = all_map (IsMarked drop served.marks) (λ id. has_id effect.begun id ≡ true)
+      (λ id m.
       let asked = marks_are_asked drop sent got served.marks served.honest m.0 m.2 in
       let begun = (all_parts (IsBegun effect.listing effect.begun) asked.0 (Dele asked.2 ∷ asked.1)
       (subst (AllByRecursion (IsBegun effect.listing effect.begun)) (sym same ∙ asked.3) begun_are)).1.0 in
@@ -93,9 +94,7 @@ module _ (laws : Readings) (sent got : List ℕ) (effect : Effect) (drop : List 
             let item : begun.0 ≡ item_of m.1 = same_Some begun.0 (item_of m.1) (sym begun.1 ∙ ap (slice_get effect.listing) asked.4 ∙ ap (λ l. slice_get l m.0) is ∙ item_at drop m.0 m.1 m.3) in
             ap (has_id effect.begun) (sym (ap (λ (i : Item). i.uid) item ∙ m.4)) ∙ begun.2
       ]
-
-  pub vanished_begun : (effect.begun ≡ []) ⊎ (effect.listing ≡ listing_of drop) → AllByRecursion (λ id. has_id effect.begun id ≡ true) vanished
-  vanished_begun listing_is = all_map (IsMarked drop served.marks) (λ id. has_id effect.begun id ≡ true) (went_begun listing_is) vanished served.marked
+      ) vanished served.marked
 
   pub session_honest : (wanted : List (ℕ × Item)) → Reads wanted commands sent got effect → IsHonest wanted drop effect
   session_honest wanted r =
