@@ -134,9 +134,7 @@ among_made : {X Y : Type 0} (p : X → Bool) (f : X → Y) (x : X) (xs : List X)
 among_made p f x xs (front, behind, is) passes = (
   map f (filter p front),
   map f (filter p behind),
-  ap (λ l. map f (filter p l)) is
-      ∙ ap (map f) (filter-append p front (x ∷ behind) ∙ ap (λ b. filter p front ++ cond b (x ∷ filter p behind) (filter p behind)) passes)
-      ∙ map-append f (filter p front) (x ∷ filter p behind),
+  ap (λ l. map f (filter p l)) is ∙ rw (filter-append p front (x ∷ behind), passes, map-append f (filter p front) (x ∷ filter p behind)),
 )
 
 -- ---- with a Maildir
