@@ -80,17 +80,16 @@ only_number settings rows listing texts message text number item among same coun
 behind_one : {X : Type 0} (x y : X) (xs : List X) → IsAmong x xs → IsAmong x (y ∷ xs)
 behind_one x y xs (front, behind, is) = (y ∷ front, behind, ap (λ l. y ∷ l) is)
 
-pub begins : {P Q : Command → Type 0} → ((c : Command) → P c → Q c) → (part : List ℕ) → BeginsOne P part → BeginsOne Q part
-begins f part (inl none) = inl none
-begins f part (inr (command, unsent, is, begun)) = inr (command, unsent, is, f command begun)
-
 -- what is sent may be of a wider kind
 pub sends_weaker : (P Q : Command → Type 0) (sent : List ℕ) → ((c : Command) → P c → Q c) → SendsOnly P sent → SendsOnly Q sent
 sends_weaker P Q sent f sends = record {
   commands = sends.commands;
   asked = sends.asked;
   each = all_map P Q f sends.commands sends.each;
-  next = begins f sends.asked.part sends.next;
+  next = elim sends.next [
+    | inl none ↦ inl none
+    | inr (command, unsent, is, begun) ↦ inr (command, unsent, is, f command begun)
+  ];
 }
 
 -- ---- the text of a wanted message
