@@ -186,20 +186,6 @@ module _ (laws : Records) (settings : Settings) (account : List ℕ) (before : A
     ]
   ]
 
-  kept_all : KeepsAll settings account before effect after
-  kept_all = record {
-    gained = gained;
-    came = stores.came;
-    begun = all_map (λ id. is_delivered after.rows id ≡ true) (KeptBy settings account before effect gained) kept_ids effect.begun stores.begun;
-  }
-
-kept_none : (settings : Settings) (account : List ℕ) (before : AccountMail) (effect : Effect) (after : AccountMail) → Leaves before effect after → KeepsAll settings account before effect after
-kept_none settings account before effect after leaves = record {
-  gained = [];
-  came = leaves.same ∙ sym (append-nil before.maildir.files);
-  begun = subst (λ (ids : List (List ℕ)). AllByRecursion (KeptBy settings account before effect []) ids) (sym leaves.begun) tt;
-}
-
 deletes_kept : (settings : Settings) (account : List ℕ) (before : AccountMail) (effect : Effect) (after : AccountMail) (keeps : KeepsAll settings account before effect after) (command : Command)
     → IsBegun effect.listing effect.begun command → DeletesSaved settings account before effect keeps.gained command
 deletes_kept settings account before effect after keeps (Dele number) (item, at, is, counted, alone) = (
@@ -219,8 +205,16 @@ deletes_kept settings account before effect after keeps other is = tt
 pub sessions_are_safe : Records → SessionsAreSafe
 sessions_are_safe laws settings account before sent got effect after session =
     let keeps : KeepsAll settings account before effect after = elim session.step [
-      | inl leaves ↦ kept_none settings account before effect after leaves
-      | inr (stores, reads) ↦ kept_all laws settings account before effect after stores
+      | inl leaves ↦ record {
+        gained = [];
+        came = leaves.same ∙ sym (append-nil before.maildir.files);
+        begun = subst (AllByRecursion (KeptBy settings account before effect [])) (sym leaves.begun) tt;
+      }
+      | inr (stores, reads) ↦ record {
+        gained = _;
+        came = stores.came;
+        begun = all_map _ _ (kept_ids laws settings account before effect after stores) effect.begun stores.begun;
+      }
     ] in
     let deletes = deletes_kept settings account before effect after keeps in
     record {
