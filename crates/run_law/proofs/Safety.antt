@@ -274,18 +274,16 @@ none_begun settings before effect after none (Dele number) (item, at, is, counte
 none_begun settings before effect after none command is = tt
 
 pub mbox_sessions_are_safe : RowLaws → MboxSessionsAreSafe
-mbox_sessions_are_safe laws settings before sent got effect after session =
-    let kept : (command : Command) → IsBegun effect.listing effect.begun command → MboxDeletesSaved settings before effect after command = elim session.step [
-      | inl (leaves, none) ↦ none_begun settings before effect after leaves.begun
-      | inr (stores, reads) ↦ deletes laws settings before effect after stores
-    ] in
-    record {
-      file = elim session.step [
-        | inl (leaves, none) ↦ elim leaves.file [
-          | inl same ↦ inl same
-          | inr cut ↦ inr ([], cut ∙ sym (append-nil (settled effect.listing before).file))
-        ]
-        | inr (stores, reads) ↦ inr (_, (tail_of settings before effect after stores).1)
-      ];
-      sends = sends_weaker (IsBegun effect.listing effect.begun) (MboxDeletesSaved settings before effect after) sent kept session.sends;
-    }
+mbox_sessions_are_safe laws settings before sent got effect after session = elim session.step [
+  | inl (leaves, none) ↦ record {
+    file = elim leaves.file [
+      | inl same ↦ inl same
+      | inr cut ↦ inr ([], cut ∙ sym (append-nil (settled effect.listing before).file))
+    ];
+    sends = sends_weaker _ _ sent (none_begun settings before effect after leaves.begun) session.sends;
+  }
+  | inr (stores, reads) ↦ record {
+    file = inr (_, (tail_of settings before effect after stores).1);
+    sends = sends_weaker _ _ sent (deletes laws settings before effect after stores) session.sends;
+  }
+]
