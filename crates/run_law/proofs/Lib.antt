@@ -4,7 +4,6 @@ mod Core
 mod Ends
 mod Files
 mod Holds
-mod HonestSession
 mod Ids
 mod Laws
 mod Linked
