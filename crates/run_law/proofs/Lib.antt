@@ -9,7 +9,6 @@ mod Laws
 mod Linked
 mod Listed
 mod Lists
-mod MboxHonestSession
 mod MboxKept
 mod MboxOthers
 mod Others
