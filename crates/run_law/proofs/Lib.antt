@@ -15,7 +15,6 @@ mod Others
 mod Power
 mod PowerCuts
 mod Records
-mod Replied
 mod Safety
 mod Tells
 mod VisitKept
