@@ -13,7 +13,6 @@ mod MboxKept
 mod MboxOthers
 mod Others
 mod Power
-mod PowerCuts
 mod Records
 mod Safety
 mod Tells
