@@ -117,58 +117,39 @@ all_left : (messages : List Message) → AreWithout messages [] messages
 all_left [] = (refl, refl)
 all_left (m ∷ messages) = inl (messages, refl, all_left messages)
 
-record Vanishing (before : List Message) (marks : List Bool) (after : List Message) (commands : List Command) : Type 0 where
-  vanished : List (List ℕ)
-  quits : (vanished ≡ []) ⊎ ((front behind : List Command) × (commands ≡ front ++ Quit ∷ behind))
-  marked : AllByRecursion (IsMarked before marks) vanished
-  left : AreWithout before vanished after
-
-vanishing : {M : Type 0} (before : List Message) (marks : List Bool) (after : List Message) (machine : Machine M) (commands : List Command) → Gone before marks machine.state after
-    → IsClosedByQuit machine.state commands
-    → Vanishing before marks after commands
-vanishing before marks after machine commands gone (inl still) =
-    record { vanished = []; quits = inl refl; marked = tt; left = subst (AreWithout before []) (sym (gone.before_quit still)) (all_left before) }
-vanishing before marks after machine commands gone (inr quits) =
-    let more = missing before marks after gone.left in
-    record { vanished = more.ids; quits = inr quits; marked = more.marked; left = more.left }
-
--- what was sent follows a plan
-follows : (settings : Settings) (account : List ℕ) (now : ℕ) (before : AccountFiles) (report : Report) (sent got : List ℕ) → Opens settings report sent got ⊎ SpeaksByPlan settings account now before report sent got
-    → FollowsPlan settings sent
-follows settings account now before report sent got (inl said) = record { steps = []; commands = said.commands; asked = said.asked; front = said.front }
-follows settings account now before report sent got (inr said) = record { steps = planned settings said.rows said.items now; commands = said.commands; asked = said.asked; front = said.front }
-
 -- all that a new link sent follows a plan
 abbrev Sends : Settings → Link → Type 0
 Sends settings link = (sent : List ℕ) × (link.sent ≡ sent) × FollowsPlan settings sent
 
 module _ {M : Type 0} (sound : M → Type 0) (mail : M → Mail) (honesty : GivesHonest sound mail) where
-  from_new : (Made : Type 0) (settings : Settings) (server : Machine M) (loop : Loop M) → Sends settings loop.link → IsNew (loop_to server)
-      → Serves sound mail (loop_to server) loop → Made → sound loop.machine.drop
-      → AllByRecursion IsMessage (there (mail server.drop).slots) → FetchesBy mail Made server loop.machine loop.link
-  from_new Made settings server loop said is_new serves session sound' messages =
-      let s = said.2 in
-      let all = honesty (loop_to server) loop s.commands s.asked.part is_new serves
-      (are_asked (string_bytes settings.username) (string_bytes settings.password) s.steps s.commands said.0 s.front s.asked) s.asked.no_line
-      (said.1 ∙ s.asked.whole ∙ ap (λ (l : List ℕ). l ++ s.asked.part) (sym (lines_same s.commands))) sound' messages in
-      let messages_were = there (mail server.drop).slots in
-      let gone = vanishing messages_were all.0 (there (mail loop.machine.drop).slots) loop.machine all.1.commands all.2 all.3 in
-      record {
-        session = session;
-        vanished = gone.vanished;
-        served = record { marks = all.0; honest = all.1; quits = gone.quits; marked = gone.marked };
-        left = gone.left;
-      }
-
   -- the session is over the server's link
   over : (Made : Link → Type 0) (settings : Settings) (server new : Machine M) (start loop : Loop M) → start ≡ loop_to server → new ≡ loop.machine
       → (Made unused → Sends settings loop.link) → IsNew (loop_to server) → Serves sound mail start loop → Made start.link → sound new.drop
       → AllByRecursion IsMessage (there (mail server.drop).slots) → FetchesBy mail (Made unused) server new loop.link
   over Made settings server new start loop first last sends is_new serves session sound' messages =
       let made = subst (λ (l : Loop M). Made l.link) first session in
-      subst (λ (m : Machine M). FetchesBy mail (Made unused) server m loop.link) (sym last)
-      (from_new (Made unused) settings server loop (sends made) is_new (subst (λ (l : Loop M). Serves sound mail l loop) first serves) made
-      (subst (λ (m : Machine M). sound m.drop) last sound') messages)
+      let said = sends made in
+      let s = said.2 in
+      let before = there (mail server.drop).slots in
+      let all = honesty (loop_to server) loop s.commands s.asked.part is_new (subst (λ (l : Loop M). Serves sound mail l loop) first serves)
+      (are_asked (string_bytes settings.username) (string_bytes settings.password) s.steps s.commands said.0 s.front s.asked) s.asked.no_line
+      (said.1 ∙ s.asked.whole ∙ ap (λ (l : List ℕ). l ++ s.asked.part) (sym (lines_same s.commands))) (subst (λ (m : Machine M). sound m.drop) last sound') messages in
+      rw last (elim all.3 [
+        | inl still ↦ record {
+          session = made;
+          vanished = [];
+          served = record { marks = all.0; honest = all.1; quits = inl refl; marked = tt };
+          left = subst (AreWithout before []) (sym (all.2.before_quit still)) (all_left before);
+        }
+        | inr quits ↦
+            let more = missing before all.0 (there (mail loop.machine.drop).slots) all.2.left in
+            record {
+              session = made;
+              vanished = more.ids;
+              served = record { marks = all.0; honest = all.1; quits = inr quits; marked = more.marked };
+              left = more.left;
+            }
+      ])
 
   pub fetches : SessionsAreConversations → (settings : Settings) (account : List ℕ) (now : ℕ) (server new : Machine M) (start loop : Loop M) (before : AccountFiles) (report : Report) (after : AccountFiles)
       → start ≡ loop_to server → new ≡ loop.machine → IsNew (loop_to server) → IsValid settings → Serves sound mail start loop
@@ -178,7 +159,12 @@ module _ {M : Type 0} (sound : M → Type 0) (mail : M → Mail) (honesty : Give
       over (λ (l : Link). Session settings account now l before report loop.link after) settings server new start loop first last sends is_new
     where
       sends : Session settings account now unused before report loop.link after → Sends settings loop.link
-      sends session = let said = conversations settings account now unused before report loop.link after valid session in (said.0, said.2, follows settings account now before report said.0 said.1 said.4)
+      sends session =
+          let said = conversations settings account now unused before report loop.link after valid session in
+          (said.0, said.2, elim said.4 [
+            | inl opens ↦ record { steps = []; commands = opens.commands; asked = opens.asked; front = opens.front }
+            | inr plan ↦ record { steps = planned settings plan.rows plan.items now; commands = plan.commands; asked = plan.asked; front = plan.front }
+          ])
 
   pub mbox_fetches : MboxSessionsFollowPlans → (settings : Settings) (now : ℕ) (server new : Machine M) (start loop : Loop M) (before : MboxAccountFiles) (report : Report) (after : MboxAccountFiles)
       → start ≡ loop_to server → new ≡ loop.machine → IsNew (loop_to server) → IsValid settings → Serves sound mail start loop
@@ -190,24 +176,16 @@ module _ {M : Type 0} (sound : M → Type 0) (mail : M → Mail) (honesty : Give
 
 -- ---- such sessions are those of the headlines
 
-module _ {M : Type 0} (mail : M → Mail) (Made : Type 0) (messages : List Message) (old new : Machine M) (link : Link) (local : FetchesBy mail Made old new link)
-    (drop : there (mail old.drop).slots ≡ messages) where
-  served : (sent got : List ℕ) → link.sent ≡ sent → link.got ≡ got → Served messages sent got local.vanished
-  served sent got sent_is got_is =
-      subst (λ (ms : List Message). Served ms sent got local.vanished) drop
-      (subst (λ (s : List ℕ). Served (there (mail old.drop).slots) s got local.vanished) sent_is
-      (subst (λ (g : List ℕ). Served (there (mail old.drop).slots) link.sent g local.vanished) got_is local.served))
-
 pub are_sessions : {M : Type 0} (mail : M → Mail) → AreSessions mail
 are_sessions mail world state settings now come old new link report after are local drop = record {
   settings = are;
   session = local.session;
-  served = served mail (Session settings (digits_of settings) now unused state.account report link after) (maildrop_of world.all come state.gone) old new link local drop;
+  served = λ sent got sent_is got_is. rw (← drop, ← sent_is, ← got_is) local.served;
 }
 
 pub are_mbox_sessions : {M : Type 0} (mail : M → Mail) → AreMboxSessions mail
 are_mbox_sessions mail world state settings now come old new link report after are local drop = record {
   settings = are;
   session = local.session;
-  served = served mail (MboxSession settings now unused state.account report link after) (maildrop_of world.all come state.gone) old new link local drop;
+  served = λ sent got sent_is got_is. rw (← drop, ← sent_is, ← got_is) local.served;
 }
