@@ -106,12 +106,9 @@ missing (m ∷ before) (mark ∷ marks) after (inr (is, left)) =
     let more = missing before marks after left in
     record {
       ids = m.uid ∷ more.ids;
-      marked = ((0, m, ap some is, refl, refl), later_marked m mark before marks more.ids more.marked);
+      marked = ((0, m, ap (λ (b : Bool). Some b) is, refl, refl), later_marked m mark before marks more.ids more.marked);
       left = inr (more.ids, refl, more.left);
     }
-  where
-    some : Bool → Option Bool
-    some b = Some b
 
 all_left : (messages : List Message) → AreWithout messages [] messages
 all_left [] = (refl, refl)
