@@ -1,5 +1,5 @@
 -- A session sends only commands that a server answers honestly.
-use Rattle.std.proofs.Common.{◌≡◌, inl, inr, ◌⊎◌, ℕ, suc, Option, Some, List, [], ◌∷◌, ◌++◌, Bool, true, refl, sym, ap, subst, ◌∙◌, ◌<◌, arith}
+use Rattle.std.proofs.Common.{◌≡◌, inl, inr, ◌⊎◌, ℕ, suc, Some, List, [], ◌∷◌, ◌++◌, Bool, true, refl, sym, ap, subst, ◌∙◌, ◌<◌, arith}
 use Rattle.std.specs.String.{string_bytes}
 use Rattle.std.specs.List.{flat_map, AllByRecursion}
 use Rattle.pop3_wire.specs.declared.command.Command.{Command}
@@ -10,26 +10,25 @@ use Rattle.pop3_wire.specs.Link.{Link}
 use Rattle.pop3_wire.specs.Commands.{line_of, can_be_sent}
 use Rattle.pop3_wire.specs.CommandLine.{HasNumbers}
 use Rattle.pop3_wire.specs.Honest.{Asked}
-use Rattle.pop3_wire.specs.World.{Message, IsMessage, maildrop_of}
-use Rattle.run_law.specs.Sessions.{IsMarked, Served}
+use Rattle.pop3_wire.specs.World.{Message, IsMessage}
+use Rattle.run_law.specs.Sessions.{IsMarked}
 use Rattle.rc_file.specs.Settings.{IsValid}
 use Rattle.rc_file.specs.declared.settings.Settings.{Settings}
 use Rattle.fetch_rules.specs.Plan.{planned}
 use Rattle.fetch_rules.specs.declared.steps.Step.{Step}
-use Rattle.fetch_session.specs.Account.{digits_of}
 use Rattle.fetch_session.specs.declared.report.Outcome.{Outcome}
 use Rattle.fetch_session.specs.declared.report.Outcome.TheVariants.{Ended, Cut as WasCut}
 use Rattle.fetch_session.specs.Refusal.{RefusesByOutcome}
 use Rattle.fetch_session.specs.declared.report.Report.{Report}
 use Rattle.fetch_session.specs.Session.{AccountFiles, MboxAccountFiles, Session, MboxSession}
-use Rattle.fetch_runs.specs.Conversations.{Opens, SpeaksByPlan, SessionsAreConversations, FollowsPlan, MboxSessionsFollowPlans}
+use Rattle.fetch_runs.specs.Conversations.{SessionsAreConversations, FollowsPlan, MboxSessionsFollowPlans}
 use Rattle.pop3_server.specs.Maildrop.{Mail, there}
 use Rattle.pop3_server.specs.ServerMachine.{Machine}
 use Rattle.pop3_server.specs.HonestLoop.{IsNew, GivesHonest}
 use Rattle.pop3_server.specs.LoopLink.{Loop, Serves}
 use Rattle.local_fetch.specs.Local.{AreSessions, AreMboxSessions, AreWithout, FetchesBy, FetchesFrom, MboxFetchesFrom, loop_to, unused}
 use Rattle.run_law.specs.Plans.{asked_if, step_commands, plan_commands, IsTail, IsFrontOfPlan}
-use Rattle.pop3_server.specs.HonestServer.{IsOfSession, IsAsked, IsClosedByQuit, AreLeft, Gone, lines_of}
+use Rattle.pop3_server.specs.HonestServer.{IsOfSession, IsAsked, AreLeft, lines_of}
 
 all_append : {A : Type 0} (P : A → Type 0) (xs ys : List A) → AllByRecursion P xs → AllByRecursion P ys → AllByRecursion P (xs ++ ys)
 all_append P [] ys first then = then
