@@ -9,7 +9,6 @@ use Rattle.mail_terms.specs.FailureCount.{counted_up, greatest_count}
 use Rattle.pop3_wire.specs.Link.{Link}
 use Rattle.pop3_wire.specs.Commands.{line_of, can_be_sent}
 use Rattle.pop3_wire.specs.CommandLine.{HasNumbers}
-use Rattle.pop3_wire.specs.Honest.{Asked}
 use Rattle.pop3_wire.specs.World.{Message, IsMessage}
 use Rattle.run_law.specs.Sessions.{IsMarked}
 use Rattle.rc_file.specs.Settings.{IsValid}
@@ -65,9 +64,6 @@ each_asked : (commands : List Command) → AllByRecursion IsOfSession commands �
 each_asked [] of_session numbers sendable = tt
 each_asked (c ∷ commands) of_session numbers sendable =
     (record { of_session = of_session.0; numbers = numbers.0; sendable = sendable.0 }, each_asked commands of_session.1 numbers.1 sendable.1)
-
-pub are_asked : (name word : List ℕ) (steps : List Step) (commands : List Command) (sent : List ℕ) → IsFrontOfPlan name word steps commands → Asked commands sent → AllByRecursion IsAsked commands
-are_asked name word steps commands sent front asked = each_asked commands (of_session name word steps commands front) asked.numbers asked.sendable
 
 pub lines_same : (commands : List Command) → flat_map ended (lines_of commands) ≡ flat_map (λ (command : Command). ended (line_of command)) commands
 lines_same [] = refl
@@ -128,7 +124,7 @@ module _ {M : Type 0} (sound : M → Type 0) (mail : M → Mail) (honesty : Give
       let s = said.2 in
       let before = there (mail server.drop).slots in
       let all = honesty (loop_to server) loop s.commands s.asked.part is_new (subst (λ (l : Loop M). Serves sound mail l loop) first serves)
-      (are_asked (string_bytes settings.username) (string_bytes settings.password) s.steps s.commands said.0 s.front s.asked) s.asked.no_line
+      (each_asked s.commands (of_session (string_bytes settings.username) (string_bytes settings.password) s.steps s.commands s.front) s.asked.numbers s.asked.sendable) s.asked.no_line
       (said.1 ∙ s.asked.whole ∙ ap (λ (l : List ℕ). l ++ s.asked.part) (sym (lines_same s.commands))) (subst (λ (m : Machine M). sound m.drop) last sound') messages in
       rw last (elim all.3 [
         | inl still ↦ record {
