@@ -3,7 +3,7 @@ use Rattle.std.proofs.Common.{◌≡◌, inl, inr, ◌⊎◌, ℕ, suc, Some, Li
 use Rattle.std.specs.String.{string_bytes}
 use Rattle.std.specs.List.{flat_map, AllByRecursion}
 use Rattle.pop3_wire.specs.declared.command.Command.{Command}
-use Rattle.pop3_wire.specs.declared.command.Command.TheVariants.{Retr, Dele, Quit}
+use Rattle.pop3_wire.specs.declared.command.Command.TheVariants.{Quit}
 use Rattle.pop3_wire.specs.Line.{ended}
 use Rattle.mail_terms.specs.FailureCount.{counted_up, greatest_count}
 use Rattle.pop3_wire.specs.Link.{Link}
@@ -26,7 +26,7 @@ use Rattle.pop3_server.specs.ServerMachine.{Machine}
 use Rattle.pop3_server.specs.HonestLoop.{IsNew, GivesHonest}
 use Rattle.pop3_server.specs.LoopLink.{Loop, Serves}
 use Rattle.local_fetch.specs.Local.{AreSessions, AreMboxSessions, AreWithout, FetchesBy, FetchesFrom, MboxFetchesFrom, loop_to, unused}
-use Rattle.run_law.specs.Plans.{asked_if, step_commands, plan_commands, IsTail, IsFrontOfPlan}
+use Rattle.run_law.specs.Plans.{step_commands, plan_commands, IsTail, IsFrontOfPlan}
 use Rattle.pop3_server.specs.HonestServer.{IsOfSession, IsAsked, AreLeft, lines_of}
 
 all_append : {A : Type 0} (P : A → Type 0) (xs ys : List A) → AllByRecursion P xs → AllByRecursion P ys → AllByRecursion P (xs ++ ys)
@@ -37,13 +37,9 @@ all_front : {A : Type 0} (P : A → Type 0) (xs ys : List A) → AllByRecursion 
 all_front P [] ys all = tt
 all_front P (x ∷ xs) ys all = (all.0, all_front P xs ys all.1)
 
-asked_steps : (retrieve delete : Bool) (number : ℕ) (commands : List Command) → AllByRecursion IsOfSession commands
-    → AllByRecursion IsOfSession ((asked_if retrieve (Retr number) ++ asked_if delete (Dele number)) ++ commands)
-asked_steps retrieve delete number commands later = grind (arith, later)
-
 of_steps : (steps : List Step) → AllByRecursion IsOfSession (flat_map step_commands steps)
 of_steps [] = tt
-of_steps (s ∷ steps) = asked_steps s.retrieve s.delete s.number (flat_map step_commands steps) (of_steps steps)
+of_steps (s ∷ steps) = grind (arith, of_steps steps)
 
 of_plan : (name word : List ℕ) (steps : List Step) → AllByRecursion IsOfSession (plan_commands name word steps)
 of_plan name word steps = (tt, (tt, (tt, (tt, (tt, all_append IsOfSession (flat_map step_commands steps) (Quit ∷ []) (of_steps steps) (tt, tt))))))
