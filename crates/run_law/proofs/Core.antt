@@ -260,7 +260,5 @@ module _ (s : Scene) (is : IsScene s) where
       grind (arith, new, old)
 
   pub left_out : (n : ℕ) → length ws ≤ n → AllByRecursion (IsOut n) (here s)
-  left_out n l = all_both (λ (m : Message). (is_legal_id m.uid ≡ true) × (has_id (ids_of (here s)) m.uid ≡ true)) (λ (m : Message). asked s.settings s.rows m ≡ true → has_id (ids_of os) m.uid ≡ true) (IsOut n)
-      (out n l) (here s)
-      (all_both IsLegal (λ (m : Message). has_id (ids_of (here s)) m.uid ≡ true) (λ (m : Message). (is_legal_id m.uid ≡ true) × (has_id (ids_of (here s)) m.uid ≡ true)) (λ m l h. (l, h)) (here s) legal_here (members (here s)))
+  left_out n l = all_both _ _ (IsOut n) (out n l) (here s) (all_both IsLegal _ _ (λ m l h. (l, h)) (here s) legal_here (members (here s)))
       (passing_in (asked s.settings s.rows) (here s))
