@@ -314,10 +314,8 @@ module _ (fronts : FrontsAreSettled) (laws : RowLaws) (filtered : DistinctAreFil
     rest = next.0;
     prefix = next.1;
     recorded = recorded_after;
-    gone = gone_is_done (λ id. has_id (ids_of (world.had ++ kept.done)) id) (λ id. has_id (ids_of (world.had ++ (origin.done ++ take s.stored ws))) id) v.effect.begun before.gone v.vanished
-        (λ id e. ids_after id ∙ or_left _ _ (origin.more id e))
-        (all_map (λ id. is_delivered v.after.rows id ≡ true) (λ id. has_id (ids_of (world.had ++ (origin.done ++ take s.stored ws))) id ≡ true) (λ id e. sym (recorded_after id) ∙ e) v.effect.begun s.begun)
-        kept.gone vanished;
+    gone = gone_is_done _ _ v.effect.begun before.gone v.vanished (λ id e. ids_after id ∙ or_left _ _ (origin.more id e))
+        (all_map _ _ (λ id e. sym (recorded_after id) ∙ e) v.effect.begun s.begun) kept.gone vanished;
     stands = next.2;
   }
 
