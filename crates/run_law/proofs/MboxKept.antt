@@ -322,8 +322,7 @@ module _ (fronts : FrontsAreSettled) (laws : RowLaws) (filtered : DistinctAreFil
   pub ends : v.effect.ended ≡ true → MboxEnds world before v
   ends ended = record {
     closed = (s.ended ended).1;
-    leaves_out = all_map (core.IsOut scene is_scene s.stored) (λ (m : Message). (is_delivered v.after.rows m.uid ≡ true) ⊎ (is_selected world.max_size m ≡ false)
-        ⊎ (has_id (ids_wanted (past_limit v.settings.max_count (candidates v.settings rows v.effect.listing))) m.uid ≡ true))
+    leaves_out = all_map (core.IsOut scene is_scene s.stored) _
         (λ m o.
         let whole = core.all_added scene is_scene (λ id l h d. known id ∙ d) only_new s.stored in
         let large = ap (λ k. is_selected k m) same in

@@ -169,8 +169,7 @@ module _ (laws : Below) (world : World) (is : IsSound world) (before : State Acc
           (all_take (λ (m : Message). is_delivered rows m.uid ≡ false) s.stored (fetched scene) (core.none_recorded scene is_scene only_new)) e) known)
 
   pub leaves_out : LeavesOut world before v
-  leaves_out ended = all_map (core.IsOut scene is_scene s.stored) (λ (m : Message). (is_held world.account v.after.maildir m.uid ≡ true) ⊎ (has_id before.taken m.uid ≡ true) ⊎ (is_selected world.max_size m ≡ false)
-      ⊎ (has_id (ids_wanted (past_limit v.settings.max_count (candidates v.settings rows v.effect.listing))) m.uid ≡ true))
+  leaves_out ended = all_map (core.IsOut scene is_scene s.stored) _
       (λ m o.
       let held' = held_after m.uid in
       let large = ap (λ k. is_selected k m) same in
