@@ -239,11 +239,9 @@ module _ (fronts : FrontsAreSettled) (laws : RowLaws) (filtered : DistinctAreFil
   -- ---- rows
 
   has_rows : (n : ℕ) → AllByRecursion (λ (m : Message). has_row rows m.uid ≡ true) (take n ws)
-  has_rows n = all_take (λ (m : Message). has_row rows m.uid ≡ true) n ws
-      (all_map (λ (m : Message). has_id (ids_of here) m.uid ≡ true) (λ (m : Message). has_row rows m.uid ≡ true)
+  has_rows n = all_take _ n ws (all_map _ _
       (λ m e. laws.listed (settled v.effect.listing before.account).rows v.effect.listing (none_held v.effect.listing) v.effect.now m.uid
-      ∙ or_right _ _ (ap (λ l. has_item l m.uid) honest.listing ∙ has_listed here m.uid ∙ e))
-      ws (core.fetched_here scene is_scene))
+      ∙ or_right _ _ (ap (λ l. has_item l m.uid) honest.listing ∙ has_listed here m.uid ∙ e)) ws (core.fetched_here scene is_scene))
 
   rows_are : v.after.rows ≡ marked_all rows (ids_of (take s.stored ws))
   rows_are = s.rows ∙ ap (marked_all rows) (ap (λ w. ids_wanted (take s.stored w)) wanted_is ∙ core.wanted_ids scene is_scene s.stored)
