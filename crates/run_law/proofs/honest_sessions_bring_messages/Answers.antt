@@ -46,10 +46,8 @@ honest_session laws settings account before sent got effect after drop marks hon
         listing = is.listing;
         gained = _;
         came = stores.came;
-        each = all_mapped (IsFileOf account drop) (file_for account) (filter (is_unheld account before.maildir) (zip (take stores.stored (wanted_at settings account before effect)) effect.texts))
-            (all_filter (IsPair account drop) (is_unheld account before.maildir) (zip (take stores.stored (wanted_at settings account before effect)) effect.texts)
-            (pairs account drop (wanted_at settings account before effect) effect.texts stores.stored
-            (subst (λ (l : List Item). AllByRecursion (IsFirstAt l) (wanted_at settings account before effect)) is.listing first) is.texts));
+        each = all_mapped (IsFileOf account drop) (file_for account) _ (all_filter (IsPair account drop) (is_unheld account before.maildir) _
+            (pairs account drop (wanted_at settings account before effect) effect.texts stores.stored (rw is.listing at first) is.texts));
       })
 ]
 
