@@ -47,7 +47,8 @@ honest_session laws settings account before sent got effect after drop marks hon
         gained = _;
         came = stores.came;
         each = all_mapped (IsFileOf account drop) (file_for account) _ (all_filter (IsPair account drop) (is_unheld account before.maildir) _
-            (pairs account drop (wanted_at settings account before effect) effect.texts stores.stored (rw is.listing at first) is.texts));
+            (pairs account drop (wanted_at settings account before effect) effect.texts stores.stored
+            (subst (λ (l : List Item). AllByRecursion (IsFirstAt l) (wanted_at settings account before effect)) is.listing first) is.texts));
       })
 ]
 
