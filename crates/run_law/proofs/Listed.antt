@@ -56,11 +56,8 @@ fresh_count (m ∷ ms) = omega (arith, fresh_count ms)
 abbrev pair_of : {V : Type 0} → ℕ → V → ℕ × V
 pair_of n x = (n, x)
 
-abbrev read : {V : Type 0} → ℕ × V → Result (ℕ × V) WireFault
-read p = Ok p
-
 -- two readings of one row give the same number and value
-same_row : {V : Type 0} (n m : ℕ) (x y : V) → read (n, x) ≡ read (m, y) → (n ≡ m) × (x ≡ y)
+same_row : {V : Type 0} (n m : ℕ) (x y : V) → ◌≡◌ {A = Result (ℕ × V) WireFault} (Ok (n, x)) (Ok (m, y)) → (n ≡ m) × (x ≡ y)
 same_row {V} n m x y e = let both : pair_of n x ≡ pair_of m y = cc in (ap (λ (p : ℕ × V). p.0) both, ap (λ (p : ℕ × V). p.1) both)
 
 -- a row has its message's number, and what a listing says of it
