@@ -4,7 +4,9 @@ use Rattle.std.specs.Prelude.{bytes_eq, zip}
 use Rattle.std.specs.List.{filter, enumerate_from, AllByRecursion}
 use Rattle.std.proofs.lemmas.Bool.{cond_both}
 use Rattle.std.proofs.lemmas.List.{take-map, drop-map, append-nil}
-use Rattle.std.proofs.lemmas.Option.{same_Some}
+use Rattle.std.proofs.lemmas.List.Elements.{recursion_from_All}
+use Rattle.std.proofs.lemmas.List.FromFn.{length-enumerate_from, get_or-enumerate_from}
+use Rattle.std.proofs.lemmas.Option.{same_Some, slice_get-get_or}
 use Rattle.pop3_wire.specs.World.{Message}
 use Rattle.mail_terms.specs.Distinct.{AreDistinct}
 use Rattle.mail_terms.specs.Listing.{Item, has_item}
@@ -84,15 +86,11 @@ Placed ms q = slice_get ms (q.0 - 1) ≡ Some q.1
 abbrev pub IsNumbered : {X : Type 0} → List X → ℕ × X → Type 0
 IsNumbered xs q = (0 < q.0) × (slice_get xs (q.0 - 1) ≡ Some q.1)
 
-numbered_from : {X : Type 0} (all xs : List X) (k : ℕ) → ((i : ℕ) (x : X) → slice_get xs i ≡ Some x → slice_get all (k + i) ≡ Some x) → AllByRecursion (IsNumbered all) (enumerate_from (k + 1) xs)
-numbered_from all [] k f = tt
-numbered_from all (x ∷ xs) k f = (
-  (omega arith, ap (slice_get all) (let e : k + 1 - 1 ≡ k + 0 = omega arith in e) ∙ f 0 x refl),
-  numbered_from all xs (k + 1) (λ i y e. ap (slice_get all) (let n : k + 1 + i ≡ k + suc i = omega arith in n) ∙ f (suc i) y e),
-)
-
 pub are_numbered : {X : Type 0} (xs : List X) → AllByRecursion (IsNumbered xs) (enumerate_from 1 xs)
-are_numbered xs = numbered_from xs xs 0 (λ i x e. ap (slice_get xs) (let n : 0 + i ≡ i = omega arith in n) ∙ e)
+are_numbered xs = recursion_from_All (IsNumbered xs) (enumerate_from 1 xs) (λ k d l.
+    let inside : k < length xs = omega (arith, l, length-enumerate_from 1 xs) in
+    let place : 1 + k - 1 ≡ k = omega arith in
+    rw (get_or-enumerate_from 1 xs k d inside) (omega arith, ap (slice_get xs) place ∙ slice_get-get_or xs k d.1 inside))
 
 pub all_at_most : {X : Type 0} (P : X → Type 0) (n : ℕ) (xs : List X) → AllByRecursion P xs → AllByRecursion P (at_most n xs)
 all_at_most P n xs h = cond_both (n == 0) xs (take n xs) (AllByRecursion P) (λ e. h) (λ e. all_take P n xs h)
