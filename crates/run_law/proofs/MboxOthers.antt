@@ -28,8 +28,7 @@ expired_kept world before ids kept all = record {
   rest = kept.rest;
   prefix = kept.prefix;
   recorded = kept.recorded;
-  gone = all_append (λ id. has_id (ids_of (world.had ++ kept.done)) id ≡ true) before.gone ids kept.gone
-      (all_map (λ id. is_delivered before.account.rows id ≡ true) (λ id. has_id (ids_of (world.had ++ kept.done)) id ≡ true) (λ id e. sym (kept.recorded id) ∙ e) ids all);
+  gone = all_append _ before.gone ids kept.gone (all_map _ _ (λ id e. sym (kept.recorded id) ∙ e) ids all);
   stands = kept.stands;
 }
 
@@ -85,8 +84,7 @@ rewritten_kept world before had file kept is = record {
   rest = is.ahead;
   prefix = is.prefix ∙ ap (λ l. l ++ is.ahead) (sym (append-nil had));
   recorded = λ id. is.recorded id ∙ ap (λ (ms : List Message). has_id (ids_of ms) id) (sym (append-nil had));
-  gone = all_map (λ id. has_id (ids_of (world.had ++ kept.done)) id ≡ true) (λ id. has_id (ids_of (had ++ [])) id ≡ true)
-      (λ id e. ap (λ (ms : List Message). has_id (ids_of ms) id) (append-nil had) ∙ sym (is.recorded id) ∙ kept.recorded id ∙ e) before.gone kept.gone;
+  gone = all_map _ _ (λ id e. rw (append-nil had) (sym (is.recorded id) ∙ kept.recorded id ∙ e)) before.gone kept.gone;
   stands = inl (record { intent = is.closed; file = sym (append-nil file) });
 }
 
