@@ -92,16 +92,6 @@ settle fronts laws world listing state sound kept = elim kept.stands [
 
 -- ---- an account that is left, its file perhaps cut back
 
-reopened : FrontsAreSettled → (bytes uid text : List ℕ) (listing : List Item) (before after : MboxMail) → IsWhole text → IsOpen bytes uid text before → after.intent ≡ before.intent
-    → after.file ≡ (settled listing before).file → IsOpen bytes uid text after
-reopened fronts bytes uid text listing before after whole-text o i f = elim (fronts bytes text o.front o.behind (listed_size listing uid) whole-text o.entry) [
-  | inl whole ↦ record { intent = i ∙ o.intent; front = o.front; behind = o.behind; entry = o.entry; file = cut ∙ whole.1 }
-  | inr part ↦ record { intent = i ∙ o.intent; front = []; behind = entry_of text; entry = refl; file = cut ∙ part.1 ∙ sym (append-nil bytes) }
-]
-  where
-    cut : after.file ≡ settled_file (length bytes) (length (entry_of text)) (listed_size listing uid) (bytes ++ o.front)
-    cut = f ∙ (settled_is bytes uid text listing before o).1
-
 left_kept : FrontsAreSettled → (world : MboxWorld) (before : MboxState MboxMail) (v : Visit MboxMail) → IsWorld world.all → MboxKept world before → MboxLeaves before.account v.effect v.after
     → AllByRecursion (λ id. has_id v.effect.begun id ≡ true) v.vanished → MboxKept world (after_visit before v)
 left_kept fronts world before v sound kept h vanished = record {
@@ -121,7 +111,13 @@ left_kept fronts world before v sound kept h vanished = record {
       is_next = o.is_next;
       opened = elim h.file [
         | inl same ↦ record { intent = h.intent ∙ o.opened.intent; front = o.opened.front; behind = o.opened.behind; entry = o.opened.entry; file = same ∙ o.opened.file }
-        | inr cut ↦ reopened fronts (world.start ++ entries_of kept.done) o.next.uid o.next.text v.effect.listing before.account v.after (next_whole world before sound kept o.next o.more o.is_next) o.opened h.intent cut
+        | inr cut ↦
+            let bytes : List ℕ = world.start ++ entries_of kept.done in
+            let is = cut ∙ (settled_is bytes o.next.uid o.next.text v.effect.listing before.account o.opened).1 in
+            elim (fronts bytes o.next.text o.opened.front o.opened.behind (listed_size v.effect.listing o.next.uid) (next_whole world before sound kept o.next o.more o.is_next) o.opened.entry) [
+              | inl whole ↦ record { intent = h.intent ∙ o.opened.intent; front = o.opened.front; behind = o.opened.behind; entry = o.opened.entry; file = is ∙ whole.1 }
+              | inr part ↦ record { intent = h.intent ∙ o.opened.intent; front = []; behind = entry_of o.next.text; entry = refl; file = is ∙ part.1 ∙ sym (append-nil bytes) }
+            ]
       ];
       row = ap (λ r. has_row r o.next.uid) h.rows ∙ o.row;
     })
