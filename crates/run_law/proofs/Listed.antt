@@ -5,6 +5,7 @@ use Rattle.std.specs.List.Sorted.{IsPermutation}
 use Rattle.std.proofs.lemmas.List.{ext_get_or, length-map, get_or-map, get_or_default, append-nil, append_cancel_left}
 use Rattle.std.proofs.lemmas.List.Sorted.{Contains-permutation}
 use Rattle.std.proofs.lemmas.List.FromFn.{length-enumerate_from, get_or-enumerate_from}
+use Rattle.std.proofs.lemmas.List.Sums.{length-filter}
 use Rattle.pop3_wire.specs.declared.command.Command.{Command}
 use Rattle.pop3_wire.specs.declared.command.Command.TheVariants.{Stat, UidlAll, ListAll, Retr}
 use Rattle.pop3_wire.specs.declared.fault.WireFault.{WireFault}
@@ -22,6 +23,7 @@ use Rattle.mail_terms.specs.declared.listing.ScanRow.{ScanRow}
 use Rattle.run_law.specs.Mails.{item_of, listing_of}
 use Rattle.pop3_wire.specs.Reading.{WholeReply, body_bytes, reply_bytes, has_body, IsBodyIf, IsUidLine, IsScanLine, OneListOfLines, GivesCount}
 use Rattle.run_law.specs.Readings.{IsGood, IsNumbered, TextsAreMessages, ListingIsMaildrop}
+use Rattle.run_law.proofs.Lists.{filter_all}
 
 -- ---- texts
 
@@ -50,8 +52,11 @@ fresh n [] = refl
 fresh n (m ∷ ms) = ap (λ (l : List (ℕ × Message)). (n, m) ∷ l) (fresh (n + 1) ms)
 
 fresh_count : (ms : List Message) → count_by not (no_marks ms) ≡ length ms
-fresh_count [] = refl
-fresh_count (m ∷ ms) = omega (arith, fresh_count ms)
+fresh_count ms = sym (length-filter not (no_marks ms)) ∙ ap length (filter_all not (no_marks ms) (unmarked ms)) ∙ length-map ms (λ _. false)
+  where
+    unmarked : (ms : List Message) → AllByRecursion (λ b. not b ≡ true) (no_marks ms)
+    unmarked [] = tt
+    unmarked (m ∷ ms) = (refl, unmarked ms)
 
 abbrev pair_of : {V : Type 0} → ℕ → V → ℕ × V
 pair_of n x = (n, x)

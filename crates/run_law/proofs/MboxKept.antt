@@ -271,7 +271,9 @@ module _ (fronts : FrontsAreSettled) (laws : RowLaws) (filtered : DistinctAreFil
       more = later;
       is_next = refl;
       opened = record {
-        intent = b.opened.intent ∙ rw (bytes_are, place.1, place.2);
+        intent = b.opened.intent ∙ ap (λ l. Some (intent_of l b.message.1.uid b.text)) bytes_are
+            ∙ ap (λ (x : ℕ × Item). Some (intent_of (world.start ++ entries_of (origin.done ++ take s.stored ws)) x.1.uid b.text)) place.1
+            ∙ ap (λ t. Some (intent_of (world.start ++ entries_of (origin.done ++ take s.stored ws)) place.0.1.uid t)) place.2;
         front = b.opened.front;
         behind = b.opened.behind;
         entry = sym (ap entry_of place.2) ∙ b.opened.entry;

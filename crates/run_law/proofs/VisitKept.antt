@@ -2,7 +2,7 @@
 use Rattle.std.proofs.Common.{◌≡◌, ◌⊎◌, inl, inr, ℕ, List, [], ◌++◌, Bool, true, false, not, cond, ◌&&◌, ◌||◌, length, take, map, refl, sym, ◌∙◌, ap, subst, arith}
 use Rattle.std.specs.Prelude.{zip}
 use Rattle.std.specs.List.{filter, AllByRecursion}
-use Rattle.std.proofs.lemmas.Bool.{both_ways, or_cases, or_left, and_parts, cases_Bool, false_from_ne_true}
+use Rattle.std.proofs.lemmas.Bool.{both_ways, or_cases, or_left, and_parts, cases_Bool, false_from_ne_true, cond_both}
 use Rattle.std.proofs.lemmas.List.{append-nil}
 use Rattle.mail_terms.specs.UniqueId.{is_legal_id, has_id}
 use Rattle.pop3_wire.specs.World.{Message}
@@ -152,7 +152,7 @@ module _ (laws : Below) (world : World) (is : IsSound world) (before : State Acc
 
   pub stores_only_new : StoresOnlyNew world before v
   stores_only_new only_new id l recorded = (
-    copies_are id l ∙ grind (arith, no_texts got id unasked, append-nil (copies (files before.account) (stem_of world.account id))),
+    copies_are id l ∙ rw (no_texts got id unasked) (cond_both (not (held id)) [] [] (λ c. was ++ c ≡ was) (λ t. append-nil was) (λ f. append-nil was)),
     elim s.rows [
       | inl old ↦ ap (λ r. is_delivered r id) old ∙ recorded
       | inr new ↦ ap (λ r. is_delivered r id) new
@@ -160,6 +160,9 @@ module _ (laws : Below) (world : World) (is : IsSound world) (before : State Acc
     ],
   )
     where
+      was : List (List ℕ)
+      was = copies (files before.account) (stem_of world.account id)
+
       known : is_delivered rows id ≡ true
       known = known_parts id ∙ or_left _ _ recorded
 
@@ -170,9 +173,11 @@ module _ (laws : Below) (world : World) (is : IsSound world) (before : State Acc
 
   pub leaves_out : LeavesOut world before v
   leaves_out ended = all_map (core.IsOut scene is_scene s.stored) _
-      (λ m o.
-      let held' = held_after m.uid in
-      let large = ap (λ k. is_selected k m) same in
-      let past = ap (λ l. has_id l m.uid) (core.past_ids scene is_scene laws.filtered v.effect.listing honest.listing) in
-      grind (arith, o, held', large, past)
-      ) here (core.left_out scene is_scene s.stored (let l = s.ended ended in omega (arith, l, ap length wanted_is, core.wanted_length scene is_scene)))
+      (λ m o. elim o [
+        | inl done ↦ elim (held_after m.uid done) [
+          | inl held' ↦ inl held'
+          | inr taken ↦ inr (inl taken)
+        ]
+        | inr (inl unfit) ↦ inr (inr (inl (ap (λ k. is_selected k m) (sym same) ∙ unfit)))
+        | inr (inr past) ↦ inr (inr (inr (ap (λ l. has_id l m.uid) (core.past_ids scene is_scene laws.filtered v.effect.listing honest.listing) ∙ past)))
+      ]) here (core.left_out scene is_scene s.stored (let l = s.ended ended in omega (arith, l, ap length wanted_is, core.wanted_length scene is_scene)))
