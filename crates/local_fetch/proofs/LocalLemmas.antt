@@ -1,35 +1,33 @@
 -- A session sends only commands that a server answers honestly.
-use Rattle.std.proofs.Common.{◌≡◌, inl, inr, ◌⊎◌, ℕ, suc, Option, Some, List, [], ◌∷◌, ◌++◌, Bool, true, refl, sym, ap, subst, ◌∙◌, ◌<◌, arith}
+use Rattle.std.proofs.Common.{◌≡◌, inl, inr, ◌⊎◌, ℕ, suc, Some, List, [], ◌∷◌, ◌++◌, Bool, true, refl, sym, ap, subst, ◌∙◌, ◌<◌, arith}
 use Rattle.std.specs.String.{string_bytes}
 use Rattle.std.specs.List.{flat_map, AllByRecursion}
 use Rattle.pop3_wire.specs.declared.command.Command.{Command}
-use Rattle.pop3_wire.specs.declared.command.Command.TheVariants.{Retr, Dele, Quit}
+use Rattle.pop3_wire.specs.declared.command.Command.TheVariants.{Quit}
 use Rattle.pop3_wire.specs.Line.{ended}
 use Rattle.mail_terms.specs.FailureCount.{counted_up, greatest_count}
 use Rattle.pop3_wire.specs.Link.{Link}
 use Rattle.pop3_wire.specs.Commands.{line_of, can_be_sent}
 use Rattle.pop3_wire.specs.CommandLine.{HasNumbers}
-use Rattle.pop3_wire.specs.Honest.{Asked}
-use Rattle.pop3_wire.specs.World.{Message, IsMessage, maildrop_of}
-use Rattle.run_law.specs.Sessions.{IsMarked, Served}
+use Rattle.pop3_wire.specs.World.{Message, IsMessage}
+use Rattle.run_law.specs.Sessions.{IsMarked}
 use Rattle.rc_file.specs.Settings.{IsValid}
 use Rattle.rc_file.specs.declared.settings.Settings.{Settings}
 use Rattle.fetch_rules.specs.Plan.{planned}
 use Rattle.fetch_rules.specs.declared.steps.Step.{Step}
-use Rattle.fetch_session.specs.Account.{digits_of}
 use Rattle.fetch_session.specs.declared.report.Outcome.{Outcome}
 use Rattle.fetch_session.specs.declared.report.Outcome.TheVariants.{Ended, Cut as WasCut}
 use Rattle.fetch_session.specs.Refusal.{RefusesByOutcome}
 use Rattle.fetch_session.specs.declared.report.Report.{Report}
 use Rattle.fetch_session.specs.Session.{AccountFiles, MboxAccountFiles, Session, MboxSession}
-use Rattle.fetch_runs.specs.Conversations.{Opens, SpeaksByPlan, SessionsAreConversations, FollowsPlan, MboxSessionsFollowPlans}
+use Rattle.fetch_runs.specs.Conversations.{SessionsAreConversations, FollowsPlan, MboxSessionsFollowPlans}
 use Rattle.pop3_server.specs.Maildrop.{Mail, there}
 use Rattle.pop3_server.specs.ServerMachine.{Machine}
 use Rattle.pop3_server.specs.HonestLoop.{IsNew, GivesHonest}
 use Rattle.pop3_server.specs.LoopLink.{Loop, Serves}
 use Rattle.local_fetch.specs.Local.{AreSessions, AreMboxSessions, AreWithout, FetchesBy, FetchesFrom, MboxFetchesFrom, loop_to, unused}
-use Rattle.run_law.specs.Plans.{asked_if, step_commands, plan_commands, IsTail, IsFrontOfPlan}
-use Rattle.pop3_server.specs.HonestServer.{IsOfSession, IsAsked, IsClosedByQuit, AreLeft, Gone, lines_of}
+use Rattle.run_law.specs.Plans.{step_commands, plan_commands, IsTail, IsFrontOfPlan}
+use Rattle.pop3_server.specs.HonestServer.{IsOfSession, IsAsked, AreLeft, lines_of}
 
 all_append : {A : Type 0} (P : A → Type 0) (xs ys : List A) → AllByRecursion P xs → AllByRecursion P ys → AllByRecursion P (xs ++ ys)
 all_append P [] ys first then = then
@@ -39,13 +37,9 @@ all_front : {A : Type 0} (P : A → Type 0) (xs ys : List A) → AllByRecursion 
 all_front P [] ys all = tt
 all_front P (x ∷ xs) ys all = (all.0, all_front P xs ys all.1)
 
-asked_steps : (retrieve delete : Bool) (number : ℕ) (commands : List Command) → AllByRecursion IsOfSession commands
-    → AllByRecursion IsOfSession ((asked_if retrieve (Retr number) ++ asked_if delete (Dele number)) ++ commands)
-asked_steps retrieve delete number commands later = grind (arith, later)
-
 of_steps : (steps : List Step) → AllByRecursion IsOfSession (flat_map step_commands steps)
 of_steps [] = tt
-of_steps (s ∷ steps) = asked_steps s.retrieve s.delete s.number (flat_map step_commands steps) (of_steps steps)
+of_steps (s ∷ steps) = grind (arith, of_steps steps)
 
 of_plan : (name word : List ℕ) (steps : List Step) → AllByRecursion IsOfSession (plan_commands name word steps)
 of_plan name word steps = (tt, (tt, (tt, (tt, (tt, all_append IsOfSession (flat_map step_commands steps) (Quit ∷ []) (of_steps steps) (tt, tt))))))
@@ -66,9 +60,6 @@ each_asked : (commands : List Command) → AllByRecursion IsOfSession commands �
 each_asked [] of_session numbers sendable = tt
 each_asked (c ∷ commands) of_session numbers sendable =
     (record { of_session = of_session.0; numbers = numbers.0; sendable = sendable.0 }, each_asked commands of_session.1 numbers.1 sendable.1)
-
-pub are_asked : (name word : List ℕ) (steps : List Step) (commands : List Command) (sent : List ℕ) → IsFrontOfPlan name word steps commands → Asked commands sent → AllByRecursion IsAsked commands
-are_asked name word steps commands sent front asked = each_asked commands (of_session name word steps commands front) asked.numbers asked.sendable
 
 pub lines_same : (commands : List Command) → flat_map ended (lines_of commands) ≡ flat_map (λ (command : Command). ended (line_of command)) commands
 lines_same [] = refl
@@ -106,69 +97,47 @@ missing (m ∷ before) (mark ∷ marks) after (inr (is, left)) =
     let more = missing before marks after left in
     record {
       ids = m.uid ∷ more.ids;
-      marked = ((0, m, ap some is, refl, refl), later_marked m mark before marks more.ids more.marked);
+      marked = ((0, m, ap (λ (b : Bool). Some b) is, refl, refl), later_marked m mark before marks more.ids more.marked);
       left = inr (more.ids, refl, more.left);
     }
-  where
-    some : Bool → Option Bool
-    some b = Some b
 
 all_left : (messages : List Message) → AreWithout messages [] messages
 all_left [] = (refl, refl)
 all_left (m ∷ messages) = inl (messages, refl, all_left messages)
-
-record Vanishing (before : List Message) (marks : List Bool) (after : List Message) (commands : List Command) : Type 0 where
-  vanished : List (List ℕ)
-  quits : (vanished ≡ []) ⊎ ((front behind : List Command) × (commands ≡ front ++ Quit ∷ behind))
-  marked : AllByRecursion (IsMarked before marks) vanished
-  left : AreWithout before vanished after
-
-vanishing : {M : Type 0} (before : List Message) (marks : List Bool) (after : List Message) (machine : Machine M) (commands : List Command) → Gone before marks machine.state after
-    → IsClosedByQuit machine.state commands
-    → Vanishing before marks after commands
-vanishing before marks after machine commands gone (inl still) =
-    record { vanished = []; quits = inl refl; marked = tt; left = subst (AreWithout before []) (sym (gone.before_quit still)) (all_left before) }
-vanishing before marks after machine commands gone (inr quits) =
-    let more = missing before marks after gone.left in
-    record { vanished = more.ids; quits = inr quits; marked = more.marked; left = more.left }
-
--- what was sent follows a plan
-follows : (settings : Settings) (account : List ℕ) (now : ℕ) (before : AccountFiles) (report : Report) (sent got : List ℕ) → Opens settings report sent got ⊎ SpeaksByPlan settings account now before report sent got
-    → FollowsPlan settings sent
-follows settings account now before report sent got (inl said) = record { steps = []; commands = said.commands; asked = said.asked; front = said.front }
-follows settings account now before report sent got (inr said) = record { steps = planned settings said.rows said.items now; commands = said.commands; asked = said.asked; front = said.front }
 
 -- all that a new link sent follows a plan
 abbrev Sends : Settings → Link → Type 0
 Sends settings link = (sent : List ℕ) × (link.sent ≡ sent) × FollowsPlan settings sent
 
 module _ {M : Type 0} (sound : M → Type 0) (mail : M → Mail) (honesty : GivesHonest sound mail) where
-  from_new : (Made : Type 0) (settings : Settings) (server : Machine M) (loop : Loop M) → Sends settings loop.link → IsNew (loop_to server)
-      → Serves sound mail (loop_to server) loop → Made → sound loop.machine.drop
-      → AllByRecursion IsMessage (there (mail server.drop).slots) → FetchesBy mail Made server loop.machine loop.link
-  from_new Made settings server loop said is_new serves session sound' messages =
-      let s = said.2 in
-      let all = honesty (loop_to server) loop s.commands s.asked.part is_new serves
-      (are_asked (string_bytes settings.username) (string_bytes settings.password) s.steps s.commands said.0 s.front s.asked) s.asked.no_line
-      (said.1 ∙ s.asked.whole ∙ ap (λ (l : List ℕ). l ++ s.asked.part) (sym (lines_same s.commands))) sound' messages in
-      let messages_were = there (mail server.drop).slots in
-      let gone = vanishing messages_were all.0 (there (mail loop.machine.drop).slots) loop.machine all.1.commands all.2 all.3 in
-      record {
-        session = session;
-        vanished = gone.vanished;
-        served = record { marks = all.0; honest = all.1; quits = gone.quits; marked = gone.marked };
-        left = gone.left;
-      }
-
   -- the session is over the server's link
   over : (Made : Link → Type 0) (settings : Settings) (server new : Machine M) (start loop : Loop M) → start ≡ loop_to server → new ≡ loop.machine
       → (Made unused → Sends settings loop.link) → IsNew (loop_to server) → Serves sound mail start loop → Made start.link → sound new.drop
       → AllByRecursion IsMessage (there (mail server.drop).slots) → FetchesBy mail (Made unused) server new loop.link
   over Made settings server new start loop first last sends is_new serves session sound' messages =
       let made = subst (λ (l : Loop M). Made l.link) first session in
-      subst (λ (m : Machine M). FetchesBy mail (Made unused) server m loop.link) (sym last)
-      (from_new (Made unused) settings server loop (sends made) is_new (subst (λ (l : Loop M). Serves sound mail l loop) first serves) made
-      (subst (λ (m : Machine M). sound m.drop) last sound') messages)
+      let said = sends made in
+      let s = said.2 in
+      let before = there (mail server.drop).slots in
+      let all = honesty (loop_to server) loop s.commands s.asked.part is_new (subst (λ (l : Loop M). Serves sound mail l loop) first serves)
+      (each_asked s.commands (of_session (string_bytes settings.username) (string_bytes settings.password) s.steps s.commands s.front) s.asked.numbers s.asked.sendable) s.asked.no_line
+      (said.1 ∙ s.asked.whole ∙ ap (λ (l : List ℕ). l ++ s.asked.part) (sym (lines_same s.commands))) (subst (λ (m : Machine M). sound m.drop) last sound') messages in
+      rw last (elim all.3 [
+        | inl still ↦ record {
+          session = made;
+          vanished = [];
+          served = record { marks = all.0; honest = all.1; quits = inl refl; marked = tt };
+          left = subst (AreWithout before []) (sym (all.2.before_quit still)) (all_left before);
+        }
+        | inr quits ↦
+            let more = missing before all.0 (there (mail loop.machine.drop).slots) all.2.left in
+            record {
+              session = made;
+              vanished = more.ids;
+              served = record { marks = all.0; honest = all.1; quits = inr quits; marked = more.marked };
+              left = more.left;
+            }
+      ])
 
   pub fetches : SessionsAreConversations → (settings : Settings) (account : List ℕ) (now : ℕ) (server new : Machine M) (start loop : Loop M) (before : AccountFiles) (report : Report) (after : AccountFiles)
       → start ≡ loop_to server → new ≡ loop.machine → IsNew (loop_to server) → IsValid settings → Serves sound mail start loop
@@ -178,7 +147,12 @@ module _ {M : Type 0} (sound : M → Type 0) (mail : M → Mail) (honesty : Give
       over (λ (l : Link). Session settings account now l before report loop.link after) settings server new start loop first last sends is_new
     where
       sends : Session settings account now unused before report loop.link after → Sends settings loop.link
-      sends session = let said = conversations settings account now unused before report loop.link after valid session in (said.0, said.2, follows settings account now before report said.0 said.1 said.4)
+      sends session =
+          let said = conversations settings account now unused before report loop.link after valid session in
+          (said.0, said.2, elim said.4 [
+            | inl opens ↦ record { steps = []; commands = opens.commands; asked = opens.asked; front = opens.front }
+            | inr plan ↦ record { steps = planned settings plan.rows plan.items now; commands = plan.commands; asked = plan.asked; front = plan.front }
+          ])
 
   pub mbox_fetches : MboxSessionsFollowPlans → (settings : Settings) (now : ℕ) (server new : Machine M) (start loop : Loop M) (before : MboxAccountFiles) (report : Report) (after : MboxAccountFiles)
       → start ≡ loop_to server → new ≡ loop.machine → IsNew (loop_to server) → IsValid settings → Serves sound mail start loop
@@ -190,24 +164,16 @@ module _ {M : Type 0} (sound : M → Type 0) (mail : M → Mail) (honesty : Give
 
 -- ---- such sessions are those of the headlines
 
-module _ {M : Type 0} (mail : M → Mail) (Made : Type 0) (messages : List Message) (old new : Machine M) (link : Link) (local : FetchesBy mail Made old new link)
-    (drop : there (mail old.drop).slots ≡ messages) where
-  served : (sent got : List ℕ) → link.sent ≡ sent → link.got ≡ got → Served messages sent got local.vanished
-  served sent got sent_is got_is =
-      subst (λ (ms : List Message). Served ms sent got local.vanished) drop
-      (subst (λ (s : List ℕ). Served (there (mail old.drop).slots) s got local.vanished) sent_is
-      (subst (λ (g : List ℕ). Served (there (mail old.drop).slots) link.sent g local.vanished) got_is local.served))
-
 pub are_sessions : {M : Type 0} (mail : M → Mail) → AreSessions mail
 are_sessions mail world state settings now come old new link report after are local drop = record {
   settings = are;
   session = local.session;
-  served = served mail (Session settings (digits_of settings) now unused state.account report link after) (maildrop_of world.all come state.gone) old new link local drop;
+  served = λ sent got sent_is got_is. rw (← drop, ← sent_is, ← got_is) local.served;
 }
 
 pub are_mbox_sessions : {M : Type 0} (mail : M → Mail) → AreMboxSessions mail
 are_mbox_sessions mail world state settings now come old new link report after are local drop = record {
   settings = are;
   session = local.session;
-  served = served mail (MboxSession settings now unused state.account report link after) (maildrop_of world.all come state.gone) old new link local drop;
+  served = λ sent got sent_is got_is. rw (← drop, ← sent_is, ← got_is) local.served;
 }

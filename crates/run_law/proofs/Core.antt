@@ -14,7 +14,7 @@ use Rattle.fetch_rules.specs.Wanted.{DistinctAreFiltered, at_most, wanted, candi
 use Rattle.run_law.specs.Mails.{ids_of, listing_of, is_selected, selected}
 use Rattle.run_law.specs.Steps.{AreTexts, ids_wanted}
 use Rattle.run_law.specs.Runs.{past_limit}
-use Rattle.run_law.proofs.Lists.{front_is, filter-filter, filter_all, all_map, all_both, all_filter, all_passing, all_take, all_front}
+use Rattle.run_law.proofs.Lists.{front_is, filter-filter, filter_all, all_map, all_both, all_filter, all_passing, all_take, all_parts}
 use Rattle.run_law.proofs.Ids.{Distinct, distinct_is, distinct_take, distinct_filter, ids_filtered, ids_both, all_at, all_ids_at, bytes_self, HasTextsOf, through, whole_take, whole_filter}
 use Rattle.run_law.proofs.Wants.{num_item, all_at_most, with_text, asked, offered, wants, offered_by_number, wants_by_number, wanted_are, candidates_are, wants_snd, offered_snd, wants_placed, zipped, ids_are, begins, both_parts, past-map, snd}
 use Rattle.run_law.proofs.Bridge.{IsLeft, BeginsWith, bridge, left_is}
@@ -46,8 +46,8 @@ module _ (limit : ℕ) (all : List Message) (mail : IsWorld all) (done rest : Li
       (distinct_take (length done) (selected limit all) (distinct_filter (is_selected limit) all (distinct_is all mail.distinct)))
 
   pub done_legal : AllByRecursion IsLegal done
-  done_legal = all_front IsLegal done rest (subst (AllByRecursion IsLegal) prefix
-      (all_filter IsLegal (is_selected limit) all (all_map IsMessage IsLegal (λ m h. h.legal) all mail.messages)))
+  done_legal = (all_parts IsLegal done rest (subst (AllByRecursion IsLegal) prefix
+      (all_filter IsLegal (is_selected limit) all (all_map IsMessage IsLegal (λ m h. h.legal) all mail.messages)))).0
 
   pub done_texts : (id : List ℕ) → HasTextsOf done all id
   done_texts id = through done (selected limit all) all id
@@ -196,10 +196,7 @@ module _ (s : Scene) (is : IsScene s) where
   -- if only what is new is read, no message that is offered or wanted is recorded
   new_offered : s.settings.read_all ≡ false → AllByRecursion (λ (m : Message). is_delivered s.rows m.uid ≡ false) os
   new_offered only_new = all_map (λ (m : Message). asked s.settings s.rows m ≡ true) (λ (m : Message). is_delivered s.rows m.uid ≡ false)
-      (λ m a. new (fit m) s.settings.read_all (is_delivered s.rows m.uid) only_new a) os (all_passing (asked s.settings s.rows) (here s))
-    where
-      new : (f r k : Bool) → r ≡ false → (f && (r || not k)) ≡ true → k ≡ false
-      new f r k e a = grind arith
+      (λ m a. grind (arith, a, only_new)) os (all_passing (asked s.settings s.rows) (here s))
 
   pub none_recorded : s.settings.read_all ≡ false → AllByRecursion (λ (m : Message). is_delivered s.rows m.uid ≡ false) ws
   none_recorded only_new = all_at_most (λ (m : Message). is_delivered s.rows m.uid ≡ false) s.settings.max_count os (new_offered only_new)
@@ -263,7 +260,5 @@ module _ (s : Scene) (is : IsScene s) where
       grind (arith, new, old)
 
   pub left_out : (n : ℕ) → length ws ≤ n → AllByRecursion (IsOut n) (here s)
-  left_out n l = all_both (λ (m : Message). (is_legal_id m.uid ≡ true) × (has_id (ids_of (here s)) m.uid ≡ true)) (λ (m : Message). asked s.settings s.rows m ≡ true → has_id (ids_of os) m.uid ≡ true) (IsOut n)
-      (out n l) (here s)
-      (all_both IsLegal (λ (m : Message). has_id (ids_of (here s)) m.uid ≡ true) (λ (m : Message). (is_legal_id m.uid ≡ true) × (has_id (ids_of (here s)) m.uid ≡ true)) (λ m l h. (l, h)) (here s) legal_here (members (here s)))
+  left_out n l = all_both _ _ (IsOut n) (out n l) (here s) (all_both IsLegal _ _ (λ m l h. (l, h)) (here s) legal_here (members (here s)))
       (passing_in (asked s.settings s.rows) (here s))

@@ -29,39 +29,26 @@ abbrev all_fetched : ℕ → Settings → List Row → List Message → Effect
 all_fetched now settings rows drop =
     record { now = now; listing = listing_of drop; texts = map (λ (q : ℕ × Message). q.1.text) (wants_by_number settings rows drop); begun = []; ended = true }
 
-record CanFetch (wanted : List (ℕ × Item)) (drop : List Message) (effect : Effect) : Type 0 where
-  count : length wanted ≡ length effect.texts
-  honest : IsHonest wanted drop effect
-
 can_fetch : DistinctAreFiltered → (all : List Message) → IsWorld all → (come : ℕ) (gone : List (List ℕ)) (now : ℕ) (settings : Settings) (rows : List Row)
-    → CanFetch (wanted settings rows (listing_of (maildrop_of all come gone))) (maildrop_of all come gone) (all_fetched now settings rows (maildrop_of all come gone))
-can_fetch filtered all sound come gone now settings rows = record {
-  count = ap length is ∙ length-map qs num_item ∙ sym (length-map qs (λ (q : ℕ × Message). q.1.text));
-  honest = record { listing = refl; texts = subst (λ w. AreTexts drop w (map (λ (q : ℕ × Message). q.1.text) qs)) (sym is) (are_texts drop qs (wants_placed settings rows drop)) };
-}
-  where
-    drop : List Message
-    drop = maildrop_of all come gone
-
-    qs : List (ℕ × Message)
-    qs = wants_by_number settings rows drop
-
-    is : wanted settings rows (listing_of drop) ≡ map num_item qs
-    is = wanted_are filtered settings rows drop (distinct_filter (λ (m : Message). not (has_id gone m.uid)) (take come all) (distinct_take come all (distinct_is all sound.distinct)))
+    → (length (wanted settings rows (listing_of (maildrop_of all come gone))) ≡ length (all_fetched now settings rows (maildrop_of all come gone)).texts)
+    × IsHonest (wanted settings rows (listing_of (maildrop_of all come gone))) (maildrop_of all come gone) (all_fetched now settings rows (maildrop_of all come gone))
+can_fetch filtered all sound come gone now settings rows =
+    let drop : List Message = maildrop_of all come gone in
+    let qs : List (ℕ × Message) = wants_by_number settings rows drop in
+    let distinct = distinct_filter (λ (m : Message). not (has_id gone m.uid)) (take come all) (distinct_take come all (distinct_is all sound.distinct)) in
+    let is : wanted settings rows (listing_of drop) ≡ map num_item qs = wanted_are filtered settings rows drop distinct in (
+      ap length is ∙ length-map qs num_item ∙ sym (length-map qs (λ (q : ℕ × Message). q.1.text)),
+      record { listing = refl; texts = subst (λ w. AreTexts drop w (map (λ (q : ℕ × Message). q.1.text) qs)) (sym is) (are_texts drop qs (wants_placed settings rows drop)) },
+    )
 
 pub can_end : DistinctAreFiltered → CanEnd
 can_end filtered world before settings come now is same =
     let here : List Message = maildrop_of world.all come before.gone in
     let rows : List Row = merged before.account.rows (listing_of here) (flags_of world.account before.account.maildir (listing_of here)) now in
-    let wants : List (ℕ × Item) = wanted settings rows (listing_of here) in
     let effect : Effect = all_fetched now settings rows here in
     let n : ℕ = length effect.texts in
     let can = can_fetch filtered world.all is.mail come before.gone now settings rows in
-    let new : List File = map (file_for world.account) (filter (is_unheld world.account before.account.maildir) (zip (take n wants) effect.texts)) in
-    let after : AccountMail = record {
-      rows = marked_all rows (ids_wanted (take n wants));
-      maildir = record before.account.maildir { files = before.account.maildir.files ++ new };
-    } in
+    let after : AccountMail = record { rows = _; maildir = record before.account.maildir { files = _ } } in
     let stores : Stores settings world.account before.account effect after = record {
       stored = n;
       recorded = n;
@@ -70,10 +57,10 @@ can_end filtered world before settings come now is same =
       came = refl;
       rows = inr refl;
       begun = tt;
-      ended = λ e. omega (arith, can.count);
+      ended = λ e. omega (arith, can.0);
     } in (
       record { settings = settings; come = come; effect = effect; vanished = []; after = after },
-      record { same = same; step = inr (stores, can.honest); vanished = tt },
+      record { same = same; step = inr (stores, can.1); vanished = tt },
       refl,
       refl,
     )
@@ -85,21 +72,17 @@ mbox_can_end filtered world before settings come now sound same only_new =
     let effect : Effect = all_fetched now settings rows here in
     let n : ℕ = length effect.texts in
     let can = can_fetch filtered world.all sound come before.gone now settings rows in
-    let after : MboxMail = record {
-      rows = marked_all rows (ids_wanted (take n (wanted settings rows (listing_of here))));
-      intent = None;
-      file = (settled (listing_of here) before.account).file ++ entries (take n effect.texts);
-    } in
+    let after : MboxMail = record { rows = _; intent = None; file = _ } in
     let stores : MboxStores settings before.account effect after = record {
       stored = n;
       fetched = omega arith;
       rows = refl;
       ending = inl (record { intent = refl; file = refl });
       begun = tt;
-      ended = λ e. (omega (arith, can.count), refl);
+      ended = λ e. (omega (arith, can.0), refl);
     } in (
       record { settings = settings; come = come; effect = effect; vanished = []; after = after },
-      record { same = same; only_new = only_new; step = inr (stores, can.honest); vanished = tt },
+      record { same = same; only_new = only_new; step = inr (stores, can.1); vanished = tt },
       refl,
       refl,
     )

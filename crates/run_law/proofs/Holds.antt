@@ -7,7 +7,7 @@ use Rattle.mail_store.specs.FileName.{is_held, stem_of}
 use Rattle.fetch_rules.specs.Record.{is_delivered}
 use Rattle.run_law.specs.Mails.{ids_of, selected}
 use Rattle.run_law.specs.Accounts.{AccountMail, files, copies}
-use Rattle.run_law.specs.Runs.{World, State, HoldsOf, StartsKept}
+use Rattle.run_law.specs.Runs.{World, State, HoldsOf, IsNeither, StartsKept}
 use Rattle.run_law.proofs.Lists.{is_some}
 use Rattle.run_law.proofs.Ids.{Distinct, lone}
 use Rattle.run_law.proofs.Files.{held_done, held_copies}
@@ -28,6 +28,13 @@ module _ (world : World) (state : State AccountMail) where
       → (held id ≡ true) ⊎ (has_id state.taken id ≡ true)
   done_is_held done id (inl e) h = inl (held_done world.account state.account done id e ∙ h)
   done_is_held done id (inr taken) h = inr taken.0
+
+  pub not_neither : (done : List Message) (id : List ℕ) → HoldsOf world state done id → has_id (ids_of done) id ≡ true
+      → IsNeither world.account state.account.maildir state.taken id → ⊥
+  not_neither done id holds is neither = elim (done_is_held done id holds is) [
+    | inl there ↦ both_ways (held id) neither.0 there
+    | inr taken ↦ both_ways (has_id state.taken id) neither.1 taken
+  ]
 
   pub one_file : (done : List Message) (id : List ℕ) → Distinct (ids_of done) → HoldsOf world state done id → length (copies (files state.account) (stem_of world.account id)) ≤ 1
   one_file done id d (inl e) = subst (λ (c : List (List ℕ)). length c ≤ 1) (sym e) (lone done id d)

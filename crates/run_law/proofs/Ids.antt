@@ -1,13 +1,14 @@
 -- Ids of messages, and what a filter or a prefix keeps of them.
-use Rattle.std.proofs.Common.{◌≡◌, ◌≤◌, inl, inr, ℕ, zero, suc, List, [], ◌∷◌, ◌++◌, Bool, true, false, cond, ◌&&◌, ◌||◌, length, take, map, refl, sym, ◌∙◌, ap, subst, arith}
-use Rattle.std.specs.Prelude.{bytes_eq, Contains}
+use Rattle.std.proofs.Common.{◌≡◌, ◌≢◌, ◌≤◌, inl, inr, ℕ, zero, suc, List, [], ◌∷◌, ◌++◌, Bool, true, false, cond, ◌&&◌, ◌||◌, length, take, drop, map, refl, sym, ◌∙◌, ap, subst, arith, take-append-drop}
+use Rattle.std.specs.Prelude.{bytes_eq}
 use Rattle.std.specs.List.{filter, AllByRecursion}
-use Rattle.std.proofs.lemmas.Bool.{both_ways, or_parts, or_cases, or_from, false_from_ne_true}
+use Rattle.std.proofs.lemmas.Bool.{both_ways, or_parts, or_cases, or_from, or_left, false_from_ne_true}
 use Rattle.std.proofs.lemmas.Bool.Decides.{same_from_decides, Decides-like}
 use Rattle.std.proofs.lemmas.Slice.Eq.{bytes_eq-Decides}
-use Rattle.std.proofs.lemmas.List.{map-append}
+use Rattle.std.proofs.lemmas.List.{map-append, take-take}
 use Rattle.std.proofs.lemmas.List.Elements.{filter-append}
-use Rattle.std.proofs.lemmas.List.Folds.{Any-from_list_any, list_any-append}
+use Rattle.std.proofs.lemmas.List.Folds.{list_any-append, list_any_at, list_any_none}
+use Rattle.std.proofs.lemmas.List.Kept.{AllPairs-cons}
 use Rattle.mail_terms.specs.Distinct.{AreDistinct}
 use Rattle.pop3_wire.specs.World.{Message}
 use Rattle.mail_terms.specs.UniqueId.{has_id}
@@ -56,12 +57,9 @@ all_at P ms id h e = all_ids_at P (ids_of ms) id (all_mapped P (λ (m : Message)
 
 -- the ids of a shorter prefix are among those of a longer one
 pub taken_more : {X : Type 0} (f : X → List ℕ) (m n : ℕ) (xs : List X) (id : List ℕ) → m ≤ n → has_id (map f (take m xs)) id ≡ true → has_id (map f (take n xs)) id ≡ true
-taken_more f zero n xs id l e = absurd (both_ways false refl e)
-taken_more f (suc m) zero xs id l e = absurd (omega (arith, l))
-taken_more f (suc m) (suc n) [] id l e = e
-taken_more f (suc m) (suc n) (x ∷ xs) id l e =
-    let more = λ (h : has_id (map f (take m xs)) id ≡ true). taken_more f m n xs id (omega (arith, l)) h in
-    grind (arith, e, more)
+taken_more f m n xs id l e =
+    rw (← take-append-drop m (take n xs), take-take m n xs l, map-append f (take m xs) (drop m (take n xs)), list_any-append (bytes_eq id) (map f (take m xs)) (map f (drop m (take n xs))))
+    (or_left _ _ e)
 
 -- what is gone after a session is done, if all that was gone before is, and each id for which a DELE was begun
 pub gone_is_done : (was is : List ℕ → Bool) (begun gone vanished : List (List ℕ)) → ((id : List ℕ) → was id ≡ true → is id ≡ true) → AllByRecursion (λ id. is id ≡ true) begun
@@ -76,22 +74,20 @@ abbrev pub Distinct : List (List ℕ) → Type 0
 Distinct [] = Unit {0}
 Distinct (id ∷ ids) = (has_id ids id ≡ false) × Distinct ids
 
-contains_from : (ids : List (List ℕ)) (id : List ℕ) → has_id ids id ≡ true → Contains ids id
-contains_from ids id t =
-    let a = Any-from_list_any (bytes_eq id) ids t in
-    subst (Contains ids) (sym (bytes_same id a.1 a.4)) (a.0, a.2, a.3)
-
 pub distinct_is : (ms : List Message) → AreDistinct (ids_of ms) → Distinct (ids_of ms)
 distinct_is [] h = tt
 distinct_is (m ∷ ms) h = (
-  false_from_ne_true _ (λ t. let there = contains_from (ids_of ms) m.uid t in h 0 (suc there.0) m.uid (omega arith) (omega (arith, there.1)) (sym there.2)),
+  list_any_none (bytes_eq m.uid) (ids_of ms) (λ k d l. false_from_ne_true _ (λ t. h 0 (suc k) d (omega arith) (omega (arith, l)) (bytes_same m.uid _ t))),
   distinct_is ms (λ j k d before inside. h (suc j) (suc k) d (omega (arith, before)) (omega (arith, inside))),
 )
 
+pub are_distinct : (ids : List (List ℕ)) → Distinct ids → AreDistinct ids
+are_distinct [] d = λ i j e before inside. absurd (omega arith)
+are_distinct (id ∷ ids) d = AllPairs-cons (λ (a b : List ℕ). a ≢ b) id ids
+    (λ k e l same. both_ways _ d.0 (list_any_at (bytes_eq id) ids k e l (ap (bytes_eq id) (sym same) ∙ bytes_self id))) (are_distinct ids d.1)
+
 none_take : (n : ℕ) (ms : List Message) (id : List ℕ) → has_id (ids_of ms) id ≡ false → has_id (ids_of (take n ms)) id ≡ false
-none_take zero ms id e = refl
-none_take (suc n) [] id e = refl
-none_take (suc n) (m ∷ ms) id e = let parts = or_parts _ _ e in or_from _ _ parts.0 (none_take n ms id parts.1)
+none_take n ms id e = (or_parts _ _ (sym (ids_both (take n ms) (drop n ms) id) ∙ rw (take-append-drop n ms) e)).0
 
 pub distinct_take : (n : ℕ) (ms : List Message) → Distinct (ids_of ms) → Distinct (ids_of (take n ms))
 distinct_take zero ms d = tt

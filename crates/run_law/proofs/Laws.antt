@@ -21,46 +21,31 @@ use Rattle.run_law.proofs.Files.{held_done}
 use Rattle.run_law.proofs.Power.{power_kept}
 use Rattle.run_law.proofs.VisitKept.{visit_kept, deletes_held, keeps_others, leaves_out, stores_only_new}
 
--- ---- an account whose files and rows stay
-
-left_leaves : (account : List ℕ) (before : AccountMail) (effect : Effect) (after : AccountMail) → Leaves before effect after → LeavesMail account before after
-left_leaves account before effect after h = record { rows = h.rows; same = λ id l. ap (λ f. copies f (stem_of account id)) h.same }
-
-left_kept : (world : World) (before : State AccountMail) (v : Visit AccountMail) → Kept world before → Leaves before.account v.effect v.after
-    → AllByRecursion (λ id. has_id v.effect.begun id ≡ true) v.vanished → Kept world (after_visit before v)
-left_kept world before v kept h vanished =
-    subst (λ (gone : List (List ℕ)). Kept world (record { account = v.after; gone = gone; taken = before.taken }))
-    (sym (append-nil before.gone) ∙ ap (λ l. before.gone ++ l) (sym (none_vanish v.vanished v.effect.begun h.begun vanished)))
-    (between_kept world before v.after kept (left_leaves world.account before.account v.effect v.after h))
-
-left_promises : (world : World) (before : State AccountMail) (v : Visit AccountMail) → Leaves before.account v.effect v.after → Promises world before (Fetched v)
-left_promises world before v h = (
-  (λ ended. absurd (both_ways v.effect.ended h.ended ended)),
-  subst (AllByRecursion (λ id. (is_held world.account v.after.maildir id ≡ true) ⊎ (has_id before.taken id ≡ true))) (sym h.begun) tt,
-  (λ name content other. ap (λ fs. count_files fs name content) h.same),
-  λ only_new id l recorded. ((left_leaves world.account before.account v.effect v.after h).same id l, ap (λ r. is_delivered r id) h.rows ∙ recorded),
-)
-
 -- ---- one event
-
-visited : Below → (world : World) (before : State AccountMail) (v : Visit AccountMail) → IsSound world → Kept world before → Visits world before v
-    → Kept world (after_visit before v) × Promises world before (Fetched v)
-visited laws world before v is kept h = elim h.step [
-  | inl left ↦ (left_kept world before v kept left h.vanished, left_promises world before v left)
-  | inr (stores, honest) ↦ (
-    visit_kept laws world is before v kept h.same stores honest h.vanished,
-    (
-      leaves_out laws world is before v kept h.same stores honest,
-      deletes_held laws world is before v kept h.same stores honest,
-      keeps_others laws world is before v kept h.same stores honest,
-      stores_only_new laws world is before v kept h.same stores honest,
-    ),
-  )
-]
 
 happened : Below → (world : World) (before : State AccountMail) (event : Event Visit AccountMail) → IsSound world → Kept world before → Run world before (event ∷ [])
     → Kept (world_after world event) (after_event after_visit before event) × Promises world before event
-happened laws world before (Fetched v) is kept h = visited laws world before v is kept h.0
+happened laws world before (Fetched v) is kept h = elim h.0.step [
+  | inl left ↦ (
+    rw (none_vanish v.vanished v.effect.begun left.begun h.0.vanished, append-nil before.gone)
+        (between_kept world before v.after kept (record { rows = left.rows; same = λ id l. ap (λ f. copies f (stem_of world.account id)) left.same })),
+    (
+      (λ ended. absurd (both_ways v.effect.ended left.ended ended)),
+      subst (AllByRecursion (λ id. (is_held world.account v.after.maildir id ≡ true) ⊎ (has_id before.taken id ≡ true))) (sym left.begun) tt,
+      (λ name content other. ap (λ fs. count_files fs name content) left.same),
+      λ only_new id l recorded. (ap (λ f. copies f (stem_of world.account id)) left.same, ap (λ r. is_delivered r id) left.rows ∙ recorded),
+    ),
+  )
+  | inr (stores, honest) ↦ (
+    visit_kept laws world is before v kept h.0.same stores honest h.0.vanished,
+    (
+      leaves_out laws world is before v kept h.0.same stores honest,
+      deletes_held laws world is before v kept h.0.same stores honest,
+      keeps_others laws world is before v kept h.0.same stores honest,
+      stores_only_new laws world is before v kept h.0.same stores honest,
+    ),
+  )
+]
 happened laws world before (Between after) is kept h = (between_kept world before after kept h.0, tt)
 happened laws world before (Expired ids) is kept h = (expired_kept world before ids kept h.0, tt)
 happened laws world before (Withdrawn ids) is kept h = (withdrawn_kept world is before ids kept h.0, tt)

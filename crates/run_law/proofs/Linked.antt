@@ -12,10 +12,10 @@ use Rattle.mail_terms.specs.Listing.{Item}
 use Rattle.mail_terms.specs.UniqueId.{has_id}
 use Rattle.run_law.specs.Mails.{item_of, listing_of}
 use Rattle.run_law.specs.Steps.{Effect, Leaves, IsHonest, AreTexts, wanted_at}
-use Rattle.run_law.specs.Readings.{AreGranted, IsNumbered, HonestIsGranted, ListingIsMaildrop, MarksAreAsked, TextsAreMessages}
+use Rattle.run_law.specs.Readings.{IsNumbered, HonestIsGranted, ListingIsMaildrop, MarksAreAsked, TextsAreMessages}
 use Rattle.run_law.specs.Mboxes.{mbox_wanted}
 use Rattle.run_law.specs.MboxSessions.{MboxLinksAreVisits}
-use Rattle.run_law.proofs.Lists.{all_map}
+use Rattle.run_law.proofs.Lists.{all_map, all_parts}
 use Rattle.run_law.specs.Sessions.{IsBegun, Reads, IsMarked, Served, LinksAreVisits}
 
 -- ---- marks
@@ -62,11 +62,6 @@ marks_are_asked drop sent got marks honest place e = elim (marks_from drop (no_m
 
 -- ---- for each message that was removed a DELE was begun
 
-begun_at : (listing : List Item) (begun : List (List ℕ)) (front behind : List Command) (number : ℕ) → AllByRecursion (IsBegun listing begun) (front ++ Dele number ∷ behind)
-    → (item : Item) × (slice_get listing (number - 1) ≡ Some item) × (has_id begun item.uid ≡ true)
-begun_at listing begun [] behind number h = (h.0.0, h.0.1, h.0.2)
-begun_at listing begun (command ∷ front) behind number h = begun_at listing begun front behind number h.1
-
 pub item_at : (drop : List Message) (place : ℕ) (m : Message) → slice_get drop place ≡ Some m → slice_get (listing_of drop) place ≡ Some (item_of m)
 item_at drop place m e = slice_get-map item_of drop place ∙ ap (option_map item_of) e
 
@@ -87,32 +82,29 @@ module _ (laws : Readings) (sent got : List ℕ) (effect : Effect) (drop : List 
   same = laws.commands served.honest.commands commands sent served.honest.asked sent_are
 
   -- if the listing is the maildrop's, or nothing was begun
-  went_begun : (listing_is : (effect.begun ≡ []) ⊎ (effect.listing ≡ listing_of drop)) (id : List ℕ) → IsMarked drop served.marks id → has_id effect.begun id ≡ true
-  went_begun listing_is id m =
+  pub vanished_begun : (effect.begun ≡ []) ⊎ (effect.listing ≡ listing_of drop) → AllByRecursion (λ id. has_id effect.begun id ≡ true) vanished
+  vanished_begun listing_is = all_map (IsMarked drop served.marks) (λ id. has_id effect.begun id ≡ true)
+      (λ id m.
       let asked = marks_are_asked drop sent got served.marks served.honest m.0 m.2 in
-      let begun = begun_at effect.listing effect.begun asked.0 asked.1 asked.2 (subst (AllByRecursion (IsBegun effect.listing effect.begun)) (sym same ∙ asked.3) begun_are) in
+      let begun = (all_parts (IsBegun effect.listing effect.begun) asked.0 (Dele asked.2 ∷ asked.1)
+      (subst (AllByRecursion (IsBegun effect.listing effect.begun)) (sym same ∙ asked.3) begun_are)).1.0 in
       elim listing_is [
         | inl none ↦ absurd (both_ways false refl (sym (ap (λ b. has_id b begun.0.uid) none) ∙ begun.2))
         | inr is ↦
             let item : begun.0 ≡ item_of m.1 = same_Some begun.0 (item_of m.1) (sym begun.1 ∙ ap (slice_get effect.listing) asked.4 ∙ ap (λ l. slice_get l m.0) is ∙ item_at drop m.0 m.1 m.3) in
             ap (has_id effect.begun) (sym (ap (λ (i : Item). i.uid) item ∙ m.4)) ∙ begun.2
       ]
-
-  pub vanished_begun : (effect.begun ≡ []) ⊎ (effect.listing ≡ listing_of drop) → AllByRecursion (λ id. has_id effect.begun id ≡ true) vanished
-  vanished_begun listing_is = all_map (IsMarked drop served.marks) (λ id. has_id effect.begun id ≡ true) (went_begun listing_is) vanished served.marked
+      ) vanished served.marked
 
   pub session_honest : (wanted : List (ℕ × Item)) → Reads wanted commands sent got effect → IsHonest wanted drop effect
-  session_honest wanted r = record { listing = listing; texts = subst (AreTexts drop wanted) (sym r.texts) (texts r.found wanted r.numbers numbered) }
+  session_honest wanted r =
+      let asked = User r.name ∷ Pass r.word ∷ Stat ∷ UidlAll ∷ ListAll ∷ r.more in
+      let replies = r.user ∷ r.pass ∷ r.stat ∷ r.uidl ∷ r.list ∷ r.replies in
+      let granted = laws.granted drop sent got served.marks asked replies served.honest r.talked in
+      let listing = laws.listing drop r.name r.word r.more r.user r.pass r.stat r.uidl r.list r.replies effect.listing r.talked.good granted r.listed in
+      let numbered = laws.texts drop (no_marks drop) asked replies r.found r.talked.good granted r.retrieves in
+      record { listing = listing; texts = subst (AreTexts drop wanted) (sym r.texts) (texts r.found wanted r.numbers numbered) }
     where
-      granted : AreGranted drop (no_marks drop) (User r.name ∷ Pass r.word ∷ Stat ∷ UidlAll ∷ ListAll ∷ r.more) (r.user ∷ r.pass ∷ r.stat ∷ r.uidl ∷ r.list ∷ r.replies)
-      granted = laws.granted drop sent got served.marks (User r.name ∷ Pass r.word ∷ Stat ∷ UidlAll ∷ ListAll ∷ r.more) (r.user ∷ r.pass ∷ r.stat ∷ r.uidl ∷ r.list ∷ r.replies) served.honest r.talked
-
-      listing : effect.listing ≡ listing_of drop
-      listing = laws.listing drop r.name r.word r.more r.user r.pass r.stat r.uidl r.list r.replies effect.listing r.talked.good granted r.listed
-
-      numbered : AllByRecursion (IsNumbered drop) r.found
-      numbered = laws.texts drop (no_marks drop) (User r.name ∷ Pass r.word ∷ Stat ∷ UidlAll ∷ ListAll ∷ r.more) (r.user ∷ r.pass ∷ r.stat ∷ r.uidl ∷ r.list ∷ r.replies) r.found r.talked.good granted r.retrieves
-
       texts : (found : List (ℕ × List ℕ)) (wanted : List (ℕ × Item)) → map (λ (p : ℕ × List ℕ). p.0) found ≡ map (λ (p : ℕ × Item). p.0) (take (length found) wanted)
           → AllByRecursion (IsNumbered drop) found → AreTexts drop wanted (map (λ (p : ℕ × List ℕ). p.1) found)
       texts [] wanted e h = tt

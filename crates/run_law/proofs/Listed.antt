@@ -61,11 +61,8 @@ fresh_count ms = sym (length-filter not (no_marks ms)) ∙ ap length (filter_all
 abbrev pair_of : {V : Type 0} → ℕ → V → ℕ × V
 pair_of n x = (n, x)
 
-abbrev read : {V : Type 0} → ℕ × V → Result (ℕ × V) WireFault
-read p = Ok p
-
 -- two readings of one row give the same number and value
-same_row : {V : Type 0} (n m : ℕ) (x y : V) → read (n, x) ≡ read (m, y) → (n ≡ m) × (x ≡ y)
+same_row : {V : Type 0} (n m : ℕ) (x y : V) → ◌≡◌ {A = Result (ℕ × V) WireFault} (Ok (n, x)) (Ok (m, y)) → (n ≡ m) × (x ≡ y)
 same_row {V} n m x y e = let both : pair_of n x ≡ pair_of m y = cc in (ap (λ (p : ℕ × V). p.0) both, ap (λ (p : ℕ × V). p.1) both)
 
 -- a row has its message's number, and what a listing says of it
@@ -88,20 +85,6 @@ zip_at P (x ∷ xs) [] h j d l = absurd h
 zip_at P (x ∷ xs) (row ∷ rows) h zero d l = (row, omega arith, refl, h.0)
 zip_at P (x ∷ xs) (row ∷ rows) h (suc j) d l =
     let r = zip_at P xs rows h.1 j d (omega (arith, l)) in (r.0, (let b = r.1 in omega (arith, b)), r.2, r.3)
-
--- each message has a row, whatever its place
-row_of_place : {R V : Type 0} (number : R → ℕ) (value : R → V) (of : Message → V) (drop : List Message) (numbered : List (ℕ × Message)) (rows : List R)
-    → IsPermutation (enumerate_from 1 drop) numbered → AllZip (Shows number value of) numbered rows → (k : ℕ) (d : Message) → k < length drop
-    → (j : ℕ) × (row : R) × (j < length rows) × (get_or rows j row ≡ row) × (number row ≡ 1 + k) × (value row ≡ of (get_or drop k d))
-row_of_place number value of drop numbered rows same zip k d inside =
-    let q : ℕ × Message = (1 + k, get_or drop k d) in
-    let there : Contains (enumerate_from 1 drop) q = (k, (omega (arith, inside, length-enumerate_from 1 drop)), get_or-enumerate_from 1 drop k q inside ∙ placed q.1) in
-    let c = Contains-permutation (enumerate_from 1 drop) numbered q same there in
-    let r = zip_at (Shows number value of) numbered rows zip c.0 q c.1 in
-    (c.0, r.0, r.1, r.2, r.3.0 ∙ ap (λ (p : ℕ × Message). p.0) c.2, r.3.1 ∙ ap (λ (p : ℕ × Message). of p.1) c.2)
-  where
-    placed : (e : Message) → pair_of (1 + k) (get_or drop k e) ≡ pair_of (1 + k) (get_or drop k d)
-    placed e = ap (pair_of (1 + k)) (get_or_default drop k e d inside)
 
 -- ---- the three replies
 
@@ -152,12 +135,6 @@ listing_is_maildrop one lists drop name word commands user pass stat uidl list r
     marks_two : are.2.0 ≡ no_marks drop
     marks_two = are.2.1.1 ∙ are.1.1
 
-    marks_three : are.2.2.0 ≡ no_marks drop
-    marks_three = are.2.2.1.4 ∙ marks_two
-
-    marks_four : are.2.2.2.0 ≡ no_marks drop
-    marks_four = are.2.2.2.1.5 ∙ marks_three
-
     total : length items ≡ length drop
     total = listed.joined.count ∙ count_same one drop are.2.0 are.2.2.0 stat listed.count good.1.1.0 are.2.2.1 listed.counts ∙ ap (count_by not) marks_two ∙ fresh_count drop
 
@@ -171,15 +148,20 @@ listing_is_maildrop one lists drop name word commands user pass stat uidl list r
     row_at IsLineOf IsRowOf number value of f marks numbered lines rows fresh_marks all zip read_are k inside =
         let same = subst (λ (l : List (ℕ × Message)). IsPermutation l numbered) (ap (unmarked_from 1 drop) fresh_marks ∙ fresh 1 drop) all in
         let pairs = both_read IsLineOf IsRowOf number value of f numbered lines rows zip read_are in
-        let r = row_of_place number value of drop numbered rows same pairs k nobody inside in
-        (r.0, r.1, r.2, r.3, (let n = r.4 in omega (arith, n)), r.5)
+        let q : ℕ × Message = (1 + k, get_or drop k nobody) in
+        let placed = get_or-enumerate_from 1 drop k q inside ∙ ap (pair_of (1 + k)) (get_or_default drop k q.1 nobody inside) in
+        let there : Contains (enumerate_from 1 drop) q = (k, (omega (arith, inside, length-enumerate_from 1 drop)), placed) in
+        let c = Contains-permutation (enumerate_from 1 drop) numbered q same there in
+        let r = zip_at (Shows number value of) numbered rows pairs c.0 q c.1 in
+        let counted = r.3.0 ∙ ap (λ (p : ℕ × Message). p.0) c.2 in
+        (c.0, r.0, r.1, r.2, (omega (arith, counted)), r.3.1 ∙ ap (λ (p : ℕ × Message). of p.1) c.2)
 
     uid_at : (k : ℕ) → k < length drop → (get_or items k (item_of nobody)).uid ≡ (get_or drop k nobody).uid
     uid_at k inside =
         let g = are.2.2.2.1 in
         let zip = listed_lines one lists IsUidRow UidlAll drop are.2.2.0 uidl g.0 g.1 listed.named.0 good.1.1.1.0 g.2 g.3 g.4 listed.named.1 in
         let r = row_at IsUidLine IsUidRow (λ row. row.number) (λ row. row.uid.items) (λ m. m.uid) (λ q line row h r. same_row _ _ _ _ (sym r ∙ h))
-        are.2.2.0 g.4.numbered listed.named.0 listed.uids marks_three g.4.all zip listed.named.2 k inside in
+        are.2.2.0 g.4.numbered listed.named.0 listed.uids (are.2.2.1.4 ∙ marks_two) g.4.all zip listed.named.2 k inside in
         ap (λ j. (get_or items j (item_of nobody)).uid) (sym r.4 ∙ ap (λ (row : UidRow). row.number - 1) (sym r.3))
         ∙ listed.joined.ids r.0 r.1 r.2 (item_of nobody) ∙ ap (λ (row : UidRow). row.uid.items) r.3 ∙ r.5
 
@@ -188,6 +170,6 @@ listing_is_maildrop one lists drop name word commands user pass stat uidl list r
         let g = are.2.2.2.2.1 in
         let zip = listed_lines one lists IsScanRow ListAll drop are.2.2.2.0 list g.0 g.1 listed.sized.0 good.1.1.1.1.0 g.2 g.3 g.4 listed.sized.1 in
         let r = row_at IsScanLine IsScanRow (λ row. row.number) (λ row. row.size) (λ m. m.size) (λ q line row h r. same_row _ _ _ _ (sym r ∙ h))
-        are.2.2.2.0 g.4.numbered listed.sized.0 listed.sizes marks_four g.4.all zip listed.sized.2 k inside in
+        are.2.2.2.0 g.4.numbered listed.sized.0 listed.sizes (are.2.2.2.1.5 ∙ are.2.2.1.4 ∙ marks_two) g.4.all zip listed.sized.2 k inside in
         ap (λ j. (get_or items j (item_of nobody)).size) (sym r.4 ∙ ap (λ (row : ScanRow). row.number - 1) (sym r.3))
         ∙ listed.joined.octets r.0 r.1 r.2 (item_of nobody) ∙ ap (λ (row : ScanRow). row.size) r.3 ∙ r.5

@@ -3,9 +3,9 @@ use Rattle.std.proofs.Common.{◌≡◌, ◌≤◌, ◌⊎◌, inl, inr, ℕ, ze
 use Rattle.std.specs.Prelude.{bytes_eq}
 use Rattle.std.specs.List.{AllByRecursion}
 use Rattle.std.proofs.lemmas.Bool.{both_ways, or_cases, or_left, or_right}
-use Rattle.std.proofs.lemmas.List.{append-nil, map-append, take_at}
+use Rattle.std.proofs.lemmas.List.{append-nil, get_or_at, map-append, take_at}
 use Rattle.std.proofs.lemmas.Grind.{flat_map-append}
-use Rattle.std.proofs.lemmas.Option.{same_Some}
+use Rattle.std.proofs.lemmas.Option.{same_Some, slice_get_read}
 use Rattle.std.proofs.Math.Bool.{or-false}
 use Rattle.mail_terms.specs.UniqueId.{has_id}
 use Rattle.mail_terms.specs.Text.{IsWhole}
@@ -23,7 +23,7 @@ use Rattle.run_law.specs.Mboxes.{MboxMail, is_stored, closed_file, settled, mbox
 use Rattle.run_law.specs.MboxRuns.{MboxState, MboxWorld, MboxVisits, MboxKept, MboxEnds, MboxPromises, HasEntry, IsNextOpen, after_visit, mbox_shown, entries_of, MboxEvent, Fetched, Between, Expired, Withdrawn, Rewritten, MboxHappens, MboxPromised, after_mbox_event, mbox_world_after, MboxKeptStaysKept, MboxKeptHolds}
 use Rattle.run_law.proofs.Core as core
 use Rattle.run_law.proofs.Core.{Scene, IsScene, fetched}
-use Rattle.run_law.proofs.Lists.{all_map, all_front, all_back, all_mapped, all_take, all_filter}
+use Rattle.run_law.proofs.Lists.{all_map, all_parts, all_mapped, all_take, all_filter}
 use Rattle.run_law.proofs.Ids.{ids_both, gone_is_done, bytes_same, none_vanish}
 use Rattle.run_law.proofs.Below.{RowLaws}
 use Rattle.run_law.proofs.MboxOthers.{expired_kept, withdrawn_kept, rewritten_kept, mbox_world_stays}
@@ -48,8 +48,7 @@ pub record IsSettled (world : MboxWorld) (listing : List Item) (account : MboxMa
 
 with_next : (world : MboxWorld) (done : List Message) (m : Message) (id : List ℕ)
     → has_id (ids_of (world.had ++ (done ++ m ∷ []))) id ≡ (has_id (ids_of (world.had ++ done)) id || bytes_eq id m.uid)
-with_next world done m id = ap (λ (ms : List Message). has_id (ids_of ms) id) (sym (append_assoc world.had done (m ∷ []))) ∙ ids_both (world.had ++ done) (m ∷ []) id
-    ∙ ap (λ b. has_id (ids_of (world.had ++ done)) id || b) (or-false (bytes_eq id m.uid))
+with_next world done m id = rw (← append_assoc world.had done (m ∷ []), ids_both (world.had ++ done) (m ∷ []) id, or-false (bytes_eq id m.uid))
 
 selected_whole : (world : MboxWorld) → IsWorld world.all → AllByRecursion (λ (m : Message). IsWhole m.text) (selected world.max_size world.all)
 selected_whole world sound = all_filter (λ (m : Message). IsWhole m.text) (is_selected world.max_size) world.all
@@ -58,18 +57,14 @@ selected_whole world sound = all_filter (λ (m : Message). IsWhole m.text) (is_s
 -- the text of the next message is whole
 next_whole : (world : MboxWorld) (state : MboxState MboxMail) → IsWorld world.all → (kept : MboxKept world state) → (next : Message) (more : List Message) → kept.rest ≡ next ∷ more → IsWhole next.text
 next_whole world state sound kept next more is =
-    (all_back (λ (m : Message). IsWhole m.text) (world.had ++ kept.done) (next ∷ more)
-    (subst (AllByRecursion (λ (m : Message). IsWhole m.text)) (kept.prefix ∙ ap (λ l. (world.had ++ kept.done) ++ l) is) (selected_whole world sound))).0
+    (all_parts (λ (m : Message). IsWhole m.text) (world.had ++ kept.done) (next ∷ more)
+    (subst (AllByRecursion (λ (m : Message). IsWhole m.text)) (kept.prefix ∙ ap (λ l. (world.had ++ kept.done) ++ l) is) (selected_whole world sound))).1.0
 
 -- what settling makes of an account with this open intent
 settled_is : (bytes uid text : List ℕ) (listing : List Item) (account : MboxMail) → (o : IsOpen bytes uid text account)
     → ((settled listing account).rows ≡ cond (stands_whole (length bytes) (length (entry_of text)) (listed_size listing uid) (bytes ++ o.front)) (marked account.rows uid) account.rows)
     × ((settled listing account).file ≡ settled_file (length bytes) (length (entry_of text)) (listed_size listing uid) (bytes ++ o.front))
-settled_is bytes uid text listing account o = (
-  ap (λ i. closed_rows (is_stored i listing account.file) account.rows i) o.intent
-      ∙ ap (λ f. closed_rows (is_stored (Some (intent_of bytes uid text)) listing f) account.rows (Some (intent_of bytes uid text))) o.file,
-  ap (λ i. closed_file i listing account.file) o.intent ∙ ap (closed_file (Some (intent_of bytes uid text)) listing) o.file,
-)
+settled_is bytes uid text listing account o = (rw (o.intent, o.file), rw (o.intent, o.file))
 
 pub settle : FrontsAreSettled → RowLaws → (world : MboxWorld) (listing : List Item) (state : MboxState MboxMail) → IsWorld world.all → (kept : MboxKept world state) → IsSettled world listing state.account kept.done
 settle fronts laws world listing state sound kept = elim kept.stands [
@@ -84,14 +79,9 @@ settle fronts laws world listing state sound kept = elim kept.stands [
           rest = o.more;
           prefix = kept.prefix ∙ ap (λ l. (world.had ++ kept.done) ++ l) o.is_next ∙ simp append_assoc;
           recorded = λ id. ap (λ r. is_delivered r id) (is.0 ∙ ap rows whole.0)
-              ∙ delivered_one laws state.account.rows o.next.uid id o.row
-              ∙ ap (λ b. b || bytes_eq id o.next.uid) (kept.recorded id)
-              ∙ sym (with_next world kept.done o.next id);
+              ∙ rw (delivered_one laws state.account.rows o.next.uid id o.row, kept.recorded id, with_next world kept.done o.next id);
           more = λ id e. with_next world kept.done o.next id ∙ or_left _ _ e;
-          file = is.1 ∙ whole.1
-              ∙ ap (λ l. bytes ++ l) (whole.2 ∙ sym (append-nil (entry_of o.next.text)))
-              ∙ append_assoc world.start (entries_of kept.done) (entries_of (o.next ∷ []))
-              ∙ ap (λ l. world.start ++ l) (sym (entries-append kept.done (o.next ∷ [])));
+          file = is.1 ∙ whole.1 ∙ rw (whole.2, entries-append kept.done (o.next ∷ [])) (simp (append_assoc, append-nil));
         }
         | inr part ↦ no_more (is.0 ∙ ap rows part.0) (is.1 ∙ part.1)
       ]
@@ -101,16 +91,6 @@ settle fronts laws world listing state sound kept = elim kept.stands [
     no_more rows file = record { done = kept.done; rest = kept.rest; prefix = kept.prefix; recorded = λ id. ap (λ r. is_delivered r id) rows ∙ kept.recorded id; more = λ id e. e; file = file }
 
 -- ---- an account that is left, its file perhaps cut back
-
-reopened : FrontsAreSettled → (bytes uid text : List ℕ) (listing : List Item) (before after : MboxMail) → IsWhole text → IsOpen bytes uid text before → after.intent ≡ before.intent
-    → after.file ≡ (settled listing before).file → IsOpen bytes uid text after
-reopened fronts bytes uid text listing before after whole-text o i f = elim (fronts bytes text o.front o.behind (listed_size listing uid) whole-text o.entry) [
-  | inl whole ↦ record { intent = i ∙ o.intent; front = o.front; behind = o.behind; entry = o.entry; file = cut ∙ whole.1 }
-  | inr part ↦ record { intent = i ∙ o.intent; front = []; behind = entry_of text; entry = refl; file = cut ∙ part.1 ∙ sym (append-nil bytes) }
-]
-  where
-    cut : after.file ≡ settled_file (length bytes) (length (entry_of text)) (listed_size listing uid) (bytes ++ o.front)
-    cut = f ∙ (settled_is bytes uid text listing before o).1
 
 left_kept : FrontsAreSettled → (world : MboxWorld) (before : MboxState MboxMail) (v : Visit MboxMail) → IsWorld world.all → MboxKept world before → MboxLeaves before.account v.effect v.after
     → AllByRecursion (λ id. has_id v.effect.begun id ≡ true) v.vanished → MboxKept world (after_visit before v)
@@ -131,7 +111,13 @@ left_kept fronts world before v sound kept h vanished = record {
       is_next = o.is_next;
       opened = elim h.file [
         | inl same ↦ record { intent = h.intent ∙ o.opened.intent; front = o.opened.front; behind = o.opened.behind; entry = o.opened.entry; file = same ∙ o.opened.file }
-        | inr cut ↦ reopened fronts (world.start ++ entries_of kept.done) o.next.uid o.next.text v.effect.listing before.account v.after (next_whole world before sound kept o.next o.more o.is_next) o.opened h.intent cut
+        | inr cut ↦
+            let bytes : List ℕ = world.start ++ entries_of kept.done in
+            let is = cut ∙ (settled_is bytes o.next.uid o.next.text v.effect.listing before.account o.opened).1 in
+            elim (fronts bytes o.next.text o.opened.front o.opened.behind (listed_size v.effect.listing o.next.uid) (next_whole world before sound kept o.next o.more o.is_next) o.opened.entry) [
+              | inl whole ↦ record { intent = h.intent ∙ o.opened.intent; front = o.opened.front; behind = o.opened.behind; entry = o.opened.entry; file = is ∙ whole.1 }
+              | inr part ↦ record { intent = h.intent ∙ o.opened.intent; front = []; behind = entry_of o.next.text; entry = refl; file = is ∙ part.1 ∙ sym (append-nil bytes) }
+            ]
       ];
       row = ap (λ r. has_row r o.next.uid) h.rows ∙ o.row;
     })
@@ -241,8 +227,7 @@ module _ (fronts : FrontsAreSettled) (laws : RowLaws) (filtered : DistinctAreFil
   -- the first of the wanted messages are the next of the selected ones
   prefix_of : (n : ℕ) → selected world.max_size world.all ≡ (world.had ++ (origin.done ++ take n ws)) ++ (core.added_begins scene is_scene n).0
   prefix_of n = ap (λ k. selected k world.all) (sym same) ∙ core.prefix_after scene is_scene n
-      ∙ ap (λ l. ((world.had ++ origin.done) ++ l) ++ (core.added_begins scene is_scene n).0) (core.all_added scene is_scene (λ id l h d. known id ∙ d) only_new n)
-      ∙ ap (λ l. l ++ (core.added_begins scene is_scene n).0) (append_assoc world.had origin.done (take n ws))
+      ∙ rw (core.all_added scene is_scene (λ id l h d. known id ∙ d) only_new n) (simp append_assoc)
 
   ids_after : (id : List ℕ) → has_id (ids_of (world.had ++ (origin.done ++ take s.stored ws))) id ≡ (core.is_done scene id || has_id (ids_of (take s.stored ws)) id)
   ids_after id = ap (λ (ms : List Message). has_id (ids_of ms) id) (sym (append_assoc world.had origin.done (take s.stored ws))) ∙ ids_both (world.had ++ origin.done) (take s.stored ws) id
@@ -250,11 +235,9 @@ module _ (fronts : FrontsAreSettled) (laws : RowLaws) (filtered : DistinctAreFil
   -- ---- rows
 
   has_rows : (n : ℕ) → AllByRecursion (λ (m : Message). has_row rows m.uid ≡ true) (take n ws)
-  has_rows n = all_take (λ (m : Message). has_row rows m.uid ≡ true) n ws
-      (all_map (λ (m : Message). has_id (ids_of here) m.uid ≡ true) (λ (m : Message). has_row rows m.uid ≡ true)
+  has_rows n = all_take _ n ws (all_map _ _
       (λ m e. laws.listed (settled v.effect.listing before.account).rows v.effect.listing (none_held v.effect.listing) v.effect.now m.uid
-      ∙ or_right _ _ (ap (λ l. has_item l m.uid) honest.listing ∙ has_listed here m.uid ∙ e))
-      ws (core.fetched_here scene is_scene))
+      ∙ or_right _ _ (ap (λ l. has_item l m.uid) honest.listing ∙ has_listed here m.uid ∙ e)) ws (core.fetched_here scene is_scene))
 
   rows_are : v.after.rows ≡ marked_all rows (ids_of (take s.stored ws))
   rows_are = s.rows ∙ ap (marked_all rows) (ap (λ w. ids_wanted (take s.stored w)) wanted_is ∙ core.wanted_ids scene is_scene s.stored)
@@ -312,8 +295,8 @@ module _ (fronts : FrontsAreSettled) (laws : RowLaws) (filtered : DistinctAreFil
           ∙ ap (λ l. l ++ place.0.1 ∷ []) (core.taken_is scene is_scene s.stored)
 
       row_of_next : has_row rows place.0.1.uid ≡ true
-      row_of_next = (all_back (λ (m : Message). has_row rows m.uid ≡ true) (take s.stored ws) (place.0.1 ∷ [])
-          (subst (AllByRecursion (λ (m : Message). has_row rows m.uid ≡ true)) taken (has_rows (suc s.stored)))).0
+      row_of_next = (all_parts (λ (m : Message). has_row rows m.uid ≡ true) (take s.stored ws) (place.0.1 ∷ [])
+          (subst (AllByRecursion (λ (m : Message). has_row rows m.uid ≡ true)) taken (has_rows (suc s.stored)))).1.0
 
   next : Next
   next = elim s.ending [
@@ -327,18 +310,15 @@ module _ (fronts : FrontsAreSettled) (laws : RowLaws) (filtered : DistinctAreFil
     rest = next.0;
     prefix = next.1;
     recorded = recorded_after;
-    gone = gone_is_done (λ id. has_id (ids_of (world.had ++ kept.done)) id) (λ id. has_id (ids_of (world.had ++ (origin.done ++ take s.stored ws))) id) v.effect.begun before.gone v.vanished
-        (λ id e. ids_after id ∙ or_left _ _ (origin.more id e))
-        (all_map (λ id. is_delivered v.after.rows id ≡ true) (λ id. has_id (ids_of (world.had ++ (origin.done ++ take s.stored ws))) id ≡ true) (λ id e. sym (recorded_after id) ∙ e) v.effect.begun s.begun)
-        kept.gone vanished;
+    gone = gone_is_done _ _ v.effect.begun before.gone v.vanished (λ id e. ids_after id ∙ or_left _ _ (origin.more id e))
+        (all_map _ _ (λ id e. sym (recorded_after id) ∙ e) v.effect.begun s.begun) kept.gone vanished;
     stands = next.2;
   }
 
   pub ends : v.effect.ended ≡ true → MboxEnds world before v
   ends ended = record {
     closed = (s.ended ended).1;
-    leaves_out = all_map (core.IsOut scene is_scene s.stored) (λ (m : Message). (is_delivered v.after.rows m.uid ≡ true) ⊎ (is_selected world.max_size m ≡ false)
-        ⊎ (has_id (ids_wanted (past_limit v.settings.max_count (candidates v.settings rows v.effect.listing))) m.uid ≡ true))
+    leaves_out = all_map (core.IsOut scene is_scene s.stored) _
         (λ m o.
         let whole = core.all_added scene is_scene (λ id l h d. known id ∙ d) only_new s.stored in
         let large = ap (λ k. is_selected k m) same in
@@ -347,11 +327,11 @@ module _ (fronts : FrontsAreSettled) (laws : RowLaws) (filtered : DistinctAreFil
         ) here (core.left_out scene is_scene s.stored (let l = (s.ended ended).0 in omega (arith, l, ap length wanted_is, core.wanted_length scene is_scene)));
   }
 
--- ---- one session
+-- ---- one event
 
-visited : FrontsAreSettled → RowLaws → DistinctAreFiltered → (world : MboxWorld) (before : MboxState MboxMail) (v : Visit MboxMail) → IsWorld world.all → MboxKept world before → MboxVisits world before v
-    → MboxKept world (after_visit before v) × MboxPromises world before v
-visited fronts laws filtered world before v sound kept h = elim h.step [
+happened : FrontsAreSettled → RowLaws → DistinctAreFiltered → (world : MboxWorld) (before : MboxState MboxMail) (event : MboxEvent Visit MboxMail) → IsWorld world.all → MboxKept world before → MboxHappens world before event
+    → MboxKept (mbox_world_after world event) (after_mbox_event after_visit before event) × MboxPromised world before event
+happened fronts laws filtered world before (Fetched v) sound kept h = elim h.step [
   | inl left ↦ (
     left_kept fronts world before v sound kept left h.vanished,
     record { ends = λ ended. absurd (both_ways v.effect.ended left.ended ended); begun = subst (AllByRecursion (λ id. (has_id (ids_of world.had) id ≡ true) ⊎ HasEntry world v.after.file id)) (sym left.begun) tt },
@@ -365,17 +345,10 @@ visited fronts laws filtered world before v sound kept h = elim h.step [
         },
       )
 ]
-
-happened : FrontsAreSettled → RowLaws → DistinctAreFiltered → (world : MboxWorld) (before : MboxState MboxMail) (event : MboxEvent Visit MboxMail) → IsWorld world.all → MboxKept world before → MboxHappens world before event
-    → MboxKept (mbox_world_after world event) (after_mbox_event after_visit before event) × MboxPromised world before event
-happened fronts laws filtered world before (Fetched v) sound kept h = visited fronts laws filtered world before v sound kept h
 happened fronts laws filtered world before (Between after) sound kept h = (subst (λ (k : MboxMail). MboxKept world (record before { account = k })) (sym h) kept, tt)
 happened fronts laws filtered world before (Expired ids) sound kept h = (expired_kept world before ids kept h, tt)
 happened fronts laws filtered world before (Withdrawn ids) sound kept h = (withdrawn_kept world before ids kept h, tt)
-happened fronts laws filtered world before (Rewritten had file after) sound kept h = (
-  subst (λ (k : MboxMail). MboxKept (record world { start = file; had = had }) (record before { account = k })) (sym h.1) (rewritten_kept world before had file kept h.0),
-  tt,
-)
+happened fronts laws filtered world before (Rewritten had file after) sound kept h = (rw h.1 (rewritten_kept world before had file kept h.0), tt)
 
 pub mbox_kept_states : FrontsAreSettled → RowLaws → DistinctAreFiltered → MboxKeptStaysKept
 mbox_kept_states fronts laws filtered world start [] sound kept run = (kept, tt)
@@ -388,22 +361,16 @@ mbox_kept_states fronts laws filtered world start (event ∷ events) sound kept 
 
 pub texts_stand : EntryAddsText → (file : List ℕ) (first texts : List (List ℕ)) → AllByRecursion IsWhole texts → MboxFile file first → MboxFile (file ++ entries texts) (first ++ texts)
 texts_stand adds file first [] whole stands = simp append-nil stands
-texts_stand adds file first (text ∷ texts) whole stands =
-    let more = texts_stand adds (file ++ entry_of text) (first ++ text ∷ []) texts whole.1 (adds file text first stands whole.0) in
-    subst (MboxFile (file ++ (entry_of text ++ entries texts))) (append_assoc first (text ∷ []) texts)
-    (subst (λ f. MboxFile f ((first ++ text ∷ []) ++ texts)) (append_assoc file (entry_of text) (entries texts)) more)
-
-pub at_length : {X : Type 0} (xs : List X) (y : X) (ys : List X) → slice_get (xs ++ y ∷ ys) (length xs) ≡ Some y
-at_length [] y ys = refl
-at_length (x ∷ xs) y ys = at_length xs y ys
+texts_stand adds file first (text ∷ texts) whole stands = simp append_assoc
+    (simp append_assoc at (texts_stand adds (file ++ entry_of text) (first ++ text ∷ []) texts whole.1 (adds file text first stands whole.0)))
 
 pub mbox_holds : EntryAddsText → MboxKeptHolds
 mbox_holds adds world state sound kept =
     let tail = rest_of world state kept in
     let whole : selected world.max_size world.all ≡ world.had ++ (kept.done ++ kept.rest) = kept.prefix ∙ append_assoc world.had kept.done kept.rest in
     let front : take (length kept.done) (kept.done ++ kept.rest) ≡ kept.done = take_at kept.done kept.rest (length kept.done) refl in
-    let whole_done = all_front (λ (m : Message). IsWhole m.text) kept.done kept.rest (all_back (λ (m : Message). IsWhole m.text) world.had (kept.done ++ kept.rest)
-    (subst (AllByRecursion (λ (m : Message). IsWhole m.text)) whole (selected_whole world sound))) in
+    let whole_done = (all_parts (λ (m : Message). IsWhole m.text) kept.done kept.rest (all_parts (λ (m : Message). IsWhole m.text) world.had (kept.done ++ kept.rest)
+    (subst (AllByRecursion (λ (m : Message). IsWhole m.text)) whole (selected_whole world sound))).1).0 in
     record {
       j = length kept.done;
       later = kept.done ++ kept.rest;
@@ -416,16 +383,15 @@ mbox_holds adds world state sound kept =
         | inr (next, behind, more, is, entry, opened) ↦ inr (
           next,
           behind,
-          ap (λ (l : List Message). slice_get (kept.done ++ l) (length kept.done)) is ∙ at_length kept.done next more,
+          ap (λ (l : List Message). slice_get (kept.done ++ l) (length kept.done)) is
+              ∙ slice_get_read (kept.done ++ next ∷ more) (length (kept.done ++ next ∷ more)) (length kept.done) next refl
+              (omega (arith, length-append kept.done (next ∷ more))) (sym (get_or_at kept.done next more next (length kept.done) refl)),
           entry,
           opened ∙ ap (λ (ms : List Message). Some (intent_of (world.start ++ entries_of ms) next.uid next.text)) (sym front),
         )
       ];
       ids = λ id. kept.recorded id ∙ ap (λ (ms : List Message). has_id (ids_of (world.had ++ ms)) id) (sym front);
       entered = has_entry world state kept;
-      texts = λ none first stands.
-          subst (λ (ms : List Message). MboxFile state.account.file (first ++ map (λ (m : Message). m.text) ms)) (sym front)
-          (subst (λ f. MboxFile f (first ++ map (λ (m : Message). m.text) kept.done))
-          (sym (tail.1 ∙ ap (λ l. (world.start ++ entries_of kept.done) ++ l) none ∙ append-nil (world.start ++ entries_of kept.done)))
-          (texts_stand adds world.start first (map (λ (m : Message). m.text) kept.done) (all_mapped IsWhole (λ (m : Message). m.text) kept.done whole_done) stands));
+      texts = λ none first stands. rw (front, tail.1, none, append-nil (world.start ++ entries_of kept.done))
+          (texts_stand adds world.start first (map (λ (m : Message). m.text) kept.done) (all_mapped IsWhole (λ (m : Message). m.text) kept.done whole_done) stands);
     }

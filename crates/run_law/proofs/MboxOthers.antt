@@ -1,5 +1,5 @@
 -- What happens to an account with an mboxrd between sessions leads from a kept state to a kept state.
-use Rattle.std.proofs.Common.{◌≡◌, inl, inr, ℕ, List, [], ◌++◌, Bool, true, not, refl, sym, ◌∙◌, ap, subst, arith}
+use Rattle.std.proofs.Common.{◌≡◌, inl, inr, ℕ, List, [], ◌++◌, Bool, true, not, refl, sym, ◌∙◌, ap, subst}
 use Rattle.std.specs.Prelude.{bytes_eq}
 use Rattle.std.specs.List.{AllByRecursion, filter}
 use Rattle.std.proofs.lemmas.Bool.{both_ways, false_from_ne_true}
@@ -9,7 +9,7 @@ use Rattle.mail_terms.specs.UniqueId.{has_id}
 use Rattle.pop3_wire.specs.World.{Message, IsWorld}
 use Rattle.fetch_rules.specs.Record.{is_delivered}
 use Rattle.run_law.specs.Mails.{ids_of, is_selected, without}
-use Rattle.run_law.specs.MboxRuns.{MboxState, MboxWorld, MboxKept, MboxEvent, Withdrawn, MboxStartsKept, SomeAreRecorded, AreAllRecorded, IsUnbegun, IsNextOpen, entries_of, mbox_world_after}
+use Rattle.run_law.specs.MboxRuns.{MboxState, MboxWorld, MboxKept, MboxEvent, Withdrawn, MboxStartsKept, SomeAreRecorded, AreAllRecorded, IsUnbegun, mbox_world_after}
 use Rattle.run_law.proofs.Core.{members}
 use Rattle.run_law.proofs.Ids.{all_ids_at, bytes_self}
 use Rattle.run_law.proofs.Lists.{all_append, all_map, filter-swap, filter_all}
@@ -28,8 +28,7 @@ expired_kept world before ids kept all = record {
   rest = kept.rest;
   prefix = kept.prefix;
   recorded = kept.recorded;
-  gone = all_append (λ id. has_id (ids_of (world.had ++ kept.done)) id ≡ true) before.gone ids kept.gone
-      (all_map (λ id. is_delivered before.account.rows id ≡ true) (λ id. has_id (ids_of (world.had ++ kept.done)) id ≡ true) (λ id e. sym (kept.recorded id) ∙ e) ids all);
+  gone = all_append _ before.gone ids kept.gone (all_map _ _ (λ id e. sym (kept.recorded id) ∙ e) ids all);
   stands = kept.stands;
 }
 
@@ -48,20 +47,6 @@ module _ (world : MboxWorld) (before : MboxState MboxMail) (ids : List (List ℕ
   all_stay : AllByRecursion (λ (m : Message). stays m ≡ true) done
   all_stay = all_map (λ (m : Message). has_id (ids_of done) m.uid ≡ true) (λ (m : Message). stays m ≡ true) done_stays done (members done)
 
-  -- nor is the next message, if its intent is open
-  next_stays : (bytes : List ℕ) → (o : IsNextOpen bytes kept.rest before.account) → stays o.next ≡ true
-  next_stays bytes o = ap not (false_from_ne_true (has_id ids o.next.uid) (λ withdrawn.
-      both_ways (bytes_eq o.next.uid o.next.uid) ((all_ids_at (IsUnbegun before.account) ids o.next.uid all withdrawn).1 _ o.opened.intent) (bytes_self o.next.uid)))
-
-  still_next : (bytes : List ℕ) → IsNextOpen bytes kept.rest before.account → IsNextOpen bytes (without ids kept.rest) before.account
-  still_next bytes o = record {
-    next = o.next;
-    more = without ids o.more;
-    is_next = let here = next_stays bytes o in ap (filter stays) o.is_next ∙ grind (arith, here);
-    opened = o.opened;
-    row = o.row;
-  }
-
   pub withdrawn_kept : MboxKept (record world { all = without ids world.all }) before
   withdrawn_kept = record {
     done = kept.done;
@@ -70,9 +55,13 @@ module _ (world : MboxWorld) (before : MboxState MboxMail) (ids : List (List ℕ
         ∙ ap (λ l. l ++ without ids kept.rest) (filter_all stays done all_stay);
     recorded = kept.recorded;
     gone = kept.gone;
+    -- nor is the next message withdrawn, if its intent is open
     stands = elim kept.stands [
       | inl closed ↦ inl closed
-      | inr opened ↦ inr (still_next (world.start ++ entries_of kept.done) opened)
+      | inr o ↦
+          let stay : stays o.next ≡ true = ap not (false_from_ne_true (has_id ids o.next.uid) (λ withdrawn. both_ways (bytes_eq o.next.uid o.next.uid)
+              ((all_ids_at (IsUnbegun before.account) ids o.next.uid all withdrawn).1 _ o.opened.intent) (bytes_self o.next.uid))) in
+          inr (record { next = o.next; more = without ids o.more; is_next = ap (filter stays) o.is_next ∙ rw stay; opened = o.opened; row = o.row })
     ];
   }
 
@@ -95,8 +84,7 @@ rewritten_kept world before had file kept is = record {
   rest = is.ahead;
   prefix = is.prefix ∙ ap (λ l. l ++ is.ahead) (sym (append-nil had));
   recorded = λ id. is.recorded id ∙ ap (λ (ms : List Message). has_id (ids_of ms) id) (sym (append-nil had));
-  gone = all_map (λ id. has_id (ids_of (world.had ++ kept.done)) id ≡ true) (λ id. has_id (ids_of (had ++ [])) id ≡ true)
-      (λ id e. ap (λ (ms : List Message). has_id (ids_of ms) id) (append-nil had) ∙ sym (is.recorded id) ∙ kept.recorded id ∙ e) before.gone kept.gone;
+  gone = all_map _ _ (λ id e. rw (append-nil had) (sym (is.recorded id) ∙ kept.recorded id ∙ e)) before.gone kept.gone;
   stands = inl (record { intent = is.closed; file = sym (append-nil file) });
 }
 

@@ -1,23 +1,20 @@
 -- What happens between sessions leads from a kept state to a kept state.
-use Rattle.std.proofs.Common.{◌≡◌, inl, inr, List, ℕ, ◌++◌, Bool, true, false, not, sym, ◌∙◌, ap, subst, arith}
+use Rattle.std.proofs.Common.{◌≡◌, inl, inr, List, ℕ, ◌++◌, Bool, true, false, not, sym, ◌∙◌, ap, arith}
 use Rattle.std.specs.Prelude.{bytes_eq}
 use Rattle.std.specs.List.{AllByRecursion, filter}
-use Rattle.std.proofs.lemmas.Bool.{both_ways, and_from, cases_Bool, false_from_ne_true}
+use Rattle.std.proofs.lemmas.Bool.{cases_Bool, false_from_ne_true}
 use Rattle.std.proofs.lemmas.List.Elements.{filter-append}
-use Rattle.mail_terms.specs.Distinct.{AreDistinct}
-use Rattle.mail_terms.specs.Listing.{Item}
 use Rattle.mail_terms.specs.UniqueId.{has_id, is_legal_id}
 use Rattle.pop3_wire.specs.World.{Message, IsMessage}
-use Rattle.mail_store.specs.FileName.{is_held, stem_of}
+use Rattle.mail_store.specs.FileName.{stem_of}
 use Rattle.fetch_rules.specs.Record.{is_delivered}
-use Rattle.run_law.specs.Mails.{ids_of, item_of, is_selected, texts_of, without, WorldsShrink}
+use Rattle.run_law.specs.Mails.{ids_of, is_selected, without, WorldsShrink}
 use Rattle.run_law.specs.Accounts.{AccountMail, files, copies}
 use Rattle.run_law.specs.Runs.{World, IsSound, State, Event, Visit, HoldsOf, IsHeldOrTaken, IsNeither, Kept, LeavesMail, TakesAway, BringsBack, Forgets, Withdrawn, TakenAway, BroughtBack, after_event, after_visit, world_after}
-use Rattle.run_law.proofs.Lists.{all_map, all_both, all_append, all_filter, filter_all, filter-swap, map-map}
-use Rattle.run_law.proofs.Ids.{all_ids_at, bytes_same, distinct_filter, distinct_is, has_filtered}
+use Rattle.run_law.proofs.Lists.{all_map, all_both, all_append, all_filter, filter_all, filter-swap}
+use Rattle.run_law.proofs.Ids.{all_ids_at, are_distinct, bytes_same, distinct_filter, distinct_is, has_filtered}
 use Rattle.run_law.proofs.Core.{IsLegal, done_legal, done_texts, members}
-use Rattle.run_law.proofs.Holds.{done_is_held, held_is_done}
-use Rattle.run_law.proofs.Wants.{listing_distinct}
+use Rattle.run_law.proofs.Holds.{held_is_done, not_neither}
 
 -- the same messages are done in another state
 pub still_kept : (world : World) (before after : State AccountMail) → (kept : Kept world before) → ((id : List ℕ) → is_legal_id id ≡ true → HoldsOf world after kept.done id)
@@ -67,31 +64,22 @@ pub brought_kept : (world : World) → IsSound world → (before : State Account
     → Kept world (after_event {S = Visit} after_visit before (BroughtBack id after))
 brought_kept world is before id after kept brings = still_kept world before (after_event {S = Visit} after_visit before (BroughtBack id after)) kept
     (λ other l. elim (cases_Bool (bytes_eq other id)) [
-      | inl same ↦ inl (subst Holds (sym (bytes_same other id same)) there)
-      | inr apart ↦ by other apart (brings.others other l apart) (kept.holds other l)
+      | inl same ↦ rw (bytes_same other id same) (inl (brings.text ∙ sym (done_texts world.max_size world.all is.mail kept.done kept.rest kept.prefix id
+          (all_ids_at (λ x. has_id (ids_of kept.done) x ≡ true) before.taken id kept.taken brings.taken))))
+      | inr apart ↦
+          let others = brings.others other l apart in
+          let was = kept.holds other l in
+          grind (arith, apart, others, was, has_filtered (λ x. not (bytes_eq x id)) before.taken other)
     ])
     (λ other e. kept.recorded other (ap (λ r. is_delivered r other) (sym brings.rows) ∙ e))
     kept.gone (all_filter (λ other. has_id (ids_of kept.done) other ≡ true) (λ other. not (bytes_eq other id)) before.taken kept.taken)
-  where
-    Holds : List ℕ → Type 0
-    Holds other = copies (files after) (stem_of world.account other) ≡ texts_of kept.done other
-
-    there : Holds id
-    there = brings.text ∙ sym (done_texts world.max_size world.all is.mail kept.done kept.rest kept.prefix id (all_ids_at (λ x. has_id (ids_of kept.done) x ≡ true) before.taken id kept.taken brings.taken))
-
-    by : (other : List ℕ) → bytes_eq other id ≡ false → copies (files after) (stem_of world.account other) ≡ copies (files before.account) (stem_of world.account other)
-        → HoldsOf world before kept.done other → HoldsOf world (after_event {S = Visit} after_visit before (BroughtBack id after)) kept.done other
-    by other apart same (inl e) = inl (same ∙ e)
-    by other apart same (inr (taken, none)) =
-        inr (has_filtered (λ x. not (bytes_eq x id)) before.taken other ∙ and_from _ _ taken (ap not apart), same ∙ none)
 
 -- ---- what is withdrawn before it was fetched
 
 pub worlds_shrink : WorldsShrink
 worlds_shrink all ids is = record {
   messages = all_filter IsMessage (λ (m : Message). not (has_id ids m.uid)) all is.messages;
-  distinct = subst AreDistinct (map-map (λ (i : Item). i.uid) item_of (without ids all))
-      (listing_distinct (without ids all) (distinct_filter (λ (m : Message). not (has_id ids m.uid)) all (distinct_is all is.distinct)));
+  distinct = are_distinct (ids_of (without ids all)) (distinct_filter (λ (m : Message). not (has_id ids m.uid)) all (distinct_is all is.distinct));
 }
 
 pub world_stays : (world : World) → IsSound world → (event : Event Visit AccountMail) → IsSound (world_after world event)
@@ -104,12 +92,8 @@ module _ (world : World) (is : IsSound world) (before : State AccountMail) (ids 
 
   -- what is done is held or was taken away, so it isn't withdrawn
   done_stays : (m : Message) → IsLegal m → has_id (ids_of kept.done) m.uid ≡ true → stays m ≡ true
-  done_stays m legal done = ap not (false_from_ne_true (has_id ids m.uid) (λ withdrawn.
-      let neither = all_ids_at (IsNeither world.account before.account.maildir before.taken) ids m.uid all withdrawn in
-      elim (done_is_held world before kept.done m.uid (kept.holds m.uid legal) done) [
-        | inl held ↦ both_ways (is_held world.account before.account.maildir m.uid) neither.0 held
-        | inr taken ↦ both_ways (has_id before.taken m.uid) neither.1 taken
-      ]))
+  done_stays m legal done = ap not (false_from_ne_true (has_id ids m.uid) (λ withdrawn. not_neither world before kept.done m.uid (kept.holds m.uid legal) done
+      (all_ids_at (IsNeither world.account before.account.maildir before.taken) ids m.uid all withdrawn)))
 
   all_stay : AllByRecursion (λ (m : Message). stays m ≡ true) kept.done
   all_stay = all_both IsLegal (λ (m : Message). has_id (ids_of kept.done) m.uid ≡ true) (λ (m : Message). stays m ≡ true) done_stays kept.done (done_legal world.max_size world.all is.mail kept.done kept.rest kept.prefix) (members kept.done)

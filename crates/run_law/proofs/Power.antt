@@ -1,20 +1,20 @@
 -- A loss of power leads from a kept state to a kept state: what it takes, but for what was taken away before, is the last that is done.
-use Rattle.std.proofs.Common.{◌≡◌, ◌⊎◌, inl, inr, ℕ, List, [], ◌∷◌, ◌++◌, Bool, true, false, cond, sym, refl, ◌∙◌, ap, subst, append_assoc, arith}
+use Rattle.std.proofs.Common.{◌≡◌, ◌⊎◌, inl, inr, ℕ, List, [], ◌∷◌, ◌++◌, Bool, true, false, sym, refl, ◌∙◌, ap, subst, append_assoc, arith}
 use Rattle.std.specs.Prelude.{bytes_eq}
 use Rattle.std.specs.List.{AllByRecursion}
-use Rattle.std.proofs.lemmas.Bool.{both_ways, cases_Bool, false_from_ne_true, or_from, or_left, or_parts, or_right}
+use Rattle.std.proofs.lemmas.Bool.{both_ways, cases_Bool, false_from_ne_true, or_left, or_parts, or_right}
 use Rattle.std.proofs.lemmas.List.{append-nil}
 use Rattle.mail_terms.specs.UniqueId.{is_legal_id, has_id}
 use Rattle.pop3_wire.specs.World.{Message}
 use Rattle.fetch_rules.specs.Record.{is_delivered}
-use Rattle.mail_store.specs.FileName.{is_held, stem_of}
+use Rattle.mail_store.specs.FileName.{stem_of}
 use Rattle.run_law.specs.Mails.{ids_of, selected, texts_of, messages_after}
 use Rattle.run_law.specs.Accounts.{AccountMail, files, copies}
 use Rattle.run_law.specs.Power.{AllMayBeLeft}
 use Rattle.run_law.specs.Runs.{World, IsSound, State, HoldsOf, IsNeither, IsLastStored, Kept, LosesPower}
-use Rattle.run_law.proofs.Lists.{all_back}
+use Rattle.run_law.proofs.Lists.{all_parts}
 use Rattle.run_law.proofs.Ids.{all_at, all_ids_at, bytes_same, bytes_self, bytes_swap, ids_both, no_texts, texts-append}
-use Rattle.run_law.proofs.Holds.{done_is_held, held_is_done}
+use Rattle.run_law.proofs.Holds.{held_is_done, not_neither}
 use Rattle.run_law.proofs.Core.{done_legal}
 use Rattle.run_law.proofs.Others.{still_kept}
 
@@ -33,14 +33,9 @@ comes_after : (P : Message → Type 0) (front : List Message) (last : Message) (
     → AllByRecursion P (messages_after id (front ++ last ∷ rest)) → P last
 comes_after P [] last rest id has all = absurd (both_ways false refl has)
 comes_after P (m ∷ front) last rest id has all = elim (cases_Bool (bytes_eq id m.uid)) [
-  | inl here ↦ (all_back P front (last ∷ rest) (subst (λ b. AllByRecursion P (cond b (front ++ last ∷ rest) (messages_after id (front ++ last ∷ rest)))) here all)).0
-  | inr apart ↦ comes_after P front last rest id (grind (arith, has, apart))
-      (subst (λ b. AllByRecursion P (cond b (front ++ last ∷ rest) (messages_after id (front ++ last ∷ rest)))) apart all)
+  | inl here ↦ (all_parts P front (last ∷ rest) (rw here at all)).1.0
+  | inr apart ↦ comes_after P front last rest id (grind (arith, has, apart)) (rw apart at all)
 ]
-
--- an id among these that isn't the last one's is among the others
-in_front : (front : List Message) (last : Message) (id : List ℕ) → bytes_eq id last.uid ≡ false → has_id (ids_of (front ++ last ∷ [])) id ≡ true → has_id (ids_of front) id ≡ true
-in_front front last id apart has = grind (arith, has, apart, ids_both front (last ∷ []) id)
 
 -- what holds of ids of which none is this one
 all_apart : (P Q : List ℕ → Type 0) (x : List ℕ) → ((id : List ℕ) → bytes_eq id x ≡ false → P id → Q id) → (ids : List (List ℕ)) → has_id ids x ≡ false
@@ -56,19 +51,13 @@ module _ (world : World) (is : IsSound world) (before : State AccountMail) (afte
   abbrev left : State AccountMail
   left = record before { account = after }
 
-  abbrev AreNone : List ℕ → Type 0
-  AreNone id = copies (files after) (stem_of world.account id) ≡ []
-
-  abbrev MayGo : List ℕ → Type 0
-  MayGo id = (has_id before.taken id ≡ true) ⊎ IsLastStored world before id
-
   abbrev StayOrGo : List ℕ → Type 0
-  StayOrGo id = (copies (files after) (stem_of world.account id) ≡ copies (files before.account) (stem_of world.account id)) ⊎ (AreNone id × MayGo id)
+  StayOrGo id = (copies (files after) (stem_of world.account id) ≡ copies (files before.account) (stem_of world.account id))
+      ⊎ ((copies (files after) (stem_of world.account id) ≡ []) × ((has_id before.taken id ≡ true) ⊎ IsLastStored world before id))
 
   -- the files of these messages, of which none is the last that was stored
   still_holds : (ms : List Message) (id : List ℕ) → (IsLastStored world before id → has_id (ids_of ms) id ≡ false) → HoldsOf world before ms id → StayOrGo id → HoldsOf world left ms id
-  still_holds ms id absent (inl e) (inl same) = inl (same ∙ e)
-  still_holds ms id absent (inr (taken, none)) (inl same) = inr (taken, same ∙ none)
+  still_holds ms id absent was (inl same) = rw same was
   still_holds ms id absent was (inr (none, inl taken)) = inr (taken, none)
   still_holds ms id absent was (inr (none, inr lastly)) = inl (none ∙ sym (no_texts ms id (absent lastly)))
 
@@ -95,20 +84,14 @@ module _ (world : World) (is : IsSound world) (before : State AccountMail) (afte
     last_legal : is_legal_id last.uid ≡ true
     last_legal = all_at (λ x. is_legal_id x ≡ true) kept.done last.uid (done_legal world.max_size world.all is.mail kept.done kept.rest kept.prefix) last_done
 
-    last_there : IsNeither world.account before.account.maildir before.taken last.uid → ⊥
-    last_there neither = elim (done_is_held world before kept.done last.uid (kept.holds last.uid last_legal) last_done) [
-      | inl held ↦ both_ways (is_held world.account before.account.maildir last.uid) neither.0 held
-      | inr taken ↦ both_ways (has_id before.taken last.uid) neither.1 taken
-    ]
-
     -- an earlier one isn't the last that was stored
     not_earlier : (id : List ℕ) → IsLastStored world before id → has_id (ids_of front) id ≡ false
     not_earlier id lastly = false_from_ne_true (has_id (ids_of front) id) (λ has.
-        last_there (comes_after (λ (m : Message). IsNeither world.account before.account.maildir before.taken m.uid) front last kept.rest id has
-        (subst (λ l. AllByRecursion (λ (m : Message). IsNeither world.account before.account.maildir before.taken m.uid) (messages_after id l)) chosen lastly.last)))
+        not_neither world before kept.done last.uid (kept.holds last.uid last_legal) last_done
+        (comes_after (λ (m : Message). IsNeither world.account before.account.maildir before.taken m.uid) front last kept.rest id has (rw chosen at lastly.last)))
 
     earlier : (id : List ℕ) → bytes_eq id last.uid ≡ false → is_done id ≡ true → has_id (ids_of front) id ≡ true
-    earlier id apart done = in_front front last id apart (ap (λ l. has_id (ids_of l) id) (sym are) ∙ done)
+    earlier id apart done = grind (arith, apart, done, ids_both front (last ∷ []) id, ap (λ (l : List Message). has_id (ids_of l) id) are)
 
     -- the last one stays, or was taken away before
     keeps_last : HoldsOf world left kept.done last.uid → Kept world left
@@ -119,19 +102,14 @@ module _ (world : World) (is : IsSound world) (before : State AccountMail) (afte
     ])
 
     -- the last one is gone, and wasn't taken away
-    module _ (none : AreNone last.uid) (lastly : IsLastStored world before last.uid) (untaken : has_id before.taken last.uid ≡ false) where
+    module _ (none : copies (files after) (stem_of world.account last.uid) ≡ []) (lastly : IsLastStored world before last.uid) (untaken : has_id before.taken last.uid ≡ false) where
       texts_apart : (id : List ℕ) → bytes_eq id last.uid ≡ false → texts_of kept.done id ≡ texts_of front id
-      texts_apart id apart = ap (λ l. texts_of l id) are ∙ texts-append front (last ∷ []) id
-          ∙ ap (λ t. texts_of front id ++ t) (no_texts (last ∷ []) id (or_from (bytes_eq id last.uid) false apart refl)) ∙ append-nil (texts_of front id)
-
-      held_before : (id : List ℕ) → bytes_eq id last.uid ≡ false → HoldsOf world before kept.done id → HoldsOf world before front id
-      held_before id apart (inl e) = inl (e ∙ texts_apart id apart)
-      held_before id apart (inr taken) = inr taken
+      texts_apart id apart = ap (λ l. texts_of l id) are ∙ texts-append front (last ∷ []) id ∙ rw apart (append-nil (texts_of front id))
 
       holds_front : (id : List ℕ) → is_legal_id id ≡ true → HoldsOf world left front id
       holds_front id legal = elim (cases_Bool (bytes_eq id last.uid)) [
         | inl same ↦ subst (HoldsOf world left front) (sym (bytes_same id last.uid same)) (inl (none ∙ sym (no_texts front last.uid (not_earlier last.uid lastly))))
-        | inr apart ↦ still_holds front id (not_earlier id) (held_before id apart (kept.holds id legal)) (loses.mail id legal)
+        | inr apart ↦ still_holds front id (not_earlier id) (rw (texts_apart id apart) at (kept.holds id legal)) (loses.mail id legal)
       ]
 
       -- such an id isn't the last one's
@@ -153,13 +131,8 @@ module _ (world : World) (is : IsSound world) (before : State AccountMail) (afte
         taken = all_apart (λ x. is_done x ≡ true) (λ x. has_id (ids_of front) x ≡ true) last.uid earlier before.taken untaken kept.taken;
       }
 
-    same_holds : copies (files after) (stem_of world.account last.uid) ≡ copies (files before.account) (stem_of world.account last.uid)
-        → HoldsOf world before kept.done last.uid → HoldsOf world left kept.done last.uid
-    same_holds same (inl e) = inl (same ∙ e)
-    same_holds same (inr (taken, none)) = inr (taken, same ∙ none)
-
     by_last : StayOrGo last.uid → Kept world left
-    by_last (inl same) = keeps_last (same_holds same (kept.holds last.uid last_legal))
+    by_last (inl same) = keeps_last (rw same (kept.holds last.uid last_legal))
     by_last (inr (none, inl taken)) = keeps_last (inr (taken, none))
     by_last (inr (none, inr lastly)) = elim (cases_Bool (has_id before.taken last.uid)) [
       | inl taken ↦ keeps_last (inr (taken, none))

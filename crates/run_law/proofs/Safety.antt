@@ -22,7 +22,7 @@ use Rattle.pop3_wire.specs.declared.command.Command.TheVariants.{Dele}
 use Rattle.run_law.specs.Safety.{IsAmong, DeletesAllowed, SessionsAreSafe}
 use Rattle.run_law.specs.Mboxes.{MboxMail, settled, mbox_rows, mbox_wanted, entries, IsBroken, MboxStores}
 use Rattle.run_law.specs.MboxSafety.{MboxDeletesAllowed, MboxSessionsAreSafe}
-use Rattle.run_law.proofs.Lists.{all_map, all_both, all_filter, all_passing, all_back}
+use Rattle.run_law.proofs.Lists.{all_map, all_both, all_filter, all_passing, all_parts}
 use Rattle.run_law.proofs.Ids.{bytes_same, bytes_self, taken_more, all_ids_at}
 use Rattle.run_law.proofs.Below.{Records, RowLaws}
 use Rattle.run_law.proofs.Records.{delivered_marked, delivered_merged, delivered_unheld}
@@ -67,7 +67,7 @@ all_zip P (x ∷ xs) (y ∷ ys) h = (h.0, all_zip P xs ys h.1)
 
 among_zip : {X Y : Type 0} (P : X → Type 0) (xs : List X) (ys : List Y) (x : X) (y : Y) → AllByRecursion P xs → IsAmong (x, y) (zip xs ys) → P x
 among_zip {X} {Y} P xs ys x y h (front, behind, is) =
-    (all_back (λ (p : X × Y). P p.0) front ((x, y) ∷ behind) (subst (AllByRecursion (λ (p : X × Y). P p.0)) is (all_zip P xs ys h))).0
+    (all_parts (λ (p : X × Y). P p.0) front ((x, y) ∷ behind) (subst (AllByRecursion (λ (p : X × Y). P p.0)) is (all_zip P xs ys h))).1.0
 
 -- a DELE that was begun is for the first message of its id, so a wanted message of that id has its number
 only_number : (settings : Settings) (rows : List Row) (listing : List Item) (texts : List (List ℕ)) (message : ℕ × Item) (text : List ℕ) (number : ℕ) (item : Item)
@@ -80,17 +80,16 @@ only_number settings rows listing texts message text number item among same coun
 behind_one : {X : Type 0} (x y : X) (xs : List X) → IsAmong x xs → IsAmong x (y ∷ xs)
 behind_one x y xs (front, behind, is) = (y ∷ front, behind, ap (λ l. y ∷ l) is)
 
-pub begins : {P Q : Command → Type 0} → ((c : Command) → P c → Q c) → (part : List ℕ) → BeginsOne P part → BeginsOne Q part
-begins f part (inl none) = inl none
-begins f part (inr (command, unsent, is, begun)) = inr (command, unsent, is, f command begun)
-
 -- what is sent may be of a wider kind
 pub sends_weaker : (P Q : Command → Type 0) (sent : List ℕ) → ((c : Command) → P c → Q c) → SendsOnly P sent → SendsOnly Q sent
 sends_weaker P Q sent f sends = record {
   commands = sends.commands;
   asked = sends.asked;
   each = all_map P Q f sends.commands sends.each;
-  next = begins f sends.asked.part sends.next;
+  next = elim sends.next [
+    | inl none ↦ inl none
+    | inr (command, unsent, is, begun) ↦ inr (command, unsent, is, f command begun)
+  ];
 }
 
 -- ---- the text of a wanted message
@@ -134,9 +133,7 @@ among_made : {X Y : Type 0} (p : X → Bool) (f : X → Y) (x : X) (xs : List X)
 among_made p f x xs (front, behind, is) passes = (
   map f (filter p front),
   map f (filter p behind),
-  ap (λ l. map f (filter p l)) is
-      ∙ ap (map f) (filter-append p front (x ∷ behind) ∙ ap (λ b. filter p front ++ cond b (x ∷ filter p behind) (filter p behind)) passes)
-      ∙ map-append f (filter p front) (x ∷ filter p behind),
+  ap (λ l. map f (filter p l)) is ∙ rw (filter-append p front (x ∷ behind), passes, map-append f (filter p front) (x ∷ filter p behind)),
 )
 
 -- ---- with a Maildir
@@ -189,20 +186,6 @@ module _ (laws : Records) (settings : Settings) (account : List ℕ) (before : A
     ]
   ]
 
-  kept_all : KeepsAll settings account before effect after
-  kept_all = record {
-    gained = gained;
-    came = stores.came;
-    begun = all_map (λ id. is_delivered after.rows id ≡ true) (KeptBy settings account before effect gained) kept_ids effect.begun stores.begun;
-  }
-
-kept_none : (settings : Settings) (account : List ℕ) (before : AccountMail) (effect : Effect) (after : AccountMail) → Leaves before effect after → KeepsAll settings account before effect after
-kept_none settings account before effect after leaves = record {
-  gained = [];
-  came = leaves.same ∙ sym (append-nil before.maildir.files);
-  begun = subst (λ (ids : List (List ℕ)). AllByRecursion (KeptBy settings account before effect []) ids) (sym leaves.begun) tt;
-}
-
 deletes_kept : (settings : Settings) (account : List ℕ) (before : AccountMail) (effect : Effect) (after : AccountMail) (keeps : KeepsAll settings account before effect after) (command : Command)
     → IsBegun effect.listing effect.begun command → DeletesAllowed settings account before effect keeps.gained command
 deletes_kept settings account before effect after keeps (Dele number) (item, at, is, counted, alone) = (
@@ -222,8 +205,16 @@ deletes_kept settings account before effect after keeps other is = tt
 pub sessions_are_safe : Records → SessionsAreSafe
 sessions_are_safe laws settings account before sent got effect after session =
     let keeps : KeepsAll settings account before effect after = elim session.step [
-      | inl leaves ↦ kept_none settings account before effect after leaves
-      | inr (stores, reads) ↦ kept_all laws settings account before effect after stores
+      | inl leaves ↦ record {
+        gained = [];
+        came = leaves.same ∙ sym (append-nil before.maildir.files);
+        begun = subst (AllByRecursion (KeptBy settings account before effect [])) (sym leaves.begun) tt;
+      }
+      | inr (stores, reads) ↦ record {
+        gained = _;
+        came = stores.came;
+        begun = all_map _ _ (kept_ids laws settings account before effect after stores) effect.begun stores.begun;
+      }
     ] in
     let deletes = deletes_kept settings account before effect after keeps in
     record {
@@ -283,18 +274,16 @@ none_begun settings before effect after none (Dele number) (item, at, is, counte
 none_begun settings before effect after none command is = tt
 
 pub mbox_sessions_are_safe : RowLaws → MboxSessionsAreSafe
-mbox_sessions_are_safe laws settings before sent got effect after session =
-    let kept : (command : Command) → IsBegun effect.listing effect.begun command → MboxDeletesAllowed settings before effect after command = elim session.step [
-      | inl (leaves, none) ↦ none_begun settings before effect after leaves.begun
-      | inr (stores, reads) ↦ deletes laws settings before effect after stores
-    ] in
-    record {
-      file = elim session.step [
-        | inl (leaves, none) ↦ elim leaves.file [
-          | inl same ↦ inl same
-          | inr cut ↦ inr ([], cut ∙ sym (append-nil (settled effect.listing before).file))
-        ]
-        | inr (stores, reads) ↦ inr (_, (tail_of settings before effect after stores).1)
-      ];
-      sends = sends_weaker (IsBegun effect.listing effect.begun) (MboxDeletesAllowed settings before effect after) sent kept session.sends;
-    }
+mbox_sessions_are_safe laws settings before sent got effect after session = elim session.step [
+  | inl (leaves, none) ↦ record {
+    file = elim leaves.file [
+      | inl same ↦ inl same
+      | inr cut ↦ inr ([], cut ∙ sym (append-nil (settled effect.listing before).file))
+    ];
+    sends = sends_weaker _ _ sent (none_begun settings before effect after leaves.begun) session.sends;
+  }
+  | inr (stores, reads) ↦ record {
+    file = inr (_, (tail_of settings before effect after stores).1);
+    sends = sends_weaker _ _ sent (deletes laws settings before effect after stores) session.sends;
+  }
+]

@@ -83,18 +83,14 @@ module _ (laws : Below) (world : World) (is : IsSound world) (before : State Acc
   legal_delivered = all_filter IsLegal (λ (m : Message). not (held m.uid)) got (all_take IsLegal s.stored (fetched scene) (core.legal_fetched scene is_scene))
 
   files_are : files v.after ≡ files before.account ++ map (message_file world.account) delivered
-  files_are = s.came
-      ∙ ap (λ l. before.account.maildir.files ++ map (file_for world.account) (filter (is_unheld world.account before.account.maildir) l)) zipped_is
-      ∙ ap (λ l. before.account.maildir.files ++ l) (stored_files world.account before.account.maildir (take s.stored (wants_by_number v.settings rows here))
-      ∙ ap (λ l. map (message_file world.account) (filter (λ (m : Message). not (held m.uid)) l)) (core.taken_is scene is_scene s.stored))
+  files_are = s.came ∙ rw (zipped_is, stored_files world.account before.account.maildir (take s.stored (wants_by_number v.settings rows here)),
+      core.taken_is scene is_scene s.stored)
 
   pub copies_are : (id : List ℕ) → is_legal_id id ≡ true → copies (files v.after) (stem_of world.account id)
       ≡ copies (files before.account) (stem_of world.account id) ++ cond (not (held id)) (texts_of got id) []
   copies_are id l = ap (λ f. copies f (stem_of world.account id)) files_are
-      ∙ copies-append (files before.account) (map (message_file world.account) delivered) (stem_of world.account id)
-      ∙ ap (λ t. copies (files before.account) (stem_of world.account id) ++ t)
-      (copies_messages laws.differ laws.stems laws.own world.account delivered id is.account l legal_delivered
-      ∙ texts_filtered (λ x. not (held x)) got id)
+      ∙ rw (copies-append (files before.account) (map (message_file world.account) delivered) (stem_of world.account id),
+      copies_messages laws.differ laws.stems laws.own world.account delivered id is.account l legal_delivered, texts_filtered (λ x. not (held x)) got id)
 
   texts_after : (id : List ℕ) → texts_of (kept.done ++ stored) id ≡ texts_of kept.done id ++ cond (not (core.is_done scene id)) (texts_of got id) []
   texts_after id = texts-append kept.done stored id ∙ ap (λ t. texts_of kept.done id ++ t) (texts_filtered (λ x. not (core.is_done scene x)) got id)
@@ -156,9 +152,7 @@ module _ (laws : Below) (world : World) (is : IsSound world) (before : State Acc
 
   pub stores_only_new : StoresOnlyNew world before v
   stores_only_new only_new id l recorded = (
-    copies_are id l
-        ∙ ap (λ t. copies (files before.account) (stem_of world.account id) ++ t) nothing
-        ∙ append-nil (copies (files before.account) (stem_of world.account id)),
+    copies_are id l ∙ rw (no_texts got id unasked) (cond_both (not (held id)) [] [] (λ c. was ++ c ≡ was) (λ t. append-nil was) (λ f. append-nil was)),
     elim s.rows [
       | inl old ↦ ap (λ r. is_delivered r id) old ∙ recorded
       | inr new ↦ ap (λ r. is_delivered r id) new
@@ -166,6 +160,9 @@ module _ (laws : Below) (world : World) (is : IsSound world) (before : State Acc
     ],
   )
     where
+      was : List (List ℕ)
+      was = copies (files before.account) (stem_of world.account id)
+
       known : is_delivered rows id ≡ true
       known = known_parts id ∙ or_left _ _ recorded
 
@@ -174,12 +171,8 @@ module _ (laws : Below) (world : World) (is : IsSound world) (before : State Acc
           (all_at (λ x. is_delivered rows x ≡ false) got id
           (all_take (λ (m : Message). is_delivered rows m.uid ≡ false) s.stored (fetched scene) (core.none_recorded scene is_scene only_new)) e) known)
 
-      nothing : cond (not (held id)) (texts_of got id) [] ≡ []
-      nothing = cond_both (not (held id)) (texts_of got id) [] (λ (l : List (List ℕ)). l ≡ []) (λ t. no_texts got id unasked) (λ f. refl)
-
   pub leaves_out : LeavesOut world before v
-  leaves_out ended = all_map (core.IsOut scene is_scene s.stored) (λ (m : Message). (is_held world.account v.after.maildir m.uid ≡ true) ⊎ (has_id before.taken m.uid ≡ true) ⊎ (is_selected world.max_size m ≡ false)
-      ⊎ (has_id (ids_wanted (past_limit v.settings.max_count (candidates v.settings rows v.effect.listing))) m.uid ≡ true))
+  leaves_out ended = all_map (core.IsOut scene is_scene s.stored) _
       (λ m o. elim o [
         | inl done ↦ elim (held_after m.uid done) [
           | inl held' ↦ inl held'

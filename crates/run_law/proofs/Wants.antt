@@ -1,14 +1,15 @@
 -- Which messages of a maildrop are wanted, and which texts belong to them.
-use Rattle.std.proofs.Common.{◌≡◌, ◌≤◌, ◌≢◌, ◌<◌, ◌+◌, ◌-◌, ℕ, zero, suc, List, [], ◌∷◌, ◌++◌, Bool, false, not, cond, ◌&&◌, ◌||◌, ◌==◌, length, take, drop, map, refl, sym, ◌∙◌, ap, arith, append_assoc, take-append-drop, Some, slice_get}
+use Rattle.std.proofs.Common.{◌≡◌, ◌≤◌, ◌<◌, ◌+◌, ◌-◌, ℕ, zero, suc, List, [], ◌∷◌, ◌++◌, Bool, not, cond, ◌&&◌, ◌||◌, ◌==◌, length, take, drop, map, refl, sym, ◌∙◌, ap, subst, arith, append_assoc, take-append-drop, Some, slice_get}
 use Rattle.std.specs.Prelude.{bytes_eq, zip}
 use Rattle.std.specs.List.{filter, enumerate_from, AllByRecursion}
-use Rattle.std.proofs.lemmas.Bool.{both_ways, or_parts, cond_both}
+use Rattle.std.proofs.lemmas.Bool.{cond_both}
 use Rattle.std.proofs.lemmas.List.{take-map, drop-map, append-nil}
-use Rattle.std.proofs.lemmas.List.Elements.{All-from_recursion}
-use Rattle.std.proofs.lemmas.List.Kept.{AllPairs-cons}
-use Rattle.std.proofs.lemmas.Option.{same_Some}
+use Rattle.std.proofs.lemmas.List.Elements.{recursion_from_All}
+use Rattle.std.proofs.lemmas.List.FromFn.{length-enumerate_from, get_or-enumerate_from}
+use Rattle.std.proofs.lemmas.Option.{same_Some, slice_get-get_or}
 use Rattle.pop3_wire.specs.World.{Message}
-use Rattle.mail_terms.specs.Listing.{Item, HasDistinctIds, has_item}
+use Rattle.mail_terms.specs.Distinct.{AreDistinct}
+use Rattle.mail_terms.specs.Listing.{Item, has_item}
 use Rattle.fetch_rules.specs.Record.{Row, is_delivered}
 use Rattle.fetch_rules.specs.Wanted.{is_within, is_asked_for, candidates, at_most, wanted, DistinctAreFiltered}
 use Rattle.rc_file.specs.declared.settings.Settings.{Settings}
@@ -18,24 +19,9 @@ use Rattle.mail_terms.specs.UniqueId.{has_id}
 use Rattle.run_law.specs.Mails.{ids_of, item_of, listing_of}
 use Rattle.run_law.specs.Steps.{AreTexts, file_for, is_unheld, ids_wanted}
 use Rattle.run_law.specs.Runs.{past_limit}
-use Rattle.run_law.proofs.Lists.{push_cond, filter-map, any-map, map-map, all_map, all_take, all_filter}
-use Rattle.run_law.proofs.Ids.{Distinct, bytes_self}
+use Rattle.run_law.proofs.Lists.{filter-map, any-map, map-map, all_map, all_take, all_filter}
+use Rattle.run_law.proofs.Ids.{Distinct, are_distinct}
 use Rattle.run_law.proofs.Files.{message_file}
-
--- ---- the listing of distinct messages
-
-others : (m : Message) (ms : List Message) → has_id (ids_of ms) m.uid ≡ false → AllByRecursion (λ (id : List ℕ). m.uid ≢ id) (map (λ (i : Item). i.uid) (listing_of ms))
-others m [] e = tt
-others m (x ∷ ms) e =
-    let parts = or_parts _ _ e in
-    (λ same. both_ways (bytes_eq m.uid x.uid) parts.0 (ap (bytes_eq m.uid) (sym same) ∙ bytes_self m.uid), others m ms parts.1)
-
-pub listing_distinct : (ms : List Message) → Distinct (ids_of ms) → HasDistinctIds (listing_of ms)
-listing_distinct [] d = λ i j e before inside. absurd (omega arith)
-listing_distinct (m ∷ ms) d =
-    AllPairs-cons (λ (a b : List ℕ). a ≢ b) m.uid (map (λ (i : Item). i.uid) (listing_of ms))
-    (All-from_recursion (λ (id : List ℕ). m.uid ≢ id) (map (λ (i : Item). i.uid) (listing_of ms)) (others m ms d.0))
-    (listing_distinct ms d.1)
 
 pub has_listed : (ms : List Message) (id : List ℕ) → has_item (listing_of ms) id ≡ has_id (ids_of ms) id
 has_listed ms id = any-map (λ (i : Item). bytes_eq id i.uid) item_of ms ∙ sym (any-map (bytes_eq id) (λ (m : Message). m.uid) ms)
@@ -65,12 +51,12 @@ enumerate_map n [] = refl
 enumerate_map n (m ∷ ms) = ap (λ (l : List (ℕ × Item)). (n, item_of m) ∷ l) (enumerate_map (n + 1) ms)
 
 pub at_most-map : {X Y : Type 0} (f : X → Y) (n : ℕ) (xs : List X) → at_most n (map f xs) ≡ map f (at_most n xs)
-at_most-map f n xs = ap (cond (n == 0) (map f xs)) (take-map f n xs) ∙ sym (push_cond (map f) (n == 0) xs (take n xs))
+at_most-map f n xs = grind (arith, take-map f n xs)
 
 pub candidates_are : DistinctAreFiltered → (settings : Settings) (rows : List Row) (ms : List Message) → Distinct (ids_of ms)
     → candidates settings rows (listing_of ms) ≡ map num_item (offered_by_number settings rows ms)
 candidates_are filtered settings rows ms d =
-    filtered settings rows (listing_of ms) (listing_distinct ms d)
+    filtered settings rows (listing_of ms) (subst AreDistinct (sym (map-map (λ (i : Item). i.uid) item_of ms)) (are_distinct (ids_of ms) d))
     ∙ ap (filter (is_asked_for settings rows)) (enumerate_map 1 ms)
     ∙ filter-map (is_asked_for settings rows) num_item (enumerate_from 1 ms)
 
@@ -83,7 +69,7 @@ snd q = q.1
 
 snds : (p : Message → Bool) (n : ℕ) (ms : List Message) → map snd (filter (λ (q : ℕ × Message). p q.1) (enumerate_from n ms)) ≡ filter p ms
 snds p n [] = refl
-snds p n (m ∷ ms) = push_cond (map snd) (p m) _ _ ∙ ap (λ l. cond (p m) (m ∷ l) l) (snds p (n + 1) ms)
+snds p n (m ∷ ms) = grind (arith, snds p (n + 1) ms)
 
 pub offered_snd : (settings : Settings) (rows : List Row) (ms : List Message) → map snd (offered_by_number settings rows ms) ≡ offered settings rows ms
 offered_snd settings rows ms = snds (asked settings rows) 1 ms
@@ -100,24 +86,17 @@ Placed ms q = slice_get ms (q.0 - 1) ≡ Some q.1
 abbrev pub IsNumbered : {X : Type 0} → List X → ℕ × X → Type 0
 IsNumbered xs q = (0 < q.0) × (slice_get xs (q.0 - 1) ≡ Some q.1)
 
-numbered_from : {X : Type 0} (all xs : List X) (k : ℕ) → ((i : ℕ) (x : X) → slice_get xs i ≡ Some x → slice_get all (k + i) ≡ Some x) → AllByRecursion (IsNumbered all) (enumerate_from (k + 1) xs)
-numbered_from all [] k f = tt
-numbered_from all (x ∷ xs) k f = (
-  (omega arith, ap (slice_get all) (let e : k + 1 - 1 ≡ k + 0 = omega arith in e) ∙ f 0 x refl),
-  numbered_from all xs (k + 1) (λ i y e. ap (slice_get all) (let n : k + 1 + i ≡ k + suc i = omega arith in n) ∙ f (suc i) y e),
-)
-
 pub are_numbered : {X : Type 0} (xs : List X) → AllByRecursion (IsNumbered xs) (enumerate_from 1 xs)
-are_numbered xs = numbered_from xs xs 0 (λ i x e. ap (slice_get xs) (let n : 0 + i ≡ i = omega arith in n) ∙ e)
+are_numbered xs = recursion_from_All (IsNumbered xs) (enumerate_from 1 xs) (λ k d l.
+    let inside : k < length xs = omega (arith, l, length-enumerate_from 1 xs) in
+    let place : 1 + k - 1 ≡ k = omega arith in
+    rw (get_or-enumerate_from 1 xs k d inside) (omega arith, ap (slice_get xs) place ∙ slice_get-get_or xs k d.1 inside))
 
 pub all_at_most : {X : Type 0} (P : X → Type 0) (n : ℕ) (xs : List X) → AllByRecursion P xs → AllByRecursion P (at_most n xs)
 all_at_most P n xs h = cond_both (n == 0) xs (take n xs) (AllByRecursion P) (λ e. h) (λ e. all_take P n xs h)
 
 pub wants_placed : (settings : Settings) (rows : List Row) (ms : List Message) → AllByRecursion (Placed ms) (wants_by_number settings rows ms)
-wants_placed settings rows ms =
-    all_at_most (Placed ms) settings.max_count (offered_by_number settings rows ms)
-    (all_filter (Placed ms) (λ (q : ℕ × Message). asked settings rows q.1) (enumerate_from 1 ms)
-    (all_map (IsNumbered ms) (Placed ms) (λ q h. h.1) (enumerate_from 1 ms) (are_numbered ms)))
+wants_placed settings rows ms = all_at_most (Placed ms) settings.max_count _ (all_filter (Placed ms) _ _ (all_map (IsNumbered ms) _ (λ q h. h.1) _ (are_numbered ms)))
 
 -- ---- texts
 
@@ -154,4 +133,4 @@ begins n limit xs =
     rw (← append_assoc (take n (at_most limit xs)) (drop n (at_most limit xs)) (past_limit limit xs), take-append-drop n (at_most limit xs)) (both_parts limit xs)
 
 pub past-map : {X Y : Type 0} (f : X → Y) (n : ℕ) (xs : List X) → past_limit n (map f xs) ≡ map f (past_limit n xs)
-past-map f n xs = ap (cond (n == 0) []) (drop-map f n xs) ∙ sym (push_cond (map f) (n == 0) [] (drop n xs))
+past-map f n xs = grind (arith, drop-map f n xs)
