@@ -1,5 +1,5 @@
 -- One session that stored something, from a kept state, leaves a kept state and keeps its promises.
-use Rattle.std.proofs.Common.{◌≡◌, ◌⊎◌, inl, inr, ℕ, List, [], ◌++◌, Bool, true, false, not, cond, ◌&&◌, ◌||◌, length, take, map, refl, sym, ◌∙◌, ap, subst, arith}
+use Rattle.std.proofs.Common.{◌≡◌, ◌⊎◌, inl, inr, ℕ, List, [], ◌++◌, Bool, true, false, not, cond, ◌&&◌, ◌||◌, length, take, map, sym, ◌∙◌, ap, subst, arith}
 use Rattle.std.specs.Prelude.{zip}
 use Rattle.std.specs.List.{filter, AllByRecursion}
 use Rattle.std.proofs.lemmas.Bool.{both_ways, or_cases, or_left, and_parts, cases_Bool, false_from_ne_true, cond_both}
@@ -7,13 +7,13 @@ use Rattle.std.proofs.lemmas.List.{append-nil}
 use Rattle.mail_terms.specs.UniqueId.{is_legal_id, has_id}
 use Rattle.pop3_wire.specs.World.{Message}
 use Rattle.fetch_rules.specs.Record.{Row, is_delivered}
-use Rattle.fetch_rules.specs.Wanted.{wanted, candidates}
+use Rattle.fetch_rules.specs.Wanted.{wanted}
 use Rattle.mail_terms.specs.Listing.{has_item}
 use Rattle.mail_store.specs.FileName.{is_held, stem_of}
 use Rattle.run_law.specs.Mails.{ids_of, is_selected, selected, texts_of}
 use Rattle.run_law.specs.Accounts.{AccountMail, files, copies, KeepsOthers}
-use Rattle.run_law.specs.Steps.{Stores, IsHonest, AreTexts, wanted_at, merged_rows, ids_wanted, file_for, is_unheld}
-use Rattle.run_law.specs.Runs.{World, IsSound, State, Visit, HoldsOf, Kept, after_visit, shown, LeavesOut, DeletesHeld, StoresOnlyNew, past_limit}
+use Rattle.run_law.specs.Steps.{Stores, IsHonest, AreTexts, wanted_at, merged_rows, ids_wanted}
+use Rattle.run_law.specs.Runs.{World, IsSound, State, Visit, HoldsOf, Kept, after_visit, shown, LeavesOut, DeletesHeld, StoresOnlyNew}
 use Rattle.run_law.proofs.Core as core
 use Rattle.run_law.proofs.Core.{Scene, IsScene, IsLegal, fetched, added}
 use Rattle.run_law.proofs.Lists.{all_map, all_filter, all_take}
