@@ -1,21 +1,18 @@
 -- In every state a session can end, so the laws over runs aren't empty.
-use Rattle.std.proofs.Common.{◌≡◌, inl, inr, ℕ, List, [], ◌∷◌, ◌++◌, true, not, length, map, take, refl, sym, ◌∙◌, ap, subst, arith, None}
-use Rattle.std.specs.Prelude.{zip}
-use Rattle.std.specs.List.{AllByRecursion, filter}
+use Rattle.std.proofs.Common.{◌≡◌, inl, inr, ℕ, List, [], ◌∷◌, true, not, length, map, take, refl, sym, ◌∙◌, ap, subst, arith, None}
+use Rattle.std.specs.List.{AllByRecursion}
 use Rattle.std.proofs.lemmas.List.{length-map}
 use Rattle.pop3_wire.specs.World.{Message, IsWorld, maildrop_of}
 use Rattle.fetch_rules.specs.Wanted.{wanted, DistinctAreFiltered}
-use Rattle.fetch_rules.specs.Record.{Row, merged, marked_all}
+use Rattle.fetch_rules.specs.Record.{Row, merged}
 use Rattle.rc_file.specs.declared.settings.Settings.{Settings}
-use Rattle.mail_store.specs.Maildir.{File}
 use Rattle.mail_store.specs.Held.{flags_of}
-use Rattle.mail_terms.specs.Listing.{Item}
 use Rattle.mail_terms.specs.UniqueId.{has_id}
 use Rattle.run_law.specs.Mails.{listing_of}
 use Rattle.run_law.specs.Accounts.{AccountMail}
-use Rattle.run_law.specs.Steps.{Effect, Stores, IsHonest, AreTexts, ids_wanted, file_for, is_unheld}
+use Rattle.run_law.specs.Steps.{Effect, Stores, IsHonest, AreTexts}
 use Rattle.run_law.specs.Runs.{CanEnd}
-use Rattle.run_law.specs.Mboxes.{MboxMail, settled, none_held, entries, MboxStores}
+use Rattle.run_law.specs.Mboxes.{MboxMail, settled, none_held, MboxStores}
 use Rattle.run_law.specs.MboxRuns.{MboxCanEnd}
 use Rattle.run_law.proofs.Ids.{distinct_is, distinct_filter, distinct_take}
 use Rattle.run_law.proofs.Wants.{num_item, wants_by_number, wanted_are, wants_placed, Placed}

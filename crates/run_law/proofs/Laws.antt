@@ -1,5 +1,5 @@
 -- The law over runs, by induction over the events.
-use Rattle.std.proofs.Common.{◌≡◌, ◌⊎◌, inl, inr, ℕ, List, [], ◌∷◌, ◌++◌, true, length, take, sym, ◌∙◌, ap, subst, arith, length-append}
+use Rattle.std.proofs.Common.{◌≡◌, ◌⊎◌, inl, inr, ℕ, List, [], ◌∷◌, true, length, take, sym, ◌∙◌, ap, subst, arith, length-append}
 use Rattle.std.specs.List.{AllByRecursion}
 use Rattle.std.proofs.lemmas.Bool.{both_ways}
 use Rattle.std.proofs.lemmas.List.{append-nil}
@@ -9,8 +9,7 @@ use Rattle.fetch_rules.specs.Record.{is_delivered}
 use Rattle.mail_store.specs.FileName.{is_held, stem_of}
 use Rattle.run_law.specs.Mails.{ids_of, selected, texts_of}
 use Rattle.run_law.specs.Accounts.{AccountMail, files, copies, count_files}
-use Rattle.run_law.specs.Steps.{Effect, Leaves}
-use Rattle.run_law.specs.Runs.{World, IsSound, State, Visit, Event, Fetched, Between, Expired, Withdrawn, TakenAway, BroughtBack, Forgotten, PowerLost, Visits, Run, HoldsOf, Kept, LeavesMail, after_event, after_visit, world_after, Promises, KeptStaysKept, KeptHoldsWhatIsLeft, NothingTakenHoldsExactly}
+use Rattle.run_law.specs.Runs.{World, IsSound, State, Visit, Event, Fetched, Between, Expired, Withdrawn, TakenAway, BroughtBack, Forgotten, PowerLost, Run, HoldsOf, Kept, after_event, after_visit, world_after, Promises, KeptStaysKept, KeptHoldsWhatIsLeft, NothingTakenHoldsExactly}
 use Rattle.run_law.proofs.Below.{Below}
 use Rattle.run_law.proofs.Lists.{front_is}
 use Rattle.run_law.proofs.Holds.{held_is_done, one_file}

@@ -12,15 +12,15 @@ use Rattle.mail_terms.specs.Text.{IsWhole}
 use Rattle.pop3_wire.specs.World.{Message, IsMessage, IsWorld}
 use Rattle.fetch_rules.specs.Record.{Row, is_delivered, has_row, marked, marked_all}
 use Rattle.fetch_rules.specs.Intents.{closed_rows}
-use Rattle.fetch_rules.specs.Wanted.{DistinctAreFiltered, wanted, candidates}
+use Rattle.fetch_rules.specs.Wanted.{DistinctAreFiltered, wanted}
 use Rattle.mail_terms.specs.Listing.{Item, has_item}
 use Rattle.mail_store.specs.Mboxrd.{entry_of, MboxFile, EntryAddsText}
 use Rattle.mail_store.specs.Settling.{listed_size, stands_whole, settled_file, FrontsAreSettled}
 use Rattle.run_law.specs.Mails.{ids_of, is_selected, selected}
 use Rattle.run_law.specs.Steps.{IsHonest, AreTexts, ids_wanted}
-use Rattle.run_law.specs.Runs.{Visit, past_limit}
+use Rattle.run_law.specs.Runs.{Visit}
 use Rattle.run_law.specs.Mboxes.{MboxMail, is_stored, closed_file, settled, mbox_rows, mbox_wanted, none_held, entries, intent_of, IsClosed, IsOpen, IsBroken, MboxLeaves, MboxStores}
-use Rattle.run_law.specs.MboxRuns.{MboxState, MboxWorld, MboxVisits, MboxKept, MboxEnds, MboxPromises, HasEntry, IsNextOpen, after_visit, mbox_shown, entries_of, MboxEvent, Fetched, Between, Expired, Withdrawn, Rewritten, MboxHappens, MboxPromised, after_mbox_event, mbox_world_after, MboxKeptStaysKept, MboxKeptHolds}
+use Rattle.run_law.specs.MboxRuns.{MboxState, MboxWorld, MboxKept, MboxEnds, HasEntry, IsNextOpen, after_visit, mbox_shown, entries_of, MboxEvent, Fetched, Between, Expired, Withdrawn, Rewritten, MboxHappens, MboxPromised, after_mbox_event, mbox_world_after, MboxKeptStaysKept, MboxKeptHolds}
 use Rattle.run_law.proofs.Core as core
 use Rattle.run_law.proofs.Core.{Scene, IsScene, fetched}
 use Rattle.run_law.proofs.Lists.{all_map, all_parts, all_mapped, all_take, all_filter}

@@ -1,5 +1,5 @@
 -- What happens between sessions leads from a kept state to a kept state.
-use Rattle.std.proofs.Common.{◌≡◌, inl, inr, List, ℕ, ◌++◌, Bool, true, false, not, sym, ◌∙◌, ap, arith}
+use Rattle.std.proofs.Common.{◌≡◌, inl, inr, List, ℕ, ◌++◌, Bool, true, not, sym, ◌∙◌, ap, arith}
 use Rattle.std.specs.Prelude.{bytes_eq}
 use Rattle.std.specs.List.{AllByRecursion, filter}
 use Rattle.std.proofs.lemmas.Bool.{cases_Bool, false_from_ne_true}

@@ -1,5 +1,5 @@
 -- No server makes a session lose a text, or delete a message that isn't known.
-use Rattle.std.proofs.Common.{◌≡◌, inl, inr, ◌≤◌, ◌<◌, ◌-◌, ℕ, zero, suc, Bool, true, cond, not, ◌&&◌, List, [], ◌∷◌, ◌++◌, map, take, zip, length, refl, sym, ap, subst, ◌∙◌, arith, append_assoc}
+use Rattle.std.proofs.Common.{◌≡◌, inl, inr, ◌≤◌, ◌<◌, ◌-◌, ℕ, zero, suc, Bool, true, not, ◌&&◌, List, [], ◌∷◌, ◌++◌, map, take, zip, length, refl, sym, ap, subst, ◌∙◌, arith, append_assoc}
 use Rattle.std.specs.Prelude.{bytes_eq, ◌⊎◌, Some, slice_get}
 use Rattle.std.specs.List.{filter, AllByRecursion}
 use Rattle.std.proofs.lemmas.Bool.{or_cases, or_left, or_right, and_parts, cases_Bool, true≢false}
@@ -15,8 +15,8 @@ use Rattle.mail_store.specs.FileName.{is_held, mail_file}
 use Rattle.mail_store.specs.Mboxrd.{entry_of}
 use Rattle.mail_terms.specs.UniqueId.{has_id}
 use Rattle.run_law.specs.Accounts.{AccountMail}
-use Rattle.run_law.specs.Steps.{Effect, Leaves, Stores, file_for, is_unheld, ids_wanted, wanted_at, merged_rows}
-use Rattle.run_law.specs.Sessions.{IsBegun, BeginsOne, SendsOnly}
+use Rattle.run_law.specs.Steps.{Effect, Stores, file_for, is_unheld, ids_wanted, wanted_at, merged_rows}
+use Rattle.run_law.specs.Sessions.{IsBegun, SendsOnly}
 use Rattle.pop3_wire.specs.declared.command.Command.{Command}
 use Rattle.pop3_wire.specs.declared.command.Command.TheVariants.{Dele}
 use Rattle.run_law.specs.Safety.{IsAmong, DeletesSaved, SessionsAreSafe}

@@ -1,5 +1,5 @@
 -- One session that stored something, from a kept state, leaves a kept state and keeps its promises.
-use Rattle.std.proofs.Common.{◌≡◌, ◌⊎◌, inl, inr, ℕ, List, [], ◌++◌, Bool, true, false, not, cond, ◌&&◌, ◌||◌, length, take, map, refl, sym, ◌∙◌, ap, subst, arith}
+use Rattle.std.proofs.Common.{◌≡◌, ◌⊎◌, inl, inr, ℕ, List, [], ◌++◌, Bool, true, false, not, cond, ◌&&◌, ◌||◌, length, take, map, sym, ◌∙◌, ap, subst, arith}
 use Rattle.std.specs.Prelude.{zip}
 use Rattle.std.specs.List.{filter, AllByRecursion}
 use Rattle.std.proofs.lemmas.Bool.{both_ways, or_cases, or_left, and_parts, cases_Bool, false_from_ne_true, cond_both}
@@ -7,13 +7,13 @@ use Rattle.std.proofs.lemmas.List.{append-nil}
 use Rattle.mail_terms.specs.UniqueId.{is_legal_id, has_id}
 use Rattle.pop3_wire.specs.World.{Message}
 use Rattle.fetch_rules.specs.Record.{Row, is_delivered}
-use Rattle.fetch_rules.specs.Wanted.{wanted, candidates}
+use Rattle.fetch_rules.specs.Wanted.{wanted}
 use Rattle.mail_terms.specs.Listing.{has_item}
 use Rattle.mail_store.specs.FileName.{is_held, stem_of}
 use Rattle.run_law.specs.Mails.{ids_of, is_selected, selected, texts_of}
 use Rattle.run_law.specs.Accounts.{AccountMail, files, copies, KeepsOthers}
-use Rattle.run_law.specs.Steps.{Stores, IsHonest, AreTexts, wanted_at, merged_rows, ids_wanted, file_for, is_unheld}
-use Rattle.run_law.specs.Runs.{World, IsSound, State, Visit, HoldsOf, Kept, after_visit, shown, LeavesOut, DeletesHeld, StoresOnlyNew, past_limit}
+use Rattle.run_law.specs.Steps.{Stores, IsHonest, AreTexts, wanted_at, merged_rows, ids_wanted}
+use Rattle.run_law.specs.Runs.{World, IsSound, State, Visit, HoldsOf, Kept, after_visit, shown, LeavesOut, DeletesHeld, StoresOnlyNew}
 use Rattle.run_law.proofs.Core as core
 use Rattle.run_law.proofs.Core.{Scene, IsScene, IsLegal, fetched, added}
 use Rattle.run_law.proofs.Lists.{all_map, all_filter, all_take}
@@ -83,14 +83,14 @@ module _ (laws : Below) (world : World) (is : IsSound world) (before : State Acc
   legal_delivered = all_filter IsLegal (λ (m : Message). not (held m.uid)) got (all_take IsLegal s.stored (fetched scene) (core.legal_fetched scene is_scene))
 
   files_are : files v.after ≡ files before.account ++ map (message_file world.account) delivered
-  files_are = s.came ∙ rw (zipped_is, stored_files world.account before.account.maildir (take s.stored (wants_by_number v.settings rows here)),
-      core.taken_is scene is_scene s.stored)
+  files_are = s.came ∙ rw zipped_is (rw (stored_files world.account before.account.maildir (take s.stored (wants_by_number v.settings rows here)))
+      (rw (core.taken_is scene is_scene s.stored)))
 
   pub copies_are : (id : List ℕ) → is_legal_id id ≡ true → copies (files v.after) (stem_of world.account id)
       ≡ copies (files before.account) (stem_of world.account id) ++ cond (not (held id)) (texts_of got id) []
   copies_are id l = ap (λ f. copies f (stem_of world.account id)) files_are
-      ∙ rw (copies-append (files before.account) (map (message_file world.account) delivered) (stem_of world.account id),
-      copies_messages laws.differ laws.stems laws.own world.account delivered id is.account l legal_delivered, texts_filtered (λ x. not (held x)) got id)
+      ∙ rw (copies-append (files before.account) (map (message_file world.account) delivered) (stem_of world.account id))
+      (rw (copies_messages laws.differ laws.stems laws.own world.account delivered id is.account l legal_delivered) (rw (texts_filtered (λ x. not (held x)) got id)))
 
   texts_after : (id : List ℕ) → texts_of (kept.done ++ stored) id ≡ texts_of kept.done id ++ cond (not (core.is_done scene id)) (texts_of got id) []
   texts_after id = texts-append kept.done stored id ∙ ap (λ t. texts_of kept.done id ++ t) (texts_filtered (λ x. not (core.is_done scene x)) got id)

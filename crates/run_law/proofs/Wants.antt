@@ -1,5 +1,5 @@
 -- Which messages of a maildrop are wanted, and which texts belong to them.
-use Rattle.std.proofs.Common.{◌≡◌, ◌≤◌, ◌<◌, ◌+◌, ◌-◌, ℕ, zero, suc, List, [], ◌∷◌, ◌++◌, Bool, not, cond, ◌&&◌, ◌||◌, ◌==◌, length, take, drop, map, refl, sym, ◌∙◌, ap, subst, arith, append_assoc, take-append-drop, Some, slice_get}
+use Rattle.std.proofs.Common.{◌≡◌, ◌≤◌, ◌<◌, ◌+◌, ◌-◌, ℕ, zero, suc, List, [], ◌∷◌, ◌++◌, Bool, not, ◌&&◌, ◌||◌, ◌==◌, length, take, drop, map, refl, sym, ◌∙◌, ap, subst, arith, append_assoc, take-append-drop, Some, slice_get}
 use Rattle.std.specs.Prelude.{bytes_eq, zip}
 use Rattle.std.specs.List.{filter, enumerate_from, AllByRecursion}
 use Rattle.std.proofs.lemmas.Bool.{cond_both}
