@@ -1,5 +1,5 @@
 -- A session sends only commands that a server answers honestly.
-use Rattle.std.proofs.Common.{◌≡◌, inl, inr, ◌⊎◌, ℕ, suc, Some, List, [], ◌∷◌, ◌++◌, Bool, true, refl, sym, ap, subst, ◌∙◌, ◌<◌, arith}
+use Rattle.std.proofs.Common.{◌≡◌, inl, inr, ℕ, suc, Some, List, [], ◌∷◌, ◌++◌, Bool, true, refl, sym, ap, subst, ◌∙◌, ◌<◌, arith}
 use Rattle.std.specs.String.{string_bytes}
 use Rattle.std.specs.List.{flat_map, AllByRecursion}
 use Rattle.pop3_wire.specs.declared.command.Command.{Command}
@@ -149,10 +149,11 @@ module _ {M : Type 0} (sound : M → Type 0) (mail : M → Mail) (honesty : Give
       sends : Session settings account now unused before report loop.link after → Sends settings loop.link
       sends session =
           let said = conversations settings account now unused before report loop.link after valid session in
-          (said.0, said.2, elim said.4 [
+          let follows : FollowsPlan settings said.0 = elim said.4 [
             | inl opens ↦ record { steps = []; commands = opens.commands; asked = opens.asked; front = opens.front }
             | inr plan ↦ record { steps = planned settings plan.rows plan.items now; commands = plan.commands; asked = plan.asked; front = plan.front }
-          ])
+          ] in
+          (said.0, said.2, follows)
 
   pub mbox_fetches : MboxSessionsFollowPlans → (settings : Settings) (now : ℕ) (server new : Machine M) (start loop : Loop M) (before : MboxAccountFiles) (report : Report) (after : MboxAccountFiles)
       → start ≡ loop_to server → new ≡ loop.machine → IsNew (loop_to server) → IsValid settings → Serves sound mail start loop

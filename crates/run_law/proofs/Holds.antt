@@ -9,7 +9,7 @@ use Rattle.run_law.specs.Mails.{ids_of, selected}
 use Rattle.run_law.specs.Accounts.{AccountMail, files, copies}
 use Rattle.run_law.specs.Runs.{World, State, HoldsOf, IsNeither, StartsKept}
 use Rattle.run_law.proofs.Lists.{is_some}
-use Rattle.run_law.proofs.Ids.{Distinct, lone}
+use Rattle.run_law.proofs.Ids.{Distinct, has_texts, lone}
 use Rattle.run_law.proofs.Files.{held_done, held_copies}
 
 module _ (world : World) (state : State AccountMail) where
@@ -21,24 +21,18 @@ module _ (world : World) (state : State AccountMail) where
   unheld_if id none = held_copies world.account state.account id ∙ ap is_some none
 
   pub held_is_done : (done : List Message) (id : List ℕ) → HoldsOf world state done id → held id ≡ true → has_id (ids_of done) id ≡ true
-  held_is_done done id (inl e) h = sym (held_done world.account state.account done id e) ∙ h
-  held_is_done done id (inr taken) h = absurd (both_ways (held id) (unheld_if id taken.1) h)
+  held_is_done done id holds h = grind (arith, holds, h, held_copies world.account state.account id, has_texts done id)
 
   pub done_is_held : (done : List Message) (id : List ℕ) → HoldsOf world state done id → has_id (ids_of done) id ≡ true
       → (held id ≡ true) ⊎ (has_id state.taken id ≡ true)
-  done_is_held done id (inl e) h = inl (held_done world.account state.account done id e ∙ h)
-  done_is_held done id (inr taken) h = inr taken.0
+  done_is_held done id holds h = grind (arith, holds, h, held_copies world.account state.account id, has_texts done id)
 
   pub not_neither : (done : List Message) (id : List ℕ) → HoldsOf world state done id → has_id (ids_of done) id ≡ true
       → IsNeither world.account state.account.maildir state.taken id → ⊥
-  not_neither done id holds is neither = elim (done_is_held done id holds is) [
-    | inl there ↦ both_ways (held id) neither.0 there
-    | inr taken ↦ both_ways (has_id state.taken id) neither.1 taken
-  ]
+  not_neither done id holds is neither = grind (arith, done_is_held done id holds is, neither)
 
   pub one_file : (done : List Message) (id : List ℕ) → Distinct (ids_of done) → HoldsOf world state done id → length (copies (files state.account) (stem_of world.account id)) ≤ 1
-  one_file done id d (inl e) = subst (λ (c : List (List ℕ)). length c ≤ 1) (sym e) (lone done id d)
-  one_file done id d (inr taken) = subst (λ (c : List (List ℕ)). length c ≤ 1) (sym taken.1) (omega arith)
+  one_file done id d holds = grind (arith, holds, lone done id d)
 
 -- ---- the first state
 

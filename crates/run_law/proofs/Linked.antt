@@ -26,9 +26,7 @@ set_marks (b ∷ marks) (suc i) (suc place) e = grind (arith, set_marks marks i 
 set_marks (b ∷ marks) i place e = grind arith
 
 none_true : {X : Type 0} (xs : List X) (place : ℕ) → slice_get (map (λ _. false) xs) place ≡ Some true → ⊥
-none_true [] place e = absurd cc
-none_true (x ∷ xs) zero e = absurd cc
-none_true (x ∷ xs) (suc place) e = none_true xs place e
+none_true {X} xs place e = grind (arith, slice_get-map (λ (x : X). false) xs place)
 
 -- the number was marked before, or a DELE of it is among the commands
 abbrev IsAsked : List Command → ℕ → Type 0

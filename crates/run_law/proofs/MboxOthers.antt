@@ -60,7 +60,7 @@ module _ (world : MboxWorld) (before : MboxState MboxMail) (ids : List (List ℕ
       | inl closed ↦ inl closed
       | inr o ↦
           let stay : stays o.next ≡ true = ap not (false_from_ne_true (has_id ids o.next.uid) (λ withdrawn. both_ways (bytes_eq o.next.uid o.next.uid)
-              ((all_ids_at (IsUnbegun before.account) ids o.next.uid all withdrawn).1 _ o.opened.intent) (bytes_self o.next.uid))) in
+          ((all_ids_at (IsUnbegun before.account) ids o.next.uid all withdrawn).1 _ o.opened.intent) (bytes_self o.next.uid))) in
           inr (record { next = o.next; more = without ids o.more; is_next = ap (filter stays) o.is_next ∙ rw stay; opened = o.opened; row = o.row })
     ];
   }

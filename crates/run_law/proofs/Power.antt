@@ -57,9 +57,7 @@ module _ (world : World) (is : IsSound world) (before : State AccountMail) (afte
 
   -- the files of these messages, of which none is the last that was stored
   still_holds : (ms : List Message) (id : List ℕ) → (IsLastStored world before id → has_id (ids_of ms) id ≡ false) → HoldsOf world before ms id → StayOrGo id → HoldsOf world left ms id
-  still_holds ms id absent was (inl same) = rw same was
-  still_holds ms id absent was (inr (none, inl taken)) = inr (taken, none)
-  still_holds ms id absent was (inr (none, inr lastly)) = inl (none ∙ sym (no_texts ms id (absent lastly)))
+  still_holds ms id absent was goes = grind (arith, was, goes, λ (lastly : IsLastStored world before id). no_texts ms id (absent lastly))
 
   -- nothing of what is done is gone
   all_done : ((id : List ℕ) → is_legal_id id ≡ true → HoldsOf world left kept.done id) → Kept world left

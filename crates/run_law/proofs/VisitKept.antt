@@ -83,14 +83,14 @@ module _ (laws : Below) (world : World) (is : IsSound world) (before : State Acc
   legal_delivered = all_filter IsLegal (λ (m : Message). not (held m.uid)) got (all_take IsLegal s.stored (fetched scene) (core.legal_fetched scene is_scene))
 
   files_are : files v.after ≡ files before.account ++ map (message_file world.account) delivered
-  files_are = s.came ∙ rw (zipped_is, stored_files world.account before.account.maildir (take s.stored (wants_by_number v.settings rows here)),
-      core.taken_is scene is_scene s.stored)
+  files_are = s.came ∙ rw zipped_is (rw (stored_files world.account before.account.maildir (take s.stored (wants_by_number v.settings rows here)))
+      (rw (core.taken_is scene is_scene s.stored)))
 
   pub copies_are : (id : List ℕ) → is_legal_id id ≡ true → copies (files v.after) (stem_of world.account id)
       ≡ copies (files before.account) (stem_of world.account id) ++ cond (not (held id)) (texts_of got id) []
   copies_are id l = ap (λ f. copies f (stem_of world.account id)) files_are
-      ∙ rw (copies-append (files before.account) (map (message_file world.account) delivered) (stem_of world.account id),
-      copies_messages laws.differ laws.stems laws.own world.account delivered id is.account l legal_delivered, texts_filtered (λ x. not (held x)) got id)
+      ∙ rw (copies-append (files before.account) (map (message_file world.account) delivered) (stem_of world.account id))
+      (rw (copies_messages laws.differ laws.stems laws.own world.account delivered id is.account l legal_delivered) (rw (texts_filtered (λ x. not (held x)) got id)))
 
   texts_after : (id : List ℕ) → texts_of (kept.done ++ stored) id ≡ texts_of kept.done id ++ cond (not (core.is_done scene id)) (texts_of got id) []
   texts_after id = texts-append kept.done stored id ∙ ap (λ t. texts_of kept.done id ++ t) (texts_filtered (λ x. not (core.is_done scene x)) got id)
