@@ -23,8 +23,8 @@ use Rattle.fetch_runs.specs.Power.{AllMayBeOnDisk, CanLosePower, IsSure, IsSureO
 use Rattle.fetch_runs.specs.PowerRuns.{AsMuchIsSure, CanAlwaysLosePower, EventOn, EventsKeepPower, HeadlineOn, IsRunOn, KeepsSure, TakingsRunOn, events_of}
 use Rattle.fetch_runs.proofs.HeadlineLemmas.{sound_after}
 use Rattle.fetch_runs.proofs.PowerLosses.{held_file, named_in, named_some}
-use Rattle.fetch_runs.proofs.PowerTakings.{contains_part, held_some, same_or_taken, stay_taken, two_in}
-use Rattle.fetch_runs.proofs.Takings.{LeaveParts, some_held, takings_leave_parts}
+use Rattle.fetch_runs.proofs.PowerTakings.{contains_part, same_or_taken, stay_taken, two_in}
+use Rattle.fetch_runs.proofs.Takings.{LeaveParts, held_some, some_held, takings_leave_parts}
 
 -- the laws that are used
 pub record EventLaws {D F : Type 0} (disk : DiskGhosts D) (files : FileGhosts F) : Type 0 where
@@ -70,7 +70,7 @@ module _ (one : OneRecord) {D F : Type 0} (disk : DiskGhosts D) (files : FileGho
 
   -- a message is held where its files hold what they held
   held_back : (after : AccountFiles) (id : List ℕ) → contents_of world after id ≡ contents_of world state.account id → is_held account after.maildir id ≡ true → is_held account state.account.maildir id ≡ true
-  held_back after id same held = some_held account id state.account.maildir.files (λ none. held_some account id after.maildir.files held (same ∙ none))
+  held_back after id same held = some_held account id state.account.maildir.files (λ none. held_some (stem_of account id) after.maildir.files held (same ∙ none))
 
   not_held : (after : AccountFiles) (id : List ℕ) → contents_of world after id ≡ contents_of world state.account id → is_held account state.account.maildir id ≡ false → is_held account after.maildir id ≡ false
   not_held after id same not = false_from_ne_true (is_held account after.maildir id) (λ held. both_ways (is_held account state.account.maildir id) not (held_back after id same held))
