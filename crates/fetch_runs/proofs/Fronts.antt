@@ -1,10 +1,11 @@
 -- A session that is stopped between two of its tasks is a session too.
-use Rattle.std.proofs.Common.{◌≡◌, ◌≢◌, ◌≤◌, inl, inr, ◌+◌, ℕ, List, [], ◌∷◌, ◌++◌, map, length, refl, sym, ap, subst, ◌∙◌, append_assoc, arith, None}
+use Rattle.std.proofs.Common.{◌≡◌, ◌≤◌, inl, inr, ◌+◌, ℕ, List, [], ◌∷◌, ◌++◌, map, length, refl, sym, ap, subst, ◌∙◌, append_assoc, arith, None}
 use Rattle.std.specs.Prelude.{Result, Ok, Err}
 use Rattle.std.specs.String.{string_bytes}
 use Rattle.std.specs.List.{AllByRecursion, AllZip, flat_map}
 use Rattle.std.proofs.lemmas.List.{append-nil, map-append}
 use Rattle.std.proofs.lemmas.List.Concat.{flat_map-append}
+use Rattle.std.proofs.lemmas.List.Folds.{flat_map-map}
 use Rattle.pop3_wire.specs.Link.{Link}
 use Rattle.pop3_wire.specs.Place.{Place, at}
 use Rattle.pop3_wire.specs.Reading.{WholeReply, reply_bytes}
@@ -27,13 +28,11 @@ use Rattle.fetch_session.specs.Store.{Gained}
 use Rattle.fetch_session.specs.Target.{AsFiles, Stores, in_maildir}
 use Rattle.fetch_session.specs.Task.{Done, IsAnswered, Task, delivered, file_from, files_in, files_of, ids_of, lines_of, replies_of, task_in, tasks_of, turns_in, turns_of}
 use Rattle.fetch_session.specs.declared.fault.Cut.{Cut}
-use Rattle.fetch_session.specs.declared.fault.Fault.{Fault}
 use Rattle.fetch_session.specs.declared.fault.Fault.TheVariants.{SeenRefused, WriteFailed}
 use Rattle.fetch_session.specs.declared.report.Outcome.TheVariants.{Ended, Cut as WasCut}
 use Rattle.fetch_session.specs.declared.report.Report.{Report}
 use Rattle.fetch_session.specs.declared.report.Skips.{Skips}
 use Rattle.fetch_session.specs.Account.{digits_of}
-use Rattle.fetch_session.specs.declared.report.Outcome.{Outcome}
 use Rattle.pop3_wire.specs.World.{Message}
 use Rattle.rc_file.specs.Settings.{IsValid}
 use Rattle.run_law.specs.Readings.{HonestIsGranted}
@@ -75,10 +74,6 @@ uncut_sessions_do_tasks settings account now link before report link' after s en
 all_good : (dones : List Done) → AllByRecursion IsAnswered dones → AllZip IsGood (turns_of dones) (replies_of dones)
 all_good [] h = tt
 all_good (d ∷ ds) h = zip_both IsGood (turns_in d.task) d.replies (turns_of ds) (replies_of ds) h.0 (all_good ds h.1)
-
-turns_are : (dones : List Done) → flat_map turns_in (tasks_of dones) ≡ turns_of dones
-turns_are [] = refl
-turns_are (d ∷ ds) = ap (λ l. turns_in d.task ++ l) (turns_are ds)
 
 -- these turns were sent, and no more than these replies came
 abbrev heard_at : List Turn → List WholeReply → Link → Place
@@ -366,7 +361,7 @@ module _ (joins : TurnsJoin) (settings : Settings) (account : List ℕ) (now : �
     plain = subst (AllByRecursion IsPlain) (u.tasks ∙ ap tasks_of split) (plain_ahead settings (AsFiles account) u.items now (in_maildir before.maildir) u.ready.rows few)
 
     turns_parted : flat_map turns_in (tasks_of (front ++ next ∷ back)) ≡ turns_of front ++ turns_of (next ∷ back)
-    turns_parted = turns_are (front ++ next ∷ back) ∙ flat_map-append (λ (d : Done). turns_in d.task) front (next ∷ back)
+    turns_parted = flat_map-map turns_in task_in (front ++ next ∷ back) ∙ flat_map-append (λ (d : Done). turns_in d.task) front (next ∷ back)
 
     can_all : AllByRecursion CanBeSaid (turns_of front ++ turns_of (next ∷ back))
     can_all = subst (AllByRecursion CanBeSaid) turns_parted (said_tasks (tasks_of (front ++ next ∷ back)) plain)
@@ -409,35 +404,21 @@ module _ (joins : TurnsJoin) (settings : Settings) (account : List ℕ) (now : �
           (flat_map reply_bytes (replies_of back) ++ waits) ((within keeps is).sent.1 ∙ ap (λ l. l ++ asking (turns_of back)) cut_sent)
           ((within keeps is).got.1 ∙ ap (λ l. l ++ (flat_map reply_bytes (replies_of back) ++ waits)) cut_got) served cut_sent cut_got
 
-was_cut : (fault : Fault) (outcome : Outcome) → outcome ≡ WasCut fault → outcome ≢ Ended
-was_cut fault outcome is ended = absurd cc
+    -- what is left there a session left that was cut, and what its link gained is served
+    found : SteadyFilesKeep → IsLeftBetween account before u.ready front next left ⊎ IsLeftWithin account before u.ready front next left
+        → (there : IsCutThere settings account now link before link' u.items u.ready left)
+        × ((sent got : List ℕ) → there.cut.sent ≡ link.sent ++ sent → there.cut.got ≡ link.got ++ got → Served drop sent got [])
+    found keeps (inl here) = (between here, served_between)
+    found keeps (inr here) = (within keeps here, served_within keeps here)
 
 pub fronts_are_sessions : SteadyFilesKeep → TurnsJoin → HonestIsGranted → FrontsAreSessions
-fronts_are_sessions keeps joins granted world state occasion is u front back next left split (inl here) =
-    let there = between joins occasion.settings (digits_of occasion.settings) occasion.now occasion.link state.account occasion.link' occasion.after u front back next left split here in (
-      there,
+fronts_are_sessions keeps joins granted world state occasion is u front back next left split here =
+    let there = found joins occasion.settings (digits_of occasion.settings) occasion.now occasion.link state.account occasion.link' occasion.after
+    u front back next left split granted is.settings.valid (maildrop_at world state occasion) occasion.vanished is.served keeps here in (
+      there.0,
       λ report told. record {
-        session = record {
-          settings = is.settings;
-          session = there.session report told;
-          served = served_between joins occasion.settings (digits_of occasion.settings) occasion.now occasion.link state.account occasion.link' occasion.after u front back next left split granted
-              is.settings.valid (maildrop_at world state occasion) occasion.vanished is.served;
-        };
-        cut = was_cut there.fault report.outcome told.outcome_is;
-        files = there.files;
-      },
-    )
-fronts_are_sessions keeps joins granted world state occasion is u front back next left split (inr here) =
-    let there = within joins occasion.settings (digits_of occasion.settings) occasion.now occasion.link state.account occasion.link' occasion.after u front back next left split keeps here in (
-      there,
-      λ report told. record {
-        session = record {
-          settings = is.settings;
-          session = there.session report told;
-          served = served_within joins occasion.settings (digits_of occasion.settings) occasion.now occasion.link state.account occasion.link' occasion.after u front back next left split granted
-              is.settings.valid (maildrop_at world state occasion) occasion.vanished is.served keeps here;
-        };
-        cut = was_cut there.fault report.outcome told.outcome_is;
-        files = there.files;
+        session = record { settings = is.settings; session = there.0.session report told; served = there.1 };
+        cut = λ ended. absurd (cc (told.outcome_is, ended));
+        files = there.0.files;
       },
     )
