@@ -63,6 +63,10 @@ made_all olds news i ran past same all held =
 
 -- ---- what is promised of them
 
+-- so what is promised of them holds
+pub promised_of : {A B C D E : Type 0} → A × (B × C) × D → (D → E) → A × B × C × D × E
+promised_of made promised = (made.0, made.1.0, made.1.1, made.2, promised made.2)
+
 -- what readers take away leaves the mail of the server as it is
 takings_leave : (world : World) (events : List (Event Occasion AccountFiles)) → AreTakings events → world_left world events ≡ world
 takings_leave world [] takings = refl

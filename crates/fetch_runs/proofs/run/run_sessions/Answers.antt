@@ -11,7 +11,7 @@ use Rattle.mail_store.specs.Maildir.{AfterTaking, Maildir}
 use Rattle.fetch_runs.specs.MboxRuns.{mbox_state}
 use Rattle.fetch_runs.specs.Runs.{world_of, state_of}
 use Rattle.fetch_runs.specs.declared.run.Visit.{Visit}
-use Rattle.fetch_runs.proofs.RunLemmas.{ran_next, others_stay, made_all, runs_promised, mbox_runs_promised}
+use Rattle.fetch_runs.proofs.RunLemmas.{ran_next, others_stay, made_all, promised_of, runs_promised, mbox_runs_promised}
 use Rattle.fetch_runs.proofs.run.run_sessions.Goals as goal
 
 pub loop-i-preserved : goal.loop-i-preserved
@@ -54,31 +54,19 @@ loop-i-preserved g c =
     )
 
 pub returns-clause-runs : goal.returns-clause-runs
-returns-clause-runs g c = λ sound disk file.
-    let inv = c.loop-i.invariant in
-    let made = made_all c.args.visits.now c.loop-i.visits c.loop-i.i inv.5 (omega (arith, c.loop-i-test.false)) inv.3 sound (disk, file) in (
-      made.0,
-      made.1.0,
-      made.1.1,
-      made.2,
-      λ all gone taken facts mail is_kept served.
-          runs_promised c.headline.ensures c.takings_are_events.ensures g.W.Wire.history c.args.account.now.settings (world_of c.args.account.now.settings all) c.args.visits.now
-          (state_of (account_files (maildir_of g.D.MaildirDisk c.args.account.now.store) (g.F.FlatFile.stored c.args.account.now.file)) gone taken) c.loop-i.reports.items c.loop-i.visits facts
-          (account_files (maildir_of g.D.MaildirDisk c.loop-i.account.store) (g.F.FlatFile.stored c.loop-i.account.file))
-          (record { account = c.account_texts_are_digits.ensures _ _ _; mail = mail })
-          (record { valid = subst IsValid c.settings.ensures.value c.settings.ensures.valid; account = refl; max_size = refl }) is_kept served made.2,
-    )
+returns-clause-runs g c = λ sound disk file. promised_of
+    (made_all c.args.visits.now c.loop-i.visits c.loop-i.i c.loop-i.invariant.5 (omega (arith, c.loop-i-test.false)) c.loop-i.invariant.3 sound (disk, file))
+    (λ made all gone taken facts mail is_kept served.
+    runs_promised c.headline.ensures c.takings_are_events.ensures g.W.Wire.history c.args.account.now.settings (world_of c.args.account.now.settings all) c.args.visits.now
+    (state_of (account_files (maildir_of g.D.MaildirDisk c.args.account.now.store) (g.F.FlatFile.stored c.args.account.now.file)) gone taken) c.loop-i.reports.items c.loop-i.visits facts
+    (account_files (maildir_of g.D.MaildirDisk c.loop-i.account.store) (g.F.FlatFile.stored c.loop-i.account.file))
+    (record { account = c.account_texts_are_digits.ensures _ _ _; mail = mail })
+    (record { valid = subst IsValid c.settings.ensures.value c.settings.ensures.valid; account = refl; max_size = refl }) is_kept served made)
 
 pub returns-clause-mbox_runs : goal.returns-clause-mbox_runs
-returns-clause-mbox_runs g c = λ sound disk file.
-    let inv = c.loop-i.invariant in
-    let made = made_all c.args.visits.now c.loop-i.visits c.loop-i.i inv.6 (omega (arith, c.loop-i-test.false)) inv.3 sound (disk, file) in (
-      made.0,
-      made.1.0,
-      made.1.1,
-      made.2,
-      λ world gone facts mail are is_kept served.
-          mbox_runs_promised c.mbox_headline.ensures g.W.Wire.history c.args.account.now.settings world c.args.visits.now
-          (mbox_state (mbox_account_files (mbox_of g.F.FlatFile c.args.account.now.store) (g.F.FlatFile.stored c.args.account.now.file)) gone) c.loop-i.reports.items c.loop-i.visits facts
-          (mbox_account_files (mbox_of g.F.FlatFile c.loop-i.account.store) (g.F.FlatFile.stored c.loop-i.account.file)) mail are is_kept served made.2,
-    )
+returns-clause-mbox_runs g c = λ sound disk file. promised_of
+    (made_all c.args.visits.now c.loop-i.visits c.loop-i.i c.loop-i.invariant.6 (omega (arith, c.loop-i-test.false)) c.loop-i.invariant.3 sound (disk, file))
+    (λ made world gone facts mail are is_kept served.
+    mbox_runs_promised c.mbox_headline.ensures g.W.Wire.history c.args.account.now.settings world c.args.visits.now
+    (mbox_state (mbox_account_files (mbox_of g.F.FlatFile c.args.account.now.store) (g.F.FlatFile.stored c.args.account.now.file)) gone) c.loop-i.reports.items c.loop-i.visits facts
+    (mbox_account_files (mbox_of g.F.FlatFile c.loop-i.account.store) (g.F.FlatFile.stored c.loop-i.account.file)) mail are is_kept served made)
