@@ -37,7 +37,7 @@ use Rattle.pop3_wire.specs.World.{Message}
 use Rattle.rc_file.specs.Settings.{IsValid}
 use Rattle.run_law.specs.Readings.{HonestIsGranted}
 use Rattle.run_law.specs.Sessions.{Served}
-use Rattle.fetch_runs.proofs.Lists.{all_append, all_back, all_front}
+use Rattle.fetch_runs.proofs.Lists.{all_back, all_front}
 use Rattle.fetch_runs.specs.Headline.{maildrop_at}
 use Rattle.fetch_runs.specs.Fronts.{FrontsAreSessions, IsCutThere, IsLeftBetween, IsLeftWithin, Uncut, UncutSessionsDoTasks}
 use Rattle.fetch_runs.proofs.FrontsHonest.{served_front, zip_both}
@@ -180,7 +180,8 @@ module _ (joins : TurnsJoin) (settings : Settings) (account : List ℕ) (now : �
         (served : (sent got : List ℕ) → link'.sent ≡ link.sent ++ sent → link'.got ≡ link.got ++ got → Served drop sent got vanished) where
       few : length u.items ≤ 100000
       few = few_items u.enters.3.counted u.enters.0 u.enters.1 u.enters.2 u.items
-          (replied (string_bytes settings.username) (string_bytes settings.password) u.enters.3.welcome u.enters.3.counted u.enters.3.named u.enters.3.sized u.enters.3.talked.good).good.1.1.1.0 u.enters.3.gives u.enters.4
+          (replied (string_bytes settings.username) (string_bytes settings.password)
+          u.enters.3.welcome u.enters.3.counted u.enters.3.named u.enters.3.sized u.enters.3.talked.good).good.1.1.1.0 u.enters.3.gives u.enters.4
 
       plain : AllByRecursion IsPlain (tasks_of (front ++ back))
       plain = subst (AllByRecursion IsPlain) (u.tasks ∙ ap tasks_of split) (plain_ahead settings (AsFiles account) u.items now (in_maildir before.maildir) u.ready.rows few)
