@@ -89,10 +89,6 @@ exactly turns replies link good = record {
   goes_on = record { ended = refl; failures = refl };
 }
 
--- what two conversations, one after the other, gained is their replies, and what waits
-both_gained : (first second : List ℕ) (g h v w : List ℕ) → g ≡ first ++ v → v ++ h ≡ second ++ w → g ++ h ≡ first ++ (second ++ w)
-both_gained first second g h v w e f = ap (λ l. l ++ h) e ∙ append_assoc first v h ∙ ap (λ l. first ++ l) f
-
 -- ---- a session whose link refuses the next line
 
 abbrev refused_at : Place → Place
@@ -155,25 +151,14 @@ module _ (joins : TurnsJoin) (settings : Settings) (account : List ℕ) (now : �
 
     sent_is : link'.sent ≡ ((link.sent ++ asking turns) ++ asking (turns_of front)) ++ asking (turns_of back)
     sent_is = ap (λ (l : Link). l.sent) u.link_is ∙ u.went.talked.sent ∙ ap (λ (p : Place). p.link.sent ++ asking (turns_of u.dones)) u.prepared.place_is
-        ∙ ap (λ l. l ++ asking (turns_of u.dones)) u.enters.3.talked.sent
-        ∙ ap (λ l. (link.sent ++ asking turns) ++ l) (ap (λ (ds : List Done). asking (turns_of ds)) split ∙ ap asking (flat_map-append (λ (d : Done). turns_in d.task) front back)
-        ∙ flat_map-append turn_bytes (turns_of front) (turns_of back))
-        ∙ sym (append_assoc (link.sent ++ asking turns) (asking (turns_of front)) (asking (turns_of back)))
-
-    all_heard : flat_map reply_bytes (replies_of u.dones) ++ waits ≡ flat_map reply_bytes (replies_of front) ++ (flat_map reply_bytes (replies_of back) ++ waits)
-    all_heard = ap (λ l. l ++ waits) (ap (λ (ds : List Done). flat_map reply_bytes (replies_of ds)) split ∙ ap (flat_map reply_bytes) (flat_map-append (λ (d : Done). d.replies) front back)
-        ∙ flat_map-append reply_bytes (replies_of front) (replies_of back))
-        ∙ append_assoc (flat_map reply_bytes (replies_of front)) (flat_map reply_bytes (replies_of back)) waits
+        ∙ rw (u.enters.3.talked.sent, split) (simp (flat_map-append, append_assoc))
 
     got_is : link'.got ≡ ((link.got ++ flat_map reply_bytes first) ++ flat_map reply_bytes (replies_of front)) ++ (flat_map reply_bytes (replies_of back) ++ waits)
-    got_is = ap (λ (l : Link). l.got) u.link_is ∙ u.went.talked.got ∙ ap (λ (p : Place). p.link.got ++ u.went.talked.gained) u.prepared.place_is
-        ∙ ap (λ l. l ++ u.went.talked.gained) u.enters.3.talked.got
-        ∙ append_assoc link.got u.enters.3.talked.gained u.went.talked.gained
-        ∙ ap (λ l. link.got ++ l) (both_gained (flat_map reply_bytes first) (flat_map reply_bytes (replies_of u.dones)) u.enters.3.talked.gained u.went.talked.gained u.entered.waiting waits
-        u.enters.3.talked.heard (ap (λ (p : Place). p.waiting ++ u.went.talked.gained) (sym u.prepared.place_is) ∙ u.went.talked.heard)
-        ∙ ap (λ l. flat_map reply_bytes first ++ l) all_heard)
-        ∙ sym (append_assoc link.got (flat_map reply_bytes first) (flat_map reply_bytes (replies_of front) ++ (flat_map reply_bytes (replies_of back) ++ waits)))
-        ∙ sym (append_assoc (link.got ++ flat_map reply_bytes first) (flat_map reply_bytes (replies_of front)) (flat_map reply_bytes (replies_of back) ++ waits))
+    got_is =
+        let waited : u.entered.waiting ++ u.went.talked.gained ≡ flat_map reply_bytes (replies_of (front ++ back)) ++ waits = rw (← split)
+        (ap (λ (p : Place). p.waiting ++ u.went.talked.gained) (sym u.prepared.place_is) ∙ u.went.talked.heard) in
+        ap (λ (l : Link). l.got) u.link_is ∙ u.went.talked.got ∙ ap (λ (p : Place). p.link.got ++ u.went.talked.gained) u.prepared.place_is
+        ∙ rw (u.enters.3.talked.got, u.enters.3.talked.heard) (simp (append_assoc, waited, flat_map-append))
 
     -- what a link gained that was cut after the front is served, if the whole session's is
     module _ (granted : HonestIsGranted) (valid : IsValid settings) (drop : List Message) (vanished : List (List ℕ))
