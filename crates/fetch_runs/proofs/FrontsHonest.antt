@@ -37,9 +37,7 @@ asked_in ts us sent can will is = record {
   numbers = all_append HasNumbers (commands_in ts) (commands_in us) (numbers_in ts can) (numbers_in us will);
   part = [];
   no_line = no_line;
-  whole = is ∙ ap (λ l. l ++ asking us) (octets_same ts) ∙ ap (λ l. flat_map (λ (command : Command). ended (line_of command)) (commands_in ts) ++ l) (octets_same us)
-      ∙ sym (flat_map-append (λ (command : Command). ended (line_of command)) (commands_in ts) (commands_in us))
-      ∙ sym (append-nil (flat_map (λ (command : Command). ended (line_of command)) (commands_in ts ++ commands_in us)));
+  whole = rw (is, octets_same ts, octets_same us) (simp (flat_map-append, append-nil));
 }
 
 -- a reply for each
@@ -55,8 +53,7 @@ replied_first drop marks [] more [] long granted = (marks, (refl, refl))
 replied_first drop marks (command ∷ commands) more (reply ∷ replies) long granted =
     let later = replied_first drop granted.0 commands more replies (let same : length commands ≡ length replies = cc in same) granted.2 in
     (later.0, (reply_bytes reply, flat_map reply_bytes replies, granted.0, refl, inr granted.1, later.1))
-replied_first drop marks [] more (reply ∷ replies) long granted = absurd cc
-replied_first drop marks (command ∷ commands) more [] long granted = absurd cc
+replied_first drop marks commands more replies long granted = absurd cc
 
 -- the opening without the greeting
 abbrev asks : List ℕ → List ℕ → List Turn
@@ -80,8 +77,7 @@ honest_front law drop marks name word named worded (hello ∷ others) opened ts 
     replies = flat_map reply_bytes (others ++ rs);
     replied = granted.1;
     later = [];
-    begins = ap (λ l. ended hello.first ++ l) (flat_map-append reply_bytes others rs) ∙ sym (append_assoc (ended hello.first) (flat_map reply_bytes others) (flat_map reply_bytes rs))
-        ∙ ap (λ l. (l ++ flat_map reply_bytes others) ++ flat_map reply_bytes rs) (sym greeted) ∙ sym (append-nil (flat_map reply_bytes (hello ∷ others) ++ flat_map reply_bytes rs));
+    begins = rw greeted (simp (flat_map-append, append_assoc, append-nil));
   },
 )
   where
@@ -108,8 +104,7 @@ honest_front law drop marks name word named worded (hello ∷ others) opened ts 
       line = opened.0.line;
       good = replies_read said (others ++ rs) (commands_in us) all_commands all_replied;
       rest = rest;
-      whole = ap (λ l. (l ++ flat_map reply_bytes others) ++ (flat_map reply_bytes rs ++ rest)) greeted ∙ append_assoc (ended hello.first) (flat_map reply_bytes others) (flat_map reply_bytes rs ++ rest)
-          ∙ ap (λ l. ended hello.first ++ l) (sym (append_assoc (flat_map reply_bytes others) (flat_map reply_bytes rs) rest) ∙ ap (λ l. l ++ rest) (sym (flat_map-append reply_bytes others rs)));
+      whole = rw greeted (simp (flat_map-append, append_assoc));
     }
 
     granted : (next : List Bool) × Replies drop (no_marks drop) (commands_in said) (flat_map reply_bytes (others ++ rs)) next
