@@ -6,7 +6,7 @@ use Rattle.std.proofs.lemmas.List.Concat.{flat_map-append}
 use Rattle.mail_terms.specs.Credential.{is_credential}
 use Rattle.pop3_wire.specs.declared.command.Command.{Command}
 use Rattle.pop3_wire.specs.declared.reply.Status.TheVariants.{Positive}
-use Rattle.pop3_wire.specs.Commands.{can_be_sent, line_of}
+use Rattle.pop3_wire.specs.Commands.{can_be_sent}
 use Rattle.pop3_wire.specs.CommandLine.{HasNumbers}
 use Rattle.pop3_wire.specs.Honest.{Asked, Honest, Replies, no_marks}
 use Rattle.pop3_wire.specs.Line.{IsLine, ended}
