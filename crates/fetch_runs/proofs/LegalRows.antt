@@ -44,15 +44,13 @@ line_legal version n (InBase rows) (RowLine row) all is = cond_both (has_row row
     (λ absent. all_append (λ (r : Row). is_legal_id r.uid ≡ true) rows (row ∷ []) all (is.legal, tt))
 line_legal version n (InBase rows) (GroupLine count) all is = (all, all)
 line_legal version n (InBase rows) (IntentLine intent) all is = intent_legal version n rows None intent all
-line_legal version n (BetweenGroups rows before) (RowLine row) all is = tt
 line_legal version n (BetweenGroups rows before) (GroupLine count) all is = (all, all)
 line_legal version n (BetweenGroups rows before) (IntentLine intent) all is = intent_legal version n rows before intent all
 line_legal version n (InGroup old before rows zero) (RowLine row) all is =
     if_stands (may_take version rows row) (Stands (BetweenGroups (taken rows row) None)) _ (taken_legal rows row all.1 is.legal)
 line_legal version n (InGroup old before rows (suc more)) (RowLine row) all is =
     if_stands (may_take version rows row) (Stands (InGroup old before (taken rows row) more)) _ (all.0, taken_legal rows row all.1 is.legal)
-line_legal version n (InGroup old before rows more) (GroupLine count) all is = tt
-line_legal version n (InGroup old before rows more) (IntentLine intent) all is = tt
+line_legal version n progress line all is = tt
 
 lines_legal : (version : Version) (n : ℕ) (so_far : Judged) (lines : List Line) → Legal so_far → AllByRecursion IsLine lines → Legal (judged version n so_far lines)
 lines_legal version n so_far [] legal each = legal
