@@ -154,17 +154,15 @@ module _ (one : OneRecord) {D F : Type 0} (disk : DiskGhosts D) (files : FileGho
         → CanLosePower disk files device f world (record state { gone = state.gone ++ ids })
     after_expired ids keeps safe = can_after device f after keeps
         (λ id legal held. inr held)
-        (λ id legal lastly. by id legal lastly (cases_Bool (has_id ids id)))
+        (λ id legal lastly. elim (cases_Bool (has_id ids id)) [
+          | inl gone ↦ inl (keeps.mail id legal (all_ids_at (λ x. IsLastStored world state x → IsSureOrTaken disk was world state x) ids id safe gone lastly))
+          | inr on ↦ inr (still_last device f after keeps (λ x recorded. recorded) (λ m l neither. neither) id
+              (λ before. list_any-append (bytes_eq id) state.gone ids ∙ or_from (has_id state.gone id) (has_id ids id) before on) lastly)
+        ])
         (same_shown device after (λ rows keeps_rows. keeps_rows))
       where
         after : State AccountFiles
         after = record state { gone = state.gone ++ ids }
-
-        by : (id : List ℕ) → is_legal_id id ≡ true → IsLastStored world state id → (has_id ids id ≡ true) ⊎ (has_id ids id ≡ false)
-            → IsSureOrTaken disk device world after id ⊎ IsLastStored world after id
-        by id legal lastly (inl gone) = inl (keeps.mail id legal (all_ids_at (λ x. IsLastStored world state x → IsSureOrTaken disk was world state x) ids id safe gone lastly))
-        by id legal lastly (inr on) = inr (still_last device f after keeps (λ x recorded. recorded) (λ m l neither. neither) id
-            (λ before. list_any-append (bytes_eq id) state.gone ids ∙ or_from (has_id state.gone id) (has_id ids id) before on) lastly)
 
     after_withdrawing : (ids : List (List ℕ)) → Keeps state → AllByRecursion (IsNeither world.account state.account.maildir state.taken) ids → CanLosePower disk files device f (record world { all = without ids world.all }) state
     after_withdrawing ids keeps neither = record {
