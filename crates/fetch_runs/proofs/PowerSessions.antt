@@ -244,10 +244,6 @@ module _ (laws : PowerLaws) {D F : Type 0} (disk : DiskGhosts D) (files : FileGh
     abbrev CarriedTo : Result (Unit {0}) Cut → Maildir → Type 0
     CarriedTo result m = Carried settings (AsFiles digits) items now place (in_maildir before.maildir) before.file [] result (end_with m) skipped
 
-    -- such sessions leave kept states
-    abbrev Alike : Result (Unit {0}) Cut → Type 0
-    Alike result = (m : Maildir) → CarriedTo result m → IsKept world (state_with m)
-
     abbrev Stay : Type 0
     Stay = (name : List ℕ) → Contains (names_of before.maildir.files) name → disk.stays device name
 
@@ -305,18 +301,15 @@ module _ (laws : PowerLaws) {D F : Type 0} (disk : DiskGhosts D) (files : FileGh
         by (inr (inl n)) = absurd (stores_none n.number n.uid n.is)
         by (inr (inr u)) = absurd (stores_none u.number u.uid u.is)
 
-    -- it was cut
+    -- it was cut, and such sessions leave kept states
     module _ {cut : Cut} (c : CarriedTo (Err cut) maildir) (stay : Stay)
         (lasts : Lasts disk files (AsFiles digits) (tasks_ahead settings (AsFiles digits) items now (in_maildir before.maildir) c.mid.rows) c.mid (Err cut) (end_with maildir) c.does (InMaildir device) f)
-        (alike : Alike (Err cut)) where
+        (alike : (m : Maildir) → CarriedTo (Err cut) m → IsKept world (state_with m)) where
       abbrev mid : Scene
       mid = c.does.mid
 
       abbrev was : List Row
       was = marked_all c.mid.rows (ids_of c.does.dones)
-
-      abbrev Records : Type 0
-      Records = ShowsSure disk files device f world (state_with maildir)
 
       base : mid.store.maildir.files ≡ before.maildir.files ++ files_of digits c.does.dones
       base = c.does.went.stored.came ∙ ap (λ (l : List File). l ++ files_of digits c.does.dones) (start_files c)
@@ -333,12 +326,12 @@ module _ (laws : PowerLaws) {D F : Type 0} (disk : DiskGhosts D) (files : FileGh
       has_was : (rows : List Row) → rows ≡ was → Has rows
       has_was rows are = λ id d. subst (λ (r : List Row). is_delivered r id ≡ true) (sym are) d
 
-      unmarked : Leaves files f (AreLeft mid.rows mid.rows) → file ≡ mid.file → Records
+      unmarked : Leaves files f (AreLeft mid.rows mid.rows) → file ≡ mid.file → ShowsSure disk files device f world (state_with maildir)
       unmarked leaves same = shown_by maildir was was (subst (λ (r : List Row). Leaves files f (AreLeft r r)) c.does.went.rows leaves)
           (λ rows keeps. has_was rows (same_file same rows keeps)) (λ id d legal. inl d)
 
       marked_one : (number : ℕ) (uid : List ℕ) → c.does.next ≡ stores number uid → (g : File) → maildir.files ≡ mid.store.maildir.files ++ g ∷ [] → names_id account uid g.name ≡ true
-          → disk.outlives device g → ((rows : List Row) → KeepsRows file.content rows → Has rows) → Records
+          → disk.outlives device g → ((rows : List Row) → KeepsRows file.content rows → Has rows) → ShowsSure disk files device f world (state_with maildir)
       marked_one number uid is g came named outlives within =
           shown_by maildir was (marked was uid) (subst (λ (t : Task). Leaves files f (AreLeft was (marked_all was (ids_in t)))) is lasts.0.left) within
           (one_more maildir was uid g (subst (λ (l : List File). Contains l g) (sym came) (Contains-append_right mid.store.maildir.files (g ∷ []) g (zero, omega arith, refl))) outlives named)
@@ -457,10 +450,8 @@ module _ (laws : PowerLaws) {D F : Type 0} (disk : DiskGhosts D) (files : FileGh
   abbrev with_maildir : Maildir → Occasion AccountFiles
   with_maildir m = record occasion { after = account_files m occasion.after.file }
 
-  abbrev SessionTo : Maildir → Type 0
-  SessionTo m = Session occasion.settings digits_here occasion.now occasion.link state.account occasion.report occasion.link' (account_files m occasion.after.file)
-
-  is_session : (m : Maildir) → SessionTo m → IsSession world state (with_maildir m)
+  is_session : (m : Maildir) → Session occasion.settings digits_here occasion.now occasion.link state.account occasion.report occasion.link' (account_files m occasion.after.file)
+      → IsSession world state (with_maildir m)
   is_session m s = record { settings = is.settings; session = s; served = is.served }
 
   this_session : IsSession world state occasion
@@ -520,9 +511,6 @@ module _ (laws : PowerLaws) {D F : Type 0} (disk : DiskGhosts D) (files : FileGh
   still : occasion.after.maildir.files ≡ state.account.maildir.files → IsUntouched disk files (InMaildir was) (InMaildir device) from f → Answered
   still same un = as_it_was same (ap (λ (s : Stored). s.content) (is.file_is ∙ un.same ∙ sym is.from_is)) un.no_more
       (λ id legal one. kept_sure same id one (un.mail.0 one.one.name) (un.mail.1 one.one))
-
-  safe : AreSure files (InMaildir was) from
-  safe = (tt, is.sure)
 
   -- it was cut while it prepared the record
   module _ (items : List Item) (place place' : Place) (cut : Cut) (rows' : List Row) (lines : List ReportLine)
@@ -619,7 +607,7 @@ module _ (laws : PowerLaws) {D F : Type 0} (disk : DiskGhosts D) (files : FileGh
       by : (result : Result (Unit {0}) Cut)
           → (proceeds : Proceeds occasion.settings (AsFiles digits_here) occasion.now (at occasion.link []) (keeps_files state.account) result is.session.mid (keeps_files occasion.after) is.session.notes)
           → ProceedsLast disk files (InMaildir was) from _ _ _ _ _ _ _ _ _ proceeds (InMaildir device) f → LeavesLink result is.session.mid occasion.link' → Reports (outcome_of result) is.session.notes.total is.session.notes.skipped is.session.notes.lines occasion.report → Answered
-      by (Ok done) dealt lasts leaves reports = elim (lasts safe) [
+      by (Ok done) dealt lasts leaves reports = elim (lasts (tt, is.sure)) [
         | inl (quiet, un) ↦ still (quiet_ok laws disk files world sound state.account gone_after state.taken occasion.after.file device f
             is.file_is is.none _ _ _ _ _ _ _ _ _ occasion.after.maildir is.settings.account dealt.carries.1 quiet) un
         | inr (lasts, mail) ↦ answer_ok laws disk files world sound state.account gone_after state.taken occasion.after.file device f
@@ -632,8 +620,8 @@ module _ (laws : PowerLaws) {D F : Type 0} (disk : DiskGhosts D) (files : FileGh
           of : (carries : Carries occasion.settings (AsFiles digits_here) dealt.items occasion.now dealt.mid (in_maildir state.account.maildir) state.account.file [] (Err cut) is.session.mid
               (in_maildir occasion.after.maildir) occasion.after.file is.session.notes.lines is.session.notes.skipped) → CarriesLast disk files (InMaildir was) from occasion.settings (AsFiles digits_here) dealt.items occasion.now dealt.mid
               (in_maildir state.account.maildir) state.account.file [] (Err cut) is.session.mid (in_maildir occasion.after.maildir) occasion.after.file is.session.notes.lines is.session.notes.skipped carries (InMaildir device) f → Answered
-          of (rows, inl (none_said, unprepared)) all = unready dealt.items dealt.mid is.session.mid cut rows is.session.notes.lines unprepared (all safe)
-          of (rows, inr c) all = elim (all safe) [
+          of (rows, inl (none_said, unprepared)) all = unready dealt.items dealt.mid is.session.mid cut rows is.session.notes.lines unprepared (all (tt, is.sure))
+          of (rows, inr c) all = elim (all (tt, is.sure)) [
             | inl (quiet, un) ↦ still (quiet_cut laws disk files world sound state.account gone_after state.taken occasion.after.file device f is.file_is is.none _ _ _ _ _ _ _ _ _ occasion.after.maildir is.settings.account c quiet) un
             | inr (lasts, mail) ↦ answer_cut laws disk files world sound state.account gone_after state.taken occasion.after.file device f is.file_is is.none _ _ _ _ _ _ _ _ _ occasion.after.maildir is.settings.account
                 c mail.stay lasts
