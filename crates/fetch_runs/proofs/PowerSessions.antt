@@ -12,7 +12,7 @@ use Rattle.fetch_rules.specs.Record.{Row, has_row, is_delivered, marked, marked_
 use Rattle.fetch_rules.specs.Plan.{IsQuiet, planned}
 use Rattle.fetch_rules.specs.declared.steps.Step.{Step}
 use Rattle.fetch_session.specs.Account.{digits_of}
-use Rattle.fetch_session.specs.Lasting.{AreLeft, AreSure, CarriesLast, IsUntouched, Lasts, Leaves, MergeLasts, ProceedsLast, UnreadyLasts}
+use Rattle.fetch_session.specs.Lasting.{AreLeft, CarriesLast, IsUntouched, Lasts, Leaves, MergeLasts, ProceedsLast, UnreadyLasts}
 use Rattle.fetch_session.specs.Laws.{SteadyFilesKeep, UnsavedFilesKeep}
 use Rattle.fetch_session.specs.Plan.{Carried, Carries, Unprepared, tasks_ahead}
 use Rattle.fetch_session.specs.Record.{KeepsRows}
