@@ -1,6 +1,5 @@
 -- A loss of power that leaves some of the files is an event of a run.
-use Rattle.std.proofs.Common.{◌≡◌, ◌≢◌, ◌⊎◌, inl, inr, ℕ, zero, suc, List, [], ◌∷◌, Bool, true, Option, ap, subst, ◌∙◌, arith}
-use Rattle.std.specs.Prelude.{bytes_eq, Contains}
+use Rattle.std.proofs.Common.{◌≡◌, ◌≢◌, ◌⊎◌, inl, inr, ℕ, zero, suc, List, [], ◌∷◌, Bool, true, Option, ap, subst, ◌∙◌, arith, bytes_eq, Contains}
 use Rattle.mail_store.specs.FileName.{names_id, stem, stem_of}
 use Rattle.mail_store.specs.declared.file.flat_file.FlatFile.{Ghosts as FileGhosts}
 use Rattle.fetch_rules.specs.Record.{Row, is_delivered}
