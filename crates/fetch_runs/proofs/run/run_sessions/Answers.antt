@@ -2,12 +2,9 @@ use Rattle.std.proofs.Common.{◌≡◌, ◌<◌, ◌+◌, ◌++◌, ◌∷◌, 
 use Rattle.std.specs.Result.{is_ok}
 use Rattle.std.proofs.lemmas.List.{length-set}
 use Rattle.rc_file.specs.Settings.{IsValid}
-use Rattle.rc_file.specs.declared.settings.Settings.{Settings}
-use Rattle.fetch_session.specs.Account.{digits_of}
 use Rattle.fetch_session.specs.declared.report.Report.{Report}
-use Rattle.fetch_session.specs.Session.{account_files, mbox_account_files, MboxSession, Session}
+use Rattle.fetch_session.specs.Session.{account_files, mbox_account_files}
 use Rattle.fetch_session.specs.Target.{maildir_of, mbox_of}
-use Rattle.mail_store.specs.Maildir.{AfterTaking, Maildir}
 use Rattle.fetch_runs.specs.MboxRuns.{mbox_state}
 use Rattle.fetch_runs.specs.Runs.{world_of, state_of}
 use Rattle.fetch_runs.specs.declared.run.Visit.{Visit}
@@ -20,37 +17,23 @@ loop-i-preserved g c =
     let i = c.loop-i.i in
     let old : Visit (g.row.W).Denot = get_or c.loop-i.visits i c.index-visits-i.result in
     let new : Visit (g.row.W).Denot = record { wire = c.session-report.new.wire; now = old.now } in
-    let before = account_files (maildir_of g.D.MaildirDisk c.loop-i.account.store) (g.F.FlatFile.stored c.loop-i.account.file) in
-    let after = account_files (maildir_of g.D.MaildirDisk c.session-report.new.account.store) (g.F.FlatFile.stored c.session-report.new.account.file) in
     let pushed : c.push.new.self.items ≡ c.loop-i.reports.items ++ c.session-report.result ∷ [] =
     c.push.ensures.items ∙ ap (λ r. if is_ok r then c.loop-i.reports.items ++ c.session-report.result ∷ [] else c.loop-i.reports.items) c.unwrap.ensures in
     let inside : i < length c.args.visits.now = omega (arith, c.loop-i-test.true) in
     let same_length : length c.loop-i.visits ≡ length c.args.visits.now = inv.3 in
     let within : i < length c.loop-i.visits = omega (arith, inside, same_length) in
-    let here : get_or c.args.visits.now i old ≡ old = sym (inv.4 i old (omega arith)) ∙ ap (λ (d : Visit (g.row.W).Denot). get_or c.loop-i.visits i d) (sym c.index-visits-i.is) in
-    let mbox_before = mbox_account_files (mbox_of g.F.FlatFile c.loop-i.account.store) (g.F.FlatFile.stored c.loop-i.account.file) in
-    let mbox_after = mbox_account_files (mbox_of g.F.FlatFile c.session-report.new.account.store) (g.F.FlatFile.stored c.session-report.new.account.file) in (
+    let here : get_or c.args.visits.now i old ≡ old = sym (inv.4 i old (omega arith)) ∙ ap (λ (d : Visit (g.row.W).Denot). get_or c.loop-i.visits i d) (sym c.index-visits-i.is) in (
       c.session-report.ensures.same.settings ∙ inv.0,
       ap (λ (l : List Report). length l) pushed ∙ length-append c.loop-i.reports.items (c.session-report.result ∷ []) ∙ ap (λ (k : ℕ). k + 1) inv.1,
       omega (arith, inv.2, c.push.ensures.capacity),
       length-set c.loop-i.visits i new ∙ inv.3,
       others_stay c.loop-i.visits c.args.visits.now i new inv.4,
       ran_next c.args.visits.now c.loop-i.visits i old new inv.5 pushed inside within here (λ sound held.
-          let met = c.sessions_by_store.ensures.maildir _ _ _ _ _ _ c.session-report.ensures.same c.session-report.ensures.session sound held.0 held.1 in (
-            met.0,
-            (met.1, met.2),
-            (
-              subst (λ (s : Settings). AfterTaking before.maildir (λ (left : Maildir). Session s (digits_of s) old.now (g.W.Wire.history old.wire) (account_files left before.file) c.session-report.result
-                  (g.W.Wire.history c.session-report.new.wire) after)) inv.0 met.4,
-              refl,
-            ),
-          )),
+          let met = c.sessions_by_store.ensures.maildir _ _ _ _ _ _ c.session-report.ensures.same c.session-report.ensures.session sound held.0 held.1 in
+          (met.0, (met.1, met.2), ((rw inv.0 at met.4), refl))),
       ran_next c.args.visits.now c.loop-i.visits i old new inv.6 pushed inside within here (λ sound held.
-          let met = c.sessions_by_store.ensures.mbox _ _ _ _ _ _ c.session-report.ensures.same c.session-report.ensures.session sound held.0 held.1 in (
-            met.0,
-            (met.1, met.2),
-            (subst (λ (s : Settings). MboxSession s old.now (g.W.Wire.history old.wire) mbox_before c.session-report.result (g.W.Wire.history c.session-report.new.wire) mbox_after) inv.0 met.4, refl),
-          )),
+          let met = c.sessions_by_store.ensures.mbox _ _ _ _ _ _ c.session-report.ensures.same c.session-report.ensures.session sound held.0 held.1 in
+          (met.0, (met.1, met.2), ((rw inv.0 at met.4), refl))),
     )
 
 pub returns-clause-runs : goal.returns-clause-runs
