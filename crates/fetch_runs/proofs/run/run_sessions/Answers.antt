@@ -1,5 +1,4 @@
-use Rattle.std.proofs.Common.{◌≡◌, ◌<◌, ◌+◌, ◌++◌, ◌∷◌, [], ℕ, List, if◌then◌else◌, get_or, length, refl, sym, ap, subst, ◌∙◌, arith, length-append}
-use Rattle.std.specs.Result.{is_ok}
+use Rattle.std.proofs.Common.{◌≡◌, ◌<◌, ◌+◌, ◌++◌, ◌∷◌, [], ℕ, List, get_or, length, refl, sym, ap, subst, ◌∙◌, arith, length-append}
 use Rattle.std.proofs.lemmas.List.{length-set}
 use Rattle.rc_file.specs.Settings.{IsValid}
 use Rattle.fetch_session.specs.declared.report.Report.{Report}
@@ -17,8 +16,7 @@ loop-i-preserved g c =
     let i = c.loop-i.i in
     let old : Visit (g.row.W).Denot = get_or c.loop-i.visits i c.index-visits-i.result in
     let new : Visit (g.row.W).Denot = record { wire = c.session-report.new.wire; now = old.now } in
-    let pushed : c.push.new.self.items ≡ c.loop-i.reports.items ++ c.session-report.result ∷ [] =
-    c.push.ensures.items ∙ ap (λ r. if is_ok r then c.loop-i.reports.items ++ c.session-report.result ∷ [] else c.loop-i.reports.items) c.unwrap.ensures in
+    let pushed : c.push.new.self.items ≡ c.loop-i.reports.items ++ c.session-report.result ∷ [] = rw c.unwrap.ensures at c.push.ensures.items in
     let inside : i < length c.args.visits.now = omega (arith, c.loop-i-test.true) in
     let same_length : length c.loop-i.visits ≡ length c.args.visits.now = inv.3 in
     let within : i < length c.loop-i.visits = omega (arith, inside, same_length) in
