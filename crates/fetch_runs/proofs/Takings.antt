@@ -66,10 +66,6 @@ pub held_some : (front : List ℕ) (fs : List File) → list_any (λ (f : File).
 held_some front fs held none = both_ways (is_some (copies fs front)) (ap is_some none)
     (sym (any_filter (λ (f : File). bytes_eq front (stem f.name)) (λ (f : File). f.content) fs) ∙ held)
 
-nothing_or_some : {A : Type 0} (xs : List A) → (xs ≡ []) ⊎ (xs ≢ [])
-nothing_or_some [] = inl refl
-nothing_or_some (x ∷ xs) = inr (λ none. cc)
-
 -- ---- parts
 
 -- each event leaves some of the files
@@ -120,15 +116,14 @@ module _ (differ : StemsDiffer) (world : World) (maildir : Maildir) (file : Stor
   abbrev IsDue : List File → List ℕ → Type 0
   IsDue fs id = (is_legal_id id ≡ true) × (copies left (stem_of account id) ≡ []) × (copies fs (stem_of account id) ≢ [])
 
-  is_due : (fs : List File) (id : List ℕ) → IsDue fs id ⊎ (IsDue fs id → ⊥)
-  is_due fs id = by (cases_Bool (is_legal_id id)) (nothing_or_some (copies left (stem_of account id))) (nothing_or_some (copies fs (stem_of account id)))
-    where
-      by : (is_legal_id id ≡ true) ⊎ (is_legal_id id ≡ false) → (copies left (stem_of account id) ≡ []) ⊎ (copies left (stem_of account id) ≢ [])
-          → (copies fs (stem_of account id) ≡ []) ⊎ (copies fs (stem_of account id) ≢ []) → IsDue fs id ⊎ (IsDue fs id → ⊥)
-      by (inl legal) (inl none) (inr some) = inl (legal, none, some)
-      by (inr other) none some = inr (λ due. both_ways (is_legal_id id) other due.0)
-      by legal (inr some) there = inr (λ due. some due.1)
-      by legal none (inl gone) = inr (λ due. due.2 gone)
+  is_due : (fs : List File) (id : List ℕ) (ids : List (List ℕ)) → AreDue account left (id ∷ ids) fs → IsDue fs id ⊎ (IsDue fs id → ⊥)
+  is_due fs id ids due = elim (cases_Bool (is_legal_id id)) [
+    | inl legal ↦ elim (due id legal) [
+      | inl same ↦ inr (λ is. is.2 (sym same ∙ is.1))
+      | inr (among, none, some) ↦ inl (legal, none, some)
+    ]
+    | inr other ↦ inr (λ is. both_ways (is_legal_id id) other is.0)
+  ]
 
   -- the id isn't due
   passed : (fs : List File) (id : List ℕ) (ids : List (List ℕ)) → AreDue account left (id ∷ ids) fs → (IsDue fs id → ⊥) → AreDue account left ids fs
@@ -183,7 +178,7 @@ module _ (differ : StemsDiffer) (world : World) (maildir : Maildir) (file : Stor
 
   all_told : (ids : List (List ℕ)) (fs : List File) (taken : List (List ℕ)) → AreDue account left ids fs → IsPart fs left → HasEvents fs taken
   all_told [] fs taken due part = rest fs taken due part
-  all_told (id ∷ ids) fs taken due part = elim (is_due fs id) [
+  all_told (id ∷ ids) fs taken due part = elim (is_due fs id ids due) [
     | inl is ↦
         let later = all_told ids (without id fs) (id ∷ taken) (took fs id ids due is)
         (part_of_others (stem_of account id) fs left part is.1) in (
