@@ -6,7 +6,7 @@ use Rattle.std.proofs.lemmas.List.Elements.{recursion_from_All}
 use Rattle.std.proofs.lemmas.Slice.Eq.{bytes_eq-Decides}
 use Rattle.mail_terms.specs.UniqueId.{is_legal_id}
 use Rattle.fetch_rules.specs.Record.{Row, Intent, has_row, is_delivered, is_of, marked}
-use Rattle.fetch_rules.specs.RecordFile.{Version, One, Two, Line, RowLine, GroupLine, IntentLine, IsLine}
+use Rattle.fetch_rules.specs.RecordFile.{Version, Two, Line, RowLine, GroupLine, IntentLine, IsLine}
 use Rattle.fetch_rules.specs.RecordMeaning.{Ends, Fails, Fault, Judged, InBase, InGroup, BetweenGroups, Means, Progress, Rows, Stands, after_intent, after_line, counted, has_bytes, has_line_feed, is_open, judged, left_open, line_after, may_take, taken}
 use Rattle.fetch_rules.specs.declared.seen.SeenFault.{SeenFault}
 use Rattle.fetch_rules.specs.declared.seen.SeenFault.TheVariants.{BadRow}
@@ -35,9 +35,8 @@ if_stands true next fault legal = legal
 if_stands false next fault legal = tt
 
 intent_legal : (version : Version) (n : ℕ) (rows : List Row) (before : Option Intent) (intent : Intent) → AreLegal rows → Legal (after_intent version n rows before intent)
-intent_legal One n rows before intent all = tt
-intent_legal Two n rows (Some other) intent all = tt
 intent_legal Two n rows None intent all = if_stands (has_row rows intent.uid) (Stands (BetweenGroups rows (Some intent))) _ all
+intent_legal version n rows before intent all = tt
 
 line_legal : (version : Version) (n : ℕ) (progress : Progress) (line : Line) → Legal (Stands progress) → IsLine line → Legal (after_line version n progress line)
 line_legal version n (InBase rows) (RowLine row) all is = cond_both (has_row rows row.uid) (Fails _) (Stands (InBase (rows ++ row ∷ []))) Legal (λ there. tt)

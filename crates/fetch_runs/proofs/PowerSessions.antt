@@ -165,12 +165,14 @@ module _ (laws : PowerLaws) {D F : Type 0} (disk : DiskGhosts D) (files : FileGh
 
   -- ---- which files stay
 
+  abbrev Stay : Type 0
+  Stay = (name : List ℕ) → Contains (names_of before.maildir.files) name → disk.stays device name
+
   abbrev ExtraOk : Maildir → File → Type 0
   ExtraOk maildir g = disk.outlives device g ⊎ ((id : List ℕ) → is_legal_id id ≡ true → names_id account id g.name ≡ true → MayGo maildir id)
 
   all_but_last : (maildir : Maildir) (front extra : List File) → maildir.files ≡ (before.maildir.files ++ front) ++ extra
-      → ((name : List ℕ) → Contains (names_of before.maildir.files) name → disk.stays device name) → AllByRecursion (disk.outlives device) front
-      → AllByRecursion (ExtraOk maildir) extra → AllButLastStay disk device world (state_with maildir)
+      → Stay → AllByRecursion (disk.outlives device) front → AllByRecursion (ExtraOk maildir) extra → AllButLastStay disk device world (state_with maildir)
   all_but_last maildir front extra are stays outlive goes id legal held =
       let one = held_file account id maildir.files held in
       let there = subst (λ (l : List File). Contains l one.0) are one.1 in
@@ -242,9 +244,6 @@ module _ (laws : PowerLaws) {D F : Type 0} (disk : DiskGhosts D) (files : FileGh
 
     abbrev CarriedTo : Result (Unit {0}) Cut → Maildir → Type 0
     CarriedTo result m = Carried settings (AsFiles digits) items now place (in_maildir before.maildir) before.file [] result (end_with m) skipped
-
-    abbrev Stay : Type 0
-    Stay = (name : List ℕ) → Contains (names_of before.maildir.files) name → disk.stays device name
 
     same_rows : (content : Option (List ℕ)) (a b : List Row) → KeepsRows content a → KeepsRows content b → a ≡ b
     same_rows content a b x y = (laws.record_is.one content a b x.0 y.0 x.1 y.1).0
