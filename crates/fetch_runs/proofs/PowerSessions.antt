@@ -428,12 +428,11 @@ module _ (laws : PowerLaws) {D F : Type 0} (disk : DiskGhosts D) (files : FileGh
           ]
 
       answer_cut : Answer maildir
-      answer_cut = by c.does.stops
-        where
-          by : Stops (AsFiles digits) c.does.next mid cut (end_with maildir) → Answer maildir
-          by (inl broken) = nothing (ap (λ (s : Stores). s.maildir.files) broken.store) broken.file
-          by (inr (inl n)) = refused n
-          by (inr (inr u)) = unsaved u
+      answer_cut = elim c.does.stops [
+        | inl broken ↦ nothing (ap (λ (s : Stores). s.maildir.files) broken.store) broken.file
+        | inr (inl n) ↦ refused n
+        | inr (inr u) ↦ unsaved u
+      ]
 
 -- ---- the session as a whole
 
