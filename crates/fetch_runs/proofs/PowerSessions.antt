@@ -586,16 +586,13 @@ module _ (laws : PowerLaws) {D F : Type 0} (disk : DiskGhosts D) (files : FileGh
         | inr same ↦ of_merged id rows (kept_legal left now keeps_now id d) (subst (λ (r : List Row). is_delivered r id ≡ true) same d)
       ]
 
-      merging : Answered
-      merging = record {
-        stay = λ id legal held. inl (all_sure id held);
-        shows = λ left now rows may keeps_now keeps id d. shows_left left now rows keeps_now id d (m.leaves left may);
-      }
-
     unready : Answered
     unready = elim lasts.rows [
       | inl (no_more, same) ↦ as_it_was same_files (ap (λ (s : Stored). s.content) is.file_is ∙ same) no_more sure_left
-      | inr m ↦ merging m
+      | inr m ↦ record {
+        stay = λ id legal held. inl (all_sure m id held);
+        shows = λ left now rows may keeps_now keeps id d. shows_left m left now rows keeps_now id d (m.leaves left may);
+      }
     ]
 
   pub sessions_and_power : IsSession world state occasion × Answered
