@@ -1,5 +1,5 @@
 -- A session that is stopped between two of its tasks is a session too.
-use Rattle.std.proofs.Common.{◌≡◌, ◌≤◌, inl, inr, ◌+◌, ℕ, List, [], ◌∷◌, ◌++◌, map, length, refl, sym, ap, subst, ◌∙◌, append_assoc, arith, None, Result, Ok, Err, string_bytes}
+use Rattle.std.proofs.Common.{◌≡◌, ◌⊎◌, ◌≤◌, inl, inr, ◌+◌, ℕ, List, [], ◌∷◌, ◌++◌, map, length, refl, sym, ap, subst, ◌∙◌, append_assoc, arith, None, Result, Ok, Err, string_bytes}
 use Rattle.std.specs.List.{AllByRecursion, AllZip, flat_map}
 use Rattle.std.proofs.lemmas.List.{append-nil, flat_map_more, map-append}
 use Rattle.std.proofs.lemmas.List.Concat.{flat_map-append}
@@ -156,7 +156,8 @@ module _ (joins : TurnsJoin) (settings : Settings) (account : List ℕ) (now : �
         let waited : u.entered.waiting ++ u.went.talked.gained ≡ flat_map reply_bytes (replies_of (front ++ back)) ++ waits = rw (← split)
         (ap (λ (p : Place). p.waiting ++ u.went.talked.gained) (sym u.prepared.place_is) ∙ u.went.talked.heard) in
         ap (λ (l : Link). l.got) u.link_is ∙ u.went.talked.got ∙ ap (λ (p : Place). p.link.got ++ u.went.talked.gained) u.prepared.place_is
-        ∙ rw (u.enters.3.talked.got, u.enters.3.talked.heard) (simp (append_assoc, waited, flat_map-append))
+        ∙ ap (λ l. l ++ u.went.talked.gained) u.enters.3.talked.got ∙ ap (λ l. (link.got ++ l) ++ u.went.talked.gained) u.enters.3.talked.heard
+        ∙ simp (append_assoc, waited, flat_map-append)
 
     -- what a link gained that was cut after the front is served, if the whole session's is
     module _ (granted : HonestIsGranted) (valid : IsValid settings) (drop : List Message) (vanished : List (List ℕ))

@@ -238,9 +238,12 @@ module _ (one : OneRecord) {D F : Type 0} (disk : DiskGhosts D) (files : FileGho
     keeps_power laws (Forgotten after) (forgets, none_lost, keeps) = (
       forgets,
       after_same after keeps forgets.mail (λ id recorded.
-          let fewer = forgets.record_is is.0 is.1 in
-          (is.0, is.1, fewer.2 id (ap (λ (r : List Row). is_delivered r id) (one after.file.content fewer.0 recorded.0 fewer.1.0 recorded.1.0 fewer.1.1 recorded.1.1).0
-          ∙ recorded.2)))
+          let fewer = forgets.record_is is.0 is.1 in (
+            is.0,
+            is.1,
+            fewer.2 id (ap (λ (r : List Row). is_delivered r id) (one after.file.content fewer.0 recorded.0 fewer.1.0 recorded.1.0 fewer.1.1 recorded.1.1).0
+                ∙ recorded.2),
+          ))
           (λ rows keeps_rows id delivered. let safe = recorded_sure id delivered in inr (safe.0, keeps.mail id safe.0 safe.1)),
     )
     keeps_power laws (PowerLost after) left = (

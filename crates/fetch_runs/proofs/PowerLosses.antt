@@ -49,12 +49,15 @@ losses_are_events law disk files device f world state after now sound is can may
   );
   mail = λ id legal. elim (left_or_none (stem_of world.account id) state.account.maildir.files after.maildir.files may.part
       ((law world state [] sound is tt).0.once id legal)) [
-    | inl same ↦ inl same
-    | inr (none, some) ↦ inr (none, elim (can.stay id legal (some_held world.account id state.account.maildir.files some)) [
-      | inl one ↦ absurd (named_some (stem_of world.account id) after.maildir.files one.one.name one.named (named_left id one one.sure) none)
-      | inr may_go ↦ may_go
-    ])
-  ];
+        | inl same ↦ inl same
+        | inr (none, some) ↦ inr (
+          none,
+          elim (can.stay id legal (some_held world.account id state.account.maildir.files some)) [
+            | inl one ↦ absurd (named_some (stem_of world.account id) after.maildir.files one.one.name one.named (named_left id one one.sure) none)
+            | inr may_go ↦ may_go
+          ],
+        )
+      ];
 }
   where
     named_left : (id : List ℕ) → (one : IsSure disk device world state.account.maildir.files id) → disk.stays device one.one.name ⊎ disk.outlives device one.one → Contains (names_of after.maildir.files) one.one.name

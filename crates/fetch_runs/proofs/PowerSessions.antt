@@ -619,12 +619,15 @@ module _ (laws : PowerLaws) {D F : Type 0} (disk : DiskGhosts D) (files : FileGh
             | inl (quiet, un) ↦ still (quiet_cut laws disk files world sound state.account gone_after state.taken occasion.after.file device f is.file_is is.none _ _ _ _ _ _ _ _ _ occasion.after.maildir is.settings.account c quiet) un
             | inr (lasts, mail) ↦ answer_cut laws disk files world sound state.account gone_after state.taken occasion.after.file device f is.file_is is.none _ _ _ _ _ _ _ _ _ occasion.after.maildir is.settings.account
                 c mail.stay lasts
-                (λ m carried. (laws.headline world state (Fetched (with_maildir m) ∷ []) sound is_kept (is_session m (record {
-                  result = Err cut;
-                  mid = is.session.mid;
-                  notes = is.session.notes;
-                  proceeds = inr (inr (record { items = dealt.items; mid = dealt.mid; enters = dealt.enters; total = dealt.total; carries = (rows, inr carried) }));
-                  leaves = leaves;
-                  reports = reports;
-                }), tt)).1)
+                (λ m carried. (laws.headline world state (Fetched (with_maildir m) ∷ []) sound is_kept (
+                  is_session m (record {
+                    result = Err cut;
+                    mid = is.session.mid;
+                    notes = is.session.notes;
+                    proceeds = inr (inr (record { items = dealt.items; mid = dealt.mid; enters = dealt.enters; total = dealt.total; carries = (rows, inr carried) }));
+                    leaves = leaves;
+                    reports = reports;
+                  }),
+                  tt,
+                )).1)
           ]
