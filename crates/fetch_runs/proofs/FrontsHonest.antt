@@ -6,7 +6,7 @@ use Rattle.std.proofs.lemmas.List.Concat.{flat_map-append}
 use Rattle.mail_terms.specs.Credential.{is_credential}
 use Rattle.pop3_wire.specs.declared.command.Command.{Command}
 use Rattle.pop3_wire.specs.declared.reply.Status.TheVariants.{Positive}
-use Rattle.pop3_wire.specs.Commands.{can_be_sent, line_of}
+use Rattle.pop3_wire.specs.Commands.{can_be_sent}
 use Rattle.pop3_wire.specs.CommandLine.{HasNumbers}
 use Rattle.pop3_wire.specs.Honest.{Asked, Honest, Replies, no_marks}
 use Rattle.pop3_wire.specs.Line.{IsLine, ended}
@@ -37,9 +37,7 @@ asked_in ts us sent can will is = record {
   numbers = all_append HasNumbers (commands_in ts) (commands_in us) (numbers_in ts can) (numbers_in us will);
   part = [];
   no_line = no_line;
-  whole = is ∙ ap (λ l. l ++ asking us) (octets_same ts) ∙ ap (λ l. flat_map (λ (command : Command). ended (line_of command)) (commands_in ts) ++ l) (octets_same us)
-      ∙ sym (flat_map-append (λ (command : Command). ended (line_of command)) (commands_in ts) (commands_in us))
-      ∙ sym (append-nil (flat_map (λ (command : Command). ended (line_of command)) (commands_in ts ++ commands_in us)));
+  whole = rw (is, octets_same ts, octets_same us) (simp (flat_map-append, append-nil));
 }
 
 -- a reply for each
@@ -55,35 +53,33 @@ replied_first drop marks [] more [] long granted = (marks, (refl, refl))
 replied_first drop marks (command ∷ commands) more (reply ∷ replies) long granted =
     let later = replied_first drop granted.0 commands more replies (let same : length commands ≡ length replies = cc in same) granted.2 in
     (later.0, (reply_bytes reply, flat_map reply_bytes replies, granted.0, refl, inr granted.1, later.1))
-replied_first drop marks [] more (reply ∷ replies) long granted = absurd cc
-replied_first drop marks (command ∷ commands) more [] long granted = absurd cc
+replied_first drop marks commands more replies long granted = absurd cc
 
 -- the opening without the greeting
 abbrev asks : List ℕ → List ℕ → List Turn
 asks name word = user name ∷ pass word ∷ stat ∷ uidl ∷ list ∷ []
 
-pub honest_front : HonestIsGranted → (drop : List Message) (marks : List Bool) (name word : List ℕ) → is_credential name ≡ true → is_credential word ≡ true
+-- what a link that was cut there gained is served
+pub served_front : HonestIsGranted → (drop : List Message) (vanished : List (List ℕ)) (link link' cut : Link) (name word : List ℕ) → is_credential name ≡ true → is_credential word ≡ true
     → (first : List WholeReply) → AllZip IsGood (opening name word) first → (ts us : List Turn) (rs : List WholeReply) → AllByRecursion IsCommand ts → AllByRecursion CanBeSaid ts → AllByRecursion CanBeSaid us
     → AllZip IsGood ts rs → (rest : List ℕ)
-    → Honest drop (asking (opening name word) ++ (asking ts ++ asking us)) (flat_map reply_bytes first ++ (flat_map reply_bytes rs ++ rest)) marks
-    → (mid : List Bool) × Honest drop (asking (opening name word) ++ asking ts) (flat_map reply_bytes first ++ flat_map reply_bytes rs) mid
-honest_front law drop marks name word named worded [] opened ts us rs commands can will good rest honest = absurd opened
-honest_front law drop marks name word named worded (hello ∷ others) opened ts us rs commands can will good rest honest = (
-  granted.0,
-  record {
-    status = Positive;
-    hello = ended hello.first;
-    greets = (opened.0.rest, record { line = hello.first; is_line = opened.0.line; first = opened.0.positive; whole = refl });
-    commands = commands_in said;
-    asked = subst (λ cs. Asked cs (asking (opening name word) ++ asking ts)) (append-nil (commands_in said))
-        (asked_in said [] (asking (opening name word) ++ asking ts) can_said tt (sym (flat_map-append turn_bytes (asks name word) ts) ∙ sym (append-nil (asking said))));
-    replies = flat_map reply_bytes (others ++ rs);
-    replied = granted.1;
-    later = [];
-    begins = ap (λ l. ended hello.first ++ l) (flat_map-append reply_bytes others rs) ∙ sym (append_assoc (ended hello.first) (flat_map reply_bytes others) (flat_map reply_bytes rs))
-        ∙ ap (λ l. (l ++ flat_map reply_bytes others) ++ flat_map reply_bytes rs) (sym greeted) ∙ sym (append-nil (flat_map reply_bytes (hello ∷ others) ++ flat_map reply_bytes rs));
-  },
-)
+    → link'.sent ≡ ((link.sent ++ asking (opening name word)) ++ asking ts) ++ asking us → link'.got ≡ ((link.got ++ flat_map reply_bytes first) ++ flat_map reply_bytes rs) ++ rest
+    → ((sent got : List ℕ) → link'.sent ≡ link.sent ++ sent → link'.got ≡ link.got ++ got → Served drop sent got vanished)
+    → cut.sent ≡ (link.sent ++ asking (opening name word)) ++ asking ts → cut.got ≡ (link.got ++ flat_map reply_bytes first) ++ flat_map reply_bytes rs
+    → (sent got : List ℕ) → cut.sent ≡ link.sent ++ sent → cut.got ≡ link.got ++ got → Served drop sent got []
+served_front law drop vanished link link' cut name word named worded [] opened ts us rs commands can will good rest all_sent all_got served cut_sent cut_got sent got sent_is got_is = absurd opened
+served_front law drop vanished link link' cut name word named worded (hello ∷ others) opened ts us rs commands can will good rest all_sent all_got served cut_sent cut_got sent got sent_is got_is =
+    let sends : asking (opening name word) ++ asking ts ≡ sent = append_cancel_left link.sent (asking (opening name word) ++ asking ts) sent
+    (sym (append_assoc link.sent (asking (opening name word)) (asking ts)) ∙ sym cut_sent ∙ sent_is) in
+    let hears : flat_map reply_bytes (hello ∷ others) ++ flat_map reply_bytes rs ≡ got =
+    append_cancel_left link.got (flat_map reply_bytes (hello ∷ others) ++ flat_map reply_bytes rs) got
+    (sym (append_assoc link.got (flat_map reply_bytes (hello ∷ others)) (flat_map reply_bytes rs)) ∙ sym cut_got ∙ got_is) in
+    record {
+      marks = granted.0;
+      honest = subst (λ s. Honest drop s got granted.0) sends (subst (λ g. Honest drop (asking (opening name word) ++ asking ts) g granted.0) hears front);
+      quits = inl refl;
+      marked = tt;
+    }
   where
     said : List Turn
     said = asks name word ++ ts
@@ -108,34 +104,28 @@ honest_front law drop marks name word named worded (hello ∷ others) opened ts 
       line = opened.0.line;
       good = replies_read said (others ++ rs) (commands_in us) all_commands all_replied;
       rest = rest;
-      whole = ap (λ l. (l ++ flat_map reply_bytes others) ++ (flat_map reply_bytes rs ++ rest)) greeted ∙ append_assoc (ended hello.first) (flat_map reply_bytes others) (flat_map reply_bytes rs ++ rest)
-          ∙ ap (λ l. ended hello.first ++ l) (sym (append_assoc (flat_map reply_bytes others) (flat_map reply_bytes rs) rest) ∙ ap (λ l. l ++ rest) (sym (flat_map-append reply_bytes others rs)));
+      whole = rw greeted (simp (flat_map-append, append_assoc));
     }
+
+    whole : Served drop (asking (opening name word) ++ (asking ts ++ asking us)) (flat_map reply_bytes (hello ∷ others) ++ (flat_map reply_bytes rs ++ rest)) vanished
+    whole = served (asking (opening name word) ++ (asking ts ++ asking us)) (flat_map reply_bytes (hello ∷ others) ++ (flat_map reply_bytes rs ++ rest))
+        (all_sent ∙ simp append_assoc) (all_got ∙ simp append_assoc)
 
     granted : (next : List Bool) × Replies drop (no_marks drop) (commands_in said) (flat_map reply_bytes (others ++ rs)) next
     granted = replied_first drop (no_marks drop) (commands_in said) (commands_in us) (others ++ rs) (same_length said (others ++ rs) all_commands all_replied)
-        (law drop (asking (opening name word) ++ (asking ts ++ asking us)) (flat_map reply_bytes (hello ∷ others) ++ (flat_map reply_bytes rs ++ rest)) marks (commands_in said ++ commands_in us)
-        (others ++ rs) honest talked)
+        (law drop (asking (opening name word) ++ (asking ts ++ asking us)) (flat_map reply_bytes (hello ∷ others) ++ (flat_map reply_bytes rs ++ rest)) whole.marks (commands_in said ++ commands_in us)
+        (others ++ rs) whole.honest talked)
 
--- what a link that was cut there gained is served
-pub served_front : HonestIsGranted → (drop : List Message) (vanished : List (List ℕ)) (link link' cut : Link) (name word : List ℕ) → is_credential name ≡ true → is_credential word ≡ true
-    → (first : List WholeReply) → AllZip IsGood (opening name word) first → (ts us : List Turn) (rs : List WholeReply) → AllByRecursion IsCommand ts → AllByRecursion CanBeSaid ts → AllByRecursion CanBeSaid us
-    → AllZip IsGood ts rs → (rest : List ℕ)
-    → link'.sent ≡ ((link.sent ++ asking (opening name word)) ++ asking ts) ++ asking us → link'.got ≡ ((link.got ++ flat_map reply_bytes first) ++ flat_map reply_bytes rs) ++ rest
-    → ((sent got : List ℕ) → link'.sent ≡ link.sent ++ sent → link'.got ≡ link.got ++ got → Served drop sent got vanished)
-    → cut.sent ≡ (link.sent ++ asking (opening name word)) ++ asking ts → cut.got ≡ (link.got ++ flat_map reply_bytes first) ++ flat_map reply_bytes rs
-    → (sent got : List ℕ) → cut.sent ≡ link.sent ++ sent → cut.got ≡ link.got ++ got → Served drop sent got []
-served_front law drop vanished link link' cut name word named worded first opened ts us rs commands can will good rest all_sent all_got served cut_sent cut_got sent got sent_is got_is =
-    let whole = served (asking (opening name word) ++ (asking ts ++ asking us)) (flat_map reply_bytes first ++ (flat_map reply_bytes rs ++ rest))
-    (all_sent ∙ simp append_assoc) (all_got ∙ simp append_assoc) in
-    let front = honest_front law drop whole.marks name word named worded first opened ts us rs commands can will good rest whole.honest in
-    let said : asking (opening name word) ++ asking ts ≡ sent = append_cancel_left link.sent (asking (opening name word) ++ asking ts) sent
-    (sym (append_assoc link.sent (asking (opening name word)) (asking ts)) ∙ sym cut_sent ∙ sent_is) in
-    let heard : flat_map reply_bytes first ++ flat_map reply_bytes rs ≡ got = append_cancel_left link.got (flat_map reply_bytes first ++ flat_map reply_bytes rs) got
-    (sym (append_assoc link.got (flat_map reply_bytes first) (flat_map reply_bytes rs)) ∙ sym cut_got ∙ got_is) in
-    record {
-      marks = front.0;
-      honest = subst (λ s. Honest drop s got front.0) said (subst (λ g. Honest drop (asking (opening name word) ++ asking ts) g front.0) heard front.1);
-      quits = inl refl;
-      marked = tt;
+    front : Honest drop (asking (opening name word) ++ asking ts) (flat_map reply_bytes (hello ∷ others) ++ flat_map reply_bytes rs) granted.0
+    front = record {
+      status = Positive;
+      hello = ended hello.first;
+      greets = (opened.0.rest, record { line = hello.first; is_line = opened.0.line; first = opened.0.positive; whole = refl });
+      commands = commands_in said;
+      asked = subst (λ cs. Asked cs (asking (opening name word) ++ asking ts)) (append-nil (commands_in said))
+          (asked_in said [] (asking (opening name word) ++ asking ts) can_said tt (sym (flat_map-append turn_bytes (asks name word) ts) ∙ sym (append-nil (asking said))));
+      replies = flat_map reply_bytes (others ++ rs);
+      replied = granted.1;
+      later = [];
+      begins = rw greeted (simp (flat_map-append, append_assoc, append-nil));
     }

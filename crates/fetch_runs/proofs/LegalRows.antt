@@ -1,13 +1,13 @@
 -- Each id that a record delivers is legal, if a file stands for it.
 use Rattle.std.proofs.Common.{◌≡◌, inl, inr, ℕ, zero, suc, ◌+◌, List, [], ◌∷◌, ◌++◌, Bool, true, false, ◌&&◌, ◌||◌, cond, Option, None, Some, refl, sym, subst}
 use Rattle.std.specs.List.{AllByRecursion}
-use Rattle.std.proofs.lemmas.Bool.{and_parts, both_ways, cond_both, or_cases}
+use Rattle.std.proofs.lemmas.Bool.{and_parts, both_ways, cases_Bool, cond_both, or_cases}
 use Rattle.std.proofs.lemmas.List.Elements.{recursion_from_All}
 use Rattle.std.proofs.lemmas.Slice.Eq.{bytes_eq-Decides}
 use Rattle.mail_terms.specs.UniqueId.{is_legal_id}
 use Rattle.fetch_rules.specs.Record.{Row, Intent, has_row, is_delivered, is_of, marked}
-use Rattle.fetch_rules.specs.RecordFile.{Version, One, Two, Line, RowLine, GroupLine, IntentLine, IsLine}
-use Rattle.fetch_rules.specs.RecordMeaning.{Ends, Fails, Fault, Judged, InBase, InGroup, BetweenGroups, Means, Progress, Rows, Stands, after_intent, after_line, at_end, counted, has_bytes, has_line_feed, is_open, judged, left_open, line_after, may_take, taken}
+use Rattle.fetch_rules.specs.RecordFile.{Version, Two, Line, RowLine, GroupLine, IntentLine, IsLine}
+use Rattle.fetch_rules.specs.RecordMeaning.{Ends, Fails, Fault, Judged, InBase, InGroup, BetweenGroups, Means, Progress, Rows, Stands, after_intent, after_line, counted, has_bytes, has_line_feed, is_open, judged, left_open, line_after, may_take, taken}
 use Rattle.fetch_rules.specs.declared.seen.SeenFault.{SeenFault}
 use Rattle.fetch_rules.specs.declared.seen.SeenFault.TheVariants.{BadRow}
 use Rattle.fetch_session.specs.Record.{KeepsRows}
@@ -34,28 +34,22 @@ if_stands : (b : Bool) (next : Judged) (fault : SeenFault) → Legal next → Le
 if_stands true next fault legal = legal
 if_stands false next fault legal = tt
 
-if_fails : (b : Bool) (next : Judged) (fault : SeenFault) → Legal next → Legal (cond b (Fails fault) next)
-if_fails true next fault legal = tt
-if_fails false next fault legal = legal
-
 intent_legal : (version : Version) (n : ℕ) (rows : List Row) (before : Option Intent) (intent : Intent) → AreLegal rows → Legal (after_intent version n rows before intent)
-intent_legal One n rows before intent all = tt
-intent_legal Two n rows (Some other) intent all = tt
 intent_legal Two n rows None intent all = if_stands (has_row rows intent.uid) (Stands (BetweenGroups rows (Some intent))) _ all
+intent_legal version n rows before intent all = tt
 
 line_legal : (version : Version) (n : ℕ) (progress : Progress) (line : Line) → Legal (Stands progress) → IsLine line → Legal (after_line version n progress line)
-line_legal version n (InBase rows) (RowLine row) all is = if_fails (has_row rows row.uid) (Stands (InBase (rows ++ row ∷ []))) _ (all_append (λ (r : Row). is_legal_id r.uid ≡ true) rows (row ∷ []) all (is.legal, tt))
+line_legal version n (InBase rows) (RowLine row) all is = cond_both (has_row rows row.uid) (Fails _) (Stands (InBase (rows ++ row ∷ []))) Legal (λ there. tt)
+    (λ absent. all_append (λ (r : Row). is_legal_id r.uid ≡ true) rows (row ∷ []) all (is.legal, tt))
 line_legal version n (InBase rows) (GroupLine count) all is = (all, all)
 line_legal version n (InBase rows) (IntentLine intent) all is = intent_legal version n rows None intent all
-line_legal version n (BetweenGroups rows before) (RowLine row) all is = tt
 line_legal version n (BetweenGroups rows before) (GroupLine count) all is = (all, all)
 line_legal version n (BetweenGroups rows before) (IntentLine intent) all is = intent_legal version n rows before intent all
 line_legal version n (InGroup old before rows zero) (RowLine row) all is =
     if_stands (may_take version rows row) (Stands (BetweenGroups (taken rows row) None)) _ (taken_legal rows row all.1 is.legal)
 line_legal version n (InGroup old before rows (suc more)) (RowLine row) all is =
     if_stands (may_take version rows row) (Stands (InGroup old before (taken rows row) more)) _ (all.0, taken_legal rows row all.1 is.legal)
-line_legal version n (InGroup old before rows more) (GroupLine count) all is = tt
-line_legal version n (InGroup old before rows more) (IntentLine intent) all is = tt
+line_legal version n progress line all is = tt
 
 lines_legal : (version : Version) (n : ℕ) (so_far : Judged) (lines : List Line) → Legal so_far → AllByRecursion IsLine lines → Legal (judged version n so_far lines)
 lines_legal version n so_far [] legal each = legal
@@ -71,16 +65,15 @@ counted_legal (InGroup before intent rows more) all = all.0
 ends_legal : (version : Version) (rows : List Row) (intent : Option Intent) (torn : Bool) (of : Version) (n : ℕ) (end : Judged) (rest : List ℕ) → Legal end
     → Ends of n end rest (Rows version rows intent torn) → AreLegal rows
 ends_legal version rows intent torn of n (Fails fault) rest legal never = absurd cc
-ends_legal version rows intent torn of n (Stands progress) rest legal (none, is) = by (has_line_feed rest) refl
-  where
-    by : (b : Bool) → has_line_feed rest ≡ b → AreLegal rows
-    by true e =
-        let there : at_end of n progress rest ≡ Fault (BadRow (line_after n)) = rw e refl in
-        absurd cc
-    by false e =
-        let there : at_end of n progress rest ≡ Rows of (counted progress) (left_open progress) (is_open progress || has_bytes rest) = rw e refl in
-        let same : rows ≡ counted progress = cc in
-        subst AreLegal (sym same) (counted_legal progress legal)
+ends_legal version rows intent torn of n (Stands progress) rest legal (none, is) = elim (cases_Bool (has_line_feed rest)) [
+  | inl e ↦
+      let never : Rows version rows intent torn ≡ Fault (BadRow (line_after n)) = rw e at is in
+      absurd cc
+  | inr e ↦
+      let there : Rows version rows intent torn ≡ Rows of (counted progress) (left_open progress) (is_open progress || has_bytes rest) = rw e at is in
+      let same : rows ≡ counted progress = cc in
+      subst AreLegal (sym same) (counted_legal progress legal)
+]
 
 means_legal : (bytes : List ℕ) (version : Version) (rows : List Row) (intent : Option Intent) (torn : Bool) → Means bytes (Rows version rows intent torn) → AreLegal rows
 means_legal bytes version rows intent torn (inl (none, is)) = let same : rows ≡ [] = cc in subst AreLegal (sym same) tt

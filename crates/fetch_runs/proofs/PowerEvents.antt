@@ -1,6 +1,5 @@
 -- Each event of a run leaves a state in which a loss of power is one.
-use Rattle.std.proofs.Common.{◌≡◌, ◌≢◌, ◌⊎◌, inl, inr, ℕ, List, [], ◌∷◌, ◌++◌, Bool, true, false, not, ◌&&◌, Option, refl, sym, ap, subst, ◌∙◌, arith}
-use Rattle.std.specs.Prelude.{bytes_eq}
+use Rattle.std.proofs.Common.{◌≡◌, ◌≢◌, ◌⊎◌, inl, inr, ℕ, List, [], ◌∷◌, ◌++◌, Bool, true, false, not, ◌&&◌, Option, refl, sym, ap, subst, ◌∙◌, arith, bytes_eq}
 use Rattle.std.specs.List.{AllByRecursion, filter}
 use Rattle.std.proofs.lemmas.Bool.{both_ways, cases_Bool, false_from_ne_true, or_from, or_left}
 use Rattle.std.proofs.lemmas.List.Folds.{list_any-append}
@@ -20,11 +19,11 @@ use Rattle.fetch_runs.proofs.Ids.{all_at, all_ids_at, bytes_same, bytes_self, ha
 use Rattle.fetch_runs.proofs.Lists.{all_both, all_filter, all_front, all_map, filter-swap, is_some}
 use Rattle.fetch_runs.specs.Headline.{AreTaken, AreTakings, Follows, Headline, IsKept, IsLastStored, IsRecorded, IsRun, KeepsRecord, contents_of, by_rows, after_session, Occasion}
 use Rattle.fetch_runs.specs.Power.{AllMayBeOnDisk, CanLosePower, IsSure, IsSureOrTaken, LossesAreEvents, SessionsAndPower}
-use Rattle.fetch_runs.specs.PowerRuns.{AsMuchIsSure, CanAlwaysLosePower, EventOn, EventsKeepPower, HeadlineOn, IsRunOn, KeepsSure, TakingsRunOn, events_of}
+use Rattle.fetch_runs.specs.PowerRuns.{AsMuchIsSure, CanAlwaysLosePower, EventOn, EventsKeepPower, FollowsOn, HeadlineOn, IsRunOn, KeepsSure, TakingsRunOn, events_of}
 use Rattle.fetch_runs.proofs.HeadlineLemmas.{sound_after}
 use Rattle.fetch_runs.proofs.PowerLosses.{held_file, named_in, named_some}
-use Rattle.fetch_runs.proofs.PowerTakings.{contains_part, held_some, same_or_taken, stay_taken, two_in}
-use Rattle.fetch_runs.proofs.Takings.{LeaveParts, some_held, takings_leave_parts}
+use Rattle.fetch_runs.proofs.PowerTakings.{contains_part, same_or_taken, stay_taken, two_in}
+use Rattle.fetch_runs.proofs.Takings.{LeaveParts, held_some, some_held, takings_leave_parts}
 
 -- the laws that are used
 pub record EventLaws {D F : Type 0} (disk : DiskGhosts D) (files : FileGhosts F) : Type 0 where
@@ -70,7 +69,7 @@ module _ (one : OneRecord) {D F : Type 0} (disk : DiskGhosts D) (files : FileGho
 
   -- a message is held where its files hold what they held
   held_back : (after : AccountFiles) (id : List ℕ) → contents_of world after id ≡ contents_of world state.account id → is_held account after.maildir id ≡ true → is_held account state.account.maildir id ≡ true
-  held_back after id same held = some_held account id state.account.maildir.files (λ none. held_some account id after.maildir.files held (same ∙ none))
+  held_back after id same held = some_held account id state.account.maildir.files (λ none. held_some (stem_of account id) after.maildir.files held (same ∙ none))
 
   not_held : (after : AccountFiles) (id : List ℕ) → contents_of world after id ≡ contents_of world state.account id → is_held account state.account.maildir id ≡ false → is_held account after.maildir id ≡ false
   not_held after id same not = false_from_ne_true (is_held account after.maildir id) (λ held. both_ways (is_held account state.account.maildir id) not (held_back after id same held))
@@ -154,17 +153,15 @@ module _ (one : OneRecord) {D F : Type 0} (disk : DiskGhosts D) (files : FileGho
         → CanLosePower disk files device f world (record state { gone = state.gone ++ ids })
     after_expired ids keeps safe = can_after device f after keeps
         (λ id legal held. inr held)
-        (λ id legal lastly. by id legal lastly (cases_Bool (has_id ids id)))
+        (λ id legal lastly. elim (cases_Bool (has_id ids id)) [
+          | inl gone ↦ inl (keeps.mail id legal (all_ids_at (λ x. IsLastStored world state x → IsSureOrTaken disk was world state x) ids id safe gone lastly))
+          | inr on ↦ inr (still_last device f after keeps (λ x recorded. recorded) (λ m l neither. neither) id
+              (λ before. list_any-append (bytes_eq id) state.gone ids ∙ or_from (has_id state.gone id) (has_id ids id) before on) lastly)
+        ])
         (same_shown device after (λ rows keeps_rows. keeps_rows))
       where
         after : State AccountFiles
         after = record state { gone = state.gone ++ ids }
-
-        by : (id : List ℕ) → is_legal_id id ≡ true → IsLastStored world state id → (has_id ids id ≡ true) ⊎ (has_id ids id ≡ false)
-            → IsSureOrTaken disk device world after id ⊎ IsLastStored world after id
-        by id legal lastly (inl gone) = inl (keeps.mail id legal (all_ids_at (λ x. IsLastStored world state x → IsSureOrTaken disk was world state x) ids id safe gone lastly))
-        by id legal lastly (inr on) = inr (still_last device f after keeps (λ x recorded. recorded) (λ m l neither. neither) id
-            (λ before. list_any-append (bytes_eq id) state.gone ids ∙ or_from (has_id state.gone id) (has_id ids id) before on) lastly)
 
     after_withdrawing : (ids : List (List ℕ)) → Keeps state → AllByRecursion (IsNeither world.account state.account.maildir state.taken) ids → CanLosePower disk files device f (record world { all = without ids world.all }) state
     after_withdrawing ids keeps neither = record {
@@ -214,51 +211,49 @@ module _ (one : OneRecord) {D F : Type 0} (disk : DiskGhosts D) (files : FileGho
     apart_if : (p : List ℕ → Bool) (a b : List ℕ) → p a ≡ false → p b ≡ true → bytes_eq a b ≡ false
     apart_if p a b absent there = false_from_ne_true (bytes_eq a b) (λ same. both_ways (p a) absent (ap p (bytes_same a b same) ∙ there))
 
-    after_taking : (id : List ℕ) (after : AccountFiles) → Keeps (after_event {S = Occasion} after_session state (TakenAway id after)) → Follows world state (TakenAway id after) → CanLosePower disk files device f world (after_event {S = Occasion} after_session state (TakenAway id after))
-    after_taking id after keeps taken = after_moving id after (id ∷ state.taken) keeps taken.record_is taken.others (inr (or_left _ _ (bytes_self id)))
-        (λ m neither.
-        let apart = apart_if (is_held account state.account.maildir) m.uid id neither.0 taken.held in
-        (apart, or_from (bytes_eq m.uid id) (has_id state.taken m.uid) apart neither.1))
-
-    after_bringing : (id : List ℕ) (after : AccountFiles) → Keeps (after_event {S = Occasion} after_session state (BroughtBack id after)) → Follows world state (BroughtBack id after) → CanLosePower disk files device f world (after_event {S = Occasion} after_session state (BroughtBack id after))
-    after_bringing id after keeps brought =
-        after_moving id after (filter (λ x. not (bytes_eq x id)) state.taken) keeps brought.record_is brought.others (keeps.mail id brought.legal (inr brought.taken))
-        (λ m neither. (
-          apart_if (has_id state.taken) m.uid id neither.1 brought.taken,
-          has_filtered (λ x. not (bytes_eq x id)) state.taken m.uid ∙ ap (λ b. b && not (bytes_eq m.uid id)) neither.1,
-        ))
-
-    after_forgetting : (after : AccountFiles) → Keeps (record state { account = after }) → Follows world state (Forgotten after) → CanLosePower disk files device f world (record state { account = after })
-    after_forgetting after keeps forgets = after_same after keeps forgets.mail back
-        (λ rows keeps_rows id delivered. let safe = recorded_sure id delivered in inr (safe.0, keeps.mail id safe.0 safe.1))
-      where
-        back : (id : List ℕ) → IsRecorded after id → IsRecorded state.account id
-        back id recorded =
-            let fewer = forgets.record_is is.0 is.1 in
-            (is.0, is.1, fewer.2 id (ap (λ (r : List Row). is_delivered r id) (one after.file.content fewer.0 recorded.0 fewer.1.0 recorded.1.0 fewer.1.1 recorded.1.1).0 ∙ recorded.2))
+    keeps_power : EventLaws disk files → (event : Event Occasion AccountFiles) → FollowsOn disk files world state was from event device f
+        → Follows world state event × CanLosePower disk files device f (world_after world event) (after_event after_session state event)
+    keeps_power laws (Fetched occasion) follows = laws.sessions world state occasion was from device f sound is follows can
+    keeps_power laws (Between after) follows = (
+      follows.0,
+      after_same after follows.2 follows.0.mail (same_recorded after follows.0.record_is)
+          (same_shown device (record state { account = after }) follows.0.record_is),
+    )
+    keeps_power laws (Expired ids) follows = (follows.0, after_expired ids follows.2 follows.1)
+    keeps_power laws (Withdrawn ids) follows = (follows.0, after_withdrawing ids follows.2 follows.0)
+    keeps_power laws (TakenAway id after) (taken, none_lost, keeps) = (
+      taken,
+      after_moving id after (id ∷ state.taken) keeps taken.record_is taken.others (inr (or_left _ _ (bytes_self id))) (λ m neither.
+          let apart = apart_if (is_held account state.account.maildir) m.uid id neither.0 taken.held in
+          (apart, or_from (bytes_eq m.uid id) (has_id state.taken m.uid) apart neither.1)),
+    )
+    keeps_power laws (BroughtBack id after) (brought, none_lost, keeps) = (
+      brought,
+      after_moving id after (filter (λ x. not (bytes_eq x id)) state.taken) keeps brought.record_is brought.others
+          (keeps.mail id brought.legal (inr brought.taken)) (λ m neither. (
+            apart_if (has_id state.taken) m.uid id neither.1 brought.taken,
+            has_filtered (λ x. not (bytes_eq x id)) state.taken m.uid ∙ ap (λ b. b && not (bytes_eq m.uid id)) neither.1,
+          )),
+    )
+    keeps_power laws (Forgotten after) (forgets, none_lost, keeps) = (
+      forgets,
+      after_same after keeps forgets.mail (λ id recorded.
+          let fewer = forgets.record_is is.0 is.1 in (
+            is.0,
+            is.1,
+            fewer.2 id (ap (λ (r : List Row). is_delivered r id) (one after.file.content fewer.0 recorded.0 fewer.1.0 recorded.1.0 fewer.1.1 recorded.1.1).0
+                ∙ recorded.2),
+          ))
+          (λ rows keeps_rows id delivered. let safe = recorded_sure id delivered in inr (safe.0, keeps.mail id safe.0 safe.1)),
+    )
+    keeps_power laws (PowerLost after) left = (
+      laws.losses was from world state after left.readable.0 sound is can left.mail left.record_is left.readable.1,
+      laws.begins device f world (record state { account = after }) left.stay left.same,
+    )
 
 pub events_keep_power : {D F : Type 0} (disk : DiskGhosts D) (files : FileGhosts F) → EventLaws disk files → EventsKeepPower disk files
-events_keep_power disk files laws world state was from (Fetched occasion) device f sound is can follows = laws.sessions world state occasion was from device f sound is follows can
-events_keep_power disk files laws world state was from (Between after) device f sound is can follows = (
-  follows.0,
-  after_same laws.one disk files world sound state is was from can device f after follows.2 follows.0.mail
-      (same_recorded laws.one disk files world sound state is was from can after follows.0.record_is)
-      (same_shown laws.one disk files world sound state is was from can device (record state { account = after }) follows.0.record_is),
-)
-events_keep_power disk files laws world state was from (Expired ids) device f sound is can follows =
-    (follows.0, after_expired laws.one disk files world sound state is was from can device f ids follows.2 follows.1)
-events_keep_power disk files laws world state was from (Withdrawn ids) device f sound is can follows =
-    (follows.0, after_withdrawing laws.one disk files world sound state is was from can device f ids follows.2 follows.0)
-events_keep_power disk files laws world state was from (TakenAway id after) device f sound is can follows =
-    (follows.0, after_taking laws.one disk files world sound state is was from can device f id after follows.2 follows.0)
-events_keep_power disk files laws world state was from (BroughtBack id after) device f sound is can follows =
-    (follows.0, after_bringing laws.one disk files world sound state is was from can device f id after follows.2 follows.0)
-events_keep_power disk files laws world state was from (Forgotten after) device f sound is can follows =
-    (follows.0, after_forgetting laws.one disk files world sound state is was from can device f after follows.2 follows.0)
-events_keep_power disk files laws world state was from (PowerLost after) device f sound is can left = (
-  laws.losses was from world state after left.readable.0 sound is can left.mail left.record_is left.readable.1,
-  laws.begins device f world (record state { account = after }) left.stay left.same,
-)
+events_keep_power disk files laws world state was from event device f sound is can =
+    keeps_power laws.one disk files world sound state is was from can device f laws event
 
 -- ---- a run
 
@@ -289,17 +284,15 @@ as_much_is_sure law disk files world state was from event device f sound is take
     next : State AccountFiles
     next = after_event after_session state event
 
-    front : List ℕ → List ℕ
-    front id = stem_of world.account id
-
     by : (id : List ℕ) → is_legal_id id ≡ true → IsSureOrTaken disk was world state id → (contents_of world next.account id ≡ contents_of world state.account id) ⊎ (has_id next.taken id ≡ true)
         → IsSureOrTaken disk device world next id
     by id legal safe (inr taken) = inr taken
     by id legal (inr taken) (inl same) = inr (stay_taken state (event ∷ []) id takes taken)
     by id legal (inl sure) (inl same) =
-        let some : copies next.account.maildir.files (front id) ≢ [] = λ none. named_some (front id) state.account.maildir.files sure.one.name sure.named (named_in state.account.maildir.files sure.one sure.there) (sym same ∙ none) in
+        let front = stem_of world.account id in
+        let some : copies next.account.maildir.files front ≢ [] = λ none. named_some front state.account.maildir.files sure.one.name sure.named (named_in state.account.maildir.files sure.one sure.there) (sym same ∙ none) in
         let g = held_file world.account id next.account.maildir.files (some_held world.account id next.account.maildir.files some) in
-        let e = two_in (front id) state.account.maildir.files g.0 sure.one (contains_part state.account.maildir.files next.account.maildir.files g.0 part g.1) g.2 sure.there sure.named ((law world state [] sound is tt).0.once id legal) in
+        let e = two_in front state.account.maildir.files g.0 sure.one (contains_part state.account.maildir.files next.account.maildir.files g.0 part g.1) g.2 sure.there sure.named ((law world state [] sound is tt).0.once id legal) in
         inl (record {
           one = g.0;
           there = g.1;

@@ -1,10 +1,9 @@
 -- What a loss of power may leave after a session is an event of a run.
-use Rattle.std.proofs.Common.{◌≡◌, ◌⊎◌, inl, inr, ◌≤◌, ℕ, zero, suc, List, [], ◌∷◌, ◌++◌, map, Bool, true, false, ◌&&◌, ◌||◌, length, length-append, Option, Some, None, Result, Ok, Err, refl, sym, ap, subst, ◌∙◌, arith}
-use Rattle.std.specs.Prelude.{All, bytes_eq, Contains}
+use Rattle.std.proofs.Common.{◌≡◌, ◌⊎◌, inl, inr, ◌≤◌, ℕ, zero, suc, List, [], ◌∷◌, ◌++◌, map, Bool, true, false, ◌&&◌, ◌||◌, length, length-append, Option, Some, None, Result, Ok, Err, refl, sym, ap, subst, ◌∙◌, arith, All, bytes_eq, Contains}
 use Rattle.std.specs.List.{AllByRecursion, list_any}
 use Rattle.std.proofs.lemmas.Bool.{and_parts, both_ways, false_from_ne_true, or_cases}
-use Rattle.std.proofs.lemmas.List.{append-nil, append_cancel_left, map-append}
-use Rattle.std.proofs.lemmas.List.Elements.{Contains-append_cases, Contains-append_right, filter-append, recursion_from_All}
+use Rattle.std.proofs.lemmas.List.{append-nil, append_cancel_left, map-append, nil_from_length}
+use Rattle.std.proofs.lemmas.List.Elements.{All-contains, All-from_recursion, Contains-append_cases, Contains-append_right, filter-append, recursion_from_All}
 use Rattle.std.proofs.lemmas.List.Concat.{flat_map-append}
 use Rattle.std.proofs.lemmas.List.Folds.{list_any-append}
 use Rattle.std.proofs.lemmas.Slice.Eq.{bytes_eq-Decides}
@@ -12,7 +11,7 @@ use Rattle.fetch_rules.specs.Record.{Row, has_row, is_delivered, marked, marked_
 use Rattle.fetch_rules.specs.Plan.{IsQuiet, planned}
 use Rattle.fetch_rules.specs.declared.steps.Step.{Step}
 use Rattle.fetch_session.specs.Account.{digits_of}
-use Rattle.fetch_session.specs.Lasting.{AreLeft, AreSure, CarriesLast, IsUntouched, Lasts, Leaves, MergeLasts, ProceedsLast, UnreadyLasts}
+use Rattle.fetch_session.specs.Lasting.{AreLeft, CarriesLast, IsUntouched, Lasts, Leaves, MergeLasts, ProceedsLast, UnreadyLasts}
 use Rattle.fetch_session.specs.Laws.{SteadyFilesKeep, UnsavedFilesKeep}
 use Rattle.fetch_session.specs.Plan.{Carried, Carries, Unprepared, tasks_ahead}
 use Rattle.fetch_session.specs.Record.{KeepsRows}
@@ -28,7 +27,7 @@ use Rattle.fetch_session.specs.declared.report.ReportLine.{ReportLine}
 use Rattle.fetch_session.specs.declared.report.Skips.{Skips}
 use Rattle.mail_store.specs.declared.file.flat_file.FlatFile.{Ghosts as FileGhosts}
 use Rattle.mail_store.specs.declared.maildir.disk.MaildirDisk.{Ghosts as DiskGhosts}
-use Rattle.mail_store.specs.FileName.{IsAccountText, NamesAreBases, NamesHaveStems, StemsDiffer, is_held, names_id, sized_file, stem, stem_of}
+use Rattle.mail_store.specs.FileName.{NamesAreBases, NamesHaveStems, StemsDiffer, is_held, names_id, sized_file, stem, stem_of}
 use Rattle.mail_store.specs.FlatFile.{Stored}
 use Rattle.mail_store.specs.Held.{flags_of}
 use Rattle.mail_store.specs.Maildir.{File, Maildir, counted, dropped, name_in, names_of}
@@ -45,7 +44,7 @@ use Rattle.run_law.specs.Power.{OneMoreIsLast}
 use Rattle.fetch_runs.proofs.Lists.{all_map}
 use Rattle.fetch_runs.proofs.Ids.{bytes_same, bytes_self}
 use Rattle.fetch_runs.specs.Headline.{Occasion, IsRecorded, IsSession, IsKept, IsLastStored, Headline, by_rows, after_session}
-use Rattle.fetch_runs.specs.Power.{AllButLastStay, CanLosePower, IsSessionOf, IsSure, IsSureOrTaken, SessionsAndPower, ShowsSure}
+use Rattle.fetch_runs.specs.Power.{AllButLastStay, CanLosePower, IsSessionOf, IsSure, IsSureOrTaken, ShowsSure}
 use Rattle.fetch_runs.proofs.HeadlineLemmas.{Laws, vanished_recorded}
 use Rattle.fetch_runs.proofs.TalkCommands.{both_none}
 use Rattle.fetch_runs.proofs.PowerEvents.{recorded_sure}
@@ -61,17 +60,13 @@ pub record PowerLaws : Type 0 where
   pub record_is : RecordLaws
   pub last : OneMoreIsLast
   pub differ : StemsDiffer
-  pub named : (account uid text : List ℕ) → IsAccountText account → names_id account uid (sized_file (stem_of account uid) text).name ≡ true
+  pub stems : NamesHaveStems
+  pub bases : NamesAreBases
   pub steady : SteadyFilesKeep
   pub unsaved : UnsavedFilesKeep
   pub all : Laws
   pub flagged : (rows : List Row) (listing : List Item) (held : List Bool) (now : ℕ) (uid : List ℕ)
       → is_delivered (merged rows listing held now) uid ≡ is_delivered rows uid || is_flagged listing held uid
-
-pub named_file : NamesHaveStems → NamesAreBases → (account uid text : List ℕ) → IsAccountText account → names_id account uid (sized_file (stem_of account uid) text).name ≡ true
-named_file stems bases account uid text is =
-    let e : stem (sized_file (stem_of account uid) text).name ≡ stem_of account uid = ap stem (bases account uid (length text) is) ∙ stems account uid (length text) is in
-    (bytes_eq-Decides (stem_of account uid) (stem (sized_file (stem_of account uid) text).name)).1 (sym e)
 
 -- ---- lists
 
@@ -97,21 +92,8 @@ flag_held account maildir (i ∷ items) id flagged =
     let later = flag_held account maildir items id in
     grind (arith, flagged, same, later)
 
-all_there : {A : Type 0} (P : A → Type 0) (xs : List A) (x : A) → AllByRecursion P xs → Contains xs x → P x
-all_there P [] x all (k, below, is) = absurd (omega (arith, below))
-all_there P (y ∷ xs) x all (zero, below, is) = subst P is all.0
-all_there P (y ∷ xs) x all (suc k, below, is) = all_there P xs x all.1 (k, omega (arith, below), is)
-
-none_before_one : {A : Type 0} (xs : List A) (x : A) → length (xs ++ x ∷ []) ≤ 1 → xs ≡ []
-none_before_one [] x one = refl
-none_before_one (y ∷ ys) x one = let long = length-append ys (x ∷ []) in absurd (omega (arith, one, long))
-
 no_more : {A : Type 0} (xs ys : List A) (x : A) → ys ≡ xs → ys ≡ xs ++ x ∷ [] → ⊥
-no_more xs ys x same more =
-    let a = ap length same in
-    let b = ap length more in
-    let c = length-append xs (x ∷ []) in
-    absurd (omega (arith, a, b, c))
+no_more xs ys x same more = absurd (omega (arith, ap length same, ap length more, length-append xs (x ∷ [])))
 
 -- tasks that mark nothing store nothing
 no_files : (account : List ℕ) (dones : List Done) → ids_ahead (tasks_of dones) ≡ [] → files_of account dones ≡ []
@@ -155,21 +137,18 @@ module _ (laws : PowerLaws) {D F : Type 0} (disk : DiskGhosts D) (files : FileGh
     copies_more other = ap (λ fs. copies fs (stem_is other)) came ∙ ap (map (λ (f : File). f.content)) (filter-append (λ (f : File). bytes_eq (stem_is other) (stem f.name)) without.files (g ∷ []))
         ∙ map-append (λ (f : File). f.content) _ _
 
-    its_copy : copies (g ∷ []) (stem_is id) ≡ g.content ∷ []
-    its_copy = rw named refl
-
     none : copies without.files (stem_is id) ≡ []
-    none = none_before_one (copies without.files (stem_is id)) g.content
-        (subst (λ (cs : List (List ℕ)). length cs ≤ 1) (copies_more id ∙ ap (λ cs. copies without.files (stem_is id) ++ cs) its_copy)
-        ((laws.headline world (state_with more) [] sound kept_more tt).0.once id legal))
-
-    apart : (other : List ℕ) → is_legal_id other ≡ true → bytes_eq other id ≡ false → bytes_eq (stem_is other) (stem g.name) ≡ false
-    apart other l not = false_from_ne_true (bytes_eq (stem_is other) (stem g.name)) (λ same. both_ways (bytes_eq other id) not
-        ((bytes_eq-Decides other id).1 (laws.differ account other id l legal ((bytes_eq-Decides (stem_is other) (stem g.name)).0 same ∙ sym ((bytes_eq-Decides (stem_is id) (stem g.name)).0 named)))))
+    none =
+        let once : length (copies more.files (stem_is id)) ≤ 1 = (laws.headline world (state_with more) [] sound kept_more tt).0.once id legal in
+        let long = ap length (copies_more id) ∙ length-append (copies without.files (stem_is id)) (copies (g ∷ []) (stem_is id)) in
+        let one : copies (g ∷ []) (stem_is id) ≡ g.content ∷ [] = rw named refl in
+        nil_from_length (copies without.files (stem_is id)) (omega (arith, once, long, ap length one))
 
     other_copies : (other : List ℕ) → is_legal_id other ≡ true → bytes_eq other id ≡ false → copies more.files (stem_is other) ≡ copies without.files (stem_is other)
     other_copies other l not =
-        let absent = apart other l not in
+        let absent : bytes_eq (stem_is other) (stem g.name) ≡ false = false_from_ne_true (bytes_eq (stem_is other) (stem g.name)) (λ same.
+        both_ways (bytes_eq other id) not ((bytes_eq-Decides other id).1 (laws.differ account other id l legal
+        (bytes_same (stem_is other) (stem g.name) same ∙ sym (bytes_same (stem_is id) (stem g.name) named))))) in
         let no_copy : copies (g ∷ []) (stem_is other) ≡ [] = rw absent refl in
         copies_more other ∙ ap (λ cs. copies without.files (stem_is other) ++ cs) no_copy ∙ append-nil (copies without.files (stem_is other))
 
@@ -186,25 +165,28 @@ module _ (laws : PowerLaws) {D F : Type 0} (disk : DiskGhosts D) (files : FileGh
 
   -- ---- which files stay
 
+  abbrev Stay : Type 0
+  Stay = (name : List ℕ) → Contains (names_of before.maildir.files) name → disk.stays device name
+
   abbrev ExtraOk : Maildir → File → Type 0
   ExtraOk maildir g = disk.outlives device g ⊎ ((id : List ℕ) → is_legal_id id ≡ true → names_id account id g.name ≡ true → MayGo maildir id)
 
   all_but_last : (maildir : Maildir) (front extra : List File) → maildir.files ≡ (before.maildir.files ++ front) ++ extra
-      → ((name : List ℕ) → Contains (names_of before.maildir.files) name → disk.stays device name) → AllByRecursion (disk.outlives device) front
-      → AllByRecursion (ExtraOk maildir) extra → AllButLastStay disk device world (state_with maildir)
+      → Stay → AllByRecursion (disk.outlives device) front → AllByRecursion (ExtraOk maildir) extra → AllButLastStay disk device world (state_with maildir)
   all_but_last maildir front extra are stays outlive goes id legal held =
       let one = held_file account id maildir.files held in
-      by one.0 one.1 one.2 (Contains-append_cases (before.maildir.files ++ front) extra one.0 (subst (λ (l : List File). Contains l one.0) are one.1))
-    where
-      by : (g : File) → Contains maildir.files g → names_id account id g.name ≡ true → Contains (before.maildir.files ++ front) g ⊎ Contains extra g
-          → IsSure disk device world maildir.files id ⊎ MayGo maildir id
-      by g there named (inl first) = elim (Contains-append_cases before.maildir.files front g first) [
-        | inl old ↦ inl (record { one = g; there = there; named = named; sure = inl (stays g.name (named_in before.maildir.files g old)) })
-        | inr new ↦ inl (record { one = g; there = there; named = named; sure = inr (all_there (disk.outlives device) front g outlive new) })
-      ]
-      by g there named (inr more) = elim (all_there (ExtraOk maildir) extra g goes more) [
-        | inl outlives ↦ inl (record { one = g; there = there; named = named; sure = inr outlives })
-        | inr go ↦ inr (go id legal named)
+      let there = subst (λ (l : List File). Contains l one.0) are one.1 in
+      elim (Contains-append_cases (before.maildir.files ++ front) extra one.0 there) [
+        | inl first ↦ elim (Contains-append_cases before.maildir.files front one.0 first) [
+          | inl old ↦ inl (record { one = one.0; there = one.1; named = one.2; sure = inl (stays one.0.name (named_in before.maildir.files one.0 old)) })
+          | inr new ↦
+              let outlives = All-contains (disk.outlives device) front one.0 (All-from_recursion (disk.outlives device) front outlive) new in
+              inl (record { one = one.0; there = one.1; named = one.2; sure = inr outlives })
+        ]
+        | inr more ↦ elim (All-contains (ExtraOk maildir) extra one.0 (All-from_recursion (ExtraOk maildir) extra goes) more) [
+          | inl outlives ↦ inl (record { one = one.0; there = one.1; named = one.2; sure = inr outlives })
+          | inr go ↦ inr (go id legal one.2)
+        ]
       ]
 
   -- ---- what the record shows
@@ -219,24 +201,19 @@ module _ (laws : PowerLaws) {D F : Type 0} (disk : DiskGhosts D) (files : FileGh
       → ((id : List ℕ) → Shown maildir was others id) → ShowsSure disk files device f world (state_with maildir)
   shown_by maildir was others leaves within more left now rows may keeps_now keeps id d = by file.content refl
     where
-      Result : Type 0
-      Result = (is_delivered rows id ≡ true) ⊎ ((is_legal_id id ≡ true) × (IsSure disk device world maildir.files id ⊎ (has_id taken id ≡ true)))
-
-      nothing : left ≡ None → Result
-      nothing none =
-          let no_rows = (subst (λ (c : Option (List ℕ)). KeepsRows c now) none keeps_now).1.0 in
+      by : (content : Option (List ℕ)) → file.content ≡ content
+          → (is_delivered rows id ≡ true) ⊎ ((is_legal_id id ≡ true) × (IsSure disk device world maildir.files id ⊎ (has_id taken id ≡ true)))
+      by None is =
+          let no_rows = (subst (λ (c : Option (List ℕ)). KeepsRows c now) (none_left is left may) keeps_now).1.0 in
           absurd (both_ways false refl (sym (ap (λ (r : List Row). is_delivered r id) no_rows) ∙ d))
-
-      stands : (now ≡ was) ⊎ (now ≡ others) → Result
-      stands (inl same) = inl (within rows keeps id (subst (λ (r : List Row). is_delivered r id ≡ true) same d))
-      stands (inr same) = elim (more id (subst (λ (r : List Row). is_delivered r id ≡ true) same d) (kept_legal left now keeps_now id d)) [
-        | inl e ↦ inl (within rows keeps id e)
-        | inr sure ↦ inr sure
-      ]
-
-      by : (content : Option (List ℕ)) → file.content ≡ content → Result
-      by None is = nothing (none_left is left may)
-      by (Some bytes) is = stands (left_stands laws.record_is was others now left (leaves bytes (ap (λ (s : Stored). s.content) (sym file_is) ∙ is) left may) keeps_now)
+      by (Some bytes) is =
+          elim (left_stands laws.record_is was others now left (leaves bytes (ap (λ (s : Stored). s.content) (sym file_is) ∙ is) left may) keeps_now) [
+            | inl same ↦ inl (within rows keeps id (subst (λ (r : List Row). is_delivered r id ≡ true) same d))
+            | inr same ↦ elim (more id (subst (λ (r : List Row). is_delivered r id ≡ true) same d) (kept_legal left now keeps_now id d)) [
+              | inl e ↦ inl (within rows keeps id e)
+              | inr sure ↦ inr sure
+            ]
+          ]
 
   -- one more is delivered, and its file stays
   one_more : (maildir : Maildir) (was : List Row) (uid : List ℕ) (g : File) → Contains maildir.files g → disk.outlives device g → names_id account uid g.name ≡ true
@@ -267,13 +244,6 @@ module _ (laws : PowerLaws) {D F : Type 0} (disk : DiskGhosts D) (files : FileGh
 
     abbrev CarriedTo : Result (Unit {0}) Cut → Maildir → Type 0
     CarriedTo result m = Carried settings (AsFiles digits) items now place (in_maildir before.maildir) before.file [] result (end_with m) skipped
-
-    -- such sessions leave kept states
-    abbrev Alike : Result (Unit {0}) Cut → Type 0
-    Alike result = (m : Maildir) → CarriedTo result m → IsKept world (state_with m)
-
-    abbrev Stay : Type 0
-    Stay = (name : List ℕ) → Contains (names_of before.maildir.files) name → disk.stays device name
 
     same_rows : (content : Option (List ℕ)) (a b : List Row) → KeepsRows content a → KeepsRows content b → a ≡ b
     same_rows content a b x y = (laws.record_is.one content a b x.0 y.0 x.1 y.1).0
@@ -329,18 +299,15 @@ module _ (laws : PowerLaws) {D F : Type 0} (disk : DiskGhosts D) (files : FileGh
         by (inr (inl n)) = absurd (stores_none n.number n.uid n.is)
         by (inr (inr u)) = absurd (stores_none u.number u.uid u.is)
 
-    -- it was cut
+    -- it was cut, and such sessions leave kept states
     module _ {cut : Cut} (c : CarriedTo (Err cut) maildir) (stay : Stay)
         (lasts : Lasts disk files (AsFiles digits) (tasks_ahead settings (AsFiles digits) items now (in_maildir before.maildir) c.mid.rows) c.mid (Err cut) (end_with maildir) c.does (InMaildir device) f)
-        (alike : Alike (Err cut)) where
+        (alike : (m : Maildir) → CarriedTo (Err cut) m → IsKept world (state_with m)) where
       abbrev mid : Scene
       mid = c.does.mid
 
       abbrev was : List Row
       was = marked_all c.mid.rows (ids_of c.does.dones)
-
-      abbrev Records : Type 0
-      Records = ShowsSure disk files device f world (state_with maildir)
 
       base : mid.store.maildir.files ≡ before.maildir.files ++ files_of digits c.does.dones
       base = c.does.went.stored.came ∙ ap (λ (l : List File). l ++ files_of digits c.does.dones) (start_files c)
@@ -357,12 +324,12 @@ module _ (laws : PowerLaws) {D F : Type 0} (disk : DiskGhosts D) (files : FileGh
       has_was : (rows : List Row) → rows ≡ was → Has rows
       has_was rows are = λ id d. subst (λ (r : List Row). is_delivered r id ≡ true) (sym are) d
 
-      unmarked : Leaves files f (AreLeft mid.rows mid.rows) → file ≡ mid.file → Records
+      unmarked : Leaves files f (AreLeft mid.rows mid.rows) → file ≡ mid.file → ShowsSure disk files device f world (state_with maildir)
       unmarked leaves same = shown_by maildir was was (subst (λ (r : List Row). Leaves files f (AreLeft r r)) c.does.went.rows leaves)
           (λ rows keeps. has_was rows (same_file same rows keeps)) (λ id d legal. inl d)
 
       marked_one : (number : ℕ) (uid : List ℕ) → c.does.next ≡ stores number uid → (g : File) → maildir.files ≡ mid.store.maildir.files ++ g ∷ [] → names_id account uid g.name ≡ true
-          → disk.outlives device g → ((rows : List Row) → KeepsRows file.content rows → Has rows) → Records
+          → disk.outlives device g → ((rows : List Row) → KeepsRows file.content rows → Has rows) → ShowsSure disk files device f world (state_with maildir)
       marked_one number uid is g came named outlives within =
           shown_by maildir was (marked was uid) (subst (λ (t : Task). Leaves files f (AreLeft was (marked_all was (ids_in t)))) is lasts.0.left) within
           (one_more maildir was uid g (subst (λ (l : List File). Contains l g) (sym came) (Contains-append_right mid.store.maildir.files (g ∷ []) g (zero, omega arith, refl))) outlives named)
@@ -374,8 +341,9 @@ module _ (laws : PowerLaws) {D F : Type 0} (disk : DiskGhosts D) (files : FileGh
       extra g came ok = all_but_last maildir (files_of digits c.does.dones) (g ∷ []) (came ∙ ap (λ (l : List File). l ++ g ∷ []) base) stay lasts.0.texts (ok, tt)
 
       named_here : (uid text : List ℕ) → names_id account uid (sized_file (stem_of digits uid) text).name ≡ true
-      named_here uid text = subst (λ (a : List ℕ). names_id account uid (sized_file (stem_of a uid) text).name ≡ true) (sym same_account)
-          (laws.named account uid text sound.account)
+      named_here uid text = (bytes_eq-Decides (stem_of account uid) (stem (sized_file (stem_of digits uid) text).name)).1
+          (sym (rw same_account (ap stem (laws.bases account uid (length text) sound.account)
+          ∙ laws.stems account uid (length text) sound.account)))
 
       -- the file that came is this one
       named_one : (uid text : List ℕ) (g : File) → maildir.files ≡ mid.store.maildir.files ++ sized_file (stem_of digits uid) text ∷ [] → maildir.files ≡ mid.store.maildir.files ++ g ∷ []
@@ -460,12 +428,11 @@ module _ (laws : PowerLaws) {D F : Type 0} (disk : DiskGhosts D) (files : FileGh
           ]
 
       answer_cut : Answer maildir
-      answer_cut = by c.does.stops
-        where
-          by : Stops (AsFiles digits) c.does.next mid cut (end_with maildir) → Answer maildir
-          by (inl broken) = nothing (ap (λ (s : Stores). s.maildir.files) broken.store) broken.file
-          by (inr (inl n)) = refused n
-          by (inr (inr u)) = unsaved u
+      answer_cut = elim c.does.stops [
+        | inl broken ↦ nothing (ap (λ (s : Stores). s.maildir.files) broken.store) broken.file
+        | inr (inl n) ↦ refused n
+        | inr (inr u) ↦ unsaved u
+      ]
 
 -- ---- the session as a whole
 
@@ -480,16 +447,11 @@ module _ (laws : PowerLaws) {D F : Type 0} (disk : DiskGhosts D) (files : FileGh
   abbrev with_maildir : Maildir → Occasion AccountFiles
   with_maildir m = record occasion { after = account_files m occasion.after.file }
 
-  abbrev SessionTo : Maildir → Type 0
-  SessionTo m = Session occasion.settings digits_here occasion.now occasion.link state.account occasion.report occasion.link' (account_files m occasion.after.file)
-
-  is_session : (m : Maildir) → SessionTo m → IsSession world state (with_maildir m)
+  is_session : (m : Maildir) → Session occasion.settings digits_here occasion.now occasion.link state.account occasion.report occasion.link' (account_files m occasion.after.file)
+      → IsSession world state (with_maildir m)
   is_session m s = record { settings = is.settings; session = s; served = is.served }
 
-  kept_after : (m : Maildir) → SessionTo m → IsKept world (state_with laws disk files world sound state.account gone_after state.taken occasion.after.file device f is.file_is is.none m)
-  kept_after m s = (laws.headline world state (Fetched (with_maildir m) ∷ []) sound is_kept (is_session m s, tt)).1
-
-  pub this_session : IsSession world state occasion
+  this_session : IsSession world state occasion
   this_session = is_session occasion.after.maildir is.session
 
   abbrev pub Answered : Type 0
@@ -529,20 +491,23 @@ module _ (laws : PowerLaws) {D F : Type 0} (disk : DiskGhosts D) (files : FileGh
       ];
     }
 
-  -- nothing was written
-  still : occasion.after.maildir.files ≡ state.account.maildir.files → IsUntouched disk files (InMaildir was) (InMaildir device) from f → Answered
-  still same un = as_it_was same (ap (λ (s : Stored). s.content) (is.file_is ∙ un.same ∙ sym is.from_is)) un.no_more (λ id legal one. record {
+  kept_sure : occasion.after.maildir.files ≡ state.account.maildir.files → (id : List ℕ) → (one : IsSure disk was world state.account.maildir.files id)
+      → (disk.stays was one.one.name → disk.stays device one.one.name) → (disk.outlives was one.one → disk.outlives device one.one)
+      → IsSure disk device world occasion.after.maildir.files id
+  kept_sure same id one stay outlive = record {
     one = one.one;
     there = subst (λ (l : List File). Contains l one.one) (sym same) one.there;
     named = one.named;
     sure = elim one.sure [
-      | inl stays ↦ inl (un.mail.0 one.one.name stays)
-      | inr outlives ↦ inr (un.mail.1 one.one outlives)
+      | inl stays ↦ inl (stay stays)
+      | inr outlives ↦ inr (outlive outlives)
     ];
-  })
+  }
 
-  safe : AreSure files (InMaildir was) from
-  safe = (tt, is.sure)
+  -- nothing was written
+  still : occasion.after.maildir.files ≡ state.account.maildir.files → IsUntouched disk files (InMaildir was) (InMaildir device) from f → Answered
+  still same un = as_it_was same (ap (λ (s : Stored). s.content) (is.file_is ∙ un.same ∙ sym is.from_is)) un.no_more
+      (λ id legal one. kept_sure same id one (un.mail.0 one.one.name) (un.mail.1 one.one))
 
   -- it was cut while it prepared the record
   module _ (items : List Item) (place place' : Place) (cut : Cut) (rows' : List Row) (lines : List ReportLine)
@@ -553,24 +518,11 @@ module _ (laws : PowerLaws) {D F : Type 0} (disk : DiskGhosts D) (files : FileGh
     same_files = unready_files cut.fault state.account.maildir state.account.file occasion.after.maildir occasion.after.file unprepared.unready.cause
 
     sure_left : (id : List ℕ) → is_legal_id id ≡ true → IsSure disk was world state.account.maildir.files id → IsSure disk device world occasion.after.maildir.files id
-    sure_left id legal one = record {
-      one = one.one;
-      there = subst (λ (l : List File). Contains l one.one) (sym same_files) one.there;
-      named = one.named;
-      sure = elim one.sure [
-        | inl stays ↦ elim (lasts.mail.0 one.one.name stays) [
-          | inl on ↦ inl on
-          | inr took ↦ absurd (none_took took)
-        ]
-        | inr outlives ↦ elim (lasts.mail.1 one.one outlives) [
-          | inl on ↦ inr on
-          | inr took ↦ absurd (none_took took)
-        ]
-      ];
-    }
+    sure_left id legal one = kept_sure same_files id one (λ stays. on (lasts.mail.0 one.one.name stays)) (λ outlives. on (lasts.mail.1 one.one outlives))
       where
-        none_took : TookOne one.one.name (disk.maildir was).files state.account.maildir.files → ⊥
-        none_took took =
+        on : {P : Type 0} → P ⊎ TookOne one.one.name (disk.maildir was).files state.account.maildir.files → P
+        on (inl kept) = kept
+        on (inr took) =
             let there = count_there state.account.maildir.files one.one one.there in
             let below = count_below (stem_of world.account id) one.one.name (disk.maildir was).files one.named in
             let once = is.once id legal in
@@ -634,33 +586,27 @@ module _ (laws : PowerLaws) {D F : Type 0} (disk : DiskGhosts D) (files : FileGh
         | inr same ↦ of_merged id rows (kept_legal left now keeps_now id d) (subst (λ (r : List Row). is_delivered r id ≡ true) same d)
       ]
 
-      merging : Answered
-      merging = record {
-        stay = λ id legal held. inl (all_sure id held);
-        shows = λ left now rows may keeps_now keeps id d. shows_left left now rows keeps_now id d (m.leaves left may);
-      }
-
     unready : Answered
     unready = elim lasts.rows [
       | inl (no_more, same) ↦ as_it_was same_files (ap (λ (s : Stored). s.content) is.file_is ∙ same) no_more sure_left
-      | inr m ↦ merging m
+      | inr m ↦ record {
+        stay = λ id legal held. inl (all_sure m id held);
+        shows = λ left now rows may keeps_now keeps id d. shows_left m left now rows keeps_now id d (m.leaves left may);
+      }
     ]
 
-  pub answered : Answered
-  answered = by is.session.result is.session.proceeds is.lasts is.session.leaves is.session.reports
+  pub sessions_and_power : IsSession world state occasion × Answered
+  sessions_and_power = (this_session, by is.session.result is.session.proceeds is.lasts is.session.leaves is.session.reports)
     where
       by : (result : Result (Unit {0}) Cut)
           → (proceeds : Proceeds occasion.settings (AsFiles digits_here) occasion.now (at occasion.link []) (keeps_files state.account) result is.session.mid (keeps_files occasion.after) is.session.notes)
           → ProceedsLast disk files (InMaildir was) from _ _ _ _ _ _ _ _ _ proceeds (InMaildir device) f → LeavesLink result is.session.mid occasion.link' → Reports (outcome_of result) is.session.notes.total is.session.notes.skipped is.session.notes.lines occasion.report → Answered
-      by (Ok done) dealt lasts leaves reports = of dealt.carries lasts
-        where
-          of : (carries : Carries occasion.settings (AsFiles digits_here) dealt.items occasion.now dealt.mid (in_maildir state.account.maildir) state.account.file [] (Ok done) is.session.mid
-              (in_maildir occasion.after.maildir) occasion.after.file is.session.notes.lines is.session.notes.skipped) → CarriesLast disk files (InMaildir was) from occasion.settings (AsFiles digits_here) dealt.items occasion.now dealt.mid
-              (in_maildir state.account.maildir) state.account.file [] (Ok done) is.session.mid (in_maildir occasion.after.maildir) occasion.after.file is.session.notes.lines is.session.notes.skipped carries (InMaildir device) f → Answered
-          of (rows, c) all = elim (all safe) [
-            | inl (quiet, un) ↦ still (quiet_ok laws disk files world sound state.account gone_after state.taken occasion.after.file device f is.file_is is.none _ _ _ _ _ _ _ _ _ occasion.after.maildir is.settings.account c quiet) un
-            | inr (lasts, mail) ↦ answer_ok laws disk files world sound state.account gone_after state.taken occasion.after.file device f is.file_is is.none _ _ _ _ _ _ _ _ _ occasion.after.maildir is.settings.account c mail.stay lasts
-          ]
+      by (Ok done) dealt lasts leaves reports = elim (lasts (tt, is.sure)) [
+        | inl (quiet, un) ↦ still (quiet_ok laws disk files world sound state.account gone_after state.taken occasion.after.file device f
+            is.file_is is.none _ _ _ _ _ _ _ _ _ occasion.after.maildir is.settings.account dealt.carries.1 quiet) un
+        | inr (lasts, mail) ↦ answer_ok laws disk files world sound state.account gone_after state.taken occasion.after.file device f
+            is.file_is is.none _ _ _ _ _ _ _ _ _ occasion.after.maildir is.settings.account dealt.carries.1 mail.stay lasts
+      ]
       by (Err cut) (inl stopped) un leaves reports = still (ap (λ (k : Keeping). k.store.maildir.files) stopped.same) un
       by (Err cut) (inr (inl wanting)) un leaves reports = still (ap (λ (k : Keeping). k.store.maildir.files) wanting.same) un
       by (Err cut) (inr (inr dealt)) lasts leaves reports = of dealt.carries lasts
@@ -668,23 +614,20 @@ module _ (laws : PowerLaws) {D F : Type 0} (disk : DiskGhosts D) (files : FileGh
           of : (carries : Carries occasion.settings (AsFiles digits_here) dealt.items occasion.now dealt.mid (in_maildir state.account.maildir) state.account.file [] (Err cut) is.session.mid
               (in_maildir occasion.after.maildir) occasion.after.file is.session.notes.lines is.session.notes.skipped) → CarriesLast disk files (InMaildir was) from occasion.settings (AsFiles digits_here) dealt.items occasion.now dealt.mid
               (in_maildir state.account.maildir) state.account.file [] (Err cut) is.session.mid (in_maildir occasion.after.maildir) occasion.after.file is.session.notes.lines is.session.notes.skipped carries (InMaildir device) f → Answered
-          of (rows, inl (none_said, unprepared)) all = unready dealt.items dealt.mid is.session.mid cut rows is.session.notes.lines unprepared (all safe)
-          of (rows, inr c) all = elim (all safe) [
+          of (rows, inl (none_said, unprepared)) all = unready dealt.items dealt.mid is.session.mid cut rows is.session.notes.lines unprepared (all (tt, is.sure))
+          of (rows, inr c) all = elim (all (tt, is.sure)) [
             | inl (quiet, un) ↦ still (quiet_cut laws disk files world sound state.account gone_after state.taken occasion.after.file device f is.file_is is.none _ _ _ _ _ _ _ _ _ occasion.after.maildir is.settings.account c quiet) un
             | inr (lasts, mail) ↦ answer_cut laws disk files world sound state.account gone_after state.taken occasion.after.file device f is.file_is is.none _ _ _ _ _ _ _ _ _ occasion.after.maildir is.settings.account
                 c mail.stay lasts
-                (λ m carried. kept_after m (record {
-                  result = Err cut;
-                  mid = is.session.mid;
-                  notes = is.session.notes;
-                  proceeds = inr (inr (record { items = dealt.items; mid = dealt.mid; enters = dealt.enters; total = dealt.total; carries = (rows, inr carried) }));
-                  leaves = leaves;
-                  reports = reports;
-                }))
+                (λ m carried. (laws.headline world state (Fetched (with_maildir m) ∷ []) sound is_kept (
+                  is_session m (record {
+                    result = Err cut;
+                    mid = is.session.mid;
+                    notes = is.session.notes;
+                    proceeds = inr (inr (record { items = dealt.items; mid = dealt.mid; enters = dealt.enters; total = dealt.total; carries = (rows, inr carried) }));
+                    leaves = leaves;
+                    reports = reports;
+                  }),
+                  tt,
+                )).1)
           ]
-
-pub sessions_and_power : PowerLaws → {D F : Type 0} (disk : DiskGhosts D) (files : FileGhosts F) → SessionsAndPower disk files
-sessions_and_power laws disk files world state occasion was from device f sound is_kept is can = (
-  this_session laws disk files world state occasion was from device f sound is_kept is can,
-  answered laws disk files world state occasion was from device f sound is_kept is can,
-)

@@ -1,15 +1,12 @@
 -- What readers leave when they take files away.
-use Rattle.std.proofs.Common.{◌≡◌, ◌≢◌, ◌⊎◌, inl, inr, ◌≤◌, ℕ, zero, suc, List, [], ◌∷◌, true, false, ◌||◌, length, refl, sym, ap, subst, ◌∙◌, arith}
-use Rattle.std.specs.Prelude.{bytes_eq, Contains}
-use Rattle.std.specs.List.{list_any}
-use Rattle.std.proofs.lemmas.Bool.{cases_Bool}
+use Rattle.std.proofs.Common.{◌≡◌, ◌⊎◌, inl, inr, ◌≤◌, ℕ, zero, suc, List, [], ◌∷◌, true, length, refl, sym, ap, subst, ◌∙◌, arith, bytes_eq, Contains}
+use Rattle.std.proofs.lemmas.Bool.{cases_Bool, or_left, or_right}
+use Rattle.std.proofs.lemmas.List.{nil_from_length}
 use Rattle.mail_terms.specs.UniqueId.{has_id, is_legal_id}
-use Rattle.mail_store.specs.FileName.{names_id, stem, stem_of}
+use Rattle.mail_store.specs.FileName.{stem}
 use Rattle.mail_store.specs.Maildir.{File, IsPart}
 use Rattle.run_law.specs.Accounts.{copies}
 use Rattle.fetch_session.specs.Session.{AccountFiles}
-use Rattle.fetch_runs.proofs.Lists.{any_filter, is_some}
-use Rattle.std.proofs.lemmas.Bool.{both_ways, or_right}
 use Rattle.fetch_runs.specs.Headline.{AreTakings, IsRun, contents_of, after_session, Occasion}
 use Rattle.fetch_runs.proofs.PowerLosses.{named_in, named_some}
 use Rattle.run_law.specs.Runs.{State, World, Event, Between, TakenAway, after_events}
@@ -25,14 +22,12 @@ contains_part (f ∷ fs) left g (inr (rest, e, is)) there = elim (Contains-appen
   | inr later ↦ Contains-append_right (f ∷ []) fs g (contains_part fs rest g is later)
 ]
 
-short : (c : List ℕ) (cs : List (List ℕ)) → length (c ∷ cs) ≤ 1 → cs ≡ []
-short c [] one = refl
-short c (d ∷ cs) one = absurd (omega (arith, one))
-
 -- only this file has the stem
 alone : (front : List ℕ) (x : File) (fs : List File) (g : File) → bytes_eq front (stem x.name) ≡ true → length (copies (x ∷ fs) front) ≤ 1 → Contains fs g
     → bytes_eq front (stem g.name) ≡ true → ⊥
-alone front x fs g its one there named = named_some front fs g.name named (named_in fs g there) (short x.content (copies fs front) (rw its at one))
+alone front x fs g its one there named =
+    let few : length (x.content ∷ copies fs front) ≤ 1 = rw its at one in
+    named_some front fs g.name named (named_in fs g there) (nil_from_length (copies fs front) (omega (arith, few)))
 
 -- two files of a stem that only one has are the same
 pub two_in : (front : List ℕ) (fs : List File) (f g : File) → Contains fs f → bytes_eq front (stem f.name) ≡ true → Contains fs g → bytes_eq front (stem g.name) ≡ true → length (copies fs front) ≤ 1 → f ≡ g
@@ -44,11 +39,6 @@ two_in front (x ∷ fs) f g (suc j, below, a) its (zero, below', b) named one =
     absurd (alone front x fs f (ap (λ (h : File). bytes_eq front (stem h.name)) b ∙ named) one (j, omega (arith, below), a) its)
 two_in front (x ∷ fs) f g (suc j, below, a) its (suc k, below', b) named one =
     two_in front fs f g (j, omega (arith, below), a) its (k, omega (arith, below'), b) named (grind (arith, one))
-
-pub held_some : (account id : List ℕ) (fs : List File) → list_any (λ (f : File). names_id account id f.name) fs ≡ true → copies fs (stem_of account id) ≢ []
-held_some account id fs held none =
-    both_ways (is_some (copies fs (stem_of account id))) (ap is_some none)
-    (sym (any_filter (λ (f : File). names_id account id f.name) (λ (f : File). f.content) fs) ∙ held)
 
 -- ---- what takings do
 
@@ -63,18 +53,14 @@ pub same_or_taken : (world : World) (state : State AccountFiles) (events : List 
     → (contents_of world (after_events after_session state events).account id ≡ contents_of world state.account id) ⊎ (has_id (after_events after_session state events).taken id ≡ true)
 same_or_taken world state [] id legal each run = inl refl
 same_or_taken world state (TakenAway x after ∷ events) id legal each run =
-    by (same_or_taken world (record state { account = after; taken = x ∷ state.taken }) events id legal each run.1) (cases_Bool (bytes_eq id x))
-  where
-    next : State AccountFiles
-    next = record state { account = after; taken = x ∷ state.taken }
-
-    Result : AccountFiles → Type 0
-    Result old = (contents_of world (after_events after_session next events).account id ≡ contents_of world old id) ⊎ (has_id (after_events after_session next events).taken id ≡ true)
-
-    by : Result after → (bytes_eq id x ≡ true) ⊎ (bytes_eq id x ≡ false) → Result state.account
-    by later (inl same) = inr (stay_taken next events id each (ap (λ b. b || has_id state.taken id) same))
-    by (inl e) (inr apart) = inl (e ∙ run.0.others id legal apart)
-    by (inr taken) (inr apart) = inr taken
+    let next : State AccountFiles = record state { account = after; taken = x ∷ state.taken } in
+    elim (cases_Bool (bytes_eq id x)) [
+      | inl same ↦ inr (stay_taken next events id each (or_left (bytes_eq id x) (has_id state.taken id) same))
+      | inr apart ↦ elim (same_or_taken world next events id legal each run.1) [
+        | inl e ↦ inl (e ∙ run.0.others id legal apart)
+        | inr taken ↦ inr taken
+      ]
+    ]
 same_or_taken world state (Between after ∷ events) id legal each run = elim (same_or_taken world (record state { account = after }) events id legal each run.1) [
   | inl e ↦ inl (e ∙ run.0.mail id legal)
   | inr taken ↦ inr taken

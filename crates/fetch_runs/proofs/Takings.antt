@@ -1,8 +1,8 @@
 -- Files that readers took away are events of a run.
-use Rattle.std.proofs.Common.{◌≡◌, ◌≢◌, ◌⊎◌, inl, inr, ◌<◌, ◌≤◌, ℕ, List, [], ◌∷◌, Bool, true, false, not, length, take, refl, sym, ap, subst, ◌∙◌, arith}
-use Rattle.std.specs.Prelude.{bytes_eq}
+use Rattle.std.proofs.Common.{◌≡◌, ◌≢◌, ◌⊎◌, inl, inr, ◌<◌, ◌≤◌, ℕ, List, [], ◌∷◌, Bool, true, false, not, length, take, refl, sym, ap, subst, ◌∙◌, arith, bytes_eq}
 use Rattle.std.specs.List.{filter, list_any}
-use Rattle.std.proofs.lemmas.Bool.{cases_Bool, false_from_ne_true, or_cases, true≢false, cond_both}
+use Rattle.std.proofs.lemmas.Bool.{both_ways, cases_Bool, false_from_ne_true, or_cases, cond_both}
+use Rattle.std.proofs.lemmas.List.{nil_from_length}
 use Rattle.std.proofs.lemmas.Slice.Eq.{bytes_eq-Decides}
 use Rattle.mail_terms.specs.UniqueId.{has_id, is_legal_id}
 use Rattle.mail_store.specs.FlatFile.{Stored}
@@ -35,14 +35,25 @@ others_left front other (f ∷ fs) apart =
 -- ---- what is left of an id's files
 
 -- all that an id's files held, or less
-pub part_copies : (front : List ℕ) (fs left : List File) → IsPart fs left → (copies left front ≡ copies fs front) ⊎ (length (copies left front) < length (copies fs front))
+part_copies : (front : List ℕ) (fs left : List File) → IsPart fs left → (copies left front ≡ copies fs front) ⊎ (length (copies left front) < length (copies fs front))
 part_copies front [] left is = inl (ap (λ (ts : List File). copies ts front) is)
 part_copies front (f ∷ fs) left (inl is) = let less = part_copies front fs left is in grind (arith, less)
 part_copies front (f ∷ fs) left (inr (rest, e, is)) =
     let less = part_copies front fs rest is in
     subst (λ (ts : List File). (copies ts front ≡ copies (f ∷ fs) front) ⊎ (length (copies ts front) < length (copies (f ∷ fs) front))) (sym e) (grind (arith, less))
 
--- an id with files is held
+-- if it was one file, that is left, or nothing is
+pub left_or_none : (front : List ℕ) (fs left : List File) → IsPart fs left → length (copies fs front) ≤ 1
+    → (copies left front ≡ copies fs front) ⊎ ((copies left front ≡ []) × (copies fs front ≢ []))
+left_or_none front fs left part once = elim (part_copies front fs left part) [
+  | inl same ↦ inl same
+  | inr less ↦ inr (
+    nil_from_length (copies left front) (omega (arith, less, once)),
+    λ none. let e = ap length none in absurd (omega (arith, less, e)),
+  )
+]
+
+-- an id with files is held, and one that is held has files
 pub some_held : (account id : List ℕ) (fs : List File) → copies fs (stem_of account id) ≢ [] → list_any (λ (f : File). names_id account id f.name) fs ≡ true
 some_held account id fs some =
     any_filter (λ (f : File). names_id account id f.name) (λ (f : File). f.content) fs ∙ there (copies fs (stem_of account id)) some
@@ -51,13 +62,9 @@ some_held account id fs some =
     there [] none = absurd (none refl)
     there (c ∷ cs) some = refl
 
-pub less_than_one : {A : Type 0} (xs ys : List A) → length xs < length ys → length ys ≤ 1 → (xs ≡ []) × (ys ≢ [])
-less_than_one [] ys less one = (refl, λ none. let e = ap length none in absurd (omega (arith, less, e)))
-less_than_one (x ∷ xs) ys less one = absurd (omega (arith, less, one))
-
-pub nothing_or_some : {A : Type 0} (xs : List A) → (xs ≡ []) ⊎ (xs ≢ [])
-nothing_or_some [] = inl refl
-nothing_or_some (x ∷ xs) = inr (λ none. cc)
+pub held_some : (front : List ℕ) (fs : List File) → list_any (λ (f : File). bytes_eq front (stem f.name)) fs ≡ true → copies fs front ≢ []
+held_some front fs held none = both_ways (is_some (copies fs front)) (ap is_some none)
+    (sym (any_filter (λ (f : File). bytes_eq front (stem f.name)) (λ (f : File). f.content) fs) ∙ held)
 
 -- ---- parts
 
@@ -78,17 +85,12 @@ part_of_others front [] left is none = is
 part_of_others front (f ∷ fs) left (inl is) none =
     let more = part_of_others front fs left is none in
     cond_both (not (bytes_eq front (stem f.name))) (f ∷ others_than front fs) (others_than front fs) (λ (l : List File). IsPart l left) (λ other. inl more) (λ same. more)
-part_of_others front (f ∷ fs) left (inr (rest, are, is)) none = by (part_of_others front fs rest is) (bytes_eq front (stem f.name)) refl
-  where
-    by : (copies rest front ≡ [] → IsPart (others_than front fs) rest) → (b : Bool) → bytes_eq front (stem f.name) ≡ b → IsPart (others_than front (f ∷ fs)) left
-    by more true e =
-        let there : copies (f ∷ rest) front ≡ f.content ∷ copies rest front = rw e refl in
-        let never : f.content ∷ copies rest front ≡ [] = sym there ∙ ap (λ (l : List File). copies l front) (sym are) ∙ none in
-        absurd cc
-    by more false e =
-        let same : others_than front (f ∷ fs) ≡ f ∷ others_than front fs = rw e refl in
-        let fewer : copies (f ∷ rest) front ≡ copies rest front = rw e refl in
-        subst (λ (l : List File). IsPart l left) (sym same) (inr (rest, are, more (sym fewer ∙ ap (λ (l : List File). copies l front) (sym are) ∙ none)))
+part_of_others front (f ∷ fs) left (inr (rest, are, is)) none = elim (cases_Bool (bytes_eq front (stem f.name))) [
+  | inl same ↦
+      let never : f.content ∷ copies rest front ≡ [] = rw (are, same) at none in
+      absurd cc
+  | inr other ↦ rw (are, other) (inr (rest, refl, part_of_others front fs rest is (rw (are, other) at none)))
+]
 
 -- ---- one id after another
 
@@ -114,46 +116,44 @@ module _ (differ : StemsDiffer) (world : World) (maildir : Maildir) (file : Stor
   abbrev IsDue : List File → List ℕ → Type 0
   IsDue fs id = (is_legal_id id ≡ true) × (copies left (stem_of account id) ≡ []) × (copies fs (stem_of account id) ≢ [])
 
-  is_due : (fs : List File) (id : List ℕ) → IsDue fs id ⊎ (IsDue fs id → ⊥)
-  is_due fs id = by (cases_Bool (is_legal_id id)) (nothing_or_some (copies left (stem_of account id))) (nothing_or_some (copies fs (stem_of account id)))
-    where
-      by : (is_legal_id id ≡ true) ⊎ (is_legal_id id ≡ false) → (copies left (stem_of account id) ≡ []) ⊎ (copies left (stem_of account id) ≢ [])
-          → (copies fs (stem_of account id) ≡ []) ⊎ (copies fs (stem_of account id) ≢ []) → IsDue fs id ⊎ (IsDue fs id → ⊥)
-      by (inl legal) (inl none) (inr some) = inl (legal, none, some)
-      by (inr other) none some = inr (λ due. true≢false (sym due.0 ∙ other))
-      by legal (inr some) there = inr (λ due. some due.1)
-      by legal none (inl gone) = inr (λ due. due.2 gone)
-
-  apart : (a b : List ℕ) → is_legal_id a ≡ true → is_legal_id b ≡ true → bytes_eq a b ≡ false → stem_of account a ≡ stem_of account b → ⊥
-  apart a b la lb not same = true≢false (sym ((bytes_eq-Decides a b).1 (differ account a b la lb same)) ∙ not)
+  is_due : (fs : List File) (id : List ℕ) (ids : List (List ℕ)) → AreDue account left (id ∷ ids) fs → IsDue fs id ⊎ (IsDue fs id → ⊥)
+  is_due fs id ids due = elim (cases_Bool (is_legal_id id)) [
+    | inl legal ↦ elim (due id legal) [
+      | inl same ↦ inr (λ is. is.2 (sym same ∙ is.1))
+      | inr (among, none, some) ↦ inl (legal, none, some)
+    ]
+    | inr other ↦ inr (λ is. both_ways (is_legal_id id) other is.0)
+  ]
 
   -- the id isn't due
   passed : (fs : List File) (id : List ℕ) (ids : List (List ℕ)) → AreDue account left (id ∷ ids) fs → (IsDue fs id → ⊥) → AreDue account left ids fs
-  passed fs id ids due not other l = by (due other l)
-    where
-      by : StaysOrGoes account left (id ∷ ids) fs other → StaysOrGoes account left ids fs other
-      by (inl same) = inl same
-      by (inr (among, none, some)) = elim (or_cases (bytes_eq other id) (has_id ids other) among) [
-        | inl is ↦ absurd (not (subst (IsDue fs) ((bytes_eq-Decides other id).0 is) (l, none, some)))
-        | inr more ↦ inr (more, none, some)
-      ]
+  passed fs id ids due not other l = elim (due other l) [
+    | inl same ↦ inl same
+    | inr (among, none, some) ↦ elim (or_cases (bytes_eq other id) (has_id ids other) among) [
+      | inl is ↦ absurd (not (subst (IsDue fs) (bytes_same other id is) (l, none, some)))
+      | inr more ↦ inr (more, none, some)
+    ]
+  ]
 
   -- it is, and its files are taken away
   abbrev without : List ℕ → List File → List File
   without id fs = others_than (stem_of account id) fs
 
+  others_stay : (fs : List File) (id other : List ℕ) → is_legal_id id ≡ true → is_legal_id other ≡ true → bytes_eq other id ≡ false
+      → copies (without id fs) (stem_of account other) ≡ copies fs (stem_of account other)
+  others_stay fs id other legal l not = others_left (stem_of account id) (stem_of account other) fs (λ same.
+      both_ways (bytes_eq other id) not ((bytes_eq-Decides other id).1 (differ account other id l legal same)))
+
   took : (fs : List File) (id : List ℕ) (ids : List (List ℕ)) → AreDue account left (id ∷ ids) fs → IsDue fs id → AreDue account left ids (without id fs)
-  took fs id ids due is other l = by (cases_Bool (bytes_eq other id)) (due other l)
-    where
-      by : (bytes_eq other id ≡ true) ⊎ (bytes_eq other id ≡ false) → StaysOrGoes account left (id ∷ ids) fs other → StaysOrGoes account left ids (without id fs) other
-      by (inl same) others =
-          inl (subst (λ (x : List ℕ). copies left (stem_of account x) ≡ copies (without id fs) (stem_of account x)) (sym ((bytes_eq-Decides other id).0 same))
-          (is.1 ∙ sym (none_left (stem_of account id) fs)))
-      by (inr not) (inl same) = inl (same ∙ sym (others_left (stem_of account id) (stem_of account other) fs (apart other id l is.0 not)))
-      by (inr not) (inr (among, none, some)) = elim (or_cases (bytes_eq other id) (has_id ids other) among) [
-        | inl same ↦ absurd (true≢false (sym same ∙ not))
-        | inr more ↦ inr (more, none, λ gone. some (sym (others_left (stem_of account id) (stem_of account other) fs (apart other id l is.0 not)) ∙ gone))
-      ]
+  took fs id ids due is other l = elim (cases_Bool (bytes_eq other id)) [
+    | inl same ↦ inl (rw (bytes_same other id same) (is.1 ∙ sym (none_left (stem_of account id) fs)))
+    | inr not ↦
+        let stay = others_stay fs id other is.0 l not in
+        elim (due other l) [
+          | inl same ↦ inl (same ∙ sym stay)
+          | inr (among, none, some) ↦ inr ((rw not at among), none, λ gone. some (sym stay ∙ gone))
+        ]
+  ]
 
   is_taken : (fs : List File) (id : List ℕ) → IsDue fs id → IsTakenAway world (account_files (with_files fs maildir) file) id (account_files (with_files (without id fs) maildir) file)
   is_taken fs id due = record {
@@ -161,15 +161,8 @@ module _ (differ : StemsDiffer) (world : World) (maildir : Maildir) (file : Stor
     held = some_held account id fs due.2;
     none = none_left (stem_of account id) fs;
     record_is = λ rows keeps. keeps;
-    others = λ other l not. others_left (stem_of account id) (stem_of account other) fs (apart other id l due.0 not);
+    others = λ other l not. others_stay fs id other due.0 l not;
   }
-
-  one_more : (fs : List File) (id : List ℕ) (taken : List (List ℕ)) → IsDue fs id → HasEvents (without id fs) (id ∷ taken) → HasEvents fs taken
-  one_more fs id taken due (events, told, parts) = (
-    TakenAway id (account_files (with_files (without id fs) maildir) file) ∷ events,
-    record { each = told.each; run = (is_taken fs id due, told.run); account = told.account; gone = told.gone },
-    (others_are_part (stem_of account id) fs, parts),
-  )
 
   -- all others are files of other names
   rest : (fs : List File) (taken : List (List ℕ)) → AreDue account left [] fs → IsPart fs left → HasEvents fs taken
@@ -181,12 +174,18 @@ module _ (differ : StemsDiffer) (world : World) (maildir : Maildir) (file : Stor
     where
       same : (id : List ℕ) → StaysOrGoes account left [] fs id → copies left (stem_of account id) ≡ copies fs (stem_of account id)
       same id (inl is) = is
-      same id (inr (never, none, some)) = absurd (true≢false (sym never))
+      same id (inr (never, none, some)) = absurd (both_ways false refl never)
 
   all_told : (ids : List (List ℕ)) (fs : List File) (taken : List (List ℕ)) → AreDue account left ids fs → IsPart fs left → HasEvents fs taken
   all_told [] fs taken due part = rest fs taken due part
-  all_told (id ∷ ids) fs taken due part = elim (is_due fs id) [
-    | inl is ↦ one_more fs id taken is (all_told ids (without id fs) (id ∷ taken) (took fs id ids due is) (part_of_others (stem_of account id) fs left part is.1))
+  all_told (id ∷ ids) fs taken due part = elim (is_due fs id ids due) [
+    | inl is ↦
+        let later = all_told ids (without id fs) (id ∷ taken) (took fs id ids due is)
+        (part_of_others (stem_of account id) fs left part is.1) in (
+          TakenAway id (account_files (with_files (without id fs) maildir) file) ∷ later.0,
+          record { each = later.1.each; run = (is_taken fs id is, later.1.run); account = later.1.account; gone = later.1.gone },
+          (others_are_part (stem_of account id) fs, later.2),
+        )
     | inr not ↦ all_told ids fs taken (passed fs id ids due not) part
   ]
 
@@ -194,20 +193,12 @@ pub takings_leave_parts : Headline → StemsDiffer → (world : World) (state : 
     → IsPart state.account.maildir.files left → (events : List (Event Occasion AccountFiles)) × AreTaken world state left events × LeaveParts state events
 takings_leave_parts law differ world state left sound is part =
     let holds = (law world state [] sound is tt).0 in
-    let account = world.account in
-    let ids = ids_of (take holds.j (selected world.max_size world.all)) in
     let files = state.account.maildir.files in
-    all_told differ world state.account.maildir state.account.file state.gone left ids files state.taken
-    (λ id l. due ids account files id (holds.ids id l) (holds.once id l) (part_copies (stem_of account id) files left part)) part
-  where
-    due : (ids : List (List ℕ)) (account : List ℕ) (files : List File) (id : List ℕ) → (list_any (λ (f : File). names_id account id f.name) files ≡ true → has_id ids id ≡ true)
-        → length (copies files (stem_of account id)) ≤ 1
-        → (copies left (stem_of account id) ≡ copies files (stem_of account id)) ⊎ (length (copies left (stem_of account id)) < length (copies files (stem_of account id)))
-        → StaysOrGoes account left ids files id
-    due ids account files id among once (inl same) = inl same
-    due ids account files id among once (inr less) =
-        let parts = less_than_one (copies left (stem_of account id)) (copies files (stem_of account id)) less once in
-        inr (among (some_held account id files parts.1), parts.0, parts.1)
+    all_told differ world state.account.maildir state.account.file state.gone left (ids_of (take holds.j (selected world.max_size world.all))) files state.taken
+    (λ id l. elim (left_or_none (stem_of world.account id) files left part (holds.once id l)) [
+      | inl same ↦ inl same
+      | inr (none, some) ↦ inr (holds.ids id l (some_held world.account id files some), none, some)
+    ]) part
 
 pub takings_are_events : Headline → StemsDiffer → TakingsAreEvents
 takings_are_events law differ world state left sound is part =

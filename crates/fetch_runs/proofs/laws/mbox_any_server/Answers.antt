@@ -1,7 +1,6 @@
-use Rattle.fetch_runs.specs.MboxSteps.{mbox_holds}
 use Rattle.fetch_runs.proofs.laws.mbox_any_server.Goals as goal
 
 pub returns : goal.returns
 returns c = λ settings now link before held report link' after valid keeps session.
     let step = c.mbox_session_is_a_step.ensures settings now link before held report link' after valid keeps session in
-    (step, c.mbox_sessions_are_safe.ensures settings (mbox_holds held before.mbox) step.sent step.got step.effect (mbox_holds step.record_state' after.mbox) step.stepped)
+    (step, c.mbox_sessions_are_safe.ensures _ _ _ _ _ _ step.stepped)

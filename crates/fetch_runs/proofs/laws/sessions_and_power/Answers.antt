@@ -13,7 +13,8 @@ returns g c = lemmas.sessions_and_power (record {
   };
   last = c.one_more_is_last.ensures;
   differ = c.stems_differ.ensures;
-  named = lemmas.named_file c.names_have_stems.ensures c.names_are_bases.ensures;
+  stems = c.names_have_stems.ensures;
+  bases = c.names_are_bases.ensures;
   steady = c.steady_files_keep.ensures;
   unsaved = c.unsaved_files_keep.ensures;
   flagged = c.held_is_delivered.ensures;
