@@ -42,7 +42,7 @@ use Rattle.mail_store.specs.Held.{flags_of}
 use Rattle.pop3_wire.specs.Place.{Place}
 use Rattle.fetch_session.specs.Plan.{tasks_ahead, Unprepared, Carried, Carries}
 use Rattle.fetch_session.specs.Readiness.{IsMergedAtMost, IsSettledBy, MboxUnready, Settles}
-use Rattle.fetch_session.specs.Session.{Keeping, Noted, Proceeds}
+use Rattle.fetch_session.specs.Session.{outcome_of, Keeping, Noted, Proceeds}
 use Rattle.run_law.specs.Mboxes as Law
 use Rattle.std.proofs.lemmas.Simd.{map-map}
 
@@ -273,7 +273,7 @@ module _ (laws : Laws) (settings : Settings) (items : List Item) (now : ℕ) (he
 
     module _ {cut : Cut} {new : Scene} (fell : Fell AsEntries tasks old cut new) where
       abbrev Stopped : Course → Type 0
-      Stopped c = MboxLeads settings now false c held mbox new.store.mbox new.file.content new.lines (UnsavedIn (Err cut))
+      Stopped c = MboxLeads settings now false c held mbox new.store.mbox new.file.content new.lines (UnsavedIn (outcome_of (Err cut)))
 
       mid_content : fell.mid.store.mbox.content ≡ Some (bytes_after fell.dones)
       mid_content = content_after fell.dones fell.mid fell.went (part_done laws p starts fell)
@@ -316,7 +316,7 @@ module _ (laws : Laws) (settings : Settings) (items : List Item) (now : ℕ) (he
         refused : LeavesEntry fell.mid.store.mbox fell.mid.rows uid text new.store.mbox new.file → new.lines ≡ fell.mid.lines → Stopped (course items fell.dones (reply ∷ []) (fell.next ∷ []))
         refused left told = by left
           where
-            t : Tally p false fell.dones (reply ∷ []) (fell.next ∷ []) full fell.dones new.lines (Unit {0}) (UnsavedIn (Err cut))
+            t : Tally p false fell.dones (reply ∷ []) (fell.next ∷ []) full fell.dones new.lines (Unit {0}) (UnsavedIn (outcome_of (Err cut)))
             t = tally_spare laws p starts fell number uid reply is answered told tt
 
             by : LeavesEntry fell.mid.store.mbox fell.mid.rows uid text new.store.mbox new.file → Stopped (course items fell.dones (reply ∷ []) (fell.next ∷ []))
@@ -375,7 +375,7 @@ module _ (laws : Laws) (settings : Settings) (items : List Item) (now : ℕ) (he
       stopped (inr (inr u)) = unsaved u
 
     pub does_leads : (result : Result (Unit {0}) Cut) (new : Scene) (does : Does AsEntries tasks old result new)
-        → MboxLeads settings now (is_ended result) (course_does AsEntries items tasks old new result does) held mbox new.store.mbox new.file.content new.lines (UnsavedIn result)
+        → MboxLeads settings now (is_ended result) (course_does AsEntries items tasks old new result does) held mbox new.store.mbox new.file.content new.lines (UnsavedIn (outcome_of result))
     does_leads (Ok done) new went =
         lead_closed (tally_all laws p starts went.dones new went.all went.went) new.store.mbox new.file.content [] (sym (append-nil (texts_by went.dones)))
         (mid_keeps laws p starts went.dones new went.went) (ap mail_in (content_after went.dones new went.went (part_all laws p starts went.dones new went.all went.went)))
@@ -439,10 +439,10 @@ module _ (laws : Laws) (settings : Settings) (items : List Item) (now : ℕ) (pl
     mail_left (inr (was, stood, inl same)) = inl (ap mail_in same)
     mail_left (inr (was, stood, inr (bytes, is, settled))) = inr (ap mail_in settled ∙ closed_is was bytes stood is)
 
-    unprepared_leads : Unprepared AsEntries items now place store file lines cut new → Left settings now false (course items [] [] []) held store.mbox new.store.mbox new.file.content new.lines (UnsavedIn (Err cut))
+    unprepared_leads : Unprepared AsEntries items now place store file lines cut new → Left settings now false (course items [] [] []) held store.mbox new.store.mbox new.file.content new.lines (UnsavedIn (outcome_of (Err cut)))
     unprepared_leads is = by is.unready.content
       where
-        by : IsMergedAtMost AsEntries items now store file new.store new.file → Left settings now false (course items [] [] []) held store.mbox new.store.mbox new.file.content new.lines (UnsavedIn (Err cut))
+        by : IsMergedAtMost AsEntries items now store file new.store new.file → Left settings now false (course items [] [] []) held store.mbox new.store.mbox new.file.content new.lines (UnsavedIn (outcome_of (Err cut)))
         by (inl content) =
             inl (rests is.lines_are (subst (λ (c : Option (List ℕ)). Keeps c held) (sym content) keeps) (mail_left (settled_by items cut.fault store.mbox file new.store.mbox new.file is.unready.cause)))
         by (inr (was, stood, settled, inl stays)) =
@@ -453,7 +453,7 @@ module _ (laws : Laws) (settings : Settings) (items : List Item) (now : ℕ) (pl
             (ap mail_in (settled_content was new.store stood settled) ∙ sym (append-nil (bytes_settled items held store.mbox))))
 
   carried_leads : (result : Result (Unit {0}) Cut) (new : Scene) (skipped : Skips) (is : Carried settings AsEntries items now place store file lines result new skipped)
-      → MboxLeads settings now (is_ended result) (course_carried settings AsEntries items now place store file lines result new skipped is) held store.mbox new.store.mbox new.file.content new.lines (UnsavedIn result)
+      → MboxLeads settings now (is_ended result) (course_carried settings AsEntries items now place store file lines result new skipped is) held store.mbox new.store.mbox new.file.content new.lines (UnsavedIn (outcome_of result))
   carried_leads result new skipped is =
       does_leads laws settings items now held store.mbox starts (settled_content is.prepared.was is.mid.store is.prepared.stood is.prepared.settles) result new is.does
     where
@@ -465,7 +465,7 @@ module _ (laws : Laws) (settings : Settings) (items : List Item) (now : ℕ) (pl
 
   carries_leads : (result : Result (Unit {0}) Cut) (place' : Place) (store' : Stores) (file' : Stored) (lines' : List ReportLine) (skipped : Skips)
       (is : Carries settings AsEntries items now place store file lines result place' store' file' lines' skipped)
-      → Left settings now (is_ended result) (course_carries settings AsEntries items now place store file lines result place' store' file' lines' skipped is) held store.mbox store'.mbox file'.content lines' (UnsavedIn result)
+      → Left settings now (is_ended result) (course_carries settings AsEntries items now place store file lines result place' store' file' lines' skipped is) held store.mbox store'.mbox file'.content lines' (UnsavedIn (outcome_of result))
   carries_leads (Ok done) place' store' file' lines' skipped is = inr (carried_leads (Ok done) (scene place' store' file' is.0 lines') skipped is.1)
   carries_leads (Err cut) place' store' file' lines' skipped (rows, inl (none, is)) = unprepared_leads cut (scene place' store' file' rows lines') is
   carries_leads (Err cut) place' store' file' lines' skipped (rows, inr is) = inr (carried_leads (Err cut) (scene place' store' file' rows lines') skipped is)
@@ -474,7 +474,7 @@ module _ (laws : Laws) (settings : Settings) (items : List Item) (now : ℕ) (pl
 abbrev pub CourseLeaves : Settings → ℕ → Result (Unit {0}) Cut → SessionCourse → RecordState → Keeping → Keeping → List ReportLine → Type 0
 CourseLeaves settings now result Idle held before after lines = (is_ended result ≡ false) × (after ≡ before) × (lines ≡ [])
 CourseLeaves settings now result (Deals course) held before after lines =
-    Left settings now (is_ended result) course held before.store.mbox after.store.mbox after.file.content lines (UnsavedIn result)
+    Left settings now (is_ended result) course held before.store.mbox after.store.mbox after.file.content lines (UnsavedIn (outcome_of result))
 
 pub course_leaves : (laws : Laws) (settings : Settings) (now : ℕ) (old : Place) (before : Keeping) (result : Result (Unit {0}) Cut) (new : Place) (after : Keeping) (notes : Noted) (held : RecordState)
     → Keeps before.file.content held → (is : Proceeds settings AsEntries now old before result new after notes)
