@@ -3,21 +3,21 @@ use Rattle.std.proofs.Common.{◌≡◌, ◌⊎◌, inl, inr, ℕ, true, false, 
 use Rattle.std.specs.List.{AllByRecursion}
 use Rattle.std.proofs.lemmas.Bool.{true≢false}
 use Rattle.pop3_wire.specs.World.{Message, IsWorld}
-use Rattle.fetch_rules.specs.Record.{Row, Intent, RecordState, is_delivered}
+use Rattle.fetch_rules.specs.Record.{Row, RecordState, is_delivered}
 use Rattle.fetch_rules.specs.RecordGrowth.{OneRecord}
 use Rattle.fetch_session.specs.Record.{Keeps}
 use Rattle.fetch_session.specs.Target.{mail_in}
 use Rattle.fetch_session.specs.declared.report.Outcome.TheVariants.{Ended}
 use Rattle.run_law.specs.Mails.{listing_of, is_selected, WorldsShrink}
 use Rattle.run_law.specs.Mboxes.{MboxMail, mbox_rows}
-use Rattle.run_law.specs.MboxRuns.{MboxWorld, MboxState, MboxKept as IsKeptIn, MboxVisits, MboxEvent, Fetched, Between, Expired, Withdrawn, Rewritten, after_mbox_event, mbox_world_after, IsUnbegun, AreAllRecorded, SomeAreRecorded, MboxPromises as PromisesIn, MboxEnds, MboxHolds, MboxKeptStaysKept, MboxKeptHolds, MboxStartsKept}
+use Rattle.run_law.specs.MboxRuns.{MboxWorld, MboxState, MboxKept as IsKeptIn, MboxVisits, MboxEvent, Fetched, Between, Expired, Withdrawn, Rewritten, after_mbox_event, mbox_world_after, IsUnbegun, AreAllRecorded, SomeAreRecorded, MboxPromises as PromisesIn, MboxHolds, MboxKeptStaysKept, MboxKeptHolds, MboxStartsKept}
 use Rattle.run_law.specs.MboxSessions.{MboxLinksAreVisits}
 use Rattle.run_law.specs.Runs.{is_past_count}
-use Rattle.run_law.specs.Sessions.{IsBegun, Link, visit_of}
+use Rattle.run_law.specs.Sessions.{Link, visit_of}
 use Rattle.fetch_runs.proofs.Lists.{all_map}
 use Rattle.fetch_runs.specs.MboxSteps.{mbox_holds, IsMboxStep, MboxSessionIsAStep}
 use Rattle.fetch_runs.specs.MboxHeadline.{WritingsAreEvents, maildrop_at, IsMboxSession, after_session, Follows, by_record, HoldsEntries, IsEntered, IsPastCount, EndsWhole, MboxPromised, IsMboxKept, MboxHeadline, MboxStartIsKept, MboxHeadlineFromStart, MboxStopsAreRuns}
-use Rattle.fetch_runs.specs.Headline.{Occasion, IsForSuch}
+use Rattle.fetch_runs.specs.Headline.{Occasion}
 use Rattle.fetch_runs.proofs.HeadlineLemmas.{for_such, sends_weaker}
 use Rattle.fetch_session.specs.Session.{MboxAccountFiles}
 

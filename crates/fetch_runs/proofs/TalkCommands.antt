@@ -14,7 +14,7 @@ use Rattle.run_law.specs.Sessions.{BeginsOne}
 use Rattle.fetch_runs.proofs.Lists.{all_append}
 use Rattle.fetch_runs.specs.Conversations.{SentBehind, Conversation}
 use Rattle.std.proofs.lemmas.Bool.{true≢false}
-use Rattle.pop3_wire.specs.declared.command.Command.TheVariants.{Retr, Dele, Quit}
+use Rattle.pop3_wire.specs.declared.command.Command.TheVariants.{Retr}
 use Rattle.pop3_wire.specs.Body.{Body}
 use Rattle.pop3_client.specs.Texts.{body_text}
 use Rattle.run_law.specs.Readings.{AreGood, Retrieves, IsGood as IsRead}
