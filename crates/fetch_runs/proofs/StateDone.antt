@@ -8,7 +8,7 @@ use Rattle.mail_terms.specs.Listing.{Item, has_item, is_flagged}
 use Rattle.mail_store.specs.Maildir.{Maildir, File}
 use Rattle.mail_store.specs.FileName.{is_held, mail_file}
 use Rattle.pop3_wire.specs.Reading.{WholeReply}
-use Rattle.pop3_client.specs.Turns.{IsGood, retr}
+use Rattle.pop3_client.specs.Turns.{IsGood}
 use Rattle.fetch_session.specs.Task.{Task, stores, rereads, deletes, Done, IsAnswered, turns_in, tasks_of, files_in, files_of, lines_in, lines_of, ids_in, ids_of, ids_ahead}
 use Rattle.fetch_session.specs.Report.{is_taken, retrieved_in}
 use Rattle.run_law.specs.Steps.{file_for, is_unheld, Effect, ids_wanted}
@@ -16,7 +16,6 @@ use Rattle.std.proofs.lemmas.Simd.{map-map}
 use Rattle.fetch_runs.proofs.Lists.{all_append, all_front, all_map}
 use Rattle.fetch_runs.proofs.Courses.{found_in, found_by, Course, found_of, begun_of}
 use Rattle.fetch_runs.proofs.StatePlan.{key, fetched_in, fetched, IsRight, deleted_in, deleted_by, Safe, tasks_ahead, PlansFetchWanted, fetched_ahead, right_ahead, safe_ahead}
-use Rattle.fetch_runs.proofs.TalkCommands.{one_reply}
 use Rattle.std.specs.Prelude.{◌&&◌, ◌||◌, bytes_eq}
 use Rattle.std.proofs.lemmas.Slice.Eq.{bytes_eq-Decides}
 use Rattle.std.proofs.Math.Bool.{or-true}
@@ -43,9 +42,9 @@ texts_by dones = map text_found (found_by dones)
 -- ---- numbers
 
 found_numbers : (task : Task) (replies : List WholeReply) → AllZip IsGood (turns_in task) replies → map number_found (found_in task replies) ≡ map (λ (p : ℕ × List ℕ). p.0) (fetched_in task)
-found_numbers (stores number uid) replies answered = one_reply (λ (rs : List WholeReply). map number_found (found_in (stores number uid) rs) ≡ number ∷ []) (retr number) replies answered (λ r g. refl)
-found_numbers (rereads number uid) replies answered = one_reply (λ (rs : List WholeReply). map number_found (found_in (rereads number uid) rs) ≡ number ∷ []) (retr number) replies answered (λ r g. refl)
-found_numbers other replies answered = refl
+found_numbers (stores number uid) (reply ∷ []) answered = refl
+found_numbers (rereads number uid) (reply ∷ []) answered = refl
+found_numbers task replies answered = search rules
 
 pub numbers_by : (dones : List Done) → AllByRecursion IsAnswered dones → map number_found (found_by dones) ≡ map (λ (p : ℕ × List ℕ). p.0) (fetched (tasks_of dones))
 numbers_by [] answered = refl
@@ -119,11 +118,9 @@ files_first account maildir items tasks rest dones messages are right split answ
 -- ---- by their lines in the report
 
 counted_in : (task : Task) (replies : List WholeReply) → AllZip IsGood (turns_in task) replies → retrieved_in (lines_in task replies) ≡ length (found_in task replies)
-counted_in (stores number uid) replies answered =
-    one_reply (λ (rs : List WholeReply). retrieved_in (lines_in (stores number uid) rs) ≡ length (found_in (stores number uid) rs)) (retr number) replies answered (λ r g. refl)
-counted_in (rereads number uid) replies answered =
-    one_reply (λ (rs : List WholeReply). retrieved_in (lines_in (rereads number uid) rs) ≡ length (found_in (rereads number uid) rs)) (retr number) replies answered (λ r g. refl)
-counted_in other replies answered = refl
+counted_in (stores number uid) (reply ∷ []) answered = refl
+counted_in (rereads number uid) (reply ∷ []) answered = refl
+counted_in task replies answered = search rules
 
 pub counted_by : (dones : List Done) → AllByRecursion IsAnswered dones → retrieved_in (lines_of dones) ≡ length (found_by dones)
 counted_by [] answered = refl

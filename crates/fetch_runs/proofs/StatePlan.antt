@@ -166,16 +166,12 @@ right_all account maildir items f same alone (q ∷ qs) at =
     (λ is. subst (λ (n : ℕ). IsRight account maildir items (deletes n)) (sym (same q)) (q.1, at.0.0, at.0.2, alone q is)))
     (right_all account maildir items f same alone qs at.1)
 
--- a message is deleted only if no other has its id
-deleted_alone : (settings : Settings) (rows : List Row) (items : List Item) (now : ℕ) (q : ℕ × Item) → (step_of settings rows items now q).delete ≡ true → IsAlone items q
-deleted_alone settings rows items now q is = grind (arith, is)
-
 pub right_ahead : (settings : Settings) (account : List ℕ) (items : List Item) (now : ℕ) (maildir : Maildir) (rows : List Row)
     → AllByRecursion (IsRight account maildir items) (tasks_ahead settings account items now maildir rows)
 right_ahead settings account items now maildir rows =
     subst (AllByRecursion (IsRight account maildir items)) (sym (tasks_are settings account items now maildir rows))
     (all_append (IsRight account maildir items) (flat_map (tasks_at (step_of settings rows items now) (is_held account maildir)) (numbered items)) (says quit ∷ [])
-    (right_all account maildir items (step_of settings rows items now) (λ q. refl) (deleted_alone settings rows items now) (numbered items) (all_stand items [] items 1 refl refl)) (tt, tt))
+    (right_all account maildir items (step_of settings rows items now) (λ q. refl) (λ q is. grind (arith, is)) (numbered items) (all_stand items [] items 1 refl refl)) (tt, tt))
 
 -- ---- what is deleted
 
@@ -202,11 +198,6 @@ safe_all D account maildir items f same due held (q ∷ qs) later at safe =
     (λ is. subst (λ (n : ℕ). AllByRecursion D (uids_in (slice_get items (n - 1)))) (sym (same q)) (subst (λ (o : Option Item). AllByRecursion D (uids_in o)) (sym at.0.0) (is, tt)))
     (safe_all D account maildir items f same due held qs later at.1 safe))
 
--- a message is deleted only if it is known or fetched
-due_known : (settings : Settings) (rows : List Row) (items : List Item) (now : ℕ) (q : ℕ × Item) → (step_of settings rows items now q).delete ≡ true
-    → ((step_of settings rows items now q).retrieve ≡ true) ⊎ (is_delivered rows q.1.uid ≡ true)
-due_known settings rows items now q is = grind (arith, is)
-
 -- a plan is safe for what holds of each id that is recorded as delivered after the merge, or is held and listed
 pub safe_ahead : (D : List ℕ → Type 0) (settings : Settings) (account : List ℕ) (items : List Item) (now : ℕ) (maildir : Maildir) (rows : List Row)
     → ((uid : List ℕ) → is_delivered rows uid ≡ true → D uid) → ((uid : List ℕ) → has_item items uid ≡ true → is_held account maildir uid ≡ true → D uid)
@@ -216,7 +207,9 @@ safe_ahead D settings account items now maildir rows known held =
     (safe_all D account maildir items (step_of settings rows items now) (λ q. refl) due held (numbered items) (says quit ∷ []) (all_stand items [] items 1 refl refl) tt)
   where
     due : (q : ℕ × Item) → (step_of settings rows items now q).delete ≡ true → ((step_of settings rows items now q).retrieve ≡ true) ⊎ D q.1.uid
-    due q is = elim (due_known settings rows items now q is) [
-      | inl taken ↦ inl taken
-      | inr delivered ↦ inr (known q.1.uid delivered)
-    ]
+    due q is =
+        let known_or_fetched : ((step_of settings rows items now q).retrieve ≡ true) ⊎ (is_delivered rows q.1.uid ≡ true) = grind (arith, is) in
+        elim known_or_fetched [
+          | inl taken ↦ inl taken
+          | inr delivered ↦ inr (known q.1.uid delivered)
+        ]
