@@ -32,7 +32,7 @@ use Rattle.fetch_session.specs.Task.{Task, Done, stores, files_in, files_of, fil
 use Rattle.run_law.specs.Steps.{file_for, is_unheld, wanted_at}
 use Rattle.run_law.specs.Counted.{Counted, Records}
 use Rattle.fetch_runs.specs.Steps.{holds}
-use Rattle.fetch_runs.proofs.Courses.{Course, SessionCourse, Idle, Deals, course, spare_in, spare_of, course_stopped, course_does, course_carried, course_carries, course_proceeded, stored_done, found_by, found_of, begun_of}
+use Rattle.fetch_runs.proofs.Courses.{Course, SessionCourse, Idle, Deals, course, spare_in, course_stopped, course_does, course_carried, course_carries, course_proceeded, stored_done, found_by, found_of, begun_of}
 use Rattle.fetch_runs.proofs.StatePlan.{tasks_ahead, IsRight, right_ahead}
 use Rattle.fetch_runs.proofs.StateDone.{number_found, text_found, number_of, files_first, Laws, Inputs, rows_on, tasks_on, messages_on, rows_after, Part, effect_of, records_part, wanted_are}
 use Rattle.fetch_runs.proofs.StateCases.{is_ended, UnsavedIn, unsaved_why, Starts, Tally, tally_right, tally_numbers, tally_number, tally_none, mid_rows, mid_keeps, tally_all, tally_no_line, tally_spare, tally_old, tally_new, full_rows}
@@ -158,22 +158,19 @@ module _ (laws : Laws) (p : Inputs) where
           there = files u.number u.uid u.reply u.is u.talked.good u.stored.came
 
       -- the store refused a text
-      not_stored : (refused : NoFile p.account fell.next fell.mid new cut) → Stopped (course p.items fell.dones (spare_of p.account fell.next fell.mid new cut refused) (fell.next ∷ []))
-      not_stored refused = by refused.refuses
-        where
-          by : (refuses : RefusesText fell.mid.store.maildir (stem_of p.account refused.uid) refused.rest refused.text cut.fault new.store.maildir)
-              → Stopped (course p.items fell.dones
-              (spare_in refused.number fell.mid.place new.place refused.rest refused.text fell.mid.store.maildir new.store.maildir (stem_of p.account refused.uid) cut.fault refused.whole refuses) (fell.next ∷ []))
-          by (inl missing) = bare (ap (λ (m : Maildir). m.files) missing.2) refused.file refused.lines
-          by (inr (is, inl same)) = bare (ap (λ (m : Maildir). m.files) same) refused.file refused.lines
-          by (inr (is, inr (done, there))) =
-              let came = refused.whole done in
-              spare refused.number refused.uid came.0 refused.is came.1.good
-              (ap (λ (m : Maildir). m.files) there ∙ ap (λ (t : List ℕ). fell.mid.store.maildir.files ++ mail_file p.account refused.uid t ∷ []) came.2) refused.file refused.lines is
+      not_stored : (refused : NoFile p.account fell.next fell.mid new cut) → (refuses : RefusesText fell.mid.store.maildir (stem_of p.account refused.uid) refused.rest refused.text cut.fault new.store.maildir)
+          → Stopped (course p.items fell.dones
+          (spare_in refused.number fell.mid.place new.place refused.rest refused.text fell.mid.store.maildir new.store.maildir (stem_of p.account refused.uid) cut.fault refused.whole refuses) (fell.next ∷ []))
+      not_stored refused (inl missing) = bare (ap (λ (m : Maildir). m.files) missing.2) refused.file refused.lines
+      not_stored refused (inr (is, inl same)) = bare (ap (λ (m : Maildir). m.files) same) refused.file refused.lines
+      not_stored refused (inr (is, inr (done, there))) =
+          let came = refused.whole done in
+          spare refused.number refused.uid came.0 refused.is came.1.good
+          (ap (λ (m : Maildir). m.files) there ∙ ap (λ (t : List ℕ). fell.mid.store.maildir.files ++ mail_file p.account refused.uid t ∷ []) came.2) refused.file refused.lines is
 
       stopped : (stops : Stops (AsFiles p.account) fell.next fell.mid cut new) → Stopped (course_stopped (AsFiles p.account) p.items fell.dones fell.next fell.mid new cut stops)
       stopped (inl broken) = bare (ap (λ (s : Stores). s.maildir.files) broken.store) broken.file broken.lines
-      stopped (inr (inl refused)) = not_stored refused
+      stopped (inr (inl refused)) = not_stored refused refused.refuses
       stopped (inr (inr refused)) = unsaved refused
 
     does_leads : (result : Result (Unit {0}) Cut) (new : Scene) (does : Does (AsFiles p.account) tasks old result new)

@@ -245,29 +245,25 @@ module _ (joining : TurnsJoin) (paced : ConversationsArePaced) (items : List Ite
           (subst (λ (f : Fault). Fronted (tail_turns (tail f)) new.place.link last.link) broke.1 (tailed cut new.place last broken.none left))))
 
       -- the store refused the text, or the rest of it
-      took_refused : (account : List ℕ) (refused : NoFile account next mid new cut) → (refuses : RefusesText mid.store.maildir (stem_of account refused.uid) refused.rest refused.text cut.fault new.store.maildir)
-          → Took (course items dones (spare_in refused.number mid.place new.place refused.rest refused.text mid.store.maildir new.store.maildir (stem_of account refused.uid) cut.fault refused.whole refuses) (next ∷ []))
-          first (tail_turns (tail cut.fault)) last.link
-      took_refused account refused refuses = by refuses
-        where
-          leaves : LeftBy cut.fault (Some refused.rest) new.place last
-          leaves = subst (λ (r : Option Rest). LeftBy cut.fault r new.place last) refused.under_way left
+      module _ (account : List ℕ) (refused : NoFile account next mid new cut) where
+        rest_left : LeftBy cut.fault (Some refused.rest) new.place last
+        rest_left = subst (λ (r : Option Rest). LeftBy cut.fault r new.place last) refused.under_way left
 
-          under : Took (course items dones [] (next ∷ [])) first (tail_turns (tail cut.fault)) last.link
-          under =
-              let said = leaves.1 refused.number mid.place refused.text refused.fetching in
-              begun_next (retr refused.number) (tail_turns (tail cut.fault)) last.link (ap turns_in refused.is) (goes_under paced (retr refused.number) (tail_turns (tail cut.fault)) mid.place last said.0 said.1)
+        took_under : Took (course items dones [] (next ∷ [])) first (tail_turns (tail cut.fault)) last.link
+        took_under =
+            let said = rest_left.1 refused.number mid.place refused.text refused.fetching in
+            begun_next (retr refused.number) (tail_turns (tail cut.fault)) last.link (ap turns_in refused.is) (goes_under paced (retr refused.number) (tail_turns (tail cut.fault)) mid.place last said.0 said.1)
 
-          by : (how : RefusesText mid.store.maildir (stem_of account refused.uid) refused.rest refused.text cut.fault new.store.maildir)
-              → Took (course items dones (spare_in refused.number mid.place new.place refused.rest refused.text mid.store.maildir new.store.maildir (stem_of account refused.uid) cut.fault refused.whole how) (next ∷ []))
-              first (tail_turns (tail cut.fault)) last.link
-          by (inl missing) = under
-          by (inr (is, inl same)) = under
-          by (inr (is, inr (done, there))) =
-              let said = leaves.0 done in
-              let whole = refused.whole done in
-              with_spare refused.number refused.uid whole.0 (tail_turns (tail cut.fault)) new.place last.link refused.is whole.1
-              (goes_tail (tail_turns (tail cut.fault)) new.place.link last.link (fronted paced (tail_turns (tail cut.fault)) new.place last said.0 said.1))
+        took_refused : (refuses : RefusesText mid.store.maildir (stem_of account refused.uid) refused.rest refused.text cut.fault new.store.maildir)
+            → Took (course items dones (spare_in refused.number mid.place new.place refused.rest refused.text mid.store.maildir new.store.maildir (stem_of account refused.uid) cut.fault refused.whole refuses) (next ∷ []))
+            first (tail_turns (tail cut.fault)) last.link
+        took_refused (inl missing) = took_under
+        took_refused (inr (is, inl same)) = took_under
+        took_refused (inr (is, inr (done, there))) =
+            let said = rest_left.0 done in
+            let whole = refused.whole done in
+            with_spare refused.number refused.uid whole.0 (tail_turns (tail cut.fault)) new.place last.link refused.is whole.1
+            (goes_tail (tail_turns (tail cut.fault)) new.place.link last.link (fronted paced (tail_turns (tail cut.fault)) new.place last said.0 said.1))
 
       -- the text was stored, and its id wasn't saved
       took_unsaved : (number : ℕ) (uid : List ℕ) (reply : WholeReply) → cut.rest ≡ None → next ≡ stores number uid → Talked (retr number ∷ []) (reply ∷ []) mid.place new.place → IsPlain next
