@@ -159,8 +159,7 @@ module _ (laws : Laws) (p : Inputs) where
 
       -- the store refused a text
       not_stored : (refused : NoFile p.account fell.next fell.mid new cut) → (refuses : RefusesText fell.mid.store.maildir (stem_of p.account refused.uid) refused.rest refused.text cut.fault new.store.maildir)
-          → Stopped (course p.items fell.dones
-          (spare_in refused.number fell.mid.place new.place refused.rest refused.text fell.mid.store.maildir new.store.maildir (stem_of p.account refused.uid) cut.fault refused.whole refuses) (fell.next ∷ []))
+          → Stopped (course p.items fell.dones (spare_in refused refuses) (fell.next ∷ []))
       not_stored refused (inl missing) = bare (ap (λ (m : Maildir). m.files) missing.2) refused.file refused.lines
       not_stored refused (inr (is, inl same)) = bare (ap (λ (m : Maildir). m.files) same) refused.file refused.lines
       not_stored refused (inr (is, inr (done, there))) =

@@ -3,20 +3,16 @@ use Rattle.std.proofs.Common.{◌≡◌, ◌≤◌, ◌⊎◌, inl, inr, ℕ, Li
 use Rattle.std.specs.List.{AllByRecursion, flat_map, count_by, AllZip, enumerate_from}
 use Rattle.std.proofs.lemmas.List.{append-nil, map-append}
 use Rattle.std.proofs.lemmas.List.Concat.{flat_map-append}
-use Rattle.pop3_wire.specs.Bodies.{Rest}
-use Rattle.pop3_wire.specs.declared.unstuffer.Spot.TheVariants.{Done as AtEnd}
 use Rattle.pop3_wire.specs.Link.{Link}
 use Rattle.pop3_wire.specs.Place.{Place, at}
 use Rattle.pop3_wire.specs.Reading.{WholeReply}
 use Rattle.pop3_client.specs.Turns.{Turn, retr, quit, IsGood}
-use Rattle.pop3_client.specs.Texts.{Fetched}
 use Rattle.pop3_client.specs.Conversation.{ConversationsArePaced, Talks, TurnsJoin}
 use Rattle.mail_terms.specs.Listing.{Item, Joins}
 use Rattle.fetch_rules.specs.Record.{Row}
 use Rattle.rc_file.specs.declared.settings.Settings.{Settings}
 use Rattle.mail_store.specs.FileName.{stem_of, is_held}
 use Rattle.mail_store.specs.FlatFile.{Stored}
-use Rattle.mail_store.specs.Maildir.{Maildir}
 use Rattle.fetch_session.specs.declared.fault.Cut.{Cut}
 use Rattle.pop3_client.specs.declared.fault.ClientFault.{ClientFault}
 use Rattle.fetch_session.specs.declared.fault.Fault.{Fault}
@@ -29,13 +25,13 @@ use Rattle.fetch_session.specs.Task.{Task, stores, Done, task_in, tasks_of, line
 use Rattle.fetch_session.specs.Fault.{fault_of}
 use Rattle.fetch_session.specs.Tail.{tail, Left, turns_in as tail_turns}
 use Rattle.fetch_session.specs.Plan.{tasks_ahead, Prepared, Unprepared, Carried, Carries}
-use Rattle.fetch_session.specs.Scene.{Scene, scene, Fell, Stops, Does}
+use Rattle.fetch_session.specs.Scene.{Scene, scene, NoFile, Fell, Stops, Does}
 use Rattle.fetch_session.specs.Target.{Target, AsFiles, AsEntries, Stores}
 use Rattle.fetch_session.specs.Session.{LeavesLink, Enters_with, outcome_of, Keeping, Noted, NotEntered, NoRoom, Dealt, Proceeds, SessionIn, keeps_entries, AccountFiles, keeps_files}
 use Rattle.fetch_session.specs.Store.{RefusesText}
 use Rattle.fetch_runs.proofs.Lists.{all_front}
 use Rattle.fetch_runs.specs.Conversations.{AreFound, tail_behind, is_retrieval, retrieved_by, Conversation, plan_turns, FollowsPlan, MboxSessionsFollowPlans, Converses, CountsTexts, Opens, SpeaksByPlan, SessionsAreConversations}
-use Rattle.fetch_runs.proofs.Courses.{Course, course, stored_done, spare_in, spare_of, course_stopped, course_does, course_carried, course_carries, begun_of, SessionCourse, Idle, Deals, course_dealt, course_proceeded, session_course_of}
+use Rattle.fetch_runs.proofs.Courses.{Course, course, stored_done, spare_in, course_stopped, course_does, course_carried, course_carries, begun_of, SessionCourse, Idle, Deals, course_dealt, course_proceeded, session_course_of}
 use Rattle.fetch_runs.proofs.TalkCommands.{IsPlain, plain_ahead, commands_in, CanBeSaid, Commanded, said_tasks, both_none}
 use Rattle.fetch_runs.proofs.TalkCourses.{Took, took_stopped, took_nothing, all_done, goes_nothing}
 use Rattle.fetch_runs.proofs.TalkSpeech.{IsTail, is_tail, silent, front_of_plan, OpensAlone, opens_all, opens_cut, commanded_opening, replied, few_items, Speaks, spoken, commanded_after, Replied, listed}
@@ -85,11 +81,11 @@ pub record Ahead (target : Target) (items : List Item) (tasks : List Task) (line
 no_spare : {P : Type 0} (reply : WholeReply) → [] ≡ reply ∷ [] → P
 no_spare reply e = absurd cc
 
-spare_refused : (number : ℕ) (start there : Place) (rest : Rest) (text : List ℕ) (old now : Maildir) (file : List ℕ) (fault : Fault)
-    → (whole : rest.spot ≡ AtEnd → Fetched (retr number) start text there) → (refuses : RefusesText old file rest text fault now) → (reply : WholeReply)
-    → spare_in number start there rest text old now file fault whole refuses ≡ reply ∷ [] → fault ≡ StoreRefused Refused
-spare_refused number start there rest text old now file fault whole (inl missing) reply e = no_spare reply e
-spare_refused number start there rest text old now file fault whole (inr (is, which)) reply e = is
+spare_refused : {account : List ℕ} {next : Task} {old new : Scene} {cut : Cut} (refused : NoFile account next old new cut)
+    → (refuses : RefusesText old.store.maildir (stem_of account refused.uid) refused.rest refused.text cut.fault new.store.maildir)
+    → (reply : WholeReply) → spare_in refused refuses ≡ reply ∷ [] → cut.fault ≡ StoreRefused Refused
+spare_refused refused (inl missing) reply e = no_spare reply e
+spare_refused refused (inr (is, which)) reply e = is
 
 ahead_stopped : (target : Target) (items : List Item) (tasks : List Task) (old new : Scene) (cut : Cut) (fell : Fell target tasks old cut new)
     → Ahead target items tasks old.lines new.lines (Err cut) (course_stopped target items fell.dones fell.next fell.mid new cut fell.stops)
@@ -118,8 +114,7 @@ ahead_stopped target items tasks old new cut fell = by target fell.went.lines fe
     by : (to : Target) → fell.mid.lines ≡ old.lines ++ lines_of fell.dones → (how : Stops to fell.next fell.mid cut new) → Ahead to items tasks old.lines new.lines (Err cut) (course_stopped to items fell.dones fell.next fell.mid new cut how)
     by to first (inl broken) = passed to [] first broken.lines (λ reply e. no_spare reply e)
     by (AsFiles account) first (inr (inl r)) =
-        passed (AsFiles account) (spare_of account fell.next fell.mid new cut r) first r.lines
-        (λ reply e. ap WasCut (spare_refused r.number fell.mid.place new.place r.rest r.text fell.mid.store.maildir new.store.maildir (stem_of account r.uid) cut.fault r.whole r.refuses reply e))
+        passed (AsFiles account) (spare_in r r.refuses) first r.lines (λ reply e. ap WasCut (spare_refused r r.refuses reply e))
     by (AsFiles account) first (inr (inr unsaved)) = stored (AsFiles account) unsaved.number unsaved.uid unsaved.reply first unsaved.is unsaved.lines
     by AsEntries first (inr (inl (inl wanting))) = passed AsEntries [] first wanting.lines (λ reply e. tt)
     by AsEntries first (inr (inl (inr (inl refused)))) = passed AsEntries (refused.reply ∷ []) first refused.lines (λ reply e. tt)

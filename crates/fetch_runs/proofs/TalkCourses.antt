@@ -255,8 +255,7 @@ module _ (joining : TurnsJoin) (paced : ConversationsArePaced) (items : List Ite
             begun_next (retr refused.number) (tail_turns (tail cut.fault)) last.link (ap turns_in refused.is) (goes_under paced (retr refused.number) (tail_turns (tail cut.fault)) mid.place last said.0 said.1)
 
         took_refused : (refuses : RefusesText mid.store.maildir (stem_of account refused.uid) refused.rest refused.text cut.fault new.store.maildir)
-            → Took (course items dones (spare_in refused.number mid.place new.place refused.rest refused.text mid.store.maildir new.store.maildir (stem_of account refused.uid) cut.fault refused.whole refuses) (next ∷ []))
-            first (tail_turns (tail cut.fault)) last.link
+            → Took (course items dones (spare_in refused refuses) (next ∷ [])) first (tail_turns (tail cut.fault)) last.link
         took_refused (inl missing) = took_under
         took_refused (inr (is, inl same)) = took_under
         took_refused (inr (is, inr (done, there))) =
