@@ -234,14 +234,11 @@ ids_are (d ∷ dones) = ap (λ l. ids_in d.task ++ l) (ids_are dones)
 pub stored_has_row : Laws → (account : List ℕ) (maildir : Maildir) (items : List Item) (now : ℕ) (rows : List Row) (held : List Bool) (tasks : List Task)
     → AllByRecursion (IsRight account maildir items) tasks → AllByRecursion (λ (uid : List ℕ). has_row (merged rows items held now) uid ≡ true) (ids_ahead tasks)
 stored_has_row laws account maildir items now rows held [] right = tt
-stored_has_row laws account maildir items now rows held (task ∷ tasks) right = by task right.0 (stored_has_row laws account maildir items now rows held tasks right.1)
-  where
-    HasRow : List ℕ → Type 0
-    HasRow uid = has_row (merged rows items held now) uid ≡ true
-
-    by : (task : Task) → IsRight account maildir items task → AllByRecursion HasRow (ids_ahead tasks) → AllByRecursion HasRow (ids_in task ++ ids_ahead tasks)
-    by (stores number uid) is ih = (laws.listed rows items held now uid ∙ ap (λ b. has_row rows uid || b) is.1 ∙ or-true (has_row rows uid), ih)
-    by other is ih = ih
+stored_has_row laws account maildir items now rows held (stores number uid ∷ tasks) right = (
+  laws.listed rows items held now uid ∙ ap (λ b. has_row rows uid || b) right.0.1 ∙ or-true (has_row rows uid),
+  stored_has_row laws account maildir items now rows held tasks right.1,
+)
+stored_has_row laws account maildir items now rows held (task ∷ tasks) right = stored_has_row laws account maildir items now rows held tasks right.1
 
 -- what is listed and held is recorded as delivered after the merge
 pub held_delivered : Laws → (account : List ℕ) (maildir : Maildir) (items : List Item) (now : ℕ) (rows : List Row) (uid : List ℕ)

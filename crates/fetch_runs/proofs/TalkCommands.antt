@@ -214,13 +214,10 @@ nothing_found other = refl
 abbrev IsSmall : Step → Type 0
 IsSmall step = step.number < 2 ^ 32
 
-plain_fetching : (retrieve held : Bool) (number size : ℕ) (uid : List ℕ) → number < 2 ^ 32 → AllByRecursion IsPlain (fetching retrieve held number uid size)
-plain_fetching true true number size uid small = (small, tt)
-plain_fetching retrieve held number size uid small = search rules
-
-plain_deleting : (delete : Bool) (number : ℕ) → number < 2 ^ 32 → AllByRecursion IsPlain (deleting delete number)
-plain_deleting true number small = (small, tt)
-plain_deleting false number small = tt
+plain_step : (retrieve held delete : Bool) (number size : ℕ) (uid : List ℕ) → number < 2 ^ 32
+    → AllByRecursion IsPlain (fetching retrieve held number uid size ++ deleting delete number)
+plain_step true true true number size uid small = (small, (small, tt))
+plain_step retrieve held delete number size uid small = search rules
 
 plain_planned : (steps : List Step) (items : List Item) (held : List Bool) → AllByRecursion IsSmall steps → AllByRecursion IsPlain (tasks_planned steps items held)
 plain_planned [] items held small = tt
@@ -228,7 +225,7 @@ plain_planned (s ∷ steps) [] held small = tt
 plain_planned (s ∷ steps) (i ∷ items) [] small = tt
 plain_planned (s ∷ steps) (i ∷ items) (h ∷ held) small =
     all_append IsPlain (fetching s.retrieve h s.number i.uid i.size ++ deleting s.delete s.number) (tasks_planned steps items held)
-    (all_append IsPlain (fetching s.retrieve h s.number i.uid i.size) (deleting s.delete s.number) (plain_fetching s.retrieve h s.number i.size i.uid small.0) (plain_deleting s.delete s.number small.0))
+    (plain_step s.retrieve h s.delete s.number i.size i.uid small.0) (plain_planned steps items held small.1)
     (plain_planned steps items held small.1)
 
 small_steps : (f : ℕ × Item → Step) → ((q : ℕ × Item) → (f q).number ≡ q.0) → (n : ℕ) (items : List Item) → n + length items ≤ 2 ^ 32 → AllByRecursion IsSmall (map f (enumerate_from n items))

@@ -328,12 +328,9 @@ idle_said law name word named worded turns kind sent got said =
     whole : Commanded said.done said.begun turns sent
     whole = commanded_opening law name word named worded turns kind sent got said
 
-    all : AllByRecursion (IsOfTask []) (commands_in (opening name word))
-    all = (tt, (tt, (tt, (tt, (tt, tt)))))
-
     parts : commands_in (opening name word) ≡ (commands_in said.done ++ commands_in said.begun) ++ commands_in said.later
     parts = ap commands_in said.split ∙ commands_split said.done (said.begun ++ said.later) ∙ ap (λ (l : List Command). commands_in said.done ++ l) (commands_split said.begun said.later)
         ∙ sym (append_assoc (commands_in said.done) (commands_in said.begun) (commands_in said.later))
 
     none : AllByRecursion (IsOfTask []) (commands_in said.done ++ commands_in said.begun)
-    none = all_front (IsOfTask []) (commands_in said.done ++ commands_in said.begun) (commands_in said.later) (subst (AllByRecursion (IsOfTask [])) parts all)
+    none = all_front (IsOfTask []) (commands_in said.done ++ commands_in said.begun) (commands_in said.later) (subst (AllByRecursion (IsOfTask [])) parts (tt, (tt, (tt, (tt, (tt, tt))))))
