@@ -226,7 +226,6 @@ plain_planned (s ∷ steps) (i ∷ items) [] small = tt
 plain_planned (s ∷ steps) (i ∷ items) (h ∷ held) small =
     all_append IsPlain (fetching s.retrieve h s.number i.uid i.size ++ deleting s.delete s.number) (tasks_planned steps items held)
     (plain_step s.retrieve h s.delete s.number i.size i.uid small.0) (plain_planned steps items held small.1)
-    (plain_planned steps items held small.1)
 
 small_steps : (f : ℕ × Item → Step) → ((q : ℕ × Item) → (f q).number ≡ q.0) → (n : ℕ) (items : List Item) → n + length items ≤ 2 ^ 32 → AllByRecursion IsSmall (map f (enumerate_from n items))
 small_steps f same n [] within = tt
