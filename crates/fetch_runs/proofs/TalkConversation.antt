@@ -1,5 +1,5 @@
 -- Each session is one conversation: by its plan if its listing was joined, otherwise of the opening alone.
-use Rattle.std.proofs.Common.{◌≡◌, ◌≤◌, ◌⊎◌, inl, inr, ℕ, List, [], ◌∷◌, ◌++◌, length, Result, Ok, Err, refl, sym, ap, subst, ◌∙◌, append_assoc, ◌+◌, Bool, true, false, cond, map, Some, arith}
+use Rattle.std.proofs.Common.{◌≡◌, ◌≤◌, ◌⊎◌, inl, inr, ℕ, List, [], ◌∷◌, ◌++◌, length, Result, Ok, Err, refl, sym, ap, subst, ◌∙◌, append_assoc, ◌+◌, Bool, true, false, cond, map, Some, arith, rules}
 use Rattle.std.specs.List.{AllByRecursion, flat_map, count_by, AllZip, enumerate_from}
 use Rattle.std.proofs.lemmas.List.{append-nil, map-append}
 use Rattle.std.proofs.lemmas.List.Concat.{flat_map-append}
@@ -78,13 +78,10 @@ pub record Ahead (target : Target) (items : List Item) (tasks : List Task) (line
   pub spare : (reply : WholeReply) → c.spare ≡ reply ∷ [] → IsRefusedIn target result
   pub whole : IsWhole result c.under later
 
-no_spare : {P : Type 0} (reply : WholeReply) → [] ≡ reply ∷ [] → P
-no_spare reply e = absurd cc
-
 spare_refused : {account : List ℕ} {next : Task} {old new : Scene} {cut : Cut} (refused : NoFile account next old new cut)
     → (refuses : RefusesText old.store.maildir (stem_of account refused.uid) refused.rest refused.text cut.fault new.store.maildir)
     → (reply : WholeReply) → spare_in refused refuses ≡ reply ∷ [] → cut.fault ≡ StoreRefused Refused
-spare_refused refused (inl missing) reply e = no_spare reply e
+spare_refused refused (inl missing) reply e = absurd cc
 spare_refused refused (inr (is, which)) reply e = is
 
 ahead_stopped : (target : Target) (items : List Item) (tasks : List Task) (old new : Scene) (cut : Cut) (fell : Fell target tasks old cut new)
@@ -107,12 +104,12 @@ ahead_stopped target items tasks old new cut fell = by target fell.went.lines fe
           ∙ ap (λ (ts : List Task). ts ++ fell.later) (sym (map-append task_in fell.dones (stored_done number uid reply ∷ [])) ∙ sym (append-nil (tasks_of (fell.dones ++ stored_done number uid reply ∷ []))));
       told = told ∙ ap (λ (l : List ReportLine). l ++ delivered number reply ∷ []) first ∙ append_assoc old.lines (lines_of fell.dones) (delivered number reply ∷ [])
           ∙ ap (λ (l : List ReportLine). old.lines ++ l) (sym (flat_map-append (λ (d : Done). lines_in d.task d.replies) fell.dones (stored_done number uid reply ∷ [])));
-      spare = λ other e. no_spare other e;
+      spare = λ other e. absurd cc;
       whole = tt;
     }
 
     by : (to : Target) → fell.mid.lines ≡ old.lines ++ lines_of fell.dones → (how : Stops to fell.next fell.mid cut new) → Ahead to items tasks old.lines new.lines (Err cut) (course_stopped to items fell.dones fell.next fell.mid new cut how)
-    by to first (inl broken) = passed to [] first broken.lines (λ reply e. no_spare reply e)
+    by to first (inl broken) = passed to [] first broken.lines (λ reply e. absurd cc)
     by (AsFiles account) first (inr (inl r)) =
         passed (AsFiles account) (spare_in r r.refuses) first r.lines (λ reply e. ap WasCut (spare_refused r r.refuses reply e))
     by (AsFiles account) first (inr (inr unsaved)) = stored (AsFiles account) unsaved.number unsaved.uid unsaved.reply first unsaved.is unsaved.lines
@@ -123,7 +120,7 @@ ahead_stopped target items tasks old new cut fell = by target fell.went.lines fe
       same_items = refl;
       split = fell.split ∙ ap (λ (ts : List Task). ts ++ (fell.next ∷ fell.later)) (sym (append-nil (tasks_of fell.dones)));
       told = stays.lines ∙ first;
-      spare = λ reply e. no_spare reply e;
+      spare = λ reply e. absurd cc;
       whole = tt;
     }
     by AsEntries first (inr (inr unsaved)) = stored AsEntries unsaved.number unsaved.uid unsaved.reply first unsaved.is unsaved.lines
@@ -135,7 +132,7 @@ ahead_does target items tasks old new (Ok done) went = record {
   same_items = refl;
   split = went.all ∙ sym (append-nil (tasks_of went.dones)) ∙ sym (append-nil (tasks_of went.dones ++ []));
   told = went.went.lines;
-  spare = λ reply e. no_spare reply e;
+  spare = λ reply e. absurd cc;
   whole = (refl, refl);
 }
 ahead_does target items tasks old new (Err cut) fell = ahead_stopped target items tasks old new cut fell
@@ -190,7 +187,7 @@ module _ (joining : TurnsJoin) (paced : ConversationsArePaced) where
         same_items = refl;
         split = refl;
         told = is.lines_are ∙ sym (append-nil lines);
-        spare = λ reply e. no_spare reply e;
+        spare = λ reply e. absurd cc;
         whole = tt;
       };
       took = subst (λ (l : Link). Took (course items [] [] []) place (tail_turns (tail cut.fault)) l) (sym leaves.2)
