@@ -1,5 +1,5 @@
 -- A session is a step: what it sent and read, and what it left, together.
-use Rattle.std.proofs.Common.{map, take, length, ◌≡◌, inl, inr, ◌-◌, ℕ, true, false, List, [], ◌∷◌, ◌++◌, Some, Result, Ok, Err, refl, sym, ap, subst, ◌∙◌, arith, ◌≤◌, min, None, append_assoc}
+use Rattle.std.proofs.Common.{map, take, length, ◌≡◌, inl, inr, ◌-◌, ℕ, true, false, List, [], ◌∷◌, ◌++◌, Some, Result, Ok, Err, refl, sym, ap, subst, ◌∙◌, arith, ◌≤◌, None, append_assoc}
 use Rattle.std.specs.Prelude.{◌↔◌, bytes_eq, slice_get}
 use Rattle.std.specs.List.{list_any, AllByRecursion}
 use Rattle.std.proofs.lemmas.Bool.{true≢false}
@@ -265,8 +265,7 @@ few_found : (found : List (ℕ × List ℕ)) (wanted : List (ℕ × Item)) → m
 few_found found wanted numbers =
     let same : length found ≡ length (take (length found) wanted) =
     sym (length-map found (λ (p : ℕ × List ℕ). p.0)) ∙ ap (λ (l : List ℕ). length l) numbers ∙ length-map (take (length found) wanted) (λ (p : ℕ × Item). p.0) in
-    let short : length (take (length found) wanted) ≡ min (length found) (length wanted) = length-take (length found) wanted in
-    omega (arith, same, short)
+    omega (arith, same, length-take (length found) wanted)
 
 module _ (adds : EntryAddsText) (settings : Settings) (before : MboxMail) (effect : Effect) (after : MboxMail) (ended : effect.ended ≡ true) where
   added : (commands : List Command) (sent got : List ℕ) → MboxStores settings before effect after → Reads (mbox_wanted settings before effect) commands sent got effect → AddsTexts settings before effect after

@@ -24,7 +24,7 @@ use Rattle.run_law.specs.Sessions.{IsBegun, Link as LinkIn, LinksAreVisits, Send
 use Rattle.fetch_runs.proofs.Ids.{all_ids_at}
 use Rattle.fetch_runs.proofs.Lists.{all_map, mapped_at}
 use Rattle.fetch_runs.specs.Steps.{holds, IsStep, SessionIsAStep}
-use Rattle.fetch_runs.specs.Headline.{Occasion, maildrop_at, IsSession, Follows, IsLastStored, by_rows, HoldsAPrefix, IsHeldAfter, IsPastCount, LeavesOutOnlyBeyondLimits, IsForSuch, StoresOnlyNew, Promised, IsKept, Headline, EmptyIsKept, HeadlineFromEmpty, IsRun, contents_of, IsRecorded, HoldsExactlyAPrefix, IsWordForWord, LeaveAway, HeadlineWordForWord, StaysAway, LostRecordsAreForgotten, NewProcessesAreBetween, StopsAreRuns, after_session}
+use Rattle.fetch_runs.specs.Headline.{Occasion, maildrop_at, IsSession, Follows, IsLastStored, by_rows, HoldsAPrefix, IsHeldAfter, IsPastCount, LeavesOutOnlyBeyondLimits, IsForSuch, StoresOnlyNew, Promised, IsKept, Headline, EmptyIsKept, HeadlineFromEmpty, IsRun, contents_of, IsRecorded, IsWordForWord, LeaveAway, HeadlineWordForWord, StaysAway, LostRecordsAreForgotten, NewProcessesAreBetween, StopsAreRuns, after_session}
 use Rattle.fetch_runs.proofs.TalkCommands.{begins_of}
 use Rattle.fetch_session.specs.Session.{AccountFiles}
 
@@ -246,14 +246,11 @@ module _ (world : World) (state : State AccountFiles) (occasion : Occasion Accou
     deletes = record { sent = promised.1.sent; sent_is = promised.1.sent_is; sends = sends_weaker _ _ promised.1.sent for_one promised.1.sends };
   }
 
-holds_exactly : NothingTakenHoldsExactly → (world : World) (state : State AccountFiles) → state.taken ≡ [] → HoldsAPrefix world state → HoldsExactlyAPrefix world state
-holds_exactly nothing world state none holds' = nothing world (by_rows [] state) holds' none
-
 pub headline_word_for_word : Headline → NothingTakenHoldsExactly → HeadlineWordForWord
-headline_word_for_word law nothing world start [] sound is run none takes_none = holds_exactly nothing world start none (law world start [] sound is tt).0
+headline_word_for_word law nothing world start [] sound is run none takes_none = nothing world (by_rows [] start) (law world start [] sound is tt).0 none
 headline_word_for_word law nothing world start (Fetched occasion ∷ events) sound is run none takes_none =
     let one = event_kept law world start (Fetched occasion) sound is run.0 in (
-      holds_exactly nothing world start none one.0,
+      nothing world (by_rows [] start) one.0 none,
       word_for_word world start occasion none one.1,
       headline_word_for_word law nothing world (after_session start occasion) events sound one.2 run.1 none takes_none,
     )
@@ -263,7 +260,7 @@ headline_word_for_word law nothing world start (BroughtBack id after ∷ events)
     absurd (true≢false (sym run.0.taken ∙ ap (λ (ids : List (List ℕ)). has_id ids id) none))
 headline_word_for_word law nothing world start (event ∷ events) sound is run none takes_none =
     let one = event_kept law world start event sound is run.0 in
-    (holds_exactly nothing world start none one.0, tt, headline_word_for_word law nothing world (after_event after_session start event) events sound one.2 run.1 none takes_none)
+    (nothing world (by_rows [] start) one.0 none, tt, headline_word_for_word law nothing world (after_event after_session start event) events sound one.2 run.1 none takes_none)
 
 -- ---- what is taken away stays away
 
