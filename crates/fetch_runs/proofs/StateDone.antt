@@ -85,36 +85,6 @@ pub same_length : (dones : List Done) → AllByRecursion IsAnswered dones → le
 same_length dones answered =
     sym (length-map (fetched (tasks_of dones)) (λ (p : ℕ × List ℕ). p.0)) ∙ sym (ap (λ (l : List ℕ). length l) (numbers_by dones answered)) ∙ length-map (found_by dones) number_found
 
--- the tasks so far fetched the first of the wanted messages
-pub fetched_first : (tasks rest : List Task) (dones : List Done) (messages : List (ℕ × Item)) → fetched tasks ≡ map key messages → tasks ≡ tasks_of dones ++ rest
-    → AllByRecursion IsAnswered dones → fetched (tasks_of dones) ≡ map key (take (length (found_by dones)) messages)
-fetched_first tasks rest dones messages are split answered =
-    sym (take_at (fetched (tasks_of dones)) (fetched rest) (length (found_by dones)) (same_length dones answered))
-    ∙ ap (λ (l : List (ℕ × List ℕ)). take (length (found_by dones)) l) (sym (flat_map-append fetched_in (tasks_of dones) rest) ∙ ap fetched (sym split) ∙ are)
-    ∙ take-map key (length (found_by dones)) messages
-
--- all of them, if nothing is left to do
-pub fetched_all : (tasks : List Task) (dones : List Done) (messages : List (ℕ × Item)) → fetched tasks ≡ map key messages → tasks ≡ tasks_of dones
-    → AllByRecursion IsAnswered dones → length (found_by dones) ≡ length messages
-fetched_all tasks dones messages are all answered =
-    sym (same_length dones answered) ∙ ap (λ (l : List Task). length (fetched l)) (sym all) ∙ ap (λ (l : List (ℕ × List ℕ)). length l) are ∙ length-map messages key
-
--- by their numbers
-pub numbers_first : (tasks rest : List Task) (dones : List Done) (messages : List (ℕ × Item)) → fetched tasks ≡ map key messages → tasks ≡ tasks_of dones ++ rest
-    → AllByRecursion IsAnswered dones → map number_found (found_by dones) ≡ map number_of (take (length (found_by dones)) messages)
-numbers_first tasks rest dones messages are split answered =
-    numbers_by dones answered ∙ ap (map (λ (p : ℕ × List ℕ). p.0)) (fetched_first tasks rest dones messages are split answered)
-    ∙ map-map (λ (p : ℕ × List ℕ). p.0) key (take (length (found_by dones)) messages)
-
--- by their files
-pub files_first : (account : List ℕ) (maildir : Maildir) (items : List Item) (tasks rest : List Task) (dones : List Done) (messages : List (ℕ × Item))
-    → fetched tasks ≡ map key messages → AllByRecursion (IsRight account maildir items) tasks → tasks ≡ tasks_of dones ++ rest → AllByRecursion IsAnswered dones
-    → files_of account dones ≡ map (file_for account) (filter (is_unheld account maildir) (zip (take (length (found_by dones)) messages) (texts_by dones)))
-files_first account maildir items tasks rest dones messages are right split answered =
-    files_by account maildir items dones answered (all_front (IsRight account maildir items) (tasks_of dones) rest (subst (AllByRecursion (IsRight account maildir items)) split right))
-    ∙ ap (λ (l : List (ℕ × List ℕ)). map (file_at account) (filter (is_free account maildir) (zip l (texts_by dones)))) (fetched_first tasks rest dones messages are split answered)
-    ∙ by_messages account maildir (take (length (found_by dones)) messages) (texts_by dones)
-
 -- ---- by their lines in the report
 
 counted_in : (task : Task) (replies : List WholeReply) → AllZip IsGood (turns_in task) replies → retrieved_in (lines_in task replies) ≡ length (found_in task replies)
@@ -334,15 +304,32 @@ module _ (laws : Laws) (p : Inputs) where
   pub wanted_are : fetched (tasks_on p) ≡ map key (messages_on p)
   wanted_are = fetched_ahead laws.plans p.settings p.account p.items p.now p.maildir (rows_on p)
 
+  -- the tasks so far fetched the first of the wanted messages
+  fetched_part : (dones : List Done) → Part (tasks_on p) dones → fetched (tasks_of dones) ≡ map key (take (length (found_by dones)) (messages_on p))
+  fetched_part dones part =
+      sym (take_at (fetched (tasks_of dones)) (fetched part.rest) (length (found_by dones)) (same_length dones part.answered))
+      ∙ ap (λ (l : List (ℕ × List ℕ)). take (length (found_by dones)) l) (sym (flat_map-append fetched_in (tasks_of dones) part.rest) ∙ ap fetched (sym part.split) ∙ wanted_are)
+      ∙ take-map key (length (found_by dones)) (messages_on p)
+
   -- the record is the merged one, with the first of the wanted messages marked
   pub records_part : (dones : List Done) → Part (tasks_on p) dones → rows_after p dones ≡ marked_all (rows_on p) (ids_wanted (take (length (found_by dones)) (messages_on p)))
   records_part dones part =
       marks_by p.account p.maildir p.items dones (rows_on p) (held_settled laws p.account p.maildir p.items p.now p.rows) (right_part dones part)
-      ∙ ap (λ (l : List (ℕ × List ℕ)). marked_all (rows_on p) (map (λ (p : ℕ × List ℕ). p.1) l)) (fetched_first (tasks_on p) part.rest dones (messages_on p) wanted_are part.split part.answered)
-      ∙ ap (marked_all (rows_on p)) (map-map (λ (p : ℕ × List ℕ). p.1) key (take (length (found_by dones)) (messages_on p)))
+      ∙ ap (λ (l : List (ℕ × List ℕ)). marked_all (rows_on p) (map (λ (found : ℕ × List ℕ). found.1) l)) (fetched_part dones part)
+      ∙ ap (marked_all (rows_on p)) (map-map (λ (found : ℕ × List ℕ). found.1) key (take (length (found_by dones)) (messages_on p)))
 
   pub numbers_part : (dones : List Done) → Part (tasks_on p) dones → map number_found (found_by dones) ≡ map number_of (take (length (found_by dones)) (messages_on p))
-  numbers_part dones part = numbers_first (tasks_on p) part.rest dones (messages_on p) wanted_are part.split part.answered
+  numbers_part dones part =
+      numbers_by dones part.answered ∙ ap (map (λ (found : ℕ × List ℕ). found.0)) (fetched_part dones part)
+      ∙ map-map (λ (found : ℕ × List ℕ). found.0) key (take (length (found_by dones)) (messages_on p))
+
+  pub files_part : (dones : List Done) → Part (tasks_on p) dones
+      → files_of p.account dones ≡ map (file_for p.account) (filter (is_unheld p.account p.maildir) (zip (take (length (found_by dones)) (messages_on p)) (texts_by dones)))
+  files_part dones part =
+      files_by p.account p.maildir p.items dones part.answered (right_part dones part)
+      ∙ ap (λ (l : List (ℕ × List ℕ)). map (file_at p.account) (filter (is_free p.account p.maildir) (zip l (texts_by dones)))) (fetched_part dones part)
+      ∙ by_messages p.account p.maildir (take (length (found_by dones)) (messages_on p)) (texts_by dones)
 
   pub wanted_all : (dones : List Done) → tasks_on p ≡ tasks_of dones → AllByRecursion IsAnswered dones → length (found_by dones) ≡ length (messages_on p)
-  wanted_all dones all answered = fetched_all (tasks_on p) dones (messages_on p) wanted_are all answered
+  wanted_all dones all answered =
+      sym (same_length dones answered) ∙ ap (λ (l : List Task). length (fetched l)) (sym all) ∙ ap (λ (l : List (ℕ × List ℕ)). length l) wanted_are ∙ length-map (messages_on p) key

@@ -33,8 +33,8 @@ use Rattle.run_law.specs.Steps.{file_for, is_unheld, wanted_at}
 use Rattle.run_law.specs.Counted.{Counted, Records}
 use Rattle.fetch_runs.specs.Steps.{holds}
 use Rattle.fetch_runs.proofs.Courses.{Course, SessionCourse, Idle, Deals, course, spare_in, course_stopped, course_does, course_carried, course_carries, course_proceeded, stored_done, found_by, found_of, begun_of}
-use Rattle.fetch_runs.proofs.StatePlan.{tasks_ahead, IsRight, right_ahead}
-use Rattle.fetch_runs.proofs.StateDone.{number_found, text_found, number_of, files_first, Laws, Inputs, rows_on, tasks_on, messages_on, rows_after, Part, effect_of, records_part, wanted_are}
+use Rattle.fetch_runs.proofs.StatePlan.{tasks_ahead, IsRight}
+use Rattle.fetch_runs.proofs.StateDone.{number_found, text_found, number_of, files_part, Laws, Inputs, rows_on, tasks_on, messages_on, rows_after, Part, effect_of, records_part}
 use Rattle.fetch_runs.proofs.StateCases.{is_ended, UnsavedIn, unsaved_why, Starts, Tally, tally_right, tally_numbers, tally_number, tally_none, mid_rows, mid_keeps, tally_all, tally_no_line, tally_spare, tally_old, tally_new, full_rows}
 
 -- the account that a session left, and what it found
@@ -68,10 +68,7 @@ module _ (laws : Laws) (p : Inputs) where
   -- the files of the texts found
   adds_part : (whole : List Done) → Part (tasks_on p) whole → (found : List (ℕ × List ℕ)) → found ≡ found_by whole → (n : ℕ) → n ≡ length (found_by whole)
       → files_of p.account whole ≡ map (file_for p.account) (filter (is_unheld p.account p.maildir) (zip (take n (messages_on p)) (map text_found found)))
-  adds_part whole part found found_is n is = rw (found_is, is)
-      (files_first p.account p.maildir p.items (tasks_on p) part.rest whole (messages_on p) (wanted_are laws p)
-      (right_ahead p.settings p.account p.items p.now p.maildir (rows_on p)) part.split part.answered)
-
+  adds_part whole part found found_is n is = rw (found_is, is) (files_part laws p whole part)
   lead : {ended : Bool} {taken whole noted : List Done} {spare : List WholeReply} {under : List Task} {lines : List ReportLine} {refused unsaved : Type 0}
       → Tally p ended taken spare under whole noted lines refused unsaved → (maildir' : Maildir) (content' : Option (List ℕ)) → AddsFiles p.account p.maildir whole maildir'
       → KeepsRows content' (rows_after p noted) → Leading p ended (course p.items taken spare under) maildir' content' lines refused unsaved
