@@ -69,6 +69,7 @@ module _ (laws : Laws) (p : Inputs) where
   adds_part : (whole : List Done) → Part (tasks_on p) whole → (found : List (ℕ × List ℕ)) → found ≡ found_by whole → (n : ℕ) → n ≡ length (found_by whole)
       → files_of p.account whole ≡ map (file_for p.account) (filter (is_unheld p.account p.maildir) (zip (take n (messages_on p)) (map text_found found)))
   adds_part whole part found found_is n is = rw (found_is, is) (files_part laws p whole part)
+
   lead : {ended : Bool} {taken whole noted : List Done} {spare : List WholeReply} {under : List Task} {lines : List ReportLine} {refused unsaved : Type 0}
       → Tally p ended taken spare under whole noted lines refused unsaved → (maildir' : Maildir) (content' : Option (List ℕ)) → AddsFiles p.account p.maildir whole maildir'
       → KeepsRows content' (rows_after p noted) → Leading p ended (course p.items taken spare under) maildir' content' lines refused unsaved
