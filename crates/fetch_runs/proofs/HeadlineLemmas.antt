@@ -20,7 +20,7 @@ use Rattle.run_law.specs.Mails.{item_of, listing_of, is_selected, WorldsShrink}
 use Rattle.run_law.specs.Accounts.{AccountMail, copies, files}
 use Rattle.run_law.specs.Steps.{Effect, merged_rows}
 use Rattle.run_law.specs.Runs.{IsSound, World, State, Visit, Visits, IsLastStored as LastIn, Happens, after_visit, Promises as PromisesIn, Kept as IsKeptIn, KeptStaysKept, KeptHoldsWhatIsLeft, StartsKept, is_past_count, NothingTakenHoldsExactly, Event, Fetched, Between, Expired, Withdrawn, TakenAway, BroughtBack, Forgotten, PowerLost, after_event, after_events, world_after, world_left}
-use Rattle.run_law.specs.Sessions.{IsBegun, Link as LinkIn, LinksAreVisits, SendsOnly}
+use Rattle.run_law.specs.Sessions.{Link as LinkIn, LinksAreVisits, SendsOnly, IsBegun, visit_of}
 use Rattle.fetch_runs.proofs.Ids.{all_ids_at}
 use Rattle.fetch_runs.proofs.Lists.{all_map, mapped_at}
 use Rattle.fetch_runs.specs.Steps.{holds, IsStep, SessionIsAStep}
@@ -75,18 +75,15 @@ module _ (laws : Laws) (world : World) (state : State AccountFiles) (occasion : 
   abbrev link_of : IsStepFor world.account → LinkIn AccountMail
   link_of s = record { settings = occasion.settings; come = occasion.come; sent = s.sent; got = s.got; vanished = occasion.vanished; after = holds s.rows' occasion.after.maildir }
 
-  abbrev visit_of : IsStepFor world.account → Visit AccountMail
-  visit_of s = record { settings = occasion.settings; come = occasion.come; effect = s.effect; vanished = occasion.vanished; after = holds s.rows' occasion.after.maildir }
-
   module _ (s : IsStepFor world.account) where
-    visits : Visits world (by_rows rows state) (visit_of s)
+    visits : Visits world (by_rows rows state) (visit_of (link_of s) s.effect)
     visits = laws.visits world (by_rows rows state) (link_of s)
         (record { same = is.settings.max_size; effect = s.effect; session = s.stepped; served = is.served s.sent s.got s.sent_is s.got_is })
 
     -- what the law over runs says of it
-    happened : IsKeptIn world (by_rows s.rows' (after_session state occasion)) × PromisesIn world (by_rows rows state) (Fetched (visit_of s))
+    happened : IsKeptIn world (by_rows s.rows' (after_session state occasion)) × PromisesIn world (by_rows rows state) (Fetched (visit_of (link_of s) s.effect))
     happened =
-        let all = laws.stays world (by_rows rows state) (Fetched (visit_of s) ∷ []) sound is_kept (visits, tt) in
+        let all = laws.stays world (by_rows rows state) (Fetched (visit_of (link_of s) s.effect) ∷ []) sound is_kept (visits, tt) in
         (all.0, all.1.0)
 
     -- the listing was the maildrop's, or nothing was begun and the session was cut

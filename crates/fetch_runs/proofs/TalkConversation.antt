@@ -33,7 +33,7 @@ use Rattle.fetch_runs.proofs.Lists.{all_front}
 use Rattle.fetch_runs.specs.Conversations.{AreFound, tail_behind, is_retrieval, retrieved_by, Conversation, plan_turns, FollowsPlan, MboxSessionsFollowPlans, Converses, CountsTexts, Opens, SpeaksByPlan, SessionsAreConversations}
 use Rattle.fetch_runs.proofs.Courses.{Course, course, stored_done, spare_in, course_stopped, course_does, course_carried, course_carries, begun_of, SessionCourse, Idle, Deals, course_dealt, course_proceeded, session_course_of}
 use Rattle.fetch_runs.proofs.TalkCommands.{IsPlain, plain_ahead, commands_in, CanBeSaid, Commanded, said_tasks, both_none}
-use Rattle.fetch_runs.proofs.TalkCourses.{Took, took_stopped, took_nothing, all_done, goes_nothing}
+use Rattle.fetch_runs.proofs.TalkCourses.{Took, took_stopped, took_nothing, all_done}
 use Rattle.fetch_runs.proofs.TalkSpeech.{IsTail, is_tail, silent, front_of_plan, OpensAlone, opens_all, opens_cut, commanded_opening, replied, few_items, Speaks, spoken, commanded_after, Replied, listed}
 use Rattle.std.proofs.lemmas.List.Sums.{sum_by-append}
 use Rattle.pop3_wire.specs.declared.command.Command.{Command}
@@ -159,7 +159,8 @@ module _ (joining : TurnsJoin) (paced : ConversationsArePaced) where
       → AllByRecursion IsPlain tasks → LeavesLink result new.place link → Took (course_does target items tasks old new result does) old.place (tail_for result) link
   took_does target items tasks old new (Ok done) link went plain leaves =
       subst (λ (l : Link). Took (course items went.dones [] []) old.place [] l) (sym leaves)
-      (all_done joining paced items went.dones [] old.place new.place new.place.link went.went.talked (subst (AllByRecursion IsPlain) went.all plain) went.went.each (goes_nothing [] new.place.link))
+      (all_done joining paced items went.dones [] old.place new.place new.place.link went.went.talked (subst (AllByRecursion IsPlain) went.all plain) went.went.each
+      (record { gained = []; got = sym (append-nil new.place.link.got); behind = []; sent = sym (append-nil new.place.link.sent); sent_behind = inl ([], refl) }))
   took_does target items tasks old new (Err cut) link fell plain leaves =
       subst (λ (l : Link). Took (course_stopped target items fell.dones fell.next fell.mid new cut fell.stops) old.place (tail_turns (tail cut.fault)) l) (sym leaves.2)
       (took_stopped joining paced items target fell.dones fell.next old fell.mid new cut leaves.0 fell.went

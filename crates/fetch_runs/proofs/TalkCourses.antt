@@ -58,10 +58,6 @@ pub record Goes (begun tail : List Turn) (old new : Link) : Type 0 where
 pub goes_tail : (tail : List Turn) (old new : Link) → Fronted tail old new → Goes [] tail old new
 goes_tail tail old new f = record { gained = f.gained; got = f.got; behind = f.part; sent = f.sent; sent_behind = inr (f.part, f.later, f.split, refl) }
 
--- nothing
-pub goes_nothing : (tail : List Turn) (link : Link) → Goes [] tail link link
-goes_nothing tail link = record { gained = []; got = sym (append-nil link.got); behind = []; sent = sym (append-nil link.sent); sent_behind = inl ([], refl) }
-
 -- one turn, whole, and the tail
 pub goes_whole : (turn : Turn) (tail : List Turn) (old mid new : Link) (gained : List ℕ) → mid.sent ≡ old.sent ++ turn_bytes turn → mid.got ≡ old.got ++ gained → Fronted tail mid new
     → Goes (turn ∷ []) tail old new
