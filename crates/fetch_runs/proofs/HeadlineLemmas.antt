@@ -24,7 +24,7 @@ use Rattle.run_law.specs.Sessions.{Link as LinkIn, LinksAreVisits, SendsOnly, Is
 use Rattle.fetch_runs.proofs.Ids.{all_ids_at}
 use Rattle.fetch_runs.proofs.Lists.{all_map, mapped_at}
 use Rattle.fetch_runs.specs.Steps.{holds, IsStep, SessionIsAStep}
-use Rattle.fetch_runs.specs.Headline.{Occasion, maildrop_at, IsSession, Follows, IsLastStored, by_rows, HoldsAPrefix, IsHeldAfter, IsPastCount, LeavesOutOnlyBeyondLimits, IsForSuch, StoresOnlyNew, Promised, IsKept, Headline, EmptyIsKept, HeadlineFromEmpty, IsRun, contents_of, IsRecorded, IsWordForWord, LeaveAway, HeadlineWordForWord, StaysAway, LostRecordsAreForgotten, NewProcessesAreBetween, StopsAreRuns, after_session}
+use Rattle.fetch_runs.specs.Headline.{Occasion, maildrop_at, IsSession, Follows, IsLastStored, by_rows, HoldsAPrefix, IsHeldAfter, IsPastCount, IsForSuch, Promised, IsKept, Headline, EmptyIsKept, HeadlineFromEmpty, IsRun, contents_of, IsRecorded, IsWordForWord, LeaveAway, HeadlineWordForWord, StaysAway, LostRecordsAreForgotten, NewProcessesAreBetween, StopsAreRuns, after_session}
 use Rattle.fetch_runs.proofs.TalkCommands.{begins_of}
 use Rattle.fetch_session.specs.Session.{AccountFiles}
 
@@ -103,22 +103,13 @@ module _ (laws : Laws) (world : World) (state : State AccountFiles) (occasion : 
     excluded listed m (inr (inr (inl large))) = inr (inl large)
     excluded listed m (inr (inr (inr is_past))) = inr (inr (rows, keeps, rw (← s.now_is, ← listed) is_past))
 
-    leaves_out : LeavesOutOnlyBeyondLimits world state occasion
-    leaves_out ended = elim listing_or_nothing [
-      | inl listed ↦ all_map _ _ (excluded listed) (maildrop_at world state occasion) (happened.1.0 (s.ended_is.1 ended))
-      | inr nothing ↦ absurd (true≢false (sym (s.ended_is.1 ended) ∙ nothing.1))
-    ]
-
-    stores_only_new : StoresOnlyNew world state occasion
-    stores_only_new only_new id legal recorded =
-        let same : rows ≡ recorded.0 = (laws.one state.account.file.content rows recorded.0 keeps.0 recorded.1.0 keeps.1 recorded.1.1).0 in
-        let now = happened.1.3 only_new id legal (ap (λ (rs : List Row). is_delivered rs id) same ∙ recorded.2) in
-        (now.0, (s.rows', s.keeps, now.1))
-
     session_promised : Promised world state (Fetched occasion) × IsKept world (after_session state occasion)
     session_promised = (
       (
-        leaves_out,
+        λ ended. elim listing_or_nothing [
+          | inl listed ↦ all_map _ _ (excluded listed) (maildrop_at world state occasion) (happened.1.0 (s.ended_is.1 ended))
+          | inr nothing ↦ absurd (true≢false (sym (s.ended_is.1 ended) ∙ nothing.1))
+        ],
         record {
           sent = s.sent;
           sent_is = s.sent_is;
@@ -129,7 +120,10 @@ module _ (laws : Laws) (world : World) (state : State AccountFiles) (occasion : 
           | inl left ↦ record { gained = []; came = left.same ∙ sym (append-nil state.account.maildir.files) }
           | inr stored ↦ record { gained = _; came = stored.0.came }
         ],
-        stores_only_new,
+        λ only_new id legal recorded.
+            let same : rows ≡ recorded.0 = (laws.one state.account.file.content rows recorded.0 keeps.0 recorded.1.0 keeps.1 recorded.1.1).0 in
+            let now = happened.1.3 only_new id legal (ap (λ (rs : List Row). is_delivered rs id) same ∙ recorded.2) in
+            (now.0, (s.rows', s.keeps, now.1)),
       ),
       (s.rows', s.keeps, happened.0),
     )
