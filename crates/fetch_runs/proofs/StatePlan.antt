@@ -143,19 +143,15 @@ stands (x ∷ front) behind item =
     let there = stands front behind item in
     (there.0, ap (λ b. bytes_eq item.uid x.uid || b) there.1 ∙ or-true (bytes_eq item.uid x.uid))
 
-at_number : (front behind : List Item) (item : Item) (n : ℕ) → n ≡ length front + 1 → IsAt (front ++ item ∷ behind) (n, item)
-at_number front behind item n is =
-    let place : n - 1 ≡ length front = omega (arith, is) in
-    let there = stands front behind item in
-    (ap (λ (k : ℕ). slice_get (front ++ item ∷ behind) k) place ∙ there.0, there.1, omega (arith, is))
-
 all_stand : (items front behind : List Item) (n : ℕ) → items ≡ front ++ behind → n ≡ length front + 1 → AllByRecursion (IsAt items) (enumerate_from n behind)
 all_stand items front [] n split is = tt
-all_stand items front (item ∷ behind) n split is = (
-  subst (λ (all : List Item). IsAt all (n, item)) (sym split) (at_number front behind item n is),
-  all_stand items (front ++ item ∷ []) behind (n + 1) (split ∙ sym (append_assoc front (item ∷ []) behind))
-      (ap (λ (k : ℕ). k + 1) is ∙ ap (λ (k : ℕ). k + 1) (sym (length-append front (item ∷ [])))),
-)
+all_stand items front (item ∷ behind) n split is =
+    let place : n - 1 ≡ length front = omega (arith, is) in
+    let there = stands front behind item in (
+      subst (λ (all : List Item). IsAt all (n, item)) (sym split) (ap (λ (k : ℕ). slice_get (front ++ item ∷ behind) k) place ∙ there.0, there.1, omega (arith, is)),
+      all_stand items (front ++ item ∷ []) behind (n + 1) (split ∙ sym (append_assoc front (item ∷ []) behind))
+          (ap (λ (k : ℕ). k + 1) is ∙ ap (λ (k : ℕ). k + 1) (sym (length-append front (item ∷ [])))),
+    )
 
 right_all : (account : List ℕ) (maildir : Maildir) (items : List Item) (f : ℕ × Item → Step) → ((q : ℕ × Item) → (f q).number ≡ q.0) → ((q : ℕ × Item) → (f q).delete ≡ true → IsAlone items q)
     → (qs : List (ℕ × Item)) → AllByRecursion (IsAt items) qs → AllByRecursion (IsRight account maildir items) (flat_map (tasks_at f (is_held account maildir)) qs)

@@ -188,7 +188,7 @@ module _ (joining : TurnsJoin) (law : FrontsAreAsked) (name word : List ℕ) (na
       texts = refl;
       numbers = numbers;
     };
-    deletes = (tt, (tt, (tt, (tt, (tt, all_of_tasks)))));
+    deletes = said_of_tasks (begun_of c) kind whole (tt, (tt, (tt, (tt, (tt, tasked)))));
     next = next_of_tasks (begun_of c) kind whole (tt, (tt, (tt, (tt, (tt, tasked)))));
     stops = says_only;
   }
@@ -224,9 +224,6 @@ module _ (joining : TurnsJoin) (law : FrontsAreAsked) (name word : List ℕ) (na
               | inr is ↦ is
             ];
           }
-
-      all_of_tasks : AllByRecursion (IsOfTask (begun_of c)) (commands_in took.done ++ (whole.ahead ++ whole.ends))
-      all_of_tasks = (said_of_tasks (begun_of c) kind whole (tt, (tt, (tt, (tt, (tt, tasked)))))).1.1.1.1.1
 
   -- a session that joined its listing
   pub spoken : (c : Course) (count : ℕ) (uids : List UidRow) (sizes : List ScanRow) (start mid : Place) (turns : List Turn) (kind : IsTail turns) (link : Link) → start.waiting ≡ []
