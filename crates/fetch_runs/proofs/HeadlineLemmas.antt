@@ -137,9 +137,6 @@ module _ (laws : Laws) (world : World) (state : State AccountFiles) (occasion : 
         | inr stored ↦ (step.rows', step.keeps, all_ids_at (λ (x : List ℕ). is_delivered step.rows' x ≡ true) step.effect.begun id stored.0.begun begun)
       ]
 
-  pub fetched_promised : Promised world state (Fetched occasion) × IsKept world (after_session state occasion)
-  fetched_promised = session_promised step
-
 -- ---- what happens between sessions
 
 -- what a loss of power left of a message's files, over the rows for which the record's file stood
@@ -165,7 +162,8 @@ module _ (laws : Laws) (world : World) (state : State AccountFiles) (sound : IsS
 
   event_promised : (event : Event Occasion AccountFiles) → IsKept world state → Follows world state event
       → Promised world state event × IsKept (world_after world event) (after_event after_session state event)
-  event_promised (Fetched occasion) (rows, keeps, kept) follows = fetched_promised laws world state occasion sound rows keeps kept follows
+  event_promised (Fetched occasion) (rows, keeps, kept) follows =
+      session_promised laws world state occasion sound rows keeps kept follows (step laws world state occasion sound rows keeps kept follows)
   event_promised (Between after) (rows, keeps, kept) between =
       (tt, (rows, between.record_is rows keeps, still_kept (Between (holds rows after.maildir)) rows kept (record { rows = refl; same = between.mail })))
   event_promised (Expired ids) (rows, keeps, kept) expired = (tt, (rows, keeps, still_kept (Expired ids) rows kept expired))

@@ -163,14 +163,6 @@ pub record Took (c : Course) (start : Place) (tail : List Turn) (link : Link) : 
   pub asks : (done ≡ turns_of c.taken) ⊎ ((number : ℕ) × (done ≡ turns_of c.taken ++ retr number ∷ []) × (begun ≡ []) × ((reply : WholeReply) × (c.spare ≡ reply ∷ [])))
   pub whole : c.under ≡ [] → begun ≡ []
 
--- the texts of done tasks
-read_dones : (dones : List Done) (others : List (ℕ × List ℕ)) → others ≡ [] → AllByRecursion IsPlain (tasks_of dones) → AllByRecursion IsAnswered dones
-    → (more : List Command) → Retrieves (commands_in (turns_of dones) ++ more) (replies_of dones) (found_by dones ++ others)
-read_dones dones others none plain each more =
-    subst (λ (fs : List (ℕ × List ℕ)). Retrieves (commands_in (turns_of dones) ++ more) (replies_of dones) (found_by dones ++ fs)) (sym none)
-    (subst (λ (rs : List WholeReply). Retrieves (commands_in (turns_of dones) ++ more) rs (found_by dones ++ [])) (append-nil (replies_of dones))
-    (dones_read dones [] more [] plain each refl))
-
 module _ (joining : TurnsJoin) (paced : ConversationsArePaced) (items : List Item) where
   -- the tail after a cut with no reply under way
   tailed : (cut : Cut) (there last : Place) → cut.rest ≡ None → Left cut there last → Fronted (tail_turns (tail cut.fault)) there.link last.link
@@ -192,7 +184,10 @@ module _ (joining : TurnsJoin) (paced : ConversationsArePaced) (items : List Ite
     goes = goes;
     all = turns_on dones under ∙ ap (λ (ts : List Turn). turns_of dones ++ ts) takes;
     one = one;
-    read = read_dones dones (flat_map (λ (task : Task). found_in task []) under) none plain each;
+    read = λ more.
+        subst (λ (fs : List (ℕ × List ℕ)). Retrieves (commands_in (turns_of dones) ++ more) (replies_of dones) (found_by dones ++ fs)) (sym none)
+        (subst (λ (rs : List WholeReply). Retrieves (commands_in (turns_of dones) ++ more) rs (found_by dones ++ [])) (append-nil (replies_of dones))
+        (dones_read dones [] more [] plain each refl));
     each = each;
     asks = inl refl;
     whole = whole;

@@ -36,7 +36,7 @@ use Rattle.fetch_runs.proofs.StateDone.{number_found, number_of, effect_of}
 use Rattle.fetch_runs.proofs.TalkCourses.{conversation, Took, fronted, goes_tail, goes_broke}
 use Rattle.fetch_rules.specs.declared.steps.Step.{Step}
 use Rattle.run_law.specs.Plans.{plan_commands, IsTail as IsTailOf, IsFrontOfPlan}
-use Rattle.pop3_client.specs.Conversation.{ConversationsArePaced, Stopped, Talks, TurnsJoin}
+use Rattle.pop3_client.specs.Conversation.{ConversationsArePaced, Talks, TurnsJoin}
 
 -- ---- The opening of a session, as the law over runs reads it.
 
@@ -273,19 +273,6 @@ pub record OpensAlone (name word : List ℕ) (turns : List Turn) (old new : Link
   pub said : Converses (opening name word) turns sent got
 
 module _ (paced : ConversationsArePaced) (name word : List ℕ) (start new last : Place) (none : start.waiting ≡ []) where
-  opens_stopped : (why : ClientFault) → Stopped (opening name word) start new why → (result : Result (Unit {0}) ClientFault) → Talks (tail_turns (tail (fault_of why))) new result last
-      → OpensAlone name word (tail_turns (tail (fault_of why))) start.link last.link
-  opens_stopped why s result talks =
-      let turns = tail_turns (tail (fault_of why)) in
-      let is = conversation s.done s.replies (s.next ∷ []) turns start s.mid last.link none s.talked (goes_broke s.next s.mid new last why s.broke (fronted paced turns new last result talks)) in
-      record {
-        sent = is.0;
-        got = is.1;
-        sent_is = is.2;
-        got_is = is.3;
-        said = record { done = s.done; begun = s.next ∷ []; later = s.later; replies = s.replies; split = s.split; one = inr (s.next, refl); is = is.4 };
-      }
-
   pub opens_all : (count : ℕ) (uids : List UidRow) (sizes : List ScanRow) (turns : List Turn) → Opened name word start new count uids sizes → (result : Result (Unit {0}) ClientFault)
       → Talks turns new result last → OpensAlone name word turns start.link last.link
   opens_all count uids sizes turns opened result talks =
@@ -302,7 +289,16 @@ module _ (paced : ConversationsArePaced) (name word : List ℕ) (start new last 
   -- no listing was joined
   pub opens_cut : (why : ClientFault) → Enters name word start (Err why) new → (result : Result (Unit {0}) ClientFault) → Talks (tail_turns (tail (fault_of why))) new result last
       → OpensAlone name word (tail_turns (tail (fault_of why))) start.link last.link
-  opens_cut why (inl stopped) result talks = opens_stopped why stopped result talks
+  opens_cut why (inl s) result talks =
+      let turns = tail_turns (tail (fault_of why)) in
+      let is = conversation s.done s.replies (s.next ∷ []) turns start s.mid last.link none s.talked (goes_broke s.next s.mid new last why s.broke (fronted paced turns new last result talks)) in
+      record {
+        sent = is.0;
+        got = is.1;
+        sent_is = is.2;
+        got_is = is.3;
+        said = record { done = s.done; begun = s.next ∷ []; later = s.later; replies = s.replies; split = s.split; one = inr (s.next, refl); is = is.4 };
+      }
   opens_cut why (inr (inl (is, (count, uids, sizes, opened, never)))) result talks = opens_all count uids sizes (tail_turns (tail (fault_of why))) opened result talks
   opens_cut why (inr (inr (is, (count, uids, sizes, opened)))) result talks = opens_all count uids sizes (tail_turns (tail (fault_of why))) opened result talks
 
