@@ -135,15 +135,13 @@ conversation done replies begun tail start there link none talked goes = (
   record {
     good = talked.good;
     rest = there.waiting ++ goes.gained;
-    heard = ap (λ (l : List ℕ). l ++ goes.gained) heard ∙ append_assoc (flat_map reply_bytes replies) there.waiting goes.gained;
+    heard = ap (λ (l : List ℕ). l ++ goes.gained) (ap (λ (l : List ℕ). l ++ talked.gained) (sym none) ∙ talked.heard)
+        ∙ append_assoc (flat_map reply_bytes replies) there.waiting goes.gained;
     behind = goes.behind;
     said = refl;
     sent_behind = goes.sent_behind;
   },
 )
-  where
-    heard : talked.gained ≡ flat_map reply_bytes replies ++ there.waiting
-    heard = ap (λ (l : List ℕ). l ++ talked.gained) (sym none) ∙ talked.heard
 
 -- ---- What a link gains after the opening, for each way in which a session's tasks may end.
 
