@@ -179,9 +179,11 @@ module _ (joining : TurnsJoin) (paced : ConversationsArePaced) where
       found = inl (found_prepared target items now place store file lines is.mid is.prepared);
     }
 
-    dealing_unprepared : (cut : Cut) (new : Scene) (link : Link) → Unprepared target items now place store file lines cut new → LeavesLink (Err cut) new.place link
-        → Dealing settings target items now store file lines new.lines (course items [] [] []) place (Err cut) link
-    dealing_unprepared cut new link is leaves = record {
+    pub dealing : (result : Result (Unit {0}) Cut) (place' : Place) (store' : Stores) (file' : Stored) (lines' : List ReportLine) (skipped : Skips) (link : Link)
+        → (is : Carries settings target items now place store file lines result place' store' file' lines' skipped) → LeavesLink result place' link
+        → Dealing settings target items now store file lines lines' (course_carries settings target items now place store file lines result place' store' file' lines' skipped is) place result link
+    dealing (Ok done) place' store' file' lines' skipped link is leaves = dealing_carried (Ok done) (scene place' store' file' is.0 lines') skipped link is.1 leaves
+    dealing (Err cut) place' store' file' lines' skipped link (rows, inl (none, is)) leaves = record {
       rows = [];
       ahead = record {
         later = tasks_ahead settings target items now store [];
@@ -195,12 +197,6 @@ module _ (joining : TurnsJoin) (paced : ConversationsArePaced) where
           (took_nothing joining paced items cut place leaves.0 is.none (subst (λ (p : Place). Left cut p leaves.0) is.place_is leaves.1));
       found = inr refl;
     }
-
-    pub dealing : (result : Result (Unit {0}) Cut) (place' : Place) (store' : Stores) (file' : Stored) (lines' : List ReportLine) (skipped : Skips) (link : Link)
-        → (is : Carries settings target items now place store file lines result place' store' file' lines' skipped) → LeavesLink result place' link
-        → Dealing settings target items now store file lines lines' (course_carries settings target items now place store file lines result place' store' file' lines' skipped is) place result link
-    dealing (Ok done) place' store' file' lines' skipped link is leaves = dealing_carried (Ok done) (scene place' store' file' is.0 lines') skipped link is.1 leaves
-    dealing (Err cut) place' store' file' lines' skipped link (rows, inl (none, unprepared)) leaves = dealing_unprepared cut (scene place' store' file' rows lines') link unprepared leaves
     dealing (Err cut) place' store' file' lines' skipped link (rows, inr is) leaves = dealing_carried (Err cut) (scene place' store' file' rows lines') skipped link is leaves
 
 -- ---- The turns of a plan's tasks are the plan's commands, and each text that was taken is a line of the report.
