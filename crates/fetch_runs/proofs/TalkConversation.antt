@@ -24,7 +24,7 @@ use Rattle.fetch_session.specs.declared.report.Skips.{Skips}
 use Rattle.fetch_session.specs.Task.{Task, stores, Done, task_in, tasks_of, lines_in, lines_of, delivered, says, rereads, fetching, deleting, tasks_planned, turns_in, turns_of, IsAnswered}
 use Rattle.fetch_session.specs.Fault.{fault_of}
 use Rattle.fetch_session.specs.Tail.{tail, Left, turns_in as tail_turns}
-use Rattle.fetch_session.specs.Plan.{tasks_ahead, Prepared, Unprepared, Carried, Carries}
+use Rattle.fetch_session.specs.Plan.{tasks_ahead, Prepared, Carried, Carries}
 use Rattle.fetch_session.specs.Scene.{Scene, scene, NoFile, Fell, Stops, Does}
 use Rattle.fetch_session.specs.Target.{Target, AsFiles, AsEntries, Stores}
 use Rattle.fetch_session.specs.Session.{LeavesLink, Enters_with, outcome_of, Keeping, Noted, NotEntered, NoRoom, Dealt, Proceeds, SessionIn, keeps_entries, AccountFiles, keeps_files}
@@ -329,13 +329,11 @@ module _ (joining : TurnsJoin) (paced : ConversationsArePaced) (law : FrontsAreA
       all = spoken joining law name word valid.valid_username valid.valid_password c is.enters.0 is.enters.1 is.enters.2 (at link []) is.mid (tail_for result) (is_tail_for result) link' refl
           is.enters.3 (subst (Joins is.enters.0 is.enters.1 is.enters.2) (sym by.ahead.same_items) is.enters.4) plain by.took
 
-      tasks : map Some (flat_map step_commands (planned settings by.rows is.items now) ++ Quit ∷ []) ≡ by.took.done ++ (by.took.begun ++ flat_map turns_in by.ahead.later)
-      tasks = sym (turns_ahead settings target is.items now before.store by.rows) ∙ ap (λ (ts : List Task). flat_map turns_in ts) by.ahead.split
-          ∙ flat_map-append turns_in (begun_of c) by.ahead.later ∙ ap (λ (ts : List Turn). ts ++ flat_map turns_in by.ahead.later) by.took.all
-          ∙ append_assoc by.took.done by.took.begun (flat_map turns_in by.ahead.later)
-
       split : plan_turns name word (planned settings by.rows is.items now) ≡ (opening name word ++ by.took.done) ++ (by.took.begun ++ flat_map turns_in by.ahead.later)
-      split = ap (λ (ts : List Turn). opening name word ++ ts) tasks ∙ sym (append_assoc (opening name word) by.took.done (by.took.begun ++ flat_map turns_in by.ahead.later))
+      split = ap (λ (ts : List Turn). opening name word ++ ts) (sym (turns_ahead settings target is.items now before.store by.rows) ∙ ap (λ (ts : List Task). flat_map turns_in ts) by.ahead.split
+          ∙ flat_map-append turns_in (begun_of c) by.ahead.later ∙ ap (λ (ts : List Turn). ts ++ flat_map turns_in by.ahead.later) by.took.all
+          ∙ append_assoc by.took.done by.took.begun (flat_map turns_in by.ahead.later))
+          ∙ sym (append_assoc (opening name word) by.took.done (by.took.begun ++ flat_map turns_in by.ahead.later))
 
       whole : Commanded (opening name word ++ by.took.done) by.took.begun (tail_for result) all.0
       whole = commanded_after law name word valid.valid_username valid.valid_password by.took.done by.took.begun (tail_for result) (replies ++ by.took.replies) all.0 all.1 (is_tail_for result)
