@@ -16,7 +16,6 @@ use Rattle.fetch_rules.specs.Plan.{step_of, planned, retrieved}
 use Rattle.fetch_rules.specs.declared.steps.Step.{Step}
 use Rattle.mail_store.specs.Maildir.{Maildir}
 use Rattle.mail_store.specs.FileName.{is_held}
-use Rattle.mail_store.specs.Held.{flags_of}
 use Rattle.pop3_client.specs.Turns.{quit}
 use Rattle.fetch_session.specs.Task.{Task, says, stores, rereads, deletes, fetching, deleting, tasks_in, tasks_planned}
 use Rattle.fetch_session.specs.Plan as Session
@@ -25,9 +24,6 @@ use Rattle.fetch_session.specs.Target.{AsFiles, in_maildir}
 -- the tasks of an account with a Maildir
 abbrev pub tasks_ahead : Settings → List ℕ → List Item → ℕ → Maildir → List Row → List Task
 tasks_ahead settings account items now maildir rows = Session.tasks_ahead settings (AsFiles account) items now (in_maildir maildir) rows
-
-abbrev pub second : ℕ × Item → Item
-second message = message.1
 
 -- the number and the id of a message
 abbrev pub key : ℕ × Item → ℕ × List ℕ
@@ -76,22 +72,15 @@ Safe D items (_ ∷ tasks) = Safe D items tasks
 abbrev pub tasks_at : (ℕ × Item → Step) → (List ℕ → Bool) → ℕ × Item → List Task
 tasks_at f held message = tasks_in (f message) message.1 (held message.1.uid)
 
-by_message : (f : ℕ × Item → Step) (held : List ℕ → Bool) (messages : List (ℕ × Item))
-    → tasks_planned (map f messages) (map second messages) (map (λ (item : Item). held item.uid) (map second messages)) ≡ flat_map (tasks_at f held) messages
-by_message f held [] = refl
-by_message f held (q ∷ qs) = ap (λ l. tasks_at f held q ++ l) (by_message f held qs)
-
-numbered_items : (n : ℕ) (items : List Item) → map second (enumerate_from n items) ≡ items
-numbered_items n [] = refl
-numbered_items n (item ∷ items) = ap (λ l. item ∷ l) (numbered_items (n + 1) items)
+by_message : (f : ℕ × Item → Step) (held : List ℕ → Bool) (n : ℕ) (items : List Item)
+    → tasks_planned (map f (enumerate_from n items)) items (map (λ (item : Item). held item.uid) items) ≡ flat_map (tasks_at f held) (enumerate_from n items)
+by_message f held n [] = refl
+by_message f held n (item ∷ items) = ap (λ l. tasks_at f held (n, item) ++ l) (by_message f held (n + 1) items)
 
 -- the tasks of a plan are those of its messages, and QUIT
 pub tasks_are : (settings : Settings) (account : List ℕ) (items : List Item) (now : ℕ) (maildir : Maildir) (rows : List Row)
     → tasks_ahead settings account items now maildir rows ≡ flat_map (tasks_at (step_of settings rows items now) (is_held account maildir)) (numbered items) ++ says quit ∷ []
-tasks_are settings account items now maildir rows =
-    ap (λ l. l ++ says quit ∷ [])
-    (ap (λ (is : List Item). tasks_planned (planned settings rows items now) is (flags_of account maildir is)) (sym (numbered_items 1 items))
-    ∙ by_message (step_of settings rows items now) (is_held account maildir) (numbered items))
+tasks_are settings account items now maildir rows = ap (λ l. l ++ says quit ∷ []) (by_message (step_of settings rows items now) (is_held account maildir) 1 items)
 
 -- ---- what is fetched
 
