@@ -117,8 +117,7 @@ right_by : (account : List ℕ) (maildir : Maildir) (items : List Item) (r h d :
     → (d ≡ true → IsRight account maildir items (deletes n)) → AllByRecursion (IsRight account maildir items) (fetching r h n uid size ++ deleting d n)
 right_by account maildir items true true true n uid size held listed at = ((held, listed), (at refl, tt))
 right_by account maildir items true false true n uid size held listed at = ((held, listed), (at refl, tt))
-right_by account maildir items false true true n uid size held listed at = (tt, (at refl, tt))
-right_by account maildir items false false true n uid size held listed at = (tt, (at refl, tt))
+right_by account maildir items false h true n uid size held listed at = (tt, (at refl, tt))
 right_by account maildir items r h d n uid size held listed at = search rules
 
 -- a message is at its number, which counts from 1, and is listed
@@ -165,11 +164,10 @@ safe_by : (D : List ℕ → Type 0) (items : List Item) (r h d : Bool) (n : ℕ)
     → Safe D items ((fetching r h n uid size ++ deleting d n) ++ later)
 safe_by D items true true true n uid size later due held at safe = (at (held refl), safe)
 safe_by D items true false true n uid size later due held at safe = λ stored. (at stored, safe)
-safe_by D items false h true n uid size later due held at safe = (at (known (due refl)), safe)
-  where
-    known : (false ≡ true) ⊎ D uid → D uid
-    known (inl never) = absurd (true≢false (sym never))
-    known (inr is) = is
+safe_by D items false h true n uid size later due held at safe = elim (due refl) [
+  | inl never ↦ absurd (true≢false (sym never))
+  | inr is ↦ (at is, safe)
+]
 safe_by D items r h d n uid size later due held at safe = search rules
 
 safe_all : (D : List ℕ → Type 0) (account : List ℕ) (maildir : Maildir) (items : List Item) (f : ℕ × Item → Step) → ((q : ℕ × Item) → (f q).number ≡ q.0)
