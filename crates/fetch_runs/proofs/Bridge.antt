@@ -1,5 +1,5 @@
 -- A session is a step: what it sent and read, and what it left, together.
-use Rattle.std.proofs.Common.{map, take, length, ◌≡◌, inl, inr, ◌-◌, ℕ, true, false, List, [], ◌∷◌, ◌++◌, Some, Result, Ok, Err, refl, sym, ap, subst, ◌∙◌, arith, ◌≤◌, None, append_assoc}
+use Rattle.std.proofs.Common.{map, take, length, ◌≡◌, inl, inr, ◌-◌, ℕ, true, List, [], ◌∷◌, ◌++◌, Some, Result, Ok, Err, refl, sym, ap, subst, ◌∙◌, arith, ◌≤◌, None, append_assoc}
 use Rattle.std.specs.Prelude.{◌↔◌, bytes_eq, slice_get}
 use Rattle.std.specs.List.{list_any, AllByRecursion}
 use Rattle.std.proofs.lemmas.Bool.{true≢false}
