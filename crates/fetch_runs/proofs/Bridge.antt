@@ -1,5 +1,5 @@
 -- A session is a step: what it sent and read, and what it left, together.
-use Rattle.std.proofs.Common.{map, take, length, ◌≡◌, ◌⊎◌, inl, inr, ◌-◌, ℕ, Bool, true, false, List, [], ◌∷◌, ◌++◌, Some, Result, Ok, Err, refl, sym, ap, subst, ◌∙◌, arith, ◌≤◌, min, None, append_assoc}
+use Rattle.std.proofs.Common.{map, take, length, ◌≡◌, inl, inr, ◌-◌, ℕ, true, List, [], ◌∷◌, ◌++◌, Some, Result, Ok, Err, refl, sym, ap, subst, ◌∙◌, arith, ◌≤◌, None, append_assoc}
 use Rattle.std.specs.Prelude.{◌↔◌, bytes_eq, slice_get}
 use Rattle.std.specs.List.{list_any, AllByRecursion}
 use Rattle.std.proofs.lemmas.Bool.{true≢false}
@@ -17,17 +17,16 @@ use Rattle.pop3_client.specs.Conversation.{ConversationsArePaced, TurnsJoin}
 use Rattle.fetch_rules.specs.Record.{Row, RecordState}
 use Rattle.mail_store.specs.Maildir.{Maildir}
 use Rattle.rc_file.specs.declared.settings.Settings.{Settings}
+use Rattle.rc_file.specs.Settings.{IsValid}
 use Rattle.mail_terms.specs.UniqueId.{has_id}
 use Rattle.pop3_wire.specs.Honest.{FrontsAreAsked, Asked}
 use Rattle.run_law.specs.Sessions.{IsBegun, SendsOnly, Reads, BeginsOne}
-use Rattle.run_law.specs.Steps.{Leaves, wanted_at, Effect}
+use Rattle.run_law.specs.Steps.{Leaves, Effect}
 use Rattle.run_law.specs.Counted.{CountedStores}
 use Rattle.fetch_session.specs.declared.fault.Cut.{Cut}
 use Rattle.fetch_session.specs.declared.report.Outcome.{Outcome}
 use Rattle.fetch_session.specs.declared.report.Outcome.TheVariants.{Ended, Cut as WasCut}
 use Rattle.fetch_session.specs.declared.report.Report.{Report}
-use Rattle.fetch_session.specs.declared.fault.Fault.TheVariants.{StoreRefused, SeenRefused, NoMemory}
-use Rattle.fetch_session.specs.declared.fault.Why.TheVariants as why
 use Rattle.fetch_session.specs.declared.report.ReportLine.{ReportLine}
 use Rattle.fetch_session.specs.Report.{retrieved_in}
 use Rattle.fetch_session.specs.Task.{Task, deletes}
@@ -37,14 +36,14 @@ use Rattle.fetch_session.specs.Target.{AsFiles, AsEntries, mail_in, no_maildir}
 use Rattle.fetch_runs.proofs.Lists.{all_back, all_map}
 use Rattle.fetch_runs.specs.Conversations.{tail_behind}
 use Rattle.fetch_runs.specs.Steps.{holds, SaysOnly, StopsAtList, IsStep, SessionIsAStep}
-use Rattle.fetch_runs.proofs.TalkConversation.{tail_for, Gained, talks}
+use Rattle.fetch_runs.proofs.TalkConversation.{tail_for, is_tail_for, name_of, word_of, Spoke, session_spoke}
 use Rattle.pop3_client.specs.Turns.{Turn}
 use Rattle.fetch_runs.proofs.Courses.{Course, course, SessionCourse, Idle, Deals, session_course_of, begun_of, found_of, IsOfTask}
 use Rattle.fetch_runs.proofs.StatePlan.{IsRight, deleted_in, deleted_by}
-use Rattle.fetch_runs.proofs.StateDone.{number_found, number_of, text_found, Laws, effect_of}
-use Rattle.fetch_runs.proofs.StateCases.{is_ended, UnsavedIn}
-use Rattle.fetch_runs.proofs.StateLaw.{RefusedIn, CourseLeads, course_leads}
-use Rattle.fetch_runs.proofs.TalkSpeech.{Speaks}
+use Rattle.fetch_runs.proofs.StateDone.{text_found, Laws, effect_of}
+use Rattle.fetch_runs.proofs.StateCases.{is_ended}
+use Rattle.fetch_runs.proofs.StateLaw.{CourseLeads, course_leads}
+use Rattle.fetch_runs.proofs.TalkSpeech.{Speaks, idle_said}
 use Rattle.run_law.specs.Mboxes.{MboxLeaves, mbox_wanted, MboxMail, MboxStores, settled, entries}
 use Rattle.run_law.specs.MboxSessions.{AsksForNoMessage, AsksForNone, MboxSession as Stepped}
 use Rattle.run_law.specs.MboxCounted.{MboxCountedStores}
@@ -88,71 +87,35 @@ sends_of account maildir items tasks right {commands} asked all next = record {
 
 -- ---- the outcome
 
-abbrev is_end : Outcome → Bool
-is_end Ended = true
-is_end (WasCut fault) = false
-
 pub ended_if : (result : Result (Unit {0}) Cut) (outcome : Outcome) → outcome ≡ outcome_of result → (is_ended result ≡ true) ↔ (outcome ≡ Ended)
 ended_if (Ok done) outcome is = (λ yes'. is, λ ended. refl)
-ended_if (Err cut) outcome is = (λ never. absurd (true≢false (sym never)), λ ended. absurd (true≢false (sym (ap is_end ended) ∙ ap is_end is)))
+ended_if (Err cut) outcome is = (λ never. absurd (true≢false (sym never)), λ ended. absurd (let was : outcome ≡ WasCut cut.fault = is in cc))
 
--- ---- what was said and read
+-- ---- both together
 
 -- the commands of a session that dealt with a listing
 abbrev pub commands_of : {c : Course} {turns : List Turn} {sent got : List ℕ} → Speaks c turns sent got → List Command
 commands_of said = User said.name ∷ Pass said.word ∷ Stat ∷ UidlAll ∷ ListAll ∷ said.more
 
-pub reads : {c : Course} {turns : List Turn} {sent got : List ℕ} (said : Speaks c turns sent got) (now : ℕ) (ended : Bool) (messages : List (ℕ × Item))
-    → map number_found (found_of c) ≡ map number_of (take (length (found_of c)) messages) → Reads messages (commands_of said) sent got (effect_of now ended c)
-reads {c = c} said now ended messages numbers = record {
-  name = said.name;
-  word = said.word;
-  more = said.more;
-  commands_are = refl;
-  user = said.user;
-  pass = said.pass;
-  stat = said.stat;
-  uidl = said.uidl;
-  list = said.list;
-  replies = said.replies;
-  talked = said.talked;
-  listed = said.listed;
-  found = found_of c;
-  retrieves = said.retrieves;
-  texts = refl;
-  numbers = numbers;
-}
-
--- ---- both together
-
-refused_is : (result : Result (Unit {0}) Cut) (outcome : Outcome) → outcome ≡ outcome_of result → RefusedIn result → outcome ≡ WasCut (StoreRefused why.Refused)
-refused_is (Ok done) outcome is never = absurd never
-refused_is (Err cut) outcome is fault = is ∙ ap WasCut fault
-
-pub unsaved_is : (result : Result (Unit {0}) Cut) (outcome : Outcome) → outcome ≡ outcome_of result → UnsavedIn result → (outcome ≡ WasCut SeenRefused) ⊎ (outcome ≡ WasCut NoMemory)
-unsaved_is (Ok done) outcome is never = absurd never
-unsaved_is (Err cut) outcome is (inl fault) = inl (is ∙ ap WasCut fault)
-unsaved_is (Err cut) outcome is (inr fault) = inr (is ∙ ap WasCut fault)
-
-module _ (stores : CountedStores) (settings : Settings) (account : List ℕ) (now : ℕ) (link : Link) (before : AccountFiles) (rows : List Row) (report : Report) (link' : Link) (after : AccountFiles) (result : Result (Unit {0}) Cut)
-    (outcome_is : report.outcome ≡ outcome_of result) (lines : List ReportLine) (counts : report.retrieved ≡ retrieved_in lines) (keeps : KeepsRows before.file.content rows) where
-  joined : (session_course : SessionCourse) → CourseLeads settings account now result session_course rows before after lines → Gained session_course (tail_for result) link link' → IsStep settings account now link before rows report link' after
-  joined Idle left said = record {
-    sent = said.sent;
-    got = said.got;
-    effect = effect_of now (is_ended result) (course [] [] [] []);
-    rows' = rows;
-    sent_is = said.sent_is;
-    got_is = said.got_is;
-    now_is = refl;
-    ended_is = ended_if result report.outcome outcome_is;
-    keeps = subst (λ (k : AccountFiles). KeepsRows k.file.content rows) (sym left.1) keeps;
-    left = inl (unchanged, counts ∙ ap retrieved_in left.2);
-    stepped = record {
-      sends = sends_of account before.maildir [] [] tt said.exchanges.1 said.exchanges.2 said.exchanges.3;
-      step = inl unchanged;
-    };
-  }
+module _ (stores : CountedStores) (fronts : FrontsAreAsked) (settings : Settings) (valid : IsValid settings) (account : List ℕ) (now : ℕ) (link : Link) (before : AccountFiles) (rows : List Row) (report : Report) (link' : Link) (after : AccountFiles)
+    (result : Result (Unit {0}) Cut) (outcome_is : report.outcome ≡ outcome_of result) (lines : List ReportLine) (counts : report.retrieved ≡ retrieved_in lines) (keeps : KeepsRows before.file.content rows) where
+  joined : (session_course : SessionCourse) → CourseLeads settings account now result session_course rows before after lines
+      → Spoke settings (AsFiles account) now (keeps_files before) link link' result lines session_course → IsStep settings account now link before rows report link' after
+  joined Idle left said =
+      let idle = idle_said fronts (name_of settings) (word_of settings) valid.valid_username valid.valid_password (tail_for result) (is_tail_for result) said.sent said.got said.said in
+      record {
+        sent = said.sent;
+        got = said.got;
+        effect = effect_of now (is_ended result) (course [] [] [] []);
+        rows' = rows;
+        sent_is = said.sent_is;
+        got_is = said.got_is;
+        now_is = refl;
+        ended_is = ended_if result report.outcome outcome_is;
+        keeps = subst (λ (k : AccountFiles). KeepsRows k.file.content rows) (sym left.1) keeps;
+        left = inl (unchanged, counts ∙ ap retrieved_in left.2);
+        stepped = record { sends = sends_of account before.maildir [] [] tt idle.1 idle.2 idle.3; step = inl unchanged };
+      }
     where
       unchanged : Leaves (holds rows before.maildir) (effect_of now (is_ended result) (course [] [] [] [])) (holds rows after.maildir)
       unchanged = record { rows = refl; same = ap (λ (k : AccountFiles). k.maildir.files) left.1; begun = refl; ended = left.0 }
@@ -169,36 +132,33 @@ module _ (stores : CountedStores) (settings : Settings) (account : List ℕ) (no
     left = inr (record {
       figures = left.figures;
       retrieved_is = counts ∙ left.counted;
-      one_more = λ is. refused_is result report.outcome outcome_is (left.one_more (is ∙ length-map (found_of c) text_found));
-      one_less = λ is. unsaved_is result report.outcome outcome_is (left.one_less is);
+      one_more = λ is. outcome_is ∙ left.one_more (is ∙ length-map (found_of c) text_found);
+      one_less = λ is. rw outcome_is (left.one_less is);
       recorded = elim left.recorded [
         | inl is ↦ inl is
         | inr none ↦ inr (none.0, ap (map text_found) none.1, ap (deleted_by c.items) none.2, none.3, stops none.2)
       ];
     });
     stepped = record {
-      sends = sends_of account before.maildir c.items (begun_of c) left.right said.exchanges.talked.asked said.exchanges.deletes said.exchanges.next;
-      step = inr (
-        stores settings account (holds rows before.maildir) (effect_of now (is_ended result) c) (holds left.rows' after.maildir) left.figures,
-        reads said.exchanges now (is_ended result) (wanted_at settings account (holds rows before.maildir) (effect_of now (is_ended result) c)) left.numbers,
-      );
+      sends = sends_of account before.maildir c.items (begun_of c) left.right said.speaks.asked said.speaks.deletes said.speaks.next;
+      step = inr (stores _ _ _ _ _ left.figures, said.speaks.reads now (is_ended result) _ left.numbers);
     };
   }
     where
-      stops : begun_of c ≡ [] → StopsAtList report.outcome (commands_of said.exchanges) said.exchanges.talked.asked.part
+      stops : begun_of c ≡ [] → StopsAtList report.outcome (commands_of said.speaks) said.speaks.asked.part
       stops none = record {
-        name = said.exchanges.name;
-        word = said.exchanges.word;
-        more = said.exchanges.more;
+        name = said.speaks.name;
+        word = said.speaks.word;
+        more = said.speaks.more;
         commands_are = refl;
-        only = subst (λ (turns : List Turn). SaysOnly turns said.exchanges.more said.exchanges.talked.asked.part) (ap tail_behind (sym outcome_is)) (said.exchanges.stops none);
+        only = subst (λ (turns : List Turn). SaysOnly turns said.speaks.more said.speaks.asked.part) (ap tail_behind (sym outcome_is)) (said.speaks.stops none);
       }
 
 pub session_is_a_step : Laws → CountedStores → TurnsJoin → ConversationsArePaced → FrontsAreAsked → SessionIsAStep
 session_is_a_step laws stores joining paced fronts settings account now link before rows report link' after valid keeps is =
-    joined stores settings account now link before rows report link' after is.result is.reports.outcome_is is.notes.lines is.reports.retrieved_is keeps
+    joined stores fronts settings valid account now link before rows report link' after is.result is.reports.outcome_is is.notes.lines is.reports.retrieved_is keeps
     (session_course_of settings (AsFiles account) now link (keeps_files before) report link' (keeps_files after) is) (course_leads laws settings account now (at link []) before is.result is.mid after is.notes rows keeps is.proceeds)
-    (talks joining paced fronts settings (AsFiles account) now link (keeps_files before) report link' (keeps_files after) valid is)
+    (session_spoke joining paced fronts settings valid (AsFiles account) now link (keeps_files before) report link' (keeps_files after) is)
 
 -- ---- without a task no message is asked for
 
@@ -215,20 +175,20 @@ asks_none tasks commands part none all next = (
 
 -- ---- both together
 
-module _ (stores : MboxCountedStores) (settings : Settings) (now : ℕ) (link : Link) (before : MboxAccountFiles) (held : RecordState) (report : Report) (link' : Link) (after : MboxAccountFiles) (result : Result (Unit {0}) Cut)
-    (outcome_is : report.outcome ≡ outcome_of result) (lines : List ReportLine) (counts : report.retrieved ≡ retrieved_in lines) (keeps : Keeps before.file.content held) where
+module _ (stores : MboxCountedStores) (fronts : FrontsAreAsked) (settings : Settings) (valid : IsValid settings) (now : ℕ) (link : Link) (before : MboxAccountFiles) (held : RecordState) (report : Report) (link' : Link) (after : MboxAccountFiles)
+    (result : Result (Unit {0}) Cut) (outcome_is : report.outcome ≡ outcome_of result) (lines : List ReportLine) (counts : report.retrieved ≡ retrieved_in lines) (keeps : Keeps before.file.content held) where
   -- no task was begun
-  quiet : {session_course : SessionCourse} (c : Course) → begun_of c ≡ [] → (said : Gained session_course (tail_for result) link link') (commands : List Command) (asked : Asked commands said.sent)
+  quiet : (c : Course) → begun_of c ≡ [] → (sent got : List ℕ) → link'.sent ≡ link.sent ++ sent → link'.got ≡ link.got ++ got → (commands : List Command) (asked : Asked commands sent)
       → AllByRecursion (IsOfTask (begun_of c)) commands → BeginsOne (IsOfTask (begun_of c)) asked.part
       → MboxLeaves (mbox_holds held before.mbox) (effect_of now (is_ended result) c) (mbox_holds held after.mbox) → retrieved_in lines ≡ 0 → Keeps after.file.content held
       → IsMboxStep settings now link before held report link' after
-  quiet c none said commands asked all next leaves told keeps' = record {
-    sent = said.sent;
-    got = said.got;
+  quiet c none sent got sent_is got_is commands asked all next leaves told keeps' = record {
+    sent = sent;
+    got = got;
     effect = effect_of now (is_ended result) c;
     record_state' = held;
-    sent_is = said.sent_is;
-    got_is = said.got_is;
+    sent_is = sent_is;
+    got_is = got_is;
     now_is = refl;
     ended_is = ended_if result report.outcome outcome_is;
     keeps = keeps';
@@ -239,12 +199,16 @@ module _ (stores : MboxCountedStores) (settings : Settings) (now : ℕ) (link : 
     };
   }
 
-  mbox_joined : (session_course : SessionCourse) → CourseLeaves settings now result session_course held (keeps_entries before) (keeps_entries after) lines → Gained session_course (tail_for result) link link' → IsMboxStep settings now link before held report link' after
+  mbox_joined : (session_course : SessionCourse) → CourseLeaves settings now result session_course held (keeps_entries before) (keeps_entries after) lines
+      → Spoke settings AsEntries now (keeps_entries before) link link' result lines session_course → IsMboxStep settings now link before held report link' after
   mbox_joined Idle left said =
-      quiet (course [] [] [] []) refl said said.exchanges.0 said.exchanges.1 said.exchanges.2 said.exchanges.3
+      let idle = idle_said fronts (name_of settings) (word_of settings) valid.valid_username valid.valid_password (tail_for result) (is_tail_for result) said.sent said.got said.said in
+      quiet (course [] [] [] []) refl said.sent said.got said.sent_is said.got_is idle.0 idle.1 idle.2 idle.3
       (record { rows = refl; intent = refl; file = inl (ap (λ (k : Keeping). mail_in k.store.mbox.content) left.1); begun = refl; ended = left.0 })
       (ap retrieved_in left.2) (subst (λ (k : Keeping). Keeps k.file.content held) (sym left.1) keeps)
-  mbox_joined (Deals c) (inl left) said = quiet c left.none said (commands_of said.exchanges) said.exchanges.talked.asked said.exchanges.deletes said.exchanges.next left.leaves left.told left.keeps
+  mbox_joined (Deals c) (inl left) said =
+      quiet c left.none said.sent said.got said.sent_is said.got_is (commands_of said.speaks) said.speaks.asked said.speaks.deletes said.speaks.next
+      left.leaves left.told left.keeps
   mbox_joined (Deals c) (inr left) said = record {
     sent = said.sent;
     got = said.got;
@@ -255,21 +219,18 @@ module _ (stores : MboxCountedStores) (settings : Settings) (now : ℕ) (link : 
     now_is = refl;
     ended_is = ended_if result report.outcome outcome_is;
     keeps = left.keeps;
-    left = inr (record { figures = left.figures; retrieved_is = counts ∙ left.counted; one_less = λ is. unsaved_is result report.outcome outcome_is (left.one_less is) });
+    left = inr (record { figures = left.figures; retrieved_is = counts ∙ left.counted; one_less = λ is. rw outcome_is (left.one_less is) });
     stepped = record {
-      sends = sends_of [] no_maildir c.items (begun_of c) left.right said.exchanges.talked.asked said.exchanges.deletes said.exchanges.next;
-      step = inr (
-        stores settings (mbox_holds held before.mbox) (effect_of now (is_ended result) c) (mbox_holds left.record_state' after.mbox) left.figures,
-        reads said.exchanges now (is_ended result) (mbox_wanted settings (mbox_holds held before.mbox) (effect_of now (is_ended result) c)) left.numbers,
-      );
+      sends = sends_of [] no_maildir c.items (begun_of c) left.right said.speaks.asked said.speaks.deletes said.speaks.next;
+      step = inr (stores _ _ _ _ left.figures, said.speaks.reads now (is_ended result) _ left.numbers);
     };
   }
 
 pub mbox_session_is_a_step : Laws → MboxCountedStores → TurnsJoin → ConversationsArePaced → FrontsAreAsked → MboxSessionIsAStep
 mbox_session_is_a_step laws stores joining paced fronts settings now link before held report link' after valid keeps is =
-    mbox_joined stores settings now link before held report link' after is.result is.reports.outcome_is is.notes.lines is.reports.retrieved_is keeps
+    mbox_joined stores fronts settings valid now link before held report link' after is.result is.reports.outcome_is is.notes.lines is.reports.retrieved_is keeps
     (session_course_of settings AsEntries now link (keeps_entries before) report link' (keeps_entries after) is) (course_leaves laws settings now (at link []) (keeps_entries before) is.result is.mid (keeps_entries after) is.notes held keeps is.proceeds)
-    (talks joining paced fronts settings AsEntries now link (keeps_entries before) report link' (keeps_entries after) valid is)
+    (session_spoke joining paced fronts settings valid AsEntries now link (keeps_entries before) report link' (keeps_entries after) is)
 
 -- ---- after a session that ended, the mboxrd file also stands for the texts that came: these are whole
 
@@ -304,32 +265,27 @@ few_found : (found : List (ℕ × List ℕ)) (wanted : List (ℕ × Item)) → m
 few_found found wanted numbers =
     let same : length found ≡ length (take (length found) wanted) =
     sym (length-map found (λ (p : ℕ × List ℕ). p.0)) ∙ ap (λ (l : List ℕ). length l) numbers ∙ length-map (take (length found) wanted) (λ (p : ℕ × Item). p.0) in
-    let short : length (take (length found) wanted) ≡ min (length found) (length wanted) = length-take (length found) wanted in
-    omega (arith, same, short)
+    omega (arith, same, length-take (length found) wanted)
 
 module _ (adds : EntryAddsText) (settings : Settings) (before : MboxMail) (effect : Effect) (after : MboxMail) (ended : effect.ended ≡ true) where
   added : (commands : List Command) (sent got : List ℕ) → MboxStores settings before effect after → Reads (mbox_wanted settings before effect) commands sent got effect → AddsTexts settings before effect after
-  added commands sent got stores reads = record {
-    all = omega (arith, same, few, least, stores.fetched);
-    texts = λ first stands. subst (λ (f : List ℕ). MboxFile f (first ++ effect.texts)) (sym file) (texts_stand adds (settled effect.listing before).file first effect.texts whole stands);
-  }
+  added commands sent got stores reads =
+      let same : length effect.texts ≡ length reads.found = ap (λ (l : List (List ℕ)). length l) reads.texts ∙ length-map reads.found text_found in
+      let few = few_found reads.found (mbox_wanted settings before effect) reads.numbers in
+      let least : length (mbox_wanted settings before effect) ≤ stores.stored = (stores.ended ended).0 in
+      record {
+        all = omega (arith, same, few, least, stores.fetched);
+        texts = λ first stands. subst (λ (f : List ℕ). MboxFile f (first ++ effect.texts)) (sym (file (omega (arith, same, few, least))))
+            (texts_stand adds (settled effect.listing before).file first effect.texts whole stands);
+      }
     where
-      same : length effect.texts ≡ length reads.found
-      same = ap (λ (l : List (List ℕ)). length l) reads.texts ∙ length-map reads.found text_found
-
-      few : length reads.found ≤ length (mbox_wanted settings before effect)
-      few = few_found reads.found (mbox_wanted settings before effect) reads.numbers
-
-      least : length (mbox_wanted settings before effect) ≤ stores.stored
-      least = (stores.ended ended).0
-
       whole : AllByRecursion IsWhole effect.texts
       whole = subst (AllByRecursion IsWhole) (sym reads.texts)
           (retrieved_whole (User reads.name ∷ Pass reads.word ∷ Stat ∷ UidlAll ∷ ListAll ∷ reads.more) (reads.user ∷ reads.pass ∷ reads.stat ∷ reads.uidl ∷ reads.list ∷ reads.replies) reads.found reads.retrieves)
 
-      file : after.file ≡ (settled effect.listing before).file ++ entries effect.texts
-      file = elim stores.ending [
-        | inl closed ↦ closed.file ∙ ap (λ (l : List (List ℕ)). (settled effect.listing before).file ++ entries l) (take_all stores.stored effect.texts (omega (arith, same, few, least)))
+      file : length effect.texts ≤ stores.stored → after.file ≡ (settled effect.listing before).file ++ entries effect.texts
+      file all = elim stores.ending [
+        | inl closed ↦ closed.file ∙ ap (λ (l : List (List ℕ)). (settled effect.listing before).file ++ entries l) (take_all stores.stored effect.texts all)
         | inr broken ↦ absurd (let never : Some _ ≡ None = sym broken.opened.intent ∙ (stores.ended ended).1 in cc)
       ]
 

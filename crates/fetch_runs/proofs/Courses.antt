@@ -1,22 +1,17 @@
 -- How far a session came after its listing.
 use Rattle.std.proofs.Common.{◌≡◌, inl, inr, ℕ, List, [], ◌∷◌, ◌++◌, map, Result, Ok, Err}
 use Rattle.std.specs.List.{flat_map}
-use Rattle.pop3_wire.specs.Bodies.{Rest}
 use Rattle.pop3_wire.specs.Link.{Link}
 use Rattle.pop3_wire.specs.Place.{Place, at}
 use Rattle.pop3_wire.specs.Reading.{WholeReply}
-use Rattle.pop3_wire.specs.declared.unstuffer.Spot.TheVariants.{Done as AtEnd}
 use Rattle.pop3_wire.specs.declared.command.Command.{Command}
 use Rattle.pop3_wire.specs.declared.command.Command.TheVariants.{Retr, Dele}
-use Rattle.pop3_client.specs.Texts.{Fetched, body_text}
-use Rattle.pop3_client.specs.Turns.{retr}
+use Rattle.pop3_client.specs.Texts.{body_text}
 use Rattle.mail_terms.specs.Listing.{Item}
 use Rattle.rc_file.specs.declared.settings.Settings.{Settings}
-use Rattle.mail_store.specs.Maildir.{Maildir}
 use Rattle.mail_store.specs.FileName.{stem_of}
 use Rattle.mail_store.specs.FlatFile.{Stored}
 use Rattle.fetch_session.specs.declared.fault.Cut.{Cut}
-use Rattle.fetch_session.specs.declared.fault.Fault.{Fault}
 use Rattle.fetch_session.specs.declared.report.Report.{Report}
 use Rattle.fetch_session.specs.declared.report.ReportLine.{ReportLine}
 use Rattle.fetch_session.specs.declared.report.Skips.{Skips}
@@ -48,19 +43,15 @@ abbrev pub stored_done : ℕ → List ℕ → WholeReply → Done
 stored_done number uid reply = record { task = stores number uid; replies = reply ∷ [] }
 
 -- the reply with a text that the store refused, if its file may be there
-abbrev pub spare_in : (number : ℕ) (start new : Place) (rest : Rest) (text : List ℕ) (old now : Maildir) (name : List ℕ) (fault : Fault)
-    → (rest.spot ≡ AtEnd → Fetched (retr number) start text new) → RefusesText old name rest text fault now → List WholeReply
-spare_in number start new rest text old now name fault whole (inl missing) = []
-spare_in number start new rest text old now name fault whole (inr (is, inl same)) = []
-spare_in number start new rest text old now name fault whole (inr (is, inr (done, there))) = (whole done).0 ∷ []
-
-abbrev pub spare_of : (account : List ℕ) (next : Task) (old new : Scene) (cut : Cut) → NoFile account next old new cut → List WholeReply
-spare_of account next old new cut refused =
-    spare_in refused.number old.place new.place refused.rest refused.text old.store.maildir new.store.maildir (stem_of account refused.uid) cut.fault refused.whole refused.refuses
+abbrev pub spare_in : {account : List ℕ} {next : Task} {old new : Scene} {cut : Cut} (refused : NoFile account next old new cut)
+    → RefusesText old.store.maildir (stem_of account refused.uid) refused.rest refused.text cut.fault new.store.maildir → List WholeReply
+spare_in refused (inl missing) = []
+spare_in refused (inr (is, inl same)) = []
+spare_in refused (inr (is, inr (done, there))) = (refused.whole done).0 ∷ []
 
 abbrev pub course_stopped : (target : Target) (items : List Item) (dones : List Done) (next : Task) (mid new : Scene) (cut : Cut) → Stops target next mid cut new → Course
 course_stopped target items dones next mid new cut (inl broken) = course items dones [] (next ∷ [])
-course_stopped (AsFiles account) items dones next mid new cut (inr (inl refused)) = course items dones (spare_of account next mid new cut refused) (next ∷ [])
+course_stopped (AsFiles account) items dones next mid new cut (inr (inl refused)) = course items dones (spare_in refused refused.refuses) (next ∷ [])
 course_stopped (AsFiles account) items dones next mid new cut (inr (inr unsaved)) = course items (dones ++ stored_done unsaved.number unsaved.uid unsaved.reply ∷ []) [] []
 course_stopped AsEntries items dones next mid new cut (inr (inl (inl wanting))) = course items dones [] (next ∷ [])
 course_stopped AsEntries items dones next mid new cut (inr (inl (inr (inl refused)))) = course items dones (refused.reply ∷ []) (next ∷ [])

@@ -1,11 +1,10 @@
 -- From a kept state every list of sessions, and of what happens between them, keeps what is promised.
-use Rattle.std.proofs.Common.{◌≡◌, ◌⊎◌, inl, inr, ◌-◌, ℕ, zero, suc, true, false, List, [], ◌∷◌, Option, None, Some, refl, sym, ap, subst, ◌∙◌}
+use Rattle.std.proofs.Common.{◌≡◌, ◌⊎◌, inl, inr, ◌-◌, ℕ, true, false, List, [], ◌∷◌, Option, None, Some, refl, sym, ap, subst, ◌∙◌}
 use Rattle.std.specs.Prelude.{bytes_eq, slice_get}
 use Rattle.std.specs.List.{AllByRecursion}
 use Rattle.std.proofs.lemmas.Bool.{true≢false, cases_Bool, false_from_ne_true}
 use Rattle.std.proofs.lemmas.List.{append-nil}
 use Rattle.std.proofs.lemmas.Slice.Eq.{bytes_eq-Decides}
-use Rattle.std.proofs.lemmas.Option.{same_Some}
 use Rattle.pop3_wire.specs.declared.command.Command.{Command}
 use Rattle.pop3_wire.specs.declared.command.Command.TheVariants.{Dele}
 use Rattle.pop3_wire.specs.World.{Message}
@@ -18,14 +17,14 @@ use Rattle.fetch_session.specs.Account.{digits_of}
 use Rattle.fetch_session.specs.Record.{KeepsRows}
 use Rattle.mail_terms.specs.UniqueId.{has_id, is_legal_id}
 use Rattle.run_law.specs.Mails.{item_of, listing_of, is_selected, WorldsShrink}
-use Rattle.run_law.specs.Accounts.{AccountMail, KeepsOthers, copies, files}
+use Rattle.run_law.specs.Accounts.{AccountMail, copies, files}
 use Rattle.run_law.specs.Steps.{Effect, merged_rows}
-use Rattle.run_law.specs.Runs.{IsSound, World, State, Visit, Visits, IsLastStored as LastIn, Happens, after_visit, Promises as PromisesIn, Kept as IsKeptIn, KeptStaysKept, KeptHoldsWhatIsLeft, StartsKept, LeavesOut, DeletesHeld, StoresOnlyNew as StoresNew, is_past_count, NothingTakenHoldsExactly, Event, Fetched, Between, Expired, Withdrawn, TakenAway, BroughtBack, Forgotten, PowerLost, after_event, after_events, world_after, world_left}
-use Rattle.run_law.specs.Sessions.{IsBegun, Link as LinkIn, LinksAreVisits, SendsOnly}
+use Rattle.run_law.specs.Runs.{IsSound, World, State, Visit, Visits, IsLastStored as LastIn, Happens, after_visit, Promises as PromisesIn, Kept as IsKeptIn, KeptStaysKept, KeptHoldsWhatIsLeft, StartsKept, is_past_count, NothingTakenHoldsExactly, Event, Fetched, Between, Expired, Withdrawn, TakenAway, BroughtBack, Forgotten, PowerLost, after_event, after_events, world_after, world_left}
+use Rattle.run_law.specs.Sessions.{Link as LinkIn, LinksAreVisits, SendsOnly, IsBegun, visit_of}
 use Rattle.fetch_runs.proofs.Ids.{all_ids_at}
-use Rattle.fetch_runs.proofs.Lists.{all_map}
+use Rattle.fetch_runs.proofs.Lists.{all_map, mapped_at}
 use Rattle.fetch_runs.specs.Steps.{holds, IsStep, SessionIsAStep}
-use Rattle.fetch_runs.specs.Headline.{Occasion, maildrop_at, IsSession, Follows, IsLastStored, by_rows, HoldsAPrefix, IsHeldAfter, IsPastCount, LeavesOutOnlyBeyondLimits, IsForSuch, StoresOnlyNew, Promised, IsKept, Headline, EmptyIsKept, HeadlineFromEmpty, IsRun, contents_of, IsRecorded, HoldsExactlyAPrefix, IsWordForWord, LeaveAway, HeadlineWordForWord, StaysAway, LostRecordsAreForgotten, NewProcessesAreBetween, StopsAreRuns, after_session}
+use Rattle.fetch_runs.specs.Headline.{Occasion, maildrop_at, IsSession, Follows, IsLastStored, by_rows, HoldsAPrefix, IsHeldAfter, IsPastCount, IsForSuch, Promised, IsKept, Headline, EmptyIsKept, HeadlineFromEmpty, IsRun, contents_of, IsRecorded, IsWordForWord, LeaveAway, HeadlineWordForWord, StaysAway, LostRecordsAreForgotten, NewProcessesAreBetween, StopsAreRuns, after_session}
 use Rattle.fetch_runs.proofs.TalkCommands.{begins_of}
 use Rattle.fetch_session.specs.Session.{AccountFiles}
 
@@ -46,18 +45,11 @@ holds_prefix laws world state sound is =
 
 -- ---- one session
 
--- the message at the place of its item
-pub message_at : (drop : List Message) (place : ℕ) (item : Item) → slice_get (listing_of drop) place ≡ Some item
-    → (message : Message) × (slice_get drop place ≡ Some message) × (item_of message ≡ item)
-message_at [] place item e = absurd cc
-message_at (m ∷ drop) zero item e = (m, refl, same_Some (item_of m) item e)
-message_at (m ∷ drop) (suc place) item e = message_at drop place item e
-
 -- what holds for each id for which a DELE was begun holds for the id of the message at the number of each DELE that was sent
 pub for_such : (P : List ℕ → Type 0) (drop : List Message) (effect : Effect) → (effect.listing ≡ listing_of drop) ⊎ ((effect.begun ≡ []) × (effect.ended ≡ false)) → AllByRecursion P effect.begun
     → (command : Command) → IsBegun effect.listing effect.begun command → IsForSuch drop P command
 for_such P drop effect (inl listed) all (Dele number) begun =
-    let at = message_at drop (number - 1) begun.0 (ap (λ (l : List Item). slice_get l (number - 1)) (sym listed) ∙ begun.1) in
+    let at = mapped_at item_of drop (number - 1) begun.0 (ap (λ (l : List Item). slice_get l (number - 1)) (sym listed) ∙ begun.1) in
     (begun.3, at.0, at.1, subst (λ (i : Item). P i.uid) (sym at.2) (all_ids_at P effect.begun begun.0.uid all begun.2))
 for_such P drop effect (inr none) all (Dele number) begun = absurd (true≢false (sym begun.2 ∙ ap (λ (ids : List (List ℕ)). has_id ids begun.0.uid) none.0))
 for_such P drop effect listed all other begun = tt
@@ -83,24 +75,16 @@ module _ (laws : Laws) (world : World) (state : State AccountFiles) (occasion : 
   abbrev link_of : IsStepFor world.account → LinkIn AccountMail
   link_of s = record { settings = occasion.settings; come = occasion.come; sent = s.sent; got = s.got; vanished = occasion.vanished; after = holds s.rows' occasion.after.maildir }
 
-  abbrev visit_of : IsStepFor world.account → Visit AccountMail
-  visit_of s = record { settings = occasion.settings; come = occasion.come; effect = s.effect; vanished = occasion.vanished; after = holds s.rows' occasion.after.maildir }
-
   module _ (s : IsStepFor world.account) where
-    visits : Visits world (by_rows rows state) (visit_of s)
+    visits : Visits world (by_rows rows state) (visit_of (link_of s) s.effect)
     visits = laws.visits world (by_rows rows state) (link_of s)
         (record { same = is.settings.max_size; effect = s.effect; session = s.stepped; served = is.served s.sent s.got s.sent_is s.got_is })
 
     -- what the law over runs says of it
-    abbrev promised : Type 0
-    promised = IsKeptIn world (by_rows s.rows' (after_session state occasion))
-        × LeavesOut world (by_rows rows state) (visit_of s) × DeletesHeld world (by_rows rows state) (visit_of s)
-        × KeepsOthers world.account (holds rows state.account.maildir) (holds s.rows' occasion.after.maildir) × StoresNew world (by_rows rows state) (visit_of s)
-
-    happened : promised
+    happened : IsKeptIn world (by_rows s.rows' (after_session state occasion)) × PromisesIn world (by_rows rows state) (Fetched (visit_of (link_of s) s.effect))
     happened =
-        let all = laws.stays world (by_rows rows state) (Fetched (visit_of s) ∷ []) sound is_kept (visits, tt) in
-        (all.0, all.1.0.0, all.1.0.1, all.1.0.2, all.1.0.3)
+        let all = laws.stays world (by_rows rows state) (Fetched (visit_of (link_of s) s.effect) ∷ []) sound is_kept (visits, tt) in
+        (all.0, all.1.0)
 
     -- the listing was the maildrop's, or nothing was begun and the session was cut
     listing_or_nothing : (s.effect.listing ≡ listing_of (maildrop_at world state occasion)) ⊎ ((s.effect.begun ≡ []) × (s.effect.ended ≡ false))
@@ -109,55 +93,39 @@ module _ (laws : Laws) (world : World) (state : State AccountFiles) (occasion : 
       | inr stored ↦ inl stored.1.listing
     ]
 
-    -- an uncut session
-    past_count : (message : Message) → s.effect.listing ≡ listing_of (maildrop_at world state occasion)
-        → is_past_count occasion.settings (merged_rows world.account (holds rows state.account.maildir) s.effect) s.effect.listing message.uid ≡ true
-        → IsPastCount world state occasion message
-    past_count message listed is_past = (rows, keeps, rw (← s.now_is, ← listed) is_past)
-
-    abbrev LeftOut : Message → Type 0
-    LeftOut m = (is_held world.account occasion.after.maildir m.uid ≡ true) ⊎ (has_id state.taken m.uid ≡ true) ⊎ (is_selected world.max_size m ≡ false)
+    -- what an uncut session left out
+    excluded : s.effect.listing ≡ listing_of (maildrop_at world state occasion) → (m : Message)
+        → (is_held world.account occasion.after.maildir m.uid ≡ true) ⊎ (has_id state.taken m.uid ≡ true) ⊎ (is_selected world.max_size m ≡ false)
         ⊎ (is_past_count occasion.settings (merged_rows world.account (holds rows state.account.maildir) s.effect) s.effect.listing m.uid ≡ true)
-
-    abbrev Excluded : Message → Type 0
-    Excluded m = IsHeldAfter world state occasion m.uid ⊎ (is_selected world.max_size m ≡ false) ⊎ IsPastCount world state occasion m
-
-    excluded : s.effect.listing ≡ listing_of (maildrop_at world state occasion) → (m : Message) → LeftOut m → Excluded m
+        → IsHeldAfter world state occasion m.uid ⊎ (is_selected world.max_size m ≡ false) ⊎ IsPastCount world state occasion m
     excluded listed m (inl held) = inl (inl held)
     excluded listed m (inr (inl taken)) = inl (inr taken)
     excluded listed m (inr (inr (inl large))) = inr (inl large)
-    excluded listed m (inr (inr (inr is_past))) = inr (inr (past_count m listed is_past))
+    excluded listed m (inr (inr (inr is_past))) = inr (inr (rows, keeps, rw (← s.now_is, ← listed) is_past))
 
-    leaves_out : LeavesOut world (by_rows rows state) (visit_of s) → LeavesOutOnlyBeyondLimits world state occasion
-    leaves_out out ended = elim listing_or_nothing [
-      | inl listed ↦ all_map LeftOut Excluded (excluded listed) (maildrop_at world state occasion) (out (s.ended_is.1 ended))
-      | inr nothing ↦ absurd (true≢false (sym (s.ended_is.1 ended) ∙ nothing.1))
-    ]
-
-    stores_only_new : StoresNew world (by_rows rows state) (visit_of s) → StoresOnlyNew world state occasion
-    stores_only_new new only_new id legal recorded =
-        let same : rows ≡ recorded.0 = (laws.one state.account.file.content rows recorded.0 keeps.0 recorded.1.0 keeps.1 recorded.1.1).0 in
-        let now = new only_new id legal (ap (λ (rs : List Row). is_delivered rs id) same ∙ recorded.2) in
-        (now.0, (s.rows', s.keeps, now.1))
-
-    session_promised : promised → Promised world state (Fetched occasion) × IsKept world (after_session state occasion)
-    session_promised all = (
+    session_promised : Promised world state (Fetched occasion) × IsKept world (after_session state occasion)
+    session_promised = (
       (
-        leaves_out all.1,
+        λ ended. elim listing_or_nothing [
+          | inl listed ↦ all_map _ _ (excluded listed) (maildrop_at world state occasion) (happened.1.0 (s.ended_is.1 ended))
+          | inr nothing ↦ absurd (true≢false (sym (s.ended_is.1 ended) ∙ nothing.1))
+        ],
         record {
           sent = s.sent;
           sent_is = s.sent_is;
-          sends = sends_weaker (IsBegun s.effect.listing s.effect.begun) (IsForSuch (maildrop_at world state occasion) (IsHeldAfter world state occasion)) s.sent
-              (for_such (IsHeldAfter world state occasion) (maildrop_at world state occasion) s.effect listing_or_nothing all.2) s.stepped.sends;
+          sends = sends_weaker _ _ s.sent (for_such (IsHeldAfter world state occasion) (maildrop_at world state occasion) s.effect listing_or_nothing happened.1.1) s.stepped.sends;
         },
-        all.3,
+        happened.1.2,
         elim visits.step [
           | inl left ↦ record { gained = []; came = left.same ∙ sym (append-nil state.account.maildir.files) }
           | inr stored ↦ record { gained = _; came = stored.0.came }
         ],
-        stores_only_new all.4,
+        λ only_new id legal recorded.
+            let same : rows ≡ recorded.0 = (laws.one state.account.file.content rows recorded.0 keeps.0 recorded.1.0 keeps.1 recorded.1.1).0 in
+            let now = happened.1.3 only_new id legal (ap (λ (rs : List Row). is_delivered rs id) same ∙ recorded.2) in
+            (now.0, (s.rows', s.keeps, now.1)),
       ),
-      (s.rows', s.keeps, all.0),
+      (s.rows', s.keeps, happened.0),
     )
 
   -- what its QUIT removed is recorded
@@ -169,24 +137,15 @@ module _ (laws : Laws) (world : World) (state : State AccountFiles) (occasion : 
         | inr stored ↦ (step.rows', step.keeps, all_ids_at (λ (x : List ℕ). is_delivered step.rows' x ≡ true) step.effect.begun id stored.0.begun begun)
       ]
 
-  pub fetched_promised : Promised world state (Fetched occasion) × IsKept world (after_session state occasion)
-  fetched_promised = session_promised step (happened step)
-
 -- ---- what happens between sessions
 
--- what the law over runs says of one event
-one_event : Laws → (world : World) (state : State AccountFiles) (event : Event Visit AccountMail) (rows : List Row) → IsSound world → IsKeptIn world (by_rows rows state) → Happens world (by_rows rows state) event
-    → IsKeptIn (world_after world event) (after_event after_visit (by_rows rows state) event) × PromisesIn world (by_rows rows state) event
-one_event laws world state event rows sound kept happens =
-    let all = laws.stays world (by_rows rows state) (event ∷ []) sound kept (happens, tt) in (all.0, all.1.0)
-
 -- what a loss of power left of a message's files, over the rows for which the record's file stood
-power_mail : Laws → (world : World) (state : State AccountFiles) (after : AccountFiles) (rows : List Row) → KeepsRows state.account.file.content rows → (id : List ℕ)
+power_mail : (world : World) (state : State AccountFiles) (after : AccountFiles) (rows : List Row) → KeepsRows state.account.file.content rows → (id : List ℕ)
     → (contents_of world after id ≡ contents_of world state.account id) ⊎ ((contents_of world after id ≡ []) × ((has_id state.taken id ≡ true) ⊎ IsLastStored world state id))
     → (contents_of world after id ≡ contents_of world state.account id) ⊎ ((contents_of world after id ≡ []) × ((has_id state.taken id ≡ true) ⊎ LastIn world (by_rows rows state) id))
-power_mail laws world state after rows keeps id (inl same) = inl same
-power_mail laws world state after rows keeps id (inr (none, inl taken)) = inr (none, inl taken)
-power_mail laws world state after rows keeps id (inr (none, inr lastly)) = inr (
+power_mail world state after rows keeps id (inl same) = inl same
+power_mail world state after rows keeps id (inr (none, inl taken)) = inr (none, inl taken)
+power_mail world state after rows keeps id (inr (none, inr lastly)) = inr (
   none,
   inr (record {
     unrecorded = false_from_ne_true (is_delivered rows id) (λ e. lastly.unrecorded (rows, keeps, e));
@@ -195,34 +154,36 @@ power_mail laws world state after rows keeps id (inr (none, inr lastly)) = inr (
   }),
 )
 
-event_promised : Laws → (world : World) (state : State AccountFiles) (event : Event Occasion AccountFiles) → IsSound world → IsKept world state → Follows world state event
-    → Promised world state event × IsKept (world_after world event) (after_event after_session state event)
-event_promised laws world state (Fetched occasion) sound is follows = fetched_promised laws world state occasion sound is.0 is.1 is.2 follows
-event_promised laws world state (Between after) sound is between =
-    let all = one_event laws world state (Between (holds is.0 after.maildir)) is.0 sound is.2 (record { rows = refl; same = between.mail }) in
-    (tt, (is.0, between.record_is is.0 is.1, all.0))
-event_promised laws world state (Expired ids) sound is expired =
-    let all = one_event laws world state (Expired ids) is.0 sound is.2 expired in
-    (tt, (is.0, is.1, all.0))
-event_promised laws world state (TakenAway id after) sound is taken =
-    let all = one_event laws world state (TakenAway id (holds is.0 after.maildir)) is.0 sound is.2
-    (record { legal = taken.legal; held = taken.held; none = taken.none; rows = refl; others = taken.others }) in
-    (tt, (is.0, taken.record_is is.0 is.1, all.0))
-event_promised laws world state (Withdrawn ids) sound is withdrawn =
-    let all = one_event laws world state (Withdrawn ids) is.0 sound is.2 withdrawn in
-    (tt, (is.0, is.1, all.0))
-event_promised laws world state (BroughtBack id after) sound is brought =
-    let all = one_event laws world state (BroughtBack id (holds is.0 after.maildir)) is.0 sound is.2
-    (record { legal = brought.legal; taken = brought.taken; text = brought.text; rows = refl; others = brought.others }) in
-    (tt, (is.0, brought.record_is is.0 is.1, all.0))
-event_promised laws world state (Forgotten after) sound is forgotten =
-    let now = forgotten.record_is is.0 is.1 in
-    let all = one_event laws world state (Forgotten (holds now.0 after.maildir)) is.0 sound is.2 (record { delivered = now.2; same = forgotten.mail }) in
-    (tt, (now.0, now.1, all.0))
-event_promised laws world state (PowerLost after) sound is lost =
-    let now = lost.record_is is.0 is.1 in
-    let all = one_event laws world state (PowerLost (holds now.0 after.maildir)) is.0 sound is.2 (record { mail = λ id legal. power_mail laws world state after is.0 is.1 id (lost.mail id legal); delivered = now.2 }) in
-    (tt, (now.0, now.1, all.0))
+module _ (laws : Laws) (world : World) (state : State AccountFiles) (sound : IsSound world) where
+  -- what the law over runs says of one event
+  still_kept : (event : Event Visit AccountMail) (rows : List Row) → IsKeptIn world (by_rows rows state) → Happens world (by_rows rows state) event
+      → IsKeptIn (world_after world event) (after_event after_visit (by_rows rows state) event)
+  still_kept event rows kept happens = (laws.stays world (by_rows rows state) (event ∷ []) sound kept (happens, tt)).0
+
+  event_promised : (event : Event Occasion AccountFiles) → IsKept world state → Follows world state event
+      → Promised world state event × IsKept (world_after world event) (after_event after_session state event)
+  event_promised (Fetched occasion) (rows, keeps, kept) follows =
+      session_promised laws world state occasion sound rows keeps kept follows (step laws world state occasion sound rows keeps kept follows)
+  event_promised (Between after) (rows, keeps, kept) between =
+      (tt, (rows, between.record_is rows keeps, still_kept (Between (holds rows after.maildir)) rows kept (record { rows = refl; same = between.mail })))
+  event_promised (Expired ids) (rows, keeps, kept) expired = (tt, (rows, keeps, still_kept (Expired ids) rows kept expired))
+  event_promised (TakenAway id after) (rows, keeps, kept) taken =
+      let now = still_kept (TakenAway id (holds rows after.maildir)) rows kept
+      (record { legal = taken.legal; held = taken.held; none = taken.none; rows = refl; others = taken.others }) in
+      (tt, (rows, taken.record_is rows keeps, now))
+  event_promised (Withdrawn ids) (rows, keeps, kept) withdrawn = (tt, (rows, keeps, still_kept (Withdrawn ids) rows kept withdrawn))
+  event_promised (BroughtBack id after) (rows, keeps, kept) brought =
+      let now = still_kept (BroughtBack id (holds rows after.maildir)) rows kept
+      (record { legal = brought.legal; taken = brought.taken; text = brought.text; rows = refl; others = brought.others }) in
+      (tt, (rows, brought.record_is rows keeps, now))
+  event_promised (Forgotten after) (rows, keeps, kept) forgotten =
+      let now = forgotten.record_is rows keeps in
+      (tt, (now.0, now.1, still_kept (Forgotten (holds now.0 after.maildir)) rows kept (record { delivered = now.2; same = forgotten.mail })))
+  event_promised (PowerLost after) (rows, keeps, kept) lost =
+      let now = lost.record_is rows keeps in
+      let all = still_kept (PowerLost (holds now.0 after.maildir)) rows kept
+      (record { mail = λ id legal. power_mail world state after rows keeps id (lost.mail id legal); delivered = now.2 }) in
+      (tt, (now.0, now.1, all))
 
 -- ---- any list of them
 
@@ -234,18 +195,13 @@ sound_after shrink world event sound = sound
 pub headline : Laws → Headline
 headline laws world start [] sound is run = (holds_prefix laws world start sound is, is)
 headline laws world start (event ∷ events) sound is run =
-    let first = event_promised laws world start event sound is run.0 in
+    let first = event_promised laws world start sound event is run.0 in
     let later = headline laws (world_after world event) (after_event after_session start event) events (sound_after laws.shrink world event sound) first.1 run.1 in
     ((holds_prefix laws world start sound is, first.0, later.0), later.1)
 
 pub empty_is_kept : StartsKept → EmptyIsKept
-empty_is_kept starts world start empty = (
-  [],
-  empty.record_is,
-  subst (λ (ids : List (List ℕ)). IsKeptIn world (let s : State AccountMail = record { account = holds [] start.account.maildir; gone = ids; taken = start.taken } in s)) (sym empty.none_gone)
-      (subst (λ (ids : List (List ℕ)). IsKeptIn world (let s : State AccountMail = record { account = holds [] start.account.maildir; gone = []; taken = ids } in s)) (sym empty.none_taken)
-      (starts world (holds [] start.account.maildir) refl empty.no_file)),
-)
+empty_is_kept starts world start empty =
+    ([], empty.record_is, rw (empty.none_gone, empty.none_taken) (starts world (holds [] start.account.maildir) refl empty.no_file))
 
 pub from_empty : Headline → EmptyIsKept → HeadlineFromEmpty
 from_empty law empty_kept world start events sound empty run = (law world start events sound (empty_kept world start empty) run).0
@@ -263,44 +219,27 @@ module _ (world : World) (state : State AccountFiles) (occasion : Occasion Accou
   held_after id (inl held) = held
   held_after id (inr taken) = absurd (true≢false (sym taken ∙ ap (λ (ids : List (List ℕ)). has_id ids id) none))
 
-  abbrev IsLeftOut : Message → Type 0
-  IsLeftOut m = IsHeldAfter world state occasion m.uid ⊎ (is_selected world.max_size m ≡ false) ⊎ IsPastCount world state occasion m
-
-  abbrev IsLeftOutHeld : Message → Type 0
-  IsLeftOutHeld m = (is_held world.account occasion.after.maildir m.uid ≡ true) ⊎ (is_selected world.max_size m ≡ false) ⊎ IsPastCount world state occasion m
-
-  left_out : (m : Message) → IsLeftOut m → IsLeftOutHeld m
+  left_out : (m : Message) → IsHeldAfter world state occasion m.uid ⊎ (is_selected world.max_size m ≡ false) ⊎ IsPastCount world state occasion m
+      → (is_held world.account occasion.after.maildir m.uid ≡ true) ⊎ (is_selected world.max_size m ≡ false) ⊎ IsPastCount world state occasion m
   left_out m (inl held) = inl (held_after m.uid held)
   left_out m (inr other) = inr other
 
-  abbrev IsForOne : (List ℕ → Type 0) → Command → Type 0
-  IsForOne Is command = IsForSuch (maildrop_at world state occasion) Is command
-
-  abbrev IsHeldThen : List ℕ → Type 0
-  IsHeldThen id = is_held world.account occasion.after.maildir id ≡ true
-
-  for_one : (command : Command) → IsForOne (IsHeldAfter world state occasion) command → IsForOne IsHeldThen command
+  for_one : (command : Command) → IsForSuch (maildrop_at world state occasion) (IsHeldAfter world state occasion) command
+      → IsForSuch (maildrop_at world state occasion) (λ (id : List ℕ). is_held world.account occasion.after.maildir id ≡ true) command
   for_one (Dele number) h = (h.0, h.1, h.2, held_after h.1.uid h.3)
   for_one other h = tt
 
   word_for_word : Promised world state (Fetched occasion) → IsWordForWord world state occasion
   word_for_word promised = record {
-    left_out = λ ended. all_map IsLeftOut IsLeftOutHeld left_out (maildrop_at world state occasion) (promised.0 ended);
-    deletes = record {
-      sent = promised.1.sent;
-      sent_is = promised.1.sent_is;
-      sends = sends_weaker (IsForOne (IsHeldAfter world state occasion)) (IsForOne IsHeldThen) promised.1.sent for_one promised.1.sends;
-    };
+    left_out = λ ended. all_map _ _ left_out (maildrop_at world state occasion) (promised.0 ended);
+    deletes = record { sent = promised.1.sent; sent_is = promised.1.sent_is; sends = sends_weaker _ _ promised.1.sent for_one promised.1.sends };
   }
 
-holds_exactly : NothingTakenHoldsExactly → (world : World) (state : State AccountFiles) → state.taken ≡ [] → HoldsAPrefix world state → HoldsExactlyAPrefix world state
-holds_exactly nothing world state none holds' = nothing world (by_rows [] state) holds' none
-
 pub headline_word_for_word : Headline → NothingTakenHoldsExactly → HeadlineWordForWord
-headline_word_for_word law nothing world start [] sound is run none takes_none = holds_exactly nothing world start none (law world start [] sound is tt).0
+headline_word_for_word law nothing world start [] sound is run none takes_none = nothing world (by_rows [] start) (law world start [] sound is tt).0 none
 headline_word_for_word law nothing world start (Fetched occasion ∷ events) sound is run none takes_none =
     let one = event_kept law world start (Fetched occasion) sound is run.0 in (
-      holds_exactly nothing world start none one.0,
+      nothing world (by_rows [] start) one.0 none,
       word_for_word world start occasion none one.1,
       headline_word_for_word law nothing world (after_session start occasion) events sound one.2 run.1 none takes_none,
     )
@@ -310,7 +249,7 @@ headline_word_for_word law nothing world start (BroughtBack id after ∷ events)
     absurd (true≢false (sym run.0.taken ∙ ap (λ (ids : List (List ℕ)). has_id ids id) none))
 headline_word_for_word law nothing world start (event ∷ events) sound is run none takes_none =
     let one = event_kept law world start event sound is run.0 in
-    (holds_exactly nothing world start none one.0, tt, headline_word_for_word law nothing world (after_event after_session start event) events sound one.2 run.1 none takes_none)
+    (nothing world (by_rows [] start) one.0 none, tt, headline_word_for_word law nothing world (after_event after_session start event) events sound one.2 run.1 none takes_none)
 
 -- ---- what is taken away stays away
 
@@ -321,52 +260,43 @@ IsAway world state id = IsRecorded state id × (contents_of world state id ≡ [
 recorded_in : (before after : AccountFiles) (id : List ℕ) → ((rows : List Row) → KeepsRows before.file.content rows → KeepsRows after.file.content rows) → IsRecorded before id → IsRecorded after id
 recorded_in before after id same recorded = (recorded.0, same recorded.0 recorded.1, recorded.2)
 
-still_away : Headline → (world : World) (state : State AccountFiles) (event : Event Occasion AccountFiles) (id : List ℕ) → IsSound world → IsKept world state → Follows world state event
-    → LeaveAway id (event ∷ []) → is_legal_id id ≡ true → IsAway world state.account id → IsAway (world_after world event) (after_event after_session state event).account id
-still_away laws world state (Fetched occasion) id sound is follows leave legal away =
-    let now = (event_kept laws world state (Fetched occasion) sound is follows).1.4 leave.0 id legal away.0 in (now.1, now.0 ∙ away.1)
-still_away laws world state (Between after) id sound is between leave legal away = (recorded_in state.account after id between.record_is away.0, between.mail id legal ∙ away.1)
-still_away laws world state (Expired ids) id sound is expired leave legal away = away
-still_away laws world state (Withdrawn ids) id sound is withdrawn leave legal away = away
-still_away laws world state (TakenAway other after) id sound is taken leave legal away = (
-  recorded_in state.account after id taken.record_is away.0,
-  elim (cases_Bool (bytes_eq id other)) [
-    | inl same ↦ ap (λ (x : List ℕ). contents_of world after x) ((bytes_eq-Decides id other).0 same) ∙ taken.none
-    | inr apart ↦ taken.others id legal apart ∙ away.1
-  ],
-)
-still_away laws world state (BroughtBack other after) id sound is brought leave legal away =
-    (recorded_in state.account after id brought.record_is away.0, brought.others id legal leave.0 ∙ away.1)
-still_away laws world state (Forgotten after) id sound is forgotten leave legal away = (leave.0, forgotten.mail id legal ∙ away.1)
-still_away laws world state (PowerLost after) id sound is lost leave legal away = (leave.0, none_left (lost.mail id legal))
-  where
-    none_left : (contents_of world after id ≡ contents_of world state.account id) ⊎ ((contents_of world after id ≡ []) × ((has_id state.taken id ≡ true) ⊎ IsLastStored world state id))
-        → contents_of world after id ≡ []
-    none_left (inl same) = same ∙ away.1
-    none_left (inr gone) = gone.0
-
-one_left : (id : List ℕ) (event : Event Occasion AccountFiles) (events : List (Event Occasion AccountFiles)) → LeaveAway id (event ∷ events) → LeaveAway id (event ∷ []) × LeaveAway id events
-one_left id (Fetched occasion) events h = ((h.0, tt), h.1)
-one_left id (BroughtBack other after) events h = ((h.0, tt), h.1)
-one_left id (Forgotten after) events h = ((h.0, tt), h.1)
-one_left id (PowerLost after) events h = ((h.0, tt), h.1)
-one_left id other events h = (tt, h)
+-- after one event
+still_away : Headline → (world : World) (state : State AccountFiles) (event : Event Occasion AccountFiles) (events : List (Event Occasion AccountFiles)) (id : List ℕ)
+    → IsSound world → IsKept world state → Follows world state event → LeaveAway id (event ∷ events) → is_legal_id id ≡ true → IsAway world state.account id
+    → IsAway (world_after world event) (after_event after_session state event).account id × LeaveAway id events
+still_away laws world state (Fetched occasion) events id sound is follows leave legal away =
+    let now = (event_kept laws world state (Fetched occasion) sound is follows).1.4 leave.0 id legal away.0 in ((now.1, now.0 ∙ away.1), leave.1)
+still_away laws world state (Between after) events id sound is between leave legal away =
+    ((recorded_in state.account after id between.record_is away.0, between.mail id legal ∙ away.1), leave)
+still_away laws world state (TakenAway other after) events id sound is taken leave legal away =
+    let none : contents_of world after id ≡ [] = elim (cases_Bool (bytes_eq id other)) [
+      | inl same ↦ ap (λ (x : List ℕ). contents_of world after x) ((bytes_eq-Decides id other).0 same) ∙ taken.none
+      | inr apart ↦ taken.others id legal apart ∙ away.1
+    ] in
+    ((recorded_in state.account after id taken.record_is away.0, none), leave)
+still_away laws world state (BroughtBack other after) events id sound is brought leave legal away =
+    ((recorded_in state.account after id brought.record_is away.0, brought.others id legal leave.0 ∙ away.1), leave.1)
+still_away laws world state (Forgotten after) events id sound is forgotten leave legal away = ((leave.0, forgotten.mail id legal ∙ away.1), leave.1)
+still_away laws world state (PowerLost after) events id sound is lost leave legal away =
+    let none : contents_of world after id ≡ [] = elim (lost.mail id legal) [
+      | inl same ↦ same ∙ away.1
+      | inr gone ↦ gone.0
+    ] in
+    ((leave.0, none), leave.1)
+still_away laws world state event events id sound is other leave legal away = (away, leave)
 
 stay_all : WorldsShrink → Headline → (world : World) (start : State AccountFiles) (events : List (Event Occasion AccountFiles)) (id : List ℕ) → IsSound world → IsKept world start → IsRun world start events
     → LeaveAway id events → is_legal_id id ≡ true → IsAway world start.account id → IsAway (world_left world events) (after_events after_session start events).account id
 stay_all shrink laws world start [] id sound is run leave legal away = away
 stay_all shrink laws world start (event ∷ events) id sound is run leave legal away =
-    let split = one_left id event events leave in
+    let first = still_away laws world start event events id sound is run.0 leave legal away in
     stay_all shrink laws (world_after world event) (after_event after_session start event) events id (sound_after shrink world event sound) (event_kept laws world start event sound is run.0).2 run.1
-    split.1 legal (still_away laws world start event id sound is run.0 split.0 legal away)
+    first.1 legal first.0
 
 same_account : (world : World) (events : List (Event Occasion AccountFiles)) → (world_left world events).account ≡ world.account
 same_account world [] = refl
-same_account world (event ∷ events) = same_account (world_after world event) events ∙ by event
-  where
-    by : (event : Event Occasion AccountFiles) → (world_after world event).account ≡ world.account
-    by (Withdrawn ids) = refl
-    by event = refl
+same_account world (Withdrawn ids ∷ events) = same_account (world_after world (Withdrawn ids)) events
+same_account world (event ∷ events) = same_account world events
 
 pub stays_away : WorldsShrink → Headline → StaysAway
 stays_away shrink laws world start events id sound is run leave legal recorded none =

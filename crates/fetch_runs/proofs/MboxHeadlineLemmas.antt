@@ -3,21 +3,21 @@ use Rattle.std.proofs.Common.{◌≡◌, ◌⊎◌, inl, inr, ℕ, true, false, 
 use Rattle.std.specs.List.{AllByRecursion}
 use Rattle.std.proofs.lemmas.Bool.{true≢false}
 use Rattle.pop3_wire.specs.World.{Message, IsWorld}
-use Rattle.fetch_rules.specs.Record.{Row, Intent, RecordState, is_delivered}
+use Rattle.fetch_rules.specs.Record.{Row, RecordState, is_delivered}
 use Rattle.fetch_rules.specs.RecordGrowth.{OneRecord}
 use Rattle.fetch_session.specs.Record.{Keeps}
 use Rattle.fetch_session.specs.Target.{mail_in}
 use Rattle.fetch_session.specs.declared.report.Outcome.TheVariants.{Ended}
 use Rattle.run_law.specs.Mails.{listing_of, is_selected, WorldsShrink}
 use Rattle.run_law.specs.Mboxes.{MboxMail, mbox_rows}
-use Rattle.run_law.specs.MboxRuns.{MboxWorld, MboxState, MboxKept as IsKeptIn, MboxVisits, MboxEvent, Fetched, Between, Expired, Withdrawn, Rewritten, after_mbox_event, mbox_world_after, IsUnbegun, AreAllRecorded, SomeAreRecorded, MboxPromises as PromisesIn, MboxEnds, MboxHolds, MboxKeptStaysKept, MboxKeptHolds, MboxStartsKept}
+use Rattle.run_law.specs.MboxRuns.{MboxWorld, MboxState, MboxKept as IsKeptIn, MboxVisits, MboxEvent, Fetched, Between, Expired, Withdrawn, Rewritten, after_mbox_event, mbox_world_after, IsUnbegun, AreAllRecorded, SomeAreRecorded, MboxPromises as PromisesIn, MboxHolds, MboxKeptStaysKept, MboxKeptHolds, MboxStartsKept}
 use Rattle.run_law.specs.MboxSessions.{MboxLinksAreVisits}
 use Rattle.run_law.specs.Runs.{is_past_count}
-use Rattle.run_law.specs.Sessions.{IsBegun, Link, visit_of}
+use Rattle.run_law.specs.Sessions.{Link, visit_of}
 use Rattle.fetch_runs.proofs.Lists.{all_map}
 use Rattle.fetch_runs.specs.MboxSteps.{mbox_holds, IsMboxStep, MboxSessionIsAStep}
 use Rattle.fetch_runs.specs.MboxHeadline.{WritingsAreEvents, maildrop_at, IsMboxSession, after_session, Follows, by_record, HoldsEntries, IsEntered, IsPastCount, EndsWhole, MboxPromised, IsMboxKept, MboxHeadline, MboxStartIsKept, MboxHeadlineFromStart, MboxStopsAreRuns}
-use Rattle.fetch_runs.specs.Headline.{Occasion, IsForSuch}
+use Rattle.fetch_runs.specs.Headline.{Occasion}
 use Rattle.fetch_runs.proofs.HeadlineLemmas.{for_such, sends_weaker}
 use Rattle.fetch_session.specs.Session.{MboxAccountFiles}
 
@@ -61,42 +61,32 @@ module _ (laws : Laws) (world : MboxWorld) (state : MboxState MboxAccountFiles) 
     | inr stored ↦ inl stored.1.listing
   ]
 
-  -- an uncut session
-  past_count : (message : Message) → s.effect.listing ≡ listing_of (maildrop_at world state occasion)
-      → is_past_count occasion.settings (mbox_rows (mbox_holds held state.account.mbox) s.effect) s.effect.listing message.uid ≡ true
-      → IsPastCount world state occasion message
-  past_count message listed is_past = (held, keeps, rw (← s.now_is, ← listed) is_past)
-
-  abbrev LeftOut : Message → Type 0
-  LeftOut m = (is_delivered s.record_state'.rows m.uid ≡ true) ⊎ (is_selected world.max_size m ≡ false)
+  -- what an uncut session left out
+  excluded : s.effect.listing ≡ listing_of (maildrop_at world state occasion) → (m : Message)
+      → (is_delivered s.record_state'.rows m.uid ≡ true) ⊎ (is_selected world.max_size m ≡ false)
       ⊎ (is_past_count occasion.settings (mbox_rows (mbox_holds held state.account.mbox) s.effect) s.effect.listing m.uid ≡ true)
-
-  abbrev Excluded : Message → Type 0
-  Excluded m = IsEntered world occasion.after m.uid ⊎ (is_selected world.max_size m ≡ false) ⊎ IsPastCount world state occasion m
-
-  excluded : s.effect.listing ≡ listing_of (maildrop_at world state occasion) → (m : Message) → LeftOut m → Excluded m
+      → IsEntered world occasion.after m.uid ⊎ (is_selected world.max_size m ≡ false) ⊎ IsPastCount world state occasion m
   excluded listed m (inl recorded) = inl (holds_after.entered m.uid recorded)
   excluded listed m (inr (inl large)) = inr (inl large)
-  excluded listed m (inr (inr is_past)) = inr (inr (past_count m listed is_past))
+  excluded listed m (inr (inr is_past)) = inr (inr (held, keeps, rw (← s.now_is, ← listed) is_past))
 
   ends_whole : occasion.report.outcome ≡ Ended → EndsWhole world state occasion
-  ends_whole ended = record {
-    record_state = s.record_state';
-    stands_for = s.keeps;
-    closed = ends.closed;
-    holds = holds_after;
-    no_rest = elim holds_after.at_most [
-      | inl (none, nothing) ↦ nothing
-      | inr (next, behind, is_next, entry, opened) ↦ absurd (let never : Some _ ≡ None = sym opened ∙ ends.closed in cc)
-    ];
-    left_out = elim listing_or_nothing [
-      | inl listed ↦ all_map LeftOut Excluded (excluded listed) (maildrop_at world state occasion) ends.leaves_out
-      | inr nothing ↦ absurd (true≢false (sym (s.ended_is.1 ended) ∙ nothing.1))
-    ];
-  }
-    where
-      ends : MboxEnds world (by_record held state) (visit_of link_in s.effect)
-      ends = happened.1.ends (s.ended_is.1 ended)
+  ends_whole ended =
+      let ends = happened.1.ends (s.ended_is.1 ended) in
+      record {
+        record_state = s.record_state';
+        stands_for = s.keeps;
+        closed = ends.closed;
+        holds = holds_after;
+        no_rest = elim holds_after.at_most [
+          | inl (none, nothing) ↦ nothing
+          | inr (next, behind, is_next, entry, opened) ↦ absurd (let never : Some _ ≡ None = sym opened ∙ ends.closed in cc)
+        ];
+        left_out = elim listing_or_nothing [
+          | inl listed ↦ all_map _ _ (excluded listed) (maildrop_at world state occasion) ends.leaves_out
+          | inr nothing ↦ absurd (true≢false (sym (s.ended_is.1 ended) ∙ nothing.1))
+        ];
+      }
 
   session_promised : MboxPromised world state (Fetched occasion) × IsMboxKept world (after_session state occasion)
   session_promised = (
@@ -105,18 +95,13 @@ module _ (laws : Laws) (world : MboxWorld) (state : MboxState MboxAccountFiles) 
       record {
         sent = s.sent;
         sent_is = s.sent_is;
-        sends = sends_weaker (IsBegun s.effect.listing s.effect.begun) (IsForSuch (maildrop_at world state occasion) (IsEntered world occasion.after)) s.sent
-            (for_such (IsEntered world occasion.after) (maildrop_at world state occasion) s.effect listing_or_nothing happened.1.begun) s.stepped.sends;
+        sends = sends_weaker _ _ s.sent (for_such (IsEntered world occasion.after) (maildrop_at world state occasion) s.effect listing_or_nothing happened.1.begun) s.stepped.sends;
       },
     ),
     (s.record_state', s.keeps, happened.0),
   )
 
 -- ---- what happens between sessions
-
--- an account with this record and these bytes in its mboxrd file
-abbrev with_file : RecordState → List ℕ → MboxMail
-with_file held bytes = record { rows = held.rows; intent = held.intent; file = bytes }
 
 -- a file stands for one record
 same_held : OneRecord → (content : Option (List ℕ)) (a b : RecordState) → Keeps content a → Keeps content b → a ≡ b
@@ -128,7 +113,7 @@ event_promised laws world state (Fetched occasion) sound (held, keeps, kept) is 
     session_promised laws world state occasion sound held keeps kept is
     (laws.steps occasion.settings occasion.now occasion.link state.account held occasion.report occasion.link' occasion.after is.settings.valid keeps is.session)
 event_promised laws world state (Between after) sound (held, keeps, kept) between =
-    let next = laws.stays world (by_record held state) (Between (mbox_holds held after.mbox) ∷ []) sound kept (ap (with_file held) between.mail, tt) in
+    let next = laws.stays world (by_record held state) (Between (mbox_holds held after.mbox) ∷ []) sound kept (rw between.mail refl, tt) in
     (tt, (held, between.record_is held keeps, next.0))
 event_promised laws world state (Expired ids) sound (held, keeps, kept) (other, stood, all) =
     let same = laws.one state.account.file.content other.rows held.rows other.intent held.intent stood keeps in
@@ -142,7 +127,7 @@ event_promised laws world state (Withdrawn ids) sound (held, keeps, kept) (other
 event_promised laws world state (Rewritten had file after) sound (held, keeps, kept) is =
     let same = same_held laws.one state.account.file.content is.record_state held is.stood_for keeps in
     let next = laws.stays world (by_record held state) (Rewritten had file (mbox_holds held after.mbox) ∷ []) sound kept
-    ((subst (λ (h : RecordState). AreAllRecorded world (mbox_holds h state.account.mbox) had) same is.recorded, ap (with_file held) is.file_is), tt) in
+    ((subst (λ (h : RecordState). AreAllRecorded world (mbox_holds h state.account.mbox) had) same is.recorded, rw is.file_is refl), tt) in
     (tt, (held, subst (Keeps after.file.content) same is.stands_for, next.0))
 
 -- ---- any list of them
@@ -159,13 +144,8 @@ mbox_headline laws world start (event ∷ events) sound is run =
     ((holds_entries laws world start sound is, first.0, later.0), later.1)
 
 pub start_is_kept : MboxStartsKept → MboxStartIsKept
-start_is_kept starts world start is = (
-  is.record_state,
-  is.stands_for,
-  subst (λ (i : Option Intent). IsKeptIn world (let s : MboxState MboxMail = record { account = record { rows = is.record_state.rows; intent = i; file = mail_in start.account.mbox.content }; gone = start.gone } in s)) (sym is.closed)
-      (subst (λ (bytes : List ℕ). IsKeptIn world (let s : MboxState MboxMail = record { account = record { rows = is.record_state.rows; intent = None; file = bytes }; gone = start.gone } in s)) (sym is.file)
-      (starts world is.record_state.rows is.ahead start.gone is.prefix is.recorded is.gone)),
-)
+start_is_kept starts world start is =
+    (is.record_state, is.stands_for, rw (is.closed, is.file) (starts world is.record_state.rows is.ahead start.gone is.prefix is.recorded is.gone))
 
 pub from_start : MboxHeadline → MboxStartIsKept → MboxHeadlineFromStart
 from_start law kept world start events sound is run = (law world start events sound (kept world start is) run).0
@@ -179,13 +159,5 @@ writings_are_events some one world state after (held, keeps, kept) others =
     (all.0, record { file_is = refl; record_state = held; stood_for = keeps; stands_for = subst (Keeps after.file.content) same others.stands_for; recorded = all.1 })
 
 pub stops_are_runs : MboxStopsAreRuns
-stops_are_runs world state occasion left stopped = (
-  stopped.session,
-  (
-    record {
-      record_is = λ held keeps. subst (λ (c : Option (List ℕ)). Keeps c held) (sym stopped.files.content) keeps;
-      mail = ap mail_in stopped.files.mbox;
-    },
-    tt,
-  ),
-)
+stops_are_runs world state occasion left stopped =
+    (stopped.session, (record { record_is = λ held keeps. rw stopped.files.content keeps; mail = ap mail_in stopped.files.mbox }, tt))

@@ -1,5 +1,5 @@
 -- What a session leaves of an account with an mboxrd file.
-use Rattle.std.proofs.Common.{arith, ◌≡◌, inl, inr, ◌+◌, ℕ, zero, suc, List, [], ◌∷◌, ◌++◌, map, take, length, Option, None, Some, refl, sym, ap, ◌∙◌, ◌⊎◌, Bool, true, false, Result, Ok, Err, subst, append_assoc, rules}
+use Rattle.std.proofs.Common.{arith, ◌≡◌, inl, inr, ◌+◌, ℕ, List, [], ◌∷◌, ◌++◌, map, take, length, Option, None, Some, refl, sym, ap, ◌∙◌, ◌⊎◌, Bool, true, false, Result, Ok, Err, subst, append_assoc, rules}
 use Rattle.std.specs.Prelude.{slice_get, option_map}
 use Rattle.std.specs.List.{AllByRecursion, flat_map, AllZip}
 use Rattle.std.proofs.lemmas.Bool.{true≢false}
@@ -17,6 +17,7 @@ use Rattle.fetch_session.specs.Target.{no_maildir, AsEntries, Stores, mail_in, i
 use Rattle.run_law.specs.Steps.{Effect}
 use Rattle.run_law.specs.Mboxes.{MboxMail, settled, mbox_wanted, entries, intent_of as law_intent}
 use Rattle.run_law.specs.MboxCounted.{bytes_at, OpensAt, AllRecorded, LastUnrecorded, MboxCounted}
+use Rattle.fetch_runs.proofs.Lists.{mapped_at}
 use Rattle.fetch_runs.proofs.Courses.{found_in, found_by, Course, course, stored_done, course_stopped, course_does, found_of, begun_of, SessionCourse, Idle, Deals, course_carried, course_carries, course_proceeded}
 use Rattle.fetch_runs.proofs.StatePlan.{key, fetched_in, fetched, IsRight}
 use Rattle.fetch_runs.proofs.StateDone.{text_found, texts_by, same_length, number_found, number_of, Laws, Inputs, rows_on, messages_on, tasks_on, rows_after, Part, effect_of, right_part, records_part, wanted_are}
@@ -42,7 +43,7 @@ use Rattle.mail_store.specs.Held.{flags_of}
 use Rattle.pop3_wire.specs.Place.{Place}
 use Rattle.fetch_session.specs.Plan.{tasks_ahead, Unprepared, Carried, Carries}
 use Rattle.fetch_session.specs.Readiness.{IsMergedAtMost, IsSettledBy, MboxUnready, Settles}
-use Rattle.fetch_session.specs.Session.{Keeping, Noted, Proceeds}
+use Rattle.fetch_session.specs.Session.{outcome_of, Keeping, Noted, Proceeds}
 use Rattle.run_law.specs.Mboxes as Law
 use Rattle.std.proofs.lemmas.Simd.{map-map}
 
@@ -67,21 +68,12 @@ at_length : {A : Type 0} (xs : List A) (y : A) (ys : List A) → slice_get (xs +
 at_length [] y ys = refl
 at_length (x ∷ xs) y ys = at_length xs y ys
 
-abbrev id_in : Option (ℕ × List ℕ) → List ℕ
-id_in None = []
-id_in (Some pair) = pair.1
-
-key_at : (qs : List (ℕ × Item)) (n : ℕ) (pair : ℕ × List ℕ) → slice_get (map key qs) n ≡ Some pair → (q : ℕ × Item) × (slice_get qs n ≡ Some q) × (q.1.uid ≡ pair.1)
-key_at [] n pair e = absurd cc
-key_at (q ∷ qs) zero pair e = (q, refl, ap id_in e)
-key_at (q ∷ qs) (suc n) pair e = key_at qs n pair e
-
 -- the message that the task after these fetches is the next of the wanted ones
 pub next_wanted : (tasks later : List Task) (dones : List Done) (messages : List (ℕ × Item)) (number : ℕ) (uid : List ℕ) → fetched tasks ≡ map key messages
     → tasks ≡ tasks_of dones ++ (stores number uid ∷ later) → AllByRecursion IsAnswered dones
-    → (q : ℕ × Item) × (slice_get messages (length (found_by dones)) ≡ Some q) × (q.1.uid ≡ uid)
+    → (q : ℕ × Item) × (slice_get messages (length (found_by dones)) ≡ Some q) × (key q ≡ (number, uid))
 next_wanted tasks later dones messages number uid are split answered =
-    key_at messages (length (found_by dones)) (number, uid)
+    mapped_at key messages (length (found_by dones)) (number, uid)
     (ap (λ (l : List (ℕ × List ℕ)). slice_get l (length (found_by dones))) (sym are ∙ ap fetched split ∙ flat_map-append fetched_in (tasks_of dones) (stores number uid ∷ later))
     ∙ ap (λ (n : ℕ). slice_get (fetched (tasks_of dones) ++ (number, uid) ∷ fetched later) n) (sym (same_length dones answered))
     ∙ at_length (fetched (tasks_of dones)) (number, uid) (fetched later))
@@ -273,7 +265,7 @@ module _ (laws : Laws) (settings : Settings) (items : List Item) (now : ℕ) (he
 
     module _ {cut : Cut} {new : Scene} (fell : Fell AsEntries tasks old cut new) where
       abbrev Stopped : Course → Type 0
-      Stopped c = MboxLeads settings now false c held mbox new.store.mbox new.file.content new.lines (UnsavedIn (Err cut))
+      Stopped c = MboxLeads settings now false c held mbox new.store.mbox new.file.content new.lines (UnsavedIn (outcome_of (Err cut)))
 
       mid_content : fell.mid.store.mbox.content ≡ Some (bytes_after fell.dones)
       mid_content = content_after fell.dones fell.mid fell.went (part_done laws p starts fell)
@@ -298,7 +290,7 @@ module _ (laws : Laws) (settings : Settings) (items : List Item) (now : ℕ) (he
         full_texts : texts_by full ≡ texts_by fell.dones ++ text ∷ []
         full_texts = ap (map text_found) (full_found laws p starts fell number uid reply is answered) ∙ map-append text_found (found_by fell.dones) ((number, text) ∷ [])
 
-        next_message : (q : ℕ × Item) × (slice_get (messages_on p) (length (found_by fell.dones)) ≡ Some q) × (q.1.uid ≡ uid)
+        next_message : (q : ℕ × Item) × (slice_get (messages_on p) (length (found_by fell.dones)) ≡ Some q) × (key q ≡ (number, uid))
         next_message =
             next_wanted (tasks_on p) fell.later fell.dones (messages_on p) number uid (wanted_are laws p)
             ((part_done laws p starts fell).split ∙ ap (λ (t : Task). tasks_of fell.dones ++ (t ∷ fell.later)) is) fell.went.each
@@ -309,14 +301,14 @@ module _ (laws : Laws) (settings : Settings) (items : List Item) (now : ℕ) (he
         opens c mbox' was items_are texts there =
             opens_at fell.dones text next_message.0 (texts ∙ full_texts) (rw items_are next_message.1)
             (ap (λ (l : List ℕ). Some (intent_of l uid text)) (same_Some was (bytes_after fell.dones) (sym there ∙ mid_content))
-            ∙ ap (λ (id : List ℕ). Some (intent_of (bytes_after fell.dones) id text)) (sym next_message.2)
+            ∙ ap (λ (k : ℕ × List ℕ). Some (intent_of (bytes_after fell.dones) k.1 text)) (sym next_message.2)
             ∙ ap (λ (l : List Item). Some (intent_of (bytes_settled l held mbox ++ entries (texts_by fell.dones)) next_message.0.1.uid text)) (sym items_are))
 
         -- its entry wasn't appended, or only a prefix of it
         refused : LeavesEntry fell.mid.store.mbox fell.mid.rows uid text new.store.mbox new.file → new.lines ≡ fell.mid.lines → Stopped (course items fell.dones (reply ∷ []) (fell.next ∷ []))
         refused left told = by left
           where
-            t : Tally p false fell.dones (reply ∷ []) (fell.next ∷ []) full fell.dones new.lines (Unit {0}) (UnsavedIn (Err cut))
+            t : Tally p false fell.dones (reply ∷ []) (fell.next ∷ []) full fell.dones new.lines (Unit {0}) (UnsavedIn (outcome_of (Err cut)))
             t = tally_spare laws p starts fell number uid reply is answered told tt
 
             by : LeavesEntry fell.mid.store.mbox fell.mid.rows uid text new.store.mbox new.file → Stopped (course items fell.dones (reply ∷ []) (fell.next ∷ []))
@@ -375,7 +367,7 @@ module _ (laws : Laws) (settings : Settings) (items : List Item) (now : ℕ) (he
       stopped (inr (inr u)) = unsaved u
 
     pub does_leads : (result : Result (Unit {0}) Cut) (new : Scene) (does : Does AsEntries tasks old result new)
-        → MboxLeads settings now (is_ended result) (course_does AsEntries items tasks old new result does) held mbox new.store.mbox new.file.content new.lines (UnsavedIn result)
+        → MboxLeads settings now (is_ended result) (course_does AsEntries items tasks old new result does) held mbox new.store.mbox new.file.content new.lines (UnsavedIn (outcome_of result))
     does_leads (Ok done) new went =
         lead_closed (tally_all laws p starts went.dones new went.all went.went) new.store.mbox new.file.content [] (sym (append-nil (texts_by went.dones)))
         (mid_keeps laws p starts went.dones new went.went) (ap mail_in (content_after went.dones new went.went (part_all laws p starts went.dones new went.all went.went)))
@@ -383,13 +375,10 @@ module _ (laws : Laws) (settings : Settings) (items : List Item) (now : ℕ) (he
 
 -- ---- settling, as the session and as the law over runs has it
 
-same_stored : (intent : Option Intent) (items : List Item) (bytes : List ℕ) → is_stored intent items bytes ≡ Law.is_stored intent items bytes
-same_stored None items bytes = refl
-same_stored (Some intent) items bytes = refl
-
-same_closed : (intent : Option Intent) (items : List Item) (bytes : List ℕ) → closed_file intent items bytes ≡ Law.closed_file intent items bytes
-same_closed None items bytes = refl
-same_closed (Some intent) items bytes = refl
+same_settled : (intent : Option Intent) (items : List Item) (bytes : List ℕ)
+    → (is_stored intent items bytes ≡ Law.is_stored intent items bytes) × (closed_file intent items bytes ≡ Law.closed_file intent items bytes)
+same_settled None items bytes = (refl, refl)
+same_settled (Some intent) items bytes = (refl, refl)
 
 -- a cause leaves the mboxrd file as it was, or settled
 settled_by : (items : List Item) (fault : Fault) (mbox file mbox' file' : Stored) → MboxUnready items fault mbox file mbox' file' → IsSettledBy items file mbox mbox'
@@ -417,13 +406,13 @@ module _ (laws : Laws) (settings : Settings) (items : List Item) (now : ℕ) (pl
 
   closed_is : (was : RecordState) (bytes : List ℕ) → Keeps file.content was → store.mbox.content ≡ Some bytes → closed_file was.intent items bytes ≡ bytes_settled items held store.mbox
   closed_is was bytes stood is =
-      ap (λ (h : RecordState). closed_file h.intent items bytes) (was_held was stood) ∙ same_closed held.intent items bytes
+      ap (λ (h : RecordState). closed_file h.intent items bytes) (was_held was stood) ∙ (same_settled held.intent items bytes).1
       ∙ ap (λ (o : Option (List ℕ)). Law.closed_file held.intent items (mail_in o)) (sym is)
 
   rows_are : (was : RecordState) → Keeps file.content was → rows_in AsEntries store was items ≡ rows_settled items held store.mbox
   rows_are was stood =
       ap (λ (h : RecordState). rows_in AsEntries store h items) (was_held was stood)
-      ∙ ap (λ (b : Bool). closed_rows b held.rows held.intent) (same_stored held.intent items (mail_in store.mbox.content))
+      ∙ ap (λ (b : Bool). closed_rows b held.rows held.intent) (same_settled held.intent items (mail_in store.mbox.content)).0
 
   settled_content : (was : RecordState) (new : Stores) → Keeps file.content was → Settles AsEntries was items store new → new.mbox.content ≡ Some (bytes_settled items held store.mbox)
   settled_content was new stood (bytes, is, settled, goes_on) = ap (λ (s : Stored). s.content) settled ∙ ap Some (closed_is was bytes stood is)
@@ -439,10 +428,10 @@ module _ (laws : Laws) (settings : Settings) (items : List Item) (now : ℕ) (pl
     mail_left (inr (was, stood, inl same)) = inl (ap mail_in same)
     mail_left (inr (was, stood, inr (bytes, is, settled))) = inr (ap mail_in settled ∙ closed_is was bytes stood is)
 
-    unprepared_leads : Unprepared AsEntries items now place store file lines cut new → Left settings now false (course items [] [] []) held store.mbox new.store.mbox new.file.content new.lines (UnsavedIn (Err cut))
+    unprepared_leads : Unprepared AsEntries items now place store file lines cut new → Left settings now false (course items [] [] []) held store.mbox new.store.mbox new.file.content new.lines (UnsavedIn (outcome_of (Err cut)))
     unprepared_leads is = by is.unready.content
       where
-        by : IsMergedAtMost AsEntries items now store file new.store new.file → Left settings now false (course items [] [] []) held store.mbox new.store.mbox new.file.content new.lines (UnsavedIn (Err cut))
+        by : IsMergedAtMost AsEntries items now store file new.store new.file → Left settings now false (course items [] [] []) held store.mbox new.store.mbox new.file.content new.lines (UnsavedIn (outcome_of (Err cut)))
         by (inl content) =
             inl (rests is.lines_are (subst (λ (c : Option (List ℕ)). Keeps c held) (sym content) keeps) (mail_left (settled_by items cut.fault store.mbox file new.store.mbox new.file is.unready.cause)))
         by (inr (was, stood, settled, inl stays)) =
@@ -453,7 +442,7 @@ module _ (laws : Laws) (settings : Settings) (items : List Item) (now : ℕ) (pl
             (ap mail_in (settled_content was new.store stood settled) ∙ sym (append-nil (bytes_settled items held store.mbox))))
 
   carried_leads : (result : Result (Unit {0}) Cut) (new : Scene) (skipped : Skips) (is : Carried settings AsEntries items now place store file lines result new skipped)
-      → MboxLeads settings now (is_ended result) (course_carried settings AsEntries items now place store file lines result new skipped is) held store.mbox new.store.mbox new.file.content new.lines (UnsavedIn result)
+      → MboxLeads settings now (is_ended result) (course_carried settings AsEntries items now place store file lines result new skipped is) held store.mbox new.store.mbox new.file.content new.lines (UnsavedIn (outcome_of result))
   carried_leads result new skipped is =
       does_leads laws settings items now held store.mbox starts (settled_content is.prepared.was is.mid.store is.prepared.stood is.prepared.settles) result new is.does
     where
@@ -465,7 +454,7 @@ module _ (laws : Laws) (settings : Settings) (items : List Item) (now : ℕ) (pl
 
   carries_leads : (result : Result (Unit {0}) Cut) (place' : Place) (store' : Stores) (file' : Stored) (lines' : List ReportLine) (skipped : Skips)
       (is : Carries settings AsEntries items now place store file lines result place' store' file' lines' skipped)
-      → Left settings now (is_ended result) (course_carries settings AsEntries items now place store file lines result place' store' file' lines' skipped is) held store.mbox store'.mbox file'.content lines' (UnsavedIn result)
+      → Left settings now (is_ended result) (course_carries settings AsEntries items now place store file lines result place' store' file' lines' skipped is) held store.mbox store'.mbox file'.content lines' (UnsavedIn (outcome_of result))
   carries_leads (Ok done) place' store' file' lines' skipped is = inr (carried_leads (Ok done) (scene place' store' file' is.0 lines') skipped is.1)
   carries_leads (Err cut) place' store' file' lines' skipped (rows, inl (none, is)) = unprepared_leads cut (scene place' store' file' rows lines') is
   carries_leads (Err cut) place' store' file' lines' skipped (rows, inr is) = inr (carried_leads (Err cut) (scene place' store' file' rows lines') skipped is)
@@ -474,7 +463,7 @@ module _ (laws : Laws) (settings : Settings) (items : List Item) (now : ℕ) (pl
 abbrev pub CourseLeaves : Settings → ℕ → Result (Unit {0}) Cut → SessionCourse → RecordState → Keeping → Keeping → List ReportLine → Type 0
 CourseLeaves settings now result Idle held before after lines = (is_ended result ≡ false) × (after ≡ before) × (lines ≡ [])
 CourseLeaves settings now result (Deals course) held before after lines =
-    Left settings now (is_ended result) course held before.store.mbox after.store.mbox after.file.content lines (UnsavedIn result)
+    Left settings now (is_ended result) course held before.store.mbox after.store.mbox after.file.content lines (UnsavedIn (outcome_of result))
 
 pub course_leaves : (laws : Laws) (settings : Settings) (now : ℕ) (old : Place) (before : Keeping) (result : Result (Unit {0}) Cut) (new : Place) (after : Keeping) (notes : Noted) (held : RecordState)
     → Keeps before.file.content held → (is : Proceeds settings AsEntries now old before result new after notes)

@@ -12,6 +12,8 @@ use Rattle.pop3_client.specs.Texts.{body_text}
 use Rattle.fetch_session.specs.declared.fault.Cut.{Cut}
 use Rattle.fetch_session.specs.declared.fault.Fault.{Fault}
 use Rattle.fetch_session.specs.declared.fault.Fault.TheVariants.{SeenRefused, NoMemory}
+use Rattle.fetch_session.specs.declared.report.Outcome.{Outcome}
+use Rattle.fetch_session.specs.declared.report.Outcome.TheVariants.{Cut as WasCut}
 use Rattle.fetch_session.specs.declared.report.ReportLine.{ReportLine}
 use Rattle.fetch_session.specs.Task.{Task, Done, IsAnswered, stores, task_in, tasks_of, ids_in, ids_of, ids_ahead, lines_in, lines_of, delivered}
 use Rattle.fetch_session.specs.Record.{Keeps, Steady, Saves}
@@ -29,11 +31,10 @@ is_ended (Ok done) = true
 is_ended (Err cut) = false
 
 -- the record's file was refused, or memory ran out for it
-abbrev pub UnsavedIn : Result (Unit {0}) Cut → Type 0
-UnsavedIn (Ok done) = ⊥
-UnsavedIn (Err cut) = (cut.fault ≡ SeenRefused) ⊎ (cut.fault ≡ NoMemory)
+abbrev pub UnsavedIn : Outcome → Type 0
+UnsavedIn outcome = (outcome ≡ WasCut SeenRefused) ⊎ (outcome ≡ WasCut NoMemory)
 
-pub unsaved_why : (old : Stored) (was now : RecordState) (fault : Fault) (new : Stored) → Saves old was now (Err fault) new → (fault ≡ SeenRefused) ⊎ (fault ≡ NoMemory)
+pub unsaved_why : (old : Stored) (was now : RecordState) (fault : Fault) (new : Stored) → Saves old was now (Err fault) new → UnsavedIn (WasCut fault)
 unsaved_why old was now SeenRefused new is = inl refl
 unsaved_why old was now NoMemory new is = inr refl
 unsaved_why old was now other new never = absurd never

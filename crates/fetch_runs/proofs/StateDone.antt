@@ -8,7 +8,7 @@ use Rattle.mail_terms.specs.Listing.{Item, has_item, is_flagged}
 use Rattle.mail_store.specs.Maildir.{Maildir, File}
 use Rattle.mail_store.specs.FileName.{is_held, mail_file}
 use Rattle.pop3_wire.specs.Reading.{WholeReply}
-use Rattle.pop3_client.specs.Turns.{IsGood, retr}
+use Rattle.pop3_client.specs.Turns.{IsGood}
 use Rattle.fetch_session.specs.Task.{Task, stores, rereads, deletes, Done, IsAnswered, turns_in, tasks_of, files_in, files_of, lines_in, lines_of, ids_in, ids_of, ids_ahead}
 use Rattle.fetch_session.specs.Report.{is_taken, retrieved_in}
 use Rattle.run_law.specs.Steps.{file_for, is_unheld, Effect, ids_wanted}
@@ -16,7 +16,6 @@ use Rattle.std.proofs.lemmas.Simd.{map-map}
 use Rattle.fetch_runs.proofs.Lists.{all_append, all_front, all_map}
 use Rattle.fetch_runs.proofs.Courses.{found_in, found_by, Course, found_of, begun_of}
 use Rattle.fetch_runs.proofs.StatePlan.{key, fetched_in, fetched, IsRight, deleted_in, deleted_by, Safe, tasks_ahead, PlansFetchWanted, fetched_ahead, right_ahead, safe_ahead}
-use Rattle.fetch_runs.proofs.TalkCommands.{one_reply}
 use Rattle.std.specs.Prelude.{◌&&◌, ◌||◌, bytes_eq}
 use Rattle.std.proofs.lemmas.Slice.Eq.{bytes_eq-Decides}
 use Rattle.std.proofs.Math.Bool.{or-true}
@@ -43,9 +42,9 @@ texts_by dones = map text_found (found_by dones)
 -- ---- numbers
 
 found_numbers : (task : Task) (replies : List WholeReply) → AllZip IsGood (turns_in task) replies → map number_found (found_in task replies) ≡ map (λ (p : ℕ × List ℕ). p.0) (fetched_in task)
-found_numbers (stores number uid) replies answered = one_reply (λ (rs : List WholeReply). map number_found (found_in (stores number uid) rs) ≡ number ∷ []) (retr number) replies answered (λ r g. refl)
-found_numbers (rereads number uid) replies answered = one_reply (λ (rs : List WholeReply). map number_found (found_in (rereads number uid) rs) ≡ number ∷ []) (retr number) replies answered (λ r g. refl)
-found_numbers other replies answered = refl
+found_numbers (stores number uid) (reply ∷ []) answered = refl
+found_numbers (rereads number uid) (reply ∷ []) answered = refl
+found_numbers task replies answered = search rules
 
 pub numbers_by : (dones : List Done) → AllByRecursion IsAnswered dones → map number_found (found_by dones) ≡ map (λ (p : ℕ × List ℕ). p.0) (fetched (tasks_of dones))
 numbers_by [] answered = refl
@@ -86,44 +85,12 @@ pub same_length : (dones : List Done) → AllByRecursion IsAnswered dones → le
 same_length dones answered =
     sym (length-map (fetched (tasks_of dones)) (λ (p : ℕ × List ℕ). p.0)) ∙ sym (ap (λ (l : List ℕ). length l) (numbers_by dones answered)) ∙ length-map (found_by dones) number_found
 
--- the tasks so far fetched the first of the wanted messages
-pub fetched_first : (tasks rest : List Task) (dones : List Done) (messages : List (ℕ × Item)) → fetched tasks ≡ map key messages → tasks ≡ tasks_of dones ++ rest
-    → AllByRecursion IsAnswered dones → fetched (tasks_of dones) ≡ map key (take (length (found_by dones)) messages)
-fetched_first tasks rest dones messages are split answered =
-    sym (take_at (fetched (tasks_of dones)) (fetched rest) (length (found_by dones)) (same_length dones answered))
-    ∙ ap (λ (l : List (ℕ × List ℕ)). take (length (found_by dones)) l) (sym (flat_map-append fetched_in (tasks_of dones) rest) ∙ ap fetched (sym split) ∙ are)
-    ∙ take-map key (length (found_by dones)) messages
-
--- all of them, if nothing is left to do
-pub fetched_all : (tasks : List Task) (dones : List Done) (messages : List (ℕ × Item)) → fetched tasks ≡ map key messages → tasks ≡ tasks_of dones
-    → AllByRecursion IsAnswered dones → length (found_by dones) ≡ length messages
-fetched_all tasks dones messages are all answered =
-    sym (same_length dones answered) ∙ ap (λ (l : List Task). length (fetched l)) (sym all) ∙ ap (λ (l : List (ℕ × List ℕ)). length l) are ∙ length-map messages key
-
--- by their numbers
-pub numbers_first : (tasks rest : List Task) (dones : List Done) (messages : List (ℕ × Item)) → fetched tasks ≡ map key messages → tasks ≡ tasks_of dones ++ rest
-    → AllByRecursion IsAnswered dones → map number_found (found_by dones) ≡ map number_of (take (length (found_by dones)) messages)
-numbers_first tasks rest dones messages are split answered =
-    numbers_by dones answered ∙ ap (map (λ (p : ℕ × List ℕ). p.0)) (fetched_first tasks rest dones messages are split answered)
-    ∙ map-map (λ (p : ℕ × List ℕ). p.0) key (take (length (found_by dones)) messages)
-
--- by their files
-pub files_first : (account : List ℕ) (maildir : Maildir) (items : List Item) (tasks rest : List Task) (dones : List Done) (messages : List (ℕ × Item))
-    → fetched tasks ≡ map key messages → AllByRecursion (IsRight account maildir items) tasks → tasks ≡ tasks_of dones ++ rest → AllByRecursion IsAnswered dones
-    → files_of account dones ≡ map (file_for account) (filter (is_unheld account maildir) (zip (take (length (found_by dones)) messages) (texts_by dones)))
-files_first account maildir items tasks rest dones messages are right split answered =
-    files_by account maildir items dones answered (all_front (IsRight account maildir items) (tasks_of dones) rest (subst (AllByRecursion (IsRight account maildir items)) split right))
-    ∙ ap (λ (l : List (ℕ × List ℕ)). map (file_at account) (filter (is_free account maildir) (zip l (texts_by dones)))) (fetched_first tasks rest dones messages are split answered)
-    ∙ by_messages account maildir (take (length (found_by dones)) messages) (texts_by dones)
-
 -- ---- by their lines in the report
 
 counted_in : (task : Task) (replies : List WholeReply) → AllZip IsGood (turns_in task) replies → retrieved_in (lines_in task replies) ≡ length (found_in task replies)
-counted_in (stores number uid) replies answered =
-    one_reply (λ (rs : List WholeReply). retrieved_in (lines_in (stores number uid) rs) ≡ length (found_in (stores number uid) rs)) (retr number) replies answered (λ r g. refl)
-counted_in (rereads number uid) replies answered =
-    one_reply (λ (rs : List WholeReply). retrieved_in (lines_in (rereads number uid) rs) ≡ length (found_in (rereads number uid) rs)) (retr number) replies answered (λ r g. refl)
-counted_in other replies answered = refl
+counted_in (stores number uid) (reply ∷ []) answered = refl
+counted_in (rereads number uid) (reply ∷ []) answered = refl
+counted_in task replies answered = search rules
 
 pub counted_by : (dones : List Done) → AllByRecursion IsAnswered dones → retrieved_in (lines_of dones) ≡ length (found_by dones)
 counted_by [] answered = refl
@@ -237,14 +204,11 @@ ids_are (d ∷ dones) = ap (λ l. ids_in d.task ++ l) (ids_are dones)
 pub stored_has_row : Laws → (account : List ℕ) (maildir : Maildir) (items : List Item) (now : ℕ) (rows : List Row) (held : List Bool) (tasks : List Task)
     → AllByRecursion (IsRight account maildir items) tasks → AllByRecursion (λ (uid : List ℕ). has_row (merged rows items held now) uid ≡ true) (ids_ahead tasks)
 stored_has_row laws account maildir items now rows held [] right = tt
-stored_has_row laws account maildir items now rows held (task ∷ tasks) right = by task right.0 (stored_has_row laws account maildir items now rows held tasks right.1)
-  where
-    HasRow : List ℕ → Type 0
-    HasRow uid = has_row (merged rows items held now) uid ≡ true
-
-    by : (task : Task) → IsRight account maildir items task → AllByRecursion HasRow (ids_ahead tasks) → AllByRecursion HasRow (ids_in task ++ ids_ahead tasks)
-    by (stores number uid) is ih = (laws.listed rows items held now uid ∙ ap (λ b. has_row rows uid || b) is.1 ∙ or-true (has_row rows uid), ih)
-    by other is ih = ih
+stored_has_row laws account maildir items now rows held (stores number uid ∷ tasks) right = (
+  laws.listed rows items held now uid ∙ ap (λ b. has_row rows uid || b) right.0.1 ∙ or-true (has_row rows uid),
+  stored_has_row laws account maildir items now rows held tasks right.1,
+)
+stored_has_row laws account maildir items now rows held (task ∷ tasks) right = stored_has_row laws account maildir items now rows held tasks right.1
 
 -- what is listed and held is recorded as delivered after the merge
 pub held_delivered : Laws → (account : List ℕ) (maildir : Maildir) (items : List Item) (now : ℕ) (rows : List Row) (uid : List ℕ)
@@ -340,15 +304,32 @@ module _ (laws : Laws) (p : Inputs) where
   pub wanted_are : fetched (tasks_on p) ≡ map key (messages_on p)
   wanted_are = fetched_ahead laws.plans p.settings p.account p.items p.now p.maildir (rows_on p)
 
+  -- the tasks so far fetched the first of the wanted messages
+  fetched_part : (dones : List Done) → Part (tasks_on p) dones → fetched (tasks_of dones) ≡ map key (take (length (found_by dones)) (messages_on p))
+  fetched_part dones part =
+      sym (take_at (fetched (tasks_of dones)) (fetched part.rest) (length (found_by dones)) (same_length dones part.answered))
+      ∙ ap (λ (l : List (ℕ × List ℕ)). take (length (found_by dones)) l) (sym (flat_map-append fetched_in (tasks_of dones) part.rest) ∙ ap fetched (sym part.split) ∙ wanted_are)
+      ∙ take-map key (length (found_by dones)) (messages_on p)
+
   -- the record is the merged one, with the first of the wanted messages marked
   pub records_part : (dones : List Done) → Part (tasks_on p) dones → rows_after p dones ≡ marked_all (rows_on p) (ids_wanted (take (length (found_by dones)) (messages_on p)))
   records_part dones part =
       marks_by p.account p.maildir p.items dones (rows_on p) (held_settled laws p.account p.maildir p.items p.now p.rows) (right_part dones part)
-      ∙ ap (λ (l : List (ℕ × List ℕ)). marked_all (rows_on p) (map (λ (p : ℕ × List ℕ). p.1) l)) (fetched_first (tasks_on p) part.rest dones (messages_on p) wanted_are part.split part.answered)
-      ∙ ap (marked_all (rows_on p)) (map-map (λ (p : ℕ × List ℕ). p.1) key (take (length (found_by dones)) (messages_on p)))
+      ∙ ap (λ (l : List (ℕ × List ℕ)). marked_all (rows_on p) (map (λ (found : ℕ × List ℕ). found.1) l)) (fetched_part dones part)
+      ∙ ap (marked_all (rows_on p)) (map-map (λ (found : ℕ × List ℕ). found.1) key (take (length (found_by dones)) (messages_on p)))
 
   pub numbers_part : (dones : List Done) → Part (tasks_on p) dones → map number_found (found_by dones) ≡ map number_of (take (length (found_by dones)) (messages_on p))
-  numbers_part dones part = numbers_first (tasks_on p) part.rest dones (messages_on p) wanted_are part.split part.answered
+  numbers_part dones part =
+      numbers_by dones part.answered ∙ ap (map (λ (found : ℕ × List ℕ). found.0)) (fetched_part dones part)
+      ∙ map-map (λ (found : ℕ × List ℕ). found.0) key (take (length (found_by dones)) (messages_on p))
+
+  pub files_part : (dones : List Done) → Part (tasks_on p) dones
+      → files_of p.account dones ≡ map (file_for p.account) (filter (is_unheld p.account p.maildir) (zip (take (length (found_by dones)) (messages_on p)) (texts_by dones)))
+  files_part dones part =
+      files_by p.account p.maildir p.items dones part.answered (right_part dones part)
+      ∙ ap (λ (l : List (ℕ × List ℕ)). map (file_at p.account) (filter (is_free p.account p.maildir) (zip l (texts_by dones)))) (fetched_part dones part)
+      ∙ by_messages p.account p.maildir (take (length (found_by dones)) (messages_on p)) (texts_by dones)
 
   pub wanted_all : (dones : List Done) → tasks_on p ≡ tasks_of dones → AllByRecursion IsAnswered dones → length (found_by dones) ≡ length (messages_on p)
-  wanted_all dones all answered = fetched_all (tasks_on p) dones (messages_on p) wanted_are all answered
+  wanted_all dones all answered =
+      sym (same_length dones answered) ∙ ap (λ (l : List Task). length (fetched l)) (sym all) ∙ ap (λ (l : List (ℕ × List ℕ)). length l) wanted_are ∙ length-map (messages_on p) key

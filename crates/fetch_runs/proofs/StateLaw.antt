@@ -17,6 +17,7 @@ use Rattle.fetch_session.specs.declared.fault.Cut.{Cut}
 use Rattle.fetch_session.specs.declared.fault.Fault.{Fault}
 use Rattle.fetch_session.specs.declared.fault.Fault.TheVariants.{StoreRefused}
 use Rattle.fetch_session.specs.declared.fault.Why.TheVariants as why
+use Rattle.fetch_session.specs.declared.report.Outcome.TheVariants.{Cut as WasCut}
 use Rattle.fetch_session.specs.declared.report.ReportLine.{ReportLine}
 use Rattle.fetch_session.specs.declared.report.Skips.{Skips}
 use Rattle.fetch_session.specs.Record.{Keeps, KeepsRows}
@@ -24,16 +25,16 @@ use Rattle.fetch_session.specs.Readiness.{IsMergedAtMost, UnreadyCause}
 use Rattle.fetch_session.specs.Report.{retrieved_in}
 use Rattle.fetch_session.specs.Plan.{Unprepared, Carried, Carries}
 use Rattle.fetch_session.specs.Scene.{Scene, scene, NoFile, FileNotSaved, Went, Fell, Stops, Does}
-use Rattle.fetch_session.specs.Session.{Keeping, AccountFiles, account_files, keeps_files, Noted, Proceeds}
+use Rattle.fetch_session.specs.Session.{outcome_of, Keeping, AccountFiles, account_files, keeps_files, Noted, Proceeds}
 use Rattle.fetch_session.specs.Store.{RefusesText}
 use Rattle.fetch_session.specs.Target.{AsFiles, Stores, in_maildir}
 use Rattle.fetch_session.specs.Task.{Task, Done, stores, files_in, files_of, file_from}
 use Rattle.run_law.specs.Steps.{file_for, is_unheld, wanted_at}
 use Rattle.run_law.specs.Counted.{Counted, Records}
 use Rattle.fetch_runs.specs.Steps.{holds}
-use Rattle.fetch_runs.proofs.Courses.{Course, SessionCourse, Idle, Deals, course, spare_in, spare_of, course_stopped, course_does, course_carried, course_carries, course_proceeded, stored_done, found_by, found_of, begun_of}
-use Rattle.fetch_runs.proofs.StatePlan.{tasks_ahead, IsRight, right_ahead}
-use Rattle.fetch_runs.proofs.StateDone.{number_found, text_found, number_of, files_first, Laws, Inputs, rows_on, tasks_on, messages_on, rows_after, Part, effect_of, records_part, wanted_are}
+use Rattle.fetch_runs.proofs.Courses.{Course, SessionCourse, Idle, Deals, course, spare_in, course_stopped, course_does, course_carried, course_carries, course_proceeded, stored_done, found_by, found_of, begun_of}
+use Rattle.fetch_runs.proofs.StatePlan.{tasks_ahead, IsRight}
+use Rattle.fetch_runs.proofs.StateDone.{number_found, text_found, number_of, files_part, Laws, Inputs, rows_on, tasks_on, messages_on, rows_after, Part, effect_of, records_part}
 use Rattle.fetch_runs.proofs.StateCases.{is_ended, UnsavedIn, unsaved_why, Starts, Tally, tally_right, tally_numbers, tally_number, tally_none, mid_rows, mid_keeps, tally_all, tally_no_line, tally_spare, tally_old, tally_new, full_rows}
 
 -- the account that a session left, and what it found
@@ -51,8 +52,7 @@ pub record Leads (settings : Settings) (account : List ℕ) (now : ℕ) (ended :
 
 -- the store refused a text
 abbrev pub RefusedIn : Result (Unit {0}) Cut → Type 0
-RefusedIn (Ok done) = ⊥
-RefusedIn (Err cut) = cut.fault ≡ StoreRefused why.Refused
+RefusedIn result = outcome_of result ≡ WasCut (StoreRefused why.Refused)
 
 -- what a course leads to from a plan
 abbrev Leading : Inputs → Bool → Course → Maildir → Option (List ℕ) → List ReportLine → Type 0 → Type 0 → Type 0
@@ -68,9 +68,7 @@ module _ (laws : Laws) (p : Inputs) where
   -- the files of the texts found
   adds_part : (whole : List Done) → Part (tasks_on p) whole → (found : List (ℕ × List ℕ)) → found ≡ found_by whole → (n : ℕ) → n ≡ length (found_by whole)
       → files_of p.account whole ≡ map (file_for p.account) (filter (is_unheld p.account p.maildir) (zip (take n (messages_on p)) (map text_found found)))
-  adds_part whole part found found_is n is = rw (found_is, is)
-      (files_first p.account p.maildir p.items (tasks_on p) part.rest whole (messages_on p) (wanted_are laws p)
-      (right_ahead p.settings p.account p.items p.now p.maildir (rows_on p)) part.split part.answered)
+  adds_part whole part found found_is n is = rw (found_is, is) (files_part laws p whole part)
 
   lead : {ended : Bool} {taken whole noted : List Done} {spare : List WholeReply} {under : List Task} {lines : List ReportLine} {refused unsaved : Type 0}
       → Tally p ended taken spare under whole noted lines refused unsaved → (maildir' : Maildir) (content' : Option (List ℕ)) → AddsFiles p.account p.maildir whole maildir'
@@ -116,7 +114,7 @@ module _ (laws : Laws) (p : Inputs) where
 
     module _ {cut : Cut} {new : Scene} (fell : Fell (AsFiles p.account) tasks old cut new) where
       abbrev Stopped : Course → Type 0
-      Stopped c = Leading p false c new.store.maildir new.file.content new.lines (RefusedIn (Err cut)) (UnsavedIn (Err cut))
+      Stopped c = Leading p false c new.store.maildir new.file.content new.lines (RefusedIn (Err cut)) (UnsavedIn (outcome_of (Err cut)))
 
       -- the next task left the files and the report as they were
       bare : new.store.maildir.files ≡ fell.mid.store.maildir.files → new.file ≡ fell.mid.file → new.lines ≡ fell.mid.lines
@@ -138,7 +136,7 @@ module _ (laws : Laws) (p : Inputs) where
         -- and the store refused it
         spare : new.file ≡ fell.mid.file → new.lines ≡ fell.mid.lines → cut.fault ≡ StoreRefused why.Refused → Stopped (course p.items fell.dones (reply ∷ []) (fell.next ∷ []))
         spare file told refuses =
-            lead (tally_spare laws p starts fell number uid reply is answered told refuses) new.store.maildir new.file.content files
+            lead (tally_spare laws p starts fell number uid reply is answered told (ap WasCut refuses)) new.store.maildir new.file.content files
             (subst (λ (s : Stored). KeepsRows s.content (rows_after p fell.dones)) (sym file) (mid_holds fell.dones fell.mid fell.went))
 
       -- and the record is one of two
@@ -158,26 +156,22 @@ module _ (laws : Laws) (p : Inputs) where
           there = files u.number u.uid u.reply u.is u.talked.good u.stored.came
 
       -- the store refused a text
-      not_stored : (refused : NoFile p.account fell.next fell.mid new cut) → Stopped (course p.items fell.dones (spare_of p.account fell.next fell.mid new cut refused) (fell.next ∷ []))
-      not_stored refused = by refused.refuses
-        where
-          by : (refuses : RefusesText fell.mid.store.maildir (stem_of p.account refused.uid) refused.rest refused.text cut.fault new.store.maildir)
-              → Stopped (course p.items fell.dones
-              (spare_in refused.number fell.mid.place new.place refused.rest refused.text fell.mid.store.maildir new.store.maildir (stem_of p.account refused.uid) cut.fault refused.whole refuses) (fell.next ∷ []))
-          by (inl missing) = bare (ap (λ (m : Maildir). m.files) missing.2) refused.file refused.lines
-          by (inr (is, inl same)) = bare (ap (λ (m : Maildir). m.files) same) refused.file refused.lines
-          by (inr (is, inr (done, there))) =
-              let came = refused.whole done in
-              spare refused.number refused.uid came.0 refused.is came.1.good
-              (ap (λ (m : Maildir). m.files) there ∙ ap (λ (t : List ℕ). fell.mid.store.maildir.files ++ mail_file p.account refused.uid t ∷ []) came.2) refused.file refused.lines is
+      not_stored : (refused : NoFile p.account fell.next fell.mid new cut) → (refuses : RefusesText fell.mid.store.maildir (stem_of p.account refused.uid) refused.rest refused.text cut.fault new.store.maildir)
+          → Stopped (course p.items fell.dones (spare_in refused refuses) (fell.next ∷ []))
+      not_stored refused (inl missing) = bare (ap (λ (m : Maildir). m.files) missing.2) refused.file refused.lines
+      not_stored refused (inr (is, inl same)) = bare (ap (λ (m : Maildir). m.files) same) refused.file refused.lines
+      not_stored refused (inr (is, inr (done, there))) =
+          let came = refused.whole done in
+          spare refused.number refused.uid came.0 refused.is came.1.good
+          (ap (λ (m : Maildir). m.files) there ∙ ap (λ (t : List ℕ). fell.mid.store.maildir.files ++ mail_file p.account refused.uid t ∷ []) came.2) refused.file refused.lines is
 
       stopped : (stops : Stops (AsFiles p.account) fell.next fell.mid cut new) → Stopped (course_stopped (AsFiles p.account) p.items fell.dones fell.next fell.mid new cut stops)
       stopped (inl broken) = bare (ap (λ (s : Stores). s.maildir.files) broken.store) broken.file broken.lines
-      stopped (inr (inl refused)) = not_stored refused
+      stopped (inr (inl refused)) = not_stored refused refused.refuses
       stopped (inr (inr refused)) = unsaved refused
 
     does_leads : (result : Result (Unit {0}) Cut) (new : Scene) (does : Does (AsFiles p.account) tasks old result new)
-        → Leading p (is_ended result) (course_does (AsFiles p.account) p.items tasks old new result does) new.store.maildir new.file.content new.lines (RefusedIn result) (UnsavedIn result)
+        → Leading p (is_ended result) (course_does (AsFiles p.account) p.items tasks old new result does) new.store.maildir new.file.content new.lines (RefusedIn result) (UnsavedIn (outcome_of result))
     does_leads (Ok done) new went =
         lead (tally_all laws p starts went.dones new went.all went.went) new.store.maildir new.file.content
         (mid_files went.dones new went.went) (mid_holds went.dones new went.went)
@@ -200,17 +194,17 @@ module _ (laws : Laws) (p : Inputs) (place : Place) (file : Stored) (lines : Lis
 
   -- nothing was planned
   unprepared_leads : (cut : Cut) (new : Scene) → Unprepared (AsFiles p.account) p.items p.now place (in_maildir p.maildir) file lines cut new
-      → Leading p false (course p.items [] [] []) new.store.maildir new.file.content new.lines (RefusedIn (Err cut)) (UnsavedIn (Err cut))
+      → Leading p false (course p.items [] [] []) new.store.maildir new.file.content new.lines (RefusedIn (Err cut)) (UnsavedIn (outcome_of (Err cut)))
   unprepared_leads cut new is = by is.unready.content
     where
       same : SameFiles p.maildir new.store.maildir
       same = unready_files cut.fault p.maildir file new.store.maildir new.file is.unready.cause
 
-      none : Tally p false [] [] [] [] [] new.lines (RefusedIn (Err cut)) (UnsavedIn (Err cut))
+      none : Tally p false [] [] [] [] [] new.lines (RefusedIn (Err cut)) (UnsavedIn (outcome_of (Err cut)))
       none = tally_none laws p new.lines (ap retrieved_in (is.lines_are ∙ no_lines))
 
       -- the record is as it was
-      stays : KeepsRows new.file.content p.rows → Leading p false (course p.items [] [] []) new.store.maildir new.file.content new.lines (RefusedIn (Err cut)) (UnsavedIn (Err cut))
+      stays : KeepsRows new.file.content p.rows → Leading p false (course p.items [] [] []) new.store.maildir new.file.content new.lines (RefusedIn (Err cut)) (UnsavedIn (outcome_of (Err cut)))
       stays keeps' = record {
         rows' = p.rows;
         keeps = keeps';
@@ -232,7 +226,7 @@ module _ (laws : Laws) (p : Inputs) (place : Place) (file : Stored) (lines : Lis
         recorded = inr (refl, refl, refl, refl);
       }
 
-      by : IsMergedAtMost (AsFiles p.account) p.items p.now (in_maildir p.maildir) file new.store new.file → Leading p false (course p.items [] [] []) new.store.maildir new.file.content new.lines (RefusedIn (Err cut)) (UnsavedIn (Err cut))
+      by : IsMergedAtMost (AsFiles p.account) p.items p.now (in_maildir p.maildir) file new.store new.file → Leading p false (course p.items [] [] []) new.store.maildir new.file.content new.lines (RefusedIn (Err cut)) (UnsavedIn (outcome_of (Err cut)))
       by (inl content) = stays (subst (λ (c : Option (List ℕ)). KeepsRows c p.rows) (sym content) keeps)
       by (inr (was, stood, settled, inl left)) = stays (was.intent, subst (λ (r : List Row). FileStandsFor new.file.content r was.intent) (same_rows was stood) left)
       by (inr (was, stood, settled, inr merges)) =
@@ -240,7 +234,7 @@ module _ (laws : Laws) (p : Inputs) (place : Place) (file : Stored) (lines : Lis
           (None, subst (λ (r : List Row). FileStandsFor new.file.content (merged r p.items (flags_of p.account p.maildir p.items) p.now) None) (same_rows was stood) merges)
 
   carried_leads : (result : Result (Unit {0}) Cut) (new : Scene) (skipped : Skips) (is : Carried p.settings (AsFiles p.account) p.items p.now place (in_maildir p.maildir) file lines result new skipped)
-      → Leading p (is_ended result) (course_carried p.settings (AsFiles p.account) p.items p.now place (in_maildir p.maildir) file lines result new skipped is) new.store.maildir new.file.content new.lines (RefusedIn result) (UnsavedIn result)
+      → Leading p (is_ended result) (course_carried p.settings (AsFiles p.account) p.items p.now place (in_maildir p.maildir) file lines result new skipped is) new.store.maildir new.file.content new.lines (RefusedIn result) (UnsavedIn (outcome_of result))
   carried_leads result new skipped is = does_leads laws p starts (ap (λ (s : Stores). s.maildir) is.prepared.settles) result new is.does
     where
       rows : is.mid.rows ≡ rows_on p
@@ -252,7 +246,7 @@ module _ (laws : Laws) (p : Inputs) (place : Place) (file : Stored) (lines : Lis
   carries_leads : (result : Result (Unit {0}) Cut) (place' : Place) (maildir' : Maildir) (file' : Stored) (lines' : List ReportLine) (skipped : Skips)
       (is : Carries p.settings (AsFiles p.account) p.items p.now place (in_maildir p.maildir) file lines result place' (in_maildir maildir') file' lines' skipped)
       → Leading p (is_ended result) (course_carries p.settings (AsFiles p.account) p.items p.now place (in_maildir p.maildir) file lines result place' (in_maildir maildir') file' lines' skipped is)
-      maildir' file'.content lines' (RefusedIn result) (UnsavedIn result)
+      maildir' file'.content lines' (RefusedIn result) (UnsavedIn (outcome_of result))
   carries_leads (Ok done) place' maildir' file' lines' skipped is = carried_leads (Ok done) (scene place' (in_maildir maildir') file' is.0 lines') skipped is.1
   carries_leads (Err cut) place' maildir' file' lines' skipped (rows, inl (none, is)) = unprepared_leads cut (scene place' (in_maildir maildir') file' rows lines') is
   carries_leads (Err cut) place' maildir' file' lines' skipped (rows, inr is) = carried_leads (Err cut) (scene place' (in_maildir maildir') file' rows lines') skipped is
@@ -261,7 +255,7 @@ module _ (laws : Laws) (p : Inputs) (place : Place) (file : Stored) (lines : Lis
 abbrev pub CourseLeads : Settings → List ℕ → ℕ → Result (Unit {0}) Cut → SessionCourse → List Row → AccountFiles → AccountFiles → List ReportLine → Type 0
 CourseLeads settings account now result Idle rows before after lines = (is_ended result ≡ false) × (after ≡ before) × (lines ≡ [])
 CourseLeads settings account now result (Deals course) rows before after lines =
-    Leads settings account now (is_ended result) course rows before.maildir after.maildir after.file.content lines (RefusedIn result) (UnsavedIn result)
+    Leads settings account now (is_ended result) course rows before.maildir after.maildir after.file.content lines (RefusedIn result) (UnsavedIn (outcome_of result))
 
 pub course_leads : (laws : Laws) (settings : Settings) (account : List ℕ) (now : ℕ) (old : Place) (before : AccountFiles) (result : Result (Unit {0}) Cut) (new : Place) (after : AccountFiles) (notes : Noted) (rows : List Row)
     → KeepsRows before.file.content rows → (is : Proceeds settings (AsFiles account) now old (keeps_files before) result new (keeps_files after) notes)

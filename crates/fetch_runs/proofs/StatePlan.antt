@@ -16,7 +16,6 @@ use Rattle.fetch_rules.specs.Plan.{step_of, planned, retrieved}
 use Rattle.fetch_rules.specs.declared.steps.Step.{Step}
 use Rattle.mail_store.specs.Maildir.{Maildir}
 use Rattle.mail_store.specs.FileName.{is_held}
-use Rattle.mail_store.specs.Held.{flags_of}
 use Rattle.pop3_client.specs.Turns.{quit}
 use Rattle.fetch_session.specs.Task.{Task, says, stores, rereads, deletes, fetching, deleting, tasks_in, tasks_planned}
 use Rattle.fetch_session.specs.Plan as Session
@@ -25,9 +24,6 @@ use Rattle.fetch_session.specs.Target.{AsFiles, in_maildir}
 -- the tasks of an account with a Maildir
 abbrev pub tasks_ahead : Settings → List ℕ → List Item → ℕ → Maildir → List Row → List Task
 tasks_ahead settings account items now maildir rows = Session.tasks_ahead settings (AsFiles account) items now (in_maildir maildir) rows
-
-abbrev pub second : ℕ × Item → Item
-second message = message.1
 
 -- the number and the id of a message
 abbrev pub key : ℕ × Item → ℕ × List ℕ
@@ -76,22 +72,15 @@ Safe D items (_ ∷ tasks) = Safe D items tasks
 abbrev pub tasks_at : (ℕ × Item → Step) → (List ℕ → Bool) → ℕ × Item → List Task
 tasks_at f held message = tasks_in (f message) message.1 (held message.1.uid)
 
-by_message : (f : ℕ × Item → Step) (held : List ℕ → Bool) (messages : List (ℕ × Item))
-    → tasks_planned (map f messages) (map second messages) (map (λ (item : Item). held item.uid) (map second messages)) ≡ flat_map (tasks_at f held) messages
-by_message f held [] = refl
-by_message f held (q ∷ qs) = ap (λ l. tasks_at f held q ++ l) (by_message f held qs)
-
-numbered_items : (n : ℕ) (items : List Item) → map second (enumerate_from n items) ≡ items
-numbered_items n [] = refl
-numbered_items n (item ∷ items) = ap (λ l. item ∷ l) (numbered_items (n + 1) items)
+by_message : (f : ℕ × Item → Step) (held : List ℕ → Bool) (n : ℕ) (items : List Item)
+    → tasks_planned (map f (enumerate_from n items)) items (map (λ (item : Item). held item.uid) items) ≡ flat_map (tasks_at f held) (enumerate_from n items)
+by_message f held n [] = refl
+by_message f held n (item ∷ items) = ap (λ l. tasks_at f held (n, item) ++ l) (by_message f held (n + 1) items)
 
 -- the tasks of a plan are those of its messages, and QUIT
 pub tasks_are : (settings : Settings) (account : List ℕ) (items : List Item) (now : ℕ) (maildir : Maildir) (rows : List Row)
     → tasks_ahead settings account items now maildir rows ≡ flat_map (tasks_at (step_of settings rows items now) (is_held account maildir)) (numbered items) ++ says quit ∷ []
-tasks_are settings account items now maildir rows =
-    ap (λ l. l ++ says quit ∷ [])
-    (ap (λ (is : List Item). tasks_planned (planned settings rows items now) is (flags_of account maildir is)) (sym (numbered_items 1 items))
-    ∙ by_message (step_of settings rows items now) (is_held account maildir) (numbered items))
+tasks_are settings account items now maildir rows = ap (λ l. l ++ says quit ∷ []) (by_message (step_of settings rows items now) (is_held account maildir) 1 items)
 
 -- ---- what is fetched
 
@@ -128,8 +117,7 @@ right_by : (account : List ℕ) (maildir : Maildir) (items : List Item) (r h d :
     → (d ≡ true → IsRight account maildir items (deletes n)) → AllByRecursion (IsRight account maildir items) (fetching r h n uid size ++ deleting d n)
 right_by account maildir items true true true n uid size held listed at = ((held, listed), (at refl, tt))
 right_by account maildir items true false true n uid size held listed at = ((held, listed), (at refl, tt))
-right_by account maildir items false true true n uid size held listed at = (tt, (at refl, tt))
-right_by account maildir items false false true n uid size held listed at = (tt, (at refl, tt))
+right_by account maildir items false h true n uid size held listed at = (tt, (at refl, tt))
 right_by account maildir items r h d n uid size held listed at = search rules
 
 -- a message is at its number, which counts from 1, and is listed
@@ -143,19 +131,15 @@ stands (x ∷ front) behind item =
     let there = stands front behind item in
     (there.0, ap (λ b. bytes_eq item.uid x.uid || b) there.1 ∙ or-true (bytes_eq item.uid x.uid))
 
-at_number : (front behind : List Item) (item : Item) (n : ℕ) → n ≡ length front + 1 → IsAt (front ++ item ∷ behind) (n, item)
-at_number front behind item n is =
-    let place : n - 1 ≡ length front = omega (arith, is) in
-    let there = stands front behind item in
-    (ap (λ (k : ℕ). slice_get (front ++ item ∷ behind) k) place ∙ there.0, there.1, omega (arith, is))
-
 all_stand : (items front behind : List Item) (n : ℕ) → items ≡ front ++ behind → n ≡ length front + 1 → AllByRecursion (IsAt items) (enumerate_from n behind)
 all_stand items front [] n split is = tt
-all_stand items front (item ∷ behind) n split is = (
-  subst (λ (all : List Item). IsAt all (n, item)) (sym split) (at_number front behind item n is),
-  all_stand items (front ++ item ∷ []) behind (n + 1) (split ∙ sym (append_assoc front (item ∷ []) behind))
-      (ap (λ (k : ℕ). k + 1) is ∙ ap (λ (k : ℕ). k + 1) (sym (length-append front (item ∷ [])))),
-)
+all_stand items front (item ∷ behind) n split is =
+    let place : n - 1 ≡ length front = omega (arith, is) in
+    let there = stands front behind item in (
+      subst (λ (all : List Item). IsAt all (n, item)) (sym split) (ap (λ (k : ℕ). slice_get (front ++ item ∷ behind) k) place ∙ there.0, there.1, omega (arith, is)),
+      all_stand items (front ++ item ∷ []) behind (n + 1) (split ∙ sym (append_assoc front (item ∷ []) behind))
+          (ap (λ (k : ℕ). k + 1) is ∙ ap (λ (k : ℕ). k + 1) (sym (length-append front (item ∷ [])))),
+    )
 
 right_all : (account : List ℕ) (maildir : Maildir) (items : List Item) (f : ℕ × Item → Step) → ((q : ℕ × Item) → (f q).number ≡ q.0) → ((q : ℕ × Item) → (f q).delete ≡ true → IsAlone items q)
     → (qs : List (ℕ × Item)) → AllByRecursion (IsAt items) qs → AllByRecursion (IsRight account maildir items) (flat_map (tasks_at f (is_held account maildir)) qs)
@@ -166,16 +150,12 @@ right_all account maildir items f same alone (q ∷ qs) at =
     (λ is. subst (λ (n : ℕ). IsRight account maildir items (deletes n)) (sym (same q)) (q.1, at.0.0, at.0.2, alone q is)))
     (right_all account maildir items f same alone qs at.1)
 
--- a message is deleted only if no other has its id
-deleted_alone : (settings : Settings) (rows : List Row) (items : List Item) (now : ℕ) (q : ℕ × Item) → (step_of settings rows items now q).delete ≡ true → IsAlone items q
-deleted_alone settings rows items now q is = grind (arith, is)
-
 pub right_ahead : (settings : Settings) (account : List ℕ) (items : List Item) (now : ℕ) (maildir : Maildir) (rows : List Row)
     → AllByRecursion (IsRight account maildir items) (tasks_ahead settings account items now maildir rows)
 right_ahead settings account items now maildir rows =
     subst (AllByRecursion (IsRight account maildir items)) (sym (tasks_are settings account items now maildir rows))
     (all_append (IsRight account maildir items) (flat_map (tasks_at (step_of settings rows items now) (is_held account maildir)) (numbered items)) (says quit ∷ [])
-    (right_all account maildir items (step_of settings rows items now) (λ q. refl) (deleted_alone settings rows items now) (numbered items) (all_stand items [] items 1 refl refl)) (tt, tt))
+    (right_all account maildir items (step_of settings rows items now) (λ q. refl) (λ q is. grind (arith, is)) (numbered items) (all_stand items [] items 1 refl refl)) (tt, tt))
 
 -- ---- what is deleted
 
@@ -184,11 +164,10 @@ safe_by : (D : List ℕ → Type 0) (items : List Item) (r h d : Bool) (n : ℕ)
     → Safe D items ((fetching r h n uid size ++ deleting d n) ++ later)
 safe_by D items true true true n uid size later due held at safe = (at (held refl), safe)
 safe_by D items true false true n uid size later due held at safe = λ stored. (at stored, safe)
-safe_by D items false h true n uid size later due held at safe = (at (known (due refl)), safe)
-  where
-    known : (false ≡ true) ⊎ D uid → D uid
-    known (inl never) = absurd (true≢false (sym never))
-    known (inr is) = is
+safe_by D items false h true n uid size later due held at safe = elim (due refl) [
+  | inl never ↦ absurd (true≢false (sym never))
+  | inr is ↦ (at is, safe)
+]
 safe_by D items r h d n uid size later due held at safe = search rules
 
 safe_all : (D : List ℕ → Type 0) (account : List ℕ) (maildir : Maildir) (items : List Item) (f : ℕ × Item → Step) → ((q : ℕ × Item) → (f q).number ≡ q.0)
@@ -202,11 +181,6 @@ safe_all D account maildir items f same due held (q ∷ qs) later at safe =
     (λ is. subst (λ (n : ℕ). AllByRecursion D (uids_in (slice_get items (n - 1)))) (sym (same q)) (subst (λ (o : Option Item). AllByRecursion D (uids_in o)) (sym at.0.0) (is, tt)))
     (safe_all D account maildir items f same due held qs later at.1 safe))
 
--- a message is deleted only if it is known or fetched
-due_known : (settings : Settings) (rows : List Row) (items : List Item) (now : ℕ) (q : ℕ × Item) → (step_of settings rows items now q).delete ≡ true
-    → ((step_of settings rows items now q).retrieve ≡ true) ⊎ (is_delivered rows q.1.uid ≡ true)
-due_known settings rows items now q is = grind (arith, is)
-
 -- a plan is safe for what holds of each id that is recorded as delivered after the merge, or is held and listed
 pub safe_ahead : (D : List ℕ → Type 0) (settings : Settings) (account : List ℕ) (items : List Item) (now : ℕ) (maildir : Maildir) (rows : List Row)
     → ((uid : List ℕ) → is_delivered rows uid ≡ true → D uid) → ((uid : List ℕ) → has_item items uid ≡ true → is_held account maildir uid ≡ true → D uid)
@@ -216,7 +190,9 @@ safe_ahead D settings account items now maildir rows known held =
     (safe_all D account maildir items (step_of settings rows items now) (λ q. refl) due held (numbered items) (says quit ∷ []) (all_stand items [] items 1 refl refl) tt)
   where
     due : (q : ℕ × Item) → (step_of settings rows items now q).delete ≡ true → ((step_of settings rows items now q).retrieve ≡ true) ⊎ D q.1.uid
-    due q is = elim (due_known settings rows items now q is) [
-      | inl taken ↦ inl taken
-      | inr delivered ↦ inr (known q.1.uid delivered)
-    ]
+    due q is =
+        let known_or_fetched : ((step_of settings rows items now q).retrieve ≡ true) ⊎ (is_delivered rows q.1.uid ≡ true) = grind (arith, is) in
+        elim known_or_fetched [
+          | inl taken ↦ inl taken
+          | inr delivered ↦ inr (known q.1.uid delivered)
+        ]

@@ -1,5 +1,5 @@
 -- The commands and the replies of a conversation, and the tasks of a plan as commands.
-use Rattle.std.proofs.Common.{◌≡◌, inl, inr, ◌⊎◌, ℕ, List, [], ◌∷◌, ◌++◌, true, None, Some, refl, sym, ap, subst, ◌∙◌, append_assoc, ◌<◌, ◌^◌, Bool, Option, ◌≤◌, ◌+◌, false, length, map, arith, rules}
+use Rattle.std.proofs.Common.{◌≡◌, inl, inr, ◌⊎◌, ℕ, List, [], ◌∷◌, ◌++◌, true, None, Some, refl, sym, ap, subst, ◌∙◌, append_assoc, ◌<◌, ◌^◌, Bool, Option, ◌≤◌, ◌+◌, length, map, arith, rules}
 use Rattle.std.specs.List.{flat_map, AllByRecursion, AllZip, enumerate_from}
 use Rattle.std.proofs.lemmas.List.{append-nil}
 use Rattle.std.proofs.lemmas.List.Concat.{flat_map-append}
@@ -14,7 +14,7 @@ use Rattle.run_law.specs.Sessions.{BeginsOne}
 use Rattle.fetch_runs.proofs.Lists.{all_append}
 use Rattle.fetch_runs.specs.Conversations.{SentBehind, Conversation}
 use Rattle.std.proofs.lemmas.Bool.{true≢false}
-use Rattle.pop3_wire.specs.declared.command.Command.TheVariants.{Retr, Dele, Quit}
+use Rattle.pop3_wire.specs.declared.command.Command.TheVariants.{Retr}
 use Rattle.pop3_wire.specs.Body.{Body}
 use Rattle.pop3_client.specs.Texts.{body_text}
 use Rattle.run_law.specs.Readings.{AreGood, Retrieves, IsGood as IsRead}
@@ -102,40 +102,32 @@ pub record Commanded (done begun tail : List Turn) (sent : List ℕ) : Type 0 wh
   pub of_begun : commands_in begun ≡ ahead ++ unsaid
   pub of_tail : commands_in tail ≡ ends ++ unended
   pub asked : Asked (commands_in done ++ (ahead ++ ends)) sent
-  pub next : List Command
-  pub next_is : (next ≡ unsaid) ⊎ (next ≡ unended)
-  pub begins : BeginsNext next asked.part
+  pub begins : BeginsNext unsaid asked.part ⊎ BeginsNext unended asked.part
 
 spoken_behind : (turns : List Turn) (more next : List Command) (octets : List ℕ) → AllByRecursion CanBeSaid turns → Spoken more next octets → Spoken (commands_in turns ++ more) next (asking turns ++ octets)
 spoken_behind turns more next octets can (asked, begins) = subst (λ (l : List ℕ). Spoken (commands_in turns ++ more) next (l ++ octets)) (sym (octets_same turns))
     (asked_behind (commands_in turns) more octets (sendable_in turns can) (numbers_in turns can) asked, begins)
 
-commanded_of : {done begun tail : List Turn} {sent : List ℕ} (ahead unsaid ends unended next : List Command) → commands_in begun ≡ ahead ++ unsaid → commands_in tail ≡ ends ++ unended → (next ≡ unsaid) ⊎ (next ≡ unended)
-    → Spoken (commands_in done ++ (ahead ++ ends)) next sent → Commanded done begun tail sent
-commanded_of ahead unsaid ends unended next of_begun of_tail next_is (asked, begins) = record {
-  ahead = ahead;
-  unsaid = unsaid;
-  ends = ends;
-  unended = unended;
-  of_begun = of_begun;
-  of_tail = of_tail;
-  asked = asked;
-  next = next;
-  next_is = next_is;
-  begins = begins;
-}
-
 commanded_by : FrontsAreAsked → (done begun tail : List Turn) (behind : List ℕ) → AllByRecursion CanBeSaid done → AllByRecursion CanBeSaid begun → AllByRecursion CanBeSaid tail
     → SentBehind begun tail behind → Commanded done begun tail (asking done ++ behind)
 commanded_by law done begun tail behind d b t (inl (later, front)) =
     let some = law (commands_in begun) behind later (sendable_in begun b) (numbers_in begun b) (sym (octets_same begun) ∙ front) in
-    commanded_of some.0 some.1 [] (commands_in tail) some.1 some.2 refl (inl refl)
-    (spoken_behind done (some.0 ++ []) some.1 behind d (subst (λ (cs : List Command). Spoken cs some.1 behind) (sym (append-nil some.0)) (some.3, some.4)))
+    let all = spoken_behind done (some.0 ++ []) some.1 behind d (subst (λ (cs : List Command). Spoken cs some.1 behind) (sym (append-nil some.0)) (some.3, some.4)) in
+    record { ahead = some.0; unsaid = some.1; ends = []; unended = commands_in tail; of_begun = some.2; of_tail = refl; asked = all.0; begins = inl all.1 }
 commanded_by law done begun tail behind d b t (inr (part, later, front, whole)) =
     let some = law (commands_in tail) part later (sendable_in tail t) (numbers_in tail t) (sym (octets_same tail) ∙ front) in
-    commanded_of (commands_in begun) [] some.0 some.1 some.1 (sym (append-nil (commands_in begun))) some.2 (inr refl)
-    (spoken_behind done (commands_in begun ++ some.0) some.1 behind d
-    (subst (λ (l : List ℕ). Spoken (commands_in begun ++ some.0) some.1 l) (sym whole) (spoken_behind begun some.0 some.1 part b (some.3, some.4))))
+    let all = spoken_behind done (commands_in begun ++ some.0) some.1 behind d
+    (subst (λ (l : List ℕ). Spoken (commands_in begun ++ some.0) some.1 l) (sym whole) (spoken_behind begun some.0 some.1 part b (some.3, some.4))) in
+    record {
+      ahead = commands_in begun;
+      unsaid = [];
+      ends = some.0;
+      unended = some.1;
+      of_begun = sym (append-nil (commands_in begun));
+      of_tail = some.2;
+      asked = all.0;
+      begins = inr all.1;
+    }
 
 pub commanded : FrontsAreAsked → (done : List Turn) (replies : List WholeReply) (begun tail : List Turn) (sent got : List ℕ) → AllByRecursion CanBeSaid done
     → AllByRecursion CanBeSaid begun → AllByRecursion CanBeSaid tail → Conversation done replies begun tail sent got → Commanded done begun tail sent
@@ -188,19 +180,13 @@ one_reply P turn replies good of_one = search rules
 -- what one task's replies retrieve, before others
 read_first : (task : Task) (replies others : List WholeReply) (commands : List Command) (found : List (ℕ × List ℕ)) → IsPlain task → AllZip IsGood (turns_in task) replies
     → Retrieves commands others found → Retrieves (commands_in (turns_in task) ++ commands) (replies ++ others) (found_in task replies ++ found)
-read_first (says turn) replies others commands found is good later =
-    subst (λ (t : Turn). AllZip IsGood (t ∷ []) replies → Retrieves (commands_in (t ∷ []) ++ commands) (replies ++ others) found) (sym is)
-    (λ good'. one_reply (λ (rs : List WholeReply). Retrieves (Quit ∷ commands) (rs ++ others) found) quit replies good' (λ r g. later)) good
+read_first (says turn) (r ∷ []) others commands found is good later =
+    subst (λ (t : Turn). Retrieves (commands_in (t ∷ []) ++ commands) (r ∷ others) found) (sym is) later
 read_first (skips number size) [] others commands found is good later = later
-read_first (skips number size) (r ∷ rs) others commands found is good later = absurd good
-read_first (stores number uid) replies others commands found is good later =
-    one_reply (λ (rs : List WholeReply). Retrieves (Retr number ∷ commands) (rs ++ others) (found_in (stores number uid) rs ++ found)) (retr number) replies good
-    (λ r g. (body_text r.body, found, text_read number r g, refl, later))
-read_first (rereads number uid) replies others commands found is good later =
-    one_reply (λ (rs : List WholeReply). Retrieves (Retr number ∷ commands) (rs ++ others) (found_in (rereads number uid) rs ++ found)) (retr number) replies good
-    (λ r g. (body_text r.body, found, text_read number r g, refl, later))
-read_first (deletes number) replies others commands found is good later =
-    one_reply (λ (rs : List WholeReply). Retrieves (Dele number ∷ commands) (rs ++ others) found) (dele number) replies good (λ r g. later)
+read_first (stores number uid) (r ∷ []) others commands found is good later = (body_text r.body, found, text_read number r good.0, refl, later)
+read_first (rereads number uid) (r ∷ []) others commands found is good later = (body_text r.body, found, text_read number r good.0, refl, later)
+read_first (deletes number) (r ∷ []) others commands found is good later = later
+read_first task replies others commands found is good later = search rules
 
 pub commands_on : (xs ys : List Turn) (more : List Command) → commands_in (xs ++ ys) ++ more ≡ commands_in xs ++ (commands_in ys ++ more)
 commands_on xs ys more = ap (λ (l : List Command). l ++ more) (flat_map-append said_in xs ys) ∙ append_assoc (commands_in xs) (commands_in ys) more
@@ -228,13 +214,10 @@ nothing_found other = refl
 abbrev IsSmall : Step → Type 0
 IsSmall step = step.number < 2 ^ 32
 
-plain_fetching : (retrieve held : Bool) (number size : ℕ) (uid : List ℕ) → number < 2 ^ 32 → AllByRecursion IsPlain (fetching retrieve held number uid size)
-plain_fetching true true number size uid small = (small, tt)
-plain_fetching retrieve held number size uid small = search rules
-
-plain_deleting : (delete : Bool) (number : ℕ) → number < 2 ^ 32 → AllByRecursion IsPlain (deleting delete number)
-plain_deleting true number small = (small, tt)
-plain_deleting false number small = tt
+plain_step : (retrieve held delete : Bool) (number size : ℕ) (uid : List ℕ) → number < 2 ^ 32
+    → AllByRecursion IsPlain (fetching retrieve held number uid size ++ deleting delete number)
+plain_step true true true number size uid small = (small, (small, tt))
+plain_step retrieve held delete number size uid small = search rules
 
 plain_planned : (steps : List Step) (items : List Item) (held : List Bool) → AllByRecursion IsSmall steps → AllByRecursion IsPlain (tasks_planned steps items held)
 plain_planned [] items held small = tt
@@ -242,8 +225,7 @@ plain_planned (s ∷ steps) [] held small = tt
 plain_planned (s ∷ steps) (i ∷ items) [] small = tt
 plain_planned (s ∷ steps) (i ∷ items) (h ∷ held) small =
     all_append IsPlain (fetching s.retrieve h s.number i.uid i.size ++ deleting s.delete s.number) (tasks_planned steps items held)
-    (all_append IsPlain (fetching s.retrieve h s.number i.uid i.size) (deleting s.delete s.number) (plain_fetching s.retrieve h s.number i.size i.uid small.0) (plain_deleting s.delete s.number small.0))
-    (plain_planned steps items held small.1)
+    (plain_step s.retrieve h s.delete s.number i.size i.uid small.0) (plain_planned steps items held small.1)
 
 small_steps : (f : ℕ × Item → Step) → ((q : ℕ × Item) → (f q).number ≡ q.0) → (n : ℕ) (items : List Item) → n + length items ≤ 2 ^ 32 → AllByRecursion IsSmall (map f (enumerate_from n items))
 small_steps f same n [] within = tt

@@ -1,22 +1,18 @@
 -- Each session is one conversation: by its plan if its listing was joined, otherwise of the opening alone.
-use Rattle.std.proofs.Common.{◌≡◌, ◌≤◌, ◌⊎◌, inl, inr, ℕ, List, [], ◌∷◌, ◌++◌, length, Result, Ok, Err, refl, sym, ap, subst, ◌∙◌, append_assoc, ◌+◌, Bool, true, false, cond, map, Some, arith}
+use Rattle.std.proofs.Common.{◌≡◌, ◌≤◌, ◌⊎◌, inl, inr, ℕ, List, [], ◌∷◌, ◌++◌, length, Result, Ok, Err, refl, sym, ap, subst, ◌∙◌, append_assoc, ◌+◌, Bool, true, false, cond, map, Some, arith, rules}
 use Rattle.std.specs.List.{AllByRecursion, flat_map, count_by, AllZip, enumerate_from}
 use Rattle.std.proofs.lemmas.List.{append-nil, map-append}
 use Rattle.std.proofs.lemmas.List.Concat.{flat_map-append}
-use Rattle.pop3_wire.specs.Bodies.{Rest}
-use Rattle.pop3_wire.specs.declared.unstuffer.Spot.TheVariants.{Done as AtEnd}
 use Rattle.pop3_wire.specs.Link.{Link}
 use Rattle.pop3_wire.specs.Place.{Place, at}
 use Rattle.pop3_wire.specs.Reading.{WholeReply}
 use Rattle.pop3_client.specs.Turns.{Turn, retr, quit, IsGood}
-use Rattle.pop3_client.specs.Texts.{Fetched}
 use Rattle.pop3_client.specs.Conversation.{ConversationsArePaced, Talks, TurnsJoin}
 use Rattle.mail_terms.specs.Listing.{Item, Joins}
 use Rattle.fetch_rules.specs.Record.{Row}
 use Rattle.rc_file.specs.declared.settings.Settings.{Settings}
 use Rattle.mail_store.specs.FileName.{stem_of, is_held}
 use Rattle.mail_store.specs.FlatFile.{Stored}
-use Rattle.mail_store.specs.Maildir.{Maildir}
 use Rattle.fetch_session.specs.declared.fault.Cut.{Cut}
 use Rattle.pop3_client.specs.declared.fault.ClientFault.{ClientFault}
 use Rattle.fetch_session.specs.declared.fault.Fault.{Fault}
@@ -25,20 +21,20 @@ use Rattle.fetch_session.specs.declared.fault.Why.TheVariants.{Refused}
 use Rattle.fetch_session.specs.declared.report.Outcome.TheVariants.{Cut as WasCut, Ended}
 use Rattle.fetch_session.specs.declared.report.ReportLine.{ReportLine}
 use Rattle.fetch_session.specs.declared.report.Skips.{Skips}
-use Rattle.fetch_session.specs.Task.{Task, stores, Done, task_in, tasks_of, lines_in, lines_of, delivered, says, skips, rereads, deletes, fetching, deleting, tasks_planned, turns_in, turns_of, IsAnswered}
+use Rattle.fetch_session.specs.Task.{Task, stores, Done, task_in, tasks_of, lines_in, lines_of, delivered, says, rereads, fetching, deleting, tasks_planned, turns_in, turns_of, IsAnswered}
 use Rattle.fetch_session.specs.Fault.{fault_of}
 use Rattle.fetch_session.specs.Tail.{tail, Left, turns_in as tail_turns}
-use Rattle.fetch_session.specs.Plan.{tasks_ahead, Prepared, Unprepared, Carried, Carries}
-use Rattle.fetch_session.specs.Scene.{Scene, scene, Fell, Stops, Does}
+use Rattle.fetch_session.specs.Plan.{tasks_ahead, Prepared, Carried, Carries}
+use Rattle.fetch_session.specs.Scene.{Scene, scene, NoFile, Fell, Stops, Does}
 use Rattle.fetch_session.specs.Target.{Target, AsFiles, AsEntries, Stores}
-use Rattle.fetch_session.specs.Session.{LeavesLink, outcome_of, Keeping, Noted, NotEntered, NoRoom, Dealt, Proceeds, SessionIn, keeps_entries, AccountFiles, keeps_files}
+use Rattle.fetch_session.specs.Session.{LeavesLink, Enters_with, outcome_of, Keeping, Noted, NotEntered, NoRoom, Dealt, Proceeds, SessionIn, keeps_entries, AccountFiles, keeps_files}
 use Rattle.fetch_session.specs.Store.{RefusesText}
 use Rattle.fetch_runs.proofs.Lists.{all_front}
 use Rattle.fetch_runs.specs.Conversations.{AreFound, tail_behind, is_retrieval, retrieved_by, Conversation, plan_turns, FollowsPlan, MboxSessionsFollowPlans, Converses, CountsTexts, Opens, SpeaksByPlan, SessionsAreConversations}
-use Rattle.fetch_runs.proofs.Courses.{Course, course, stored_done, spare_in, spare_of, course_stopped, course_does, course_carried, course_carries, begun_of, SessionCourse, Idle, Deals, course_dealt, course_proceeded, session_course_of, IsOfTask}
-use Rattle.fetch_runs.proofs.TalkCommands.{IsPlain, plain_ahead, one_reply, commands_in, CanBeSaid, Commanded, said_tasks, both_none}
-use Rattle.fetch_runs.proofs.TalkCourses.{Took, took_stopped, took_nothing, all_done, goes_nothing}
-use Rattle.fetch_runs.proofs.TalkSpeech.{IsTail, is_tail, silent, front_of_plan, OpensAlone, opens_all, opens_cut, commanded_opening, replied, few_items, Speaks, spoken, commanded_after, idle_said, Replied, listed}
+use Rattle.fetch_runs.proofs.Courses.{Course, course, stored_done, spare_in, course_stopped, course_does, course_carried, course_carries, begun_of, SessionCourse, Idle, Deals, course_dealt, course_proceeded, session_course_of}
+use Rattle.fetch_runs.proofs.TalkCommands.{IsPlain, plain_ahead, commands_in, CanBeSaid, Commanded, said_tasks, both_none}
+use Rattle.fetch_runs.proofs.TalkCourses.{Took, took_stopped, took_nothing, all_done}
+use Rattle.fetch_runs.proofs.TalkSpeech.{IsTail, is_tail, silent, front_of_plan, OpensAlone, opens_all, opens_cut, commanded_opening, replied, few_items, Speaks, spoken, commanded_after, Replied, listed}
 use Rattle.std.proofs.lemmas.List.Sums.{sum_by-append}
 use Rattle.pop3_wire.specs.declared.command.Command.{Command}
 use Rattle.pop3_wire.specs.declared.command.Command.TheVariants.{Retr, Dele, Quit}
@@ -48,12 +44,9 @@ use Rattle.run_law.specs.Plans.{asked_if, step_commands, IsFrontOfPlan}
 use Rattle.fetch_session.specs.Report.{is_taken, Reports}
 use Rattle.std.specs.String.{string_bytes}
 use Rattle.pop3_wire.specs.Honest.{Asked, FrontsAreAsked}
-use Rattle.mail_terms.specs.declared.listing.UidRow.{UidRow}
-use Rattle.mail_terms.specs.declared.listing.ScanRow.{ScanRow}
 use Rattle.rc_file.specs.Settings.{IsValid}
-use Rattle.fetch_session.specs.Opening.{opening, Opened}
+use Rattle.fetch_session.specs.Opening.{opening}
 use Rattle.fetch_session.specs.declared.report.Report.{Report}
-use Rattle.run_law.specs.Sessions.{BeginsOne}
 use Rattle.fetch_session.specs.declared.report.Outcome.{Outcome}
 
 -- ---- What each session sent and read, as the law over runs takes it.
@@ -85,14 +78,11 @@ pub record Ahead (target : Target) (items : List Item) (tasks : List Task) (line
   pub spare : (reply : WholeReply) → c.spare ≡ reply ∷ [] → IsRefusedIn target result
   pub whole : IsWhole result c.under later
 
-no_spare : {P : Type 0} (reply : WholeReply) → [] ≡ reply ∷ [] → P
-no_spare reply e = absurd cc
-
-spare_refused : (number : ℕ) (start there : Place) (rest : Rest) (text : List ℕ) (old now : Maildir) (file : List ℕ) (fault : Fault)
-    → (whole : rest.spot ≡ AtEnd → Fetched (retr number) start text there) → (refuses : RefusesText old file rest text fault now) → (reply : WholeReply)
-    → spare_in number start there rest text old now file fault whole refuses ≡ reply ∷ [] → fault ≡ StoreRefused Refused
-spare_refused number start there rest text old now file fault whole (inl missing) reply e = no_spare reply e
-spare_refused number start there rest text old now file fault whole (inr (is, which)) reply e = is
+spare_refused : {account : List ℕ} {next : Task} {old new : Scene} {cut : Cut} (refused : NoFile account next old new cut)
+    → (refuses : RefusesText old.store.maildir (stem_of account refused.uid) refused.rest refused.text cut.fault new.store.maildir)
+    → (reply : WholeReply) → spare_in refused refuses ≡ reply ∷ [] → cut.fault ≡ StoreRefused Refused
+spare_refused refused (inl missing) reply e = absurd cc
+spare_refused refused (inr (is, which)) reply e = is
 
 ahead_stopped : (target : Target) (items : List Item) (tasks : List Task) (old new : Scene) (cut : Cut) (fell : Fell target tasks old cut new)
     → Ahead target items tasks old.lines new.lines (Err cut) (course_stopped target items fell.dones fell.next fell.mid new cut fell.stops)
@@ -114,15 +104,14 @@ ahead_stopped target items tasks old new cut fell = by target fell.went.lines fe
           ∙ ap (λ (ts : List Task). ts ++ fell.later) (sym (map-append task_in fell.dones (stored_done number uid reply ∷ [])) ∙ sym (append-nil (tasks_of (fell.dones ++ stored_done number uid reply ∷ []))));
       told = told ∙ ap (λ (l : List ReportLine). l ++ delivered number reply ∷ []) first ∙ append_assoc old.lines (lines_of fell.dones) (delivered number reply ∷ [])
           ∙ ap (λ (l : List ReportLine). old.lines ++ l) (sym (flat_map-append (λ (d : Done). lines_in d.task d.replies) fell.dones (stored_done number uid reply ∷ [])));
-      spare = λ other e. no_spare other e;
+      spare = λ other e. absurd cc;
       whole = tt;
     }
 
     by : (to : Target) → fell.mid.lines ≡ old.lines ++ lines_of fell.dones → (how : Stops to fell.next fell.mid cut new) → Ahead to items tasks old.lines new.lines (Err cut) (course_stopped to items fell.dones fell.next fell.mid new cut how)
-    by to first (inl broken) = passed to [] first broken.lines (λ reply e. no_spare reply e)
+    by to first (inl broken) = passed to [] first broken.lines (λ reply e. absurd cc)
     by (AsFiles account) first (inr (inl r)) =
-        passed (AsFiles account) (spare_of account fell.next fell.mid new cut r) first r.lines
-        (λ reply e. ap WasCut (spare_refused r.number fell.mid.place new.place r.rest r.text fell.mid.store.maildir new.store.maildir (stem_of account r.uid) cut.fault r.whole r.refuses reply e))
+        passed (AsFiles account) (spare_in r r.refuses) first r.lines (λ reply e. ap WasCut (spare_refused r r.refuses reply e))
     by (AsFiles account) first (inr (inr unsaved)) = stored (AsFiles account) unsaved.number unsaved.uid unsaved.reply first unsaved.is unsaved.lines
     by AsEntries first (inr (inl (inl wanting))) = passed AsEntries [] first wanting.lines (λ reply e. tt)
     by AsEntries first (inr (inl (inr (inl refused)))) = passed AsEntries (refused.reply ∷ []) first refused.lines (λ reply e. tt)
@@ -131,7 +120,7 @@ ahead_stopped target items tasks old new cut fell = by target fell.went.lines fe
       same_items = refl;
       split = fell.split ∙ ap (λ (ts : List Task). ts ++ (fell.next ∷ fell.later)) (sym (append-nil (tasks_of fell.dones)));
       told = stays.lines ∙ first;
-      spare = λ reply e. no_spare reply e;
+      spare = λ reply e. absurd cc;
       whole = tt;
     }
     by AsEntries first (inr (inr unsaved)) = stored AsEntries unsaved.number unsaved.uid unsaved.reply first unsaved.is unsaved.lines
@@ -143,7 +132,7 @@ ahead_does target items tasks old new (Ok done) went = record {
   same_items = refl;
   split = went.all ∙ sym (append-nil (tasks_of went.dones)) ∙ sym (append-nil (tasks_of went.dones ++ []));
   told = went.went.lines;
-  spare = λ reply e. no_spare reply e;
+  spare = λ reply e. absurd cc;
   whole = (refl, refl);
 }
 ahead_does target items tasks old new (Err cut) fell = ahead_stopped target items tasks old new cut fell
@@ -170,7 +159,8 @@ module _ (joining : TurnsJoin) (paced : ConversationsArePaced) where
       → AllByRecursion IsPlain tasks → LeavesLink result new.place link → Took (course_does target items tasks old new result does) old.place (tail_for result) link
   took_does target items tasks old new (Ok done) link went plain leaves =
       subst (λ (l : Link). Took (course items went.dones [] []) old.place [] l) (sym leaves)
-      (all_done joining paced items went.dones [] old.place new.place new.place.link went.went.talked (subst (AllByRecursion IsPlain) went.all plain) went.went.each (goes_nothing [] new.place.link))
+      (all_done joining paced items went.dones [] old.place new.place new.place.link went.went.talked (subst (AllByRecursion IsPlain) went.all plain) went.went.each
+      (record { gained = []; got = sym (append-nil new.place.link.got); behind = []; sent = sym (append-nil new.place.link.sent); sent_behind = inl ([], refl) }))
   took_does target items tasks old new (Err cut) link fell plain leaves =
       subst (λ (l : Link). Took (course_stopped target items fell.dones fell.next fell.mid new cut fell.stops) old.place (tail_turns (tail cut.fault)) l) (sym leaves.2)
       (took_stopped joining paced items target fell.dones fell.next old fell.mid new cut leaves.0 fell.went
@@ -189,28 +179,24 @@ module _ (joining : TurnsJoin) (paced : ConversationsArePaced) where
       found = inl (found_prepared target items now place store file lines is.mid is.prepared);
     }
 
-    dealing_unprepared : (cut : Cut) (new : Scene) (link : Link) → Unprepared target items now place store file lines cut new → LeavesLink (Err cut) new.place link
-        → Dealing settings target items now store file lines new.lines (course items [] [] []) place (Err cut) link
-    dealing_unprepared cut new link is leaves = record {
+    pub dealing : (result : Result (Unit {0}) Cut) (place' : Place) (store' : Stores) (file' : Stored) (lines' : List ReportLine) (skipped : Skips) (link : Link)
+        → (is : Carries settings target items now place store file lines result place' store' file' lines' skipped) → LeavesLink result place' link
+        → Dealing settings target items now store file lines lines' (course_carries settings target items now place store file lines result place' store' file' lines' skipped is) place result link
+    dealing (Ok done) place' store' file' lines' skipped link is leaves = dealing_carried (Ok done) (scene place' store' file' is.0 lines') skipped link is.1 leaves
+    dealing (Err cut) place' store' file' lines' skipped link (rows, inl (none, is)) leaves = record {
       rows = [];
       ahead = record {
         later = tasks_ahead settings target items now store [];
         same_items = refl;
         split = refl;
         told = is.lines_are ∙ sym (append-nil lines);
-        spare = λ reply e. no_spare reply e;
+        spare = λ reply e. absurd cc;
         whole = tt;
       };
       took = subst (λ (l : Link). Took (course items [] [] []) place (tail_turns (tail cut.fault)) l) (sym leaves.2)
           (took_nothing joining paced items cut place leaves.0 is.none (subst (λ (p : Place). Left cut p leaves.0) is.place_is leaves.1));
       found = inr refl;
     }
-
-    pub dealing : (result : Result (Unit {0}) Cut) (place' : Place) (store' : Stores) (file' : Stored) (lines' : List ReportLine) (skipped : Skips) (link : Link)
-        → (is : Carries settings target items now place store file lines result place' store' file' lines' skipped) → LeavesLink result place' link
-        → Dealing settings target items now store file lines lines' (course_carries settings target items now place store file lines result place' store' file' lines' skipped is) place result link
-    dealing (Ok done) place' store' file' lines' skipped link is leaves = dealing_carried (Ok done) (scene place' store' file' is.0 lines') skipped link is.1 leaves
-    dealing (Err cut) place' store' file' lines' skipped link (rows, inl (none, unprepared)) leaves = dealing_unprepared cut (scene place' store' file' rows lines') link unprepared leaves
     dealing (Err cut) place' store' file' lines' skipped link (rows, inr is) leaves = dealing_carried (Err cut) (scene place' store' file' rows lines') skipped link is leaves
 
 -- ---- The turns of a plan's tasks are the plan's commands, and each text that was taken is a line of the report.
@@ -246,10 +232,9 @@ count_on {A = A} p xs ys = sum_by-append (λ (x : A). cond (p x) 1 0) xs ys
 
 taken_first : (task : Task) (replies : List WholeReply) → IsPlain task → AllZip IsGood (turns_in task) replies → count_by is_taken (lines_in task replies) ≡ retrieved_by (turns_in task)
 taken_first (says turn) replies is good = subst (λ (t : Turn). 0 ≡ retrieved_by (t ∷ [])) (sym is) refl
-taken_first (skips number size) replies is good = refl
-taken_first (stores number uid) replies is good = one_reply (λ (rs : List WholeReply). count_by is_taken (lines_in (stores number uid) rs) ≡ 1) (retr number) replies good (λ r g. refl)
-taken_first (rereads number uid) replies is good = one_reply (λ (rs : List WholeReply). count_by is_taken (lines_in (rereads number uid) rs) ≡ 1) (retr number) replies good (λ r g. refl)
-taken_first (deletes number) replies is good = refl
+taken_first (stores number uid) (r ∷ []) is good = refl
+taken_first (rereads number uid) (r ∷ []) is good = refl
+taken_first task replies is good = search rules
 
 pub taken_same : (dones : List Done) → AllByRecursion IsPlain (tasks_of dones) → AllByRecursion IsAnswered dones → count_by is_taken (lines_of dones) ≡ retrieved_by (turns_of dones)
 taken_same [] plain each = refl
@@ -277,11 +262,7 @@ pub record Follows (settings : Settings) (steps : List Step) (sent : List ℕ) :
 pub record Planned (settings : Settings) (target : Target) (now : ℕ) (before : Keeping) (link link' : Link) (result : Result (Unit {0}) Cut) (lines : List ReportLine) (c : Course) : Type 0 where
   pub items : List Item
   pub mid : Place
-  pub count : ℕ
-  pub uids : List UidRow
-  pub sizes : List ScanRow
-  pub opened : Opened (name_of settings) (word_of settings) (at link []) mid count uids sizes
-  pub joins : Joins count uids sizes items
+  pub enters : Enters_with settings (at link []) (Ok items) mid
   pub by : Dealing settings target items now before.store before.file [] lines c mid result link'
   pub plain : AllByRecursion IsPlain (begun_of c)
   pub sent : List ℕ
@@ -289,7 +270,7 @@ pub record Planned (settings : Settings) (target : Target) (now : ℕ) (before :
   pub sent_is : link'.sent ≡ link.sent ++ sent
   pub got_is : link'.got ≡ link.got ++ got
   pub speaks : Speaks c (tail_for result) sent got
-  pub is : Conversation (opening (name_of settings) (word_of settings) ++ by.took.done) ((opened.welcome ++ opened.counted ∷ opened.named ∷ opened.sized ∷ []) ++ by.took.replies) by.took.begun (tail_for result) sent got
+  pub is : Conversation (opening (name_of settings) (word_of settings) ++ by.took.done) ((enters.3.welcome ++ enters.3.counted ∷ enters.3.named ∷ enters.3.sized ∷ []) ++ by.took.replies) by.took.begun (tail_for result) sent got
   pub split : plan_turns (name_of settings) (word_of settings) (planned settings by.rows items now) ≡ (opening (name_of settings) (word_of settings) ++ by.took.done) ++ (by.took.begun ++ flat_map turns_in by.ahead.later)
   pub follows : Follows settings (planned settings by.rows items now) sent
 
@@ -311,11 +292,7 @@ module _ (joining : TurnsJoin) (paced : ConversationsArePaced) (law : FrontsAreA
   planned_talk result is leaves = record {
     items = is.items;
     mid = is.mid;
-    count = is.enters.0;
-    uids = is.enters.1;
-    sizes = is.enters.2;
-    opened = opened;
-    joins = is.enters.4;
+    enters = is.enters;
     by = by;
     plain = plain;
     sent = all.0;
@@ -335,14 +312,11 @@ module _ (joining : TurnsJoin) (paced : ConversationsArePaced) (law : FrontsAreA
       c : Course
       c = course_dealt settings target now (at link []) before result new after notes is
 
-      opened : Opened name word (at link []) is.mid is.enters.0 is.enters.1 is.enters.2
-      opened = is.enters.3
-
       replies : List WholeReply
-      replies = opened.welcome ++ opened.counted ∷ opened.named ∷ opened.sized ∷ []
+      replies = is.enters.3.welcome ++ is.enters.3.counted ∷ is.enters.3.named ∷ is.enters.3.sized ∷ []
 
       few : length is.items ≤ 100000
-      few = few_items opened.counted is.enters.0 is.enters.1 is.enters.2 is.items (replied name word opened.welcome opened.counted opened.named opened.sized opened.talked.good).good.1.1.1.0 opened.gives is.enters.4
+      few = few_items is.enters.3.counted is.enters.0 is.enters.1 is.enters.2 is.items (replied name word is.enters.3.welcome is.enters.3.counted is.enters.3.named is.enters.3.sized is.enters.3.talked.good).good.1.1.1.0 is.enters.3.gives is.enters.4
 
       by : Dealing settings target is.items now before.store before.file [] notes.lines c is.mid result link'
       by = dealing joining paced settings target is.items now is.mid before.store before.file [] few result new after.store after.file notes.lines notes.skipped link' is.carries leaves
@@ -353,15 +327,13 @@ module _ (joining : TurnsJoin) (paced : ConversationsArePaced) (law : FrontsAreA
       all : (sent got : List ℕ) × (link'.sent ≡ link.sent ++ sent) × (link'.got ≡ link.got ++ got) × Speaks c (tail_for result) sent got
           × Conversation (opening name word ++ by.took.done) (replies ++ by.took.replies) by.took.begun (tail_for result) sent got
       all = spoken joining law name word valid.valid_username valid.valid_password c is.enters.0 is.enters.1 is.enters.2 (at link []) is.mid (tail_for result) (is_tail_for result) link' refl
-          opened (subst (Joins is.enters.0 is.enters.1 is.enters.2) (sym by.ahead.same_items) is.enters.4) plain by.took
-
-      tasks : map Some (flat_map step_commands (planned settings by.rows is.items now) ++ Quit ∷ []) ≡ by.took.done ++ (by.took.begun ++ flat_map turns_in by.ahead.later)
-      tasks = sym (turns_ahead settings target is.items now before.store by.rows) ∙ ap (λ (ts : List Task). flat_map turns_in ts) by.ahead.split
-          ∙ flat_map-append turns_in (begun_of c) by.ahead.later ∙ ap (λ (ts : List Turn). ts ++ flat_map turns_in by.ahead.later) by.took.all
-          ∙ append_assoc by.took.done by.took.begun (flat_map turns_in by.ahead.later)
+          is.enters.3 (subst (Joins is.enters.0 is.enters.1 is.enters.2) (sym by.ahead.same_items) is.enters.4) plain by.took
 
       split : plan_turns name word (planned settings by.rows is.items now) ≡ (opening name word ++ by.took.done) ++ (by.took.begun ++ flat_map turns_in by.ahead.later)
-      split = ap (λ (ts : List Turn). opening name word ++ ts) tasks ∙ sym (append_assoc (opening name word) by.took.done (by.took.begun ++ flat_map turns_in by.ahead.later))
+      split = ap (λ (ts : List Turn). opening name word ++ ts) (sym (turns_ahead settings target is.items now before.store by.rows) ∙ ap (λ (ts : List Task). flat_map turns_in ts) by.ahead.split
+          ∙ flat_map-append turns_in (begun_of c) by.ahead.later ∙ ap (λ (ts : List Turn). ts ++ flat_map turns_in by.ahead.later) by.took.all
+          ∙ append_assoc by.took.done by.took.begun (flat_map turns_in by.ahead.later))
+          ∙ sym (append_assoc (opening name word) by.took.done (by.took.begun ++ flat_map turns_in by.ahead.later))
 
       whole : Commanded (opening name word ++ by.took.done) by.took.begun (tail_for result) all.0
       whole = commanded_after law name word valid.valid_username valid.valid_password by.took.done by.took.begun (tail_for result) (replies ++ by.took.replies) all.0 all.1 (is_tail_for result)
@@ -411,36 +383,6 @@ follows_none law settings valid turns kind link link' it = record {
     whole : Commanded it.said.done it.said.begun turns it.sent
     whole = commanded_opening law (name_of settings) (word_of settings) valid.valid_username valid.valid_password turns kind it.sent it.got it.said
 
--- ---- Each session is one conversation, which the law over runs takes.
-
--- what the law over runs takes of what was sent and read
-abbrev pub Exchanges : SessionCourse → List Turn → List ℕ → List ℕ → Type 0
-Exchanges Idle turns sent got = (commands : List Command) × (asked : Asked commands sent) × AllByRecursion (IsOfTask []) commands × BeginsOne (IsOfTask []) asked.part
-Exchanges (Deals c) turns sent got = Speaks c turns sent got
-
-pub record Gained (session_course : SessionCourse) (turns : List Turn) (old new : Link) : Type 0 where
-  pub sent : List ℕ
-  pub got : List ℕ
-  pub sent_is : new.sent ≡ old.sent ++ sent
-  pub got_is : new.got ≡ old.got ++ got
-  pub exchanges : Exchanges session_course turns sent got
-
--- what each session sent and read
-pub talks : TurnsJoin → ConversationsArePaced → FrontsAreAsked → (settings : Settings) (target : Target) (now : ℕ) (link : Link) (before : Keeping) (report : Report) (link' : Link) (after : Keeping)
-    → IsValid settings → (session : SessionIn settings target now link before report link' after) → Gained (session_course_of settings target now link before report link' after session) (tail_for session.result) link link'
-talks joining paced law settings target now link before report link' after valid session =
-    by (session_course_of settings target now link before report link' after session) (session_spoke joining paced law settings valid target now link before report link' after session)
-  where
-    by : (session_course : SessionCourse) → Spoke settings target now before link link' session.result session.notes.lines session_course → Gained session_course (tail_for session.result) link link'
-    by Idle it = record {
-      sent = it.sent;
-      got = it.got;
-      sent_is = it.sent_is;
-      got_is = it.got_is;
-      exchanges = idle_said law (name_of settings) (word_of settings) valid.valid_username valid.valid_password (tail_for session.result) (is_tail_for session.result) it.sent it.got it.said;
-    }
-    by (Deals c) p = record { sent = p.sent; got = p.got; sent_is = p.sent_is; got_is = p.got_is; exchanges = p.speaks }
-
 -- ---- What a session with an mboxrd file sends follows a plan.
 
 plan_of : (settings : Settings) (steps : List Step) (sent : List ℕ) → Follows settings steps sent → FollowsPlan settings sent
@@ -480,15 +422,9 @@ counts name word taken spare done begun count outcome is refused (inr (number, s
       ),
     )
 
-abbrev outcome : Outcome → Outcome
-outcome o = o
-
-not_ended : (fault : Fault) → outcome (WasCut fault) ≡ outcome Ended → ⊥
-not_ended fault e = cc
-
-whole_ended : (result : Result (Unit {0}) Cut) (under later : List Task) → IsWhole result under later → outcome_of result ≡ Ended → (under ≡ []) × (later ≡ [])
-whole_ended (Ok done) under later whole ended = whole
-whole_ended (Err cut) under later whole ended = absurd (not_ended cut.fault ended)
+whole_ended : (result : Result (Unit {0}) Cut) (under later : List Task) → IsWhole result under later → (outcome : Outcome) → outcome ≡ outcome_of result → outcome ≡ Ended → (under ≡ []) × (later ≡ [])
+whole_ended (Ok done) under later whole outcome is ended = whole
+whole_ended (Err cut) under later whole outcome is ended = absurd (let was : outcome ≡ WasCut cut.fault = is in cc)
 
 module _ (settings : Settings) (account : List ℕ) (now : ℕ) (link link' : Link) (before : AccountFiles) (notes : Noted) (report : Report) (result : Result (Unit {0}) Cut)
     (tells : Reports (outcome_of result) notes.total notes.skipped notes.lines report) where
@@ -501,10 +437,10 @@ module _ (settings : Settings) (account : List ℕ) (now : ℕ) (link link' : Li
       done = opening (name_of settings) (word_of settings) ++ p.by.took.done;
       begun = p.by.took.begun;
       later = flat_map turns_in p.by.ahead.later;
-      replies = (p.opened.welcome ++ p.opened.counted ∷ p.opened.named ∷ p.opened.sized ∷ []) ++ p.by.took.replies;
+      replies = (p.enters.3.welcome ++ p.enters.3.counted ∷ p.enters.3.named ∷ p.enters.3.sized ∷ []) ++ p.by.took.replies;
       split = p.split;
       one = p.by.took.one;
-      is = subst (λ (ts : List Turn). Conversation (opening (name_of settings) (word_of settings) ++ p.by.took.done) ((p.opened.welcome ++ p.opened.counted ∷ p.opened.named ∷ p.opened.sized ∷ []) ++ p.by.took.replies) p.by.took.begun ts p.sent p.got)
+      is = subst (λ (ts : List Turn). Conversation (opening (name_of settings) (word_of settings) ++ p.by.took.done) ((p.enters.3.welcome ++ p.enters.3.counted ∷ p.enters.3.named ∷ p.enters.3.sized ∷ []) ++ p.by.took.replies) p.by.took.begun ts p.sent p.got)
           (sym (ap tail_behind tells.outcome_is)) p.is;
     };
     found = elim p.by.found [
@@ -519,20 +455,20 @@ module _ (settings : Settings) (account : List ℕ) (now : ℕ) (link link' : Li
     hello = r.hello;
     user = r.to_user;
     pass = r.to_pass;
-    stat = p.opened.counted;
-    uidl = p.opened.named;
-    list = p.opened.sized;
+    stat = p.enters.3.counted;
+    uidl = p.enters.3.named;
+    list = p.enters.3.sized;
     more = p.by.took.replies;
-    replies = ap (λ (ws : List WholeReply). (ws ++ p.opened.counted ∷ p.opened.named ∷ p.opened.sized ∷ []) ++ p.by.took.replies) r.is;
-    listed = listed (name_of settings) (word_of settings) (at link []) p.mid p.count p.uids p.sizes p.items p.opened p.joins;
+    replies = ap (λ (ws : List WholeReply). (ws ++ p.enters.3.counted ∷ p.enters.3.named ∷ p.enters.3.sized ∷ []) ++ p.by.took.replies) r.is;
+    listed = listed (name_of settings) (word_of settings) (at link []) p.mid p.enters.0 p.enters.1 p.enters.2 p.items p.enters.3 p.enters.4;
     counts = counts (name_of settings) (word_of settings) c.taken c.spare p.by.took.done p.by.took.begun report.retrieved report.outcome number (λ reply e. tells.outcome_is ∙ p.by.ahead.spare reply e) p.by.took.asks;
     ended = λ is.
-        let whole = whole_ended result c.under p.by.ahead.later p.by.ahead.whole (sym tells.outcome_is ∙ is) in
+        let whole = whole_ended result c.under p.by.ahead.later p.by.ahead.whole report.outcome tells.outcome_is is in
         (p.by.took.whole whole.0, ap (λ (ts : List Task). flat_map turns_in ts) whole.1);
   }
     where
-      r : Replied (name_of settings) (word_of settings) p.opened.welcome p.opened.counted p.opened.named p.opened.sized
-      r = replied (name_of settings) (word_of settings) p.opened.welcome p.opened.counted p.opened.named p.opened.sized p.opened.talked.good
+      r : Replied (name_of settings) (word_of settings) p.enters.3.welcome p.enters.3.counted p.enters.3.named p.enters.3.sized
+      r = replied (name_of settings) (word_of settings) p.enters.3.welcome p.enters.3.counted p.enters.3.named p.enters.3.sized p.enters.3.talked.good
 
       number : retrieved_by (turns_of c.taken) ≡ report.retrieved
       number = sym (taken_same c.taken (all_front IsPlain (tasks_of c.taken) c.under p.plain) p.by.took.each) ∙ ap (λ (l : List ReportLine). count_by is_taken l) (sym p.by.ahead.told) ∙ sym tells.retrieved_is

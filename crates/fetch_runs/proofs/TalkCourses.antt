@@ -58,10 +58,6 @@ pub record Goes (begun tail : List Turn) (old new : Link) : Type 0 where
 pub goes_tail : (tail : List Turn) (old new : Link) → Fronted tail old new → Goes [] tail old new
 goes_tail tail old new f = record { gained = f.gained; got = f.got; behind = f.part; sent = f.sent; sent_behind = inr (f.part, f.later, f.split, refl) }
 
--- nothing
-pub goes_nothing : (tail : List Turn) (link : Link) → Goes [] tail link link
-goes_nothing tail link = record { gained = []; got = sym (append-nil link.got); behind = []; sent = sym (append-nil link.sent); sent_behind = inl ([], refl) }
-
 -- one turn, whole, and the tail
 pub goes_whole : (turn : Turn) (tail : List Turn) (old mid new : Link) (gained : List ℕ) → mid.sent ≡ old.sent ++ turn_bytes turn → mid.got ≡ old.got ++ gained → Fronted tail mid new
     → Goes (turn ∷ []) tail old new
@@ -139,15 +135,13 @@ conversation done replies begun tail start there link none talked goes = (
   record {
     good = talked.good;
     rest = there.waiting ++ goes.gained;
-    heard = ap (λ (l : List ℕ). l ++ goes.gained) heard ∙ append_assoc (flat_map reply_bytes replies) there.waiting goes.gained;
+    heard = ap (λ (l : List ℕ). l ++ goes.gained) (ap (λ (l : List ℕ). l ++ talked.gained) (sym none) ∙ talked.heard)
+        ∙ append_assoc (flat_map reply_bytes replies) there.waiting goes.gained;
     behind = goes.behind;
     said = refl;
     sent_behind = goes.sent_behind;
   },
 )
-  where
-    heard : talked.gained ≡ flat_map reply_bytes replies ++ there.waiting
-    heard = ap (λ (l : List ℕ). l ++ talked.gained) (sym none) ∙ talked.heard
 
 -- ---- What a link gains after the opening, for each way in which a session's tasks may end.
 
@@ -166,14 +160,6 @@ pub record Took (c : Course) (start : Place) (tail : List Turn) (link : Link) : 
   pub each : AllByRecursion IsAnswered c.taken
   pub asks : (done ≡ turns_of c.taken) ⊎ ((number : ℕ) × (done ≡ turns_of c.taken ++ retr number ∷ []) × (begun ≡ []) × ((reply : WholeReply) × (c.spare ≡ reply ∷ [])))
   pub whole : c.under ≡ [] → begun ≡ []
-
--- the texts of done tasks
-read_dones : (dones : List Done) (others : List (ℕ × List ℕ)) → others ≡ [] → AllByRecursion IsPlain (tasks_of dones) → AllByRecursion IsAnswered dones
-    → (more : List Command) → Retrieves (commands_in (turns_of dones) ++ more) (replies_of dones) (found_by dones ++ others)
-read_dones dones others none plain each more =
-    subst (λ (fs : List (ℕ × List ℕ)). Retrieves (commands_in (turns_of dones) ++ more) (replies_of dones) (found_by dones ++ fs)) (sym none)
-    (subst (λ (rs : List WholeReply). Retrieves (commands_in (turns_of dones) ++ more) rs (found_by dones ++ [])) (append-nil (replies_of dones))
-    (dones_read dones [] more [] plain each refl))
 
 module _ (joining : TurnsJoin) (paced : ConversationsArePaced) (items : List Item) where
   -- the tail after a cut with no reply under way
@@ -196,7 +182,10 @@ module _ (joining : TurnsJoin) (paced : ConversationsArePaced) (items : List Ite
     goes = goes;
     all = turns_on dones under ∙ ap (λ (ts : List Turn). turns_of dones ++ ts) takes;
     one = one;
-    read = read_dones dones (flat_map (λ (task : Task). found_in task []) under) none plain each;
+    read = λ more.
+        subst (λ (fs : List (ℕ × List ℕ)). Retrieves (commands_in (turns_of dones) ++ more) (replies_of dones) (found_by dones ++ fs)) (sym none)
+        (subst (λ (rs : List WholeReply). Retrieves (commands_in (turns_of dones) ++ more) rs (found_by dones ++ [])) (append-nil (replies_of dones))
+        (dones_read dones [] more [] plain each refl));
     each = each;
     asks = inl refl;
     whole = whole;
@@ -245,29 +234,24 @@ module _ (joining : TurnsJoin) (paced : ConversationsArePaced) (items : List Ite
           (subst (λ (f : Fault). Fronted (tail_turns (tail f)) new.place.link last.link) broke.1 (tailed cut new.place last broken.none left))))
 
       -- the store refused the text, or the rest of it
-      took_refused : (account : List ℕ) (refused : NoFile account next mid new cut) → (refuses : RefusesText mid.store.maildir (stem_of account refused.uid) refused.rest refused.text cut.fault new.store.maildir)
-          → Took (course items dones (spare_in refused.number mid.place new.place refused.rest refused.text mid.store.maildir new.store.maildir (stem_of account refused.uid) cut.fault refused.whole refuses) (next ∷ []))
-          first (tail_turns (tail cut.fault)) last.link
-      took_refused account refused refuses = by refuses
-        where
-          leaves : LeftBy cut.fault (Some refused.rest) new.place last
-          leaves = subst (λ (r : Option Rest). LeftBy cut.fault r new.place last) refused.under_way left
+      module _ (account : List ℕ) (refused : NoFile account next mid new cut) where
+        rest_left : LeftBy cut.fault (Some refused.rest) new.place last
+        rest_left = subst (λ (r : Option Rest). LeftBy cut.fault r new.place last) refused.under_way left
 
-          under : Took (course items dones [] (next ∷ [])) first (tail_turns (tail cut.fault)) last.link
-          under =
-              let said = leaves.1 refused.number mid.place refused.text refused.fetching in
-              begun_next (retr refused.number) (tail_turns (tail cut.fault)) last.link (ap turns_in refused.is) (goes_under paced (retr refused.number) (tail_turns (tail cut.fault)) mid.place last said.0 said.1)
+        took_under : Took (course items dones [] (next ∷ [])) first (tail_turns (tail cut.fault)) last.link
+        took_under =
+            let said = rest_left.1 refused.number mid.place refused.text refused.fetching in
+            begun_next (retr refused.number) (tail_turns (tail cut.fault)) last.link (ap turns_in refused.is) (goes_under paced (retr refused.number) (tail_turns (tail cut.fault)) mid.place last said.0 said.1)
 
-          by : (how : RefusesText mid.store.maildir (stem_of account refused.uid) refused.rest refused.text cut.fault new.store.maildir)
-              → Took (course items dones (spare_in refused.number mid.place new.place refused.rest refused.text mid.store.maildir new.store.maildir (stem_of account refused.uid) cut.fault refused.whole how) (next ∷ []))
-              first (tail_turns (tail cut.fault)) last.link
-          by (inl missing) = under
-          by (inr (is, inl same)) = under
-          by (inr (is, inr (done, there))) =
-              let said = leaves.0 done in
-              let whole = refused.whole done in
-              with_spare refused.number refused.uid whole.0 (tail_turns (tail cut.fault)) new.place last.link refused.is whole.1
-              (goes_tail (tail_turns (tail cut.fault)) new.place.link last.link (fronted paced (tail_turns (tail cut.fault)) new.place last said.0 said.1))
+        took_refused : (refuses : RefusesText mid.store.maildir (stem_of account refused.uid) refused.rest refused.text cut.fault new.store.maildir)
+            → Took (course items dones (spare_in refused refuses) (next ∷ [])) first (tail_turns (tail cut.fault)) last.link
+        took_refused (inl missing) = took_under
+        took_refused (inr (is, inl same)) = took_under
+        took_refused (inr (is, inr (done, there))) =
+            let said = rest_left.0 done in
+            let whole = refused.whole done in
+            with_spare refused.number refused.uid whole.0 (tail_turns (tail cut.fault)) new.place last.link refused.is whole.1
+            (goes_tail (tail_turns (tail cut.fault)) new.place.link last.link (fronted paced (tail_turns (tail cut.fault)) new.place last said.0 said.1))
 
       -- the text was stored, and its id wasn't saved
       took_unsaved : (number : ℕ) (uid : List ℕ) (reply : WholeReply) → cut.rest ≡ None → next ≡ stores number uid → Talked (retr number ∷ []) (reply ∷ []) mid.place new.place → IsPlain next

@@ -1,5 +1,5 @@
 -- What each session sent and read: the opening, what followed it, and the tail.
-use Rattle.std.proofs.Common.{◌≡◌, ◌≤◌, ℕ, List, [], ◌∷◌, ◌++◌, true, length, Option, None, Some, Result, refl, sym, ap, ◌∙◌, arith, inl, inr, map, subst, append_assoc, Err, rules}
+use Rattle.std.proofs.Common.{◌≡◌, ◌≤◌, ℕ, Bool, List, [], ◌∷◌, ◌++◌, true, length, take, Option, None, Some, Result, refl, sym, ap, ◌∙◌, arith, inl, inr, map, subst, append_assoc, Err, rules}
 use Rattle.std.specs.List.{AllByRecursion, AllZip, flat_map}
 use Rattle.std.proofs.lemmas.List.{append_cancel_left, append-nil}
 use Rattle.pop3_wire.specs.declared.reply.Status.TheVariants.{Positive}
@@ -12,16 +12,16 @@ use Rattle.mail_terms.specs.Listing.{Item, Joins}
 use Rattle.mail_terms.specs.declared.listing.UidRow.{UidRow}
 use Rattle.mail_terms.specs.declared.listing.ScanRow.{ScanRow}
 use Rattle.pop3_client.specs.Turns.{greeting, stat, IsBody, IsGood, Turn, quit, rset}
-use Rattle.run_law.specs.Readings.{IsListed, AreGood, Talked as IsTalked, Retrieves}
+use Rattle.run_law.specs.Readings.{IsListed}
 use Rattle.fetch_session.specs.Opening.{opening, Opened, Enters}
 use Rattle.fetch_runs.proofs.Lists.{all_append, all_back, all_front}
-use Rattle.fetch_runs.proofs.TalkCommands.{CanBeSaid, commands_in, Commanded, commanded, both_none, begins_any, begins_one, IsCommand, IsPlain, reply_read, replies_read, said_tasks, commands_tasks, commands_split, of_tasks}
+use Rattle.fetch_runs.proofs.TalkCommands.{CanBeSaid, commands_in, Commanded, commanded, both_none, begins_any, begins_one, IsCommand, IsPlain, replies_read, said_tasks, commands_tasks, commands_split, of_tasks}
 use Rattle.pop3_wire.specs.declared.command.Command.{Command}
 use Rattle.pop3_wire.specs.declared.command.Command.TheVariants.{User, Pass, Stat, UidlAll, ListAll}
 use Rattle.pop3_wire.specs.Line.{ended}
 use Rattle.pop3_wire.specs.Link.{Link}
 use Rattle.pop3_wire.specs.Honest.{BeginsNext, FrontsAreAsked, Asked}
-use Rattle.run_law.specs.Sessions.{BeginsOne}
+use Rattle.run_law.specs.Sessions.{BeginsOne, Reads}
 use Rattle.fetch_session.specs.Task.{Task, turns_in}
 use Rattle.pop3_client.specs.declared.fault.Asked.TheVariants.{Greeting as ByGreeting}
 use Rattle.pop3_client.specs.declared.fault.ClientFault.{ClientFault}
@@ -32,10 +32,11 @@ use Rattle.fetch_session.specs.Tail.{tail, turns_in as tail_turns}
 use Rattle.fetch_runs.specs.Conversations.{Conversation, plan_turns, Converses}
 use Rattle.fetch_runs.specs.Steps.{SaysOnly}
 use Rattle.fetch_runs.proofs.Courses.{Course, found_of, begun_of, IsOfTask}
+use Rattle.fetch_runs.proofs.StateDone.{number_found, number_of, effect_of}
 use Rattle.fetch_runs.proofs.TalkCourses.{conversation, Took, fronted, goes_tail, goes_broke}
 use Rattle.fetch_rules.specs.declared.steps.Step.{Step}
 use Rattle.run_law.specs.Plans.{plan_commands, IsTail as IsTailOf, IsFrontOfPlan}
-use Rattle.pop3_client.specs.Conversation.{ConversationsArePaced, Stopped, Talks, TurnsJoin}
+use Rattle.pop3_client.specs.Conversation.{ConversationsArePaced, Talks, TurnsJoin}
 
 -- ---- The opening of a session, as the law over runs reads it.
 
@@ -92,19 +93,13 @@ pub record Speaks (c : Course) (turns : List Turn) (sent got : List ℕ) : Type 
   pub name : List ℕ
   pub word : List ℕ
   pub more : List Command
-  pub user : WholeReply
-  pub pass : WholeReply
-  pub stat : WholeReply
-  pub uidl : WholeReply
-  pub list : WholeReply
-  pub replies : List WholeReply
-  pub talked : IsTalked (User name ∷ Pass word ∷ Stat ∷ UidlAll ∷ ListAll ∷ more) (user ∷ pass ∷ stat ∷ uidl ∷ list ∷ replies) sent got
-  pub listed : IsListed stat uidl list c.items
-  pub retrieves : Retrieves (User name ∷ Pass word ∷ Stat ∷ UidlAll ∷ ListAll ∷ more) (user ∷ pass ∷ stat ∷ uidl ∷ list ∷ replies) (found_of c)
+  pub asked : Asked (User name ∷ Pass word ∷ Stat ∷ UidlAll ∷ ListAll ∷ more) sent
+  pub reads : (now : ℕ) (ends : Bool) (messages : List (ℕ × Item)) → map number_found (found_of c) ≡ map number_of (take (length (found_of c)) messages)
+      → Reads messages (User name ∷ Pass word ∷ Stat ∷ UidlAll ∷ ListAll ∷ more) sent got (effect_of now ends c)
   pub deletes : AllByRecursion (IsOfTask (begun_of c)) (User name ∷ Pass word ∷ Stat ∷ UidlAll ∷ ListAll ∷ more)
-  pub next : BeginsOne (IsOfTask (begun_of c)) talked.asked.part
+  pub next : BeginsOne (IsOfTask (begun_of c)) asked.part
   -- if no task was begun, no more was sent than the tail
-  pub stops : begun_of c ≡ [] → SaysOnly turns more talked.asked.part
+  pub stops : begun_of c ≡ [] → SaysOnly turns more asked.part
 
 -- the turns after a fault
 pub data IsTail : List Turn → Type 0 where
@@ -143,10 +138,10 @@ module _ (tasks : List Task) {done begun turns : List Turn} {sent : List ℕ} (k
 
   -- so is one that was begun after them
   pub next_of_tasks : BeginsOne (IsOfTask tasks) c.asked.part
-  next_of_tasks = begins_one (IsOfTask tasks) c.next c.asked.part c.begins (elim c.next_is [
-    | inl is ↦ subst (AllByRecursion (IsOfTask tasks)) (sym is) (all_back (IsOfTask tasks) c.ahead c.unsaid begun_of_tasks)
-    | inr is ↦ subst (AllByRecursion (IsOfTask tasks)) (sym is) (all_back (IsOfTask tasks) c.ends c.unended ends_of_tasks)
-  ])
+  next_of_tasks = elim c.begins [
+    | inl is ↦ begins_one (IsOfTask tasks) c.unsaid c.asked.part is (all_back (IsOfTask tasks) c.ahead c.unsaid begun_of_tasks)
+    | inr is ↦ begins_one (IsOfTask tasks) c.unended c.asked.part is (all_back (IsOfTask tasks) c.ends c.unended ends_of_tasks)
+  ]
 
 -- the commands of the opening's turns and of turns after them
 pub commanded_after : FrontsAreAsked → (name word : List ℕ) → is_credential name ≡ true → is_credential word ≡ true → (done begun turns : List Turn) (replies : List WholeReply) (sent got : List ℕ)
@@ -164,40 +159,45 @@ module _ (joining : TurnsJoin) (law : FrontsAreAsked) (name word : List ℕ) (na
     name = name;
     word = word;
     more = commands_in took.done ++ (whole.ahead ++ whole.ends);
-    user = r.to_user;
-    pass = r.to_pass;
-    stat = opened.counted;
-    uidl = opened.named;
-    list = opened.sized;
-    replies = took.replies;
-    talked = record {
-      asked = whole.asked;
-      hello = r.hello.first;
-      line = r.good.0.line;
-      good = (
-        reply_read (User name) r.to_user r.good.1.0,
-        (
-          reply_read (Pass word) r.to_pass r.good.1.1.0,
-          (
-            reply_read Stat opened.counted r.good.1.1.1.0,
-            (reply_read UidlAll opened.named r.good.1.1.1.1.0, (reply_read ListAll opened.sized r.good.1.1.1.1.1.0, later)),
-          ),
-        ),
-      );
-      rest = said.rest;
-      whole = said.heard ∙ ap (λ (ws : List WholeReply). flat_map reply_bytes ((ws ++ opened.counted ∷ opened.named ∷ opened.sized ∷ []) ++ took.replies) ++ said.rest) r.is
-          ∙ append_assoc (reply_bytes r.hello) (flat_map reply_bytes behind) said.rest
-          ∙ ap (λ (b : List ℕ). b ++ (flat_map reply_bytes behind ++ said.rest)) greeted;
+    asked = whole.asked;
+    reads = λ now ends messages numbers. record {
+      name = name;
+      word = word;
+      more = commands_in took.done ++ (whole.ahead ++ whole.ends);
+      commands_are = refl;
+      user = r.to_user;
+      pass = r.to_pass;
+      stat = opened.counted;
+      uidl = opened.named;
+      list = opened.sized;
+      replies = took.replies;
+      talked = record {
+        asked = whole.asked;
+        hello = r.hello.first;
+        line = r.good.0.line;
+        good = replies_read (Some (User name) ∷ Some (Pass word) ∷ Some Stat ∷ Some UidlAll ∷ Some ListAll ∷ took.done) behind (whole.ahead ++ whole.ends)
+            (tt, (tt, (tt, (tt, (tt, all_front IsCommand took.done took.begun (subst (AllByRecursion IsCommand) took.all (commands_tasks (begun_of c) plain))))))) answered.1;
+        rest = said.rest;
+        whole = said.heard ∙ ap (λ (ws : List WholeReply). flat_map reply_bytes ((ws ++ opened.counted ∷ opened.named ∷ opened.sized ∷ []) ++ took.replies) ++ said.rest) r.is
+            ∙ append_assoc (reply_bytes r.hello) (flat_map reply_bytes behind) said.rest
+            ∙ ap (λ (b : List ℕ). b ++ (flat_map reply_bytes behind ++ said.rest)) greeted;
+      };
+      listed = listed name word start mid count uids sizes c.items opened joins;
+      found = found_of c;
+      retrieves = took.read (whole.ahead ++ whole.ends);
+      texts = refl;
+      numbers = numbers;
     };
-    listed = listed name word start mid count uids sizes c.items opened joins;
-    retrieves = took.read (whole.ahead ++ whole.ends);
-    deletes = (tt, (tt, (tt, (tt, (tt, all_of_tasks)))));
+    deletes = said_of_tasks (begun_of c) kind whole (tt, (tt, (tt, (tt, (tt, tasked)))));
     next = next_of_tasks (begun_of c) kind whole (tt, (tt, (tt, (tt, (tt, tasked)))));
     stops = says_only;
   }
     where
       behind : List WholeReply
       behind = r.to_user ∷ r.to_pass ∷ opened.counted ∷ opened.named ∷ opened.sized ∷ took.replies
+
+      answered : AllZip IsGood (opening name word ++ took.done) (r.hello ∷ behind)
+      answered = subst (λ (ws : List WholeReply). AllZip IsGood (opening name word ++ took.done) ((ws ++ opened.counted ∷ opened.named ∷ opened.sized ∷ []) ++ took.replies)) r.is said.good
 
       greeted : reply_bytes r.hello ≡ ended r.hello.first
       greeted = ap (λ (b : Option (List (List ℕ))). ended r.hello.first ++ body_bytes b) (no_body r.hello r.good.0) ∙ append-nil (ended r.hello.first)
@@ -210,9 +210,6 @@ module _ (joining : TurnsJoin) (law : FrontsAreAsked) (name word : List ℕ) (na
       tasked : AllByRecursion (IsOfTask (begun_of c)) (commands_in took.done ++ commands_in took.begun)
       tasked = subst (AllByRecursion (IsOfTask (begun_of c))) (ap commands_in took.all ∙ commands_split took.done took.begun) (of_tasks [] (begun_of c) plain)
 
-      later : AreGood (commands_in took.done ++ (whole.ahead ++ whole.ends)) took.replies
-      later = replies_read took.done took.replies (whole.ahead ++ whole.ends) (all_front IsCommand took.done took.begun (subst (AllByRecursion IsCommand) took.all (commands_tasks (begun_of c) plain))) took.talked.good
-
       says_only : begun_of c ≡ [] → SaysOnly turns (commands_in took.done ++ (whole.ahead ++ whole.ends)) whole.asked.part
       says_only none =
           let turns' = both_none took.done took.begun (sym took.all ∙ ap (λ (ts : List Task). flat_map turns_in ts) none) in
@@ -222,14 +219,11 @@ module _ (joining : TurnsJoin) (law : FrontsAreAsked) (name word : List ℕ) (na
           record {
             later = whole.unended;
             split = tail_back turns kind ∙ ap (map Some) whole.of_tail ∙ ap (λ (cs : List Command). map Some (cs ++ whole.unended)) (sym said_is);
-            begins = elim whole.next_is [
-              | inl is ↦ begins_any whole.unended whole.asked.part (subst (λ (cs : List Command). BeginsNext cs whole.asked.part) (is ∙ none'.1) whole.begins)
-              | inr is ↦ subst (λ (cs : List Command). BeginsNext cs whole.asked.part) is whole.begins
+            begins = elim whole.begins [
+              | inl is ↦ begins_any whole.unended whole.asked.part (subst (λ (cs : List Command). BeginsNext cs whole.asked.part) none'.1 is)
+              | inr is ↦ is
             ];
           }
-
-      all_of_tasks : AllByRecursion (IsOfTask (begun_of c)) (commands_in took.done ++ (whole.ahead ++ whole.ends))
-      all_of_tasks = (said_of_tasks (begun_of c) kind whole (tt, (tt, (tt, (tt, (tt, tasked)))))).1.1.1.1.1
 
   -- a session that joined its listing
   pub spoken : (c : Course) (count : ℕ) (uids : List UidRow) (sizes : List ScanRow) (start mid : Place) (turns : List Turn) (kind : IsTail turns) (link : Link) → start.waiting ≡ []
@@ -279,19 +273,6 @@ pub record OpensAlone (name word : List ℕ) (turns : List Turn) (old new : Link
   pub said : Converses (opening name word) turns sent got
 
 module _ (paced : ConversationsArePaced) (name word : List ℕ) (start new last : Place) (none : start.waiting ≡ []) where
-  opens_stopped : (why : ClientFault) → Stopped (opening name word) start new why → (result : Result (Unit {0}) ClientFault) → Talks (tail_turns (tail (fault_of why))) new result last
-      → OpensAlone name word (tail_turns (tail (fault_of why))) start.link last.link
-  opens_stopped why s result talks =
-      let turns = tail_turns (tail (fault_of why)) in
-      let is = conversation s.done s.replies (s.next ∷ []) turns start s.mid last.link none s.talked (goes_broke s.next s.mid new last why s.broke (fronted paced turns new last result talks)) in
-      record {
-        sent = is.0;
-        got = is.1;
-        sent_is = is.2;
-        got_is = is.3;
-        said = record { done = s.done; begun = s.next ∷ []; later = s.later; replies = s.replies; split = s.split; one = inr (s.next, refl); is = is.4 };
-      }
-
   pub opens_all : (count : ℕ) (uids : List UidRow) (sizes : List ScanRow) (turns : List Turn) → Opened name word start new count uids sizes → (result : Result (Unit {0}) ClientFault)
       → Talks turns new result last → OpensAlone name word turns start.link last.link
   opens_all count uids sizes turns opened result talks =
@@ -308,7 +289,16 @@ module _ (paced : ConversationsArePaced) (name word : List ℕ) (start new last 
   -- no listing was joined
   pub opens_cut : (why : ClientFault) → Enters name word start (Err why) new → (result : Result (Unit {0}) ClientFault) → Talks (tail_turns (tail (fault_of why))) new result last
       → OpensAlone name word (tail_turns (tail (fault_of why))) start.link last.link
-  opens_cut why (inl stopped) result talks = opens_stopped why stopped result talks
+  opens_cut why (inl s) result talks =
+      let turns = tail_turns (tail (fault_of why)) in
+      let is = conversation s.done s.replies (s.next ∷ []) turns start s.mid last.link none s.talked (goes_broke s.next s.mid new last why s.broke (fronted paced turns new last result talks)) in
+      record {
+        sent = is.0;
+        got = is.1;
+        sent_is = is.2;
+        got_is = is.3;
+        said = record { done = s.done; begun = s.next ∷ []; later = s.later; replies = s.replies; split = s.split; one = inr (s.next, refl); is = is.4 };
+      }
   opens_cut why (inr (inl (is, (count, uids, sizes, opened, never)))) result talks = opens_all count uids sizes (tail_turns (tail (fault_of why))) opened result talks
   opens_cut why (inr (inr (is, (count, uids, sizes, opened)))) result talks = opens_all count uids sizes (tail_turns (tail (fault_of why))) opened result talks
 
@@ -331,12 +321,9 @@ idle_said law name word named worded turns kind sent got said =
     whole : Commanded said.done said.begun turns sent
     whole = commanded_opening law name word named worded turns kind sent got said
 
-    all : AllByRecursion (IsOfTask []) (commands_in (opening name word))
-    all = (tt, (tt, (tt, (tt, (tt, tt)))))
-
     parts : commands_in (opening name word) ≡ (commands_in said.done ++ commands_in said.begun) ++ commands_in said.later
     parts = ap commands_in said.split ∙ commands_split said.done (said.begun ++ said.later) ∙ ap (λ (l : List Command). commands_in said.done ++ l) (commands_split said.begun said.later)
         ∙ sym (append_assoc (commands_in said.done) (commands_in said.begun) (commands_in said.later))
 
     none : AllByRecursion (IsOfTask []) (commands_in said.done ++ commands_in said.begun)
-    none = all_front (IsOfTask []) (commands_in said.done ++ commands_in said.begun) (commands_in said.later) (subst (AllByRecursion (IsOfTask [])) parts all)
+    none = all_front (IsOfTask []) (commands_in said.done ++ commands_in said.begun) (commands_in said.later) (subst (AllByRecursion (IsOfTask [])) parts (tt, (tt, (tt, (tt, (tt, tt))))))
