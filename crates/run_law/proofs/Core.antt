@@ -247,17 +247,12 @@ module _ (s : Scene) (is : IsScene s) where
   abbrev pub IsOut : ℕ → Message → Type 0
   IsOut n m = (is_done_after s n m.uid ≡ true) ⊎ (fit m ≡ false) ⊎ (has_id (ids_of (past_limit s.settings.max_count os)) m.uid ≡ true)
 
-  offered_out : (n : ℕ) → length ws ≤ n → (m : Message) → has_id (ids_of os) m.uid ≡ true → IsOut n m
-  offered_out n l m e =
-      let done = fetched_done n m.uid in
-      grind (arith, e, ids_both ws (past_limit s.settings.max_count os) m.uid, both_parts s.settings.max_count os, take_all n ws l, done)
-
   out : (n : ℕ) → length ws ≤ n → (m : Message) → (is_legal_id m.uid ≡ true) × (has_id (ids_of (here s)) m.uid ≡ true)
       → (asked s.settings s.rows m ≡ true → has_id (ids_of os) m.uid ≡ true) → IsOut n m
   out n l m g h =
-      let new = λ (a : asked s.settings s.rows m ≡ true). offered_out n l m (h a) in
+      let done = fetched_done n m.uid in
       let old = λ (d : is_delivered s.rows m.uid ≡ true). done_more n m.uid (is.known m.uid g.0 g.1 d) in
-      grind (arith, new, old)
+      grind (arith, h, old, done, ids_both ws (past_limit s.settings.max_count os) m.uid, both_parts s.settings.max_count os, take_all n ws l)
 
   pub left_out : (n : ℕ) → length ws ≤ n → AllByRecursion (IsOut n) (here s)
   left_out n l = all_both _ _ (IsOut n) (out n l) (here s) (all_both IsLegal _ _ (λ m l h. (l, h)) (here s) legal_here (members (here s)))

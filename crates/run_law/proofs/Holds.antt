@@ -1,5 +1,5 @@
 -- What a kept state says of each id: what is held is done, and what is done is held or was taken away.
-use Rattle.std.proofs.Common.{◌≡◌, ◌≤◌, ◌⊎◌, inl, inr, ℕ, List, [], Bool, true, false, length, refl, sym, ◌∙◌, ap, subst, arith}
+use Rattle.std.proofs.Common.{◌≡◌, ◌≤◌, ◌⊎◌, inl, ℕ, List, [], Bool, true, false, length, refl, sym, ◌∙◌, ap, arith}
 use Rattle.std.proofs.lemmas.Bool.{both_ways}
 use Rattle.mail_terms.specs.UniqueId.{has_id}
 use Rattle.pop3_wire.specs.World.{Message}
@@ -10,7 +10,7 @@ use Rattle.run_law.specs.Accounts.{AccountMail, files, copies}
 use Rattle.run_law.specs.Runs.{World, State, HoldsOf, IsNeither, StartsKept}
 use Rattle.run_law.proofs.Lists.{is_some}
 use Rattle.run_law.proofs.Ids.{Distinct, has_texts, lone}
-use Rattle.run_law.proofs.Files.{held_done, held_copies}
+use Rattle.run_law.proofs.Files.{held_copies}
 
 module _ (world : World) (state : State AccountMail) where
   abbrev held : List ℕ → Bool

@@ -29,7 +29,8 @@ marks_stay marks rows (uid ∷ uids) id e = marks_stay marks (marked rows uid) u
 -- after a merge an id is recorded exactly if it was before, or is listed and held
 pub delivered_merged : Records → (account : List ℕ) (maildir : Maildir) (rows : List Row) (items : List Item) (now : ℕ) (id : List ℕ)
     → is_delivered (merged rows items (flags_of account maildir items) now) id ≡ (is_delivered rows id || (has_item items id && is_held account maildir id))
-delivered_merged laws account maildir rows items now id = laws.held rows items (flags_of account maildir items) now id ∙ rw (laws.flags account maildir items id)
+delivered_merged laws account maildir rows items now id = laws.held rows items (flags_of account maildir items) now id
+    ∙ rw (laws.flags account maildir items id)
 
 -- ---- with nothing held, and marks of ids that have rows
 
@@ -40,7 +41,8 @@ none_flagged (item ∷ listing) uid = none_flagged listing uid
 -- after such a merge an id is recorded exactly if it was before
 pub delivered_unheld : RowLaws → (rows : List Row) (listing : List Item) (now : ℕ) (id : List ℕ)
     → is_delivered (merged rows listing (none_held listing) now) id ≡ is_delivered rows id
-delivered_unheld laws rows listing now id = laws.held rows listing (none_held listing) now id ∙ rw (none_flagged listing id) (or-false (is_delivered rows id))
+delivered_unheld laws rows listing now id = laws.held rows listing (none_held listing) now id
+    ∙ rw (none_flagged listing id) (or-false (is_delivered rows id))
 
 -- after a mark an id is recorded exactly if it was before, or is the one that was marked
 pub delivered_one : RowLaws → (rows : List Row) (uid id : List ℕ) → has_row rows uid ≡ true → is_delivered (marked rows uid) id ≡ (is_delivered rows id || bytes_eq id uid)

@@ -96,7 +96,8 @@ pub all_at_most : {X : Type 0} (P : X → Type 0) (n : ℕ) (xs : List X) → Al
 all_at_most P n xs h = cond_both (n == 0) xs (take n xs) (AllByRecursion P) (λ e. h) (λ e. all_take P n xs h)
 
 pub wants_placed : (settings : Settings) (rows : List Row) (ms : List Message) → AllByRecursion (Placed ms) (wants_by_number settings rows ms)
-wants_placed settings rows ms = all_at_most (Placed ms) settings.max_count _ (all_filter (Placed ms) _ _ (all_map (IsNumbered ms) _ (λ q h. h.1) _ (are_numbered ms)))
+wants_placed settings rows ms = all_at_most (Placed ms) settings.max_count _
+    (all_filter (Placed ms) _ _ (all_map (IsNumbered ms) _ (λ q h. h.1) _ (are_numbered ms)))
 
 -- ---- texts
 

@@ -11,7 +11,7 @@ use Rattle.pop3_wire.specs.World.{Message}
 use Rattle.fetch_rules.specs.Record.{is_delivered}
 use Rattle.run_law.specs.Accounts.{AccountMail, files, copies}
 use Rattle.run_law.specs.Mails.{ids_of, messages_after}
-use Rattle.run_law.specs.Power.{OneMoreIsLast, with_maildir}
+use Rattle.run_law.specs.Power.{with_maildir}
 use Rattle.run_law.specs.Runs.{World, IsSound, State, IsNeither, IsLastStored, Kept}
 use Rattle.run_law.proofs.Core.{IsLegal, done_legal, members}
 use Rattle.run_law.proofs.Holds.{not_neither, unheld_if}
@@ -112,11 +112,8 @@ module _ (world : World) (is : IsSound world) (state : State AccountMail) (kept 
     last = rw (kept.prefix, after_later id kept.done kept.rest undone) later;
   }
 
-pub one_more_is_last : OneMoreIsLast
-one_more_is_last world state maildir id is kept legal none others = elim (cases_Bool (has_id state.taken id)) [
+pub returns : goal.returns
+returns c = λ world state maildir id is kept legal none others. elim (cases_Bool (has_id state.taken id)) [
   | inl taken ↦ inl taken
   | inr untaken ↦ inr (lastly world is state kept maildir id legal none others untaken)
 ]
-
-pub returns : goal.returns
-returns c = one_more_is_last
