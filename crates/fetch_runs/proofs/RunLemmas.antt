@@ -28,23 +28,26 @@ runs_on {K = K} Made [] first [] [] mid old new report last runs made = (last, s
 runs_on Made (o ∷ olds) first (r ∷ reports) (v ∷ news) mid old new report last runs made = (runs.0, runs.1, runs_on Made olds runs.0 reports news mid old new report last runs.2 made)
 runs_on Made olds first reports news mid old new report last runs made = search rules
 
+ran_more : {W K : Type 0} {sound : W → Type 0} {Made : Visit W → K → Report → Visit W → K → Type 0}
+    {olds news : List (Visit W)} {start mid last : K} {at_start at_mid at_last : Type 0} {reports : List Report} {report : Report} (old new : Visit W)
+    → Ran sound Made olds start at_start reports news mid at_mid → (sound new.wire → at_last → sound old.wire × at_mid × Made old mid report new last)
+    → Ran sound Made (olds ++ old ∷ []) start at_start (reports ++ report ∷ []) (news ++ new ∷ []) last at_last
+ran_more {W} {K} {sound} {Made} {olds} {news} {start} {mid} {last} {at_start} {at_mid} {at_last} {reports} {report} old new ran session = record {
+  made = λ all held.
+      let this = session (all_back (λ (v : Visit W). sound v.wire) news (new ∷ []) all).0 held in
+      let before = ran.made (all_front (λ (v : Visit W). sound v.wire) news (new ∷ []) all) this.1 in
+      (all_append (λ (v : Visit W). sound v.wire) olds (old ∷ []) before.0 (this.0, tt), before.1, runs_on Made olds start reports news mid old new report last before.2 this.2);
+}
+
 -- the next visit was made
 pub ran_next : {W K : Type 0} {sound : W → Type 0} {Made : Visit W → K → Report → Visit W → K → Type 0}
     (olds news : List (Visit W)) (i : ℕ) {start mid last : K} {at_start at_mid at_last : Type 0} {reports more : List Report} {report : Report} (old new : Visit W)
     → Ran sound Made (take i olds) start at_start reports (take i news) mid at_mid → more ≡ reports ++ report ∷ [] → i < length olds → i < length news → get_or olds i old ≡ old
     → (sound new.wire → at_last → sound old.wire × at_mid × Made old mid report new last)
     → Ran sound Made (take (i + 1) olds) start at_start more (take (i + 1) (set news i new)) last at_last
-ran_next {W = W} {sound = sound} {Made = Made} olds news i {start = start} {mid = mid} {last = last} {reports = reports} {report = report} old new ran pushed inside within is session =
+ran_next {W} olds news i old new ran pushed inside within is session =
     let first = (take_at_read olds i old inside).1 ∙ ap (λ (o : Visit W). take i olds ++ o ∷ []) is in
-    rw (first, take-set_at news i (i + 1) new refl within, pushed) (record {
-      made = λ all held.
-          let this = session (all_back (λ (v : Visit W). sound v.wire) (take i news) (new ∷ []) all).0 held in
-          let before = ran.made (all_front (λ (v : Visit W). sound v.wire) (take i news) (new ∷ []) all) this.1 in (
-            all_append (λ (v : Visit W). sound v.wire) (take i olds) (old ∷ []) before.0 (this.0, tt),
-            before.1,
-            runs_on Made (take i olds) start reports (take i news) mid old new report last before.2 this.2,
-          );
-    })
+    rw (first, take-set_at news i (i + 1) new refl within, pushed) (ran_more old new ran session)
 
 -- the visits after it stay as they were
 pub others_stay : {V : Type 0} (xs ys : List V) (i : ℕ) (new : V) → ((k : ℕ) (d : V) → i ≤ k → get_or xs k d ≡ get_or ys k d)
@@ -62,10 +65,6 @@ made_all olds news i ran past same all held =
     rw (take_all i news (omega (arith, past, same)), take_all i olds past) at made
 
 -- ---- what is promised of them
-
--- so what is promised of them holds
-pub promised_of : {A B C D E : Type 0} → A × (B × C) × D → (D → E) → A × B × C × D × E
-promised_of made promised = (made.0, made.1.0, made.1.1, made.2, promised made.2)
 
 -- what readers take away leaves the mail of the server as it is
 takings_leave : (world : World) (events : List (Event Occasion AccountFiles)) → AreTakings events → world_left world events ≡ world
