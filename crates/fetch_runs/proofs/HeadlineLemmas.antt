@@ -295,7 +295,7 @@ stay_all shrink laws world start (event ∷ events) id sound is run leave legal 
 
 same_account : (world : World) (events : List (Event Occasion AccountFiles)) → (world_left world events).account ≡ world.account
 same_account world [] = refl
-same_account world (Withdrawn ids ∷ events) = same_account (world_after world (Withdrawn ids)) events
+same_account world (Withdrawn ids ∷ events) = same_account (world_after {S = Occasion} {K = AccountFiles} world (Withdrawn ids)) events
 same_account world (event ∷ events) = same_account world events
 
 pub stays_away : WorldsShrink → Headline → StaysAway
