@@ -20,8 +20,7 @@ from pathlib import Path
 TOP = Path(__file__).resolve().parent
 CRATES = TOP / "crates"
 SECONDS_BETWEEN_LINES = 10
-MEMORY_OF_A_RUN = 4_000_000_000
-NICENESS_PER_RUN = 5
+MEMORY_OF_A_RUN = 2_500_000_000
 
 
 def crate_lines():
@@ -37,12 +36,6 @@ def libraries_below(lines):
         own = [library for library in line.partition(":")[2].split() if library in lines]
         below[crate] = {*own, *(lower for library in own for lower in below[library])}
     return below
-
-
-def size(crate):
-    """How many lines the crate has; its proof takes about as long."""
-    files = [file for part in ("src", "specs", "proofs") for file in (CRATES / crate / part).rglob("*") if file.is_file()]
-    return sum(file.read_bytes().count(b"\n") for file in files)
 
 
 def processors():
@@ -62,7 +55,7 @@ def link(source, target, *left_out):
 class Run:
     """A run of `rt` that proves one crate."""
 
-    def __init__(self, room, crate, lines, niceness):
+    def __init__(self, room, crate, lines, jobs):
         self.crate, self.room, self.log = crate, room / crate, room / f"{crate}.log"
         folder = self.room / "crates" / crate
         for name in lines:
@@ -72,8 +65,7 @@ class Run:
                 link(CRATES / name / made, folder.parent / name / made)
         (self.room / "crates.txt").write_text("\n".join(lines.values()))
         is_program, given = (folder / "src/main.rt").is_file(), TOP / "examples" / f"{crate}-rehearsal.txt"
-        words = ["nice", "-n", str(niceness), "rt", "run" if is_program else "lib", "--jobs", str(processors())]
-        words += ["--", "--rehearse"] * given.is_file()
+        words = ["rt", "run" if is_program else "lib", "--jobs", str(jobs)] + ["--", "--rehearse"] * given.is_file()
         with open(given if given.is_file() else os.devnull) as source, open(self.log, "w") as log:
             self.process = subprocess.Popen(words, cwd=folder, stdin=source, stdout=log, stderr=subprocess.STDOUT)
 
@@ -92,10 +84,6 @@ class Build:
         self.below = libraries_below(self.lines)
         self.wanted = {crate for program in programs for crate in (program, *self.below[program])}
         self.proved, self.runs = set(), []
-        # the lines from a crate to the end of the longest way that leads over it
-        self.way = {}
-        for crate in reversed([crate for crate in self.lines if crate in self.wanted]):
-            self.way[crate] = size(crate) + max((way for other, way in self.way.items() if crate in self.below[other]), default=0)
 
     def told(self):
         passed = int(time.monotonic() - self.begun)
@@ -104,17 +92,18 @@ class Build:
                 f"{len(self.runs)} being proved: {names}")
 
     def ready(self):
-        """The crates that can be begun, first those with the longest way."""
+        """The crates that can be begun, first those for which most others wait."""
         begun = self.proved | {run.crate for run in self.runs}
         ready = [crate for crate in self.lines if crate in self.wanted - begun and self.below[crate] <= self.proved]
-        return sorted(ready, key=self.way.get, reverse=True)
+        return sorted(ready, key=lambda crate: -sum(crate in self.below[other] for other in self.wanted))
 
     def begin(self):
-        """Each run may use all processors, but yields to those whose crates have a longer way."""
-        for crate in self.ready()[:max(0, most_at_once() - len(self.runs))]:
+        ready, most = self.ready(), most_at_once()
+        # a crate that is begun beside others has processors left once these have ended
+        jobs = max((processors() + 1) // 2, processors() // max(1, min(most, len(ready) + len(self.runs))))
+        for crate in ready[:max(0, most - len(self.runs))]:
             lines = {name: line for name, line in self.lines.items() if name in {crate, *self.below[crate]}}
-            longer = sum(self.way[run.crate] > self.way[crate] for run in self.runs)
-            self.runs.append(Run(self.room, crate, lines, longer * NICENESS_PER_RUN))
+            self.runs.append(Run(self.room, crate, lines, jobs))
 
     def end(self):
         for run in [run for run in self.runs if run.process.poll() is not None]:
