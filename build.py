@@ -99,8 +99,8 @@ class Build:
 
     def begin(self):
         ready, most = self.ready(), most_at_once()
-        # a crate that is begun beside others has processors left once these have ended
-        jobs = max((processors() + 1) // 2, processors() // max(1, min(most, len(ready) + len(self.runs))))
+        # a run doesn't keep all of its jobs busy, and has processors left once those beside it have ended
+        jobs = processors() if len(ready) + len(self.runs) <= 2 else (processors() + 1) // 2
         for crate in ready[:max(0, most - len(self.runs))]:
             lines = {name: line for name, line in self.lines.items() if name in {crate, *self.below[crate]}}
             self.runs.append(Run(self.room, crate, lines, jobs))

@@ -11,7 +11,7 @@ use Rattle.fetch_rules.specs.declared.seen.SeenFault.TheVariants.{BadRow, Repeat
 use Rattle.fetch_rules.specs.declared.seen.reading.Part.{Part}
 use Rattle.fetch_rules.specs.declared.seen.reading.Part.TheVariants.{Base, Between, Within}
 use Rattle.fetch_rules.specs.declared.seen.reading.End.{End}
-use Rattle.fetch_rules.specs.declared.seen.reading.End.TheVariants.{AllCount, Open}
+use Rattle.fetch_rules.specs.declared.seen.reading.End.TheVariants.{NoneOpen, Open}
 use Rattle.fetch_rules.proofs.LineLemmas.{no_line}
 use Rattle.fetch_rules.proofs.CutLemmas.{one_meaning}
 use Rattle.fetch_rules.proofs.ReadLemmas.{IsBehind, behind_header, behind_more, behind_fails}
@@ -202,7 +202,7 @@ open_ends bytes older front intent rows ends = record { before = ends.1.0; torn 
 
 pub rows_again : (bytes piece : List ℕ) (older anew : Bool) (front : ℕ) (intent then : Option Intent) (rows : List Row) (end : End) (new : List Row) → EndsAt bytes older (Open front) intent rows → piece ≡ take front bytes
     → EndsAt piece anew end then new → Means bytes (Rows (version_of older) new intent true)
-rows_again bytes piece older anew front intent then rows (AllCount torn) new ends is again =
+rows_again bytes piece older anew front intent then rows (NoneOpen torn) new ends is again =
     let at = open_ends bytes older front intent rows ends in
     let same = same_rows (one_meaning piece (Rows (version_of older) at.before intent false) (Rows (version_of anew) new then torn) (subst (λ (xs : List ℕ). Means xs (Rows (version_of older) at.before intent false)) (sym is) at.whole) again) in
     subst (λ (xs : List Row). Means bytes (Rows (version_of older) xs intent true)) same.1 at.torn

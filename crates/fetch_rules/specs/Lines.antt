@@ -11,7 +11,7 @@ use Rattle.fetch_rules.specs.declared.seen.line.Intent.{Intent as ReadIntent}
 use Rattle.fetch_rules.specs.declared.seen.reading.Part.{Part}
 use Rattle.fetch_rules.specs.declared.seen.reading.Part.TheVariants.{Base, Between, Within}
 use Rattle.fetch_rules.specs.declared.seen.reading.End.{End}
-use Rattle.fetch_rules.specs.declared.seen.reading.End.TheVariants.{AllCount, Open}
+use Rattle.fetch_rules.specs.declared.seen.reading.End.TheVariants.{NoneOpen, Open}
 
 abbrev pub version_of : Bool → Version
 version_of true = One
@@ -88,7 +88,7 @@ RefusesIntent older part open' rows intent number fault =
 
 -- what the bytes stand for, by their end, the open intent and the rows that were read
 abbrev pub EndsAt : List ℕ → Bool → End → Option Intent → List Row → Type 0
-EndsAt bytes older (AllCount torn) intent rows = Means bytes (Rows (version_of older) rows intent torn)
+EndsAt bytes older (NoneOpen torn) intent rows = Means bytes (Rows (version_of older) rows intent torn)
 EndsAt bytes older (Open front) intent rows = (front ≤ length bytes)
     × ((before : List Row) × Means bytes (Rows (version_of older) before intent true)
     × Means (take front bytes) (Rows (version_of older) before intent false))

@@ -98,8 +98,8 @@ fn has_mark(state: State, intent: &Option<OwnedIntent>) -> bool
 }
 
 /// A copy of an intent.
-fn keep(alloc: Global, found: Option<Intent<'_>>) -> Result<Option<OwnedIntent>, AllocError>
-    ensures { IfOk result (λ kept. intent_in kept ≡ open_seen found.entry) }
+fn copied(alloc: Global, found: Option<Intent<'_>>) -> Result<Option<OwnedIntent>, AllocError>
+    ensures { IfOk result (λ copy. intent_in copy ≡ open_seen found.entry) }
 {
     match found {
         None => Ok(None),
@@ -172,12 +172,12 @@ impl<H: BuildHasher> Seen<H> {
                 return Err(fault);
             }
         };
-        let Ok(kept) = keep(self.alloc, file.intent) else {
+        let Ok(copy) = copied(self.alloc, file.intent) else {
             self.rows.clear();
             return Err(SeenFault::NoMemory);
         };
-        self.stale = is_stale(file.older, torn, &kept, file.outgrown);
-        self.intent = kept;
+        self.stale = is_stale(file.older, torn, &copy, file.outgrown);
+        self.intent = copy;
         Ok(())
     }
 
@@ -215,8 +215,8 @@ impl<H: BuildHasher> Seen<H> {
         let _ = self.rows.state(uid);
         let intent = Intent { uid, start, len };
         let line = write_intent(self.alloc, intent)?;
-        let kept = keep(self.alloc, Some(intent))?;
-        self.intent = kept;
+        let copy = copied(self.alloc, Some(intent))?;
+        self.intent = copy;
         Ok(line)
     }
 

@@ -24,7 +24,7 @@ use Rattle.run_law.specs.Sessions.{Link as LinkIn, LinksAreVisits, SendsOnly, Is
 use Rattle.fetch_runs.proofs.Ids.{all_ids_at}
 use Rattle.fetch_runs.proofs.Lists.{all_map, mapped_at}
 use Rattle.fetch_runs.specs.Steps.{holds, IsStep, SessionIsAStep}
-use Rattle.fetch_runs.specs.Headline.{Occasion, maildrop_at, IsSession, Follows, IsLastStored, by_rows, HoldsAPrefix, IsHeldAfter, IsPastCount, IsForSuch, Promised, IsKept, Headline, EmptyIsKept, HeadlineFromEmpty, IsRun, contents_of, IsRecorded, IsWordForWord, LeaveAway, HeadlineWordForWord, StaysAway, LostRecordsAreForgotten, NewProcessesAreBetween, StopsAreRuns, after_session}
+use Rattle.fetch_runs.specs.Headline.{Occasion, maildrop_at, IsSession, Follows, IsLastStored, by_rows, HoldsAPrefix, IsHeldAfter, IsPastCount, DeletesOneOf, Promised, IsKept, Headline, EmptyIsKept, HeadlineFromEmpty, IsRun, contents_of, IsRecorded, IsWordForWord, LeaveAway, HeadlineWordForWord, StaysAway, LostRecordsAreForgotten, NewProcessesAreBetween, StopsAreRuns, after_session}
 use Rattle.fetch_runs.proofs.TalkCommands.{begins_of}
 use Rattle.fetch_session.specs.Session.{AccountFiles}
 
@@ -47,7 +47,7 @@ holds_prefix laws world state sound is =
 
 -- what holds for each id for which a DELE was begun holds for the id of the message at the number of each DELE that was sent
 pub for_such : (P : List ℕ → Type 0) (drop : List Message) (effect : Effect) → (effect.listing ≡ listing_of drop) ⊎ ((effect.begun ≡ []) × (effect.ended ≡ false)) → AllByRecursion P effect.begun
-    → (command : Command) → IsBegun effect.listing effect.begun command → IsForSuch drop P command
+    → (command : Command) → IsBegun effect.listing effect.begun command → DeletesOneOf drop P command
 for_such P drop effect (inl listed) all (Dele number) begun =
     let at = mapped_at item_of drop (number - 1) begun.0 (ap (λ (l : List Item). slice_get l (number - 1)) (sym listed) ∙ begun.1) in
     (begun.3, at.0, at.1, subst (λ (i : Item). P i.uid) (sym at.2) (all_ids_at P effect.begun begun.0.uid all begun.2))
@@ -224,8 +224,8 @@ module _ (world : World) (state : State AccountFiles) (occasion : Occasion Accou
   left_out m (inl held) = inl (held_after m.uid held)
   left_out m (inr other) = inr other
 
-  for_one : (command : Command) → IsForSuch (maildrop_at world state occasion) (IsHeldAfter world state occasion) command
-      → IsForSuch (maildrop_at world state occasion) (λ (id : List ℕ). is_held world.account occasion.after.maildir id ≡ true) command
+  for_one : (command : Command) → DeletesOneOf (maildrop_at world state occasion) (IsHeldAfter world state occasion) command
+      → DeletesOneOf (maildrop_at world state occasion) (λ (id : List ℕ). is_held world.account occasion.after.maildir id ≡ true) command
   for_one (Dele number) h = (h.0, h.1, h.2, held_after h.1.uid h.3)
   for_one other h = tt
 

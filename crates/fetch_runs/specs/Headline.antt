@@ -188,16 +188,16 @@ LeavesOutOnlyBeyondLimits world state occasion = occasion.report.outcome ≡ End
     (maildrop_at world state occasion)
 
 -- a DELE gives the number, counted from 1, of a message of the maildrop whose id is of this kind; no other command deletes
-abbrev pub IsForSuch : List Message → (List ℕ → Type 0) → Command → Type 0
-IsForSuch maildrop Is (Dele number) = (0 < number) × (message : Message)
+abbrev pub DeletesOneOf : List Message → (List ℕ → Type 0) → Command → Type 0
+DeletesOneOf maildrop Is (Dele number) = (0 < number) × (message : Message)
     × (slice_get maildrop (number - 1) ≡ Some message) × Is message.uid
-IsForSuch maildrop Is _ = Unit {0}
+DeletesOneOf maildrop Is _ = Unit {0}
 
 -- each DELE that a session sent, the last perhaps in part, is for such a message
 pub record DeletesOnly {Account : Type 0} (occasion : Occasion Account) (maildrop : List Message) (Is : List ℕ → Type 0) : Type 0 where
   pub sent : List ℕ
   pub sent_is : occasion.link'.sent ≡ occasion.link.sent ++ sent
-  pub sends : SendsOnly (IsForSuch maildrop Is) sent
+  pub sends : SendsOnly (DeletesOneOf maildrop Is) sent
 
 -- each DELE is for a message that is held when the session returns, or was taken away before it began
 abbrev pub DeletesOnlyHeld : World → State AccountFiles → Occasion AccountFiles → Type 0

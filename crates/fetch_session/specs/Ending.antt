@@ -1,7 +1,7 @@
 -- What is done before QUIT.
 use Rattle.std.specs.Prelude.{◌≡◌, ℕ, Bool, true, List, Option, Some, Result, Ok, Err}
 use Rattle.std.specs.List.{list_any}
-use Rattle.mail_store.specs.MboxCalls.{GoesOn, RefusesLook}
+use Rattle.mail_store.specs.MboxCalls.{EntryMayFollow, RefusesLook}
 use Rattle.mail_store.specs.FlatFile.{edges_of}
 use Rattle.mail_store.specs.declared.fault.StoreFault.{StoreFault}
 use Rattle.mail_store.specs.declared.file.flat_file.Edges.{Edges}
@@ -22,7 +22,7 @@ RefusesAgain old fault new = (why : StoreFault) × IsStoreFault why fault × Ref
 -- if a message was deleted, the device told the size and the ends of an mboxrd file, and an entry may follow it
 abbrev pub IsTold : Kind → List ReportLine → Stores → Option Edges → Type 0
 IsTold Files lines store told = Unit {0}
-IsTold Entries lines store told = has_deletions lines ≡ true → (was : List ℕ) × GoesOn store.mbox was × (told ≡ Some (edges_of was))
+IsTold Entries lines store told = has_deletions lines ≡ true → (was : List ℕ) × EntryMayFollow store.mbox was × (told ≡ Some (edges_of was))
 
 -- it was looked at once more; or it was refused
 abbrev pub LooksAgain : Kind → List ReportLine → Stores → Result (Option Edges) Fault → Stores → Type 0

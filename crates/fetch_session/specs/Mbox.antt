@@ -4,7 +4,7 @@ use Rattle.mail_terms.specs.Listing.{Item}
 use Rattle.fetch_rules.specs.Record.{Row, Intent, Loaded, none_open, marked}
 use Rattle.mail_store.specs.FlatFile.{Stored, holding, counted}
 use Rattle.mail_store.specs.Mboxrd.{MayGoOn, entry_of}
-use Rattle.mail_store.specs.MboxCalls.{GoesOn, IsOther}
+use Rattle.mail_store.specs.MboxCalls.{EntryMayFollow, IsOther}
 use Rattle.mail_store.specs.declared.fault.StoreFault.{StoreFault}
 use Rattle.mail_store.specs.declared.fault.StoreFault.TheVariants as refused
 use Rattle.pop3_wire.specs.Bodies.{Rest}
@@ -88,7 +88,7 @@ abbrev pub RefusesEntry : Stored → Stored → List Row → List ℕ → List �
 RefusesEntry mbox file rows uid text (StoreRefused Missing) mbox' file' = (mbox.content ≡ None) × (mbox' ≡ mbox) × (file' ≡ file)
 RefusesEntry mbox file rows uid text (StoreRefused Refused) mbox' file' =
     ((mbox' ≡ counted mbox) × ((file' ≡ file) ⊎ IsTakenBack mbox file rows uid text file'))
-    ⊎ (IsIntended mbox file rows uid text file' × ((was front rest : List ℕ) × GoesOn mbox was × (entry_of text ≡ front ++ rest)
+    ⊎ (IsIntended mbox file rows uid text file' × ((was front rest : List ℕ) × EntryMayFollow mbox was × (entry_of text ≡ front ++ rest)
     × (mbox' ≡ counted (counted (holding mbox (was ++ front))))))
 RefusesEntry mbox file rows uid text (StoreRefused NotMbox) mbox' file' = IsOther mbox × (mbox' ≡ mbox)
     × IsTakenBack mbox file rows uid text file'
@@ -101,7 +101,7 @@ RefusesEntry mbox file rows uid text _ mbox' file' = ⊥
 
 -- the entry of a text was appended to the mboxrd file, and the record has its intent; or it was refused
 abbrev pub AppendsText : Stored → Stored → Loaded → List ℕ → List ℕ → Result (Unit {0}) Fault → Stored → Stored → Loaded → Type 0
-AppendsText mbox file seen uid text (Ok done) mbox' file' seen' = (was : List ℕ) × GoesOn mbox was
+AppendsText mbox file seen uid text (Ok done) mbox' file' seen' = (was : List ℕ) × EntryMayFollow mbox was
     × (mbox' ≡ holding mbox (was ++ entry_of text)) × (seen'.intent ≡ Some (intent_of was uid text))
     × Saves file (none_open seen.rows) (with_open seen.rows (intent_of was uid text)) (Ok tt) file'
 AppendsText mbox file seen uid text (Err fault) mbox' file' seen' = RefusesEntry mbox file seen.rows uid text fault mbox' file'

@@ -11,7 +11,7 @@ use Rattle.fetch_rules.specs.Plan.{planned}
 use Rattle.mail_store.specs.FlatFile.{Stored}
 use Rattle.mail_store.specs.Held.{flags_of}
 use Rattle.mail_store.specs.Maildir.{Maildir}
-use Rattle.mail_store.specs.MboxCalls.{GoesOn}
+use Rattle.mail_store.specs.MboxCalls.{EntryMayFollow}
 use Rattle.fetch_session.specs.declared.fault.Cut.{Cut}
 use Rattle.pop3_client.specs.declared.fault.ClientFault.{ClientFault}
 use Rattle.fetch_session.specs.declared.fault.Fault.{Fault}
@@ -52,7 +52,7 @@ is_open (Some intent) = true
 -- an mboxrd file was looked at, unless a run would settle it first
 abbrev pub LooksAtMbox : Option Intent → Stored → List Item → Result Looked Fault → Stored → Type 0
 LooksAtMbox intent old items (Ok looked) new = (looked.held.items ≡ none_held items) × (looked.unsettled ≡ is_open intent)
-    × (intent ≡ None → (was : List ℕ) × GoesOn old was) × (new ≡ old)
+    × (intent ≡ None → (was : List ℕ) × EntryMayFollow old was) × (new ≡ old)
 LooksAtMbox intent old items (Err fault) new = AsksMbox intent old items (Err fault) new × (new.content ≡ old.content)
 
 abbrev pub LooksIn : Target → Option Intent → Stores → List Item → Result Looked Fault → Stores → Type 0
@@ -75,7 +75,7 @@ is_unsettled AsEntries intent = is_open intent
 -- an entry may follow the mboxrd file, unless a run would settle it first
 abbrev pub MayBeFollowed : Target → Option Intent → Stores → Type 0
 MayBeFollowed (AsFiles account) intent store = Unit {0}
-MayBeFollowed AsEntries intent store = intent ≡ None → (was : List ℕ) × GoesOn store.mbox was
+MayBeFollowed AsEntries intent store = intent ≡ None → (was : List ℕ) × EntryMayFollow store.mbox was
 
 -- the record's file stands for a record; with what the store holds it gives this preview of the listing. An open intent counts as one
 -- whose entry isn't whole

@@ -21,7 +21,7 @@ use std::marker::Model;
 use std::random::RandomSource;
 use std::rt::Files;
 use std::time::Clock;
-use trace::{Answered, System};
+use trace::{Noted, System};
 
 /// A Maildir in a real folder. Nothing is known of what it holds: contracts see its path, the names of
 /// the files that were listed, and the counts. NoMemory means that a growth of its own was refused,
@@ -38,7 +38,7 @@ pub struct MaildirDrop<'a, R: Files + AllocGlobal + Clone + Drop> {
     /// Where files were last seen, for those that aren't where they were listed.
     pub(crate) last_seen: SeenFiles,
     /// The file that was last read in part.
-    pub(crate) open: Option<OpenText<Answered<'a, R::File>>>,
+    pub(crate) open: Option<OpenText<Noted<'a, R::File>>>,
     failures: FailureCount,
     removals: u64,
 }

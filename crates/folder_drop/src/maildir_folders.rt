@@ -13,7 +13,7 @@ use std::io::{self, ErrorKind};
 use std::marker::Model;
 use std::rt::Files;
 use std::time::{Clock, Duration};
-use trace::{Answered, System};
+use trace::{Noted, System};
 
 /// How many times a file is tried, if it has a new name each time.
 const MOST_TRIES: u32 = 10;
@@ -200,7 +200,7 @@ impl<'a, R: Files + Clock + AllocGlobal + Clone + Drop> MaildirFolders<'a, R> {
         seen: &mut SeenFiles,
         folder: Folder,
         name: &str,
-    ) -> io::Result<Option<Answered<'a, R::File>>> {
+    ) -> io::Result<Option<Noted<'a, R::File>>> {
         self.reach(seen, folder, name, |system, path| system.open(path))
     }
 

@@ -162,7 +162,7 @@ fn pass_through<R: Files + Clock + AllocGlobal + Clone + Drop>(
     let mut names = Vec::new(system.alloc());
     let mut until_look = LOOK_EACH;
     let entries = fs::read_dir(system.rt, path);
-    for entry in system.refusals.answered("open", path, entries)? {
+    for entry in system.refusals.noted("open", path, entries)? {
         until_look = until_look.saturating_sub(1);
         if until_look == 0 {
             if Sighting::now(system, path)?.change() != seen.change() {

@@ -17,7 +17,7 @@ use std::io::{self, ErrorKind};
 use std::os::unix::fs::MetadataExt;
 use std::rt::Files;
 use std::time::Clock;
-use trace::{Answered, Refusals, System};
+use trace::{Noted, Refusals, System};
 
 /// A folder of the machine's file system. Nothing is known of what the system does. Each call asks the
 /// system for one or two things, so that a reader can compare it with what the trait says.
@@ -29,7 +29,7 @@ use trace::{Answered, Refusals, System};
 pub struct HostFolder<'a, R: Files> {
     system: &'a System<'a, R>,
     paths: HostPaths<'a>,
-    handles: Handles<Answered<'a, R::File>>,
+    handles: Handles<Noted<'a, R::File>>,
 }
 
 impl<'a, R: Files + AllocGlobal> HostFolder<'a, R> {
@@ -110,7 +110,7 @@ impl<'a, R: Files + AllocGlobal> HostFolder<'a, R> {
     }
 
     // The regular file of a name, opened to be read.
-    fn open_regular(&self, name: &str) -> io::Result<Answered<'a, R::File>> {
+    fn open_regular(&self, name: &str) -> io::Result<Noted<'a, R::File>> {
         self.system.open(self.regular_path(name)?.as_str())
     }
 
@@ -186,14 +186,14 @@ impl<'a, R: Files + AllocGlobal> HostFolder<'a, R> {
     }
 
     // The handle kept from the file's last change, or a new one.
-    fn handle_of(&mut self, name: &str) -> io::Result<Changed<Answered<'a, R::File>>> {
+    fn handle_of(&mut self, name: &str) -> io::Result<Changed<Noted<'a, R::File>>> {
         match self.handles.take_kept(name) {
             Some(changed) => Ok(changed),
             None => self.open_changed(name),
         }
     }
 
-    fn open_changed(&self, name: &str) -> io::Result<Changed<Answered<'a, R::File>>> {
+    fn open_changed(&self, name: &str) -> io::Result<Changed<Noted<'a, R::File>>> {
         let title = String::from_str(self.system.alloc(), name)?;
         let path = self.regular_path(name)?;
         let file = self

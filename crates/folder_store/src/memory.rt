@@ -142,7 +142,7 @@ fn bytes_left(
 }
 
 /// Appends a file with the bytes that are left of it, all on the disk, if it is still there.
-fn keep(
+fn add_left(
     left: &mut Vec<(String, MemoryBlob)>,
     file: &(String, MemoryBlob),
     bytes: Option<Vec<u8>>,
@@ -172,7 +172,7 @@ fn survivors(
     for (i, file) in files.iter().enumerate() {
         let choice = choices.get(i).copied().unwrap_or(Left::All);
         let bytes = bytes_left(file, older, choice)?;
-        keep(&mut left, file, bytes)?;
+        add_left(&mut left, file, bytes)?;
     }
     Ok(left)
 }

@@ -167,13 +167,13 @@ fn files_left(
     for (i, file) in files.iter().enumerate() {
         let choice = choices.get(i).copied().unwrap_or(MailLeft::Here);
         let rest = file.left(choice)?;
-        keep_left(&mut left, rest)?;
+        add_left(&mut left, rest)?;
     }
     Ok(left)
 }
 
 /// Appends what is left of a file, if anything is.
-fn keep_left(left: &mut Vec<StoredMail>, file: Option<StoredMail>) -> Result<(), AllocError>
+fn add_left(left: &mut Vec<StoredMail>, file: Option<StoredMail>) -> Result<(), AllocError>
     ensures { OnOk result (map mail_file left.new.items ≡ map mail_file left.old.items ++ list_of (option_map mail_file file)) }
 {
     match file {

@@ -82,7 +82,7 @@ impl<'a, F: FileFolder + Drop> Rests<'a, F> {
 
     // How many octets of another file from `start` to `end` this file has already: all, if it ends
     // with them; as many as it has, if it has no others; or none. The other file is only read.
-    fn already_there(
+    fn octets_there(
         &mut self,
         other: &mut F,
         name: &str,
@@ -113,7 +113,7 @@ impl<'a, F: FileFolder + Drop> Rests<'a, F> {
         ensures { F.sound other.new → F.sound other.old × (F.directory other.new ≡ F.directory other.old) }
     {
         let edges = other.edges(name)?;
-        let mut at = start.saturating_add(self.already_there(other, name, start, edges.size)?);
+        let mut at = start.saturating_add(self.octets_there(other, name, start, edges.size)?);
         let mut buf = [0u8; PIECE];
         while at < edges.size {
             let count = other.read_at(name, at, &mut buf)?;

@@ -8,7 +8,7 @@ use std::os::unix::fs::OpenOptionsExt;
 use std::rt::Files;
 use std::time::{Clock, SystemTime};
 use std::{fs, io};
-use trace::{Answered, Refusals, System};
+use trace::{Noted, Refusals, System};
 
 /// How many seconds nothing is written to a file before it counts as left behind. A run at work waits
 /// for the server for three minutes at most.
@@ -18,7 +18,7 @@ const LEFT_BEHIND_SECONDS: u64 = 3_600;
 pub fn make_file<'a, R: Files + AllocGlobal>(
     system: &System<'a, R>,
     path: &str,
-) -> io::Result<Answered<'a, R::File>> {
+) -> io::Result<Noted<'a, R::File>> {
     system.open_with(
         OpenOptions::new().write(true).create_new(true).mode(0o600),
         path,
@@ -81,7 +81,7 @@ pub fn entry_in<T>(
     match entry {
         Ok(entry) => Ok(Some(entry)),
         Err(fault) if fault.kind() == ErrorKind::InvalidFilename => Ok(None),
-        Err(fault) => refusals.answered("read", folder, Err(fault)),
+        Err(fault) => refusals.noted("read", folder, Err(fault)),
     }
 }
 
@@ -95,7 +95,7 @@ pub fn sweep<R: Files + Clock + AllocGlobal + Clone + Drop>(
 ) -> io::Result<()> {
     let now = SystemTime::now(system.rt)?;
     let entries = fs::read_dir(system.rt, folder);
-    for entry in system.refusals.answered("open", folder, entries)? {
+    for entry in system.refusals.noted("open", folder, entries)? {
         let Some(entry) = entry_in(system.refusals, folder, entry)? else {
             continue;
         };

@@ -6,7 +6,7 @@ use std::alloc::{AllocError, Global};
 use std::io::{self, Stderr};
 use std::net::{SocketAddr, TcpStream, ToSocketAddrs};
 use std::time::Duration;
-use trace::{Answered, Refusals, TracedWire};
+use trace::{Noted, Refusals, TracedWire};
 
 /// How long one address of the server has to take the connection.
 const CONNECT_SECONDS: u64 = 60;
@@ -16,7 +16,7 @@ const CONNECT_SECONDS: u64 = 60;
 const WAIT_SECONDS: u64 = 180;
 
 /// A connection, or one end of it, whose refused calls are noted.
-type End<'a> = Answered<'a, &'a TcpStream>;
+type End<'a> = Noted<'a, &'a TcpStream>;
 
 /// The link over a connection.
 pub type Link<'a> = TracedWire<'a, StreamWire<End<'a>, End<'a>>, Stderr>;
@@ -34,7 +34,7 @@ fn connect_to(rt: &HostRuntime, address: SocketAddr) -> io::Result<TcpStream> {
 /// Notes that an address took no connection. Without memory it isn't noted.
 fn note_refused(alloc: Global, refusals: &Refusals, address: SocketAddr, error: io::Error) {
     if let Ok(address) = format!(in alloc; "{address}") {
-        let _ = refusals.answered("connect", address.as_str(), Err::<(), io::Error>(error));
+        let _ = refusals.noted("connect", address.as_str(), Err::<(), io::Error>(error));
     }
 }
 
@@ -46,7 +46,7 @@ pub fn connect<'a>(
     port: u16,
 ) -> Result<TcpStream, Failure<'a>> {
     let addresses = (server, port).to_socket_addrs(rt);
-    let addresses = match refusals.answered("getaddrinfo", server, addresses) {
+    let addresses = match refusals.noted("getaddrinfo", server, addresses) {
         Ok(addresses) => addresses,
         Err(error) => return Err(failure_of(error, Failure::CannotConnect(server, port))),
     };
@@ -99,8 +99,8 @@ pub fn link_over<'a>(
     let Peer { name, password } = peer;
     let name = name.as_str();
     let wire = StreamWire::new(
-        Answered::new(alloc, stream, name, &reasons.link),
-        Answered::new(alloc, stream, name, &reasons.link),
+        Noted::new(alloc, stream, name, &reasons.link),
+        Noted::new(alloc, stream, name, &reasons.link),
     );
     let denial = if errors.says_why {
         Some(&reasons.answer)

@@ -151,11 +151,11 @@ fn record_path(alloc: Global, folder: &str, settings: &Settings) -> Result<Strin
     joined(alloc, folder, name.as_str())
 }
 
-/// The path of the file in which is kept what is cut off from an mboxrd file.
-fn rests_path(alloc: Global, record: &str) -> Result<String, AllocError>
-    ensures { IfOk result (λ path. string_bytes path ≡ record.now ++ codes ".rest") }
+/// The path of the file for what is cut off from an mboxrd file; `base` is the record's path.
+fn rests_path(alloc: Global, base: &str) -> Result<String, AllocError>
+    ensures { IfOk result (λ path. string_bytes path ≡ base.now ++ codes ".rest") }
 {
-    format!(in alloc; "{record}.rest")
+    format!(in alloc; "{base}.rest")
 }
 
 /// The path of a destination, a Maildir or an mboxrd file.

@@ -11,8 +11,8 @@ use Rattle.mail_store.specs.FlatFile.{Stored, holding, counted, edges_of}
 use Rattle.mail_store.specs.Mboxrd.{MayGoOn, MboxFile, HasNoTexts, entry_of}
 
 -- the file has these bytes, and an entry may follow them
-abbrev pub GoesOn : Stored → List ℕ → Type 0
-GoesOn stored was = (stored.content ≡ Some was) × MayGoOn was
+abbrev pub EntryMayFollow : Stored → List ℕ → Type 0
+EntryMayFollow stored was = (stored.content ≡ Some was) × MayGoOn was
 
 -- an entry may not follow the file's bytes
 abbrev pub IsOther : Stored → Type 0
@@ -27,23 +27,23 @@ RefusesLook old NoMemory new = ⊥
 
 -- `peek_ends`: the size and the ends of a file that an entry may follow
 abbrev pub Looks : Stored → Result Edges StoreFault → Stored → Type 0
-Looks old (Ok edges) new = ((was : List ℕ) × GoesOn old was × (edges ≡ edges_of was)) × (new ≡ old)
+Looks old (Ok edges) new = ((was : List ℕ) × EntryMayFollow old was × (edges ≡ edges_of was)) × (new ≡ old)
 Looks old (Err fault) new = RefusesLook old fault new
 
 -- `check_mbox` and `peek_mbox`: an entry may follow the file
 abbrev pub Checks : {T : Type 0} → Stored → Result T StoreFault → Stored → Type 0
-Checks old (Ok done) new = ((was : List ℕ) × GoesOn old was) × (new ≡ old)
+Checks old (Ok done) new = ((was : List ℕ) × EntryMayFollow old was) × (new ≡ old)
 Checks old (Err fault) new = RefusesLook old fault new
 
 -- `append_entry`: the entry follows the file's bytes; or the file is as it was: there is none, a call was refused, no entry may
 -- follow it, or memory ran out; or the append and the cut back were refused, and a front of the entry may be there
 abbrev pub AppendsEntry : {T : Type 0} → Stored → List ℕ → Result T EntryFault → Stored → Type 0
-AppendsEntry old text (Ok done) new = (was : List ℕ) × GoesOn old was × (new ≡ holding old (was ++ entry_of text))
+AppendsEntry old text (Ok done) new = (was : List ℕ) × EntryMayFollow old was × (new ≡ holding old (was ++ entry_of text))
 AppendsEntry old text (Err (Nothing Missing)) new = (old.content ≡ None) × (new ≡ old)
 AppendsEntry old text (Err (Nothing Refused)) new = new ≡ counted old
 AppendsEntry old text (Err (Nothing NotMbox)) new = IsOther old × (new ≡ old)
 AppendsEntry old text (Err (Nothing NoMemory)) new = new ≡ old
-AppendsEntry old text (Err Front) new = (was front rest : List ℕ) × GoesOn old was × (entry_of text ≡ front ++ rest)
+AppendsEntry old text (Err Front) new = (was front rest : List ℕ) × EntryMayFollow old was × (entry_of text ≡ front ++ rest)
     × (new ≡ counted (counted (holding old (was ++ front))))
 
 -- the count rises if a call was refused, and once more if the cut that follows was refused too

@@ -124,12 +124,12 @@ pub data Action : Type 0 where
   Leave : List MessageRow → Action
 
 abbrev pub in_authorization : List ℕ → List ℕ → Option (List ℕ) → Command → Action
-in_authorization user pass kept (User name) = Say (said (codes "+OK send PASS")) (Authorization (Some name))
+in_authorization user pass given (User name) = Say (said (codes "+OK send PASS")) (Authorization (Some name))
 in_authorization user pass None (Pass word) = Say (said (codes "-ERR USER first")) (Authorization None)
 in_authorization user pass (Some name) (Pass word) =
     if bytes_eq name user && bytes_eq word pass then Open else Say (said (codes "-ERR refused")) (Authorization None)
-in_authorization user pass kept Quit = Say (said (codes "+OK bye")) Closed
-in_authorization user pass kept command = Say (said (codes "-ERR not now")) (Authorization kept)
+in_authorization user pass given Quit = Say (said (codes "+OK bye")) Closed
+in_authorization user pass given command = Say (said (codes "-ERR not now")) (Authorization given)
 
 abbrev pub give : List MessageRow → ℕ → Option MessageRow → (MessageRow → List ℕ) → Option ℕ → Action
 give rows k None line top = Say (said (codes "-ERR no such message")) (Transaction rows)
@@ -170,7 +170,7 @@ is_about_rows command = true
 -- what a line asks for, given its command or its fault; a closed server isn't asked
 abbrev pub action_of : List ℕ → List ℕ → State → Result Command WireFault → Action
 action_of user pass state (Err fault) = Say (said (codes "-ERR bad command")) state
-action_of user pass (Authorization kept) (Ok command) = in_authorization user pass kept command
+action_of user pass (Authorization given) (Ok command) = in_authorization user pass given command
 action_of user pass (Transaction rows) (Ok command) = in_transaction rows command
 action_of user pass Closed (Ok command) = Say [] Closed
 
@@ -254,13 +254,13 @@ pub record Unanswered {D : Type 0} (sound : D → Type 0) (mail : D → Mail) (o
 -- ---- a whole server
 
 abbrev pub is_open : State → Bool
-is_open (Authorization kept) = true
+is_open (Authorization given) = true
 is_open (Transaction rows) = true
 is_open Closed = false
 
 -- each row has its message, while there are rows
 abbrev pub Tied : Type 0 → Mail → State → Type 0
-Tied sound mail (Authorization kept) = Unit {0}
+Tied sound mail (Authorization given) = Unit {0}
 Tied sound mail (Transaction rows) = sound → (i : ℕ) (row : MessageRow) → slice_get rows i ≡ Some row → HasPlace mail i
 Tied sound mail Closed = Unit {0}
 

@@ -46,8 +46,8 @@ AnswersOrBegins sound mail asked old made None next new = Answers sound mail ask
 AnswersOrBegins sound mail asked old made (Some text) next new = BeginsAnswer sound mail asked old made text next new
 
 -- whatever answer the earlier octets of a reply begin, all of them begin it too, or are the whole
-abbrev pub GoesOn : {D : Type 0} → (D → Type 0) → (D → Mail) → D → List ℕ → TextBody → D → List ℕ → Option TextBody → Type 0
-GoesOn {D} sound mail before earlier text after octets rest = (asked : Action) (old : D) (sent : List ℕ) (next : State)
+abbrev pub ContinuesAnswer : {D : Type 0} → (D → Type 0) → (D → Mail) → D → List ℕ → TextBody → D → List ℕ → Option TextBody → Type 0
+ContinuesAnswer {D} sound mail before earlier text after octets rest = (asked : Action) (old : D) (sent : List ℕ) (next : State)
     → BeginsAnswer sound mail asked old (sent ++ earlier) text next before
     → AnswersOrBegins sound mail asked old (sent ++ octets) rest next after
 

@@ -224,14 +224,14 @@ pub fn authorize<D: Maildrop>(
     drop: &mut D,
     user: &[u8],
     pass: &[u8],
-    kept: &Option<Bytes>,
+    given: &Option<Bytes>,
     command: Command,
 ) -> Result<Outcome, ServerFault>
     ensures ok { IfOk result (λ outcome. AnswersOrBegins D.sound D.mail
-        (in_authorization user.now pass.now kept.now command)
-        drop.old outcome.bytes.items outcome.rest (next_of (Authorization kept.now) outcome.next) drop.new) }
+        (in_authorization user.now pass.now given.now command)
+        drop.old outcome.bytes.items outcome.rest (next_of (Authorization given.now) outcome.next) drop.new) }
     ensures whole { IfOk result (λ outcome. outcome.rest ≡ None) }
-    ensures tied { IfOk result (λ outcome. Tied (D.sound drop.new) (D.mail drop.new) (next_of (Authorization kept.now) outcome.next)) }
+    ensures tied { IfOk result (λ outcome. Tied (D.sound drop.new) (D.mail drop.new) (next_of (Authorization given.now) outcome.next)) }
     ensures err { IfErr result (λ e. (e ≡ ServerFault.NoMemory) × Unanswered D.sound D.mail drop.old drop.new) }
 {
     match command {
@@ -239,7 +239,7 @@ pub fn authorize<D: Maildrop>(
             say(alloc, b"+OK send PASS")?,
             State::Authorization(Some(name)),
         )),
-        Command::Pass(word) => match kept {
+        Command::Pass(word) => match given {
             None => Ok(Outcome::stay(say(alloc, b"-ERR USER first")?)),
             Some(name) => log_in(alloc, drop, user, pass, name, &word),
         },

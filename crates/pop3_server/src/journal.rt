@@ -37,9 +37,9 @@ pub fn event_of(old: &State, new: &State, refused: u64) -> Option<Event>
     ensures { result ≡ event_of old.now new.now refused }
 {
     match old {
-        State::Authorization(kept) => match new {
+        State::Authorization(given) => match new {
             State::Transaction(rows) => Some(Event::LoggedIn(rows.as_slice().len())),
-            State::Authorization(None) if kept.is_none() => None,
+            State::Authorization(None) if given.is_none() => None,
             State::Authorization(None) if refused > 0 => Some(Event::Unavailable),
             State::Authorization(None) => Some(Event::Refused),
             State::Authorization(Some(_)) | State::Closed => None,
@@ -47,8 +47,8 @@ pub fn event_of(old: &State, new: &State, refused: u64) -> Option<Event>
         State::Transaction(rows) => match new {
             State::Closed => {
                 let rows = rows.as_slice();
-                let (kept, _) = left(rows);
-                let marked = rows.len() - kept;
+                let (remaining, _) = left(rows);
+                let marked = rows.len() - remaining;
                 Some(Event::Left(marked.saturating_sub(refused as usize), refused))
             }
             State::Authorization(_) | State::Transaction(_) => None,

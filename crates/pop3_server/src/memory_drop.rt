@@ -39,7 +39,7 @@ impl StoredMessage {
     fn new(alloc: Global, uid: &[u8], text: &[u8]) -> Result<StoredMessage, AllocError>
         requires legal { IsTrue (is_legal_id uid.now) }
         requires within { size_of text.now ≤ MAX_SIZE }
-        ensures { IfOk result (λ kept. kept ≡ record { uid = uid.now; size = size_of text.now; text = text.now }) }
+        ensures { IfOk result (λ message. message ≡ record { uid = uid.now; size = size_of text.now; text = text.now }) }
     {
         let size = size_of(text);
         let uid = Bytes::from_vec(Vec::from_slice(alloc, uid)?);
@@ -115,7 +115,7 @@ fn list(alloc: Global, slots: &[Option<StoredMessage>]) -> Result<Vec<Entry>, Al
     for slot in slots {
         match slot {
             None => {}
-            Some(kept) => entries.push(kept.listed(alloc)?)?,
+            Some(message) => entries.push(message.listed(alloc)?)?,
         }
     }
     Ok(entries)
@@ -128,8 +128,8 @@ fn has_id(slots: &[Option<StoredMessage>], uid: &[u8]) -> bool
     for slot in slots {
         match slot {
             None => {}
-            Some(kept) => {
-                if kept.is(uid) {
+            Some(message) => {
+                if message.is(uid) {
                     return true;
                 }
             }
@@ -204,12 +204,12 @@ impl MemoryDrop {
     }
 
     /// The message at this place.
-    fn kept(&self, i: usize) -> &StoredMessage
+    fn stored_at(&self, i: usize) -> &StoredMessage
         requires { HasPlace self.now i }
         ensures { slice_get self.now.slots i ≡ Some (Some result.now) }
     {
         match &self.slots[i] {
-            Some(kept) => kept,
+            Some(message) => message,
             None => unreachable!(),
         }
     }
@@ -228,8 +228,8 @@ impl MemoryDrop {
         }) }
         ensures err { OnErr result (self.new ≡ self.old) }
     {
-        let kept = StoredMessage::new(self.alloc, uid, text)?;
-        self.slots.push(Some(kept))?;
+        let message = StoredMessage::new(self.alloc, uid, text)?;
+        self.slots.push(Some(message))?;
         Ok(())
     }
 }
@@ -246,11 +246,11 @@ impl Maildrop for MemoryDrop {
     }
 
     fn text(&mut self, i: usize) -> Result<Vec<u8>, DropFault> {
-        Ok(self.kept(i).copied(self.alloc)?)
+        Ok(self.stored_at(i).copied(self.alloc)?)
     }
 
     fn part(&mut self, i: usize, start: usize, piece: &mut [u8]) -> Result<usize, DropFault> {
-        Ok(self.kept(i).put_part(start, piece))
+        Ok(self.stored_at(i).put_part(start, piece))
     }
 
     #[tactic(auto, using(crate::proofs::SlotLemmas::distinct_removed, crate::proofs::SlotLemmas::count_removed))]

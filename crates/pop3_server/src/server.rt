@@ -193,12 +193,12 @@ impl<D: Maildrop> Server<D> {
     {
         let failures = self.drop.failures();
         let outcome = match &mut self.state {
-            State::Authorization(kept) => authorize(
+            State::Authorization(given) => authorize(
                 self.alloc,
                 &mut self.drop,
                 self.user.as_slice(),
                 self.pass.as_slice(),
-                kept,
+                given,
                 command,
             )?,
             State::Transaction(rows) => transact(

@@ -5,7 +5,7 @@ use pop3_wire::Bytes;
 /// The state of a session.
 #[derive(Drop)]
 pub enum State {
-    /// The client isn't logged in yet; a user's name may be kept.
+    /// The client isn't logged in yet, and may have given a name by USER.
     Authorization(Option<Bytes>),
     /// The maildrop is open.
     Transaction(Rows),

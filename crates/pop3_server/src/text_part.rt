@@ -4,7 +4,7 @@ ghost use Rattle.std.specs.Prelude.{IsTrue, IfOk, IfErr, IfSome, vec_len, vec_ca
 ghost use Rattle.mail_terms.specs.FailureCount.{refuses};
 ghost use Rattle.pop3_server.specs.Maildrop.{HasPlace, is_refusal};
 ghost use Rattle.pop3_server.specs.ServerMachine.{text_body};
-ghost use Rattle.pop3_server.specs.TextAnswer.{GoesOn, IsFurther, OnlyReads};
+ghost use Rattle.pop3_server.specs.TextAnswer.{ContinuesAnswer, IsFurther, OnlyReads};
 ghost use Rattle.pop3_server.specs.TextBody.{belonging, still};
 
 use crate::maildrop::{DropFault, Maildrop};
@@ -91,7 +91,7 @@ impl TextBody {
         requires place { D.sound drop.old → HasPlace (D.mail drop.old) self.place }
         requires part { 0 < length part.old }
         ensures reads { OnlyReads D.sound D.mail (refuses is_refusal result) drop.old drop.new }
-        ensures goes_on { IfOk result (λ rest. GoesOn D.sound D.mail drop.old reply.old.items self drop.new reply.new.items rest) }
+        ensures goes_on { IfOk result (λ rest. ContinuesAnswer D.sound D.mail drop.old reply.old.items self drop.new reply.new.items rest) }
         ensures further { IfOk result (λ rest. IfSome rest (λ next. IsFurther self next)) }
         ensures capacity { vec_capacity reply.old ≤ vec_capacity reply.new }
         ensures room { vec_len reply.old + (2 * length part.old + 5) ≤ vec_capacity reply.old → 0 < self.start
@@ -127,7 +127,7 @@ impl TextBody {
     ) -> Result<Option<TextBody>, DropFault>
         requires { D.sound drop.old → HasPlace (D.mail drop.old) self.place }
         ensures reads { OnlyReads D.sound D.mail (refuses is_refusal result) drop.old drop.new }
-        ensures goes_on { IfOk result (λ rest. GoesOn D.sound D.mail drop.old reply.old.items self drop.new reply.new.items rest) }
+        ensures goes_on { IfOk result (λ rest. ContinuesAnswer D.sound D.mail drop.old reply.old.items self drop.new reply.new.items rest) }
         ensures further { IfOk result (λ rest. IfSome rest (λ next. IsFurther self next × (limit < 2 ^ 64 - 1))) }
         ensures capacity { vec_capacity reply.old ≤ vec_capacity reply.new }
         ensures room { limit + ROOM ≤ vec_capacity reply.old → vec_len reply.old ≤ limit → 0 < self.start

@@ -17,7 +17,7 @@ use std::random::RandomSource;
 use std::rt::{Clock, Files};
 use std::thread;
 use std::time::Duration;
-use trace::{Answered, System, TracedWire};
+use trace::{Noted, System, TracedWire};
 
 /// How long the server waits after a connection that couldn't be accepted: without a free descriptor,
 /// the next one can't be accepted at once either.
@@ -41,8 +41,8 @@ where
     ensures { is_open server.new.state ≡ true → (D.mail server.new.drop).removals ≡ (D.mail server.old.drop).removals }
 {
     let (alloc, refusals) = (system.alloc(), system.refusals);
-    let reader = Answered::new(alloc, input.0, input.1, refusals);
-    let writer = Answered::new(alloc, output.0, output.1, refusals);
+    let reader = Noted::new(alloc, input.0, input.1, refusals);
+    let writer = Noted::new(alloc, output.0, output.1, refusals);
     let link = StreamWire::new(reader, writer);
     let mut wire = TracedWire::new(alloc, link, refusals.trace(), None, None);
     serve_and_note(server, &mut wire, journal)
@@ -209,10 +209,7 @@ fn serve_next<'a, R>(
 where
     R: Files + Clock + RandomSource + AllocGlobal + Eprint + Clone + Drop,
 {
-    match system
-        .refusals
-        .answered("accept", address, listener.accept())
-    {
+    match system.refusals.noted("accept", address, listener.accept()) {
         Ok(taken) => serve_client(system, verbose, &taken, account, maildir),
         Err(_) => {
             let rt = system.rt;
@@ -230,7 +227,7 @@ where
     ensures { IfErr result (λ f. (f ≡ Failure.CannotListen address.entry) ⊎ (f ≡ Failure.Fault ServerFault.NoMemory)) }
 {
     let bound = TcpListener::bind(system.rt, address);
-    match system.refusals.answered("bind", address, bound) {
+    match system.refusals.noted("bind", address, bound) {
         Ok(listener) => Ok(listener),
         Err(error) => Err(failure_of(error, Failure::CannotListen(address))),
     }

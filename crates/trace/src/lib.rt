@@ -2,19 +2,19 @@
 //! tell the reason of a fault.
 #![tactic(auto)]
 
-mod answered;
 mod command;
 mod denial;
 mod line;
+mod noted;
 mod refusal;
 mod refusals;
 mod system;
 mod wire;
 
-pub use answered::Answered;
 pub use command::{commands_hide_passwords, shown_answer, shown_command};
 pub use denial::Denial;
 pub use line::line_text;
+pub use noted::Noted;
 pub use refusal::refusal_text;
 pub use refusals::{Refusal, Refusals};
 pub use system::System;

@@ -51,7 +51,7 @@ impl Refusals {
     }
 
     /// The answer of a call of the system, which is noted if it is a refusal.
-    pub fn answered<T>(&self, call: &str, path: &str, answer: io::Result<T>) -> io::Result<T>
+    pub fn noted<T>(&self, call: &str, path: &str, answer: io::Result<T>) -> io::Result<T>
         ensures { result ≡ answer }
     {
         if let Err(error) = &answer {

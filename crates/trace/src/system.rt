@@ -1,5 +1,5 @@
 //! The machine's file system, whose refused calls are noted.
-use crate::answered::Answered;
+use crate::noted::Noted;
 use crate::refusals::Refusals;
 use std::alloc::Global;
 use std::fs;
@@ -30,7 +30,7 @@ impl<'a, R: Files + AllocGlobal> System<'a, R> {
     /// The metadata of what a path leads to.
     pub fn stat(&self, path: &str) -> io::Result<Metadata> {
         self.refusals
-            .answered("stat", path, fs::metadata(self.rt, path))
+            .noted("stat", path, fs::metadata(self.rt, path))
     }
 
     /// The metadata of what a path names. That there is nothing isn't noted: the programs ask whether a name
@@ -38,23 +38,23 @@ impl<'a, R: Files + AllocGlobal> System<'a, R> {
     pub fn lstat(&self, path: &str) -> io::Result<Metadata> {
         match fs::symlink_metadata(self.rt, path) {
             Err(error) if error.kind() == ErrorKind::NotFound => Err(error),
-            answer => self.refusals.answered("lstat", path, answer),
+            answer => self.refusals.noted("lstat", path, answer),
         }
     }
 
     /// Opens a file or a folder to read it.
-    pub fn open(&self, path: &str) -> io::Result<Answered<'a, R::File>> {
+    pub fn open(&self, path: &str) -> io::Result<Noted<'a, R::File>> {
         self.opened(path, fs::open(self.rt, path))
     }
 
     /// Opens a file in another way.
-    pub fn open_with(&self, how: &OpenOptions, path: &str) -> io::Result<Answered<'a, R::File>> {
+    pub fn open_with(&self, how: &OpenOptions, path: &str) -> io::Result<Noted<'a, R::File>> {
         self.opened(path, how.open(self.rt, path))
     }
 
-    fn opened(&self, path: &str, file: io::Result<R::File>) -> io::Result<Answered<'a, R::File>> {
-        let file = self.refusals.answered("open", path, file)?;
-        Ok(Answered::new(self.rt.alloc(), file, path, self.refusals))
+    fn opened(&self, path: &str, file: io::Result<R::File>) -> io::Result<Noted<'a, R::File>> {
+        let file = self.refusals.noted("open", path, file)?;
+        Ok(Noted::new(self.rt.alloc(), file, path, self.refusals))
     }
 
     /// Gives a file another name.
@@ -62,7 +62,7 @@ impl<'a, R: Files + AllocGlobal> System<'a, R> {
         let answer = fs::rename(self.rt, from, to);
         if answer.is_err() {
             if let Ok(paths) = format!(in self.rt.alloc(); "{from} to {to}") {
-                return self.refusals.answered("rename", paths.as_str(), answer);
+                return self.refusals.noted("rename", paths.as_str(), answer);
             }
             self.refusals.forget();
         }
@@ -72,6 +72,6 @@ impl<'a, R: Files + AllocGlobal> System<'a, R> {
     /// Removes a file.
     pub fn unlink(&self, path: &str) -> io::Result<()> {
         self.refusals
-            .answered("unlink", path, fs::remove_file(self.rt, path))
+            .noted("unlink", path, fs::remove_file(self.rt, path))
     }
 }

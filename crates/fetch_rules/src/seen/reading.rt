@@ -32,7 +32,7 @@ pub(crate) enum Part {
 #[derive(Clone, Copy)]
 pub(crate) enum End {
     /// All rows count, and perhaps a piece of a line follows them.
-    AllCount { torn: bool },
+    NoneOpen { torn: bool },
     /// A group lacks rows. This many bytes come before it.
     Open { front: usize },
 }
@@ -92,11 +92,11 @@ impl Part {
     /// The end of the file, if the rest has no LF and `front` bytes come before the last group.
     fn end(self, front: usize, rest: &[u8]) -> End
         ensures within { is_within self ≡ true → result ≡ End.Open front }
-        ensures between { is_within self ≡ false → result ≡ End.AllCount (has_bytes rest.now) }
+        ensures between { is_within self ≡ false → result ≡ End.NoneOpen (has_bytes rest.now) }
     {
         match self {
             Part::Within(_) => End::Open { front },
-            _ => End::AllCount {
+            _ => End::NoneOpen {
                 torn: !rest.is_empty(),
             },
         }
@@ -129,7 +129,7 @@ fn read_without_header<'a>(bytes: &'a [u8]) -> Result<(ReadFile<'a>, End), SeenF
         intent: None,
         outgrown: false,
     };
-    Ok((file, End::AllCount { torn: false }))
+    Ok((file, End::NoneOpen { torn: false }))
 }
 
 /// Whether a group's row may repeat the id of an earlier row: it is delivered and has the same
@@ -281,7 +281,7 @@ impl<H: BuildHasher> RowMap<H> {
         let lines = self.read_lines(bytes)?;
         let (file, end) = lines;
         match end {
-            End::AllCount { torn } => Ok((file, torn)),
+            End::NoneOpen { torn } => Ok((file, torn)),
             End::Open { front } => {
                 // The group's rows don't count: what comes before it is read again.
                 self.clear();

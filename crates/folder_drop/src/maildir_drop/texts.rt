@@ -6,7 +6,7 @@ use std::io::{self, ErrorKind, Read, Seek, SeekFrom};
 use std::random::RandomSource;
 use std::rt::Files;
 use std::time::Clock;
-use trace::Answered;
+use trace::Noted;
 
 /// The error for a file that isn't there.
 fn missing() -> io::Error {
@@ -15,7 +15,7 @@ fn missing() -> io::Error {
 
 impl<'a, R: Files + Clock + RandomSource + AllocGlobal + Clone + Drop> MaildirDrop<'a, R> {
     /// Opens the file at a place of the last listing.
-    fn open_file(&mut self, i: usize) -> io::Result<Answered<'a, R::File>>
+    fn open_file(&mut self, i: usize) -> io::Result<Noted<'a, R::File>>
         ensures same { self.new ≡ self.old }
     {
         let Some(listed) = self.listing.files.get(i) else {
@@ -46,7 +46,7 @@ impl<'a, R: Files + Clock + RandomSource + AllocGlobal + Clone + Drop> MaildirDr
     }
 
     /// Opens the file at a place of the last listing, to be read from the octet `start` on.
-    fn open_text(&mut self, i: usize, start: usize) -> io::Result<OpenText<Answered<'a, R::File>>>
+    fn open_text(&mut self, i: usize, start: usize) -> io::Result<OpenText<Noted<'a, R::File>>>
         ensures same { self.new ≡ self.old }
     {
         let mut file = self.open_file(i)?;

@@ -8,13 +8,13 @@ use Rattle.pop3_server.proofs.memory_drop.has_id.Goals.{in-None, in-Some+else-is
 
 pub returns-then-is : goal.returns-then-is
 returns-then-is c =
-    (λ _. subst (λ u. Contains (ids c.args.slots.now) u) (c.is.ensures.0 c.if-is.true) (Contains-slot c.args.slots.now c.loop-slot.slot-index _ c.in-Some.kept c.loop-slot-test.true c.slot-item.is c.in-Some.is), λ _. refl)
+    (λ _. subst (λ u. Contains (ids c.args.slots.now) u) (c.is.ensures.0 c.if-is.true) (Contains-slot c.args.slots.now c.loop-slot.slot-index _ c.in-Some.message c.loop-slot-test.true c.slot-item.is c.in-Some.is), λ _. refl)
 
 pub loop-slot-preserved : goal.loop-slot-preserved
 loop-slot-preserved c =
     elim c.match-slot.branch [
       | in-None w ↦ absent_none c.args.slots.now c.loop-slot.slot-index _ c.args.uid.now c.loop-slot-test.true c.slot-item.is w.in-None.is c.loop-slot.invariant
-      | in-Some+else-is w ↦ absent_some c.args.slots.now c.loop-slot.slot-index _ w.in-Some.kept c.args.uid.now c.loop-slot-test.true c.slot-item.is w.in-Some.is (λ same. false≢true (sym w.if-is.false ∙ w.is.ensures.1 same)) c.loop-slot.invariant
+      | in-Some+else-is w ↦ absent_some c.args.slots.now c.loop-slot.slot-index _ w.in-Some.message c.args.uid.now c.loop-slot-test.true c.slot-item.is w.in-Some.is (λ same. false≢true (sym w.if-is.false ∙ w.is.ensures.1 same)) c.loop-slot.invariant
     ]
 
 pub returns : goal.returns

@@ -8,29 +8,29 @@ use std::io::{self, Read, Seek, SeekFrom, Write};
 
 /// An open file, folder or connection that passes each call on, and notes those that are refused.
 #[derive(Drop)]
-pub struct Answered<'a, S> {
+pub struct Noted<'a, S> {
     inner: S,
     path: Option<String>,
     refusals: &'a Refusals,
 }
 
-impl<'a, S> Answered<'a, S> {
+impl<'a, S> Noted<'a, S> {
     /// What is open at this path, or the connection of this name. Without memory for that, nothing is noted.
-    pub fn new(alloc: Global, inner: S, path: &str, refusals: &'a Refusals) -> Answered<'a, S>
+    pub fn new(alloc: Global, inner: S, path: &str, refusals: &'a Refusals) -> Noted<'a, S>
         ensures { result.inner ≡ inner }
     {
-        Answered {
+        Noted {
             inner,
             path: String::from_str(alloc, path).ok(),
             refusals,
         }
     }
 
-    fn answered<T>(&self, call: &str, answer: io::Result<T>) -> io::Result<T>
+    fn noted<T>(&self, call: &str, answer: io::Result<T>) -> io::Result<T>
         ensures { result ≡ answer }
     {
         match &self.path {
-            Some(path) => self.refusals.answered(call, path.as_str(), answer),
+            Some(path) => self.refusals.noted(call, path.as_str(), answer),
             None => {
                 if answer.is_err() {
                     self.refusals.forget();
@@ -41,21 +41,21 @@ impl<'a, S> Answered<'a, S> {
     }
 }
 
-impl<'a, S: Read> Read for Answered<'a, S> {
+impl<'a, S: Read> Read for Noted<'a, S> {
     ghost remaining = { λ t. S.remaining t.inner };
 
     fn read(&mut self, buf: &mut [u8]) -> io::Result<usize> {
         let answer = self.inner.read(buf);
-        self.answered("read", answer)
+        self.noted("read", answer)
     }
 }
 
-impl<'a, S: Write> Write for Answered<'a, S> {
+impl<'a, S: Write> Write for Noted<'a, S> {
     ghost contents = { λ t. S.contents t.inner };
 
     fn write(&mut self, buf: &[u8]) -> io::Result<usize> {
         let answer = self.inner.write(buf);
-        self.answered("write", answer)
+        self.noted("write", answer)
     }
 
     fn flush(&mut self) -> io::Result<()> {
@@ -63,31 +63,31 @@ impl<'a, S: Write> Write for Answered<'a, S> {
     }
 }
 
-impl<'a, S: Seek> Seek for Answered<'a, S> {
+impl<'a, S: Seek> Seek for Noted<'a, S> {
     ghost stream_position = { λ t. S.stream_position t.inner };
 
     ghost stream_bytes = { λ t. S.stream_bytes t.inner };
 
     fn seek(&mut self, to: SeekFrom) -> io::Result<u64> {
         let answer = self.inner.seek(to);
-        self.answered("lseek", answer)
+        self.noted("lseek", answer)
     }
 }
 
-impl<'a, S: OpenFile> OpenFile for Answered<'a, S> {
+impl<'a, S: OpenFile> OpenFile for Noted<'a, S> {
     fn metadata(&self) -> io::Result<Metadata> {
-        self.answered("fstat", self.inner.metadata())
+        self.noted("fstat", self.inner.metadata())
     }
 
     fn set_len(&self, size: u64) -> io::Result<()> {
-        self.answered("ftruncate", self.inner.set_len(size))
+        self.noted("ftruncate", self.inner.set_len(size))
     }
 
     fn sync_all(&self) -> io::Result<()> {
-        self.answered("fsync", self.inner.sync_all())
+        self.noted("fsync", self.inner.sync_all())
     }
 
     fn sync_data(&self) -> io::Result<()> {
-        self.answered("fdatasync", self.inner.sync_data())
+        self.noted("fdatasync", self.inner.sync_data())
     }
 }
