@@ -1,5 +1,5 @@
 -- The rows of a listing, found by their numbers.
-use Rattle.std.proofs.Common.{◌≡◌, ℕ, ◌<◌, ◌≤◌, ◌-◌, List, length, get_or, map, sym, ◌∙◌, ap, subst, arith}
+use Rattle.std.proofs.Common.{◌≡◌, ℕ, ◌<◌, ◌-◌, List, length, get_or, map, ◌∙◌, ap, arith}
 use Rattle.std.proofs.lemmas.List.{get_or-map, length-map}
 use Rattle.mail_terms.specs.declared.listing.UidRow.{UidRow}
 use Rattle.mail_terms.specs.declared.listing.ScanRow.{ScanRow}
@@ -10,16 +10,9 @@ use Rattle.mail_terms.specs.Listing.{Item, AreAt, Joins}
 pub place_of_row : {Row : Type 0} (number : Row → ℕ) (n : ℕ) (rows : List Row) (places : List ℕ) → IsNumbering n (map number rows) → IsOrderOf n (map number rows) places
     → (k : ℕ) (row : Row) → k < length rows → (number (get_or rows k row) - 1 < n) × (get_or places (number (get_or rows k row) - 1) 0 ≡ k)
 place_of_row number n rows places numbering order k row inside =
-    (omega (arith, bounds.0, bounds.1), subst (λ (m : ℕ). get_or places (m - 1) 0 ≡ k) (sym same) (order.found k there))
-  where
-    there : k < length (map number rows)
-    there = omega (arith, length-map rows number)
-
-    same : number (get_or rows k row) ≡ get_or (map number rows) k 0
-    same = sym (get_or-map number rows k row 0 inside)
-
-    bounds : (1 ≤ number (get_or rows k row)) × (number (get_or rows k row) ≤ n)
-    bounds = subst (λ (m : ℕ). (1 ≤ m) × (m ≤ n)) (sym same) (numbering.within k 0 there)
+    let there : k < length (map number rows) = omega (arith, length-map rows number) in
+    let same = get_or-map number rows k row 0 inside in
+    (omega (arith, same, numbering.within k 0 there), rw same at (order.found k there))
 
 pub Joins-from_places : (n : ℕ) (uids : List UidRow) (sizes : List ScanRow) (uid_places size_places : List ℕ) (items : List Item)
     → IsNumbering n (map (λ row. row.number) uids) → IsNumbering n (map (λ row. row.number) sizes)
@@ -35,15 +28,3 @@ Joins-from_places n uids sizes uid_places size_places items uid_numbers size_num
       let there = place_of_row (λ (r : ScanRow). r.number) n sizes size_places size_numbers size_order k row inside in
       rows.octets _ item row (omega (arith, there.0)) ∙ ap (λ (j : ℕ). (get_or sizes j row).size) there.1;
 }
-
--- the same for lists that are equal to these
-pub Joins-from_same : (n : ℕ) (uids : List UidRow) (sizes : List ScanRow) (items : List Item) {us ss up sp up' sp' : List ℕ}
-    → us ≡ map (λ row. row.number) uids → ss ≡ map (λ row. row.number) sizes → up' ≡ up → sp' ≡ sp
-    → IsNumbering n us → IsNumbering n ss → IsOrderOf n us up → IsOrderOf n ss sp
-    → length items ≡ length up' → AreAt uids up' sizes sp' items → Joins n uids sizes items
-Joins-from_same n uids sizes items {up = up} {sp = sp} {up' = up'} us_is ss_is up_is sp_is un sn uo so count rows =
-    Joins-from_places n uids sizes up sp items
-    (subst (λ (xs : List ℕ). IsNumbering n xs) us_is un) (subst (λ (xs : List ℕ). IsNumbering n xs) ss_is sn)
-    (subst (λ (xs : List ℕ). IsOrderOf n xs up) us_is uo) (subst (λ (xs : List ℕ). IsOrderOf n xs sp) ss_is so)
-    (count ∙ ap length up_is ∙ uo.count)
-    (subst (λ (xs : List ℕ). AreAt uids xs sizes sp items) up_is (subst (λ (xs : List ℕ). AreAt uids up' sizes xs items) sp_is rows))

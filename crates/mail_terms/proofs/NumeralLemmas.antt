@@ -1,7 +1,7 @@
 -- The value of the digits that were read so far.
-use Rattle.std.proofs.Common.{◌≡◌, ℕ, ◌+◌, ◌*◌, ◌-◌, ◌<◌, ◌≤◌, ◌==◌, List, length, take, get_or, Bool, true, false, ◌&&◌, Some, None, nat_lt, ap, sym, ◌∙◌, arith, if◌then◌else◌, take_all}
+use Rattle.std.proofs.Common.{◌≡◌, ℕ, ◌+◌, ◌*◌, ◌-◌, ◌<◌, ◌≤◌, ◌==◌, List, length, take, get_or, Bool, true, false, ◌&&◌, Some, None, ap, sym, ◌∙◌, arith, if◌then◌else◌, take_all}
 use Rattle.std.proofs.Math.Bool.{and-false}
-use Rattle.std.proofs.lemmas.Bool.{le-leb, lt-leb}
+use Rattle.std.proofs.lemmas.Bool.{le-leb, lt-leb, lt-ltb}
 use Rattle.std.proofs.lemmas.Bool.Decides.{nat_tests}
 use Rattle.std.proofs.lemmas.List.Folds.{list_all_more}
 use Rattle.std.proofs.lemmas.Int.Digits.{digits_value_more}
@@ -23,8 +23,7 @@ value_of byte digit = grind (arith, nat_tests)
 -- the value with one more digit
 one_more : (text : List ℕ) (i value : ℕ) → i < length text → HasDigits (take i text) value → is_ascii_digit (get_or text i 0) ≡ true
     → digits_value 10 (take (i + 1) text) ≡ value * 10 + (get_or text i 0 - 48)
-one_more text i value inside read digit =
-    digits_value_more 10 text i inside ∙ ap (λ (n : ℕ). n * 10 + digit_value (get_or text i 0)) (sym read.is) ∙ ap (λ (n : ℕ). value * 10 + n) (value_of (get_or text i 0) digit)
+one_more text i value inside read digit = omega (arith, digits_value_more 10 text i inside, read.is, value_of (get_or text i 0) digit)
 
 pub HasDigits-more : (text : List ℕ) (i value next : ℕ) → i < length text → HasDigits (take i text) value → is_ascii_digit (get_or text i 0) ≡ true
     → next ≡ value * 10 + (get_or text i 0 - 48) → next ≤ 18446744073709551615 → HasDigits (take (i + 1) text) next
@@ -43,9 +42,6 @@ no_value text i value inside read digit large =
     (lt-leb (digits_value 10 text) 18446744073709551615 (omega (arith, large, less, one_more text i value inside read digit)))
     ∙ ap (λ (b : Bool). if b then Some (digits_value 10 text) else None) (and-false (is_numeral text))
 
-some_length : (text : List ℕ) → (length text == 0) ≡ false → nat_lt 0 (length text) ≡ true
-some_length text some = grind (arith, nat_tests)
-
 -- all digits were read
 pub whole_value : (text : List ℕ) (i value : ℕ) → (length text == 0) ≡ false → length text ≤ 20 → length text ≤ i → HasDigits (take i text) value
     → Some value ≡ numeral_value text
@@ -53,4 +49,4 @@ whole_value text i value some short whole read =
     let all = take_all i text whole in
     let digits : list_all is_ascii_digit text ≡ true = ap (list_all is_ascii_digit) (sym all) ∙ read.digits in
     let is : value ≡ digits_value 10 text = read.is ∙ ap (digits_value 10) all in
-    rw (some_length text some, le-leb (length text) 20 short, digits, le-leb (digits_value 10 text) 18446744073709551615 (omega (arith, read.fits, is))) (ap (λ (n : ℕ). Some n) is)
+    rw (lt-ltb 0 (length text) (grind (arith, nat_tests)), le-leb (length text) 20 short, digits, le-leb (digits_value 10 text) 18446744073709551615 (omega (arith, read.fits, is))) (ap (λ (n : ℕ). Some n) is)

@@ -1,15 +1,5 @@
-mod BeginningLemmas
 mod BodiesLemmas
 mod BodyLemmas
-mod CommandLineLemmas
-mod CommandRoundTrip
 mod EndlessLemmas
-mod HonestRows
-mod LineLemmas
 mod LineReaderLemmas
-mod LineWaitLemmas
-mod ReadingLemmas
 mod RowsLemmas
-mod SentLemmas
-mod StuffLemmas
-mod UnstuffingLemmas

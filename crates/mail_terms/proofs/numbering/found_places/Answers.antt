@@ -1,5 +1,5 @@
-use Rattle.std.proofs.Common.{◌∙◌, sym, arith}
-use Rattle.mail_terms.proofs.NumberingLemmas.{not_numbering-taken, HasPlaces-free, HasPlaces-all}
+use Rattle.std.proofs.Common.{◌≡◌, ◌∙◌, length, sym, arith}
+use Rattle.mail_terms.proofs.NumberingLemmas.{not_numbering-taken, HasPlaces-free}
 use Rattle.mail_terms.proofs.numbering.found_places.Goals as goal
 
 pub returns-then-is_some-clause-disagree : goal.returns-then-is_some-clause-disagree
@@ -11,4 +11,6 @@ loop-place-preserved c =
     HasPlaces-free _ _ _ _ _ c.loop-place.invariant (omega arith) (omega arith) c.index.ensures (sym c.is_some.ensures ∙ c.if-is_some.false)
 
 pub returns-clause-ok : goal.returns-clause-ok
-returns-clause-ok c = HasPlaces-all _ _ _ _ (omega arith) c.loop-place.invariant
+returns-clause-ok c =
+    let all : c.loop-place.place ≡ length c.args.numbers.now = omega arith in
+    rw all at c.loop-place.invariant

@@ -1,19 +1,18 @@
-use Rattle.std.proofs.Common.{ℕ, List, Option, length, sym, subst, arith}
-use Rattle.mail_terms.specs.Numbering.{HasPlaces}
+use Rattle.std.proofs.Common.{arith}
 use Rattle.mail_terms.proofs.NumberingLemmas.{not_numbering-missing, IsNumbering-from_places, IsOrderOf-from_places}
 use Rattle.mail_terms.proofs.numbering.places_in_order.Goals as goal
 
 pub returns-in_default-clause-disagree : goal.returns-in_default-clause-disagree
 returns-in_default-clause-disagree c =
-    let has = subst (λ (s : List (Option ℕ)). HasPlaces c.args.count c.args.numbers.now (length c.args.numbers.now) s) (sym c.deref-slot-items.ensures.value) c.in_ok-slots.ensures.ok in
+    let has = rw (← c.deref-slot-items.ensures.value) at c.in_ok-slots.ensures.ok in
     λ _ numbering. not_numbering-missing _ _ _ _ has (omega (arith, has.room)) c.in_default.is numbering
 
 pub returns-clause-numbering : goal.returns-clause-numbering
 returns-clause-numbering c =
-    let has = subst (λ (s : List (Option ℕ)). HasPlaces c.args.count c.args.numbers.now (length c.args.numbers.now) s) (sym c.deref-slot-items.ensures.value) c.in_ok-slots.ensures.ok in
+    let has = rw (← c.deref-slot-items.ensures.value) at c.in_ok-slots.ensures.ok in
     IsNumbering-from_places _ _ _ c.loop-slot.places.items has (omega (arith, has.room)) (λ k inside. c.loop-slot.invariant.1 k (omega (arith, has.room)))
 
 pub returns-clause-order : goal.returns-clause-order
 returns-clause-order c =
-    let has = subst (λ (s : List (Option ℕ)). HasPlaces c.args.count c.args.numbers.now (length c.args.numbers.now) s) (sym c.deref-slot-items.ensures.value) c.in_ok-slots.ensures.ok in
+    let has = rw (← c.deref-slot-items.ensures.value) at c.in_ok-slots.ensures.ok in
     IsOrderOf-from_places _ _ _ c.loop-slot.places.items has (omega (arith, has.room)) (λ k inside. c.loop-slot.invariant.1 k (omega (arith, has.room)))

@@ -1,6 +1,6 @@
 use Rattle.std.proofs.Common.{sym, ap, ◌∙◌}
 use Rattle.pop3_wire.specs.CommandLine.{no_argument}
-use Rattle.pop3_wire.proofs.CommandLineLemmas.{some_part}
+use Rattle.pop3_wire.proofs.RowsLemmas.{some_part}
 use Rattle.pop3_wire.proofs.command_line.no_argument.Goals as goal
 
 pub returns-in-Some : goal.returns-in-Some

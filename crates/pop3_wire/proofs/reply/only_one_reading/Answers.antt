@@ -1,4 +1,4 @@
-use Rattle.pop3_wire.proofs.ReadingLemmas.{one_reading}
+use Rattle.pop3_wire.proofs.BodyLemmas.{one_reading}
 use Rattle.pop3_wire.proofs.reply.only_one_reading.Goals as goal
 
 pub returns : goal.returns

@@ -1,4 +1,4 @@
-use Rattle.pop3_wire.proofs.StuffLemmas as lemma
+use Rattle.pop3_wire.proofs.BodyLemmas as lemma
 use Rattle.pop3_wire.proofs.stuffing.stuffed_is_body.Goals as goal
 
 pub returns : goal.returns

@@ -1,4 +1,4 @@
-use Rattle.pop3_wire.proofs.UnstuffingLemmas.{middle_run}
+use Rattle.pop3_wire.proofs.BodyLemmas.{middle_run}
 use Rattle.pop3_wire.proofs.unstuffer.copy_run.Goals as goal
 
 pub returns-in-Middle-clause-reached : goal.returns-in-Middle-clause-reached

@@ -1,4 +1,4 @@
-use Rattle.pop3_wire.proofs.UnstuffingLemmas.{reached_body}
+use Rattle.pop3_wire.proofs.BodyLemmas.{reached_body}
 use Rattle.pop3_wire.proofs.unstuffer.ends_with_body.Goals as goal
 
 pub returns : goal.returns

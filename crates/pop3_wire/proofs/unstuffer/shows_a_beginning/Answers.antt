@@ -1,4 +1,4 @@
-use Rattle.pop3_wire.proofs.BeginningLemmas.{reached_begins}
+use Rattle.pop3_wire.proofs.BodyLemmas.{reached_begins}
 use Rattle.pop3_wire.proofs.unstuffer.shows_a_beginning.Goals as goal
 
 pub returns : goal.returns

@@ -1,4 +1,4 @@
-use Rattle.pop3_wire.proofs.UnstuffingLemmas.{partly_none}
+use Rattle.pop3_wire.proofs.BodyLemmas.{partly_none}
 use Rattle.pop3_wire.proofs.unstuffer.starts_empty.Goals as goal
 
 pub returns : goal.returns

@@ -1,7 +1,24 @@
-use Rattle.std.proofs.Common.{◌≡◌, ◌≤◌, ◌<◌, ◌+◌, ◌++◌, ℕ, List, length, ap, ◌∙◌, append_assoc, arith}
+use Rattle.std.proofs.Common.{◌≡◌, ◌<◌, ◌++◌, ℕ, List, [], ◌∷◌, length, Err, ap, ◌∙◌, append-nil, arith, ◌≤◌, ◌+◌, append_assoc}
+use Rattle.std.proofs.Math.Bool.{or-true}
 use Rattle.pop3_wire.specs.Link.{Link}
-use Rattle.pop3_wire.proofs.LineWaitLemmas.{read_ended}
+use Rattle.pop3_wire.specs.Place.{at, Gains, GoesOn, GotPiece, HasNoLine, ReadsLine}
+use Rattle.pop3_wire.specs.declared.line_reader.LineFault.TheVariants.{Ended}
 use Rattle.pop3_wire.proofs.line_reader.LineReader.line.Goals as goal
+
+-- the link has ended
+read_ended : {limit : ℕ} {start link : Link} (last : Link) {first waiting : List ℕ} (now : List ℕ) {gained : List ℕ} (piece : List ℕ)
+    → Gains (at start first) (at link waiting) gained → GoesOn start link → HasNoLine limit waiting → length waiting < limit
+    → now ≡ waiting ++ piece → length piece ≡ 0 → GotPiece link piece last
+    → (((g : List ℕ) × Gains (at start first) (at last now) g) × ReadsLine limit (at start first) (Err Ended) (at last now))
+read_ended {limit} {start} {link} last {first} {waiting} now {gained} [] gains on none short is size got =
+    let same : now ≡ waiting = is ∙ append-nil waiting in (
+      (
+        gained,
+        record { got = ap (λ (l : Link). l.got) got ∙ append-nil link.got ∙ gains.got; waiting = same ∙ gains.waiting; sent = ap (λ (l : Link). l.sent) got ∙ gains.sent },
+      ),
+      (rw same none, rw same short, ap (λ (l : Link). l.ended) got ∙ or-true link.ended, ap (λ (l : Link). l.failures) got ∙ on.failures),
+    )
+read_ended last now (byte ∷ piece) gains on none short is size got = absurd (omega (arith, size))
 
 pub returns-in-Some-clause-read : goal.returns-in-Some-clause-read
 returns-in-Some-clause-read g c = λ s.
@@ -59,7 +76,5 @@ returns-then-n-eq0-clause-read g c = λ s.
     let now : c.fill.new.self ≡ c.loop-length.self ++ filled.0 = filled.2 ∙ ap (λ (l : List ℕ). l ++ filled.0) c.line_end.ensures.same in (
       known.0,
       g.met.W.Wire.leads_on _ _ _ known.1 got.1,
-      read_ended c.args.limit (g.W.Wire.history c.args.wire.now) (g.W.Wire.history c.loop-length.wire)
-          (g.W.Wire.history c.fill.new.wire) c.args.self.now c.loop-length.self c.fill.new.self inv.0 filled.0 known.2 known.3 c.in_default.ensures.none short
-          now (filled.1 ∙ omega (arith, c.if-n-eq0.true)) got.2,
+      read_ended (g.W.Wire.history c.fill.new.wire) c.fill.new.self filled.0 known.2 known.3 c.in_default.ensures.none short now (filled.1 ∙ omega (arith, c.if-n-eq0.true)) got.2,
     )

@@ -1,5 +1,5 @@
 use Rattle.std.proofs.Common.{◌-◌, take, drop, length, arith, rules, length-drop, length-take}
-use Rattle.pop3_wire.proofs.UnstuffingLemmas.{turn_on}
+use Rattle.pop3_wire.proofs.BodyLemmas.{turn_on}
 use Rattle.pop3_wire.proofs.unstuffer.Unstuffer.feed.Goals as goal
 
 pub octets-preserved : goal.octets-preserved
