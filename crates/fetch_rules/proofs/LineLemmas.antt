@@ -1,192 +1,206 @@
--- The lines of the record's file: how they are cut.
-use Rattle.std.proofs.Common.{◌≡◌, ◌≢◌, ℕ, ◌+◌, ◌<◌, ◌≤◌, ◌^◌, List, [], ◌∷◌, ◌++◌, Bool, true, false, Some, Bor, take, drop, length, refl, sym, ◌∙◌, ap, subst, append_assoc, arith, if◌then◌else◌, All, nat_eq, MatchOption, decimal}
-use Rattle.std.specs.Cmp.Lexicographic.{pointwise}
-use Rattle.std.proofs.lemmas.Slice.Eq.{strip_prefix_is}
-use Rattle.std.proofs.lemmas.Bool.Decides.{Decides-eqb}
-use Rattle.std.specs.List.{AllByRecursion}
-use Rattle.std.proofs.lemmas.List.Elements.{All-weaker, recursion_from_All}
-use Rattle.std.proofs.lemmas.Fmt.{decimal_injective}
+-- The lines of the record's file: numerals, and how lines are cut.
+use Rattle.std.proofs.Common.{All, Bool, Bor, IfNone, IfSome, List, MatchOption, None, Option, Some, [], ap, append_assoc, ap₂, arith, decimal, drop, false, get_or, if◌then◌else◌, inl, inr, length, lit<, nat_eq, nat_le, nat_lt, refl, sym, take, true, ℕ, ◌&&◌, ◌++◌, ◌+◌, ◌<◌, ◌^◌, ◌∙◌, ◌∷◌, ◌≡◌, ◌≢◌, ◌≤◌}
+use Rattle.mail_terms.specs.Numeral.{greatest_size, is_numeral, numeral_value}
 use Rattle.mail_terms.specs.UniqueId.{IsLegalId}
-use Rattle.fetch_rules.specs.Record.{Row, IsRow, Intent, IsIntent}
-use Rattle.fetch_rules.specs.RecordFile.{state_of, line_of, group_line, intent_line, Line, RowLine, GroupLine, IntentLine, text_of, IsLine}
-use Rattle.fetch_rules.proofs.IdLemmas.{id_characters}
-use Rattle.fetch_rules.proofs.NumeralLemmas.{none_below-decimal}
+use Rattle.std.proofs.lemmas.Bool.{and_from, and_parts, cases_eq, le-leb, leb-true, lt-ltb}
+use Rattle.std.proofs.lemmas.Bool.Decides.{Decides-eqb}
+use Rattle.std.proofs.lemmas.Fmt.{decimal-digits_value, decimal_digit, decimal_injective, decimal_is_IsNumeral, digits_decimal, first_decimal, length-decimal-le}
+use Rattle.std.proofs.lemmas.List.Elements.{All-from_get_or, recursion_from_All}
+use Rattle.std.proofs.lemmas.Option.{cond_some, none-some}
+use Rattle.std.proofs.lemmas.Slice.Eq.{strip_prefix_is}
+use Rattle.std.proofs.lemmas.Str.Parse.{IsNumeralModel, digit_at, not_in_digits, numerals_by_value, tells_all_ascii_digits, tells_digits}
+use Rattle.std.specs.Char.{is_ascii_digit}
+use Rattle.std.specs.Cmp.Lexicographic.{pointwise}
+use Rattle.std.specs.List.{AllByRecursion, list_all}
+use Rattle.std.specs.Str.{all_ascii_digits}
+use Rattle.std.specs.Str.Parse.{AllDigits, digits_value}
+use Rattle.fetch_rules.specs.Record.{Intent, Row}
+use Rattle.fetch_rules.specs.RecordFile.{GroupLine, IntentLine, IsLine, Line, RowLine, group_line, intent_line, line_of, state_of, text_of}
+use Rattle.fetch_rules.proofs.RowLemmas.{id_characters}
 
--- the byte doesn't occur
+-- ---- numerals without leading zeros
+
+-- the bytes begin with a digit, the only byte if it is 0
+abbrev pub BeginsAsNumeral : List ℕ → Type 0
+BeginsAsNumeral field = (0 < length field) × (48 ≤ get_or field 0 0) × (get_or field 0 0 ≤ 57) × (get_or field 0 0 ≡ 48 → length field ≡ 1)
+
+pub BeginsAsNumeral-decimal : (n : ℕ) → n < 2 ^ 64 → BeginsAsNumeral (decimal n)
+BeginsAsNumeral-decimal n fits = elim (cases_eq n 0) [
+  | inl none ↦ rw (none, decimal_digit 0 (lit< tt)) (omega arith, omega arith, omega arith, λ _. refl)
+  | inr more ↦
+      let numeral = (decimal_is_IsNumeral n fits).0 in
+      let first = digit_at (decimal n) 0 numeral.1 numeral.0 in
+      let above : 48 < get_or (decimal n) 0 0 = first_decimal n (omega (arith, more)) fits in
+      (numeral.0, first.0, first.1, λ same. absurd (omega (arith, same, above)))
+]
+
+digits_same : (ds : List ℕ) → list_all is_ascii_digit ds ≡ all_ascii_digits ds
+digits_same [] = refl
+digits_same (d ∷ ds) = rw (digits_same ds) refl
+
+by_test : IsNumeralModel (λ (ds : List ℕ). all_ascii_digits ds ≡ true) (digits_value 10)
+by_test = numerals_by_value (λ (ds : List ℕ). all_ascii_digits ds ≡ true) tells_all_ascii_digits
+
+-- what is read from a numeral without leading zeros is the number that it writes
+decimal_from_numeral : (field : List ℕ) (number : ℕ) → BeginsAsNumeral field → numeral_value field ≡ Some number → field ≡ decimal number
+decimal_from_numeral field number begins read =
+    let found = cond_some (is_numeral field && nat_le (digits_value 10 field) greatest_size) (digits_value 10 field) number read in
+    let tests = and_parts (is_numeral field) (nat_le (digits_value 10 field) greatest_size) found.0 in
+    let digits = (and_parts (nat_lt 0 (length field) && nat_le (length field) 20) (list_all is_ascii_digit field) tests.0).1 in
+    sym (decimal-digits_value by_test field (sym (digits_same field) ∙ digits) begins.0 begins.3 (omega (arith, leb-true (digits_value 10 field) greatest_size tests.1))) ∙ ap decimal found.1
+
+-- and each number of 64 bits is read from the numeral that writes it
+numeral_value-decimal : (number : ℕ) → number < 2 ^ 64 → numeral_value (decimal number) ≡ Some number
+numeral_value-decimal number fits =
+    let numeral = decimal_is_IsNumeral number fits in
+    let test : is_numeral (decimal number) ≡ true = and_from _ _
+    (and_from _ _ (lt-ltb 0 (length (decimal number)) numeral.0.0) (le-leb (length (decimal number)) 20 (length-decimal-le 20 number (omega arith) (omega (arith, fits)) fits)))
+    (digits_same (decimal number) ∙ digits_decimal by_test number fits) in
+    rw (test, ap (λ (n : ℕ). nat_le n greatest_size) numeral.1 ∙ le-leb number greatest_size (omega (arith, fits))) (ap (λ (n : ℕ). Some n) numeral.1)
+
+pub number_found : (field : List ℕ) (read : Option ℕ) → BeginsAsNumeral field → read ≡ numeral_value field → IfSome read (λ number. field ≡ decimal number)
+number_found field None begins same = tt
+number_found field (Some number) begins same = decimal_from_numeral field number begins (sym same)
+
+pub no_number : (field : List ℕ) (read : Option ℕ) → read ≡ numeral_value field → IfNone read ((number : ℕ) → number < 2 ^ 64 → field ≢ decimal number)
+no_number field None same = λ number fits is. none-some number (same ∙ ap numeral_value is ∙ numeral_value-decimal number fits)
+no_number field (Some number) same = tt
+
+-- ---- what is cut at a byte that doesn't occur
+
 abbrev pub HasNo : ℕ → List ℕ → Type 0
 HasNo byte bytes = AllByRecursion (λ other. other ≢ byte) bytes
 
-pub same_cons : (c d : ℕ) (a b : List ℕ) → c ∷ a ≡ d ∷ b → (c ≡ d) × (a ≡ b)
-same_cons c d a b e = (cc, cc)
+pub same_cons : {c d : ℕ} {a b : List ℕ} → c ∷ a ≡ d ∷ b → (c ≡ d) × (a ≡ b)
+same_cons e = (cc, cc)
 
-pub cut_unique : (s : ℕ) (a b x y : List ℕ) → HasNo s a → HasNo s b → a ++ s ∷ x ≡ b ++ s ∷ y → (a ≡ b) × (x ≡ y)
-cut_unique s [] [] x y p q e = (refl, (same_cons s s x y e).1)
-cut_unique s [] (d ∷ b) x y p q e = absurd (q.0 (sym (same_cons s d x (b ++ s ∷ y) e).0))
-cut_unique s (c ∷ a) [] x y p q e = absurd (p.0 (same_cons c s (a ++ s ∷ x) y e).0)
+cut_unique : (s : ℕ) (a b x y : List ℕ) → HasNo s a → HasNo s b → a ++ s ∷ x ≡ b ++ s ∷ y → (a ≡ b) × (x ≡ y)
+cut_unique s [] [] x y p q e = (refl, (same_cons e).1)
+cut_unique s [] (d ∷ b) x y p q e = absurd (q.0 (sym (same_cons e).0))
+cut_unique s (c ∷ a) [] x y p q e = absurd (p.0 (same_cons e).0)
 cut_unique s (c ∷ a) (d ∷ b) x y p q e =
-    let parts = same_cons c d (a ++ s ∷ x) (b ++ s ∷ y) e in
+    let parts = same_cons e in
     let rest = cut_unique s a b x y p.1 q.1 parts.1 in
-    (ap (λ (k : ℕ). k ∷ a) parts.0 ∙ ap (λ (xs : List ℕ). d ∷ xs) rest.0, rest.1)
+    (ap₂ (λ (k : ℕ) (xs : List ℕ). k ∷ xs) parts.0 rest.0, rest.1)
 
 -- two ends of a word
 pub ends_clash : (s t : ℕ) (a b x y : List ℕ) → s ≢ t → HasNo t a → HasNo s b → a ++ s ∷ x ≡ b ++ t ∷ y → ⊥
-ends_clash s t [] [] x y other p q e = other (same_cons s t x y e).0
-ends_clash s t [] (d ∷ b) x y other p q e = q.0 (sym (same_cons s d x (b ++ t ∷ y) e).0)
-ends_clash s t (c ∷ a) [] x y other p q e = p.0 (same_cons c t (a ++ s ∷ x) y e).0
-ends_clash s t (c ∷ a) (d ∷ b) x y other p q e = ends_clash s t a b x y other p.1 q.1 (same_cons c d (a ++ s ∷ x) (b ++ t ∷ y) e).1
+ends_clash s t [] [] x y other p q e = other (same_cons e).0
+ends_clash s t [] (d ∷ b) x y other p q e = q.0 (sym (same_cons e).0)
+ends_clash s t (c ∷ a) [] x y other p q e = p.0 (same_cons e).0
+ends_clash s t (c ∷ a) (d ∷ b) x y other p q e = ends_clash s t a b x y other p.1 q.1 (same_cons e).1
+
+-- what lacks the byte isn't cut there
+uncut : (s : ℕ) (a y xs : List ℕ) → HasNo s xs → xs ≡ a ++ s ∷ y → ⊥
+uncut s [] y [] none e = cc
+uncut s (c ∷ a) y [] none e = cc
+uncut s [] y (x ∷ xs) none e = none.0 (same_cons e).0
+uncut s (c ∷ a) y (x ∷ xs) none e = uncut s a y xs none.1 (same_cons e).1
 
 HasNo-id : (s : ℕ) → s < 0x21 → (uid : List ℕ) → IsLegalId uid → HasNo s uid
-HasNo-id s below uid legal = recursion_from_All _ uid (All-weaker (λ byte. (0x21 ≤ byte) × (byte ≤ 0x7E)) (λ byte. byte ≢ s) (λ byte within same. absurd (omega (arith, within.0, same, below))) uid (id_characters uid legal))
+HasNo-id s below uid legal = recursion_from_All _ uid (λ k d inside same. omega (arith, (id_characters uid legal k d inside).0, same, below))
 
 HasNo-decimal : (s : ℕ) → s < 48 → (n : ℕ) → n < 2 ^ 64 → HasNo s (decimal n)
-HasNo-decimal s below n fits = recursion_from_All _ _ (none_below-decimal s n below fits)
+HasNo-decimal s below n fits = recursion_from_All (λ other. other ≢ s) (decimal n) (All-from_get_or (λ other. other ≢ s) (decimal n) 0
+    (not_in_digits (numerals_by_value (AllDigits 10) tells_digits) (decimal n) s (decimal_is_IsNumeral n fits).0.1 (λ range. omega (arith, range.0, below))))
 
--- the fields of a line
+-- ---- the fields of a line
+
 pub line_split : (row : Row) (behind : List ℕ) → line_of row ++ behind ≡ row.uid ++ 32 ∷ (decimal row.first_seen ++ 32 ∷ (state_of row.delivered ++ behind))
-line_split row behind =
-    append_assoc row.uid (32 ∷ (decimal row.first_seen ++ 32 ∷ state_of row.delivered)) behind
-    ∙ ap (λ (xs : List ℕ). row.uid ++ 32 ∷ xs) (append_assoc (decimal row.first_seen) (32 ∷ state_of row.delivered) behind)
+line_split row behind = simp append_assoc
 
-pub group_split : (n : ℕ) (behind : List ℕ) → group_line n ++ behind ≡ 43 ∷ 32 ∷ (decimal n ++ 10 ∷ behind)
-group_split n behind = ap (λ (xs : List ℕ). 43 ∷ 32 ∷ xs) (append_assoc (decimal n) (10 ∷ []) behind)
+group_split : (n : ℕ) (behind : List ℕ) → group_line n ++ behind ≡ 43 ∷ 32 ∷ (decimal n ++ 10 ∷ behind)
+group_split n behind = simp append_assoc
 
-pub intent_split : (intent : Intent) (behind : List ℕ) → intent_line intent ++ behind ≡ 33 ∷ 32 ∷ (intent.uid ++ 32 ∷ (decimal intent.start ++ 32 ∷ (decimal intent.len ++ 10 ∷ behind)))
-intent_split intent behind =
-    ap (λ (xs : List ℕ). 33 ∷ 32 ∷ xs)
-    (append_assoc intent.uid (32 ∷ (decimal intent.start ++ 32 ∷ (decimal intent.len ++ 10 ∷ []))) behind
-    ∙ ap (λ (xs : List ℕ). intent.uid ++ 32 ∷ xs) (append_assoc (decimal intent.start) (32 ∷ (decimal intent.len ++ 10 ∷ [])) behind
-    ∙ ap (λ (xs : List ℕ). decimal intent.start ++ 32 ∷ xs) (append_assoc (decimal intent.len) (10 ∷ []) behind)))
+intent_split : (intent : Intent) (behind : List ℕ) → intent_line intent ++ behind ≡ 33 ∷ 32 ∷ (intent.uid ++ 32 ∷ (decimal intent.start ++ 32 ∷ (decimal intent.len ++ 10 ∷ behind)))
+intent_split intent behind = simp append_assoc
 
-pub state_unique : (a b : Bool) (x y : List ℕ) → state_of a ++ x ≡ state_of b ++ y → (a ≡ b) × (x ≡ y)
-state_unique true true x y e = (refl, (same_cons _ _ _ _ (same_cons _ _ _ _ e).1).1)
-state_unique false false x y e = (refl, (same_cons _ _ _ _ (same_cons _ _ _ _ e).1).1)
-state_unique true false x y e = absurd (omega (arith, (same_cons 49 48 _ _ e).0))
-state_unique false true x y e = absurd (omega (arith, (same_cons 48 49 _ _ e).0))
+abbrev digit : Bool → ℕ
+digit d = if d then 49 else 48
 
-pub line_unique : (a b : Row) (x y : List ℕ) → IsRow a → IsRow b → line_of a ++ x ≡ line_of b ++ y → (a ≡ b) × (x ≡ y)
-line_unique a b x y is_a is_b e =
-    let ids = cut_unique 32 a.uid b.uid _ _ (HasNo-id 32 (omega arith) a.uid is_a.legal) (HasNo-id 32 (omega arith) b.uid is_b.legal) (sym (line_split a x) ∙ e ∙ line_split b y) in
-    let numbers = cut_unique 32 (decimal a.first_seen) (decimal b.first_seen) _ _ (HasNo-decimal 32 (omega arith) a.first_seen is_a.fits) (HasNo-decimal 32 (omega arith) b.first_seen is_b.fits) ids.1 in
-    let states = state_unique a.delivered b.delivered x y numbers.1 in
-    let seconds = decimal_injective a.first_seen b.first_seen is_a.fits is_b.fits numbers.0 in (
-      ap (λ (uid : List ℕ). record a { uid = uid }) ids.0 ∙ ap (λ (n : ℕ). record { uid = b.uid; first_seen = n; delivered = a.delivered }) seconds
-          ∙ ap (λ (d : Bool). record { uid = b.uid; first_seen = b.first_seen; delivered = d }) states.0,
-      states.1,
-    )
-
--- a row has three fields, the line of a group two
-row_no_group : (row : Row) (n : ℕ) (x y : List ℕ) → IsRow row → n ≤ 100000 → line_of row ++ x ≡ group_line n ++ y → ⊥
-row_no_group row n x y is small e =
-    let ids = cut_unique 32 row.uid (43 ∷ []) _ _ (HasNo-id 32 (omega arith) row.uid is.legal) ((λ same. absurd (omega (arith, same))), tt) (sym (line_split row x) ∙ e ∙ group_split n y) in
-    ends_clash 32 10 (decimal row.first_seen) (decimal n) _ _ (λ same. absurd (omega (arith, same))) (HasNo-decimal 10 (omega arith) row.first_seen is.fits) (HasNo-decimal 32 (omega arith) n (omega (arith, small))) ids.1
-
--- a row has three fields, the line of an intent four
-row_no_intent : (row : Row) (intent : Intent) (x y : List ℕ) → IsRow row → IsIntent intent → line_of row ++ x ≡ intent_line intent ++ y → ⊥
-row_no_intent row intent x y is is_one e =
-    let ids = cut_unique 32 row.uid (33 ∷ []) _ _ (HasNo-id 32 (omega arith) row.uid is.legal) ((λ same. absurd (omega (arith, same))), tt) (sym (line_split row x) ∙ e ∙ intent_split intent y) in
-    let numbers = cut_unique 32 (decimal row.first_seen) intent.uid _ _ (HasNo-decimal 32 (omega arith) row.first_seen is.fits) (HasNo-id 32 (omega arith) intent.uid is_one.legal) ids.1 in
-    by row.delivered numbers.1
-  where
-    by : (d : Bool) → state_of d ++ x ≡ decimal intent.start ++ 32 ∷ (decimal intent.len ++ 10 ∷ y) → ⊥
-    by true e' = ends_clash 10 32 (49 ∷ []) (decimal intent.start) x _ (λ same. absurd (omega (arith, same))) ((λ same. absurd (omega (arith, same))), tt) (HasNo-decimal 10 (omega arith) intent.start is_one.start) e'
-    by false e' = ends_clash 10 32 (48 ∷ []) (decimal intent.start) x _ (λ same. absurd (omega (arith, same))) ((λ same. absurd (omega (arith, same))), tt) (HasNo-decimal 10 (omega arith) intent.start is_one.start) e'
-
-group_no_intent : (n : ℕ) (intent : Intent) (x y : List ℕ) → group_line n ++ x ≡ intent_line intent ++ y → ⊥
-group_no_intent n intent x y e = absurd (omega (arith, (same_cons 43 33 _ _ (sym (group_split n x) ∙ e ∙ intent_split intent y)).0))
-
-pub intent_unique : (a b : Intent) (x y : List ℕ) → IsIntent a → IsIntent b → intent_line a ++ x ≡ intent_line b ++ y → (a ≡ b) × (x ≡ y)
-intent_unique a b x y is_a is_b e =
-    let plain = (same_cons 32 32 _ _ (same_cons 33 33 _ _ (sym (intent_split a x) ∙ e ∙ intent_split b y)).1).1 in
-    let ids = cut_unique 32 a.uid b.uid _ _ (HasNo-id 32 (omega arith) a.uid is_a.legal) (HasNo-id 32 (omega arith) b.uid is_b.legal) plain in
-    let starts = cut_unique 32 (decimal a.start) (decimal b.start) _ _ (HasNo-decimal 32 (omega arith) a.start is_a.start) (HasNo-decimal 32 (omega arith) b.start is_b.start) ids.1 in
-    let lens = cut_unique 10 (decimal a.len) (decimal b.len) x y (HasNo-decimal 10 (omega arith) a.len is_a.len) (HasNo-decimal 10 (omega arith) b.len is_b.len) starts.1 in (
-      ap (λ (uid : List ℕ). record a { uid = uid }) ids.0
-          ∙ ap (λ (n : ℕ). record { uid = b.uid; start = n; len = a.len }) (decimal_injective a.start b.start is_a.start is_b.start starts.0)
-          ∙ ap (λ (n : ℕ). record { uid = b.uid; start = b.start; len = n }) (decimal_injective a.len b.len is_a.len is_b.len lens.0),
-      lens.1,
-    )
-
-pub text_unique : (a b : Line) (x y : List ℕ) → IsLine a → IsLine b → text_of a ++ x ≡ text_of b ++ y → (a ≡ b) × (x ≡ y)
-text_unique (RowLine a) (RowLine b) x y is_a is_b e = let same = line_unique a b x y is_a is_b e in (ap RowLine same.0, same.1)
-text_unique (RowLine a) (GroupLine n) x y is_a is_n e = absurd (row_no_group a n x y is_a is_n.1 e)
-text_unique (GroupLine n) (RowLine b) x y is_n is_b e = absurd (row_no_group b n y x is_b is_n.1 (sym e))
-text_unique (RowLine a) (IntentLine i) x y is_a is_i e = absurd (row_no_intent a i x y is_a is_i e)
-text_unique (IntentLine i) (RowLine b) x y is_i is_b e = absurd (row_no_intent b i y x is_b is_i (sym e))
-text_unique (GroupLine n) (IntentLine i) x y is_n is_i e = absurd (group_no_intent n i x y e)
-text_unique (IntentLine i) (GroupLine n) x y is_i is_n e = absurd (group_no_intent n i y x (sym e))
-text_unique (IntentLine i) (IntentLine j) x y is_i is_j e = let same = intent_unique i j x y is_i is_j e in (ap IntentLine same.0, same.1)
-text_unique (GroupLine m) (GroupLine n) x y is_m is_n e =
-    let plain = sym (group_split m x) ∙ e ∙ group_split n y in
-    let same = cut_unique 10 (decimal m) (decimal n) x y (HasNo-decimal 10 (omega arith) m (omega (arith, is_m.1))) (HasNo-decimal 10 (omega arith) n (omega (arith, is_n.1)))
-    (same_cons 32 32 _ _ (same_cons 43 43 _ _ plain).1).1 in
-    (ap GroupLine (decimal_injective m n (omega (arith, is_m.1)) (omega (arith, is_n.1)) same.0), same.1)
-
--- a line is its body and LF, and no byte of the body is below a space
-pub record HasBody (line : Line) : Type 0 where
-  pub body : List ℕ
-  pub clean : (s : ℕ) → s < 32 → HasNo s body
-  pub plain : HasNo 10 body
-  pub text_is : (behind : List ℕ) → text_of line ++ behind ≡ body ++ 10 ∷ behind
-
-HasNo-append : (s : ℕ) (a b : List ℕ) → HasNo s a → HasNo s b → HasNo s (a ++ b)
-HasNo-append s [] b p q = q
-HasNo-append s (c ∷ a) b p q = (p.0, HasNo-append s a b p.1 q)
-
-state_body : (s : ℕ) → s < 32 → (d : Bool) → HasNo s (32 ∷ (if d then 49 else 48) ∷ [])
-state_body s low true = ((λ same. absurd (omega (arith, low, same))), ((λ same. absurd (omega (arith, low, same))), tt))
-state_body s low false = ((λ same. absurd (omega (arith, low, same))), ((λ same. absurd (omega (arith, low, same))), tt))
-
-state_text : (d : Bool) (behind : List ℕ) → 32 ∷ (state_of d ++ behind) ≡ (32 ∷ (if d then 49 else 48) ∷ []) ++ 10 ∷ behind
+state_text : (d : Bool) (behind : List ℕ) → state_of d ++ behind ≡ digit d ∷ 10 ∷ behind
 state_text true behind = refl
 state_text false behind = refl
 
-abbrev body : Line → List ℕ
-body (RowLine row) = row.uid ++ 32 ∷ (decimal row.first_seen ++ 32 ∷ (if row.delivered then 49 else 48) ∷ [])
-body (GroupLine n) = 43 ∷ 32 ∷ decimal n
-body (IntentLine i) = 33 ∷ 32 ∷ (i.uid ++ 32 ∷ (decimal i.start ++ 32 ∷ decimal i.len))
+-- what follows the sign of a group's line
+pub behind_sign : (bytes line : List ℕ) (count : ℕ) (behind : List ℕ) → bytes ≡ 43 ∷ 32 ∷ line → bytes ≡ group_line count ++ behind → line ≡ decimal count ++ 10 ∷ behind
+behind_sign bytes line count behind bytes_are is = (same_cons (same_cons (sym bytes_are ∙ is ∙ group_split count behind)).1).1
 
-clean_body : (line : Line) → IsLine line → (s : ℕ) → s < 32 → HasNo s (body line)
-clean_body (RowLine row) is s low = HasNo-append s row.uid _ (HasNo-id s (omega (arith, low)) row.uid is.legal)
-    ((λ same. absurd (omega (arith, low, same))), HasNo-append s (decimal row.first_seen) _ (HasNo-decimal s (omega (arith, low)) row.first_seen is.fits) (state_body s low row.delivered))
-clean_body (GroupLine n) is s low =
-    ((λ same. absurd (omega (arith, low, same))), ((λ same. absurd (omega (arith, low, same))), HasNo-decimal s (omega (arith, low)) n (omega (arith, is.1))))
-clean_body (IntentLine i) is s low = (
-  (λ same. absurd (omega (arith, low, same))),
-  (
-    (λ same. absurd (omega (arith, low, same))),
-    HasNo-append s i.uid _ (HasNo-id s (omega (arith, low)) i.uid is.legal) (
-      (λ same. absurd (omega (arith, low, same))),
-      HasNo-append s (decimal i.start) _ (HasNo-decimal s (omega (arith, low)) i.start is.start)
-          ((λ same. absurd (omega (arith, low, same))), HasNo-decimal s (omega (arith, low)) i.len is.len),
-    ),
-  ),
-)
+-- and of an intent's line
+pub behind_intent_sign : (bytes line : List ℕ) (intent : Intent) (behind : List ℕ) → bytes ≡ 33 ∷ 32 ∷ line → bytes ≡ intent_line intent ++ behind
+    → line ≡ intent.uid ++ 32 ∷ (decimal intent.start ++ 32 ∷ (decimal intent.len ++ 10 ∷ behind))
+behind_intent_sign bytes line intent behind bytes_are is = (same_cons (same_cons (sym bytes_are ∙ is ∙ intent_split intent behind)).1).1
 
-body_text : (line : Line) (behind : List ℕ) → text_of line ++ behind ≡ body line ++ 10 ∷ behind
-body_text (RowLine row) behind =
-    line_split row behind
-    ∙ ap (λ (xs : List ℕ). row.uid ++ 32 ∷ (decimal row.first_seen ++ xs)) (state_text row.delivered behind)
-    ∙ sym (append_assoc row.uid (32 ∷ (decimal row.first_seen ++ 32 ∷ (if row.delivered then 49 else 48) ∷ [])) (10 ∷ behind)
-    ∙ ap (λ (xs : List ℕ). row.uid ++ 32 ∷ xs) (append_assoc (decimal row.first_seen) (32 ∷ (if row.delivered then 49 else 48) ∷ []) (10 ∷ behind)))
+-- ---- a line is its fields, with a space between two of them, and LF
+
+-- the first field, and the others
+abbrev fields : Line → List ℕ × List (List ℕ)
+fields (RowLine row) = (row.uid, decimal row.first_seen ∷ (digit row.delivered ∷ []) ∷ [])
+fields (GroupLine n) = (43 ∷ [], decimal n ∷ [])
+fields (IntentLine i) = (33 ∷ [], i.uid ∷ decimal i.start ∷ decimal i.len ∷ [])
+
+abbrev joined : List ℕ → List (List ℕ) → List ℕ
+joined field [] = field
+joined field (next ∷ more) = field ++ 32 ∷ joined next more
+
+abbrev pub body : Line → List ℕ
+body line = joined (fields line).0 (fields line).1
+
+-- no byte of a field is a space or below
+clean_fields : (line : Line) → IsLine line → (s : ℕ) → s ≤ 32 → AllByRecursion (HasNo s) ((fields line).0 ∷ (fields line).1)
+clean_fields (RowLine row) is s low =
+    (HasNo-id s (omega (arith, low)) row.uid is.legal, (HasNo-decimal s (omega (arith, low)) row.first_seen is.fits, (((λ same. grind (arith, low, same)), tt), tt)))
+clean_fields (GroupLine n) is s low = (((λ same. omega (arith, low, same)), tt), (HasNo-decimal s (omega (arith, low)) n (omega (arith, is.1)), tt))
+clean_fields (IntentLine i) is s low =
+    (((λ same. omega (arith, low, same)), tt), (HasNo-id s (omega (arith, low)) i.uid is.legal, (HasNo-decimal s (omega (arith, low)) i.start is.start, (HasNo-decimal s (omega (arith, low)) i.len is.len, tt))))
+
+clean_joined : (s : ℕ) → s < 32 → (field : List ℕ) (more : List (List ℕ)) → AllByRecursion (HasNo s) (field ∷ more) → HasNo s (joined field more)
+clean_joined s low field [] each = each.0
+clean_joined s low [] (next ∷ more) each = ((λ same. omega (arith, low, same)), clean_joined s low next more each.1)
+clean_joined s low (byte ∷ field) (next ∷ more) each = (each.0.0, clean_joined s low field (next ∷ more) (each.0.1, each.1))
+
+pub clean_body : (line : Line) → IsLine line → (s : ℕ) → s < 32 → HasNo s (body line)
+clean_body line is s low = clean_joined s low _ _ (clean_fields line is s (omega (arith, low)))
+
+pub body_text : (line : Line) (behind : List ℕ) → text_of line ++ behind ≡ body line ++ 10 ∷ behind
+body_text (RowLine row) behind = line_split row behind ∙ rw (state_text row.delivered behind) (sym (simp append_assoc))
 body_text (GroupLine n) behind = group_split n behind
-body_text (IntentLine i) behind =
-    intent_split i behind
-    ∙ sym (ap (λ (xs : List ℕ). 33 ∷ 32 ∷ xs) (append_assoc i.uid (32 ∷ (decimal i.start ++ 32 ∷ decimal i.len)) (10 ∷ behind)
-    ∙ ap (λ (xs : List ℕ). i.uid ++ 32 ∷ xs) (append_assoc (decimal i.start) (32 ∷ decimal i.len) (10 ∷ behind))))
+body_text (IntentLine i) behind = intent_split i behind ∙ sym (simp append_assoc)
 
-pub body_of : (line : Line) → IsLine line → HasBody line
-body_of line is = record { body = body line; clean = clean_body line is; plain = clean_body line is 10 (omega arith); text_is = body_text line }
+same_fields : (a b : List ℕ) (fs gs : List (List ℕ)) → AllByRecursion (HasNo 32) (a ∷ fs) → AllByRecursion (HasNo 32) (b ∷ gs) → joined a fs ≡ joined b gs → (a ≡ b) × (fs ≡ gs)
+same_fields a b [] [] p q e = (e, refl)
+same_fields a b [] (d ∷ gs) p q e = absurd (uncut 32 b _ a p.0 e)
+same_fields a b (c ∷ fs) [] p q e = absurd (uncut 32 a _ b q.0 (sym e))
+same_fields a b (c ∷ fs) (d ∷ gs) p q e =
+    let parts = cut_unique 32 a b _ _ p.0 q.0 e in
+    let rest = same_fields c d fs gs p.1 q.1 parts.1 in
+    (parts.0, ap₂ (λ (x : List ℕ) (xs : List (List ℕ)). x ∷ xs) rest.0 rest.1)
+
+same_line : (a b : Line) → IsLine a → IsLine b → (fields a).0 ≡ (fields b).0 → (fields a).1 ≡ (fields b).1 → a ≡ b
+same_line (RowLine a) (RowLine b) is_a is_b first rest =
+    let second : a.first_seen ≡ b.first_seen = decimal_injective _ _ is_a.fits is_b.fits cc in
+    let third : digit a.delivered ≡ digit b.delivered = cc in
+    let states : a.delivered ≡ b.delivered = grind (arith, third) in
+    λ i. RowLine (record { uid = first i; first_seen = second i; delivered = states i })
+same_line (GroupLine m) (GroupLine n) is_m is_n first rest = ap GroupLine (decimal_injective m n (omega (arith, is_m.1)) (omega (arith, is_n.1)) cc)
+same_line (IntentLine a) (IntentLine b) is_a is_b first rest =
+    let second : a.uid ≡ b.uid = cc in
+    let third : a.start ≡ b.start = decimal_injective _ _ is_a.start is_b.start cc in
+    let fourth : a.len ≡ b.len = decimal_injective _ _ is_a.len is_b.len cc in
+    λ i. IntentLine (record { uid = second i; start = third i; len = fourth i })
+same_line a b is_a is_b first rest = absurd cc
+
+pub text_unique : (a b : Line) (x y : List ℕ) → IsLine a → IsLine b → text_of a ++ x ≡ text_of b ++ y → (a ≡ b) × (x ≡ y)
+text_unique a b x y is_a is_b e =
+    let cut = cut_unique 10 (body a) (body b) x y (clean_body a is_a 10 (omega arith)) (clean_body b is_b 10 (omega arith)) (sym (body_text a x) ∙ e ∙ body_text b y) in
+    let same = same_fields _ _ _ _ (clean_fields a is_a 32 (omega arith)) (clean_fields b is_b 32 (omega arith)) cut.0 in
+    (same_line a b is_a is_b same.0 same.1, cut.1)
 
 -- what has no LF holds no line
-pub uncut : (s : ℕ) (a y xs : List ℕ) → HasNo s xs → xs ≡ a ++ s ∷ y → ⊥
-uncut s a y xs none e = go a (subst (HasNo s) e none)
-  where
-    go : (front : List ℕ) → HasNo s (front ++ s ∷ y) → ⊥
-    go [] none' = none'.0 refl
-    go (c ∷ front) none' = go front none'.1
-
 pub no_line : (rest : List ℕ) → HasNo 10 rest → (line : Line) (behind : List ℕ) → IsLine line → rest ≡ text_of line ++ behind → ⊥
-no_line rest none line behind is e = let b = body_of line is in uncut 10 b.body behind rest none (e ∙ b.text_is behind)
+no_line rest none line behind is e = uncut 10 (body line) behind rest none (e ∙ body_text line behind)
+
+-- ---- the fields that a reader takes
 
 -- what follows a legal id and a space
 pub behind_id : (line uid rest expected tail : List ℕ) → IsLegalId uid → IsLegalId expected → line ≡ uid ++ 32 ∷ rest → line ≡ expected ++ 32 ∷ tail → rest ≡ tail
@@ -199,20 +213,9 @@ number_behind s line number rest expected tail small fits fits' cut e =
     let parts = cut_unique s (decimal number) (decimal expected) rest tail (HasNo-decimal s small number fits) (HasNo-decimal s small expected fits') (sym cut ∙ e) in
     (decimal_injective number expected fits fits' parts.0, parts.1)
 
--- what follows the sign of a group's line
-pub behind_sign : (bytes line : List ℕ) (count : ℕ) (behind : List ℕ) → bytes ≡ 43 ∷ 32 ∷ line → bytes ≡ group_line count ++ behind → line ≡ decimal count ++ 10 ∷ behind
-behind_sign bytes line count behind bytes_are is =
-    (same_cons 32 32 _ _ (same_cons 43 43 _ _ (sym bytes_are ∙ is ∙ group_split count behind)).1).1
-
 -- what was stripped
 pub stripped : (prefix bytes : List ℕ) (rest : Bor (List ℕ)) → MatchOption (Some rest) (pointwise nat_eq (take (length prefix) bytes) prefix ≡ false) (λ x. (pointwise nat_eq (take (length prefix) bytes) prefix ≡ true) × (x.now ≡ drop (length prefix) bytes) × (length x.now + length prefix ≡ length bytes)) → bytes ≡ prefix ++ rest.now
 stripped prefix bytes rest cases = strip_prefix_is Decides-eqb bytes prefix (Some rest) cases
-
--- what follows the sign of an intent's line
-pub behind_intent_sign : (bytes line : List ℕ) (intent : Intent) (behind : List ℕ) → bytes ≡ 33 ∷ 32 ∷ line → bytes ≡ intent_line intent ++ behind
-    → line ≡ intent.uid ++ 32 ∷ (decimal intent.start ++ 32 ∷ (decimal intent.len ++ 10 ∷ behind))
-behind_intent_sign bytes line intent behind bytes_are is =
-    (same_cons 32 32 _ _ (same_cons 33 33 _ _ (sym bytes_are ∙ is ∙ intent_split intent behind)).1).1
 
 -- the fields that are cut at a separator
 pub field_id : (line uid rest expected tail : List ℕ) → line ≡ uid ++ 32 ∷ rest → All (λ byte. byte ≢ 32) uid → IsLegalId expected → line ≡ expected ++ 32 ∷ tail → uid ≡ expected

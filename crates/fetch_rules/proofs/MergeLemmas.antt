@@ -1,232 +1,433 @@
--- What a merge makes of the rows.
-use Rattle.std.proofs.Common.{◌≡◌, ◌≢◌, ◌⊎◌, ℕ, ◌<◌, ◌≤◌, ◌+◌, List, [], ◌∷◌, ◌++◌, Bool, true, false, cond, ◌&&◌, ◌||◌, not, length, get_or, take, map, refl, sym, ◌∙◌, ap, subst, inl, inr, arith, bytes_eq, zip, count_by, true≢false}
-use Rattle.std.specs.List.{list_any}
-use Rattle.std.specs.Bool.{OnTrue, OnFalse}
-use Rattle.std.proofs.lemmas.List.{take_more, take_all, map-append}
-use Rattle.std.proofs.lemmas.List.Folds.{list_any-append}
-use Rattle.std.proofs.lemmas.List.Sums.{sum_by-cons}
-use Rattle.std.proofs.lemmas.Slice.Zip.{length-zip, get_or-zip}
-use Rattle.std.proofs.Math.Bool.{or_assoc, or-false, and-false}
-use Rattle.std.proofs.lemmas.Cmp.{nat_list_eq_equiv}
-use Rattle.fetch_rules.proofs.RecordLemmas.{with_delivered-false}
-use Rattle.fetch_rules.proofs.IdLemmas.{same_from_test}
+-- What a merge makes of the rows, and what a record's growth appends to its file.
+use Rattle.std.proofs.Common.{All, Bool, List, [], ap, append-nil, append_assoc, ap₂, arith, bytes_eq, cond, false, filter, get_or, inl, inr, length, map, not, refl, sym, take, take_all, true, true≢false, zip, ℕ, ◌&&◌, ◌++◌, ◌+◌, ◌<◌, ◌||◌, ◌∙◌, ◌∷◌, ◌≡◌, ◌≢◌, ◌≤◌, ◌⊎◌, None, flat_map, length-append, subst, suc, zero, ◌==◌}
+use Rattle.mail_terms.specs.Listing.{Item, has_item, ids_of, is_flagged}
 use Rattle.mail_terms.specs.UniqueId.{has_id}
-use Rattle.mail_terms.specs.Listing.{Item, is_flagged}
-use Rattle.fetch_rules.specs.Record.{Row, IsRecord, is_of, with_delivered, marked, is_delivered, with_held, new_ids, undelivered, merged}
+use Rattle.std.proofs.Math.Bool.{or-false, or-true, or_assoc}
+use Rattle.std.proofs.lemmas.Bool.{OnFalse_at, OnTrue_at, and_parts, cases_Bool, cond_both, or_cases, or_from, or_left, or_parts, or_right, true_from_ne_false, and_from, eq-eqb}
+use Rattle.std.proofs.lemmas.Cmp.{nat_list_eq_equiv}
+use Rattle.std.proofs.lemmas.List.{length-map, map-append, map_more, flat_map_more, length-take, take_more}
+use Rattle.std.proofs.lemmas.List.Elements.{All-cons, All-head, All-map, filter-append}
+use Rattle.std.proofs.lemmas.List.Folds.{Any-from_list_any, list_any-append, list_any_at, list_any_more, map_fixed}
+use Rattle.std.proofs.lemmas.List.Kept.{AllPairs-cons}
+use Rattle.std.proofs.lemmas.Map.Made.{alike_from_same, is_member-filter, length-le_from_is_member}
+use Rattle.std.proofs.lemmas.Slice.Eq.{bytes_eq-Decides}
+use Rattle.std.proofs.lemmas.Slice.Zip.{get_or-zip, length-zip}
+use Rattle.std.specs.Bool.{OnFalse, OnTrue}
+use Rattle.std.specs.List.{list_any}
+use mathlib.Core.List.{map-map}
+use Rattle.fetch_rules.specs.Record.{IsRecord, IsRow, Row, distinct_ids, has_row, is_delivered, is_of, marked, merged, new_ids, undelivered, with_delivered, with_held}
+use Rattle.fetch_rules.specs.RecordFile.{changed, Two, line_of, written}
+use Rattle.fetch_rules.specs.RecordGrowth.{MayFollow, Updates, taken_all}
+use Rattle.fetch_rules.specs.RecordMeaning.{delivers, may_take, taken}
+use Rattle.fetch_rules.proofs.PlanLemmas.{nobody}
+use Rattle.fetch_rules.proofs.RowLemmas.{apart, ids_distinct, is_delivered-at, none_of, rest_of, same_row, uid_of, with_delivered-false, fresh, unmarked, any-map, same_from_test, test_from_same}
 
-abbrev nobody : Item
-nobody = record { uid = []; size = 0 }
+-- ---- the ids of a listing that have no row yet
+
+has_id-kept : (p : List ℕ → Bool) (ids : List (List ℕ)) (uid : List ℕ) → has_id (filter p ids) uid ≡ (has_id ids uid && p uid)
+has_id-kept p ids uid = is_member-filter nat_list_eq_equiv p uid (alike_from_same bytes_eq-Decides p uid) ids
+
+has_id-distinct_ids : (uid : List ℕ) (ids : List (List ℕ)) → has_id (distinct_ids ids) uid ≡ has_id ids uid
+has_id-distinct_ids uid [] = refl
+has_id-distinct_ids uid (id ∷ ids) =
+    rw (has_id-kept (λ o. not (bytes_eq id o)) (distinct_ids ids) uid, has_id-distinct_ids uid ids, nat_list_eq_equiv.symm id uid) (grind arith)
+
+distinct_ids-push : (ids : List (List ℕ)) (uid : List ℕ) → distinct_ids (ids ++ uid ∷ []) ≡ cond (has_id ids uid) (distinct_ids ids) (distinct_ids ids ++ uid ∷ [])
+distinct_ids-push [] uid = refl
+distinct_ids-push (id ∷ ids) uid = elim (cases_Bool (has_id ids uid)) [
+  | inl old ↦ rw (distinct_ids-push ids uid, old, or-true) refl
+  | inr new ↦ elim (cases_Bool (bytes_eq uid id)) [
+    | inl hit ↦ rw (distinct_ids-push ids uid, new, filter-append (λ o. not (bytes_eq id o)) (distinct_ids ids) (uid ∷ []), nat_list_eq_equiv.symm id uid, hit, append-nil) refl
+    | inr miss ↦ rw (distinct_ids-push ids uid, new, filter-append (λ o. not (bytes_eq id o)) (distinct_ids ids) (uid ∷ []), nat_list_eq_equiv.symm id uid, miss) refl
+  ]
+]
+
+-- the ids of these that have no row
+abbrev new_of : List Row → List (List ℕ) → List (List ℕ)
+new_of rows ids = filter (λ uid. not (has_row rows uid)) (distinct_ids ids)
+
+has_id-new_of : (rows : List Row) (ids : List (List ℕ)) (uid : List ℕ) → has_id (new_of rows ids) uid ≡ (has_id ids uid && not (has_row rows uid))
+has_id-new_of rows ids uid = has_id-kept (λ id. not (has_row rows id)) (distinct_ids ids) uid ∙ ap (λ (b : Bool). b && not (has_row rows uid)) (has_id-distinct_ids uid ids)
+
+has_id-new_ids : (rows : List Row) (listing : List Item) (uid : List ℕ) → has_id (new_ids rows listing) uid ≡ (has_item listing uid && not (has_row rows uid))
+has_id-new_ids rows listing uid = has_id-new_of rows (ids_of listing) uid ∙ ap (λ (b : Bool). b && not (has_row rows uid)) (any-map (bytes_eq uid) (λ (item : Item). item.uid) listing)
+
+new_of-push : (rows : List Row) (ids : List (List ℕ)) (uid : List ℕ) → new_of rows (ids ++ uid ∷ []) ≡ cond (has_row rows uid || has_id ids uid) (new_of rows ids) (new_of rows ids ++ uid ∷ [])
+new_of-push rows ids uid = rw (distinct_ids-push ids uid) (elim (cases_Bool (has_id ids uid)) [
+  | inl old ↦ rw (old, or-true) refl
+  | inr new ↦ rw (new, or-false, filter-append (λ id. not (has_row rows id)) (distinct_ids ids) (uid ∷ [])) (elim (cases_Bool (has_row rows uid)) [
+    | inl has ↦ rw (has, append-nil) refl
+    | inr none ↦ rw none refl
+  ])
+])
+
+-- a loop that adds rows: the items before the i-th have rows
+abbrev pub HasAdded : List Row → List Item → ℕ → ℕ → List Row → Type 0
+HasAdded rows listing now i new = new ≡ rows ++ map (undelivered now) (new_ids rows (take i listing))
+
+has_row-added : (rows : List Row) (listing : List Item) (now i : ℕ) (new : List Row) (uid : List ℕ) → HasAdded rows listing now i new → has_row new uid ≡ (has_row rows uid || has_id (ids_of (take i listing)) uid)
+has_row-added rows listing now i new uid were =
+    ap (λ (rs : List Row). has_row rs uid) were
+    ∙ list_any-append (is_of uid) rows (map (undelivered now) (new_ids rows (take i listing)))
+    ∙ ap (λ (b : Bool). has_row rows uid || b) (any-map (is_of uid) (undelivered now) (new_ids rows (take i listing)) ∙ has_id-new_of rows (ids_of (take i listing)) uid)
+    ∙ grind arith
+
+pub added_next : (rows : List Row) (listing : List Item) (now i : ℕ) (new : List Row) (uid : List ℕ) → HasAdded rows listing now i new → ((d : Item) → uid ≡ (get_or listing i d).uid) → i < length listing
+    → rows ++ map (undelivered now) (new_ids rows (take (i + 1) listing)) ≡ cond (has_row new uid) new (new ++ undelivered now uid ∷ [])
+added_next rows listing now i new uid were at inside =
+    ap (λ (ids : List (List ℕ)). rows ++ map (undelivered now) (new_of rows ids)) (map_more (λ (item : Item). item.uid) listing i nobody inside ∙ ap (λ (id : List ℕ). ids_of (take i listing) ++ id ∷ []) (sym (at nobody)))
+    ∙ rw (new_of-push rows (ids_of (take i listing)) uid, has_row-added rows listing now i new uid were) (elim (cases_Bool (has_row rows uid || has_id (ids_of (take i listing)) uid)) [
+      | inl old ↦ rw old (sym were)
+      | inr none ↦ rw (none, were, map-append (undelivered now) (new_of rows (ids_of (take i listing))) (uid ∷ []), append_assoc) refl
+    ])
+
+-- ---- which rows are delivered after a merge or a mark
+
+pub delivered-with : (t : List ℕ → Bool) (rows : List Row) (uid : List ℕ)
+    → is_delivered (map (λ row. with_delivered (t row.uid) row) rows) uid ≡ (is_delivered rows uid || (has_row rows uid && t uid))
+delivered-with t [] uid = refl
+delivered-with t (row ∷ rows) uid =
+    let same : bytes_eq uid row.uid ≡ true → t row.uid ≡ t uid = λ e. ap t (sym (same_from_test uid row.uid e)) in
+    rw (delivered-with t rows uid) (grind (arith, same))
+
+any-and : (h : List ℕ → Bool) (ids : List (List ℕ)) (uid : List ℕ) → list_any (λ id. bytes_eq uid id && h id) ids ≡ (has_id ids uid && h uid)
+any-and h [] uid = refl
+any-and h (x ∷ xs) uid = let same : bytes_eq uid x ≡ true → h x ≡ h uid = λ e. ap h (sym (same_from_test uid x e)) in rw (any-and h xs uid) (grind (arith, same))
+
+flagged_listed : (listing : List Item) (held : List Bool) (uid : List ℕ) → is_flagged listing held uid ≡ true → has_item listing uid ≡ true
+flagged_listed [] held uid flagged = cc
+flagged_listed (item ∷ listing) [] uid flagged = cc
+flagged_listed (item ∷ listing) (flag ∷ held) uid flagged = elim (or_cases (flag && bytes_eq item.uid uid) (is_flagged listing held uid) flagged) [
+  | inl here ↦ or_left _ _ (nat_list_eq_equiv.symm uid item.uid ∙ (and_parts flag (bytes_eq item.uid uid) here).1)
+  | inr further ↦ or_right _ _ (flagged_listed listing held uid further)
+]
+
+-- the row of an id that is new
+abbrev new_row : List Item → List Bool → ℕ → List ℕ → Row
+new_row listing held now uid = record { uid = uid; first_seen = now; delivered = is_flagged listing held uid }
+
+pub delivered-merged : (rows : List Row) (listing : List Item) (held : List Bool) (now : ℕ) (uid : List ℕ)
+    → is_delivered (merged rows listing held now) uid ≡ is_delivered rows uid || is_flagged listing held uid
+delivered-merged rows listing held now uid =
+    list_any-append (λ row. is_of uid row && row.delivered) (with_held listing held rows) (map (new_row listing held now) (new_ids rows listing))
+    ∙ rw (
+      delivered-with (is_flagged listing held) rows uid,
+      any-map (λ (row : Row). is_of uid row && row.delivered) (new_row listing held now) (new_ids rows listing),
+      any-and (is_flagged listing held) (new_ids rows listing) uid,
+      has_id-new_ids rows listing uid,
+    )
+    (let listed = flagged_listed listing held uid in grind (arith, listed))
+
+pub has_row-merged : (rows : List Row) (listing : List Item) (held : List Bool) (now : ℕ) (uid : List ℕ)
+    → has_row (merged rows listing held now) uid ≡ has_row rows uid || has_item listing uid
+has_row-merged rows listing held now uid =
+    list_any-append (is_of uid) (with_held listing held rows) (map (new_row listing held now) (new_ids rows listing))
+    ∙ ap₂ ◌||◌ (any-map (is_of uid) (λ (row : Row). with_delivered (is_flagged listing held row.uid) row) rows)
+    (any-map (is_of uid) (new_row listing held now) (new_ids rows listing) ∙ has_id-new_ids rows listing uid)
+    ∙ grind arith
+
+-- ---- a merge changes no more rows than the listing has messages
+
+IsRecord-cons : (row : Row) (rows : List Row) → IsRow row → IsRecord rows → has_row rows row.uid ≡ false → IsRecord (row ∷ rows)
+IsRecord-cons row rows is_row is none = record {
+  each = All-cons IsRow row rows is_row is.each;
+  distinct = AllPairs-cons (◌≢◌ {A = List ℕ}) row.uid (map uid_of rows) (All-map (λ uid. row.uid ≢ uid) uid_of rows (λ k d inside same.
+      true≢false (sym (list_any_at (is_of row.uid) rows k d inside (test_from_same row.uid (get_or rows k d).uid same)) ∙ none))) is.distinct;
+}
+
+changed_lack : (uid : List ℕ) (old new : List Row) → has_row new uid ≡ false → has_row (changed old new) uid ≡ false
+changed_lack uid [] new lack = lack
+changed_lack uid (row ∷ old) [] lack = refl
+changed_lack uid (row ∷ old) (next ∷ new) lack =
+    let parts = or_parts (is_of uid next) (has_row new uid) lack in
+    cond_both (next.delivered && not row.delivered) _ _ (λ (rs : List Row). has_row rs uid ≡ false) (λ now. or_from _ _ parts.0 (changed_lack uid old new parts.1)) (λ same. changed_lack uid old new parts.1)
+
+pub IsRecord-changed : (old new : List Row) → IsRecord new → IsRecord (changed old new)
+IsRecord-changed (row ∷ old) (next ∷ new) is =
+    let rest = IsRecord-changed old new (rest_of next new is) in
+    cond_both (next.delivered && not row.delivered) _ _ IsRecord
+    (λ now. IsRecord-cons next (changed old new) (All-head IsRow next new is.each) rest (changed_lack next.uid old new (apart next.uid next new is (test_from_same next.uid next.uid refl)))) (λ same. rest)
+IsRecord-changed old new is = is
+
+-- the id of each row that a merge changes is listed
+changed_listed : (listing : List Item) (held : List Bool) (old more : List Row) (uid : List ℕ) → (has_row more uid ≡ true → has_item listing uid ≡ true)
+    → has_row (changed old (with_held listing held old ++ more)) uid ≡ true → has_item listing uid ≡ true
+changed_listed listing held [] more uid new there = new there
+changed_listed listing held (row ∷ old) more uid new there =
+    let further = changed_listed listing held old more uid new in
+    cond_both ((row.delivered || is_flagged listing held row.uid) && not row.delivered) _ _ (λ (rs : List Row). has_row rs uid ≡ true → has_item listing uid ≡ true)
+    (λ now at. let flagged : is_flagged listing held row.uid ≡ true = grind (arith, now) in elim (or_cases (is_of uid row) (has_row (changed old (with_held listing held old ++ more)) uid) at) [
+      | inl here ↦ rw (same_from_test uid row.uid here) (flagged_listed listing held row.uid flagged)
+      | inr behind ↦ further behind
+    ]) (λ same at. further at) there
+
+pub merge_is_short : (rows : List Row) (listing : List Item) (held : List Bool) (now : ℕ) → IsRecord (merged rows listing held now) → length (changed rows (merged rows listing held now)) ≤ length listing
+merge_is_short rows listing held now is = omega (
+  arith,
+  length-le_from_is_member nat_list_eq_equiv (map uid_of group) (ids_of listing) (ids_distinct group (IsRecord-changed rows (merged rows listing held now) is)) (λ uid there.
+      any-map (bytes_eq uid) (λ (item : Item). item.uid) listing ∙ changed_listed listing held rows _ uid
+      (λ at. (and_parts _ _ (sym (any-map (is_of uid) (new_row listing held now) (new_ids rows listing) ∙ has_id-new_ids rows listing uid) ∙ at)).0)
+      (sym (any-map (bytes_eq uid) uid_of group) ∙ there)),
+  length-map group uid_of,
+  length-map listing (λ (item : Item). item.uid),
+)
+  where
+    group : List Row
+    group = changed rows (merged rows listing held now)
+
+-- ---- a listing whose ids are all recorded as delivered changes nothing, whatever is held
+
+pub known_has_row : (rows : List Row) (uid : List ℕ) → is_delivered rows uid ≡ true → has_row rows uid ≡ true
+known_has_row rows uid is = true_from_ne_false _ (λ none. true≢false (sym is ∙ none_of (λ state. state.delivered) uid rows none))
+
+-- rows that are delivered if they are chosen stay as they are
+with_known : (t : List ℕ → Bool) (rows : List Row) → IsRecord rows → ((uid : List ℕ) → t uid ≡ true → is_delivered rows uid ≡ true) → map (λ row. with_delivered (t row.uid) row) rows ≡ rows
+with_known t rows is all = map_fixed (λ (row : Row). with_delivered (t row.uid) row) rows (λ k d inside. elim (cases_Bool (t (get_or rows k d).uid)) [
+  | inl chosen ↦ same_row _ _ (sym (is_delivered-at rows k d is inside) ∙ all _ chosen)
+  | inr left ↦ rw left (with_delivered-false (get_or rows k d))
+])
+
+no_ids : (ids : List (List ℕ)) → ((uid : List ℕ) → has_id ids uid ≡ false) → ids ≡ []
+no_ids [] none = refl
+no_ids (id ∷ ids) none = absurd (true≢false (sym (or_left _ _ (test_from_same id id refl)) ∙ none id))
+
+pub known_merge : (rows : List Row) (items : List Item) (held : List Bool) (now : ℕ) → IsRecord rows
+    → All (λ (item : Item). is_delivered rows item.uid ≡ true) items → merged rows items held now ≡ rows
+known_merge rows items held now is all =
+    rw (
+      with_known (is_flagged items held) rows is (λ uid flagged. known uid (flagged_listed items held uid flagged)),
+      no_ids (new_ids rows items) (λ uid.
+          let has : has_item items uid ≡ true → has_row rows uid ≡ true = λ listed. known_has_row rows uid (known uid listed) in has_id-new_ids rows items uid ∙ grind (arith, has)),
+    ) (append-nil rows)
+  where
+    known : (uid : List ℕ) → has_item items uid ≡ true → is_delivered rows uid ≡ true
+    known uid listed = let there = Any-from_list_any (λ (item : Item). bytes_eq uid item.uid) items listed in
+        rw (same_from_test uid there.1.uid there.4) (rw there.3 at (all there.0 there.1 there.2))
+
+-- ---- a loop over the flagged items
 
 -- a held item with this id
 abbrev pub stands_for : List ℕ → Item × Bool → Bool
 stands_for uid flagged = flagged.1 && bytes_eq flagged.0.uid uid
 
 -- the rows, with delivered set for the ids of those of these items that are held
-abbrev pub with_flagged : List (Item × Bool) → List Row → List Row
+abbrev with_flagged : List (Item × Bool) → List Row → List Row
 with_flagged flagged rows = map (λ row. with_delivered (list_any (stands_for row.uid) flagged) row) rows
 
-pub with_flagged-none : (rows : List Row) → rows ≡ with_flagged [] rows
-with_flagged-none [] = refl
-with_flagged-none (row ∷ rest) = ap (λ (first : Row). first ∷ rest) (sym (with_delivered-false row)) ∙ ap (λ (others : List Row). with_delivered false row ∷ others) (with_flagged-none rest)
+flagged_more : (flagged : List (Item × Bool)) (i : ℕ) (d : Item × Bool) → i < length flagged → (rows : List Row)
+    → with_flagged (take (i + 1) flagged) rows ≡ map (λ row. with_delivered (stands_for row.uid (get_or flagged i d)) row) (with_flagged (take i flagged) rows)
+flagged_more flagged i d inside [] = refl
+flagged_more flagged i d inside (row ∷ rest) =
+    rw (list_any_more (stands_for row.uid) flagged i d inside, flagged_more flagged i d inside rest, or_assoc row.delivered (list_any (stands_for row.uid) (take i flagged)) (stands_for row.uid (get_or flagged i d))) refl
 
--- one more flagged item
-any_more : (uid : List ℕ) (flagged : List (Item × Bool)) (next : Item × Bool) → list_any (stands_for uid) (flagged ++ next ∷ []) ≡ list_any (stands_for uid) flagged || stands_for uid next
-any_more uid flagged next = list_any-append (stands_for uid) flagged (next ∷ []) ∙ ap (λ (b : Bool). list_any (stands_for uid) flagged || b) (or-false (stands_for uid next))
+-- what two marks leave as it is the first one leaves too
+first_keeps : (f : Row → Bool) (uid : List ℕ) (rows : List Row) → marked (map (λ row. with_delivered (f row) row) rows) uid ≡ rows → map (λ row. with_delivered (f row) row) rows ≡ rows
+first_keeps f uid [] e = refl
+first_keeps f uid (row ∷ rows) e =
+    let here : ((row.delivered || f row) || is_of uid row) ≡ row.delivered = cc in
+    let same : (row.delivered || f row) ≡ row.delivered = grind arith in
+    ap₂ (λ (b : Bool) (others : List Row). record row { delivered = b } ∷ others) same (first_keeps f uid rows cc)
 
-pub with_flagged-held : (rows : List Row) (flagged : List (Item × Bool)) (item : Item) → marked (with_flagged flagged rows) item.uid ≡ with_flagged (flagged ++ (item, true) ∷ []) rows
-with_flagged-held [] flagged item = refl
-with_flagged-held (row ∷ rest) flagged item =
-    ap (λ (b : Bool). record row { delivered = b } ∷ marked (with_flagged flagged rest) item.uid)
-    (or_assoc row.delivered (list_any (stands_for row.uid) flagged) (bytes_eq item.uid row.uid) ∙ ap (λ (b : Bool). row.delivered || b) (sym (any_more row.uid flagged (item, true))))
-    ∙ ap (λ (others : List Row). with_delivered (list_any (stands_for row.uid) (flagged ++ (item, true) ∷ [])) row ∷ others) (with_flagged-held rest flagged item)
-
-pub with_flagged-free : (rows : List Row) (flagged : List (Item × Bool)) (item : Item) → with_flagged flagged rows ≡ with_flagged (flagged ++ (item, false) ∷ []) rows
-with_flagged-free [] flagged item = refl
-with_flagged-free (row ∷ rest) flagged item =
-    ap (λ (b : Bool). with_delivered b row ∷ with_flagged flagged rest) (sym (any_more row.uid flagged (item, false) ∙ or-false (list_any (stands_for row.uid) flagged)))
-    ∙ ap (λ (others : List Row). with_delivered (list_any (stands_for row.uid) (flagged ++ (item, false) ∷ [])) row ∷ others) (with_flagged-free rest flagged item)
-
--- how many rows are delivered: a mark that changes a row makes them more
-abbrev pub delivered_count : List Row → ℕ
-delivered_count rows = count_by (λ row. row.delivered) rows
-
-delivered_cases : (before also : Bool) → ((before || also) ≡ before) ⊎ ((before ≡ false) × ((before || also) ≡ true))
-delivered_cases true also = inl refl
-delivered_cases false true = inr (refl, refl)
-delivered_cases false false = inl refl
-
-delivered_count-cons : (row : Row) (rest : List Row) (b : Bool) → row.delivered ≡ b → delivered_count (row ∷ rest) ≡ cond b 1 0 + delivered_count rest
-delivered_count-cons row rest b is = sum_by-cons (λ (r : Row). cond r.delivered 1 0) row rest ∙ ap (λ (d : Bool). cond d 1 0 + delivered_count rest) is
-
-pub marked_cases : (rows : List Row) (uid : List ℕ) → (marked rows uid ≡ rows) ⊎ (delivered_count rows < delivered_count (marked rows uid))
-marked_cases [] uid = inl refl
-marked_cases (row ∷ rest) uid = elim (delivered_cases row.delivered (is_of uid row)) [
-  | inl same ↦ elim (marked_cases rest uid) [
-    | inl none ↦ inl (ap (λ (b : Bool). record row { delivered = b } ∷ marked rest uid) same ∙ ap (λ (others : List Row). row ∷ others) none)
-    | inr more ↦ inr (omega (
-      arith,
-      more,
-      delivered_count-cons row rest row.delivered refl,
-      delivered_count-cons (with_delivered (is_of uid row) row) (marked rest uid) row.delivered same,
-    ))
-  ]
-  | inr (before, after) ↦
-      let old = delivered_count-cons row rest false before in
-      let new = delivered_count-cons (with_delivered (is_of uid row) row) (marked rest uid) true after in
-      elim (marked_cases rest uid) [
-        | inl none ↦ inr (omega (arith, ap delivered_count none, old, new))
-        | inr more ↦ inr (omega (arith, more, old, new))
-      ]
-]
-
--- a loop over the flagged items: the ids of these are marked
+-- the ids of these are marked
 pub record HasMarked (flagged : List (Item × Bool)) (before : List Row) (changed : Bool) (rows : List Row) : Type 0 where
   pub rows_are : rows ≡ with_flagged flagged before
-  pub more : changed ≡ true → delivered_count before < delivered_count rows
+  pub more : changed ≡ true → rows ≢ before
   pub same : changed ≡ false → rows ≡ before
   pub good : IsRecord rows
 
+unflagged : (rows : List Row) → map (λ row. with_delivered false row) rows ≡ rows
+unflagged rows = map_fixed (λ (row : Row). with_delivered false row) rows (λ k d inside. with_delivered-false (get_or rows k d))
+
 pub HasMarked-none : (before : List Row) → IsRecord before → HasMarked [] before false before
-HasMarked-none before good = record {
-  rows_are = with_flagged-none before;
-  more = λ e. absurd (true≢false (sym e));
-  same = λ _. refl;
-  good = good;
-}
-
-pub HasMarked-free : (flagged : List (Item × Bool)) (before : List Row) (changed : Bool) (rows : List Row) (item : Item) → HasMarked flagged before changed rows → HasMarked (flagged ++ (item, false) ∷ []) before changed rows
-HasMarked-free flagged before changed rows item has = record {
-  rows_are = has.rows_are ∙ with_flagged-free before flagged item;
-  more = has.more;
-  same = has.same;
-  good = has.good;
-}
-
-pub HasMarked-held : (flagged : List (Item × Bool)) (before : List Row) (changed : Bool) (rows : List Row) (item : Item) (now_changed : Bool) (new : List Row)
-    → HasMarked flagged before changed rows → new ≡ marked rows item.uid → OnTrue now_changed (new ≢ rows) → OnFalse now_changed (new ≡ rows) → IsRecord new
-    → HasMarked (flagged ++ (item, true) ∷ []) before (changed || now_changed) new
-HasMarked-held flagged before changed rows item now_changed new has new_is differs agrees good = record {
-  rows_are = new_is ∙ ap (λ (xs : List Row). marked xs item.uid) has.rows_are ∙ with_flagged-held before flagged item;
-  more = more changed now_changed has.more has.same differs agrees;
-  same = same changed now_changed has.same agrees;
-  good = good;
-}
-  where
-    grown : new ≢ rows → delivered_count rows < delivered_count new
-    grown other = elim (marked_cases rows item.uid) [
-      | inl none ↦ absurd (other (new_is ∙ none))
-      | inr lt ↦ omega (arith, lt, ap delivered_count new_is)
-    ]
-
-    more : (a b : Bool) → (a ≡ true → delivered_count before < delivered_count rows) → (a ≡ false → rows ≡ before) → OnTrue b (new ≢ rows) → OnFalse b (new ≡ rows) → (a || b) ≡ true → delivered_count before < delivered_count new
-    more true true h s d e _ = omega (arith, h refl, grown d)
-    more true false h s d e _ = omega (arith, h refl, ap delivered_count e)
-    more false true h s d e _ = omega (arith, ap delivered_count (s refl), grown d)
-    more false false h s d e contrary = absurd (true≢false (sym contrary))
-
-    same : (a b : Bool) → (a ≡ false → rows ≡ before) → OnFalse b (new ≡ rows) → (a || b) ≡ false → new ≡ before
-    same true b s e contrary = absurd (true≢false contrary)
-    same false true s e contrary = absurd (true≢false contrary)
-    same false false s e _ = e ∙ s refl
-
--- the next flagged item
-pub flagged_more : (listing : List Item) (held : List Bool) (i : ℕ) (d : Item) (e : Bool) → length held ≡ length listing → i < length listing → take (i + 1) (zip listing held) ≡ take i (zip listing held) ++ (get_or listing i d, get_or held i e) ∷ []
-flagged_more listing held i d e same inside =
-    take_more (zip listing held) i (d, e) (omega (arith, length-zip listing held))
-    ∙ ap (λ (next : Item × Bool). take i (zip listing held) ++ next ∷ []) (get_or-zip listing held i (d, e) inside (omega arith))
-
-pub HasMarked-next_held : (listing : List Item) (held : List Bool) (i : ℕ) (uid : List ℕ) (before : List Row) (changed : Bool) (rows : List Row) (now_changed : Bool) (new : List Row)
-    → length held ≡ length listing → i < length listing → get_or held i false ≡ true → ((d : Item) → uid ≡ (get_or listing i d).uid)
-    → HasMarked (take i (zip listing held)) before changed rows → new ≡ marked rows uid → OnTrue now_changed (new ≢ rows) → OnFalse now_changed (new ≡ rows) → IsRecord new
-    → HasMarked (take (i + 1) (zip listing held)) before (changed || now_changed) new
-HasMarked-next_held listing held i uid before changed rows now_changed new same inside is at has new_is differs agrees good =
-    subst (λ (flagged : List (Item × Bool)). HasMarked flagged before (changed || now_changed) new)
-    (ap (λ (b : Bool). take i (zip listing held) ++ (get_or listing i nobody, b) ∷ []) (sym is) ∙ sym (flagged_more listing held i nobody false same inside))
-    (HasMarked-held _ before changed rows (get_or listing i nobody) now_changed new has (new_is ∙ ap (marked rows) (at nobody)) differs agrees good)
-
-pub HasMarked-next_free : (listing : List Item) (held : List Bool) (i : ℕ) (before : List Row) (changed : Bool) (rows : List Row)
-    → length held ≡ length listing → i < length listing → get_or held i false ≡ false
-    → HasMarked (take i (zip listing held)) before changed rows → HasMarked (take (i + 1) (zip listing held)) before changed rows
-HasMarked-next_free listing held i before changed rows same inside is has =
-    subst (λ (flagged : List (Item × Bool)). HasMarked flagged before changed rows)
-    (ap (λ (b : Bool). take i (zip listing held) ++ (get_or listing i nobody, b) ∷ []) (sym is) ∙ sym (flagged_more listing held i nobody false same inside))
-    (HasMarked-free _ before changed rows (get_or listing i nobody) has)
+HasMarked-none before good = record { rows_are = sym (unflagged before); more = λ e. cc; same = λ _. refl; good = good }
 
 pub HasMarked-all : (listing : List Item) (held : List Bool) (i : ℕ) (before : List Row) (changed : Bool) (rows : List Row) → length listing ≤ i
     → HasMarked (take i (zip listing held)) before changed rows → rows ≡ with_held listing held before
-HasMarked-all listing held i before changed rows past has =
-    has.rows_are ∙ ap (λ (flagged : List (Item × Bool)). with_flagged flagged before) (take_all i (zip listing held) (omega (arith, length-zip listing held)))
+HasMarked-all listing held i before changed rows past has = rw (← take_all i (zip listing held) (omega (arith, length-zip listing held))) has.rows_are
 
--- new rows of held ids are delivered
-pub with_held-undelivered : (listing : List Item) (held : List Bool) (now : ℕ) (ids : List (List ℕ))
-    → with_held listing held (map (undelivered now) ids) ≡ map (λ uid. record { uid = uid; first_seen = now; delivered = is_flagged listing held uid }) ids
-with_held-undelivered listing held now [] = refl
-with_held-undelivered listing held now (id ∷ ids) = ap (λ (others : List Row). record { uid = id; first_seen = now; delivered = is_flagged listing held id } ∷ others) (with_held-undelivered listing held now ids)
-
-pub merged_from_steps : (rows : List Row) (listing : List Item) (held : List Bool) (now : ℕ) (added longer new : List Row)
-    → added ≡ map (undelivered now) (new_ids rows listing) → longer ≡ rows ++ added → new ≡ with_held listing held longer → new ≡ merged rows listing held now
-merged_from_steps rows listing held now added longer new added_is longer_is new_is =
-    new_is ∙ ap (with_held listing held) (longer_is ∙ ap (λ (xs : List Row). rows ++ xs) added_is)
-    ∙ map-append (λ (row : Row). with_delivered (is_flagged listing held row.uid) row) rows (map (undelivered now) (new_ids rows listing))
-    ∙ ap (λ (xs : List Row). with_held listing held rows ++ xs) (with_held-undelivered listing held now (new_ids rows listing))
-
--- a loop over the flagged items that collects the ids of those that are held and not delivered before
+-- the ids of those that are held and not delivered before are collected
 abbrev pub HasHeldAnew : List Row → List Item → List Bool → ℕ → List (List ℕ) → Type 0
 HasHeldAnew rows listing held i ids = (uid : List ℕ) → has_id ids uid ≡ (list_any (stands_for uid) (take i (zip listing held)) && not (is_delivered rows uid))
 
-next_flagged : (listing : List Item) (held : List Bool) (i : ℕ) (uid : List ℕ) → length held ≡ length listing → i < length listing
-    → list_any (stands_for uid) (take (i + 1) (zip listing held)) ≡ list_any (stands_for uid) (take i (zip listing held)) || stands_for uid (get_or listing i nobody, get_or held i false)
-next_flagged listing held i uid same inside = ap (list_any (stands_for uid)) (flagged_more listing held i nobody false same inside) ∙ any_more uid (take i (zip listing held)) (get_or listing i nobody, get_or held i false)
-
--- an item that is held and wasn't delivered before
-pub HasHeldAnew-held : (rows : List Row) (listing : List Item) (held : List Bool) (i : ℕ) (ids new : List (List ℕ)) (uid : List ℕ) → HasHeldAnew rows listing held i ids
-    → length held ≡ length listing → i < length listing → get_or held i false ≡ true → is_delivered rows uid ≡ false → ((d : Item) → uid ≡ (get_or listing i d).uid)
-    → ((id : List ℕ) → has_id new id ≡ (bytes_eq id uid || has_id ids id)) → HasHeldAnew rows listing held (i + 1) new
-HasHeldAnew-held rows listing held i ids new uid were same inside is fresh at added = λ id.
-    added id
-    ∙ ap (λ (b : Bool). bytes_eq id uid || b) (were id)
-    ∙ by id (bytes_eq id uid) refl
-    ∙ ap (λ (b : Bool). (list_any (stands_for id) (take i (zip listing held)) || b) && not (is_delivered rows id)) (here id)
-    ∙ ap (λ (b : Bool). b && not (is_delivered rows id)) (sym (next_flagged listing held i id same inside))
-  where
-    here : (id : List ℕ) → bytes_eq id uid ≡ stands_for id (get_or listing i nobody, get_or held i false)
-    here id =
-        nat_list_eq_equiv.symm id uid ∙ ap (λ (u : List ℕ). bytes_eq u id) (at nobody)
-        ∙ ap (λ (b : Bool). b && bytes_eq (get_or listing i nobody).uid id) (sym is)
-
-    or_both : (old fresh : Bool) → fresh ≡ true → true ≡ ((old || true) && fresh)
-    or_both old fresh e = grind arith
-
-    by : (id : List ℕ) (found : Bool) → bytes_eq id uid ≡ found
-        → (found || (list_any (stands_for id) (take i (zip listing held)) && not (is_delivered rows id)))
-        ≡ ((list_any (stands_for id) (take i (zip listing held)) || found) && not (is_delivered rows id))
-    by id true found = or_both _ _ (ap (λ (u : List ℕ). not (is_delivered rows u)) (same_from_test id uid found) ∙ ap not fresh)
-    by id false found = ap (λ (b : Bool). b && not (is_delivered rows id)) (sym (or-false (list_any (stands_for id) (take i (zip listing held)))))
-
--- an item that was delivered before
-pub HasHeldAnew-known : (rows : List Row) (listing : List Item) (held : List Bool) (i : ℕ) (ids : List (List ℕ)) (uid : List ℕ) → HasHeldAnew rows listing held i ids
-    → length held ≡ length listing → i < length listing → is_delivered rows uid ≡ true → ((d : Item) → uid ≡ (get_or listing i d).uid) → HasHeldAnew rows listing held (i + 1) ids
-HasHeldAnew-known rows listing held i ids uid were same inside known at = λ id.
-    were id
-    ∙ by id (bytes_eq (get_or listing i nobody).uid id) refl (get_or held i false)
-    ∙ ap (λ (b : Bool). b && not (is_delivered rows id)) (sym (next_flagged listing held i id same inside))
-  where
-    by : (id : List ℕ) (found : Bool) → bytes_eq (get_or listing i nobody).uid id ≡ found → (flag : Bool)
-        → (list_any (stands_for id) (take i (zip listing held)) && not (is_delivered rows id))
-        ≡ ((list_any (stands_for id) (take i (zip listing held)) || (flag && bytes_eq (get_or listing i nobody).uid id)) && not (is_delivered rows id))
-    by id true found flag =
-        let known_too : not (is_delivered rows id) ≡ false =
-        ap (λ (u : List ℕ). not (is_delivered rows u)) (sym (at nobody ∙ same_from_test (get_or listing i nobody).uid id found)) ∙ ap not known in
-        rw (known_too, and-false, and-false) refl
-    by id false found flag = rw (found, and-false, or-false) refl
-
--- an item that isn't held
-pub HasHeldAnew-free : (rows : List Row) (listing : List Item) (held : List Bool) (i : ℕ) (ids : List (List ℕ)) → HasHeldAnew rows listing held i ids → length held ≡ length listing
-    → i < length listing → get_or held i false ≡ false → HasHeldAnew rows listing held (i + 1) ids
-HasHeldAnew-free rows listing held i ids were same inside is = λ id.
-    were id ∙ ap (λ (b : Bool). b && not (is_delivered rows id)) (rw (next_flagged listing held i id same inside, is, or-false) refl)
-
 pub HasHeldAnew-all : (rows : List Row) (listing : List Item) (held : List Bool) (i : ℕ) (ids : List (List ℕ)) → HasHeldAnew rows listing held i ids → length listing ≤ i
     → (uid : List ℕ) → has_id ids uid ≡ (is_flagged listing held uid && not (is_delivered rows uid))
-HasHeldAnew-all rows listing held i ids were past = λ uid.
-    were uid ∙ ap (λ (b : Bool). b && not (is_delivered rows uid)) (ap (list_any (stands_for uid)) (take_all i (zip listing held) (omega (arith, past, length-zip listing held))))
+HasHeldAnew-all rows listing held i ids were past = λ uid. rw (← take_all i (zip listing held) (omega (arith, past, length-zip listing held))) (were uid)
+
+module _ (listing : List Item) (held : List Bool) (i : ℕ) (same : length held ≡ length listing) (inside : i < length listing) where
+  within : i < length (zip listing held)
+  within = omega (arith, length-zip listing held)
+
+  next_is : get_or (zip listing held) i (nobody, false) ≡ (get_or listing i nobody, get_or held i false)
+  next_is = get_or-zip listing held i (nobody, false) inside (omega arith)
+
+  pub HasMarked-held : (uid : List ℕ) (before : List Row) (changed : Bool) (rows : List Row) (now_changed : Bool) (new : List Row) → ((d : Item) → uid ≡ (get_or listing i d).uid) → get_or held i false ≡ true
+      → HasMarked (take i (zip listing held)) before changed rows → new ≡ marked rows uid → OnTrue now_changed (new ≢ rows) → OnFalse now_changed (new ≡ rows) → IsRecord new
+      → HasMarked (take (i + 1) (zip listing held)) before (changed || now_changed) new
+  HasMarked-held uid before changed rows now_changed new at is has new_is differs agrees good = record {
+    rows_are = rw (flagged_more (zip listing held) i (nobody, false) within before, next_is, is, new_is, has.rows_are, at nobody) refl;
+    more = λ e done.
+        let old = has.rows_are ∙ first_keeps (λ (row : Row). list_any (stands_for row.uid) (take i (zip listing held))) uid before (sym (new_is ∙ ap (λ (rs : List Row). marked rs uid) has.rows_are) ∙ done) in
+        elim (or_cases changed now_changed e) [
+          | inl before' ↦ has.more before' old
+          | inr now ↦ OnTrue_at now differs (done ∙ sym old)
+        ];
+    same = λ e. let parts = or_parts changed now_changed e in OnFalse_at parts.1 agrees ∙ has.same parts.0;
+    good = good;
+  }
+
+  pub HasMarked-free : (before : List Row) (changed : Bool) (rows : List Row) → get_or held i false ≡ false → HasMarked (take i (zip listing held)) before changed rows → HasMarked (take (i + 1) (zip listing held)) before changed rows
+  HasMarked-free before changed rows is has = record {
+    rows_are = rw (flagged_more (zip listing held) i (nobody, false) within before, next_is, is, unflagged (with_flagged (take i (zip listing held)) before)) has.rows_are;
+    more = has.more;
+    same = has.same;
+    good = has.good;
+  }
+
+  pub HasHeldAnew-more : (rows : List Row) (ids new : List (List ℕ)) (uid : List ℕ) (b : Bool) → HasHeldAnew rows listing held i ids → ((d : Item) → uid ≡ (get_or listing i d).uid) → b ≡ (get_or held i false && not (is_delivered rows uid))
+      → ((id : List ℕ) → has_id new id ≡ ((b && bytes_eq id uid) || has_id ids id)) → HasHeldAnew rows listing held (i + 1) new
+  HasHeldAnew-more rows ids new uid b were at b_is added = λ id.
+      let same : bytes_eq id uid ≡ true → is_delivered rows id ≡ is_delivered rows uid = λ e. ap (is_delivered rows) (same_from_test id uid e) in
+      added id ∙ rw (were id, list_any_more (stands_for id) (zip listing held) i (nobody, false) within, next_is, ← at nobody, nat_list_eq_equiv.symm uid id)
+      (grind (arith, same, b_is))
+
+-- new rows of held ids are delivered
+pub merged_from_steps : (rows : List Row) (listing : List Item) (held : List Bool) (now : ℕ) (longer new : List Row)
+    → longer ≡ rows ++ map (undelivered now) (new_ids rows listing) → new ≡ with_held listing held longer → new ≡ merged rows listing held now
+merged_from_steps rows listing held now longer new longer_is new_is =
+    new_is ∙ ap (with_held listing held) longer_is
+    ∙ map-append (λ (row : Row). with_delivered (is_flagged listing held row.uid) row) rows (map (undelivered now) (new_ids rows listing))
+    ∙ ap (λ (xs : List Row). with_held listing held rows ++ xs) (map-map (λ (row : Row). with_delivered (is_flagged listing held row.uid) row) (undelivered now) (new_ids rows listing))
+
+-- a record's first rows are those of an older one, some of them delivered since
+abbrev pub GrewFrom : List Row → List Row → Type 0
+GrewFrom [] new = Unit {0}
+GrewFrom (row ∷ old) [] = ⊥
+GrewFrom (row ∷ old) (next ∷ new) = (next.uid ≡ row.uid) × (next.first_seen ≡ row.first_seen) × (row.delivered ≡ true → next.delivered ≡ true) × GrewFrom old new
+
+-- rows, some of them delivered now
+abbrev pub delivered_by : (Row → Bool) → List Row → List Row
+delivered_by f rows = map (λ row. with_delivered (f row) row) rows
+
+GrewFrom-more : (f : Row → Bool) (rows more : List Row) → GrewFrom rows (delivered_by f rows ++ more)
+GrewFrom-more f [] more = tt
+GrewFrom-more f (row ∷ rows) more = (refl, refl, (λ old. or_left _ _ old), GrewFrom-more f rows more)
+
+-- a group's rows lead from the older record to the newer one
+record Leads (rows group new : List Row) : Type 0 where
+  follows : MayFollow rows group
+  ends : taken_all rows group ≡ new
+
+leads_first : (rows : List Row) (row : Row) (group new then : List Row) → may_take Two rows row ≡ true → taken rows row ≡ then → Leads then group new → Leads rows (row ∷ group) new
+leads_first rows row group new then may is leads = record { follows = (may, rw is leads.follows); ends = rw is leads.ends }
+
+leads_new : (rows new : List Row) → IsRecord (rows ++ new) → Leads rows new (rows ++ new)
+leads_new rows [] is = record { follows = tt; ends = sym (append-nil rows) }
+leads_new rows (row ∷ new) is =
+    let none = fresh rows new row is in
+    let whole = append_assoc rows (row ∷ []) new in
+    leads_first rows row new (rows ++ row ∷ new) (rows ++ row ∷ []) (rw none refl) (rw none refl) (rw whole at (leads_new (rows ++ row ∷ []) new (rw whole is)))
+
+behind_rows : (front rows : List Row) → IsRecord (front ++ rows) → IsRecord rows
+behind_rows [] rows is = is
+behind_rows (row ∷ front) rows is = behind_rows front rows (rest_of row (front ++ rows) is)
+
+-- the older rows have no id that the newer ones lack
+older_lack : (uid : List ℕ) (old new : List Row) → GrewFrom old new → has_row new uid ≡ false → has_row old uid ≡ false
+older_lack uid [] new grew lack = refl
+older_lack uid (row ∷ old) [] grew lack = absurd grew
+older_lack uid (row ∷ old) (next ∷ new) grew lack =
+    let parts = or_parts (is_of uid next) (has_row new uid) lack in
+    rw (← grew.0) (or_from _ _ parts.0 (older_lack uid old new grew.3 parts.1))
+
+-- the row that was delivered since
+module _ (front : List Row) (row : Row) (old : List Row) (next : Row) (new : List Row) (grew : GrewFrom (row ∷ old) (next ∷ new)) (now : next.delivered ≡ true) where
+  marked_row : IsRecord (front ++ next ∷ new) → marked (front ++ row ∷ old) next.uid ≡ front ++ next ∷ old
+  marked_row is = rw (
+    map-append (λ (r : Row). with_delivered (is_of next.uid r) r) front (row ∷ old),
+    unmarked next.uid front (fresh front new next is),
+    test_from_same next.uid row.uid grew.0,
+    or-true,
+    unmarked next.uid old (older_lack next.uid old new grew.3 (apart next.uid next new (behind_rows front (next ∷ new) is) (test_from_same next.uid next.uid refl))),
+  ) (λ i. front ++ record { uid = sym grew.0 i; first_seen = sym grew.1 i; delivered = sym now i } ∷ old)
+
+  has_it : has_row (front ++ row ∷ old) next.uid ≡ true
+  has_it = list_any-append (is_of next.uid) front (row ∷ old) ∙ or_right _ _ (or_left _ _ (test_from_same next.uid row.uid grew.0))
+
+  delivers_it : delivers Two (front ++ row ∷ old) next ≡ true
+  delivers_it = and_from _ _ now (list_any-append (λ other. is_of next.uid other && (true && (other.first_seen == next.first_seen))) front (row ∷ old)
+      ∙ or_right _ _ (or_left _ _ (and_from _ _ (test_from_same next.uid row.uid grew.0) (eq-eqb row.first_seen next.first_seen (sym grew.1)))))
+
+-- the states of a row that stayed
+stayed : (before now : Bool) → (before ≡ true → now ≡ true) → (now && not before) ≡ false → now ≡ before
+stayed before now stays none = grind arith
+
+leads : (front old new : List Row) → IsRecord (front ++ new) → GrewFrom old new → Leads (front ++ old) (changed old new) (front ++ new)
+leads front [] new is grew = rw append-nil (leads_new front new is)
+leads front (row ∷ old) [] is grew = absurd grew
+leads front (row ∷ old) (next ∷ new) is grew =
+    let whole = append_assoc front (next ∷ []) new in
+    let rest = rw (append_assoc front (next ∷ []) old, whole) at (leads (front ++ next ∷ []) old new (rw whole is) grew.3) in
+    cond_both (next.delivered && not row.delivered) _ _ (λ (group : List Row). Leads (front ++ row ∷ old) group (front ++ next ∷ new))
+    (λ since. let now = (and_parts next.delivered (not row.delivered) since).0 in
+    leads_first (front ++ row ∷ old) next (changed old new) (front ++ next ∷ new) (front ++ next ∷ old) (or_right _ _ (delivers_it front row old next new grew now))
+    (rw (has_it front row old next new grew now) (marked_row front row old next new grew now is)) rest)
+    (λ none. subst (λ (r : Row). Leads (front ++ r ∷ old) (changed old new) (front ++ next ∷ new)) (λ i. record { uid = grew.0 i; first_seen = grew.1 i; delivered = stayed row.delivered next.delivered grew.2 none i }) rest)
+
+updates : (old new : List Row) → IsRecord new → GrewFrom old new → length (changed old new) ≤ 100000 → Updates old None (written (changed old new)) new None
+updates old new is grew short = by (changed old new) short (leads [] old new is grew) (IsRecord-changed old new is).each
+  where
+    by : (group : List Row) → length group ≤ 100000 → Leads old group new → All IsRow group → Updates old None (written group) new None
+    by [] short' leads' each = inl (refl, sym leads'.ends, refl)
+    by (row ∷ rows) short' leads' each = inr (row ∷ rows, record { each = each; count = (omega arith, short'); follows = leads'.follows }, refl, sym leads'.ends, refl)
+
+-- one more row, as a loop goes over the rows
+changed-nil : (rows : List Row) → changed rows [] ≡ []
+changed-nil [] = refl
+changed-nil (row ∷ rows) = refl
+
+abbrev now_of : (Row → Bool) → Row → Row
+now_of f row = with_delivered (f row) row
+
+changed-skips : (count : ℕ) (f : Row → Bool) (front : List Row) (row : Row) → length front < count → ((now_of f row).delivered && not row.delivered) ≡ false
+    → changed (take count (front ++ row ∷ [])) (delivered_by f (front ++ row ∷ [])) ≡ changed (take count front) (delivered_by f front)
+changed-skips zero f front row inside none = absurd (omega (arith, inside))
+changed-skips (suc count) f [] row inside none = rw none (changed-nil (take count []))
+changed-skips (suc count) f (first ∷ front) row inside none = rw (changed-skips count f front row (omega (arith, inside)) none) refl
+
+changed-adds : (count : ℕ) (f : Row → Bool) (front : List Row) (row : Row) → (count ≤ length front) ⊎ (((now_of f row).delivered && not row.delivered) ≡ true)
+    → changed (take count (front ++ row ∷ [])) (delivered_by f (front ++ row ∷ [])) ≡ changed (take count front) (delivered_by f front) ++ now_of f row ∷ []
+changed-adds zero f front row either = map-append (now_of f) front (row ∷ [])
+changed-adds (suc count) f [] row (inl past) = absurd (omega (arith, past))
+changed-adds (suc count) f [] row (inr now) = rw (now, changed-nil (take count [])) refl
+changed-adds (suc count) f (first ∷ front) row either =
+    rw (changed-adds count f front row (elim either [ inl past ↦ inl (omega (arith, past)) | inr now ↦ inr now ]))
+    (elim (cases_Bool ((now_of f first).delivered && not first.delivered)) [ inl now ↦ rw now refl | inr same ↦ rw same refl ])
+
+-- ---- a loop over the rows
+
+pub next_rows : (rows : List Row) (i : ℕ) (row : Row) → i < length rows → get_or rows i row ≡ row → take (i + 1) rows ≡ take i rows ++ row ∷ []
+next_rows rows i row inside at = take_more rows i row inside ∙ ap (λ (r : Row). take i rows ++ r ∷ []) at
+
+-- the lines of those that changed among the first i, and how many they are
+abbrev pub HasWritten : ℕ → (Row → Bool) → List Row → ℕ → ℕ → List ℕ → Type 0
+HasWritten count f rows i changes lines =
+    (changes ≡ length (changed (take count (take i rows)) (delivered_by f (take i rows)))) × (lines ≡ flat_map line_of (changed (take count (take i rows)) (delivered_by f (take i rows))))
+
+module _ (count : ℕ) (f : Row → Bool) (rows : List Row) (i changes : ℕ) (lines : List ℕ) (were : HasWritten count f rows i changes lines) where
+  pub HasWritten-skips : (row : Row) → i < length rows → get_or rows i row ≡ row → i < count → (row.delivered || f row) ≡ row.delivered → HasWritten count f rows (i + 1) changes lines
+  HasWritten-skips row inside at before same =
+      rw (next_rows rows i row inside at, changed-skips count f (take i rows) row (omega (arith, before, length-take i rows, inside)) (grind (arith, same))) were
+
+  pub HasWritten-adds : (changes' : ℕ) (lines' : List ℕ) (row : Row) → i < length rows → get_or rows i row ≡ row
+      → (count ≤ i) ⊎ ((row.delivered || f row) ≢ row.delivered) → changes' ≡ changes + 1 → lines' ≡ lines ++ line_of (with_delivered (f row) row) → HasWritten count f rows (i + 1) changes' lines'
+  HasWritten-adds changes' lines' row inside at either changes_are lines_are =
+      let group : List Row = changed (take count (take i rows)) (delivered_by f (take i rows)) in
+      rw (next_rows rows i row inside at, changed-adds count f (take i rows) row (elim either [ inl past ↦ inl (omega (arith, past, length-take i rows, inside)) | inr other ↦ inr (grind (arith, other)) ])) (
+        changes_are ∙ ap (λ (k : ℕ). k + 1) were.0 ∙ sym (length-append group (now_of f row ∷ [])),
+        lines_are ∙ ap (λ (xs : List ℕ). xs ++ line_of (now_of f row)) were.1 ∙ flat_map_more line_of [] group (now_of f row),
+      )
+
+pub merge_updates : (rows new : List Row) (listing : List Item) (held : List Bool) (now : ℕ) → new ≡ merged rows listing held now → IsRecord new → length listing ≤ 100000 → Updates rows None (written (changed rows new)) new None
+merge_updates rows new listing held now new_is is short =
+    let good : IsRecord (merged rows listing held now) = subst IsRecord new_is is in
+    rw new_is (updates rows (merged rows listing held now) good (GrewFrom-more (λ (row : Row). is_flagged listing held row.uid) rows _) (omega (arith, short, merge_is_short rows listing held now good)))

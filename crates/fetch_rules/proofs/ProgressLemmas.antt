@@ -1,23 +1,58 @@
 -- A loop over the lines of a record's file.
-use Rattle.std.proofs.Common.{◌≡◌, ℕ, zero, suc, ◌+◌, ◌-◌, ◌≤◌, List, [], ◌∷◌, ◌++◌, take, Bool, true, false, ◌||◌, cond, length, refl, sym, ◌∙◌, ap, subst, append_assoc, inr, arith, length-append, min, flat_map, Option, Some, None, true≢false, append-nil}
+use Rattle.std.proofs.Common.{All, Bool, List, None, Option, Some, [], ap, append-nil, append_assoc, ap₂, arith, false, flat_map, length, length-append, min, refl, suc, sym, take, true, true≢false, zero, ℕ, ◌++◌, ◌+◌, ◌-◌, ◌∙◌, ◌∷◌, ◌≡◌, ◌≢◌, ◌≤◌}
 use Rattle.std.proofs.Math.Seq.{take-append_seam}
-use Rattle.fetch_rules.specs.Record.{Row, Intent, IsRow, IsIntent, IsRecord, has_row}
-use Rattle.fetch_rules.specs.RecordFile.{Version, header, Line, RowLine, GroupLine, IntentLine, text_of, IsLine}
-use Rattle.fetch_rules.specs.RecordMeaning.{Progress, InBase, BetweenGroups, InGroup, left_open, may_take, taken, Judged, Stands, Fails, after_line, line_after, counted, is_open, Rows, Fault, Means, Ends}
-use Rattle.fetch_rules.specs.Lines.{version_of, open_seen, progress_of, IsPlaced, open_behind, is_within, TakesRow, TakesIntent, EndsAt}
+use Rattle.std.proofs.lemmas.List.Concat.{flat_map-append}
+use Rattle.std.proofs.lemmas.List.Elements.{All-nil, All-push}
+use Rattle.fetch_rules.specs.Lines.{EndsAt, IsPlaced, TakesIntent, TakesRow, after_row, behind_base, is_within, open_behind, open_seen, progress_of, version_of}
+use Rattle.fetch_rules.specs.Outgrown.{BeginsWithNoRow}
+use Rattle.fetch_rules.specs.Record.{Intent, IsIntent, IsRecord, IsRow, Row}
+use Rattle.fetch_rules.specs.RecordFile.{GroupLine, IntentLine, IsLine, Line, RowLine, Version, header, line_of, text_of}
+use Rattle.fetch_rules.specs.RecordMeaning.{BetweenGroups, Fails, Fault, InGroup, Means, Progress, Rows, Stands, after_line, counted, is_open, left_open, line_after}
 use Rattle.fetch_rules.specs.declared.seen.SeenFault.{SeenFault}
+use Rattle.fetch_rules.specs.declared.seen.SeenFault.TheVariants.{BadRow}
 use Rattle.fetch_rules.specs.declared.seen.line.Intent.{Intent as ReadIntent}
-use Rattle.fetch_rules.specs.declared.seen.SeenFault.TheVariants.{BadRow, RepeatedId}
-use Rattle.fetch_rules.specs.declared.seen.reading.Part.{Part}
-use Rattle.fetch_rules.specs.declared.seen.reading.Part.TheVariants.{Base, Between, Within}
 use Rattle.fetch_rules.specs.declared.seen.reading.End.{End}
 use Rattle.fetch_rules.specs.declared.seen.reading.End.TheVariants.{NoneOpen, Open}
-use Rattle.fetch_rules.proofs.LineLemmas.{no_line}
-use Rattle.fetch_rules.proofs.CutLemmas.{one_meaning}
-use Rattle.fetch_rules.proofs.ReadLemmas.{IsBehind, behind_header, behind_more, behind_fails}
-use Rattle.fetch_rules.proofs.JudgedLemmas.{rows_no_fault, same_rows, no_stand}
+use Rattle.fetch_rules.specs.declared.seen.reading.Part.{Part}
+use Rattle.fetch_rules.specs.declared.seen.reading.Part.TheVariants.{Base, Between, Within}
+use Rattle.fetch_rules.proofs.LineLemmas.{no_line, text_unique}
+use Rattle.fetch_rules.proofs.MeaningLemmas.{IsBehind, behind_fails, behind_header, behind_more, means_behind, one_meaning, rows_no_fault, same_rows}
 
-pub record Reads (bytes : List ℕ) (older : Bool) (part : Part) (intent : Option Intent) (rows : List Row) (rest : List ℕ) (number front : ℕ) : Type 0 where
+-- ---- the rows that a file's lines begin with, and what follows them
+
+-- the lines are those of some rows, and this rest
+pub record BeginsWithRows (lines rest : List ℕ) : Type 0 where
+  pub rows : List Row
+  pub each : All IsRow rows
+  pub whole : lines ≡ flat_map line_of rows ++ rest
+
+rows_more : (lines rest : List ℕ) (row : Row) (behind : List ℕ) → BeginsWithRows lines rest → IsRow row → rest ≡ line_of row ++ behind → BeginsWithRows lines behind
+rows_more lines rest row behind were is line = record {
+  rows = were.rows ++ row ∷ [];
+  each = All-push IsRow were.rows row were.each is;
+  whole = were.whole ∙ ap (λ (xs : List ℕ). flat_map line_of were.rows ++ xs) line ∙ simp (flat_map-append, append_assoc, append-nil);
+}
+
+-- what follows the first rows so far: the rest while the next line may be one of them, else what begins with no row
+abbrev pub Follows : Part → List ℕ → List ℕ → Type 0
+Follows Base appended rest = appended ≡ rest
+Follows Between appended rest = BeginsWithNoRow appended
+Follows (Within more) appended rest = BeginsWithNoRow appended
+
+apart_row : (part : Part) (lines rest appended : List ℕ) (row : Row) (behind : List ℕ) → BeginsWithRows lines appended → Follows part appended rest → IsRow row → rest ≡ line_of row ++ behind
+    → BeginsWithRows lines (behind_base (after_row part) appended behind) × Follows (after_row part) (behind_base (after_row part) appended behind) behind
+apart_row Base lines rest appended row behind begins follows is line = (rows_more lines appended row behind begins is (follows ∙ line), refl)
+apart_row (Within zero) lines rest appended row behind begins follows is line = (begins, follows)
+apart_row part lines rest appended row behind begins follows is line = (begins, follows)
+
+-- after a line that is no row's
+no_row : (part : Part) (rest appended : List ℕ) (line : Line) (behind : List ℕ) → Follows part appended rest → IsLine line → rest ≡ text_of line ++ behind → ((row : Row) → RowLine row ≢ line) → BeginsWithNoRow appended
+no_row Base rest appended line behind at is line_is other = λ row after is_row here. other row (text_unique (RowLine row) line after behind is_row is (sym here ∙ at ∙ line_is)).0
+no_row part rest appended line behind none is line_is other = none
+
+-- ---- the loop
+
+pub record Reads (bytes lines : List ℕ) (older : Bool) (part : Part) (intent : Option Intent) (rows : List Row) (rest appended : List ℕ) (number front : ℕ) : Type 0 where
   pub n : ℕ
   pub before : List Row
   pub behind : IsBehind (version_of older) bytes n (progress_of part intent before rows) rest
@@ -25,193 +60,137 @@ pub record Reads (bytes : List ℕ) (older : Bool) (part : Part) (intent : Optio
   pub opened : is_within part ≡ true → (front ≤ length bytes) × Means (take front bytes) (Rows (version_of older) before intent false)
   pub placed : IsPlaced part intent
   pub good : IsRecord rows
+  pub begins : BeginsWithRows lines appended
+  pub follows : Follows part appended rest
 
-pub Reads-none : (older : Bool) (bytes rest : List ℕ) → bytes ≡ header (version_of older) ++ rest → (rows : List Row) → rows ≡ [] → IsRecord rows → Reads bytes older Base None rows rest 2 0
+pub Reads-none : (older : Bool) (bytes rest : List ℕ) → bytes ≡ header (version_of older) ++ rest → (rows : List Row) → rows ≡ [] → IsRecord rows → Reads bytes rest older Base None rows rest rest 2 0
 Reads-none older bytes rest is rows none good = record {
   n = 0;
   before = [];
-  behind = subst (λ (xs : List Row). IsBehind (version_of older) bytes 0 (InBase xs) rest) (sym none) (behind_header (version_of older) bytes rest is);
+  behind = rw none (behind_header (version_of older) bytes rest is);
   number_is = refl;
   opened = λ within. absurd (true≢false (sym within));
   placed = refl;
   good = good;
+  begins = record { rows = []; each = All-nil IsRow; whole = refl };
+  follows = refl;
 }
 
 next_number : (n number : ℕ) → number ≡ line_after n → min (number + 1) 4294967295 ≡ line_after (n + 1)
 next_number n number is = omega (arith, is)
 
--- a choice of two steps leads to neither of them
-neither : (b : Bool) (j k : Judged) (p : Progress) → cond b j k ≡ Stands p → (j ≡ Stands p → ⊥) → (k ≡ Stands p → ⊥) → ⊥
-neither true j k p e left right = left e
-neither false j k p e left right = right e
+-- a row leads into no group and ends no part but a group
+within_next : (part : Part) (intent : Option Intent) → is_within (after_row part) ≡ true → (is_within part ≡ true) × (open_behind (after_row part) intent ≡ intent)
+within_next (Within (suc more)) intent within = (refl, refl)
+within_next (Within zero) intent within = absurd (true≢false (sym within))
+within_next part intent within = absurd (true≢false (sym within))
 
--- a row doesn't lead into a group, nor back to the rows after the header
-stays_out : (version : Version) (part next : Part) (n : ℕ) (intent after : Option Intent) (before rows new : List Row) (row : Row)
-    → after_line version n (progress_of part intent before rows) (RowLine row) ≡ Stands (progress_of next after before new) → is_within next ≡ true → is_within part ≡ true
-stays_out version (Within more) next n intent after before rows new row leads within = refl
-stays_out version Between next n intent after before rows new row leads within = absurd (no_stand leads)
-stays_out version Base Base n intent after before rows new row leads within = absurd (true≢false (sym within))
-stays_out version Base Between n intent after before rows new row leads within = absurd (true≢false (sym within))
-stays_out version Base (Within more) n intent after before rows new row leads within =
-    absurd (neither (has_row rows row.uid) (Fails (RepeatedId (line_after n))) (Stands (InBase (rows ++ row ∷ [])))
-    (InGroup before after new more) leads (λ e. cc) (λ e. cc))
-
-placed_behind : (version : Version) (part next : Part) (n : ℕ) (intent : Option Intent) (before rows new : List Row) (row : Row)
-    → after_line version n (progress_of part intent before rows) (RowLine row) ≡ Stands (progress_of next (open_behind next intent) before new) → IsPlaced part intent → IsPlaced next (open_behind next intent)
-placed_behind version part Between n intent before rows new row leads placed = tt
-placed_behind version part (Within more) n intent before rows new row leads placed = tt
-placed_behind version Base Base n intent before rows new row leads placed = placed
-placed_behind version Between Base n intent before rows new row leads placed = absurd (no_stand leads)
-placed_behind version (Within zero) Base n intent before rows new row leads placed =
-    absurd (neither (may_take version rows row) (Stands (BetweenGroups (taken rows row) None)) (Fails (RepeatedId (line_after n)))
-    (InBase new) leads (λ e. cc) (λ e. cc))
-placed_behind version (Within (suc more)) Base n intent before rows new row leads placed =
-    absurd (neither (may_take version rows row) (Stands (InGroup before intent (taken rows row) more)) (Fails (RepeatedId (line_after n)))
-    (InBase new) leads (λ e. cc) (λ e. cc))
-
-open_within : (next : Part) (intent : Option Intent) → is_within next ≡ true → open_behind next intent ≡ intent
-open_within Base intent within = refl
-open_within Between intent within = absurd (true≢false (sym within))
-open_within (Within more) intent within = refl
+placed_next : (part : Part) (intent : Option Intent) → IsPlaced part intent → IsPlaced (after_row part) (open_behind (after_row part) intent)
+placed_next Base intent placed = placed
+placed_next (Within zero) intent placed = tt
+placed_next part intent placed = tt
 
 pub seen_behind : (part : Part) (intent : Option ReadIntent) → open_seen (open_behind part intent) ≡ open_behind part (open_seen intent)
-seen_behind Base intent = refl
 seen_behind Between intent = refl
-seen_behind (Within more) intent = refl
-
-pub Reads-row : (bytes : List ℕ) (older : Bool) (part next : Part) (intent : Option Intent) (rows : List Row) (rest : List ℕ) (number front : ℕ) (row : Row) (behind : List ℕ) (new : List Row) → Reads bytes older part intent rows rest number front
-    → IsRow row → rest ≡ text_of (RowLine row) ++ behind → TakesRow older part rows row next new → IsRecord new → Reads bytes older next (open_behind next intent) new behind (min (number + 1) 4294967295) front
-Reads-row bytes older part next intent rows rest number front row behind new were is line takes good = record {
-  n = were.n + 1;
-  before = were.before;
-  behind = behind_more (version_of older) bytes were.n (progress_of part intent were.before rows) rest (RowLine row) behind (progress_of next (open_behind next intent) were.before new) were.behind is line (takes were.n were.before intent);
-  number_is = next_number were.n number were.number_is;
-  opened = λ within. subst (λ (i : Option Intent). (front ≤ length bytes) × Means (take front bytes) (Rows (version_of older) were.before i false)) (sym (open_within next intent within))
-      (were.opened (stays_out (version_of older) part next were.n intent (open_behind next intent) were.before rows new row (takes were.n were.before intent) within));
-  placed = placed_behind (version_of older) part next were.n intent were.before rows new row (takes were.n were.before intent) were.placed;
-  good = good;
-}
+seen_behind part intent = refl
 
 -- what comes before a group
-front_means : (bytes : List ℕ) (older : Bool) (n : ℕ) (progress : Progress) (rest : List ℕ) → IsBehind (version_of older) bytes n progress rest → is_open progress ≡ false
-    → (length rest ≤ length bytes) × Means (take (length bytes - length rest) bytes) (Rows (version_of older) (counted progress) (left_open progress) false)
-front_means bytes older n progress rest was free = (
+front_means : {version : Version} {bytes : List ℕ} {n : ℕ} {progress : Progress} {rest : List ℕ} → IsBehind version bytes n progress rest → is_open progress ≡ false
+    → (length rest ≤ length bytes) × Means (take (length bytes - length rest) bytes) (Rows version (counted progress) (left_open progress) false)
+front_means {version} {bytes} {n} {progress} {rest} was free = (
   omega (arith, long),
-  subst (λ (xs : List ℕ). Means xs (Rows (version_of older) (counted progress) (left_open progress) false)) (sym front_is)
-      (inr (inr (record {
-        version = version_of older;
-        lines = was.lines;
-        rest = [];
-        cut = record { each = was.cut.each; whole = sym (ap (λ (xs : List ℕ). header (version_of older) ++ xs) (append-nil (flat_map text_of was.lines))) };
-        ends = subst (λ (j : Judged). Ends (version_of older) (length was.lines) j [] (Rows (version_of older) (counted progress) (left_open progress) false)) (sym was.stands)
-            (no_line [] tt, sym (ap (λ (b : Bool). Rows (version_of older) (counted progress) (left_open progress) (b || false)) free));
-      }))),
+  rw front_is (means_behind (record { lines = was.lines; cut = record { each = was.cut.each; whole = rw append-nil refl }; count = was.count; stands = was.stands }) _ (no_line [] tt) (rw free refl)),
 )
   where
     texts : List ℕ
-    texts = header (version_of older) ++ flat_map text_of was.lines
+    texts = header version ++ flat_map text_of was.lines
 
     whole : bytes ≡ texts ++ rest
-    whole = was.cut.whole ∙ sym (append_assoc (header (version_of older)) (flat_map text_of was.lines) rest)
+    whole = was.cut.whole ∙ sym (append_assoc (header version) (flat_map text_of was.lines) rest)
 
     long : length bytes ≡ length texts + length rest
     long = ap length whole ∙ length-append texts rest
 
-    count_is : length bytes - length rest ≡ length texts
-    count_is = omega (arith, long)
-
     front_is : take (length bytes - length rest) bytes ≡ texts
-    front_is = ap (λ (k : ℕ). take k bytes) count_is ∙ ap (take (length texts)) whole ∙ take-append_seam texts rest
+    front_is = ap₂ (λ (k : ℕ) (xs : List ℕ). take k xs) (omega (arith, long)) whole ∙ take-append_seam texts rest
 
-opens : (version : Version) (part : Part) (n : ℕ) (intent : Option Intent) (before rows : List Row) (count : ℕ) → IsPlaced part intent → is_within part ≡ false
-    → after_line version n (progress_of part intent before rows) (GroupLine count) ≡ Stands (InGroup rows intent rows (count - 1))
-opens version Base n intent before rows count placed free = ap (λ (i : Option Intent). Stands (InGroup rows i rows (count - 1))) (sym placed)
-opens version Between n intent before rows count placed free = refl
-opens version (Within more) n intent before rows count placed free = absurd (true≢false free)
-
-pub record IsFree (progress : Progress) (intent : Option Intent) (rows : List Row) : Type 0 where
-  pub free : is_open progress ≡ false
-  pub rows_are : counted progress ≡ rows
-  pub intent_is : left_open progress ≡ intent
-
-free_progress : (part : Part) (intent : Option Intent) (before rows : List Row) → IsPlaced part intent → is_within part ≡ false → IsFree (progress_of part intent before rows) intent rows
-free_progress Base intent before rows placed free = record { free = refl; rows_are = refl; intent_is = sym placed }
-free_progress Between intent before rows placed free = record { free = refl; rows_are = refl; intent_is = refl }
+-- where a group may begin
+free_progress : (part : Part) (intent : Option Intent) (before rows : List Row) → IsPlaced part intent → is_within part ≡ false
+    → (is_open (progress_of part intent before rows) ≡ false) × (counted (progress_of part intent before rows) ≡ rows) × (left_open (progress_of part intent before rows) ≡ intent)
+    × ((version : Version) (n count : ℕ) → after_line version n (progress_of part intent before rows) (GroupLine count) ≡ Stands (InGroup rows intent rows (count - 1)))
+free_progress Base intent before rows placed free = (refl, refl, sym placed, λ version n count. rw placed refl)
+free_progress Between intent before rows placed free = (refl, refl, refl, λ version n count. refl)
 free_progress (Within more) intent before rows placed free = absurd (true≢false free)
 
-pub Reads-group : (bytes : List ℕ) (older : Bool) (part : Part) (intent : Option Intent) (rows : List Row) (rest : List ℕ) (number front : ℕ) (count : ℕ) (behind : List ℕ) → Reads bytes older part intent rows rest number front
-    → IsLine (GroupLine count) → rest ≡ text_of (GroupLine count) ++ behind → is_within part ≡ false → Reads bytes older (Within (count - 1)) intent rows behind (min (number + 1) 4294967295) (length bytes - length rest)
-Reads-group bytes older part intent rows rest number front count behind were is line free =
-    let at = free_progress part intent were.before rows were.placed free in
-    let there = front_means bytes older were.n (progress_of part intent were.before rows) rest were.behind at.free in
-    record {
-      n = were.n + 1;
-      before = rows;
-      behind = behind_more (version_of older) bytes were.n (progress_of part intent were.before rows) rest (GroupLine count) behind (InGroup rows intent rows (count - 1)) were.behind is line
-          (opens (version_of older) part were.n intent were.before rows count were.placed free);
-      number_is = next_number were.n number were.number_is;
-      opened = λ within. (
-        omega (arith, there.0),
-        subst (λ (i : Option Intent). Means (take (length bytes - length rest) bytes) (Rows (version_of older) rows i false)) at.intent_is
-            (subst (λ (xs : List Row). Means (take (length bytes - length rest) bytes) (Rows (version_of older) xs (left_open (progress_of part intent were.before rows)) false)) at.rows_are there.1),
-      );
-      placed = tt;
-      good = were.good;
-    }
-
-pub Reads-intent : (bytes : List ℕ) (older : Bool) (part : Part) (open' : Option Intent) (rows : List Row) (rest : List ℕ) (number front : ℕ) (intent : Intent) (behind : List ℕ) → Reads bytes older part open' rows rest number front
-    → IsIntent intent → rest ≡ text_of (IntentLine intent) ++ behind → TakesIntent older part open' rows intent → Reads bytes older Between (Some intent) rows behind (min (number + 1) 4294967295) front
-Reads-intent bytes older part open' rows rest number front intent behind were is line takes = record {
-  n = were.n + 1;
-  before = were.before;
-  behind = behind_more (version_of older) bytes were.n (progress_of part open' were.before rows) rest (IntentLine intent) behind (BetweenGroups rows (Some intent)) were.behind is line (takes were.n were.before);
-  number_is = next_number were.n number were.number_is;
-  opened = λ within. absurd (true≢false (sym within));
-  placed = tt;
-  good = were.good;
-}
-
-pub Reads-fails : (bytes : List ℕ) (older : Bool) (part : Part) (intent : Option Intent) (rows : List Row) (rest : List ℕ) (number front : ℕ) (line : Line) (behind : List ℕ) (fault : SeenFault) → Reads bytes older part intent rows rest number front
-    → IsLine line → rest ≡ text_of line ++ behind
-    → ((n : ℕ) (before : List Row) → number ≡ line_after n → after_line (version_of older) n (progress_of part intent before rows) line ≡ Fails fault) → Means bytes (Fault fault)
-Reads-fails bytes older part intent rows rest number front line behind fault were is rest_is refuses =
-    behind_fails (version_of older) bytes were.n (progress_of part intent were.before rows) rest line behind fault were.behind is rest_is
-    (refuses were.n were.before were.number_is)
-
 refused : (version : Version) (part : Part) (n : ℕ) (intent : Option Intent) (before rows : List Row) (count : ℕ) → is_within part ≡ true → after_line version n (progress_of part intent before rows) (GroupLine count) ≡ Fails (BadRow (line_after n))
-refused version Base n intent before rows count within = absurd (true≢false (sym within))
-refused version Between n intent before rows count within = absurd (true≢false (sym within))
 refused version (Within zero) n intent before rows count within = refl
 refused version (Within (suc more)) n intent before rows count within = refl
+refused version part n intent before rows count within = absurd (true≢false (sym within))
 
-pub Reads-group_fails : (bytes : List ℕ) (older : Bool) (part : Part) (intent : Option Intent) (rows : List Row) (rest : List ℕ) (number front : ℕ) (count : ℕ) (behind : List ℕ) → Reads bytes older part intent rows rest number front
-    → IsLine (GroupLine count) → rest ≡ text_of (GroupLine count) ++ behind → is_within part ≡ true → Means bytes (Fault (BadRow number))
-Reads-group_fails bytes older part intent rows rest number front count behind were is line within =
-    Reads-fails bytes older part intent rows rest number front (GroupLine count) behind (BadRow number) were is line
-    (λ n before number_is. refused (version_of older) part n intent before rows count within
-    ∙ ap (λ (k : ℕ). Fails (BadRow k)) (sym number_is))
+module _ {bytes lines : List ℕ} {older : Bool} {part : Part} {open' : Option Intent} {rows : List Row} {rest appended : List ℕ} {number front : ℕ} (were : Reads bytes lines older part open' rows rest appended number front) (behind : List ℕ) where
+  pub Reads-row : (row : Row) (new : List Row) → IsRow row → rest ≡ text_of (RowLine row) ++ behind → TakesRow older part rows row (after_row part) new → IsRecord new
+      → Reads bytes lines older (after_row part) (open_behind (after_row part) open') new behind (behind_base (after_row part) appended behind) (min (number + 1) 4294967295) front
+  Reads-row row new is line takes good =
+      let apart = apart_row part lines rest appended row behind were.begins were.follows is line in
+      record {
+        n = were.n + 1;
+        before = were.before;
+        behind = behind_more were.behind (RowLine row) behind _ is line (takes were.n were.before open');
+        number_is = next_number were.n number were.number_is;
+        opened = λ within. let stays = within_next part open' within in rw stays.1 (were.opened stays.0);
+        placed = placed_next part open' were.placed;
+        good = good;
+        begins = apart.0;
+        follows = apart.1;
+      }
+
+  pub Reads-group : (count : ℕ) → IsLine (GroupLine count) → rest ≡ text_of (GroupLine count) ++ behind → is_within part ≡ false
+      → Reads bytes lines older (Within (count - 1)) open' rows behind appended (min (number + 1) 4294967295) (length bytes - length rest)
+  Reads-group count is line free =
+      let at = free_progress part open' were.before rows were.placed free in
+      let there = front_means were.behind at.0 in
+      record {
+        n = were.n + 1;
+        before = rows;
+        behind = behind_more were.behind (GroupLine count) behind (InGroup rows open' rows (count - 1)) is line (at.3 (version_of older) were.n count);
+        number_is = next_number were.n number were.number_is;
+        opened = λ within. (omega (arith, there.0), rw (at.1, at.2) at there.1);
+        placed = tt;
+        good = were.good;
+        begins = were.begins;
+        follows = no_row part rest appended (GroupLine count) behind were.follows is line (λ row e. cc);
+      }
+
+  pub Reads-intent : (intent : Intent) → IsIntent intent → rest ≡ text_of (IntentLine intent) ++ behind → TakesIntent older part open' rows intent
+      → Reads bytes lines older Between (Some intent) rows behind appended (min (number + 1) 4294967295) front
+  Reads-intent intent is line takes = record {
+    n = were.n + 1;
+    before = were.before;
+    behind = behind_more were.behind (IntentLine intent) behind (BetweenGroups rows (Some intent)) is line (takes were.n were.before);
+    number_is = next_number were.n number were.number_is;
+    opened = λ within. absurd (true≢false (sym within));
+    placed = tt;
+    good = were.good;
+    begins = were.begins;
+    follows = no_row part rest appended (IntentLine intent) behind were.follows is line (λ row e. cc);
+  }
+
+  pub Reads-fails : (line : Line) (fault : SeenFault) → IsLine line → rest ≡ text_of line ++ behind
+      → ((n : ℕ) (before : List Row) → number ≡ line_after n → after_line (version_of older) n (progress_of part open' before rows) line ≡ Fails fault) → Means bytes (Fault fault)
+  Reads-fails line fault is rest_is refuses = behind_fails were.behind line behind fault is rest_is (refuses were.n were.before were.number_is)
+
+  pub Reads-group_fails : (count : ℕ) → IsLine (GroupLine count) → rest ≡ text_of (GroupLine count) ++ behind → is_within part ≡ true → Means bytes (Fault (BadRow number))
+  Reads-group_fails count is line within =
+      Reads-fails (GroupLine count) (BadRow number) is line (λ n before number_is. rw number_is (refused (version_of older) part n open' before rows count within))
 
 -- if a group lacks rows, what comes before it is read again
-pub record StoodOpen (bytes : List ℕ) (older : Bool) (front : ℕ) (intent : Option Intent) : Type 0 where
-  pub before : List Row
-  pub torn : Means bytes (Rows (version_of older) before intent true)
-  pub whole : Means (take front bytes) (Rows (version_of older) before intent false)
+pub rows_again : (bytes : List ℕ) (older anew : Bool) (front : ℕ) (intent then : Option Intent) (rows : List Row) (end : End) (new : List Row) → EndsAt bytes older (Open front) intent rows
+    → EndsAt (take front bytes) anew end then new → Means bytes (Rows (version_of older) new intent true)
+rows_again bytes older anew front intent then rows (NoneOpen torn) new ends again =
+    rw (← (same_rows (one_meaning (take front bytes) (Rows (version_of older) ends.1.0 intent false) (Rows (version_of anew) new then torn) ends.1.2 again)).1) ends.1.1
+rows_again bytes older anew front intent then rows (Open further) new ends again =
+    absurd (true≢false (sym (same_rows (one_meaning (take front bytes) (Rows (version_of older) ends.1.0 intent false) (Rows (version_of anew) again.1.0 then true) ends.1.2 again.1.1)).3))
 
-open_ends : (bytes : List ℕ) (older : Bool) (front : ℕ) (intent : Option Intent) (rows : List Row) → EndsAt bytes older (Open front) intent rows → StoodOpen bytes older front intent
-open_ends bytes older front intent rows ends = record { before = ends.1.0; torn = ends.1.1; whole = ends.1.2 }
-
-pub rows_again : (bytes piece : List ℕ) (older anew : Bool) (front : ℕ) (intent then : Option Intent) (rows : List Row) (end : End) (new : List Row) → EndsAt bytes older (Open front) intent rows → piece ≡ take front bytes
-    → EndsAt piece anew end then new → Means bytes (Rows (version_of older) new intent true)
-rows_again bytes piece older anew front intent then rows (NoneOpen torn) new ends is again =
-    let at = open_ends bytes older front intent rows ends in
-    let same = same_rows (one_meaning piece (Rows (version_of older) at.before intent false) (Rows (version_of anew) new then torn) (subst (λ (xs : List ℕ). Means xs (Rows (version_of older) at.before intent false)) (sym is) at.whole) again) in
-    subst (λ (xs : List Row). Means bytes (Rows (version_of older) xs intent true)) same.1 at.torn
-rows_again bytes piece older anew front intent then rows (Open further) new ends is again =
-    let at = open_ends bytes older front intent rows ends in
-    let later = open_ends piece anew further then new again in
-    absurd (true≢false (sym (same_rows (one_meaning piece (Rows (version_of older) at.before intent false) (Rows (version_of anew) later.before then true) (subst (λ (xs : List ℕ). Means xs (Rows (version_of older) at.before intent false)) (sym is) at.whole) later.torn)).3))
-
-pub no_fault_again : (bytes piece : List ℕ) (older : Bool) (front : ℕ) (intent : Option Intent) (rows : List Row) (fault : SeenFault) → EndsAt bytes older (Open front) intent rows → piece ≡ take front bytes → Means piece (Fault fault) → ⊥
-no_fault_again bytes piece older front intent rows fault ends is again =
-    let at = open_ends bytes older front intent rows ends in
-    rows_no_fault (one_meaning piece (Rows (version_of older) at.before intent false) (Fault fault) (subst (λ (xs : List ℕ). Means xs (Rows (version_of older) at.before intent false)) (sym is) at.whole) again)
+pub no_fault_again : (bytes : List ℕ) (older : Bool) (front : ℕ) (intent : Option Intent) (rows : List Row) (fault : SeenFault) → EndsAt bytes older (Open front) intent rows → Means (take front bytes) (Fault fault) → ⊥
+no_fault_again bytes older front intent rows fault ends again =
+    rows_no_fault (one_meaning (take front bytes) (Rows (version_of older) ends.1.0 intent false) (Fault fault) ends.1.2 again)

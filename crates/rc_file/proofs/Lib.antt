@@ -1,7 +1,3 @@
 mod LineLemmas
 mod RcMeaningLemmas
 mod RowLemmas
-mod SectionReadingLemmas
-mod TextLemmas
-mod ValueLemmas
-mod WarningLemmas

@@ -1,5 +1,5 @@
 -- Reading a file line by line gives its rows.
-use Rattle.std.proofs.Common.{◌≡◌, ℕ, ◌+◌, ◌-◌, ◌<◌, ◌≤◌, suc, Result, Ok, Err, List, [], ◌∷◌, ◌++◌, length, take, get_or, set, map, true, false, Option, Some, None, sym, ap, ◌∙◌, refl, inl, inr, arith}
+use Rattle.std.proofs.Common.{◌≡◌, ℕ, ◌+◌, suc, Result, Ok, Err, List, [], ◌∷◌, ◌++◌, length, take, get_or, set, map, true, false, Option, Some, None, ap, ◌∙◌, refl, inl, inr, arith}
 use Rattle.std.proofs.lemmas.Grind.{common_steps}
 use Rattle.std.proofs.Math.Seq.{split_at}
 use Rattle.std.proofs.lemmas.List.{drop_all, take-set, append-nil, append_assoc, map-append}
@@ -61,19 +61,15 @@ file_rows-more rows (key_row m name word value) n text lines is_key =
 file_rows-more rows other n text lines is_key = absurd (false≢true is_key)
 
 -- rows that were read are never bad
-pub good_row : (n : ℕ) (name : List ℕ) (entry : Option Entry) (others : List RcRow) → first_bad (row_at n name entry ∷ others) ≡ first_bad others
-good_row n name None others = refl
-good_row n name (Some entry) others = refl
+good_row : (n : ℕ) (name : List ℕ) (entry : Option Entry) (text : List ℕ) (others : List RcRow) → first_bad (continued_row (row_at n name entry) text ∷ others) ≡ first_bad others
+good_row n name None text others = refl
+good_row n name (Some entry) text others = refl
 
-first_bad-read : (read : List ReadRow) (text : List ℕ) (more_rows : List RcRow) → first_bad (continued (rows_in read) text ++ more_rows) ≡ first_bad more_rows
+pub first_bad-read : (read : List ReadRow) (text : List ℕ) (more_rows : List RcRow) → first_bad (continued (rows_in read) text ++ more_rows) ≡ first_bad more_rows
 first_bad-read [] text others = refl
-first_bad-read (row ∷ []) text others = last_read row.line row.section.now row.entry text others
-  where
-    last_read : (n : ℕ) (name : List ℕ) (entry : Option Entry) (text : List ℕ) (others : List RcRow) → first_bad (continued_row (row_at n name entry) text ∷ others) ≡ first_bad others
-    last_read n name None text others = refl
-    last_read n name (Some entry) text others = refl
+first_bad-read (row ∷ []) text others = good_row row.line row.section.now row.entry text others
 first_bad-read (row ∷ next ∷ read) text others =
-    good_row row.line row.section.now row.entry (continued (rows_in (next ∷ read)) text ++ others) ∙ first_bad-read (next ∷ read) text others
+    rw (← continued_row-nil (row_of row)) (good_row row.line row.section.now row.entry [] (continued (rows_in (next ∷ read)) text ++ others)) ∙ first_bad-read (next ∷ read) text others
 
 pub first_bad-bad : (read : List ReadRow) (n : ℕ) (lines : List RcLine) → first_bad (file_rows (rows_in read) n (bad ∷ lines)) ≡ Some (BadLine n)
 unfolding file_rows
@@ -88,10 +84,10 @@ unfolding file_rows
 first_bad-key read n word value lines none = first_bad-read read [] _ ∙ rw none
 
 -- the last of some rows, by its place
-pub split_last : (read : List ReadRow) (k : ℕ) (row : ReadRow) → row ≡ get_or read k row → suc k ≡ length read → read ≡ take k read ++ (row ∷ [])
+split_last : (read : List ReadRow) (k : ℕ) (row : ReadRow) → row ≡ get_or read k row → suc k ≡ length read → read ≡ take k read ++ (row ∷ [])
 split_last read k row same at_end = grind (arith, common_steps, split_at read k row (omega arith), drop_all (suc k) read (omega arith))
 
-pub set_last : (read : List ReadRow) (k : ℕ) (row : ReadRow) → suc k ≡ length read → set read k row ≡ take k read ++ (row ∷ [])
+set_last : (read : List ReadRow) (k : ℕ) (row : ReadRow) → suc k ≡ length read → set read k row ≡ take k read ++ (row ∷ [])
 set_last read k row at_end =
     split_last (set read k row) k row (grind (arith, common_steps)) (grind (arith, common_steps)) ∙ simp take-set
 
@@ -104,41 +100,18 @@ section_in-row_of n name (Some entry) = refl
 
 pub last_section-read : (read : List ReadRow) (k : ℕ) (row : ReadRow) → row ≡ get_or read k row → suc k ≡ length read → last_section (rows_in read) ≡ Some row.section.now
 last_section-read read k row same at_end =
-    ap last_section (rows_in-push (take k read) read row (split_last read k row same at_end))
-    ∙ last_section-last (rows_in (take k read)) (row_of row)
-    ∙ section_in-row_of row.line row.section.now row.entry
-
-pub ends_in_key-read : (read : List ReadRow) (k : ℕ) (row : ReadRow) → row ≡ get_or read k row → suc k ≡ length read → ends_in_key (rows_in read) ≡ is_key_row (row_of row)
-ends_in_key-read read k row same at_end =
-    ap ends_in_key (rows_in-push (take k read) read row (split_last read k row same at_end))
-    ∙ ends_in_key-last (rows_in (take k read)) (row_of row)
-
-pub rows_in-none : (read : List ReadRow) → length read ≡ 0 → rows_in read ≡ []
-rows_in-none [] e = refl
-rows_in-none (row ∷ read) e = absurd (omega arith)
-
-pub key_misplaced : (read slice : List ReadRow) → slice ≡ read → length slice ≤ 0 → last_section (rows_in read) ≡ None
-key_misplaced read slice same none = ap last_section (rows_in-none read (omega (arith, ap (λ (l : List ReadRow). length l) same)))
-
-pub key_placed : (read slice : List ReadRow) (row : ReadRow) → slice ≡ read → 0 < length slice → row ≡ get_or slice (length slice - 1) row → last_section (rows_in read) ≡ Some row.section.now
-key_placed read slice row same some found =
-    let at_end : suc (length slice - 1) ≡ length slice = omega arith in
-    ap (λ (l : List ReadRow). last_section (rows_in l)) (sym same) ∙ last_section-read slice (length slice - 1) row found at_end
+    rw (rows_in-push (take k read) read row (split_last read k row same at_end), last_section-last (rows_in (take k read)) (row_of row))
+    (section_in-row_of row.line row.section.now row.entry)
 
 -- a line continues the last row's value
 pub more_taken : (read : List ReadRow) (k : ℕ) (row new : ReadRow) (n : ℕ) (text : List ℕ) (result : Result (Unit {0}) RcFault)
     → row ≡ get_or read k row → suc k ≡ length read → AddsText (row_of row) n text result (row_of new) → TakesLine read n (more text) result (set read k new)
 more_taken read k row new n text (Ok done) same at_end h = λ lines.
-    ap (λ (rows : List RcRow). file_rows rows n (more text ∷ lines)) (rows_in-push (take k read) read row (split_last read k row same at_end))
-    ∙ file_rows-more (rows_in (take k read)) (row_of row) n text lines h.0
-    ∙ ap (λ (r : RcRow). file_rows (rows_in (take k read) ++ (r ∷ [])) (n + 1) lines) (sym h.1)
-    ∙ ap (λ (rows : List RcRow). file_rows rows (n + 1) lines) (sym (rows_in-push (take k read) (set read k new) new (set_last read k new at_end)))
+    rw (rows_in-push (take k read) (set read k new) new (set_last read k new at_end), rows_in-push (take k read) read row (split_last read k row same at_end), h.1)
+    (file_rows-more (rows_in (take k read)) (row_of row) n text lines h.0)
 more_taken read k row new n text (Err fault) same at_end (inl full) = λ lines. inl full
 more_taken read k row new n text (Err fault) same at_end (inr h) = λ lines.
-    inr (first_bad-more read n text lines (ends_in_key-read read k row same at_end ∙ h.0) ∙ ap (λ (e : RcFault). Some e) (sym h.1))
-
-pub more_misplaced : (read : List ReadRow) → length read ≡ 0 → ends_in_key (rows_in read) ≡ false
-more_misplaced read none = ap ends_in_key (rows_in-none read none)
+    inr (rw h.1 (first_bad-more read n text lines (rw (rows_in-push (take k read) read row (split_last read k row same at_end)) (ends_in_key-last (rows_in (take k read)) (row_of row) ∙ h.0))))
 
 pub file_rows-end : (rows : List RcRow) (n : ℕ) → file_rows rows n [] ≡ rows
 unfolding file_rows

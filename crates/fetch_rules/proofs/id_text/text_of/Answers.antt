@@ -1,5 +1,5 @@
 use Rattle.std.proofs.lemmas.Str.{IsUtf8-from_ascii}
-use Rattle.fetch_rules.proofs.IdLemmas.{IsAscii-id}
+use Rattle.fetch_rules.proofs.RowLemmas.{IsAscii-id}
 use Rattle.fetch_rules.proofs.id_text.text_of.Goals as goal
 
 pub returns-in-Err-clause-none : goal.returns-in-Err-clause-none

@@ -1,4 +1,4 @@
-use Rattle.fetch_rules.proofs.LawLemmas.{has_row-merged}
+use Rattle.fetch_rules.proofs.MergeLemmas.{has_row-merged}
 use Rattle.fetch_rules.proofs.laws.listed_has_row.Goals as goal
 
 pub returns : goal.returns

@@ -1,5 +1,5 @@
 use Rattle.std.proofs.Common.{bytes_eq}
-use Rattle.fetch_rules.proofs.LawLemmas.{delivered-with}
+use Rattle.fetch_rules.proofs.MergeLemmas.{delivered-with}
 use Rattle.fetch_rules.proofs.laws.marked_is_delivered.Goals as goal
 
 pub returns : goal.returns

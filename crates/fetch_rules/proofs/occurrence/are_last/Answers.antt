@@ -1,10 +1,9 @@
-use Rattle.mail_terms.specs.Listing.{HasDistinctIds, is_last}
-use Rattle.fetch_rules.proofs.AscentLemmas.{from_true}
-use Rattle.fetch_rules.proofs.DistinctLemmas.{are_last, all_flags}
+use Rattle.std.proofs.lemmas.Bool.{OnTrue_at}
+use Rattle.mail_terms.specs.Listing.{is_last}
+use Rattle.fetch_rules.proofs.PlanLemmas.{are_last, all_flags}
 use Rattle.fetch_rules.proofs.occurrence.are_last.Goals as goal
 
 pub returns-then-do_ascend : goal.returns-then-do_ascend
 returns-then-do_ascend c =
-    all_flags (is_last c.args.listing.now) c.args.listing.now _ c.in_ok-flags.flags.items
-    (are_last c.args.listing.now (from_true c.do_ascend.result (HasDistinctIds c.args.listing.now) c.do_ascend.ensures c.if-do_ascend.true))
+    all_flags (is_last c.args.listing.now) c.args.listing.now _ c.in_ok-flags.flags.items (are_last c.args.listing.now (OnTrue_at c.if-do_ascend.true c.do_ascend.ensures))
     c.len.ensures.count (c.in_ok-flags.ensures.items_if_clones_equal (λ y same. same))

@@ -1,5 +1,5 @@
 use Rattle.std.proofs.Common.{arith}
-use Rattle.fetch_rules.proofs.OccurrenceLemmas.{HasFirsts-more, HasFirsts-all, nobody}
+use Rattle.fetch_rules.proofs.PlanLemmas.{nobody, HasFirsts-more, HasFirsts-all}
 use Rattle.fetch_rules.proofs.occurrence.firsts_by_set.Goals as goal
 
 pub loop-i-preserved : goal.loop-i-preserved

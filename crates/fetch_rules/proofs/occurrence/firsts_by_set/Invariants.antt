@@ -1,4 +1,4 @@
-use Rattle.fetch_rules.proofs.OccurrenceLemmas.{HasFirsts}
+use Rattle.fetch_rules.proofs.PlanLemmas.{HasFirsts}
 use Rattle.fetch_rules.proofs.occurrence.firsts_by_set.Given as goal
 
 abbrev pub invariant-loop-i : goal.invariant-loop-i

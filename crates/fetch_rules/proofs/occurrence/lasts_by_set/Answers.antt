@@ -1,5 +1,5 @@
-use Rattle.std.proofs.Common.{◌≡◌, ◌+◌, ◌-◌, ℕ, arith, subst, length-set}
-use Rattle.fetch_rules.proofs.OccurrenceLemmas.{HasLasts, HasLasts-none, HasLasts-more, nobody}
+use Rattle.std.proofs.Common.{◌≡◌, ◌+◌, ◌-◌, arith}
+use Rattle.fetch_rules.proofs.PlanLemmas.{nobody, HasLasts-none, HasLasts-more}
 use Rattle.fetch_rules.proofs.occurrence.lasts_by_set.Goals as goal
 
 pub loop-i-init : goal.loop-i-init
@@ -9,6 +9,5 @@ pub loop-i-preserved : goal.loop-i-preserved
 loop-i-preserved c =
     let one_on : c.loop-i.i ≡ c.loop-i.i - 1 + 1 = omega arith in
     HasLasts-more c.args.listing.now (c.loop-i.i - 1) c.loop-i.ids c.insert.new.self c.loop-i.flags.items c.uid.result.now c.in_ok-flags-2.field-0
-    (subst (λ (k : ℕ). HasLasts c.args.listing.now k c.loop-i.ids c.loop-i.flags.items) one_on c.loop-i.invariant) (omega arith)
+    (rw one_on at c.loop-i.invariant) (omega arith)
     (c.uid.ensures.value nobody) c.in_ok-flags-2.ensures.added c.in_ok-flags-2.ensures.ids
-    (length-set c.loop-i.flags.items (c.loop-i.i - 1) c.in_ok-flags-2.field-0)

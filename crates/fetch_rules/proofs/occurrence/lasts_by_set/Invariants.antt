@@ -1,4 +1,4 @@
-use Rattle.fetch_rules.proofs.OccurrenceLemmas.{HasLasts}
+use Rattle.fetch_rules.proofs.PlanLemmas.{HasLasts}
 use Rattle.fetch_rules.proofs.occurrence.lasts_by_set.Given as goal
 
 abbrev pub invariant-loop-i : goal.invariant-loop-i

@@ -1,4 +1,4 @@
-use Rattle.fetch_rules.proofs.GroupLemmas.{appended_counts}
+use Rattle.fetch_rules.proofs.MeaningLemmas.{appended_counts}
 use Rattle.fetch_rules.proofs.seen.appended_counts.Goals as goal
 
 pub returns : goal.returns

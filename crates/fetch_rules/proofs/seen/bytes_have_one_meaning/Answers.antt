@@ -1,4 +1,4 @@
-use Rattle.fetch_rules.proofs.CutLemmas.{one_meaning}
+use Rattle.fetch_rules.proofs.MeaningLemmas.{one_meaning}
 use Rattle.fetch_rules.proofs.seen.bytes_have_one_meaning.Goals as goal
 
 pub returns : goal.returns

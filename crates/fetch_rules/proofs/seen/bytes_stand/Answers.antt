@@ -1,4 +1,4 @@
-use Rattle.fetch_rules.proofs.BaseLemmas.{bytes_stand}
+use Rattle.fetch_rules.proofs.MeaningLemmas.{bytes_stand}
 use Rattle.fetch_rules.proofs.seen.bytes_stand.Goals as goal
 
 pub returns : goal.returns

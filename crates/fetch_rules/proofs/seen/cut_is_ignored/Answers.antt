@@ -1,4 +1,4 @@
-use Rattle.fetch_rules.proofs.GroupLemmas.{cut_is_ignored}
+use Rattle.fetch_rules.proofs.MeaningLemmas.{cut_is_ignored}
 use Rattle.fetch_rules.proofs.seen.cut_is_ignored.Goals as goal
 
 pub returns : goal.returns

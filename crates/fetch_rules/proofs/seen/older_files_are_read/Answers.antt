@@ -1,4 +1,4 @@
-use Rattle.fetch_rules.proofs.OlderLemmas.{one_is_read}
+use Rattle.fetch_rules.proofs.MeaningLemmas.{one_is_read}
 use Rattle.fetch_rules.proofs.seen.older_files_are_read.Goals as goal
 
 pub returns : goal.returns

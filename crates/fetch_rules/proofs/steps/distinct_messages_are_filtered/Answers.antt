@@ -1,4 +1,4 @@
-use Rattle.fetch_rules.proofs.DistinctLemmas.{candidates-distinct}
+use Rattle.fetch_rules.proofs.PlanLemmas.{candidates-distinct}
 use Rattle.fetch_rules.proofs.steps.distinct_messages_are_filtered.Goals as goal
 
 pub returns : goal.returns

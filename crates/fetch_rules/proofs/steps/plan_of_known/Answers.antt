@@ -1,6 +1,7 @@
-use Rattle.std.proofs.Common.{◌+◌, ◌∙◌, false, refl, sym, arith, get_or}
-use Rattle.fetch_rules.proofs.KnownLemmas.{no_candidate, no_deletion}
-use Rattle.fetch_rules.proofs.PlanLemmas.{HasPlanned-more, HasPlanned-all}
+use Rattle.std.proofs.Common.{◌∙◌, false, refl, sym, arith, get_or}
+use Rattle.std.proofs.Math.Bool.{and-false}
+use Rattle.fetch_rules.specs.Plan.{seen_since}
+use Rattle.fetch_rules.proofs.PlanLemmas.{never_due, HasPlanned-more, HasPlanned-all}
 use Rattle.fetch_rules.proofs.steps.plan_of_known.Goals as goal
 
 pub loop-i-preserved : goal.loop-i-preserved
@@ -10,9 +11,9 @@ loop-i-preserved g c =
     let listing = c.args.listing.now in
     rw c.in_ok-push.ensures.items
     (HasPlanned-more settings rows listing c.args.now c.loop-i.i _ 0 false false false 0 c.loop-i.invariant (omega arith)
-    (λ d. sym (no_candidate settings rows listing (c.loop-i.i + 1, get_or listing c.loop-i.i d) c.requires.new_alone (c.requires.known c.loop-i.i d (omega arith))))
+    (λ d. rw (c.requires.new_alone, c.requires.known c.loop-i.i d (omega arith), and-false, and-false) refl)
     refl
-    (λ d. sym (no_deletion settings rows listing c.args.now false (c.loop-i.i + 1, get_or listing c.loop-i.i d) (sym c.may_delete.ensures ∙ c.if-may_delete.false)))
+    (λ d. rw (never_due settings c.args.now (seen_since rows (get_or listing c.loop-i.i d).uid c.args.now) (sym c.may_delete.ensures ∙ c.if-may_delete.false)) refl)
     refl)
 
 pub returns : goal.returns

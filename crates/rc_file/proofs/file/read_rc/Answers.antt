@@ -1,36 +1,34 @@
 use Rattle.std.proofs.Common.{arith, rules}
 use Rattle.rc_file.specs.SectionReading.{key_fault}
 use Rattle.rc_file.specs.RcMeaning.{rc_meaning}
+use Rattle.rc_file.proofs.RcMeaningLemmas.{all_meant, good_rows}
 use Rattle.rc_file.proofs.file.read_rc.Goals as goal
-use Rattle.rc_file.proofs.RcMeaningLemmas.{good_rows, all_meant}
 
 pub returns-then-bytes-gt-RC_LIMIT-clause-meaning : goal.returns-then-bytes-gt-RC_LIMIT-clause-meaning
-unfolding rc_meaning key_fault
+unfolding rc_meaning
 returns-then-bytes-gt-RC_LIMIT-clause-meaning c = search rules
 
 pub returns-in_err-rows-clause-meaning : goal.returns-in_err-rows-clause-meaning
-unfolding rc_meaning key_fault
+unfolding rc_meaning
 returns-in_err-rows-clause-meaning c = search rules
 
 pub returns-in_err-expect_section-clause-meaning : goal.returns-in_err-expect_section-clause-meaning
-unfolding rc_meaning key_fault
-returns-in_err-expect_section-clause-meaning c = let good = good_rows c.in_ok-rows.rows.items in search rules
+unfolding rc_meaning
+returns-in_err-expect_section-clause-meaning c = search (rules, good_rows c.in_ok-rows.rows.items)
 
 pub returns-in_err-expect_section-2-clause-meaning : goal.returns-in_err-expect_section-2-clause-meaning
-unfolding rc_meaning key_fault
-returns-in_err-expect_section-2-clause-meaning c = let good = good_rows c.in_ok-rows.rows.items in search rules
+unfolding rc_meaning
+returns-in_err-expect_section-2-clause-meaning c = search (rules, good_rows c.in_ok-rows.rows.items)
 
 pub returns-in_err-settings-clause-meaning : goal.returns-in_err-settings-clause-meaning
 unfolding rc_meaning key_fault
-returns-in_err-settings-clause-meaning c = let good = good_rows c.in_ok-rows.rows.items in search rules
+returns-in_err-settings-clause-meaning c = search (rules, good_rows c.in_ok-rows.rows.items)
 
 pub returns-clause-meaning : goal.returns-clause-meaning
-returns-clause-meaning c =
-    let read = c.deref-3.result.now in
-    cc (
-      all_meant c.args.bytes.now read (omega arith) (search rules) (search rules) (search rules) c.in_ok-settings.ensures.sound,
-      c.in_ok-settings.ensures.content_is,
-      c.in_ok-warnings.ensures,
-      c.deref-3.ensures.value,
-      c.deref-4.ensures.value,
-    )
+returns-clause-meaning c = cc (
+  all_meant c.args.bytes.now c.deref-3.result.now (omega arith) (search rules) (search rules) (search rules) c.in_ok-settings.ensures.sound,
+  c.in_ok-settings.ensures.content_is,
+  c.in_ok-warnings.ensures,
+  c.deref-3.ensures.value,
+  c.deref-4.ensures.value,
+)

@@ -1,10 +1,8 @@
-use Rattle.std.proofs.Common.{sym}
-use Rattle.std.proofs.Common.{rules}
+use Rattle.std.proofs.Common.{sym, rules, arith}
 use Rattle.rc_file.specs.LineRules.{judge}
 use Rattle.rc_file.proofs.LineLemmas.{begins_after_blanks}
 use Rattle.rc_file.proofs.line.judge.Goals as goal
 use Rattle.std.proofs.lemmas.Str.{IsUtf8-from_is_utf8, is_utf8-from_IsUtf8}
-use Rattle.std.proofs.Common.{arith}
 
 pub returns-in_default : goal.returns-in_default
 unfolding judge

@@ -1,18 +1,20 @@
-use Rattle.std.proofs.Common.{inr}
-use Rattle.rc_file.specs.RowReading.{rows_in}
-use Rattle.rc_file.proofs.RowLemmas.{file_rows-key, first_bad-key, rows_in-push, key_misplaced, key_placed}
+use Rattle.std.proofs.Common.{◌-◌, List, ap, arith, inr, length}
+use Rattle.std.proofs.lemmas.List.{nil_from_length}
+use Rattle.rc_file.specs.declared.row.ReadRow.{ReadRow}
+use Rattle.rc_file.specs.RowReading.{rows_in, last_section}
+use Rattle.rc_file.proofs.RowLemmas.{file_rows-key, first_bad-key, rows_in-push, last_section-read}
 use Rattle.rc_file.proofs.row.add_key.Goals as goal
 
 pub returns-in_default : goal.returns-in_default
 returns-in_default c =
     λ lines. inr (first_bad-key c.args.rows.now.items c.args.number c.args.word.now c.args.value.now lines
-    (key_misplaced c.args.rows.now.items c.deref.result.now c.deref.ensures.value c.in_default.ensures.item.3))
+    (ap (λ (read : List ReadRow). last_section (rows_in read)) (nil_from_length c.args.rows.now.items (omega (arith, ap length c.deref.ensures.value, c.in_default.ensures.item.3)))))
 
 pub returns : goal.returns
 returns c =
     let n = c.args.number in
     let section = c.in-Some.last.now.section.now in
-    let placed = key_placed c.args.rows.now.items c.deref.result.now c.in-Some.last.now c.deref.ensures.value c.in-Some.ensures.item.3.0 c.in-Some.ensures.item.1 in
+    let placed = last_section-read c.deref.result.now (length c.deref.result.now - 1) c.in-Some.last.now c.in-Some.ensures.item.1 (omega (arith, c.in-Some.ensures.item.3.0)) in
     let pushed = rows_in-push c.args.rows.now.items c.push.new.self.items _ c.in_ok-push.ensures.items in
     λ lines. rw (pushed, c.in_ok-to_ascii_lowercase.ensures.ok, c.in_ok-from_str.ensures.ok)
-    (file_rows-key (rows_in c.args.rows.now.items) n section c.args.word.now c.args.value.now lines placed)
+    (file_rows-key (rows_in c.args.rows.now.items) n section c.args.word.now c.args.value.now lines (rw (← c.deref.ensures.value) placed))

@@ -1,5 +1,8 @@
-use Rattle.std.proofs.Common.{arith, vec_len, ◌-◌, refl, inr}
-use Rattle.rc_file.proofs.RowLemmas.{more_taken, more_misplaced, first_bad-more}
+use Rattle.std.proofs.Common.{List, ap, arith, vec_len, ◌-◌, refl, inr}
+use Rattle.std.proofs.lemmas.List.{nil_from_length}
+use Rattle.rc_file.specs.declared.row.ReadRow.{ReadRow}
+use Rattle.rc_file.specs.RowReading.{ends_in_key, rows_in}
+use Rattle.rc_file.proofs.RowLemmas.{more_taken, first_bad-more}
 use Rattle.rc_file.proofs.row.add_more.Goals as goal
 
 pub returns-in-Some : goal.returns-in-Some
@@ -10,4 +13,4 @@ returns-in-Some c =
 pub returns-in-None : goal.returns-in-None
 returns-in-None c =
     λ lines. inr (first_bad-more c.args.rows.now.items c.args.number c.args.text.now lines
-    (more_misplaced c.args.rows.now.items (omega (arith, c.args.rows.now.ok.0, c.in-None.ensures.item.3))))
+    (ap (λ (read : List ReadRow). ends_in_key (rows_in read)) (nil_from_length c.args.rows.now.items (omega (arith, c.args.rows.now.ok.0, c.in-None.ensures.item.3)))))

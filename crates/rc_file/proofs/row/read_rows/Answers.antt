@@ -1,5 +1,4 @@
-use Rattle.std.proofs.Common.{◌+◌}
-use Rattle.std.proofs.Common.{rules}
+use Rattle.std.proofs.Common.{◌+◌, rules}
 use Rattle.rc_file.specs.RowReading.{rows_in, file_rows}
 use Rattle.rc_file.proofs.RowLemmas.{file_rows-end}
 use Rattle.rc_file.proofs.row.read_rows.Goals as goal

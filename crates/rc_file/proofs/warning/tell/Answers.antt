@@ -5,7 +5,7 @@ use Rattle.std.specs.HashSet.{contains, IsUnchanged}
 use Rattle.rc_file.specs.RcMeaning.{warned}
 use Rattle.rc_file.specs.RowReading.{row_of}
 use Rattle.rc_file.specs.WarningSearch.{name_eq, warning_of}
-use Rattle.rc_file.proofs.WarningLemmas.{tells_new, tells_again}
+use Rattle.rc_file.proofs.RcMeaningLemmas.{tells_new, tells_again}
 use Rattle.rc_file.proofs.warning.tell.Goals as goal
 
 pub returns-then-not-branch : goal.returns-then-not-branch

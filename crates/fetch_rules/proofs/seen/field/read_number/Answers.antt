@@ -1,5 +1,5 @@
 use Rattle.std.proofs.Common.{◌∙◌, sym, subst, true≢false}
-use Rattle.fetch_rules.proofs.NumeralLemmas.{BeginsAsNumeral, BeginsAsNumeral-decimal, number_found, no_number}
+use Rattle.fetch_rules.proofs.LineLemmas.{BeginsAsNumeral, BeginsAsNumeral-decimal, number_found, no_number}
 use Rattle.fetch_rules.proofs.seen.field.read_number.Goals as goal
 
 pub returns-then-not-begins_as_numeral-clause-none : goal.returns-then-not-begins_as_numeral-clause-none

@@ -1,20 +1,20 @@
-use Rattle.std.proofs.Common.{◌∙◌, sym, ap, take, length, List, arith}
+use Rattle.std.proofs.Common.{◌∙◌, sym, arith}
 use Rattle.std.proofs.Math.Seq.{take-append_seam}
-use Rattle.fetch_rules.specs.Record.{Row}
-use Rattle.fetch_rules.proofs.NewIdLemmas.{HasAdded-has, HasAdded-more}
+use Rattle.std.proofs.lemmas.Bool.{cond-true, cond-false}
+use Rattle.fetch_rules.proofs.MergeLemmas.{added_next}
 use Rattle.fetch_rules.proofs.seen.row_map.RowMap.add_until_refused.Goals as goal
 
 pub loop-i-preserved-then-has : goal.loop-i-preserved-then-has
 loop-i-preserved-then-has g c = (
-  HasAdded-has c.args.self.now c.args.listing.now c.args.now c.loop-i.i c.loop-i.self c.uid-uid.result.now c.loop-i.invariant.0 c.uid-uid.ensures.value (omega arith) (sym c.has.ensures ∙ c.if-has.true),
+  sym (added_next c.args.self.now c.args.listing.now c.args.now c.loop-i.i c.loop-i.self c.uid-uid.result.now c.loop-i.invariant.0 c.uid-uid.ensures.value (omega arith) ∙ cond-true _ _ _ (sym c.has.ensures ∙ c.if-has.true)),
   c.loop-i.invariant.1,
 )
 
 pub loop-i-preserved : goal.loop-i-preserved
 loop-i-preserved g c = (
-  HasAdded-more c.args.self.now c.args.listing.now c.args.now c.loop-i.i c.loop-i.self c.add.new.self c.uid-uid.result.now c.loop-i.invariant.0 c.uid-uid.ensures.value (omega arith) (sym c.has.ensures ∙ c.if-has.false) c.in_ok-add.ensures.ok,
+  c.in_ok-add.ensures.ok ∙ sym (added_next c.args.self.now c.args.listing.now c.args.now c.loop-i.i c.loop-i.self c.uid-uid.result.now c.loop-i.invariant.0 c.uid-uid.ensures.value (omega arith) ∙ cond-false _ _ _ (sym c.has.ensures ∙ c.if-has.false)),
   c.in_ok-add.ensures.is_record,
 )
 
 pub returns-in_err-add-clause-front : goal.returns-in_err-add-clause-front
-returns-in_err-add-clause-front g c = ap (λ (rows : List Row). take (length c.args.self.now) rows) (c.in_err-add.ensures.err ∙ c.loop-i.invariant.0) ∙ take-append_seam c.args.self.now _
+returns-in_err-add-clause-front g c = rw (c.in_err-add.ensures.err, c.loop-i.invariant.0) (take-append_seam c.args.self.now _)

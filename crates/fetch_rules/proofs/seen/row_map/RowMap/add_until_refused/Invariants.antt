@@ -1,5 +1,5 @@
 use Rattle.fetch_rules.specs.Record.{IsRecord}
-use Rattle.fetch_rules.proofs.NewIdLemmas.{HasAdded}
+use Rattle.fetch_rules.proofs.MergeLemmas.{HasAdded}
 use Rattle.fetch_rules.proofs.seen.row_map.RowMap.add_until_refused.Given as goal
 
 abbrev pub invariant-loop-i : goal.invariant-loop-i

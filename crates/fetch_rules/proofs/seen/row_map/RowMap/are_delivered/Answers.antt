@@ -1,14 +1,15 @@
-use Rattle.std.proofs.Common.{arith}
-use Rattle.fetch_rules.specs.Rows.{row_from}
-use Rattle.fetch_rules.proofs.DeliveredLemmas.{AreDeliveredTo-none, AreDeliveredTo-more, AreDeliveredTo-all}
+use Rattle.std.proofs.Common.{◌≡◌, ◌∙◌, ap, arith, true}
+use Rattle.std.proofs.lemmas.Bool.{not-false}
+use Rattle.std.proofs.lemmas.List.Elements.{AllWithin-none, AllWithin-more, AllWithin-upto, All-from_all_within}
+use Rattle.fetch_rules.specs.Record.{Row}
 use Rattle.fetch_rules.proofs.seen.row_map.RowMap.are_delivered.Goals as goal
 
 pub loop-place-init : goal.loop-place-init
-loop-place-init g c = AreDeliveredTo-none c.args.self.now
+loop-place-init g c = AllWithin-none (λ row. row.delivered ≡ true) c.args.self.now 0
 
 pub loop-place-preserved : goal.loop-place-preserved
 loop-place-preserved g c =
-    AreDeliveredTo-more c.args.self.now c.loop-place.place (row_from c.at.result.0.now c.at.result.1) c.loop-place.invariant c.at.ensures c.if-not-state.false
+    AllWithin-more (λ row. row.delivered ≡ true) c.args.self.now 0 c.loop-place.place c.loop-place.invariant (λ d. ap (λ (row : Row). row.delivered) (c.at.ensures d) ∙ not-false _ c.if-not-state.false)
 
 pub returns : goal.returns
-returns g c = AreDeliveredTo-all c.args.self.now c.loop-place.place c.loop-place.invariant (omega arith)
+returns g c = All-from_all_within (λ row. row.delivered ≡ true) c.args.self.now (AllWithin-upto (λ row. row.delivered ≡ true) c.args.self.now 0 c.loop-place.place _ (omega arith) c.loop-place.invariant)

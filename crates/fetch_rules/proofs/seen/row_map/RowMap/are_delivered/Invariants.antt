@@ -1,5 +1,6 @@
-use Rattle.fetch_rules.proofs.DeliveredLemmas.{AreDeliveredTo}
+use Rattle.std.proofs.Common.{◌≡◌, true}
+use Rattle.std.specs.List.{AllWithin}
 use Rattle.fetch_rules.proofs.seen.row_map.RowMap.are_delivered.Given as goal
 
 abbrev pub invariant-loop-place : goal.invariant-loop-place
-invariant-loop-place g l = AreDeliveredTo l.self l.place
+invariant-loop-place g l = AllWithin (λ row. row.delivered ≡ true) l.self 0 l.place

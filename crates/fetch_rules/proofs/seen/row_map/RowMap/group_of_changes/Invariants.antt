@@ -1,7 +1,7 @@
 use Rattle.std.proofs.Common.{◌≤◌}
 use Rattle.mail_terms.specs.Listing.{is_flagged}
 use Rattle.fetch_rules.specs.Record.{Row}
-use Rattle.fetch_rules.proofs.GrowthLemmas.{HasWritten}
+use Rattle.fetch_rules.proofs.MergeLemmas.{HasWritten}
 use Rattle.fetch_rules.proofs.seen.row_map.RowMap.group_of_changes.Given as goal
 
 abbrev pub invariant-loop-place : goal.invariant-loop-place

@@ -1,5 +1,4 @@
-use Rattle.std.proofs.Common.{◌∙◌, not, sym, subst, ◌≢◌}
-use Rattle.std.specs.Bool.{OnTrue}
+use Rattle.std.proofs.Common.{◌∙◌, sym}
 use Rattle.fetch_rules.proofs.RowLemmas.{unmarked_none, mark_changes, marked-delivered}
 use Rattle.fetch_rules.proofs.seen.row_map.RowMap.mark.Goals as goal
 
@@ -12,5 +11,4 @@ returns-then-state-clause-rows g c =
 
 pub returns-clause-changed : goal.returns-clause-changed
 returns-clause-changed g c =
-    subst (λ b. OnTrue (not b) (c.set_delivered.new.self ≢ c.args.self.now)) c.if-state.false
-    (mark_changes c.args.uid.now c.args.self.now _ c.in-Some.state c.state.ensures.is_record (sym c.in-Some.ensures.value) c.set_delivered.ensures.rows)
+    rw c.if-state.false at (mark_changes c.args.uid.now c.args.self.now c.in-Some.state c.state.ensures.is_record (sym c.in-Some.ensures.value) _ c.set_delivered.ensures.rows)

@@ -1,7 +1,7 @@
 use Rattle.std.proofs.Common.{sym, arith}
-use Rattle.fetch_rules.proofs.AscentLemmas.{from_true}
-use Rattle.fetch_rules.proofs.DeliveredLemmas.{AreDelivered, with_held-same}
-use Rattle.fetch_rules.proofs.MergeLemmas.{HasMarked-none, HasMarked-next_held, HasMarked-next_free, HasMarked-all}
+use Rattle.std.proofs.lemmas.Bool.{OnTrue_at}
+use Rattle.fetch_rules.proofs.RowLemmas.{with_held-same}
+use Rattle.fetch_rules.proofs.MergeLemmas.{HasMarked-none, HasMarked-held, HasMarked-free, HasMarked-all}
 use Rattle.fetch_rules.proofs.seen.row_map.RowMap.mark_held.Goals as goal
 use Rattle.fetch_rules.proofs.seen.row_map.RowMap.mark_held.Goals.{then-held-i, else-held-i}
 
@@ -11,10 +11,10 @@ loop-i-init g c = HasMarked-none _ c.len.ensures.is_record
 pub loop-i-preserved : goal.loop-i-preserved
 loop-i-preserved g c = elim c.if-held-i.branch [
   | then-held-i w ↦ rw (w.self-is, w.changed-is)
-      (HasMarked-next_held _ _ _ w.uid.result.now _ _ _ _ _ c.requires (omega arith) w.if-held-i.true w.uid.ensures.value c.loop-i.invariant
+      (HasMarked-held _ _ _ c.requires (omega arith) w.uid.result.now _ _ _ _ _ w.uid.ensures.value w.if-held-i.true c.loop-i.invariant
       w.mark-changed.ensures.rows w.mark-changed.ensures.changed w.mark-changed.ensures.unchanged w.mark-changed.ensures.is_record)
   | else-held-i w ↦ rw (w.self-is, w.changed-is)
-      (HasMarked-next_free _ _ _ _ _ _ c.requires (omega arith) w.if-held-i.false c.loop-i.invariant)
+      (HasMarked-free _ _ _ c.requires (omega arith) _ _ _ w.if-held-i.false c.loop-i.invariant)
 ]
 
 pub returns-clause-rows : goal.returns-clause-rows
@@ -23,4 +23,4 @@ returns-clause-rows g c = HasMarked-all _ _ _ _ _ _ (omega arith) c.loop-i.invar
 pub returns-then-are_delivered-clause-rows : goal.returns-then-are_delivered-clause-rows
 returns-then-are_delivered-clause-rows g c =
     sym (with_held-same c.args.listing.now c.args.held.now c.args.self.now
-    (from_true c.are_delivered.result (AreDelivered c.args.self.now) c.are_delivered.ensures c.if-are_delivered.true))
+    (OnTrue_at c.if-are_delivered.true c.are_delivered.ensures))

@@ -3,7 +3,7 @@ use Rattle.fetch_rules.specs.Record.{Row, IsRecord}
 use Rattle.fetch_rules.specs.RecordMeaning.{delivers}
 use Rattle.fetch_rules.specs.Rows.{row_from}
 use Rattle.fetch_rules.specs.Lines.{version_of, is_within}
-use Rattle.fetch_rules.proofs.TakeLemmas.{has_row-some, has_row-none, delivers-known, delivered_again, rows_added, rows_marked, takes_new, takes_old, refuses_old}
+use Rattle.fetch_rules.proofs.RowLemmas.{has_row-some, has_row-none, delivers-known, delivered_again, takes_new, takes_old, refuses_old}
 use Rattle.fetch_rules.proofs.seen.row_map.RowMap.take_row.Goals as goal
 use Rattle.fetch_rules.proofs.seen.row_map.RowMap.take_row.Goals.{then-not-is_within-via-then-not-is_within, then-not-is_within-via-else-not-is_within+then-not-delivers}
 
@@ -11,11 +11,12 @@ pub returns-in_default-known : goal.returns-in_default-known
 returns-in_default-known g c =
     let row : Row = row_from c.args.row.now.uid.now c.args.row.now.state in
     let known = sym c.in_ok-known.ensures.old ∙ c.in_default-known.is in
-    rw (c.after_row.ensures, rows_added c.in_ok-known.known c.args.self.now c.put.new.self row c.in_default-known.is c.in_ok-known.ensures.added) (record {
+    let added = rw c.in_default-known.is at c.in_ok-known.ensures.added in
+    rw (c.after_row.ensures, added) (record {
       ok = takes_new c.args.older c.args.part c.args.self.now row c.in_default.not-Between (has_row-none row.uid c.args.self.now known);
       part = refl;
       err = tt;
-      is_record = subst IsRecord (rows_added c.in_ok-known.known c.args.self.now c.put.new.self row c.in_default-known.is c.in_ok-known.ensures.added) c.in_ok-known.ensures.is_record;
+      is_record = subst IsRecord added c.in_ok-known.ensures.is_record;
     })
 
 pub returns-then-not-is_within : goal.returns-then-not-is_within
@@ -38,7 +39,7 @@ returns g c =
     let row : Row = row_from c.args.row.now.uid.now c.args.row.now.state in
     let known = sym c.in_ok-known.ensures.old ∙ c.in-Some.is in
     let again = sym c.delivers.ensures ∙ c.if-not-delivers.false in
-    let new = rows_marked c.in_ok-known.known row.uid c.args.self.now c.put.new.self c.in-Some.old c.args.row.now.state c.in-Some.is c.in_ok-known.ensures.marked (delivered_again c.args.older c.in-Some.old c.args.row.now.state again) in
+    let new = (rw c.in-Some.is at c.in_ok-known.ensures.marked) (delivered_again c.args.older c.in-Some.old c.args.row.now.state again) in
     rw (c.after_row-2.ensures, new) (record {
       ok = takes_old c.args.older c.args.part c.args.self.now row (sym c.is_within.ensures ∙ c.if-not-is_within.false) (has_row-some row.uid c.args.self.now c.in-Some.old known)
           (delivers-known c.args.older c.args.self.now row c.in-Some.old c.len.ensures.is_record known ∙ again);
