@@ -1,15 +1,3 @@
-mod AccountLemmas
-mod Deliveries
-mod FusedCalls
-mod HeldLemmas
-mod FlushLemmas
-mod Leavings
-mod MboxAppends
-mod MboxGroups
-mod MboxLines
-mod MboxQuoting
-mod MboxReading
-mod MoveLemmas
-mod NameLemmas
-mod OneEntry
+mod MaildirLemmas
+mod MboxLemmas
 mod SettlingLemmas

@@ -1,43 +1,114 @@
--- What a loss of power leaves of an entry, and what settling does to the file that it is in.
-use Rattle.std.proofs.Common.{get_or, ◌≡◌, ◌⊎◌, inl, inr, ℕ, suc, ◌+◌, ◌-◌, ◌<◌, ◌≤◌, ◌%◌, Bool, true, false, cond, ◌&&◌, List, [], ◌∷◌, ◌++◌, length, take, drop, Option, Some, refl, sym, ap, subst, ◌∙◌, arith, length-append}
-use Rattle.std.specs.Prelude.{bytes_eq, HoldsAt, not, ◌==◌, nat_lt, nat_le}
-use Rattle.std.specs.List.{list_all, AllByRecursion}
-use Rattle.std.proofs.lemmas.Bool.{and_parts, cases_Bool, cases_lt, or_right, true≢false, lt-ltb, le-leb, eq-eqb}
-use Rattle.std.proofs.lemmas.Bool.Decides.{Decides-eqb, eqb_tells}
+-- What a loss of power may leave of a file and of an entry in it, and what settling does to that file.
+use Rattle.std.proofs.Common.{◌≡◌, inl, inr, ℕ, ◌+◌, List, [], ◌∷◌, ◌++◌, length, take, Option, Some, option_map, refl, sym, ap, ◌∙◌, append_assoc, append-nil, Bool, false, ◌&&◌, drop, arith, length-append, ◌⊎◌, suc, ◌-◌, ◌≤◌, ◌%◌, true, subst, not, nat_eq, ◌==◌}
+use Rattle.std.proofs.lemmas.Option.{same_Some}
+use Rattle.std.proofs.Math.Seq.{take-append_seam, drop-append_seam}
+use Rattle.std.specs.List.{list_all, starts_with, AllByRecursion}
+use Rattle.std.proofs.lemmas.Bool.{and_cases, and_parts, and_right, eqb-true, ne_eqb, not-false, true≢false, false≢true, not_from_false, cases_Bool, cases_lt, or_right, true_from_ne_false, lt-ltb, le-leb, eq-eqb}
+use Rattle.std.proofs.lemmas.Bool.Decides.{eqb_tells, Decides-eqb}
 use Rattle.std.proofs.Math.Bool.{and-false, or-true}
 use Rattle.std.proofs.Math.Logic.{⊎_map}
-use Rattle.std.proofs.lemmas.List.{append-nil, append_assoc, nil_from_length, same_from_push}
+use Rattle.std.proofs.lemmas.List.{nil_from_length, same_from_push}
+use Rattle.std.proofs.lemmas.List.Elements.{All-from_recursion}
+use Rattle.std.proofs.lemmas.List.Sums.{list_all-from_AllPass}
 use Rattle.std.proofs.lemmas.Slice.Eq.{ends_is}
-use Rattle.std.proofs.Math.Seq.{drop-append_seam, drop-cons, take-append_seam}
-use Rattle.mail_terms.specs.Listing.{Item}
-use Rattle.mail_terms.specs.Text.{IsWhole}
-use Rattle.mail_store.specs.Mboxrd.{separator, begins_entry, quoted_text, unquoted_text, entry_of, text_in}
+use Rattle.memchr.specs.Find.{OccursAt}
+use Rattle.memchr.proofs.lemmas.MatchLemmas.{OccursAt-from_part}
+use Rattle.mail_terms.specs.Text.{HasNoLf, IsWhole}
+use Rattle.mail_store.specs.Power.{IsLonger, LeavesFronts, LeavesLonger, Outlives, KeepsBytes}
+use Rattle.mail_store.specs.Settling.{MayBeLeft, is_one_entry, block_size, is_lost, is_torn, begin_with, ends_empty, is_ours, is_entry, has_size, stands_whole, settled_file, LeftoversAreSettled, FrontsAreSettled, WholeEntriesCount}
+use Rattle.mail_store.specs.Mboxrd.{lines_of, from_words, begins_entry, separator, quoted_text, entry_of, text_in}
+use Rattle.mail_store.proofs.MboxLemmas.{first_of, onto_parts, begins_with, unquotes_quoted, inner_apart, entry_bytes, entry_group, entry_lines, entry_is_group, group_ends}
 use Rattle.mail_store.specs.MboxScan.{IsApart}
-use Rattle.mail_store.specs.Settling.{block_size, is_lost, is_torn, MayBeLeft, begin_with, is_one_entry, ends_empty, is_ours, is_entry, listed_size, has_size, is_whole, stands_whole, settled_file, CountsWhole, IsCutOff, LeftoversAreSettled, FrontsAreSettled, WholeEntriesCount}
-use Rattle.mail_store.proofs.Leavings.{all_left, part_left}
-use Rattle.mail_store.proofs.OneEntry.{holds_needle, needle, needle_split, needle_there, one_entry_is}
-use Rattle.mail_store.proofs.MboxQuoting.{unquotes_quoted}
-use Rattle.mail_store.proofs.MboxGroups.{inner_apart, entry_bytes, entry_group, entry_lines, entry_is_group, group_ends}
+
+-- what begins with these bytes
+abbrev pub Begins : List ℕ → Option (List ℕ) → Type 0
+Begins bytes left = (rest : List ℕ) × (left ≡ Some (bytes ++ rest))
+
+-- still does if it is longer
+begins_longer : (bytes : List ℕ) (was left : Option (List ℕ)) → Begins bytes was → IsLonger was left → Begins bytes left
+begins_longer bytes was left begins (inl same) = (begins.0, same ∙ begins.1)
+begins_longer bytes was left begins (inr (some, behind, is, longer)) = (
+  begins.0 ++ behind,
+  longer ∙ ap (λ (l : List ℕ). Some (l ++ behind)) (same_Some some (bytes ++ begins.0) (sym is ∙ begins.1)) ∙ ap Some (append_assoc bytes begins.0 behind),
+)
+
+pub longer_keeps : (m m' : Option (List ℕ) → Type 0) → LeavesLonger m m' → KeepsBytes m m'
+longer_keeps m m' longer = λ bytes held left may. let was = longer left may in begins_longer bytes was.0 left (held was.0 was.1) was.2
+
+-- bytes that outlived stay if more are appended and the file is cut back to them
+pub cut_keeps : (m m' m'' : Option (List ℕ) → Type 0) (was : List ℕ) → Outlives m was → LeavesLonger m m' → LeavesFronts (length was) m' m'' → Outlives m'' was
+cut_keeps m m' m'' was outlives longer fronts = λ left may.
+    let cut = fronts left may in
+    let begins = longer_keeps m m' longer was outlives cut.0 cut.1 in elim cut.2 [
+      | inl same ↦ begins_longer was cut.0 left begins same
+      | inr front ↦ begins_longer was (option_map (take (length was)) cut.0) left
+          ([], ap (option_map (take (length was))) begins.1 ∙ ap Some (take-append_seam was begins.0 ∙ sym (append-nil was))) front
+    ]
+
+-- ---- what an append may leave
+
+pub part_left : (place : ℕ) (part rest left : List ℕ) → MayBeLeft place part left → MayBeLeft place (part ++ rest) left
+part_left place part rest [] may = tt
+part_left place [] rest (byte ∷ left) may = absurd may
+part_left place (word ∷ words) rest (byte ∷ left) may = (may.0, part_left (place + 1) words rest left may.1)
+
+pub all_left : (place : ℕ) (words : List ℕ) → MayBeLeft place words words
+all_left place [] = tt
+all_left place (word ∷ words) = (inl refl, all_left (place + 1) words)
+
+-- an LF, and the bytes that an entry begins with
+abbrev pub needle : List ℕ
+needle = 10 ∷ from_words
+
+-- the first line begins with words without LF exactly if the bytes do
+first_begins : (words bytes : List ℕ) → HasNoLf words → starts_with nat_eq (first_of (lines_of bytes)) words ≡ starts_with nat_eq bytes words
+first_begins [] bytes plain = refl
+first_begins (word ∷ words) [] plain = refl
+first_begins (word ∷ words) (byte ∷ rest) plain = elim (eqb_tells byte 10) [
+  | inl p ↦ rw (p.1, ne_eqb word 10 plain.0) refl
+  | inr p ↦ rw (p.0, (onto_parts byte (lines_of rest)).1) (ap (λ (b : Bool). word == byte && b) (first_begins words rest plain.1))
+]
+
+lines_apart : (lines : List (List ℕ)) → list_all (λ line. not (begins_entry line)) lines ≡ (not (begins_entry (first_of lines)) && list_all (λ line. not (begins_entry line)) (drop 1 lines))
+lines_apart [] = refl
+lines_apart (line ∷ lines) = refl
+
+one_entry_step : (byte : ℕ) (rest : List ℕ) → is_one_entry (byte ∷ rest) ≡ (not (byte == 10 && begins_entry rest) && is_one_entry rest)
+one_entry_step byte rest = elim (eqb_tells byte 10) [
+  | inl p ↦ rw (p.0, lines_apart (lines_of rest), first_begins from_words rest (omega arith)) refl
+  | inr p ↦ rw (p.0, (onto_parts byte (lines_of rest)).2) refl
+]
+
+-- if such a line follows, the needle is somewhere
+pub needle_split : (bytes : List ℕ) → is_one_entry bytes ≡ false → (front : List ℕ) × (back : List ℕ) × (bytes ≡ front ++ (needle ++ back))
+needle_split [] e = absurd (true≢false e)
+needle_split (byte ∷ rest) e = elim (and_cases (not (byte == 10 && begins_entry rest)) (is_one_entry rest) (sym (one_entry_step byte rest) ∙ e)) [
+  | inl here ↦
+      let parts = and_parts (byte == 10) (begins_entry rest) (not-false _ here) in
+      ([], drop 5 rest, ap (λ (b : ℕ). b ∷ rest) (eqb-true byte 10 parts.0) ∙ ap (λ (l : List ℕ). 10 ∷ l) (begins_with rest parts.1))
+  | inr later ↦
+      let s = needle_split rest later in
+      (byte ∷ s.0, s.1, ap (λ (l : List ℕ). byte ∷ l) s.2)
+]
+
+-- and the other way round
+pub needle_there : (front back : List ℕ) → is_one_entry (front ++ (needle ++ back)) ≡ false
+needle_there [] back = one_entry_step 10 (from_words ++ back)
+needle_there (byte ∷ front) back = one_entry_step byte (front ++ (needle ++ back)) ∙ and_right _ _ (needle_there front back)
+
+pub needle_occurs : (front back : List ℕ) → OccursAt (front ++ (needle ++ back)) needle (length front)
+needle_occurs front back = OccursAt-from_part (front ++ (needle ++ back)) needle (length front) (omega (arith, length-append front (needle ++ back)))
+    (ap (take 6) (drop-append_seam front (needle ++ back)))
 
 -- ---- blocks
 
-lost_step : (place byte : ℕ) (rest : List ℕ) → is_lost place (byte ∷ rest) ≡ (byte == 0 && list_all (λ b. b == 0) (take (511 - place % block_size) rest))
-lost_step place byte rest =
+-- what is lost is zero, and what follows it within a block is lost too
+pub lost_parts : (place byte : ℕ) (rest : List ℕ) → is_lost place (byte ∷ rest) ≡ true
+    → (byte ≡ 0) × (((place + 1) % block_size ≡ 0 → ⊥) → is_lost (place + 1) rest ≡ true)
+lost_parts place byte rest lost =
     let room : block_size - place % block_size ≡ suc (511 - place % block_size) = omega arith in
-    ap (λ (n : ℕ). list_all (λ b. b == 0) (take n (byte ∷ rest))) room
-
-pub zero_lost : (place byte : ℕ) (rest : List ℕ) → is_lost place (byte ∷ rest) ≡ true → byte ≡ 0
-zero_lost place byte rest lost = elim (eqb_tells byte 0) [
-  | inl p ↦ p.1
-  | inr p ↦ absurd (true≢false (sym lost ∙ lost_step place byte rest ∙ ap (λ (b : Bool). b && list_all (λ b. b == 0) (take (511 - place % block_size) rest)) p.0))
-]
-
--- within a block
-lost_on : (place byte : ℕ) (rest : List ℕ) → is_lost place (byte ∷ rest) ≡ true → ((place + 1) % block_size ≡ 0 → ⊥) → is_lost (place + 1) rest ≡ true
-lost_on place byte rest lost inside =
-    let room : block_size - (place + 1) % block_size ≡ 511 - place % block_size = omega (arith, inside) in
-    ap (λ (n : ℕ). list_all (λ b. b == 0) (take n rest)) room
-    ∙ (and_parts (byte == 0) (list_all (λ b. b == 0) (take (511 - place % block_size) rest)) (sym (lost_step place byte rest) ∙ lost)).1
+    let parts = and_parts (byte == 0) (list_all (λ b. b == 0) (take (511 - place % block_size) rest)) (rw room at lost) in
+    (eqb-true byte 0 parts.0, λ inside. let next : block_size - (place + 1) % block_size ≡ 511 - place % block_size = omega (arith, inside) in rw next parts.1)
 
 -- the last byte is zero
 abbrev pub EndsInZero : List ℕ → Type 0
@@ -53,29 +124,28 @@ breaks_later place byte bytes =
     (λ last. (byte ∷ last.0, ap (λ (l : List ℕ). byte ∷ l) last.1))
 
 lost_breaks : (place byte : ℕ) (rest : List ℕ) → is_lost place (byte ∷ rest) ≡ true → Breaks place (byte ∷ rest)
-lost_breaks place byte [] lost = inr ([], ap (λ (b : ℕ). b ∷ []) (zero_lost place byte [] lost))
+lost_breaks place byte [] lost = inr ([], ap (λ (b : ℕ). b ∷ []) (lost_parts place byte [] lost).0)
 lost_breaks place byte (next ∷ more) lost = elim (eqb_tells ((place + 1) % block_size) 0) [
-  | inl p ↦ inl (rw (p.0, eq-eqb byte 0 (zero_lost place byte (next ∷ more) lost)) refl)
-  | inr p ↦ breaks_later place byte (next ∷ more) (lost_breaks (place + 1) next more (lost_on place byte (next ∷ more) lost p.1))
+  | inl p ↦ inl (rw (p.0, eq-eqb byte 0 (lost_parts place byte (next ∷ more) lost).0) refl)
+  | inr p ↦ breaks_later place byte (next ∷ more) (lost_breaks (place + 1) next more ((lost_parts place byte (next ∷ more) lost).1 p.1))
 ]
 
 -- ---- what is left of an entry
 
 left_short : (place : ℕ) (words left : List ℕ) → MayBeLeft place words left → length left ≤ length words
+left_short place (word ∷ words) (byte ∷ left) is = omega (arith, left_short (place + 1) words left is.1)
 left_short place words [] is = omega arith
-left_short place [] (byte ∷ left) is = absurd is
-left_short place (word ∷ words) (byte ∷ left) is = let less = left_short (place + 1) words left is.1 in omega (arith, less)
+left_short place words left is = absurd is
 
 same_or_broken : (place : ℕ) (words left : List ℕ) → MayBeLeft place words left → length left ≡ length words
     → (left ≡ words) ⊎ Breaks place left
 same_or_broken place [] [] is size = inl refl
-same_or_broken place (word ∷ words) [] is size = absurd (omega (arith, size))
-same_or_broken place [] (byte ∷ left) is size = absurd is
 same_or_broken place (word ∷ words) (byte ∷ left) is size = elim is.0 [
   | inr lost ↦ inr (lost_breaks place byte left lost)
   | inl same ↦ ⊎_map (λ all. ap (λ (b : ℕ). b ∷ left) same ∙ ap (λ (l : List ℕ). word ∷ l) all) (breaks_later place byte left)
       (same_or_broken (place + 1) words left is.1 (omega (arith, size)))
 ]
+same_or_broken place words left is size = absurd (omega (arith, size))
 
 left_begins : (place : ℕ) (words more left : List ℕ) → MayBeLeft place (words ++ more) left → begin_with place words left ≡ true
 left_begins place [] more left is = refl
@@ -93,129 +163,61 @@ left_from place (byte ∷ front) more (word ∷ words) plain is = elim is.0 [
   | inl same ↦
       let w = left_from (place + 1) front more words plain.1 is.1 in
       (w.0, ap (λ (b : ℕ). b ∷ words) (sym same) ∙ ap (λ (l : List ℕ). byte ∷ l) w.1)
-  | inr lost ↦ absurd (plain.0 (zero_lost place byte (front ++ more) lost))
+  | inr lost ↦ absurd (plain.0 (lost_parts place byte (front ++ more) lost).0)
 ]
 
--- what is left from some place on is left of the words from there on
-left_behind : (place : ℕ) (words front more : List ℕ) → MayBeLeft place words (front ++ more)
-    → (at : ℕ) × (before : List ℕ) × (behind : List ℕ) × (words ≡ before ++ behind) × MayBeLeft at behind more
-left_behind place words [] more is = (place, [], words, refl, is)
-left_behind place [] (byte ∷ front) more is = absurd is
-left_behind place (word ∷ words) (byte ∷ front) more is =
-    let later = left_behind (place + 1) words front more is.1 in
-    (later.0, word ∷ later.1, later.2, ap (λ (l : List ℕ). word ∷ l) later.3, later.4)
-
-left_needle : (place : ℕ) (words left : List ℕ) → MayBeLeft place words left → holds_needle left ≡ true → holds_needle words ≡ true
-left_needle place words left is held =
-    let found = needle_split left held in
-    let at = left_behind place words found.0 (needle ++ found.1) (subst (MayBeLeft place words) found.2 is) in
-    let w = left_from at.0 needle found.1 at.2 plain at.4 in
-    ap holds_needle (at.3 ∙ ap (λ (l : List ℕ). at.1 ++ l) w.1) ∙ needle_there at.1 w.0
-  where
-    plain : AllByRecursion (λ b. b ≡ 0 → ⊥) needle
-    plain = ((λ e. absurd (omega (arith, e))), ((λ e. absurd (omega (arith, e))), ((λ e. absurd (omega (arith, e))), ((λ e. absurd (omega (arith, e))), ((λ e. absurd (omega (arith, e))), ((λ e. absurd (omega (arith, e))), tt))))))
-
-all_apart : (lines : List (List ℕ)) → AllByRecursion IsApart lines → list_all (λ line. not (begins_entry line)) lines ≡ true
-all_apart [] all = refl
-all_apart (line ∷ lines) all = rw (all.0, all_apart lines all.1) refl
-
-entry_one : (text : List ℕ) → IsWhole text → is_one_entry (entry_of text) ≡ true
-entry_one text whole =
-    ap (λ (ls : List (List ℕ)). list_all (λ line. not (begins_entry line)) (drop 1 ls)) (entry_lines text whole)
-    ∙ all_apart ((entry_group text).lines ++ (10 ∷ []) ∷ []) (inner_apart (entry_group text).lines (entry_is_group text whole).1)
+-- nor do they get into the words from elsewhere
+left_holds : (place : ℕ) (words front part more : List ℕ) → AllByRecursion (λ b. b ≡ 0 → ⊥) part → MayBeLeft place words (front ++ (part ++ more))
+    → (before : List ℕ) × (after : List ℕ) × (words ≡ before ++ (part ++ after))
+left_holds place words [] part more plain is = let w = left_from place part more words plain is in ([], w.0, w.1)
+left_holds place (word ∷ words) (byte ∷ front) part more plain is =
+    let later = left_holds (place + 1) words front part more plain is.1 in
+    (word ∷ later.0, later.1, ap (λ (l : List ℕ). word ∷ l) later.2)
+left_holds place words front part more plain is = absurd is
 
 left_ours : (place : ℕ) (text left : List ℕ) → IsWhole text → MayBeLeft place (entry_of text) left → is_ours place left ≡ true
-left_ours place text left whole is = rw (left_begins place separator (quoted_text text ++ 10 ∷ []) left is, one) refl
-  where
-    one : is_one_entry left ≡ true
-    one = elim (cases_Bool (holds_needle left)) [
-      | inl held ↦ absurd (true≢false (sym (entry_one text whole) ∙ one_entry_is (entry_of text) ∙ ap not (left_needle place (entry_of text) left is held)))
-      | inr free ↦ one_entry_is left ∙ ap not free
-    ]
-
-entry_ends : (text : List ℕ) → IsWhole text → ends_empty (entry_of text) ≡ true
-entry_ends text whole =
-    let ends = group_ends (entry_group text) (entry_is_group text whole) in
-    (ends_is Decides-eqb (entry_of text) (10 ∷ 10 ∷ []) (ends_empty (entry_of text)) refl).1 ends.0 (sym (entry_bytes text) ∙ ends.1)
+left_ours place text left whole is =
+    let lines = (entry_group text).lines ++ (10 ∷ []) ∷ [] in
+    let apart = inner_apart (entry_group text).lines (entry_is_group text whole).1 in
+    let one = list_all-from_AllPass (λ line. not (begins_entry line)) lines (λ k d inside. not_from_false _ (All-from_recursion IsApart lines apart k d inside)) in
+    let ours = true_from_ne_false (is_one_entry left) (λ fails.
+    let found = needle_split left fails in
+    let held = left_holds place (entry_of text) found.0 needle found.1 (omega arith) (subst (MayBeLeft place (entry_of text)) found.2 is) in
+    true≢false (sym (rw (entry_lines text whole) one) ∙ ap is_one_entry held.2 ∙ needle_there held.0 held.1)) in
+    rw (left_begins place separator (quoted_text text ++ 10 ∷ []) left is, ours) refl
 
 -- ---- settling
 
--- nothing follows
-settles_none : (start len : ℕ) (listed : Option ℕ) (was : List ℕ) → length (drop start was) ≡ 0 → (stands_whole start len listed was ≡ false) × (settled_file start len listed was ≡ was)
-settles_none start len listed was none =
-    let nil : drop start was ≡ [] = nil_from_length (drop start was) none in
-    (ap (is_whole start len listed) nil ∙ and-false (0 == len), rw nil refl)
-
 -- it is whole
 settles_whole : (start len : ℕ) (listed : Option ℕ) (was : List ℕ) → stands_whole start len listed was ≡ true → settled_file start len listed was ≡ was
-settles_whole start len listed was whole =
-    let rest = drop start was in
-    rw (whole, and-false (is_ours start rest), and-false (nat_lt 0 (length rest) && nat_le (length rest) len)) refl
-
--- it is ours, and not whole
-settles_torn : (start len : ℕ) (listed : Option ℕ) (was : List ℕ) → 0 < length (drop start was) → length (drop start was) ≤ len → is_ours start (drop start was) ≡ true
-    → stands_whole start len listed was ≡ false → settled_file start len listed was ≡ take start was
-settles_torn start len listed was some few ours isn't =
-    rw (isn't, lt-ltb 0 (length (drop start was)) some, le-leb (length (drop start was)) len few, ours) refl
-
--- a front that is ours, after a file
-settles_behind : (file front : List ℕ) (len : ℕ) (listed : Option ℕ) → 0 < length front → length front ≤ len → is_ours (length file) front ≡ true → stands_whole (length file) len listed (file ++ front) ≡ false
-    → settled_file (length file) len listed (file ++ front) ≡ file
-settles_behind file front len listed some few ours isn't =
-    let seam : drop (length file) (file ++ front) ≡ front = drop-append_seam file front in
-    let size = ap length seam in
-    settles_torn (length file) len listed (file ++ front) (omega (arith, size, some)) (omega (arith, size, few)) (ap (is_ours (length file)) seam ∙ ours) isn't
-    ∙ take-append_seam file front
-
-whole_parts : (place len : ℕ) (listed : Option ℕ) (bytes : List ℕ) → is_whole place len listed bytes ≡ true
-    → (length bytes ≡ len) × (Breaks place bytes → ⊥)
-whole_parts place len listed bytes is =
-    let sized = and_parts (length bytes == len) (is_entry place bytes && has_size listed (text_in bytes)) is in
-    let told = and_parts (is_entry place bytes) (has_size listed (text_in bytes)) sized.1 in
-    let formed = and_parts (is_ours place bytes) (not (is_torn place bytes) && ends_empty bytes) told.0 in
-    let ends = and_parts (not (is_torn place bytes)) (ends_empty bytes) formed.1 in (
-      elim (eqb_tells (length bytes) len) [
-        | inl p ↦ p.1
-        | inr p ↦ absurd (true≢false (sym sized.0 ∙ p.0))
-      ],
-      λ breaks. elim breaks [
-        | inl torn ↦ true≢false (sym ends.0 ∙ ap not torn)
-        | inr last ↦
-            let front = take (length bytes - 2) bytes in
-            let twice = (ends_is Decides-eqb bytes (10 ∷ 10 ∷ []) (ends_empty bytes) refl).0 ends.1 in
-            let same = same_from_push last.0 (front ++ 10 ∷ []) 0 10 (sym last.1 ∙ twice ∙ sym (append_assoc front (10 ∷ []) (10 ∷ []))) in
-            omega (arith, same.1)
-      ],
-    )
+settles_whole start len listed was whole = simp (whole, and-false)
 
 pub left_settled : LeftoversAreSettled
-left_settled file text left listed whole is = elim (cases_Bool (stands_whole start len listed (file ++ left))) [
-  | inl stands ↦
-      let parts = whole_parts start len listed left (ap (λ (l : List ℕ). is_whole start len listed l) (sym seam) ∙ stands) in
-      elim (same_or_broken start (entry_of text) left is parts.0) [
-        | inl same ↦ inl (stands, settles_whole start len listed (file ++ left) stands, same)
-        | inr broken ↦ absurd (parts.1 broken)
-      ]
-  | inr fails ↦ inr (
-    fails,
-    elim (cases_lt 0 (length left)) [
-      | inl some ↦ settles_behind file left len listed some (left_short start (entry_of text) left is) (left_ours start text left whole is) fails
-      | inr none ↦
-          let nil : left ≡ [] = nil_from_length left (omega (arith, none)) in
-          let size : length (drop start (file ++ left)) ≡ 0 = ap length (seam ∙ nil) in
-          (settles_none start len listed (file ++ left) size).1 ∙ ap (λ (l : List ℕ). file ++ l) nil ∙ append-nil file
-    ],
-  )
-]
-  where
-    start : ℕ
-    start = length file
-
-    len : ℕ
-    len = length (entry_of text)
-
-    seam : drop start (file ++ left) ≡ left
-    seam = drop-append_seam file left
+left_settled file text left listed whole is =
+    let start = length file in
+    let len = length (entry_of text) in
+    let seam = drop-append_seam file left in
+    elim (cases_Bool (stands_whole start len listed (file ++ left))) [
+      | inl stands ↦
+          let sized = and_parts (length left == len) (is_entry start left && has_size listed (text_in left)) (rw seam at stands) in
+          let formed = and_parts (is_ours start left) (not (is_torn start left) && ends_empty left) (and_parts (is_entry start left) _ sized.1).0 in
+          let ends = and_parts (not (is_torn start left)) (ends_empty left) formed.1 in
+          elim (same_or_broken start (entry_of text) left is (eqb-true (length left) len sized.0)) [
+            | inl same ↦ inl (stands, settles_whole start len listed (file ++ left) stands, same)
+            | inr (inl torn) ↦ absurd (true≢false (sym ends.0 ∙ ap not torn))
+            | inr (inr last) ↦
+                let front = take (length left - 2) left in
+                let twice = (ends_is Decides-eqb left (10 ∷ 10 ∷ []) (ends_empty left) refl).0 ends.1 in
+                absurd (omega (arith, (same_from_push last.0 (front ++ 10 ∷ []) 0 10 (sym last.1 ∙ twice ∙ sym (append_assoc front (10 ∷ []) (10 ∷ [])))).1))
+          ]
+      | inr fails ↦ inr (
+        fails,
+        elim (cases_lt 0 (length left)) [
+          | inl some ↦ rw (fails, seam, lt-ltb 0 (length left) some, le-leb (length left) len (left_short start (entry_of text) left is), left_ours start text left whole is) (take-append_seam file left)
+          | inr none ↦ rw (nil_from_length left (omega (arith, none)), drop-append_seam file []) (append-nil file)
+        ],
+      )
+    ]
 
 pub fronts_settled : FrontsAreSettled
 fronts_settled file text front rest listed whole e =
@@ -225,77 +227,22 @@ fronts_settled file text front rest listed whole e =
 -- an entry has its text
 entry_text : (text : List ℕ) → IsWhole text → text_in (entry_of text) ≡ text
 entry_text text whole =
-    let behind = quoted_text text ++ 10 ∷ [] in
-    let long = length-append separator behind in
-    let ends = length-append (quoted_text text) (10 ∷ []) in
-    let size : length (entry_of text) - (length separator + 1) ≡ length (quoted_text text) = omega (arith, long, ends) in
-    ap (λ (n : ℕ). unquoted_text (take n (drop (length separator) (entry_of text)))) size
-    ∙ ap (λ (l : List ℕ). unquoted_text (take (length (quoted_text text)) l)) (drop-append_seam separator behind)
-    ∙ ap unquoted_text (take-append_seam (quoted_text text) (10 ∷ []))
-    ∙ unquotes_quoted text whole
-
-all_five : (a b c d e : Bool) → a ≡ true → b ≡ true → c ≡ true → d ≡ true → e ≡ true → (a && ((b && (c && d)) && e)) ≡ true
-all_five a b c d e p q r t u = rw (p, q, r, t, u) refl
-
-none_of : (a b c : Bool) → c ≡ false → (a && (b && c)) ≡ false
-none_of a b c is = rw (is, and-false b, and-false a) refl
+    let size : length (entry_of text) - (length separator + 1) ≡ length (quoted_text text) = omega (arith, length-append separator (quoted_text text ++ 10 ∷ []), length-append (quoted_text text) (10 ∷ [])) in
+    rw (size, take-append_seam (quoted_text text) (10 ∷ [])) (unquotes_quoted text whole)
 
 pub whole_counts : WholeEntriesCount
-whole_counts file text listed whole = (counts, cut)
-  where
-    entry : List ℕ
-    entry = entry_of text
-
-    start : ℕ
-    start = length file
-
-    size_is : has_size listed (text_in entry) ≡ has_size listed text
-    size_is = ap (has_size listed) (entry_text text whole)
-
-    seam : stands_whole start (length entry) listed (file ++ entry) ≡ is_whole start (length entry) listed entry
-    seam = ap (is_whole start (length entry) listed) (drop-append_seam file entry)
-
-    counts : has_size listed text ≡ true → is_torn start entry ≡ false → CountsWhole file text listed entry
-    counts sized unbroken =
-        let stands : stands_whole start (length entry) listed (file ++ entry) ≡ true =
-        seam ∙ all_five (length entry == length entry) (is_ours start entry) (not (is_torn start entry)) (ends_empty entry) (has_size listed (text_in entry)) (eq-eqb (length entry) (length entry) refl)
-        (left_ours start text entry whole (all_left start entry)) (ap not unbroken) (entry_ends text whole) (size_is ∙ sized) in
-        (stands, settles_whole start (length entry) listed (file ++ entry) stands, refl)
-
-    cut : has_size listed text ≡ false → IsCutOff file text listed entry
-    cut other =
-        let fails : stands_whole start (length entry) listed (file ++ entry) ≡ false =
-        seam ∙ none_of (length entry == length entry) (is_entry start entry) (has_size listed (text_in entry)) (size_is ∙ other) in
-        elim (left_settled file text entry listed whole (all_left start entry)) [
-          | inl is ↦ absurd (true≢false (sym is.0 ∙ fails))
-          | inr is ↦ is
-        ]
-
--- ---- the listed size
-
-no_item : Item
-no_item = record { uid = []; size = 0 }
-
--- what the message at this place tells
-listed_at : (items : List Item) (i : ℕ) (uid id : List ℕ) (same : Bool) → listed_size (drop i items) uid ≡ listed_size items uid
-    → i < length items
-    → HoldsAt (λ (item : Item). id ≡ item.uid) items i → same ≡ bytes_eq id uid
-    → cond same (Some (get_or items i no_item).size) (listed_size (drop (suc i) items) uid) ≡ listed_size items uid
-listed_at items i uid id same was within at is =
-    ap (λ (b : Bool). cond b (Some (get_or items i no_item).size) (listed_size (drop (suc i) items) uid))
-    (is ∙ ap (λ (b : List ℕ). bytes_eq b uid) (at no_item))
-    ∙ ap (λ (l : List Item). listed_size l uid) (sym (drop-cons items i no_item within)) ∙ was
-
--- this message has another id
-pub listed_later : (items : List Item) (i : ℕ) (uid id : List ℕ) (same : Bool) → listed_size (drop i items) uid ≡ listed_size items uid → i < length items
-    → HoldsAt (λ (item : Item). id ≡ item.uid) items i → same ≡ bytes_eq id uid → same ≡ false → listed_size (drop (i + 1) items) uid ≡ listed_size items uid
-listed_later items i uid id same was within at is other =
-    let next : i + 1 ≡ suc i = omega arith in
-    ap (λ (k : ℕ). listed_size (drop k items) uid) next ∙ listed_at items i uid id false was within at (sym other ∙ is)
-
--- this message has the id
-pub listed_here : (items : List Item) (i : ℕ) (uid id : List ℕ) (size : ℕ) (same : Bool) → listed_size (drop i items) uid ≡ listed_size items uid → i < length items
-    → HoldsAt (λ (item : Item). id ≡ item.uid) items i → HoldsAt (λ (item : Item). size ≡ item.size) items i → same ≡ bytes_eq id uid → same ≡ true
-    → Some size ≡ listed_size items uid
-listed_here items i uid id size same was within at sized is one =
-    ap (λ (s : ℕ). Some s) (sized no_item) ∙ listed_at items i uid id true was within at (sym one ∙ is)
+whole_counts file text listed whole =
+    let entry = entry_of text in
+    let start = length file in
+    let ends = group_ends (entry_group text) (entry_is_group text whole) in
+    let empty = (ends_is Decides-eqb entry (10 ∷ 10 ∷ []) (ends_empty entry) refl).1 ends.0 (sym (entry_bytes text) ∙ ends.1) in
+    let seam = drop-append_seam file entry in (
+      λ sized unbroken.
+          let stands : stands_whole start (length entry) listed (file ++ entry) ≡ true =
+          rw (seam, eq-eqb (length entry) (length entry) refl, left_ours start text entry whole (all_left start entry), unbroken, empty, entry_text text whole, sized) in
+          (stands, settles_whole start (length entry) listed (file ++ entry) stands, refl),
+      λ other. elim (left_settled file text entry listed whole (all_left start entry)) [
+        | inl is ↦ absurd (false≢true (rw (seam, entry_text text whole, other, and-false (is_entry start entry), and-false (length entry == length entry)) at is.0))
+        | inr is ↦ is
+      ],
+    )

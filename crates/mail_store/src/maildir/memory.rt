@@ -3,12 +3,12 @@
 ghost use Rattle.std.specs.Prelude.{map, take, length, ◌<◌, ◌↔◌, ◌++◌, Contains, HoldsAt, IsTrue, IfOk, OnOk, IfSome, IfNone, ◌≡◌};
 ghost use Rattle.std.specs.String.{string_bytes};
 ghost use Rattle.mail_store.specs.Maildir.{names_of, file_of};
-ghost use Rattle.mail_store.specs.MemoryMaildir.{count, shown};
+ghost use Rattle.mail_store.specs.MemoryMaildir.{count};
 
 use crate::fault::StoreFault;
 use crate::maildir::disk::{Folder, MaildirDisk};
 use crate::refusal::{admit, refuse};
-use mail_terms::{FailureCount, base};
+use mail_terms::FailureCount;
 use std::alloc::{AllocError, Global};
 use std::marker::Model;
 
@@ -49,7 +49,7 @@ impl Model for MemoryMaildir {
 
 impl MemoryMaildir {
     ghost use Rattle.std.specs.Prelude.{◌≡◌, ◌<◌, ◌↔◌, ◌++◌, ◌∷◌, [], None, map, slice_index, IsTrue, IsSome, IsPermutation, OnErr, OnOk};
-    ghost use Rattle.mail_store.specs.Maildir.{Maildir, File, IsThere, all_there, file_of, mail};
+    ghost use Rattle.mail_store.specs.Maildir.{Maildir, File, all_there, file_of, mail};
     ghost use Rattle.mail_store.specs.MemoryMaildir.{TwoFolders, files_of_folder, shown, Moves};
 
     /// A Maildir without files.
@@ -80,14 +80,6 @@ impl MemoryMaildir {
             Folder::New => self.in_new.as_slice(),
             Folder::Cur => self.in_cur.as_slice(),
         }
-    }
-
-    /// Whether a file of `new` or `cur` has this name, with whatever marks.
-    pub fn has_file(&self, name: &str) -> bool
-        ensures { IsTrue result ↔ IsThere self.now.maildir name.now }
-    {
-        let front = base(name);
-        has_base(&self.in_new, front) || has_base(&self.in_cur, front)
     }
 
     /// Whether a file is begun.
@@ -162,18 +154,6 @@ fn has_name(files: &[(String, Vec<u8>)], name: &str) -> bool
     ensures { IsTrue result ↔ Contains (names_of (map file_of files.now)) name.now }
 {
     place_of(files, name).is_some()
-}
-
-/// Whether one of the files has a name of this base.
-fn has_base(files: &[(String, Vec<u8>)], front: &str) -> bool
-    ensures { IsTrue result ↔ Contains (names_of (map shown (map file_of files.now))) front.now }
-{
-    for (name, _) in files {
-        if base(name.as_str()) == front {
-            return true;
-        }
-    }
-    false
 }
 
 /// Where the file that has this place in its own folder comes among all.

@@ -1,8 +1,10 @@
+use Rattle.std.proofs.Common.{arith}
 use Rattle.std.proofs.lemmas.Str.{IsUtf8-from_ascii}
-use Rattle.mail_store.proofs.NameLemmas.{IsAscii-account, IsOk-from_cases}
+use Rattle.std.proofs.lemmas.Str.Ascii.{IsAscii-from_all}
 use Rattle.mail_store.proofs.account.AccountId.as_str.Goals as goal
 
 pub unwrap-requires : goal.unwrap-requires
 unwrap-requires c =
-    IsOk-from_cases c.from_utf8.result _ _ _ c.from_utf8.ensures.cases
-    (IsUtf8-from_ascii c.self.inside.text (IsAscii-account c.self.inside.text c.self.invariant.1))
+    let text = c.self.inside.text in
+    let is_utf8 = IsUtf8-from_ascii text (IsAscii-from_all text (λ k d inside. grind (arith, c.self.invariant.1 k d inside))) in
+    grind arith

@@ -1,5 +1,5 @@
 use Rattle.std.proofs.Common.{rules}
-use Rattle.mail_store.proofs.MoveLemmas.{part_same}
+use Rattle.mail_store.proofs.MaildirLemmas.{part_same}
 use Rattle.mail_store.proofs.fused.FusedMaildirDisk.names.Goals as goal
 
 pub returns-in_err-pass-clause-lists : goal.returns-in_err-pass-clause-lists

@@ -1,4 +1,4 @@
-use Rattle.mail_store.proofs.MoveLemmas.{found_iff}
+use Rattle.mail_store.proofs.MaildirLemmas.{found_iff}
 use Rattle.mail_store.proofs.maildir.memory.has_name.Goals as goal
 
 pub returns : goal.returns

@@ -1,6 +1,6 @@
-use Rattle.mail_store.proofs.NameLemmas.{digits_behind}
+use Rattle.std.proofs.Common.{ℕ, arith}
+use Rattle.std.proofs.lemmas.List.{append_cancel_left}
 use Rattle.mail_store.proofs.maildir.names.id_digits.Goals as goal
 
 pub returns : goal.returns
-returns c =
-    digits_behind c.args.account.now c.args.stem.now c.in_ok-text_after.field-0.now c.text_after-2.result c.in_ok-text_after.ensures c.text_after-2.ensures
+returns c = grind (arith, append_cancel_left {A = ℕ})

@@ -1,4 +1,4 @@
-use Rattle.mail_store.proofs.HeldLemmas.{held_with_file}
+use Rattle.mail_store.proofs.MaildirLemmas.{held_with_file}
 use Rattle.mail_store.proofs.maildir.names.one_more_is_held.Goals as goal
 
 pub returns : goal.returns

@@ -1,4 +1,4 @@
-use Rattle.mail_store.proofs.NameLemmas.{stem-stem_of}
+use Rattle.mail_store.proofs.MaildirLemmas.{stem-stem_of}
 use Rattle.mail_store.proofs.maildir.names.stems_are_stems.Goals as goal
 
 pub returns : goal.returns

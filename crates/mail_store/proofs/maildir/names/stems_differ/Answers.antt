@@ -1,4 +1,4 @@
-use Rattle.mail_store.proofs.NameLemmas.{stem_of-injective}
+use Rattle.mail_store.proofs.MaildirLemmas.{stem_of-injective}
 use Rattle.mail_store.proofs.maildir.names.stems_differ.Goals as goal
 
 pub returns : goal.returns

@@ -1,7 +1,7 @@
 use Rattle.std.proofs.Common.{drop, ap, ◌∙◌, ℕ}
 use Rattle.std.proofs.lemmas.List.{take_rest}
 use Rattle.mail_store.specs.Mboxrd.{begins_entry}
-use Rattle.mail_store.proofs.MboxQuoting.{marked_behind}
+use Rattle.mail_store.proofs.MboxLemmas.{marked_behind}
 use Rattle.mail_store.proofs.mboxrd.quoting.is_marked.Goals as goal
 
 pub returns : goal.returns

@@ -1,13 +1,13 @@
-use Rattle.std.proofs.Common.{refl, ◌+◌, ◌-◌, length, take, arith}
-use Rattle.std.specs.Prelude.{slice_index}
+use Rattle.std.proofs.Common.{◌≡◌, inl, inr, [], ◌∷◌, ◌+◌, ◌-◌, length, take, ap, arith, length-append, slice_index, take_at}
 use Rattle.std.proofs.lemmas.Bool.Decides.{Decides-eqb}
-use Rattle.mail_store.proofs.MboxLines.{line_back}
+use Rattle.mail_store.proofs.MboxLemmas.{line_back}
 use Rattle.mail_store.proofs.mboxrd.quoting.last_line.Goals as goal
 
 pub returns-in-Some-clause-line : goal.returns-in-Some-clause-line
-returns-in-Some-clause-line c =
-    let text = c.args.text.now in
-    let hay = take (length text - 1) text in
-    let found = c.in-Some.ensures in
-    line_back text hay (c.in-Some.place + 1) c.requires.whole c.requires.some refl (omega (arith, found.0.high))
-    (λ k behind below at. found.0.after k behind below ((Decides-eqb (slice_index hay k) 10).1 at))
+returns-in-Some-clause-line c = elim c.requires.whole [
+  | inl e ↦ absurd (omega (arith, ap length e, c.requires.some))
+  | inr p ↦
+      let hay : take (length c.args.text.now - 1) c.args.text.now ≡ p.0 = rw p.1 (take_at p.0 (10 ∷ []) _ (omega (arith, length-append p.0 (10 ∷ [])))) in
+      let found = (rw hay at c.in-Some.ensures).0 in
+      rw p.1 (line_back p.0 (c.in-Some.place + 1) (omega (arith, found.high)) (λ k behind below at. found.after k behind below ((Decides-eqb (slice_index p.0 k) 10).1 at)))
+]

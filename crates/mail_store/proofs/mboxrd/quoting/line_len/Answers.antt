@@ -1,7 +1,6 @@
-use Rattle.std.proofs.Common.{inl, arith}
-use Rattle.std.specs.Prelude.{slice_index}
+use Rattle.std.proofs.Common.{inl, arith, slice_index}
 use Rattle.std.proofs.lemmas.Bool.Decides.{Decides-eqb}
-use Rattle.mail_store.proofs.MboxLines.{line_front}
+use Rattle.mail_store.proofs.MboxLemmas.{line_front}
 use Rattle.mail_store.proofs.mboxrd.quoting.line_len.Goals as goal
 
 pub returns-in-Some-clause-line : goal.returns-in-Some-clause-line

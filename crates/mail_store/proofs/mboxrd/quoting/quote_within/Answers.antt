@@ -1,40 +1,71 @@
-use Rattle.std.proofs.Common.{◌<◌, List, ℕ, ◌++◌, length, take, drop, arith, subst, ap, ◌∙◌, sym, ◌+◌}
+use Rattle.std.proofs.Common.{◌≡◌, ◌≤◌, List, ℕ, ◌++◌, ◌+◌, ◌-◌, length, take, drop, arith, ap, ◌∙◌, sym, append_assoc, length-append, slice_range}
+use Rattle.std.proofs.lemmas.List.{drop-append-le, drop-take, length-take-le, take-append-drop, take-take}
 use Rattle.mail_terms.specs.Text.{IsWhole}
-use Rattle.mail_store.specs.Mboxrd.{IsLine, quoted}
-use Rattle.std.proofs.lemmas.List.{length-take-le}
-use Rattle.mail_store.proofs.MboxQuoting.{Last, last_cut, last_room, quoted_longer, quoting_more, quoting_none}
+use Rattle.mail_store.specs.Mboxrd.{quoted, quoted_text}
+use Rattle.mail_store.proofs.MboxLemmas.{quoted_first, quoted_last, quoted_longer}
 use Rattle.mail_store.proofs.mboxrd.quoting.quote_within.Goals as goal
 use Rattle.mail_store.proofs.mboxrd.quoting.quote_within.Goals.{After-last_line-start}
 
-last : (c : After-last_line-start) → Last (take c.args.count c.args.bytes.now.items) c.loop-from.bytes.items c.last_line-start.result c.loop-from.from
+-- the last line before `from`, for which there is room before what is quoted
+record Last (text bytes : List ℕ) (start from to : ℕ) : Type 0 where
+  line : List ℕ
+  whole : IsWhole (take start text)
+  fits : start ≤ from
+  taken : slice_range bytes start from ≡ line
+  room : length (quoted_text (take start text)) + length (quoted line) ≤ to
+  less : start ≤ length (quoted_text (take start text))
+  shown : quoted_text (drop start text) ≡ quoted line ++ quoted_text (drop from text)
+
+last : (c : After-last_line-start) → Last (take c.args.count c.args.bytes.now.items) c.loop-from.bytes.items c.last_line-start.result c.loop-from.from c.loop-from.to
 last c =
-    let start = c.last_line-start.result in
-    last_cut _ _ c.loop-from.bytes.items c.loop-from.from _ _ start c.loop-from.invariant
-    (subst (λ (l : List ℕ). start < length (take c.loop-from.from l)) c.deref.ensures.value c.last_line-start.ensures.fits)
-    (subst (λ (l : List ℕ). IsWhole (take start (take c.loop-from.from l))) c.deref.ensures.value c.last_line-start.ensures.front)
-    (subst (λ (l : List ℕ). IsLine (drop start (take c.loop-from.from l))) c.deref.ensures.value c.last_line-start.ensures.line)
-
-pub loop-from-init : goal.loop-from-init
-loop-from-init c = quoting_none c.args.bytes.now.items c.args.count c.args.end c.requires.fits.0 c.requires.whole c.requires.room
-
-pub move_line-to-requires-clause-order : goal.move_line-to-requires-clause-order
-move_line-to-requires-clause-order c =
     let was = c.loop-from.invariant in
-    let size = length-take-le c.loop-from.from (take c.args.count c.args.bytes.now.items) was.fits in
-    let longer = quoted_longer (take c.loop-from.from (take c.args.count c.args.bytes.now.items)) in
-    ((last (goal.at.move_line-to-requires-clause-order c).After-last_line-start).fits, omega (arith, was.room, size, longer), omega (arith, was.place, was.size, c.requires.fits.1))
+    let text = take c.args.count c.args.bytes.now.items in
+    let from = c.loop-from.from in
+    let start = c.last_line-start.result in
+    let line = drop start (take from text) in
+    let front = ap (take from) c.deref.ensures.value ∙ was.front in
+    let is = rw front at c.last_line-start.ensures.line in
+    let size = length-take-le from text was.fits in
+    let fits : start ≤ from = omega (arith, rw front at c.last_line-start.ensures.fits, size) in
+    let whole = rw (front, take-take start from text fits) at c.last_line-start.ensures.front in
+    let before = rw (take-take start from text fits) at (take-append-drop start (take from text)) in
+    let behind = ap (drop start) (sym (take-append-drop from text)) ∙ drop-append-le start (take from text) (drop from text) (omega (arith, fits, size)) in
+    let sum : start + (from - start) ≡ from = omega (arith, fits) in
+    record {
+      line = line;
+      whole = whole;
+      fits = fits;
+      taken = rw (← drop-take start (from - start) c.loop-from.bytes.items, sum, was.front);
+      room = omega (arith, ap (λ (l : List ℕ). length (quoted_text l)) before, ap length (quoted_last (take start text) line whole is), length-append (quoted_text (take start text)) (quoted line), was.room);
+      less = omega (arith, length-take-le start text (omega (arith, fits, was.fits)), quoted_longer (take start text));
+      shown = rw behind (quoted_first line (drop from text) is);
+    }
 
-pub move_line-to-requires-clause-room : goal.move_line-to-requires-clause-room
-move_line-to-requires-clause-room c =
-    let cut = last (goal.at.move_line-to-requires-clause-room c).After-last_line-start in
-    let room = last_room _ _ _ _ _ _ _ c.loop-from.invariant cut in
-    let line = ap (λ (l : List ℕ). length (quoted l)) cut.taken in
-    omega (arith, room.0, room.1, line)
+pub move_line-to-requires : goal.move_line-to-requires
+move_line-to-requires c =
+    let was = c.loop-from.invariant in
+    let line = last (goal.at.move_line-to-requires c).After-last_line-start in
+    let text = take c.loop-from.from (take c.args.count c.args.bytes.now.items) in
+    record {
+      order = (line.fits, omega (arith, was.room, length-take-le c.loop-from.from (take c.args.count c.args.bytes.now.items) was.fits, quoted_longer text), omega (arith, was.place, was.size, c.requires.fits.1));
+      room = omega (arith, line.room, line.less, ap (λ (l : List ℕ). length (quoted l)) line.taken);
+    }
 
 pub loop-from-preserved : goal.loop-from-preserved
 loop-from-preserved c =
-    let cut = last (goal.at.loop-from-preserved c).After-last_line-start in
+    let was = c.loop-from.invariant in
     let moved = c.move_line-to.ensures in
-    quoting_more _ _ _ _ _ _ _ _ _ c.loop-from.invariant cut moved.size moved.front
-    (ap (λ (l : List ℕ). c.move_line-to.result + length (quoted l)) (sym cut.taken) ∙ moved.place)
-    (moved.back ∙ ap (λ (l : List ℕ). quoted l ++ drop c.loop-from.to c.loop-from.bytes.items) cut.taken)
+    let text = take c.args.count c.args.bytes.now.items in
+    let from = c.loop-from.from in
+    let start = c.last_line-start.result in
+    let line = last (goal.at.loop-from-preserved c).After-last_line-start in
+    let place = rw line.taken at moved.place in
+    record {
+      fits = omega (arith, line.fits, was.fits);
+      size = moved.size ∙ was.size;
+      whole = line.whole;
+      front = moved.front ∙ sym (take-take start from c.loop-from.bytes.items line.fits) ∙ ap (take start) was.front ∙ take-take start from text line.fits;
+      room = omega (arith, line.room, place);
+      place = omega (arith, ap length line.shown, length-append (quoted line.line) (quoted_text (drop from text)), place, was.place);
+      back = rw (line.shown, append_assoc (quoted line.line) (quoted_text (drop from text))) (rw (line.taken, was.back) at moved.back);
+    }

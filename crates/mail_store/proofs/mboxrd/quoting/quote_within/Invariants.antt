@@ -1,5 +1,5 @@
 use Rattle.std.proofs.Common.{take}
-use Rattle.mail_store.proofs.MboxQuoting.{Quoting}
+use Rattle.mail_store.proofs.MboxLemmas.{Quoting}
 use Rattle.mail_store.proofs.mboxrd.quoting.quote_within.Given as goal
 
 abbrev pub invariant-loop-from : goal.invariant-loop-from

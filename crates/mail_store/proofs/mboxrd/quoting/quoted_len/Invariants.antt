@@ -1,5 +1,5 @@
 use Rattle.std.proofs.Common.{length}
-use Rattle.mail_store.proofs.MboxQuoting.{Counts}
+use Rattle.mail_store.proofs.MboxLemmas.{Counts}
 use Rattle.mail_store.proofs.mboxrd.quoting.quoted_len.Given as goal
 
 abbrev pub invariant-loop-rest : goal.invariant-loop-rest

@@ -1,5 +1,5 @@
 use Rattle.std.proofs.Common.{length}
-use Rattle.mail_store.proofs.MboxQuoting.{Sizes}
+use Rattle.mail_store.proofs.MboxLemmas.{Sizes}
 use Rattle.mail_store.proofs.mboxrd.quoting.text_size.Given as goal
 
 abbrev pub invariant-loop-rest : goal.invariant-loop-rest

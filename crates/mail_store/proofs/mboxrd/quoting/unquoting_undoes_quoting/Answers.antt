@@ -1,4 +1,4 @@
-use Rattle.mail_store.proofs.MboxQuoting as lemma
+use Rattle.mail_store.proofs.MboxLemmas as lemma
 use Rattle.mail_store.proofs.mboxrd.quoting.unquoting_undoes_quoting.Goals as goal
 
 pub returns : goal.returns

@@ -1,30 +1,44 @@
-use Rattle.std.proofs.Common.{◌≡◌, length, take, refl, sym, ap, subst, ◌∙◌, arith, length-append}
-use Rattle.std.proofs.lemmas.Grind.{common_steps}
-use Rattle.std.proofs.lemmas.List.{take_rest}
-use Rattle.mail_store.specs.MboxScan.{OpensEntry}
-use Rattle.mail_store.proofs.MboxQuoting.{cut_off}
-use Rattle.mail_store.proofs.MboxReading.{passes_first, passes_more, cut_at}
+use Rattle.std.proofs.Common.{[], ◌∷◌, ◌++◌, length, take, refl, sym, ap, subst, ◌∙◌, arith, append_assoc, length-append}
+use Rattle.std.proofs.lemmas.List.{length-take-le, take_rest}
+use Rattle.mail_store.specs.Mboxrd.{lines_of}
+use Rattle.mail_store.specs.MboxScan.{IsApart, OpensEntry}
+use Rattle.mail_store.proofs.MboxLemmas.{all_append, cut_off, front_taken}
 use Rattle.mail_store.proofs.mboxrd.reading.cut_group.Goals as goal
 
 pub loop-line-init : goal.loop-line-init
 loop-line-init c =
     let bytes = c.args.bytes.now in
-    let n = c.line_len.result in
-    let cut = cut_off bytes (take n bytes) _ n (omega arith) c.line_len.ensures.line refl (take_rest bytes n) in
-    let size : length (take n bytes) ≡ n = grind (arith, common_steps, c.line_len.ensures.fits) in
-    let total = ap length cut.1 ∙ length-append (take n bytes) _ in
-    (omega (arith, size, total, c.line_len.ensures.some), passes_first bytes (take n bytes) _ cut)
+    let line = take c.line_len.result bytes in
+    let cut = cut_off bytes line _ c.line_len.result (omega arith) c.line_len.ensures.line refl (take_rest bytes c.line_len.result) in
+    let size = length-take-le c.line_len.result bytes c.line_len.ensures.fits in
+    (omega (arith, size, ap length cut.1 ∙ length-append line _, c.line_len.ensures.some), record { head = line; inner = []; front = line; lines = cut.0; whole = cut.1; apart = tt })
 
 pub loop-line-preserved : goal.loop-line-preserved
 loop-line-preserved c =
-    let cut = cut_off c.loop-line.rest.now c.split_at.result.0.now c.split_at.result.1.now c.line_len-in-loop-line.result (omega arith) c.line_len-in-loop-line.ensures.line c.split_at.ensures.front c.split_at.ensures.back in
-    (omega arith, passes_more _ _ _ _ c.loop-line.invariant.1 cut (sym c.begins_entry.ensures ∙ c.if-begins_entry.false))
+    let line = c.split_at.result.0.now in
+    let was = c.loop-line.invariant.1 in
+    let cut = cut_off _ _ _ _ (omega arith) c.line_len-in-loop-line.ensures.line c.split_at.ensures.front c.split_at.ensures.back in (
+      omega arith,
+      record {
+        head = was.head;
+        inner = was.inner ++ line ∷ [];
+        front = was.front ++ line;
+        lines = was.lines ∙ rw (cut.0, append_assoc was.inner (line ∷ []) (lines_of c.split_at.result.1.now)) refl;
+        whole = was.whole ∙ rw (cut.1, append_assoc was.front line c.split_at.result.1.now) refl;
+        apart = all_append IsApart was.inner (line ∷ []) was.apart (sym c.begins_entry.ensures ∙ c.if-begins_entry.false, tt);
+      },
+    )
 
 pub returns-then-begins_entry-clause-cuts : goal.returns-then-begins_entry-clause-cuts
 returns-then-begins_entry-clause-cuts c =
-    let rest = c.loop-line.rest.now in
-    let line = c.split_at.result.0.now in
-    let cut = cut_off rest line c.split_at.result.1.now c.line_len-in-loop-line.result (omega arith) c.line_len-in-loop-line.ensures.line c.split_at.ensures.front c.split_at.ensures.back in
-    cut_at c.args.bytes.now rest c.split_at-then-begins_entry.result.0.now c.split_at-then-begins_entry.result.1.now c.loop-line.invariant.1
-    (subst OpensEntry (sym cut.0) (sym c.begins_entry.ensures ∙ c.if-begins_entry.true))
-    c.split_at-then-begins_entry.ensures.front c.split_at-then-begins_entry.ensures.back
+    let was = c.loop-line.invariant.1 in
+    let cut = cut_off _ _ _ _ (omega arith) c.line_len-in-loop-line.ensures.line c.split_at.ensures.front c.split_at.ensures.back in
+    let parts = front_taken c.args.bytes.now was.front c.loop-line.rest.now was.whole in
+    rw (c.split_at-then-begins_entry.ensures.back, parts.1, c.split_at-then-begins_entry.ensures.front, parts.0) (record {
+      head = was.head;
+      inner = was.inner;
+      lines = was.lines;
+      apart = was.apart;
+      opens = subst OpensEntry (sym cut.0) (sym c.begins_entry.ensures ∙ c.if-begins_entry.true);
+      whole = was.whole;
+    })

@@ -1,5 +1,5 @@
 use Rattle.std.proofs.Common.{◌<◌, length}
-use Rattle.mail_store.proofs.MboxReading.{Passes}
+use Rattle.mail_store.proofs.MboxLemmas.{Passes}
 use Rattle.mail_store.proofs.mboxrd.reading.cut_group.Given as goal
 
 abbrev pub invariant-loop-line : goal.invariant-loop-line

@@ -1,6 +1,6 @@
 use Rattle.std.proofs.Common.{length}
 use Rattle.mail_store.specs.MboxCalls.{texts_of}
-use Rattle.mail_store.proofs.MboxReading.{ReadsOn}
+use Rattle.mail_store.proofs.MboxLemmas.{ReadsOn}
 use Rattle.mail_store.proofs.mboxrd.reading.read_mbox.Given as goal
 
 abbrev pub invariant-loop-rest : goal.invariant-loop-rest

@@ -1,4 +1,4 @@
-use Rattle.mail_store.proofs.FlushLemmas.{all_outlive}
+use Rattle.mail_store.proofs.MaildirLemmas.{all_outlive}
 use Rattle.mail_store.proofs.maildir.memory.MemoryMaildirMaildirDisk.flush.Goals as goal
 
 pub returns-clause-lasts : goal.returns-clause-lasts

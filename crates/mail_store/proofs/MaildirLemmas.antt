@@ -1,0 +1,424 @@
+-- Names of files and what they hold; files that a Maildir in memory keeps in two folders; which stems are flushed.
+use Rattle.std.proofs.Common.{◌≡◌, ℕ, zero, suc, ◌/◌, ◌%◌, ◌==◌, ◌<◌, Bool, true, false, List, [], ◌∷◌, ◌++◌, length, get_or, slice_index, refl, sym, ap, ◌∙◌, arith, Ok, inl, inr, All, not, codes, subst, ◌+◌, ◌≤◌, take, drop, map, Option, Some, None, String, Vec, string_bytes, remove, insert, set, ◌⊎◌, HoldsAt, Contains, ◌≢◌, ◌↔◌, IsTrue, is_some, IfSome, IfNone, IsPermutation, ◌||◌, ◌&&◌, bytes_eq, Result, Err, below_more}
+use Rattle.std.specs.List.{AllPass, before_first, position_or_len, list_any}
+use Rattle.std.specs.Fmt.{decimal, digits, digits_onto, digit_glyph}
+use Rattle.std.proofs.lemmas.Bool.{cases_lt, cond_both, both_ways}
+use Rattle.std.proofs.lemmas.List.{append_cancel_left, take_all, take-append-le, get_or-take, get_or_past, length-take, append_assoc, map-append, length-map, length-append, get_or-map, length-take-le, take_more, take-append-drop}
+use Rattle.std.proofs.lemmas.List.Elements.{All-nil, All-cons, All-append, All-from_recursion, All-map, Contains-append_left, Contains-append_right, Contains-append_cases, Contains-get_or}
+use Rattle.std.proofs.lemmas.List.Sums.{AllPass-from_list_all, fails_before_first, position_or_len_is, prefix_len-le-length}
+use Rattle.std.proofs.lemmas.List.Folds.{prefix_len-append, list_any-append, list_any_at, Any-from_list_any}
+use Rattle.std.proofs.lemmas.Bool.Decides.{nat_tests}
+use Rattle.std.proofs.lemmas.Simd.{map-map}
+use Rattle.std.proofs.lemmas.List.Sorted.{IsPermutation-refl, IsPermutation-cons, IsPermutation-map, IsPermutation-middle, IsPermutation-sym, IsPermutation-trans, Contains-permutation, list_any-IsPermutation}
+use Rattle.std.proofs.lemmas.Cmp.{nat_list_eq_equiv}
+use Rattle.std.proofs.Math.Bool.{or-false, or-true}
+use Rattle.std.proofs.lemmas.Slice.Eq.{bytes_eq-Decides}
+use Rattle.hex.specs.Hex.{encode_lower, encode_with, lower_digits, IsBytes, decode_of}
+use Rattle.hex.proofs.HexLemmas.{decode_of-encode_lower}
+use Rattle.mail_terms.specs.UniqueId.{IsLegalId, HasIdRanges}
+use Rattle.mail_terms.specs.MaildirName.{base, is_colon}
+use Rattle.mail_terms.specs.Listing.{Item, has_item, is_flagged}
+use Rattle.mail_store.specs.FileName.{is_comma, is_lower_hex_digit, name_of, stem, stem_of, IsAccountText, mail_file, names_id, is_held}
+use Rattle.mail_store.specs.Maildir.{File, file_of, name_in, names_of, bases_told, AreTheirs, IsPart, Maildir, IsThere, with_file, file}
+use Rattle.mail_store.specs.declared.maildir.disk.Folder.{Folder}
+use Rattle.mail_store.specs.declared.maildir.disk.Folder.TheVariants.{New, Cur}
+use Rattle.mail_store.specs.MemoryMaildir.{TwoFolders, count, files_of_folder, merged, shown}
+use Rattle.mail_store.specs.Held.{any_name, flags_of, FoundOutlive, HasLasting, HasStems}
+use Rattle.mail_store.specs.declared.fault.StoreFault.{StoreFault}
+use Rattle.mail_store.specs.Power.{AllStay, FlushedOutlive, is_among}
+
+-- ---- digits
+
+-- each place of the table below sixteen has a digit
+digit_passes : (k : ℕ) → k < 16 → is_lower_hex_digit (slice_index lower_digits k) ≡ true
+digit_passes k below = AllPass-from_list_all is_lower_hex_digit lower_digits refl k 0 below
+
+-- what the digits of each byte are, all of the hexadecimal text is
+hex_all : (P : ℕ → Type 0) (bytes : List ℕ)
+    → ((k : ℕ) → P (slice_index lower_digits (slice_index bytes k / 16)) × P (slice_index lower_digits (slice_index bytes k % 16)))
+    → All P (encode_lower bytes)
+unfolding encode_with
+hex_all P [] h = All-nil P
+hex_all P (b ∷ rest) h =
+    All-cons P (slice_index lower_digits (b / 16)) (slice_index lower_digits (b % 16) ∷ encode_lower rest) (h 0).0
+    (All-cons P (slice_index lower_digits (b % 16)) (encode_lower rest) (h 0).1 (hex_all P rest (λ k. h (suc k))))
+
+-- the hexadecimal text of bytes has only lower-case digits
+pub digits_pass : (bytes : List ℕ) → IsBytes bytes → AllPass is_lower_hex_digit (encode_lower bytes)
+digits_pass bytes h = hex_all (λ x. is_lower_hex_digit x ≡ true) bytes
+    (λ k. (digit_passes (slice_index bytes k / 16) (omega (arith, h k)), digit_passes (slice_index bytes k % 16) (omega arith)))
+
+-- ---- no colons and no commas
+
+-- the byte ends neither a base nor a stem
+abbrev IsPlain : ℕ → Type 0
+IsPlain byte = (is_colon byte ≡ false) × (is_comma byte ≡ false)
+
+-- a digit is plain
+digit_is_plain : (byte : ℕ) → is_lower_hex_digit byte ≡ true → IsPlain byte
+digit_is_plain byte h = (grind arith, grind arith)
+
+-- a byte read from the table is plain, even past its end
+table_is_plain : (k : ℕ) → IsPlain (slice_index lower_digits k)
+table_is_plain k = elim (cases_lt k 16) [
+  | inl below ↦ digit_is_plain (slice_index lower_digits k) (digit_passes k below)
+  | inr past ↦ rw (get_or_past lower_digits k 0 past) (refl, refl)
+]
+
+-- a name in which no byte passes is whole before the first that does
+all_before : (p : ℕ → Bool) (name : List ℕ) → All (λ byte. p byte ≡ false) name → before_first p name ≡ name
+all_before p name h =
+    rw (position_or_len_is p name (length name) 0 (omega arith) (λ k lt. h k 0 lt) (λ lt. absurd (omega arith))) (take_all (length name) name (omega arith))
+
+stem_is_plain : (account uid : List ℕ) → IsAccountText account → All IsPlain (stem_of account uid)
+stem_is_plain account uid h =
+    All-append IsPlain account (46 ∷ encode_lower uid)
+    (λ k d lt. digit_is_plain (get_or account k d) (h.1 k d lt))
+    (All-cons IsPlain 46 (encode_lower uid) (refl, refl)
+    (hex_all IsPlain uid (λ k. (table_is_plain (slice_index uid k / 16), table_is_plain (slice_index uid k % 16)))))
+
+pub stem-stem_of : (account uid : List ℕ) → IsAccountText account → stem (stem_of account uid) ≡ stem_of account uid
+stem-stem_of account uid h =
+    ap (before_first is_comma) (all_before is_colon (stem_of account uid) (λ k d lt. (stem_is_plain account uid h k d lt).0))
+    ∙ all_before is_comma (stem_of account uid) (λ k d lt. (stem_is_plain account uid h k d lt).1)
+
+-- a decimal has only digits
+glyph_is_no_colon : (d : ℕ) → d < 10 → is_colon (digit_glyph false d) ≡ false
+glyph_is_no_colon d small = grind (arith, nat_tests)
+
+onto_has_no_colon : (k n : ℕ) (acc : List ℕ) → All (λ byte. is_colon byte ≡ false) acc → All (λ byte. is_colon byte ≡ false) (digits_onto k 10 false n acc)
+onto_has_no_colon zero n acc h = h
+onto_has_no_colon (suc k) n acc h =
+    let more = All-cons (λ byte. is_colon byte ≡ false) (digit_glyph false (n % 10)) acc (glyph_is_no_colon (n % 10) (omega arith)) h in
+    cond_both (n / 10 == 0) _ _ (All (λ byte. is_colon byte ≡ false)) (λ _. more)
+    (λ _. onto_has_no_colon k (n / 10) (digit_glyph false (n % 10) ∷ acc) more)
+
+decimal_has_no_colon : (n : ℕ) → All (λ byte. is_colon byte ≡ false) (decimal n)
+unfolding digits
+decimal_has_no_colon n = onto_has_no_colon 64 n [] (All-nil (λ byte. is_colon byte ≡ false))
+
+pub base-name_of : (account uid : List ℕ) (size : ℕ) → IsAccountText account → base (name_of account uid size) ≡ name_of account uid size
+base-name_of account uid size h =
+    all_before is_colon (name_of account uid size)
+    (All-append (λ byte. is_colon byte ≡ false) (stem_of account uid ++ codes ",S=") (decimal size)
+    (All-append (λ byte. is_colon byte ≡ false) (stem_of account uid) (codes ",S=")
+    (λ k d lt. (stem_is_plain account uid h k d lt).0)
+    (All-from_recursion (λ byte. is_colon byte ≡ false) (codes ",S=") (refl, (refl, (refl, tt)))))
+    (decimal_has_no_colon size))
+
+-- what follows a byte that passes doesn't matter
+pub before_first-cut : (p : ℕ → Bool) (front rest : List ℕ) (mark : ℕ) → p mark ≡ true → before_first p (front ++ mark ∷ rest) ≡ before_first p front
+before_first-cut p front rest mark passes =
+    let same : position_or_len p (front ++ mark ∷ rest) ≡ position_or_len p front = grind (arith, prefix_len-append (λ x. not (p x)) front (mark ∷ rest), nat_tests) in
+    rw same (take-append-le (position_or_len p front) front (mark ∷ rest) (prefix_len-le-length (λ x. not (p x)) front))
+
+pub stem-name_of : (account uid : List ℕ) (size : ℕ) → IsAccountText account → stem (name_of account uid size) ≡ stem_of account uid
+stem-name_of account uid size h =
+    ap (before_first is_comma) (base-name_of account uid size h ∙ append_assoc (stem_of account uid) (codes ",S=") (decimal size))
+    ∙ before_first-cut is_comma (stem_of account uid) (83 ∷ 61 ∷ decimal size) 44 refl
+    ∙ all_before is_comma (stem_of account uid) (λ k d lt. (stem_is_plain account uid h k d lt).1)
+
+-- a suffix that begins with a colon is no part of the base
+pub base-suffixed : (name suffix : List ℕ) → slice_index suffix 0 ≡ 58 → base (name ++ suffix) ≡ base name
+base-suffixed name [] first = absurd (omega (arith, first))
+base-suffixed name (colon ∷ marks) first = rw first (before_first-cut is_colon name marks 58 refl)
+
+-- a base has no more to cut off
+pub base_base : (name : List ℕ) → base (base name) ≡ base name
+base_base name = all_before is_colon (base name) (λ k d inside.
+    let below : k < position_or_len is_colon name = omega (arith, inside, length-take (position_or_len is_colon name) name) in
+    rw (get_or-take (position_or_len is_colon name) name k d below) (fails_before_first is_colon name k d below))
+
+-- a base has the stem of the name
+pub stem-base : (name : List ℕ) → stem (base name) ≡ stem name
+stem-base name = ap (before_first is_comma) (base_base name)
+
+-- ---- different names
+
+-- what the law of legal ids says
+abbrev pub HaveRanges : Type 0
+HaveRanges = (id : List ℕ) → IsLegalId id → HasIdRanges id
+
+pub IsBytes-from_all : (xs : List ℕ) → All (λ x. x < 256) xs → IsBytes xs
+IsBytes-from_all xs all k = grind (arith, all k 0, get_or_past xs k 0)
+
+-- the text of a legal id reads as that id
+pub decode_of-legal : HaveRanges → (uid digits : List ℕ) → IsLegalId uid → encode_lower uid ≡ digits → decode_of digits ≡ Ok uid
+decode_of-legal ranges uid digits legal same = ap decode_of (sym same)
+    ∙ decode_of-encode_lower uid (IsBytes-from_all uid (λ k d inside. omega (arith, ((ranges uid legal).characters k d inside).1)))
+
+pub stem_of-injective : HaveRanges → (account a b : List ℕ) → IsLegalId a → IsLegalId b → stem_of account a ≡ stem_of account b → a ≡ b
+stem_of-injective ranges account a b la lb same =
+    grind (arith, append_cancel_left {A = ℕ}, decode_of-legal ranges a (encode_lower a) la refl, decode_of-legal ranges b (encode_lower b) lb refl)
+
+-- ---- names that are looked up
+
+-- if nothing reads as the text, it isn't among what is read
+pub not_read : {A : Type 0} (read : A → List ℕ) (xs : List A) (text : List ℕ) → All (λ x. read x ≢ text) xs → Contains (map read xs) text → ⊥
+not_read read xs text none c = All-map (λ t. t ≢ text) read xs none c.0 text c.1 c.2
+
+pub Contains-map : {A B : Type 0} (f : A → B) (xs : List A) (x : A) → Contains xs x → Contains (map f xs) (f x)
+Contains-map f xs x c = (c.0, omega (arith, c.1, length-map xs f), get_or-map f xs c.0 x (f x) c.1 ∙ ap f c.2)
+
+-- a look-up finds a place exactly if a file has the name
+pub found_iff : {Z Y : Type 0} (pairs : List (String Z × Vec ℕ Y)) (name : List ℕ) (place : Option ℕ) (b : Bool) → b ≡ is_some place
+    → IfSome place (λ i. (i < length pairs) × HoldsAt (λ p. string_bytes p.0 ≡ name) pairs i)
+    → IfNone place (Contains (names_of (map file_of pairs)) name → ⊥)
+    → IsTrue b ↔ Contains (names_of (map file_of pairs)) name
+found_iff [] name (Some i) b e some none = absurd (omega (arith, some.0))
+found_iff (p ∷ pairs) name (Some i) b e some none =
+    let there = Contains-map (λ q. string_bytes q.0) (p ∷ pairs) (get_or (p ∷ pairs) i p) (Contains-get_or (p ∷ pairs) i p some.0) in
+    (λ _. subst (λ (names : List (List ℕ)). Contains names name) (sym (map-map name_in file_of (p ∷ pairs))) (rw (some.1 p) at there), λ _. e)
+found_iff pairs name None b e some none = (λ t. absurd (both_ways b e t), λ h. absurd (none h))
+
+-- ---- flags and folders
+
+-- each flag is one of the two
+pub counts_total : (flags : List Bool) → count true flags + count false flags ≡ length flags
+counts_total [] = refl
+counts_total (true ∷ flags) = omega (arith, counts_total flags)
+counts_total (false ∷ flags) = omega (arith, counts_total flags)
+
+count-append : (flag : Bool) (front back : List Bool) → count flag (front ++ back) ≡ count flag front + count flag back
+count-append flag [] back = omega arith
+count-append true (true ∷ front) back = omega (arith, count-append true front back)
+count-append true (false ∷ front) back = count-append true front back
+count-append false (true ∷ front) back = count-append false front back
+count-append false (false ∷ front) back = omega (arith, count-append false front back)
+
+-- a true flag became false
+pub counts_set : (flags : List Bool) (i : ℕ) → i < length flags → HoldsAt (λ b. b ≡ true) flags i
+    → (count true (set flags i false) + 1 ≡ count true flags) × (count false (set flags i false) ≡ count false flags + 1)
+counts_set [] i below h = absurd (omega arith)
+counts_set (true ∷ flags) zero below h = (omega arith, omega arith)
+counts_set (false ∷ flags) zero below h = absurd (both_ways true (sym (h true)) refl)
+counts_set (true ∷ flags) (suc i) below h = omega (arith, counts_set flags i (omega arith) h)
+counts_set (false ∷ flags) (suc i) below h = omega (arith, counts_set flags i (omega arith) h)
+
+-- ---- the two folders together
+
+-- the flags tell of just these files
+abbrev pub Fit : {A : Type 0} → List Bool → List A → List A → Type 0
+Fit flags new cur = (count true flags ≡ length new) × (count false flags ≡ length cur)
+
+module _ {A : Type 0} where
+  pub merged_all : (flags : List Bool) (new cur : List A) → Fit flags new cur → IsPermutation (merged flags new cur) (new ++ cur)
+  merged_all [] [] [] fit = IsPermutation-refl []
+  merged_all (true ∷ flags) (f ∷ new) cur fit = IsPermutation-cons f _ _ (merged_all flags new cur (omega (arith, fit)))
+  merged_all (false ∷ flags) new (f ∷ cur) fit =
+      IsPermutation-trans _ _ _ (IsPermutation-cons f _ _ (merged_all flags new cur (omega (arith, fit))))
+      (IsPermutation-sym _ _ (IsPermutation-middle new f cur))
+  merged_all flags new cur fit = absurd (omega (arith, fit))
+
+  -- a file came to the first folder
+  pub merged_push : (flags : List Bool) (new cur : List A) (f : A) → Fit flags new cur
+      → merged (flags ++ true ∷ []) (new ++ f ∷ []) cur ≡ merged flags new cur ++ f ∷ []
+  merged_push [] [] cur f fit = refl
+  merged_push (true ∷ flags) (g ∷ new) cur f fit = ap (λ (fs : List A). g ∷ fs) (merged_push flags new cur f (omega (arith, fit)))
+  merged_push (false ∷ flags) new (g ∷ cur) f fit = ap (λ (fs : List A). g ∷ fs) (merged_push flags new cur f (omega (arith, fit)))
+  merged_push flags new cur f fit = absurd (omega (arith, fit))
+
+-- a file went from the first folder to the second, and shows as before
+pub moved_to_cur : (flags : List Bool) (new cur : List File) (place : ℕ) (g d : File) → Fit flags new cur → place < length flags
+    → HoldsAt (λ b. b ≡ true) flags place → shown g ≡ shown (get_or new (count true (take place flags)) d)
+    → map shown (merged (set flags place false) (remove new (count true (take place flags))) (insert cur (count false (take place flags)) g))
+    ≡ map shown (merged flags new cur)
+moved_to_cur (true ∷ flags) (f ∷ new) cur zero g d fit below at same = ap (λ (s : File). s ∷ map shown (merged flags new cur)) same
+moved_to_cur (true ∷ flags) (f ∷ new) cur (suc place) g d fit below at same =
+    ap (λ (fs : List File). shown f ∷ fs) (moved_to_cur flags new cur place g d (omega (arith, fit)) (omega arith) at same)
+moved_to_cur (false ∷ flags) new cur zero g d fit below at same = absurd (both_ways true (sym (at true)) refl)
+moved_to_cur (false ∷ flags) new (f ∷ cur) (suc place) g d fit below at same =
+    ap (λ (fs : List File). shown f ∷ fs) (moved_to_cur flags new cur place g d (omega (arith, fit)) (omega arith) at same)
+moved_to_cur flags new cur place g d fit below at same = absurd (omega (arith, fit, below))
+
+-- a file is shown under the base of its name, in one of the two folders
+pub shown_all : {Z Y : Type 0} (flags : List Bool) (new cur : List (String Z × Vec ℕ Y)) → Fit flags new cur
+    → IsPermutation (map shown (merged flags (map file_of new) (map file_of cur))) (map shown (map file_of new ++ map file_of cur))
+shown_all flags new cur fit =
+    IsPermutation-map shown (merged flags (map file_of new) (map file_of cur)) (map file_of new ++ map file_of cur)
+    (merged_all flags (map file_of new) (map file_of cur) (fit.0 ∙ sym (length-map new file_of), fit.1 ∙ sym (length-map cur file_of)))
+
+-- one more flag
+pub counted_more : (flag : Bool) (flags : List Bool) (i : ℕ) → i < length flags
+    → count flag (take (i + 1) flags) ≡ count flag (take i flags) + count flag (get_or flags i false ∷ [])
+counted_more flag flags i below = ap (count flag) (take_more flags i false below) ∙ count-append flag (take i flags) (get_or flags i false ∷ [])
+
+-- ---- what calls leave
+
+-- how many flags of each kind come before a place
+pub before_place : (flags : List Bool) (place : ℕ) → place < length flags → count true (take place flags) + count false (take place flags) ≡ place
+before_place flags place inside = counts_total (take place flags) ∙ length-take-le place flags (omega (arith, inside))
+
+-- a flag's count before a place is within its whole count
+pub within : (flag : Bool) (flags : List Bool) (place : ℕ) → count flag (take place flags) ≤ count flag flags
+within flag flags place = omega (arith, count-append flag (take place flags) (drop place flags), ap (count flag) (take-append-drop place flags))
+
+module _ {Z Y : Type 0} where
+  -- a file came to `new`
+  pub settled : (flags : List Bool) (new cur : List (String Z × Vec ℕ Y)) {flags' : List Bool} {new' : List (String Z × Vec ℕ Y)} (p : String Z × Vec ℕ Y)
+      → Fit flags new cur → flags' ≡ flags ++ true ∷ [] → new' ≡ new ++ p ∷ []
+      → (map shown (merged flags' (map file_of new') (map file_of cur)) ≡ map shown (merged flags (map file_of new) (map file_of cur)) ++ shown (file_of p) ∷ [])
+      × Fit flags' new' cur
+  settled flags new cur {flags'} {new'} p fit flagged pushed = rw (flagged, pushed) (
+    rw (map-append file_of new (p ∷ []), merged_push flags (map file_of new) (map file_of cur) (file_of p) (omega (arith, fit, length-map new file_of, length-map cur file_of)))
+        (map-append shown (merged flags (map file_of new) (map file_of cur)) (file_of p ∷ [])),
+    omega (arith, fit, count-append true flags (true ∷ []), count-append false flags (true ∷ []), length-append new (p ∷ [])),
+  )
+
+-- ---- names that are told
+
+-- the names that are told of files are those that the files are shown under
+bases_shown : {Z : Type 0} (names : List (String Z)) (files : List File) → map string_bytes names ≡ names_of files → bases_told names ≡ names_of (map shown files)
+bases_shown names files told = sym (map-map base string_bytes names) ∙ ap (map base) told ∙ map-map base name_in files ∙ sym (map-map name_in shown files)
+
+-- what is shown under a name is in one of the folders
+pub shown_iff : (files in_new in_cur : List File) (front : List ℕ) → IsPermutation files (map shown (in_new ++ in_cur))
+    → (Contains (names_of (map shown in_new)) front ⊎ Contains (names_of (map shown in_cur)) front) ↔ Contains (names_of files) front
+shown_iff files in_new in_cur front both = (
+  elim [
+    | inl c ↦ Contains-permutation _ (names_of files) front (IsPermutation-sym _ _ all) (Contains-append_left _ _ front c)
+    | inr c ↦ Contains-permutation _ (names_of files) front (IsPermutation-sym _ _ all) (Contains-append_right _ _ front c)
+  ],
+  λ there. Contains-append_cases _ _ front (Contains-permutation (names_of files) _ front all there),
+)
+  where
+    all : IsPermutation (names_of files) (names_of (map shown in_new) ++ names_of (map shown in_cur))
+    all = simp map-append at (IsPermutation-map name_in files (map shown (in_new ++ in_cur)) both)
+
+-- names of a folder are those of files that are shown
+pub theirs_of : {Z : Type 0} (two : TwoFolders) (folder : Folder) (names : List (String Z))
+    → IsPermutation two.maildir.files (map shown (two.in_new ++ two.in_cur)) → map string_bytes names ≡ names_of (files_of_folder two folder)
+    → AreTheirs two.maildir.files names
+unfolding AreTheirs
+theirs_of two folder names both told = λ k d inside.
+    let name = get_or names k d in
+    let shown_there = rw (bases_shown names (files_of_folder two folder) told) at (Contains-map (λ n. base (string_bytes n)) names name (Contains-get_or names k d inside)) in
+    (shown_iff two.maildir.files two.in_new two.in_cur (base (string_bytes name)) both).0 (in_both folder shown_there)
+  where
+    in_both : (folder : Folder) {front : List ℕ} → Contains (names_of (map shown (files_of_folder two folder))) front
+        → Contains (names_of (map shown two.in_new)) front ⊎ Contains (names_of (map shown two.in_cur)) front
+    in_both New c = inl c
+    in_both Cur c = inr c
+
+-- the names of both folders tell all that is shown
+pub names_tell_both : {Z : Type 0} (files in_new in_cur : List File) (names : List (String Z)) → IsPermutation files (map shown (in_new ++ in_cur))
+    → map string_bytes names ≡ names_of in_new ++ names_of in_cur → IsPermutation (names_of files) (bases_told names)
+names_tell_both files in_new in_cur names both told =
+    rw (bases_shown names (in_new ++ in_cur) (told ∙ sym (map-append name_in in_new in_cur))) (IsPermutation-map name_in files (map shown (in_new ++ in_cur)) both)
+
+-- ---- files that readers took away
+
+pub part_same : (files : List File) → IsPart files files
+part_same [] = refl
+part_same (f ∷ files) = inr (files, refl, part_same files)
+
+pub same_digits : (account a b : List ℕ) → bytes_eq (account ++ 46 ∷ a) (account ++ 46 ∷ b) ≡ bytes_eq a b
+same_digits account a b = grind (arith, bytes_eq-Decides (account ++ 46 ∷ a) (account ++ 46 ∷ b), bytes_eq-Decides a b, append_cancel_left {A = ℕ})
+
+-- ---- all names and all items
+
+list_any-map : {A B : Type 0} (test : B → Bool) (f : A → B) (xs : List A) → list_any test (map f xs) ≡ list_any (λ x. test (f x)) xs
+list_any-map test f [] = refl
+list_any-map test f (x ∷ xs) = ap (λ b. test (f x) || b) (list_any-map test f xs)
+
+-- the digits in the stems of the names show which items are held
+pub flags_found : {Z : Type 0} (account : List ℕ) (maildir : Maildir) (items : List Item) (found : List ℕ → Bool) (names : List (String Z))
+    → ((q : List ℕ) → found q ≡ any_name account q names) → IsPermutation (names_of maildir.files) (bases_told names)
+    → map (λ (item : Item). found (encode_lower item.uid)) items ≡ flags_of account maildir items
+flags_found account maildir items found names texts told = simp held
+  where
+    held : (uid : List ℕ) → found (encode_lower uid) ≡ is_held account maildir uid
+    held uid =
+        let any = list_any-IsPermutation (names_id account uid) (names_of maildir.files) (bases_told names) told in
+        texts (encode_lower uid) ∙ sym (simp (list_any-map, stem-base) at any)
+
+-- ---- names that are there
+
+-- an id is held if a file has its name
+pub held_where_there : (account uid : List ℕ) (size : ℕ) (maildir : Maildir) → IsAccountText account → IsThere maildir (name_of account uid size)
+    → is_held account maildir uid ≡ true
+held_where_there account uid size maildir a c =
+    let same = (bytes_eq-Decides (stem_of account uid) _).1 (sym (stem-base (name_of account uid size) ∙ stem-name_of account uid size a)) in
+    rw list_any-map at (list_any_at (names_id account uid) (names_of maildir.files) c.0 _ c.1 (ap (names_id account uid) c.2 ∙ same))
+
+-- a file that came under an id's name makes that id held, and no other
+pub held_with_file : HaveRanges → (account a b content : List ℕ) (maildir : Maildir) → IsAccountText account → IsLegalId a → IsLegalId b
+    → is_held account (with_file maildir (mail_file account a content)) b ≡ (is_held account maildir b || bytes_eq b a)
+held_with_file ranges account a b content maildir h la lb =
+    let f = mail_file account a content in
+    let one : names_id account b f.name ≡ bytes_eq b a =
+    ap (bytes_eq (stem_of account b)) (stem-base (name_of account a (length content)) ∙ stem-name_of account a (length content) h)
+    ∙ grind (arith, bytes_eq-Decides (stem_of account b) (stem_of account a), bytes_eq-Decides b a, stem_of-injective ranges account b a lb la) in
+    rw (list_any-append (λ (f : File). names_id account b f.name) maildir.files (f ∷ []), one, or-false (bytes_eq b a))
+
+-- ---- flags of a listing
+
+-- one item more, before items whose flags are known
+and_more : (flag turned same rest among held : Bool) → turned ≡ same → (same ≡ true → flag ≡ held) → rest ≡ (among && held)
+    → ((flag && turned) || rest) ≡ ((same || among) && held)
+and_more flag turned same rest among held turn agree later = grind arith
+
+pub flagged_where_held : (account : List ℕ) (maildir : Maildir) (items : List Item) (uid : List ℕ)
+    → is_flagged items (flags_of account maildir items) uid ≡ (has_item items uid && is_held account maildir uid)
+flagged_where_held account maildir [] uid = refl
+flagged_where_held account maildir (item ∷ items) uid =
+    and_more _ _ (bytes_eq uid item.uid) _ (has_item items uid) (is_held account maildir uid) (nat_list_eq_equiv.symm item.uid uid)
+    (λ same. ap (is_held account maildir) (sym ((bytes_eq-Decides uid item.uid).0 same))) (flagged_where_held account maildir items uid)
+
+-- ---- the stems
+
+-- this place's item has its stem among these, if both of its flags are set
+abbrev StemAt : {A : Type 0} → List ℕ → List Item → List Bool → List Bool → List (String A) → ℕ → Type 0
+StemAt account items held flags stems k = (item : Item) → HoldsAt (λ (y : Item). y ≡ item) items k → HoldsAt (λ (y : Bool). y ≡ true) held k
+    → HoldsAt (λ (y : Bool). y ≡ true) flags k → is_among stems (stem_of account item.uid) ≡ true
+
+-- one item more
+pub stems_step : {A : Type 0} (account : List ℕ) (items : List Item) (held flags : List Bool) (i : ℕ) (stems : List (String A))
+    → HasStems account items held flags i stems → StemAt account items held flags stems i → HasStems account items held flags (i + 1) stems
+stems_step account items held flags i stems has here = λ k item below.
+    below_more (StemAt account items held flags stems) i (λ j before y. has j y before) here k below item
+
+-- its stem was added
+pub stems_more : {A : Type 0} (account : List ℕ) (items : List Item) (held flags : List Bool) (i : ℕ) (stems : List (String A)) (x : String A) (uid : List ℕ)
+    → HasStems account items held flags i stems → HoldsAt (λ (item : Item). uid ≡ item.uid) items i → string_bytes x ≡ stem_of account uid
+    → HasStems account items held flags (i + 1) (stems ++ x ∷ [])
+stems_more account items held flags i stems x uid has at is = stems_step account items held flags i (stems ++ x ∷ [])
+    (λ k item below here h f. rw (pushed item.uid, has k item below here h f) refl)
+    (λ item here h f.
+    let same = (bytes_eq-Decides (stem_of account item.uid) (string_bytes x)).1 (ap (λ (y : Item). stem_of account y.uid) (sym (here item)) ∙ ap (stem_of account) (sym (at item)) ∙ sym is) in
+    rw (pushed item.uid, same) (or-true _))
+  where
+    pushed : (q : List ℕ) → is_among (stems ++ x ∷ []) (stem_of account q) ≡ (is_among stems (stem_of account q) || (bytes_eq (stem_of account q) (string_bytes x) || false))
+    pushed q = list_any-append (λ other. bytes_eq (stem_of account q) (string_bytes other)) stems (x ∷ [])
+
+-- ---- the files
+
+-- the files of these stems were flushed, so that of each id whose stem is among them a file outlives a loss of power
+pub flushed_lasts : {A : Type 0} (account : List ℕ) (maildir : Maildir) (stems : List (String A)) (stays : List ℕ → Type 0) (outlives : File → Type 0)
+    → AllStay maildir stays → FlushedOutlive {T = Unit {0}} maildir stems (Ok tt) stays outlives
+    → (uid : List ℕ) → is_among stems (stem_of account uid) ≡ true → is_held account maildir uid ≡ true → HasLasting account maildir outlives uid
+flushed_lasts account maildir stems stays outlives all flushed uid among held =
+    let of = Any-from_list_any (λ (f : File). names_id account uid f.name) maildir.files held in
+    let there = Contains-map name_in maildir.files of.1 (of.0, of.2, of.3) in
+    let same = (bytes_eq-Decides (stem_of account uid) (stem of.1.name)).0 of.4 in
+    let file = flushed of.1.name there (rw same at among) (all of.1.name there) in
+    (file.0, file.1, ap (names_id account uid) file.2 ∙ of.4, file.3)
+
+pub found_outlive : {A : Type 0} (account : List ℕ) (maildir : Maildir) (stems : List (String A)) (outlives : File → Type 0)
+    → ((uid : List ℕ) → is_among stems (stem_of account uid) ≡ true → is_held account maildir uid ≡ true → HasLasting account maildir outlives uid)
+    → (items : List Item) (flags : List Bool) → HasStems account items (flags_of account maildir items) flags (length items) stems
+    → FoundOutlive account maildir outlives items flags
+found_outlive account maildir stems outlives lasts (item ∷ items) (flag ∷ flags) has = (
+  λ is held. lasts item.uid (has 0 item (omega arith) (λ d. refl) (λ d. held) (λ d. is)) held,
+  found_outlive account maildir stems outlives lasts items flags (λ k i below at h f. has (suc k) i (omega (arith, below)) at h f),
+)
+found_outlive account maildir stems outlives lasts items flags has = tt
+
+-- all files of a device in memory outlive a loss of power
+pub all_outlive : {A T : Type 0} (maildir : Maildir) (stems : List (String A)) (r : Result T StoreFault) (stays : List ℕ → Type 0) (outlives : File → Type 0)
+    → ((f : File) → outlives f) → FlushedOutlive maildir stems r stays outlives
+all_outlive maildir stems (Ok done) stays outlives all = λ name there among here.
+    let none = file [] [] in
+    let inside : there.0 < length maildir.files = omega (arith, there.1, length-map maildir.files name_in) in
+    (get_or maildir.files there.0 none, Contains-get_or maildir.files there.0 none inside, sym (get_or-map name_in maildir.files there.0 none name inside) ∙ there.2, all _)
+all_outlive maildir stems (Err fault) stays outlives all = tt

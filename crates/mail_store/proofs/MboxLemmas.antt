@@ -1,0 +1,453 @@
+-- Lines, quoting, entries and groups of lines of an mboxrd file.
+use Rattle.std.proofs.Common.{◌≡◌, ◌≢◌, ◌⊎◌, inl, inr, ℕ, ◌+◌, ◌<◌, ◌≤◌, List, [], ◌∷◌, ◌++◌, length, take, drop, refl, sym, ap, ◌∙◌, arith, append_assoc, ◌-◌, ◌*◌, true, false, map, get_or, slice_index, ◌==◌, cond, codes, one-add}
+use Rattle.std.specs.List.{flat_map, onto_first, AllByRecursion, prefix_len}
+use Rattle.std.proofs.lemmas.Bool.{ne_eqb, cond_both, true≢false}
+use Rattle.std.proofs.lemmas.Bool.Decides.{eqb_tells, Decides-eqb}
+use Rattle.std.proofs.lemmas.Grind.{common_steps}
+use Rattle.std.proofs.lemmas.List.{drop-append-le, get_or-drop, get_or-take, get_or_default, length-take, length-drop, take-append-drop, take_more, append-nil, drop_at, length-append, take_at, append_cancel_right, flat_map_more, map-append, get_or_append_left}
+use Rattle.std.proofs.lemmas.List.Elements.{recursion_from_All, All-from_recursion, All-map}
+use Rattle.std.proofs.lemmas.List.Sums.{sum_by-append}
+use Rattle.std.proofs.lemmas.List.Concat.{flat_map-append}
+use Rattle.std.proofs.lemmas.Slice.Eq.{starts_is}
+use Rattle.std.proofs.lemmas.List.Folds.{flat_map-map}
+use Rattle.mail_terms.specs.Text.{IsWhole, HasNoLf}
+use Rattle.mail_store.specs.Mboxrd.{lines_of, IsLine, from_words, begins_entry, is_greater, is_marked, quoted, unquoted, quoted_text, unquoted_text, wire_size, UnquotesQuoted, separator, entry_of, Group, IsInner, IsGroup, group_bytes, group_text, MboxFile, MayGoOn, OneReading}
+use Rattle.mail_store.specs.MboxScan.{IsApart, OpensEntry, CutsGroup, HoldsText}
+
+-- ---- lists of lines
+
+abbrev pub joined : List (List ℕ) → List ℕ
+joined lines = flat_map (λ (line : List ℕ). line) lines
+
+pub all_append : {A : Type 0} (P : A → Type 0) (xs ys : List A) → AllByRecursion P xs → AllByRecursion P ys → AllByRecursion P (xs ++ ys)
+all_append P [] ys left right = right
+all_append P (x ∷ xs) ys left right = (left.0, all_append P xs ys left.1 right)
+
+-- the first line, empty if there is none
+abbrev pub first_of : List (List ℕ) → List ℕ
+first_of [] = []
+first_of (line ∷ lines) = line
+
+pub onto_parts : (byte : ℕ) (parts : List (List ℕ)) → (joined (onto_first byte parts) ≡ byte ∷ joined parts)
+    × (first_of (onto_first byte parts) ≡ byte ∷ first_of parts) × (drop 1 (onto_first byte parts) ≡ drop 1 parts)
+onto_parts byte [] = (refl, refl, refl)
+onto_parts byte (part ∷ parts) = (refl, refl, refl)
+
+-- ---- the first line
+
+plain_all : (text : List ℕ) → ((k : ℕ) → k < length text → slice_index text k ≢ 10) → HasNoLf text
+plain_all text none = recursion_from_All (λ byte. byte ≢ 10) text (λ k d inside. rw (get_or_default text k d 0 inside) (none k inside))
+
+-- the bytes up to the first LF are a line
+pub line_front : (text : List ℕ) (n : ℕ) → n < length text → ((k : ℕ) → k < n → slice_index text k ≢ 10) → slice_index text n ≡ 10 → IsLine (take (n + 1) text)
+line_front text n inside none at = record {
+  words = take n text;
+  plain = plain_all (take n text) (λ k below.
+      let early : k < n = omega (arith, below, length-take n text) in
+      rw (get_or-take n text k 0 early) (none k early));
+  ended = rw (take_more text n 0 inside, at) refl;
+}
+
+words_first : (words rest : List ℕ) → HasNoLf words → lines_of ((words ++ 10 ∷ []) ++ rest) ≡ (words ++ 10 ∷ []) ∷ lines_of rest
+words_first [] rest plain = refl
+words_first (byte ∷ words) rest plain = rw (ne_eqb byte 10 plain.0, words_first words rest plain.1) refl
+
+-- a line and what follows it
+pub line_first : (line rest : List ℕ) → IsLine line → lines_of (line ++ rest) ≡ line ∷ lines_of rest
+line_first line rest is =
+    ap (λ (l : List ℕ). lines_of (l ++ rest)) is.ended ∙ words_first is.words rest is.plain ∙ ap (λ (l : List ℕ). l ∷ lines_of rest) (sym is.ended)
+
+-- a last piece without LF
+pub piece_alone : (piece : List ℕ) → HasNoLf piece → 0 < length piece → lines_of piece ≡ piece ∷ []
+piece_alone [] plain some = absurd (omega arith)
+piece_alone (byte ∷ []) plain some = rw (ne_eqb byte 10 plain.0) refl
+piece_alone (byte ∷ next ∷ rest) plain some = rw (ne_eqb byte 10 plain.0, piece_alone (next ∷ rest) plain.1 (omega arith)) refl
+
+-- what `line_len` finds is the first line
+pub cut_off : (rest line after : List ℕ) (n : ℕ) → 0 < length rest → IsLine (take n rest) ⊎ ((n ≡ length rest) × HasNoLf rest)
+    → line ≡ take n rest → after ≡ drop n rest → (lines_of rest ≡ line ∷ lines_of after) × (rest ≡ line ++ after)
+cut_off rest line after n some found front back = rw (front, back) (
+  elim found [
+    | inl is ↦ ap lines_of (sym (take-append-drop n rest)) ∙ line_first (take n rest) (drop n rest) is
+    | inr p ↦
+        let all : take n rest ≡ rest = grind (arith, common_steps, p.0) in
+        let none : drop n rest ≡ [] = grind (arith, common_steps, p.0) in
+        rw (all, none) (piece_alone rest p.1 some)
+  ],
+  sym (take-append-drop n rest),
+)
+
+-- what follows the last LF but the one at the end is a line
+pub line_back : (front : List ℕ) (n : ℕ) → n ≤ length front → ((k : ℕ) → n ≤ k → k < length front → slice_index front k ≢ 10) → IsLine (drop n (front ++ 10 ∷ []))
+line_back front n within none = record {
+  words = drop n front;
+  plain = plain_all (drop n front) (λ k inside at. none (n + k) (omega arith) (omega (arith, inside, length-drop n front)) (sym (get_or-drop n front k 0) ∙ at));
+  ended = drop-append-le n front (10 ∷ []) within;
+}
+
+-- ---- whole texts
+
+-- the lines make up the text
+pub lines_joined : (text : List ℕ) → joined (lines_of text) ≡ text
+lines_joined [] = refl
+lines_joined (byte ∷ rest) = elim (eqb_tells byte 10) [
+  | inl p ↦ rw (p.0, lines_joined rest) (ap (λ (b : ℕ). b ∷ rest) (sym p.1))
+  | inr p ↦ rw p.0 ((onto_parts byte (lines_of rest)).0 ∙ ap (λ (l : List ℕ). byte ∷ l) (lines_joined rest))
+]
+
+-- lines are the lines of what they make up
+pub lines_kept : (lines : List (List ℕ)) (rest : List ℕ) → AllByRecursion IsLine lines → lines_of (joined lines ++ rest) ≡ lines ++ lines_of rest
+lines_kept [] rest all = refl
+lines_kept (line ∷ lines) rest all =
+    ap lines_of (append_assoc line (joined lines) rest) ∙ line_first line (joined lines ++ rest) all.0
+    ∙ ap (λ (ls : List (List ℕ)). line ∷ ls) (lines_kept lines rest all.1)
+
+pub empty_line : IsLine (10 ∷ [])
+empty_line = record { words = []; plain = tt; ended = refl }
+
+ended_lines : (front : List ℕ) → (line : List ℕ) × (lines : List (List ℕ)) × (lines_of (front ++ 10 ∷ []) ≡ line ∷ lines) × AllByRecursion IsLine (line ∷ lines)
+ended_lines [] = (10 ∷ [], [], refl, (empty_line, tt))
+ended_lines (byte ∷ front) =
+    let later = ended_lines front in elim (eqb_tells byte 10) [
+      | inl p ↦ (10 ∷ [], later.0 ∷ later.1, rw (p.0, later.2) refl, (empty_line, later.3))
+      | inr p ↦
+          let more : IsLine (byte ∷ later.0) = record { words = byte ∷ later.3.0.words; plain = (p.1, later.3.0.plain); ended = ap (λ (l : List ℕ). byte ∷ l) later.3.0.ended } in
+          (byte ∷ later.0, later.1, rw (p.0, later.2) refl, (more, later.3.1))
+    ]
+
+pub whole_lines : (text : List ℕ) → IsWhole text → AllByRecursion IsLine (lines_of text)
+whole_lines text whole = elim whole [
+  | inl e ↦ rw e tt
+  | inr p ↦ let ended = ended_lines p.0 in rw (p.1, ended.2) ended.3
+]
+
+-- ---- marked lines
+
+-- a line is marked exactly if what follows its leading `>`s begins with `From `
+pub marked_behind : (line : List ℕ) → begins_entry (drop (prefix_len is_greater line) line) ≡ is_marked line
+marked_behind [] = refl
+marked_behind (byte ∷ rest) = elim (eqb_tells byte 62) [
+  | inl p ↦ rw (p.0, one-add (prefix_len is_greater rest)) (marked_behind rest)
+  | inr p ↦ rw p.0 refl
+]
+
+-- a line that begins with `From ` has these bytes
+pub begins_with : (line : List ℕ) → begins_entry line ≡ true → line ≡ from_words ++ drop 5 line
+begins_with line is = (starts_is Decides-eqb line from_words (begins_entry line) refl).0 is
+
+pub marked_len : (line : List ℕ) → is_marked line ≡ true → 5 ≤ length line
+marked_len [] is = absurd (true≢false (sym is))
+marked_len (byte ∷ rest) is = elim (eqb_tells byte 62) [
+  | inl p ↦ omega (arith, marked_len rest (rw p.0 at is))
+  | inr p ↦ omega (arith, ap length (begins_with (byte ∷ rest) (rw p.0 at is)))
+]
+
+-- ---- one line
+
+pub unquoted_other : (line : List ℕ) → is_marked line ≡ false → unquoted line ≡ line
+unquoted_other [] is = refl
+unquoted_other (byte ∷ rest) is = elim (eqb_tells byte 62) [
+  | inl p ↦ rw (p.0, rw p.0 at is) refl
+  | inr p ↦ rw p.0 refl
+]
+
+-- unquoting a quoted line gives the line
+pub line_read : (line : List ℕ) → unquoted (quoted line) ≡ line
+line_read line = cond_both (is_marked line) (62 ∷ line) line (λ l. unquoted l ≡ line) (λ is. rw is refl) (unquoted_other line)
+
+-- a line that begins with `From ` is marked
+pub entry_marked : (line : List ℕ) → is_marked line ≡ false → begins_entry line ≡ false
+entry_marked [] is = refl
+entry_marked (byte ∷ rest) is = elim (eqb_tells byte 62) [
+  | inl p ↦ rw p.1 refl
+  | inr p ↦ rw p.0 at is
+]
+
+-- no quoted line begins with `From `
+pub quoted_apart : (line : List ℕ) → begins_entry (quoted line) ≡ false
+quoted_apart line = cond_both (is_marked line) (62 ∷ line) line (λ l. begins_entry l ≡ false) (λ _. refl) (entry_marked line)
+
+pub quoted_line : (line : List ℕ) → IsLine line → IsLine (quoted line)
+quoted_line line is = cond_both (is_marked line) (62 ∷ line) line IsLine (λ _. record { words = 62 ∷ is.words; plain = (omega arith, is.plain); ended = ap (λ (l : List ℕ). 62 ∷ l) is.ended }) (λ _. is)
+
+-- ---- whole texts
+
+pub quoted_lines : (lines : List (List ℕ)) → AllByRecursion IsLine lines → lines_of (flat_map quoted lines) ≡ map quoted lines
+quoted_lines [] all = refl
+quoted_lines (line ∷ lines) all = rw (line_first (quoted line) (flat_map quoted lines) (quoted_line line all.0), quoted_lines lines all.1) refl
+
+pub lines_read : (lines : List (List ℕ)) → flat_map unquoted (map quoted lines) ≡ joined lines
+lines_read [] = refl
+lines_read (line ∷ lines) = rw (line_read line, lines_read lines) refl
+
+pub unquotes_quoted : UnquotesQuoted
+unquotes_quoted text whole =
+    ap (flat_map unquoted) (quoted_lines (lines_of text) (whole_lines text whole)) ∙ lines_read (lines_of text) ∙ lines_joined text
+
+-- ---- copying a text in runs
+
+-- `out` is what was there and then the lines of the text as `shows` gives them, up to `rest`, without the front of `run`
+pub record Copies (shows : List ℕ → List ℕ) (old out run rest text : List ℕ) : Type 0 where
+  pub front : List ℕ
+  pub split : run ≡ front ++ rest
+  pub shown : out ++ (front ++ flat_map shows (lines_of rest)) ≡ old ++ flat_map shows (lines_of text)
+
+pub front_taken : (run front rest : List ℕ) → run ≡ front ++ rest → (take (length run - length rest) run ≡ front) × (drop (length run - length rest) run ≡ rest)
+front_taken run front rest e =
+    let size : length front ≡ length (front ++ rest) - length rest = omega (arith, length-append front rest) in
+    rw e (take_at front rest _ size, drop_at front rest _ size)
+
+-- a line that is shown as it is
+pub copies_plain : (shows : List ℕ → List ℕ) (old out run rest text line after : List ℕ) → Copies shows old out run rest text
+    → lines_of rest ≡ line ∷ lines_of after → rest ≡ line ++ after → shows line ≡ line → Copies shows old out run after text
+copies_plain shows old out run rest text line after was lines cut same = record {
+  front = was.front ++ line;
+  split = cc (append_assoc was.front line after);
+  shown = rw (append_assoc was.front line (flat_map shows (lines_of after))) (rw (lines, same) at was.shown);
+}
+
+-- a line that is shown with other bytes at its front: the run ends before it
+pub copies_changed : (shows : List ℕ → List ℕ) (old out run rest text line after extra kept new later : List ℕ) → Copies shows old out run rest text
+    → lines_of rest ≡ line ∷ lines_of after → shows line ≡ extra ++ kept → new ≡ (out ++ take (length run - length rest) run) ++ extra → later ≡ kept ++ after
+    → Copies shows old new later after text
+copies_changed shows old out run rest text line after extra kept new later was lines changed is split = record {
+  front = kept;
+  split = split;
+  shown = rw (is, (front_taken run was.front rest was.split).0) (simp append_assoc (simp append_assoc at (rw (lines, changed) at was.shown)));
+}
+
+longer_lines : (lines : List (List ℕ)) → length (joined lines) ≤ length (flat_map quoted lines)
+longer_lines [] = omega arith
+longer_lines (line ∷ lines) =
+    let one = cond_both (is_marked line) (62 ∷ line) line (λ l. length line ≤ length l) (λ _. omega arith) (λ _. omega arith) in
+    omega (arith, longer_lines lines, length-append line (joined lines), length-append (quoted line) (flat_map quoted lines), one)
+
+pub quoted_longer : (text : List ℕ) → length text ≤ length (quoted_text text)
+quoted_longer text = omega (arith, longer_lines (lines_of text), ap length (lines_joined text))
+
+pub quoted_first : (line after : List ℕ) → IsLine line → quoted_text (line ++ after) ≡ quoted line ++ quoted_text after
+quoted_first line after is = ap (flat_map quoted) (line_first line after is)
+
+pub quoted_last : (front line : List ℕ) → IsWhole front → IsLine line → quoted_text (front ++ line) ≡ quoted_text front ++ quoted line
+quoted_last front line whole is =
+    let parts = lines_kept (lines_of front) line (whole_lines front whole) in
+    ap (λ (l : List ℕ). quoted_text (l ++ line)) (sym (lines_joined front)) ∙ ap (flat_map quoted) parts ∙ flat_map-append quoted (lines_of front) (lines_of line)
+    ∙ ap (λ (l : List ℕ). quoted_text front ++ l) (ap quoted_text (sym (append-nil line)) ∙ quoted_first line [] is ∙ append-nil (quoted line))
+
+-- of the text, the lines before `from` are where they were, and the others are quoted and end at `end`
+pub record Quoting (text old bytes : List ℕ) (from to end : ℕ) : Type 0 where
+  pub fits : from ≤ length text
+  pub size : length bytes ≡ length old
+  pub whole : IsWhole (take from text)
+  pub front : take from bytes ≡ take from text
+  pub room : length (quoted_text (take from text)) ≤ to
+  pub place : to + length (quoted_text (drop from text)) ≡ end
+  pub back : drop to bytes ≡ quoted_text (drop from text) ++ drop end old
+
+-- ---- the length of a quoted text
+
+-- of the lines of a text before `rest`, `marked` are marked
+pub record Counts (text rest : List ℕ) (marked : ℕ) : Type 0 where
+  pub total : length (quoted_text text) + length rest ≡ length text + (marked + length (quoted_text rest))
+  pub few : 5 * marked + length rest ≤ length text
+
+-- one more line, of which so many are marked
+pub counts_line : (text rest line after : List ℕ) (marked more : ℕ) → Counts text rest marked → (lines_of rest ≡ line ∷ lines_of after) × (rest ≡ line ++ after)
+    → length (quoted line) ≡ more + length line → 5 * more ≤ length line → Counts text after (marked + more)
+counts_line text rest line after marked more was cut one five =
+    let shown = ap (λ (ls : List (List ℕ)). length (flat_map quoted ls)) cut.0 ∙ length-append (quoted line) (quoted_text after) in
+    let whole = ap length cut.1 ∙ length-append line after in
+    record { total = omega (arith, was.total, shown, one, whole); few = omega (arith, was.few, whole, five) }
+
+-- ---- the size of an unquoted text
+
+-- the lines of a text before `rest` take this many octets on the wire
+pub record Sizes (text rest : List ℕ) (size : ℕ) : Type 0 where
+  pub total : size + wire_size (unquoted_text rest) ≡ wire_size (unquoted_text text)
+  pub few : size + 2 * length rest ≤ 2 * length text
+
+pub wire_size-append : (xs ys : List ℕ) → wire_size (xs ++ ys) ≡ wire_size xs + wire_size ys
+wire_size-append xs ys = omega (arith, length-append xs ys, sum_by-append (λ (byte : ℕ). cond (byte == 10) 1 0) xs ys)
+
+-- ---- groups as lists of lines
+
+-- the lines of a group, with the empty one after them
+abbrev pub group_lines : Group → List (List ℕ)
+group_lines group = group.head ∷ (group.lines ++ (10 ∷ []) ∷ [])
+
+pub inner_lines : (lines : List (List ℕ)) → AllByRecursion IsInner lines → AllByRecursion IsLine lines
+inner_lines lines all = recursion_from_All IsLine lines (λ k d inside. (All-from_recursion IsInner lines all k d inside).0)
+
+-- the lines of bytes that begin with a group
+pub group_first : (group : Group) (rest : List ℕ) → IsLine group.head → AllByRecursion IsLine group.lines
+    → lines_of (group_bytes group ++ rest) ≡ group_lines group ++ lines_of rest
+group_first group rest head lines = rw (flat_map_more (λ (line : List ℕ). line) [] group.lines (10 ∷ []))
+    (lines_kept (group_lines group) rest (head, all_append IsLine group.lines ((10 ∷ []) ∷ []) lines (empty_line, tt)))
+
+pub groups_lines : (groups : List Group) → AllByRecursion IsGroup groups → lines_of (flat_map group_bytes groups) ≡ flat_map group_lines groups
+groups_lines [] are = refl
+groups_lines (group ∷ groups) are =
+    rw (group_first group (flat_map group_bytes groups) are.0.0.0 (inner_lines group.lines are.0.1), groups_lines groups are.1) refl
+
+-- ---- lists of lines are grouped in one way only
+
+pub inner_apart : (lines : List (List ℕ)) → AllByRecursion IsInner lines → AllByRecursion IsApart (lines ++ (10 ∷ []) ∷ [])
+inner_apart [] all = (refl, tt)
+inner_apart (line ∷ lines) all = (all.0.1, inner_apart lines all.1)
+
+pub opens_groups : (groups : List Group) → AllByRecursion IsGroup groups → OpensEntry (flat_map group_lines groups)
+opens_groups [] are = tt
+opens_groups (group ∷ groups) are = are.0.0.1
+
+pub same_span : (xs ys rest other : List (List ℕ)) → AllByRecursion IsApart xs → AllByRecursion IsApart ys → OpensEntry rest → OpensEntry other
+    → xs ++ rest ≡ ys ++ other → (xs ≡ ys) × (rest ≡ other)
+same_span [] [] rest other apart others opens begins e = (refl, e)
+same_span [] (y ∷ ys) rest other apart others opens begins e = absurd (true≢false (sym (rw e at opens) ∙ others.0))
+same_span (x ∷ xs) [] rest other apart others opens begins e = absurd (true≢false (sym (rw (← e) at begins) ∙ apart.0))
+same_span (x ∷ xs) (y ∷ ys) rest other apart others opens begins e =
+    let same = same_span xs ys rest other apart.1 others.1 opens begins (cc) in
+    (cc, same.1)
+
+same_texts : (groups others : List Group) → AllByRecursion IsGroup groups → AllByRecursion IsGroup others
+    → flat_map group_lines groups ≡ flat_map group_lines others → map group_text groups ≡ map group_text others
+same_texts [] [] are be e = refl
+same_texts (group ∷ groups) (other ∷ others) are be e =
+    let span = same_span (group.lines ++ (10 ∷ []) ∷ []) (other.lines ++ (10 ∷ []) ∷ []) (flat_map group_lines groups) (flat_map group_lines others)
+    (inner_apart group.lines are.0.1) (inner_apart other.lines be.0.1) (opens_groups groups are.1) (opens_groups others be.1) (cc) in
+    cc (append_cancel_right group.lines other.lines ((10 ∷ []) ∷ []) span.0, same_texts groups others are.1 be.1 span.1)
+same_texts groups others are be e = absurd (cc)
+
+pub one_reading : OneReading
+one_reading file texts others left right =
+    let same = sym (groups_lines left.groups left.are) ∙ ap lines_of (sym left.whole ∙ right.whole) ∙ groups_lines right.groups right.are in
+    cc (left.read, right.read, same_texts left.groups right.groups left.are right.are same)
+
+-- ---- one more group
+
+pub adds_group : (file : List ℕ) (texts : List (List ℕ)) (group : Group) → MboxFile file texts → IsGroup group
+    → MboxFile (file ++ group_bytes group) (texts ++ group_text group ∷ [])
+adds_group file texts group was is = record {
+  groups = was.groups ++ group ∷ [];
+  are = all_append IsGroup was.groups (group ∷ []) was.are (is, tt);
+  whole = ap (λ (f : List ℕ). f ++ group_bytes group) was.whole ∙ flat_map_more group_bytes [] was.groups group;
+  read = ap (λ (ts : List (List ℕ)). ts ++ group_text group ∷ []) was.read ∙ sym (map-append group_text was.groups (group ∷ []));
+}
+
+-- ---- entries
+
+-- the group of a text's entry
+abbrev pub entry_group : List ℕ → Group
+entry_group text = record { head = separator; lines = map quoted (lines_of text) }
+
+pub entry_is_group : (text : List ℕ) → IsWhole text → IsGroup (entry_group text)
+entry_is_group text whole = (
+  (record { words = codes "From MAILER-DAEMON Thu Jan  1 00:00:00 1970"; plain = omega arith; ended = refl }, refl),
+  recursion_from_All IsInner (map quoted (lines_of text)) (All-map IsInner quoted (lines_of text) (λ k d inside.
+      (quoted_line _ (All-from_recursion IsLine (lines_of text) (whole_lines text whole) k d inside), quoted_apart (get_or (lines_of text) k d)))),
+)
+
+pub entry_bytes : (text : List ℕ) → group_bytes (entry_group text) ≡ entry_of text
+entry_bytes text = ap (λ (l : List ℕ). separator ++ (l ++ 10 ∷ [])) (flat_map-map (λ (line : List ℕ). line) quoted (lines_of text))
+
+pub entry_lines : (text : List ℕ) → IsWhole text → lines_of (entry_of text) ≡ group_lines (entry_group text)
+entry_lines text whole =
+    ap lines_of (sym (entry_bytes text) ∙ sym (append-nil (group_bytes (entry_group text)))) ∙ groups_lines (entry_group text ∷ []) (entry_is_group text whole, tt)
+    ∙ append-nil (group_lines (entry_group text))
+
+-- ---- an entry may follow texts
+
+lines_end : (line : List ℕ) (lines : List (List ℕ)) → IsLine line → AllByRecursion IsLine lines → (front : List ℕ) × (joined (line ∷ lines) ≡ front ++ 10 ∷ [])
+lines_end line [] is all = (is.words, append-nil line ∙ is.ended)
+lines_end line (next ∷ lines) is all =
+    let later = lines_end next lines all.0 all.1 in
+    (line ++ later.0, ap (λ (l : List ℕ). line ++ l) later.1 ∙ sym (append_assoc line later.0 (10 ∷ [])))
+
+pub joined_whole : (lines : List (List ℕ)) → AllByRecursion IsLine lines → IsWhole (joined lines)
+joined_whole [] all = inl refl
+joined_whole (line ∷ lines) all = inr (lines_end line lines all.0 all.1)
+
+abbrev pub EndsTwice : List ℕ → Type 0
+EndsTwice bytes = (front : List ℕ) × (bytes ≡ front ++ 10 ∷ 10 ∷ [])
+
+pub group_ends : (group : Group) → IsGroup group → EndsTwice (group_bytes group)
+group_ends group is =
+    let ended = lines_end group.head group.lines is.0.0 (inner_lines group.lines is.1) in
+    (ended.0, sym (append_assoc group.head (joined group.lines) (10 ∷ [])) ∙ ap (λ (l : List ℕ). l ++ 10 ∷ []) ended.1 ∙ append_assoc ended.0 (10 ∷ []) (10 ∷ []))
+
+pub groups_go_on : (groups : List Group) → AllByRecursion IsGroup groups → MayGoOn (flat_map group_bytes groups)
+groups_go_on [] are = inl refl
+groups_go_on (group ∷ groups) are = inr (
+  rw (begins_with group.head are.0.0.1) refl,
+  elim (groups_go_on groups are.1) [
+    | inl none ↦ let end = group_ends group are.0 in (end.0, rw (none, append-nil (group_bytes group)) end.1)
+    | inr p ↦ (group_bytes group ++ p.1.0, rw p.1.1 (sym (append_assoc (group_bytes group) p.1.0 (10 ∷ 10 ∷ []))))
+  ],
+)
+
+-- ---- one group cut off
+
+-- the first line of the bytes, and lines that don't begin with `From `, come before the rest
+pub record Passes (bytes rest : List ℕ) : Type 0 where
+  pub head : List ℕ
+  pub inner : List (List ℕ)
+  pub front : List ℕ
+  pub lines : lines_of bytes ≡ head ∷ (inner ++ lines_of rest)
+  pub whole : bytes ≡ front ++ rest
+  pub apart : AllByRecursion IsApart inner
+
+-- ---- the whole file
+
+-- the front of the bytes stands for these texts; if the bytes stand for texts, the rest does too
+pub record ReadsOn (bytes rest : List ℕ) (texts : List (List ℕ)) : Type 0 where
+  pub front : List ℕ
+  pub split : bytes ≡ front ++ rest
+  pub read : MboxFile front texts
+  pub later : (others : List (List ℕ)) → MboxFile bytes others → (more : List (List ℕ)) × MboxFile rest more
+
+-- if the bytes stand for texts, the group that is cut off is their first
+pub record Agrees (group after : List ℕ) : Type 0 where
+  pub first : Group
+  pub groups : List Group
+  pub are : AllByRecursion IsGroup (first ∷ groups)
+  pub bytes : group ≡ group_bytes first
+  pub whole : after ≡ flat_map group_bytes groups
+
+pub agrees : (rest group after : List ℕ) (groups : List Group) → CutsGroup rest group after → 0 < length rest → AllByRecursion IsGroup groups
+    → rest ≡ flat_map group_bytes groups → Agrees group after
+agrees rest group after [] cut some are whole = absurd (omega (arith, ap length whole))
+agrees rest group after (first ∷ groups) cut some are whole =
+    let lines : cut.head ∷ (cut.inner ++ lines_of after) ≡ first.head ∷ ((first.lines ++ (10 ∷ []) ∷ []) ++ flat_map group_lines groups) =
+    sym cut.lines ∙ ap lines_of whole ∙ groups_lines (first ∷ groups) are in
+    let span = same_span cut.inner (first.lines ++ (10 ∷ []) ∷ []) (lines_of after) (flat_map group_lines groups)
+    cut.apart (inner_apart first.lines are.0.1) cut.opens (opens_groups groups are.1) (cc) in
+    let rest-is : after ≡ flat_map group_bytes groups =
+    sym (lines_joined after) ∙ ap joined (span.1 ∙ sym (groups_lines groups are.1)) ∙ lines_joined (flat_map group_bytes groups) in
+    record {
+      first = first;
+      groups = groups;
+      are = are;
+      bytes = append_cancel_right group (group_bytes first) after (sym cut.whole ∙ whole ∙ ap (λ (l : List ℕ). group_bytes first ++ l) (sym rest-is));
+      whole = rest-is;
+    }
+
+-- the group of a quoted text
+abbrev pub group_of : List ℕ → List ℕ → Group
+group_of head text = record { head = head; lines = lines_of text }
+
+pub group_of_bytes : (head text : List ℕ) → group_bytes (group_of head text) ≡ head ++ (text ++ 10 ∷ [])
+group_of_bytes head text = ap (λ (l : List ℕ). head ++ (l ++ 10 ∷ [])) (lines_joined text)
+
+pub holds_group : (rest group after text : List ℕ) → CutsGroup rest group after → (held : HoldsText group text) → IsGroup (group_of held.head text)
+holds_group rest group after text cut held =
+    let all = whole_lines text held.whole in
+    let same : group ≡ group_bytes (group_of held.head text) = held.split ∙ sym (group_of_bytes held.head text) in
+    let lines : cut.head ∷ (cut.inner ++ lines_of after) ≡ held.head ∷ ((lines_of text ++ (10 ∷ []) ∷ []) ++ lines_of after) =
+    sym cut.lines ∙ ap lines_of (cut.whole ∙ ap (λ (l : List ℕ). l ++ after) same) ∙ group_first (group_of held.head text) after held.begins.0 all in
+    let inner = append_cancel_right cut.inner (lines_of text ++ (10 ∷ []) ∷ []) (lines_of after) (cc) in
+    let apart = All-from_recursion IsApart (lines_of text ++ (10 ∷ []) ∷ []) (rw inner at cut.apart) in (
+      held.begins,
+      recursion_from_All IsInner (lines_of text) (λ k d inside. (
+        All-from_recursion IsLine (lines_of text) all k d inside,
+        rw (get_or_append_left (lines_of text) ((10 ∷ []) ∷ []) d k inside) at (apart k d (omega (arith, inside, length-append (lines_of text) ((10 ∷ []) ∷ [])))),
+      )),
+    )
