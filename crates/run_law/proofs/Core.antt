@@ -1,68 +1,191 @@
--- If a prefix of the selected messages is done, a session fetches the next of them. Stores don't come in here.
-use Rattle.std.proofs.Common.{◌≡◌, ◌≤◌, ◌⊎◌, ℕ, List, [], ◌∷◌, ◌++◌, Bool, true, false, not, cond, ◌&&◌, ◌==◌, length, take, drop, map, refl, sym, ◌∙◌, ap, subst, append_assoc, take-append-drop, arith}
-use Rattle.std.specs.Prelude.{zip}
-use Rattle.std.specs.List.{filter, AllByRecursion}
-use Rattle.std.proofs.lemmas.Bool.{both_ways, or_left, or_right, cond_both, false_from_ne_true}
-use Rattle.std.proofs.lemmas.List.{take-map, take_all, length-map}
-use Rattle.std.proofs.lemmas.List.Elements.{filter-append}
-use Rattle.mail_terms.specs.Listing.{Item}
-use Rattle.mail_terms.specs.UniqueId.{is_legal_id, has_id}
-use Rattle.pop3_wire.specs.World.{Message, IsMessage, IsWorld, maildrop_of}
+-- Which messages are wanted, and that a session fetches the next of the selected ones if a prefix of them is done. Stores don't come in here.
+use Rattle.std.proofs.Common.{◌≡◌, ◌≤◌, ◌<◌, ◌+◌, ◌-◌, ℕ, zero, suc, List, [], ◌∷◌, ◌++◌, Bool, not, ◌&&◌, ◌||◌, ◌==◌, length, take, drop, map, refl, sym, ◌∙◌, ap, arith, append_assoc, take-append-drop, Some, slice_get, ◌⊎◌, inl, inr, true, false, None}
+use Rattle.std.specs.Prelude.{bytes_eq, zip}
+use Rattle.std.specs.List.{filter, enumerate_from, AllByRecursion}
+use Rattle.std.proofs.lemmas.Bool.{cond_both, or_left, cases_Bool}
+use Rattle.std.proofs.lemmas.List.{take-map, drop-map, append-nil, take_all, length-map}
+use Rattle.std.proofs.lemmas.List.Elements.{recursion_from_All, filter-append}
+use Rattle.std.proofs.lemmas.List.FromFn.{length-enumerate_from, get_or-enumerate_from}
+use Rattle.std.proofs.lemmas.Option.{same_Some, slice_get-get_or}
+use Rattle.std.proofs.lemmas.Simd.{map-map}
+use Rattle.pop3_wire.specs.World.{Message, IsWorld, maildrop_of}
+use Rattle.mail_terms.specs.Listing.{Item, has_item}
+use Rattle.fetch_rules.specs.Record.{Row, is_delivered, merged}
+use Rattle.fetch_rules.specs.Wanted.{is_within, is_asked_for, candidates, at_most, wanted, DistinctAreFiltered}
 use Rattle.rc_file.specs.declared.settings.Settings.{Settings}
-use Rattle.fetch_rules.specs.Record.{Row, is_delivered}
-use Rattle.fetch_rules.specs.Wanted.{DistinctAreFiltered, at_most, wanted, candidates}
-use Rattle.run_law.specs.Mails.{ids_of, listing_of, is_selected, selected}
-use Rattle.run_law.specs.Steps.{AreTexts, ids_wanted}
-use Rattle.run_law.specs.Runs.{past_limit}
-use Rattle.run_law.proofs.Lists.{front_is, filter-filter, filter_all, all_map, all_both, all_filter, all_passing, all_take, all_parts}
-use Rattle.run_law.proofs.Ids.{Distinct, distinct_is, distinct_take, distinct_filter, ids_filtered, ids_both, all_at, all_ids_at, bytes_self, HasTextsOf, through, whole_take, whole_filter}
-use Rattle.run_law.proofs.Wants.{num_item, all_at_most, with_text, asked, offered, wants, offered_by_number, wants_by_number, wanted_are, candidates_are, wants_snd, offered_snd, wants_placed, zipped, ids_are, begins, both_parts, past-map, snd}
-use Rattle.run_law.proofs.Bridge.{IsLeft, BeginsWith, bridge, left_is}
+use Rattle.mail_store.specs.Maildir.{Maildir}
+use Rattle.mail_store.specs.FileName.{is_held}
+use Rattle.mail_terms.specs.UniqueId.{has_id, is_legal_id}
+use Rattle.run_law.specs.Mails.{ids_of, item_of, listing_of, is_selected, selected, texts_of}
+use Rattle.run_law.specs.Steps.{AreTexts, file_for, is_unheld, Effect, IsHonest, ids_wanted, Stores}
+use Rattle.run_law.specs.Runs.{past_limit, is_past_count, CanEnd}
+use Rattle.run_law.proofs.Ids.{filter-map, any-map, all_map, all_take, all_filter, Distinct, are_distinct, front_is, filter-filter, filter_all, all_both, all_passing, all_parts, distinct_is, distinct_take, distinct_filter, ids_filtered, ids_both, all_at, all_ids_at, bytes_self, members, other_id, each_text, whole_part}
+use Rattle.run_law.proofs.Holds.{message_file}
+use Rattle.mail_store.specs.Held.{flags_of}
+use Rattle.run_law.specs.Accounts.{AccountMail}
+use Rattle.run_law.specs.Mboxes.{MboxMail, settled, none_held, MboxStores}
+use Rattle.run_law.specs.MboxRuns.{MboxCanEnd}
 
--- a message that passes a test keeps its id in the filtered list
-pub passing_in : (p : Message → Bool) (ms : List Message) → AllByRecursion (λ (m : Message). p m ≡ true → has_id (ids_of (filter p ms)) m.uid ≡ true) ms
-passing_in p [] = tt
-passing_in p (m ∷ ms) = (
-  (λ e. ap (λ b. has_id (ids_of (cond b (m ∷ filter p ms) (filter p ms))) m.uid) e ∙ or_left _ _ (bytes_self m.uid)),
-  all_map (λ (x : Message). p x ≡ true → has_id (ids_of (filter p ms)) x.uid ≡ true) (λ (x : Message). p x ≡ true → has_id (ids_of (filter p (m ∷ ms))) x.uid ≡ true)
-      (λ x h e. cond_both (p m) _ _ (λ l. has_id (ids_of l) x.uid ≡ true) (λ t. or_right _ _ (h e)) (λ f. h e)) ms (passing_in p ms),
-)
+pub has_listed : {listing : List Item} (ms : List Message) → listing ≡ listing_of ms → (id : List ℕ) → has_item listing id ≡ has_id (ids_of ms) id
+has_listed ms e id = rw e (any-map (λ (i : Item). bytes_eq id i.uid) item_of ms ∙ sym (any-map (bytes_eq id) (λ (m : Message). m.uid) ms))
 
--- the id of each is among the ids of all
-pub members : (ms : List Message) → AllByRecursion (λ (m : Message). has_id (ids_of ms) m.uid ≡ true) ms
-members [] = tt
-members (m ∷ ms) = (
-  or_left _ _ (bytes_self m.uid),
-  all_map (λ (x : Message). has_id (ids_of ms) x.uid ≡ true) (λ (x : Message). has_id (ids_of (m ∷ ms)) x.uid ≡ true) (λ x h. or_right _ _ h) ms (members ms),
-)
+-- ---- numbered messages
+
+abbrev pub num_item : ℕ × Message → ℕ × Item
+num_item q = (q.0, item_of q.1)
+
+abbrev pub asked : Settings → List Row → Message → Bool
+asked settings rows m = is_within settings.max_size m.size && (settings.read_all || not (is_delivered rows m.uid))
+
+abbrev pub offered : Settings → List Row → List Message → List Message
+offered settings rows ms = filter (asked settings rows) ms
+
+abbrev pub wants : Settings → List Row → List Message → List Message
+wants settings rows ms = at_most settings.max_count (offered settings rows ms)
+
+abbrev pub offered_by_number : Settings → List Row → List Message → List (ℕ × Message)
+offered_by_number settings rows ms = filter (λ (q : ℕ × Message). asked settings rows q.1) (enumerate_from 1 ms)
+
+abbrev pub wants_by_number : Settings → List Row → List Message → List (ℕ × Message)
+wants_by_number settings rows ms = at_most settings.max_count (offered_by_number settings rows ms)
+
+abbrev pub snd : ℕ × Message → Message
+snd q = q.1
+
+at_most-map : {X Y : Type 0} (f : X → Y) (n : ℕ) (xs : List X) → at_most n (map f xs) ≡ map f (at_most n xs)
+at_most-map f n xs = grind (arith, take-map f n xs)
+
+module _ (settings : Settings) (rows : List Row) where
+  pub candidates_are : DistinctAreFiltered → {listing : List Item} (ms : List Message) → listing ≡ listing_of ms → Distinct (ids_of ms)
+      → candidates settings rows listing ≡ map num_item (offered_by_number settings rows ms)
+  candidates_are filtered ms e d = rw e (filtered settings rows (listing_of ms) (rw map-map (are_distinct (ids_of ms) d))
+      ∙ ap (filter (is_asked_for settings rows)) (enumerated 1 ms) ∙ filter-map (is_asked_for settings rows) num_item (enumerate_from 1 ms))
+    where
+      enumerated : (n : ℕ) (ms : List Message) → enumerate_from n (listing_of ms) ≡ map num_item (enumerate_from n ms)
+      enumerated n [] = refl
+      enumerated n (m ∷ ms) = ap (λ (l : List (ℕ × Item)). (n, item_of m) ∷ l) (enumerated (n + 1) ms)
+
+  pub wanted_are : DistinctAreFiltered → {listing : List Item} (ms : List Message) → listing ≡ listing_of ms → Distinct (ids_of ms)
+      → wanted settings rows listing ≡ map num_item (wants_by_number settings rows ms)
+  wanted_are filtered ms e d = rw (candidates_are filtered ms e d) (at_most-map num_item settings.max_count (offered_by_number settings rows ms))
+
+  pub offered_snd : (ms : List Message) → map snd (offered_by_number settings rows ms) ≡ offered settings rows ms
+  offered_snd ms = snds 1 ms
+    where
+      snds : (n : ℕ) (ms : List Message) → map snd (filter (λ (q : ℕ × Message). asked settings rows q.1) (enumerate_from n ms)) ≡ offered settings rows ms
+      snds n [] = refl
+      snds n (m ∷ ms) = grind (arith, snds (n + 1) ms)
+
+  pub wants_snd : (ms : List Message) → map snd (wants_by_number settings rows ms) ≡ wants settings rows ms
+  wants_snd ms = sym (at_most-map snd settings.max_count (offered_by_number settings rows ms)) ∙ ap (at_most settings.max_count) (offered_snd ms)
+
+-- ---- each is at its number
+
+-- a number counts from 1, and its element is at that place
+abbrev pub IsNumbered : {X : Type 0} → List X → ℕ × X → Type 0
+IsNumbered xs q = (0 < q.0) × (slice_get xs (q.0 - 1) ≡ Some q.1)
+
+pub are_numbered : {X : Type 0} (xs : List X) → AllByRecursion (IsNumbered xs) (enumerate_from 1 xs)
+are_numbered xs = recursion_from_All (IsNumbered xs) (enumerate_from 1 xs) (λ k d l.
+    let inside : k < length xs = omega (arith, l, length-enumerate_from 1 xs) in
+    let place : 1 + k - 1 ≡ k = omega arith in
+    rw (get_or-enumerate_from 1 xs k d inside) (omega arith, ap (slice_get xs) place ∙ slice_get-get_or xs k d.1 inside))
+
+pub all_at_most : {X : Type 0} (P : X → Type 0) (n : ℕ) (xs : List X) → AllByRecursion P xs → AllByRecursion P (at_most n xs)
+all_at_most P n xs h = cond_both (n == 0) xs (take n xs) (AllByRecursion P) (λ e. h) (λ e. all_take P n xs h)
+
+pub wants_placed : (settings : Settings) (rows : List Row) (ms : List Message) → AllByRecursion (IsNumbered ms) (wants_by_number settings rows ms)
+wants_placed settings rows ms = all_at_most _ _ _ (all_filter _ _ _ (are_numbered ms))
+
+-- ---- texts
+
+abbrev pub with_text : ℕ × Message → (ℕ × Item) × List ℕ
+with_text q = (num_item q, q.1.text)
+
+pub first_texts : (drop' : List Message) (qs : List (ℕ × Message)) (texts : List (List ℕ)) (n : ℕ) → AllByRecursion (IsNumbered drop') qs → AreTexts drop' (map num_item qs) texts → n ≤ length texts
+    → (zip (take n (map num_item qs)) texts ≡ map with_text (take n qs)) × (take n texts ≡ map (λ (m : Message). m.text) (map snd (take n qs)))
+first_texts drop' qs texts zero h t l = (refl, refl)
+first_texts drop' (q ∷ qs) (text ∷ texts) (suc n) h t l =
+    let same : t.0.0 ≡ q.1 = same_Some _ _ (sym t.0.1 ∙ h.0.1) in
+    let more = first_texts drop' qs texts n h.1 t.1 (omega (arith, l)) in
+    (grind (arith, same, t.0.2, more.0), grind (arith, same, t.0.2, more.1))
+first_texts drop' qs [] n h t l = absurd (omega (arith, l))
+first_texts drop' qs texts n h t l = absurd t
+
+-- what is stored of numbered messages is a filter of the messages
+pub stored_files : (account : List ℕ) (maildir : Maildir) (qs : List (ℕ × Message))
+    → map (file_for account) (filter (is_unheld account maildir) (map with_text qs))
+    ≡ map (message_file account) (filter (λ (m : Message). not (is_held account maildir m.uid)) (map snd qs))
+stored_files account maildir [] = refl
+stored_files account maildir (q ∷ qs) = grind (arith, stored_files account maildir qs)
+
+-- ---- prefixes
+
+pub both_parts : {X : Type 0} (limit : ℕ) (xs : List X) → at_most limit xs ++ past_limit limit xs ≡ xs
+both_parts limit xs = grind (arith, append-nil xs, take-append-drop limit xs)
+
+pub begins : {X : Type 0} (n limit : ℕ) (xs : List X) → take n (at_most limit xs) ++ (drop n (at_most limit xs) ++ past_limit limit xs) ≡ xs
+begins n limit xs =
+    rw (← append_assoc (take n (at_most limit xs)) (drop n (at_most limit xs)) (past_limit limit xs), take-append-drop n (at_most limit xs)) (both_parts limit xs)
+
+pub past-map : {X Y : Type 0} (f : X → Y) (n : ℕ) (xs : List X) → past_limit n (map f xs) ≡ map f (past_limit n xs)
+past-map f n xs = grind (arith, drop-map f n xs)
+
+-- ---- the messages that are left
+
+-- the list begins with these
+abbrev BeginsWith : List Message → List Message → Type 0
+BeginsWith front all = (more : List Message) × (all ≡ front ++ more)
+
+-- the messages that are left, which are those that fit and aren't done, are the next of those that fit
+bridge : (fit left : Message → Bool) (done ms later rest : List Message) → Distinct (ids_of ms) → filter fit ms ++ later ≡ done ++ rest
+    → AllByRecursion (λ (m : Message). left m ≡ (fit m && not (has_id (ids_of done) m.uid))) ms → BeginsWith (filter left ms) rest
+bridge fit left done [] later rest d e h = (rest, refl)
+bridge fit left [] (m ∷ ms) later rest d e h =
+    let more = bridge fit left [] ms later (filter fit ms ++ later) d.1 refl h.1 in (more.0, grind (arith, e, h.0, more.1))
+bridge fit left (x ∷ xs) (m ∷ ms) later rest d e h = elim (cases_Bool (fit m)) [
+  | inl t ↦
+      let e' : m ∷ (filter fit ms ++ later) ≡ x ∷ (xs ++ rest) = rw t at e in
+      let same : m ≡ x = cc in
+      let tail : filter fit ms ++ later ≡ xs ++ rest = cc in
+      let more = bridge fit left xs ms later rest d.1 tail (all_both _ h.1 (members ms) (λ y l there. grind (arith, l, there, same, other_id m ms y.uid d.0))) in
+      (more.0, grind (arith, t, h.0, same, bytes_self x.uid, more.1))
+  | inr f ↦
+      let more = bridge fit left (x ∷ xs) ms later rest d.1 (rw f at e) h.1 in
+      (more.0, grind (arith, f, h.0, more.1))
+]
+
+-- ---- the first of the selected messages
 
 abbrev pub IsLegal : Message → Type 0
 IsLegal m = is_legal_id m.uid ≡ true
 
--- the first of the selected messages have distinct and legal ids, and all the texts of these
-module _ (limit : ℕ) (all : List Message) (mail : IsWorld all) (done rest : List Message) (prefix : selected limit all ≡ done ++ rest) where
+pub legal_here : {all : List Message} (come : ℕ) (gone : List (List ℕ)) → IsWorld all → AllByRecursion IsLegal (maildrop_of all come gone)
+legal_here {all} come gone mail = all_filter _ _ (take come all) (all_take _ come all (all_map all mail.messages (λ m h. h.legal)))
+
+-- they have distinct and legal ids, and all the texts of these
+module _ (limit : ℕ) {all : List Message} (done rest : List Message) (mail : IsWorld all) (prefix : selected limit all ≡ done ++ rest) where
   pub done_distinct : Distinct (ids_of done)
-  done_distinct = subst (λ (l : List Message). Distinct (ids_of l)) (front_is done rest prefix)
-      (distinct_take (length done) (selected limit all) (distinct_filter (is_selected limit) all (distinct_is all mail.distinct)))
+  done_distinct = rw (← front_is done rest prefix) (distinct_take (length done) (selected limit all) (distinct_filter (is_selected limit) all (distinct_is all mail.distinct)))
 
-  pub done_legal : AllByRecursion IsLegal done
-  done_legal = (all_parts IsLegal done rest (subst (AllByRecursion IsLegal) prefix
-      (all_filter IsLegal (is_selected limit) all (all_map IsMessage IsLegal (λ m h. h.legal) all mail.messages)))).0
+  pub done_legal : (id : List ℕ) → has_id (ids_of done) id ≡ true → is_legal_id id ≡ true
+  done_legal id = all_at (λ x. is_legal_id x ≡ true) done (all_parts _ done _ (rw prefix at (all_filter _ (is_selected limit) _ (all_map _ mail.messages (λ m h. h.legal))))).0
 
-  pub done_texts : (id : List ℕ) → HasTextsOf done all id
-  done_texts id = through done (selected limit all) all id
-      (subst (λ (l : List Message). HasTextsOf l (selected limit all) id) (front_is done rest prefix)
-      (whole_take (length done) (selected limit all) id (distinct_filter (is_selected limit) all (distinct_is all mail.distinct))))
-      (whole_filter (is_selected limit) all id (distinct_is all mail.distinct))
+  pub done_texts : (id : List ℕ) → has_id (ids_of done) id ≡ true → texts_of done id ≡ texts_of all id
+  done_texts id = whole_part done all id done_distinct (all_parts _ done _ (rw prefix at (all_filter _ (is_selected limit) _ (each_text all (distinct_is all mail.distinct))))).0
 
--- all mail, what is gone and how much has come; the settings, and the merged record; which of the selected
--- messages are done, and which aren't
+-- ---- a session
+
+-- all mail, the limit on sizes, what is gone and how much has come; the settings, the merged record and what the session did;
+-- which of the selected messages are done, and which aren't
 pub record Scene : Type 0 where
   pub all : List Message
+  pub max_size : ℕ
   pub gone : List (List ℕ)
   pub come : ℕ
   pub settings : Settings
   pub rows : List Row
+  pub effect : Effect
   pub done : List Message
   pub rest : List Message
 
@@ -72,12 +195,15 @@ here s = maildrop_of s.all s.come s.gone
 abbrev pub is_done : Scene → List ℕ → Bool
 is_done s id = has_id (ids_of s.done) id
 
--- what is done is a prefix of the selected messages; what is gone, or is recorded in the maildrop, is done
+-- what is done is a prefix of the selected messages; what is gone, or is recorded, is done; the server was honest
 pub record IsScene (s : Scene) : Type 0 where
+  pub filtered : DistinctAreFiltered
   pub mail : IsWorld s.all
-  pub prefix : selected s.settings.max_size s.all ≡ s.done ++ s.rest
+  pub same : s.settings.max_size ≡ s.max_size
+  pub prefix : selected s.max_size s.all ≡ s.done ++ s.rest
   pub gone : AllByRecursion (λ id. is_done s id ≡ true) s.gone
-  pub known : (id : List ℕ) → is_legal_id id ≡ true → has_id (ids_of (here s)) id ≡ true → is_delivered s.rows id ≡ true → is_done s id ≡ true
+  pub known : (id : List ℕ) → is_delivered s.rows id ≡ true → is_done s id ≡ true
+  pub honest : IsHonest (wanted s.settings s.rows s.effect.listing) (here s) s.effect
 
 -- what is wanted
 abbrev pub fetched : Scene → List Message
@@ -90,126 +216,79 @@ added s n = filter (λ (m : Message). not (is_done s m.uid)) (take n (fetched s)
 abbrev pub is_done_after : Scene → ℕ → List ℕ → Bool
 is_done_after s n id = has_id (ids_of (s.done ++ added s n)) id
 
-module _ (s : Scene) (is : IsScene s) where
+module _ {s : Scene} (is : IsScene s) where
   abbrev come : List Message
   come = take s.come s.all
 
-  abbrev pub os : List Message
+  abbrev os : List Message
   os = offered s.settings s.rows (here s)
 
   abbrev ws : List Message
   ws = fetched s
 
-  abbrev qs : List (ℕ × Message)
+  abbrev pub qs : List (ℕ × Message)
   qs = wants_by_number s.settings s.rows (here s)
 
-  abbrev is_gone : List ℕ → Bool
-  is_gone id = has_id s.gone id
+  abbrev is_left_on_server : Message → Bool
+  is_left_on_server m = not (has_id s.gone m.uid)
 
-  distinct_all : Distinct (ids_of s.all)
-  distinct_all = distinct_is s.all is.mail.distinct
-
-  legal_all : AllByRecursion IsLegal s.all
-  legal_all = all_map IsMessage IsLegal (λ m h. h.legal) s.all is.mail.messages
-
-  legal_come : AllByRecursion IsLegal come
-  legal_come = all_take IsLegal s.come s.all legal_all
-
-  pub legal_here : AllByRecursion IsLegal (here s)
-  legal_here = all_filter IsLegal (λ (m : Message). not (is_gone m.uid)) come legal_come
-
-  pub legal_fetched : AllByRecursion IsLegal ws
-  legal_fetched = all_at_most IsLegal s.settings.max_count os (all_filter IsLegal (asked s.settings s.rows) (here s) legal_here)
-
-  offered_here : AllByRecursion (λ (m : Message). has_id (ids_of (here s)) m.uid ≡ true) os
-  offered_here = all_filter (λ (m : Message). has_id (ids_of (here s)) m.uid ≡ true) (asked s.settings s.rows) (here s) (members (here s))
-
-  pub fetched_here : AllByRecursion (λ (m : Message). has_id (ids_of (here s)) m.uid ≡ true) ws
-  fetched_here = all_at_most (λ (m : Message). has_id (ids_of (here s)) m.uid ≡ true) s.settings.max_count os offered_here
+  distinct_come : Distinct (ids_of come)
+  distinct_come = distinct_take s.come s.all (distinct_is s.all is.mail.distinct)
 
   distinct_here : Distinct (ids_of (here s))
-  distinct_here = distinct_filter (λ (m : Message). not (is_gone m.uid)) come (distinct_take s.come s.all distinct_all)
+  distinct_here = distinct_filter is_left_on_server come distinct_come
+
+  -- what holds of all messages of the maildrop holds of those that are wanted
+  pub all_fetched : (P : Message → Type 0) → AllByRecursion P (here s) → AllByRecursion P ws
+  all_fetched P h = all_at_most P s.settings.max_count os (all_filter P (asked s.settings s.rows) (here s) h)
 
   -- ---- numbers and texts
 
-  pub wanted_is : DistinctAreFiltered → wanted s.settings s.rows (listing_of (here s)) ≡ map num_item qs
-  wanted_is filtered = wanted_are filtered s.settings s.rows (here s) distinct_here
+  pub wanted_is : wanted s.settings s.rows s.effect.listing ≡ map num_item qs
+  wanted_is = wanted_are s.settings s.rows is.filtered (here s) is.honest.listing distinct_here
 
   pub taken_is : (n : ℕ) → map snd (take n qs) ≡ take n ws
   taken_is n = sym (take-map snd n qs) ∙ ap (take n) (wants_snd s.settings s.rows (here s))
 
-  pub zipped_is : (texts : List (List ℕ)) (n : ℕ) → AreTexts (here s) (map num_item qs) texts → n ≤ length texts
-      → zip (take n (map num_item qs)) texts ≡ map with_text (take n qs)
-  zipped_is texts n are l = zipped (here s) qs texts n (wants_placed s.settings s.rows (here s)) are l
+  -- the first texts, and these messages
+  pub texts_are : {n : ℕ} → n ≤ length s.effect.texts → (zip (take n (wanted s.settings s.rows s.effect.listing)) s.effect.texts ≡ map with_text (take n qs))
+      × (take n s.effect.texts ≡ map (λ (m : Message). m.text) (take n ws))
+  texts_are {n} l =
+      let both = first_texts (here s) qs s.effect.texts n (wants_placed s.settings s.rows (here s)) (rw wanted_is at is.honest.texts) l in
+      (rw wanted_is both.0, rw (← taken_is n) both.1)
 
-  pub wanted_ids : (n : ℕ) → ids_wanted (take n (map num_item qs)) ≡ ids_of (take n ws)
-  wanted_ids n = ap ids_wanted (take-map num_item n qs) ∙ ids_are (take n qs) ∙ ap ids_of (taken_is n)
-
-  pub wanted_length : length (map num_item qs) ≡ length ws
-  wanted_length = length-map qs num_item ∙ sym (length-map qs snd) ∙ ap length (wants_snd s.settings s.rows (here s))
-
-  pub past_ids : DistinctAreFiltered → (listing : List Item) → listing ≡ listing_of (here s) → ids_wanted (past_limit s.settings.max_count (candidates s.settings s.rows listing)) ≡ ids_of (past_limit s.settings.max_count os)
-  past_ids filtered listing is = ap (λ l. ids_wanted (past_limit s.settings.max_count l)) (ap (candidates s.settings s.rows) is ∙ candidates_are filtered s.settings s.rows (here s) distinct_here)
-      ∙ ap ids_wanted (past-map num_item s.settings.max_count (offered_by_number s.settings s.rows (here s)))
-      ∙ ids_are (past_limit s.settings.max_count (offered_by_number s.settings s.rows (here s)))
-      ∙ ap ids_of (sym (past-map snd s.settings.max_count (offered_by_number s.settings s.rows (here s))) ∙ ap (past_limit s.settings.max_count) (offered_snd s.settings s.rows (here s)))
+  pub wanted_ids : (n : ℕ) → ids_wanted (take n (wanted s.settings s.rows s.effect.listing)) ≡ ids_of (take n ws)
+  wanted_ids n = rw (wanted_is, ← wants_snd s.settings s.rows (here s)) (simp (take-map, map-map))
 
   -- ---- what is added is the next
 
   abbrev fit : Message → Bool
-  fit m = is_selected s.settings.max_size m
-
-  abbrev is_left : Message → Bool
-  is_left m = (not (is_gone m.uid) && asked s.settings s.rows m) && not (is_done s m.uid)
-
-  each_left : AllByRecursion (IsLeft fit is_left s.done) come
-  each_left = all_both IsLegal (λ (m : Message). not (is_gone m.uid) ≡ true → has_id (ids_of (here s)) m.uid ≡ true) (IsLeft fit is_left s.done)
-      (λ m l e. left_is (fit m) s.settings.read_all (is_gone m.uid) (is_delivered s.rows m.uid) (is_done s m.uid)
-      (λ g. all_ids_at (λ id. is_done s id ≡ true) s.gone m.uid is.gone g)
-      (λ n. is.known m.uid l (e n)))
-      come legal_come (passing_in (λ (m : Message). not (is_gone m.uid)) come)
-
-  selected_parts : filter fit come ++ filter fit (drop s.come s.all) ≡ s.done ++ s.rest
-  selected_parts = sym (filter-append fit come (drop s.come s.all)) ∙ ap (filter fit) (take-append-drop s.come s.all) ∙ is.prefix
+  fit m = is_selected s.max_size m
 
   abbrev undone : Message → Bool
   undone m = not (is_done s m.uid)
 
-  left_filters : filter is_left come ≡ filter undone os
-  left_filters = sym (ap (filter undone) (filter-filter (asked s.settings s.rows) (λ (m : Message). not (is_gone m.uid)) come)
-      ∙ filter-filter undone (λ (m : Message). not (is_gone m.uid) && asked s.settings s.rows m) come)
-
   abbrev behind : ℕ → List Message
   behind n = drop n ws ++ past_limit s.settings.max_count os
 
-  offered_parts : (n : ℕ) → filter undone os ≡ added s n ++ filter undone (behind n)
-  offered_parts n = ap (filter undone) (sym (begins n s.settings.max_count os)) ∙ filter-append undone (take n ws) (behind n)
-
   pub added_begins : (n : ℕ) → BeginsWith (added s n) s.rest
-  added_begins n =
-      let r = bridge fit is_left s.done come (filter fit (drop s.come s.all)) s.rest (distinct_take s.come s.all distinct_all) selected_parts each_left in
-      (filter undone (behind n) ++ r.0, r.1 ∙ ap (λ l. l ++ r.0) (left_filters ∙ offered_parts n) ∙ append_assoc (added s n) (filter undone (behind n)) r.0)
+  added_begins n = (filter undone (behind n) ++ next.0, next.1 ∙ ap (λ l. filter undone l ++ next.0) (sym (begins n s.settings.max_count os)) ∙ rw (filter-append undone (take n ws) (behind n)) (append_assoc (added s n) (filter undone (behind n)) next.0))
+    where
+      next : BeginsWith (filter undone os) s.rest
+      next = simp filter-filter (bridge fit (λ (m : Message). (is_left_on_server m && asked s.settings s.rows m) && undone m) s.done come (filter fit (drop s.come s.all)) s.rest distinct_come
+          (sym (filter-append fit come (drop s.come s.all)) ∙ ap (filter fit) (take-append-drop s.come s.all) ∙ is.prefix)
+          (all_map _ (all_take _ _ _ is.mail.messages) (λ m _. grind (arith, is.same, is.known m.uid, λ (g : has_id s.gone m.uid ≡ true). all_ids_at _ _ is.gone g))))
 
-  pub prefix_after : (n : ℕ) → selected s.settings.max_size s.all ≡ (s.done ++ added s n) ++ (added_begins n).0
+  pub prefix_after : (n : ℕ) → selected s.max_size s.all ≡ (s.done ++ added s n) ++ (added_begins n).0
   prefix_after n = is.prefix ∙ ap (λ l. s.done ++ l) (added_begins n).1 ∙ sym (append_assoc s.done (added s n) (added_begins n).0)
 
-  -- if only what is new is read, no message that is offered or wanted is recorded
-  new_offered : s.settings.read_all ≡ false → AllByRecursion (λ (m : Message). is_delivered s.rows m.uid ≡ false) os
-  new_offered only_new = all_map (λ (m : Message). asked s.settings s.rows m ≡ true) (λ (m : Message). is_delivered s.rows m.uid ≡ false)
-      (λ m a. grind (arith, a, only_new)) os (all_passing (asked s.settings s.rows) (here s))
-
+  -- if only what is new is read, no message that is wanted is recorded
   pub none_recorded : s.settings.read_all ≡ false → AllByRecursion (λ (m : Message). is_delivered s.rows m.uid ≡ false) ws
-  none_recorded only_new = all_at_most (λ (m : Message). is_delivered s.rows m.uid ≡ false) s.settings.max_count os (new_offered only_new)
+  none_recorded only_new = all_at_most _ _ _ (all_map _ (all_passing (asked s.settings s.rows) (here s)) (λ m a. grind (arith, a, only_new)))
 
-  -- and if all that is done and here is recorded, no such message is done: those offered are the next
-  module _ (exact : (id : List ℕ) → is_legal_id id ≡ true → has_id (ids_of (here s)) id ≡ true → is_done s id ≡ true → is_delivered s.rows id ≡ true) (only_new : s.settings.read_all ≡ false) where
-    undone_offered : AllByRecursion (λ (m : Message). undone m ≡ true) os
-    undone_offered = all_both (λ (m : Message). is_delivered s.rows m.uid ≡ false) (λ (m : Message). has_id (ids_of (here s)) m.uid ≡ true) (λ (m : Message). undone m ≡ true)
-        (λ m k h. ap not (false_from_ne_true (is_done s m.uid) (λ d. both_ways (is_delivered s.rows m.uid) k (exact m.uid (all_at (λ x. is_legal_id x ≡ true) (here s) m.uid legal_here h) h d))))
-        os (new_offered only_new) offered_here
-
-    pub all_added : (n : ℕ) → added s n ≡ take n ws
-    all_added n = filter_all undone (take n ws) (all_take (λ (m : Message). undone m ≡ true) n ws (all_at_most (λ (m : Message). undone m ≡ true) s.settings.max_count os undone_offered))
+  -- and if all that is done is recorded, none is done
+  pub all_added : ((id : List ℕ) → is_delivered s.rows id ≡ is_done s id) → s.settings.read_all ≡ false → (n : ℕ) → added s n ≡ take n ws
+  all_added exact only_new n = filter_all undone (take n ws) (all_take _ _ _ (all_map _ (none_recorded only_new) (λ m k. ap not (sym (exact m.uid) ∙ k))))
 
   pub done_more : (n : ℕ) (id : List ℕ) → is_done s id ≡ true → is_done_after s n id ≡ true
   done_more n id e = ids_both s.done (added s n) id ∙ or_left _ _ e
@@ -217,43 +296,75 @@ module _ (s : Scene) (is : IsScene s) where
   pub fetched_done : (n : ℕ) (id : List ℕ) → has_id (ids_of (take n ws)) id ≡ true → is_done_after s n id ≡ true
   fetched_done n id e = grind (arith, e, ids_both s.done (added s n) id, ids_filtered (λ x. not (is_done s x)) (take n ws) id)
 
-  pub legal_after : (n : ℕ) (id : List ℕ) → is_done_after s n id ≡ true → is_legal_id id ≡ true
-  legal_after n id e = all_at (λ x. is_legal_id x ≡ true) (s.done ++ added s n) id
-      (done_legal s.settings.max_size s.all is.mail (s.done ++ added s n) (added_begins n).0 (prefix_after n)) e
-
-  -- ---- texts
-
-  distinct_offered : Distinct (ids_of os)
-  distinct_offered = distinct_filter (asked s.settings s.rows) (here s) distinct_here
-
-  most : (limit : ℕ) (ms : List Message) → Distinct (ids_of ms) → Distinct (ids_of (at_most limit ms)) × ((id : List ℕ) → HasTextsOf (at_most limit ms) ms id)
-  most limit ms d = cond_both (limit == 0) ms (take limit ms) (λ l. Distinct (ids_of l) × ((id : List ℕ) → HasTextsOf l ms id))
-      (λ e. (d, λ id h. refl)) (λ e. (distinct_take limit ms d, λ id. whole_take limit ms id d))
-
   -- the texts of an id that is among the first n of what is wanted are all its texts
-  pub texts_fetched : (n : ℕ) (id : List ℕ) → HasTextsOf (take n ws) s.all id
-  texts_fetched n id = through (take n ws) ws s.all id (whole_take n ws id (most s.settings.max_count os distinct_offered).0)
-      (through ws os s.all id ((most s.settings.max_count os distinct_offered).1 id)
-      (through os (here s) s.all id (whole_filter (asked s.settings s.rows) (here s) id distinct_here)
-      (through (here s) come s.all id (whole_filter (λ (m : Message). not (is_gone m.uid)) come id (distinct_take s.come s.all distinct_all))
-      (whole_take s.come s.all id distinct_all))))
-
-  -- and so are those of an id that is done
-  pub texts_done : (id : List ℕ) → HasTextsOf s.done s.all id
-  texts_done = done_texts s.settings.max_size s.all is.mail s.done s.rest is.prefix
+  pub texts_fetched : (n : ℕ) (id : List ℕ) → has_id (ids_of (take n ws)) id ≡ true → texts_of (take n ws) id ≡ texts_of s.all id
+  texts_fetched n id = let distinct = distinct_filter (asked s.settings s.rows) (here s) distinct_here in whole_part (take n ws) s.all id
+      (distinct_take n ws (cond_both (s.settings.max_count == 0) os (take s.settings.max_count os) (λ l. Distinct (ids_of l)) (λ e. distinct) (λ e. distinct_take s.settings.max_count os distinct)))
+      (all_take _ n ws (all_fetched _ (all_filter _ is_left_on_server come (all_take _ s.come s.all (each_text s.all (distinct_is s.all is.mail.distinct))))))
 
   -- ---- what an uncut session leaves out
 
-  abbrev pub IsOut : ℕ → Message → Type 0
-  IsOut n m = (is_done_after s n m.uid ≡ true) ⊎ (fit m ≡ false) ⊎ (has_id (ids_of (past_limit s.settings.max_count os)) m.uid ≡ true)
+  past_ids : ids_wanted (past_limit s.settings.max_count (candidates s.settings s.rows s.effect.listing)) ≡ ids_of (past_limit s.settings.max_count os)
+  past_ids = rw (candidates_are s.settings s.rows is.filtered (here s) is.honest.listing distinct_here, ← offered_snd s.settings s.rows (here s)) (simp (past-map, map-map))
 
-  out : (n : ℕ) → length ws ≤ n → (m : Message) → (is_legal_id m.uid ≡ true) × (has_id (ids_of (here s)) m.uid ≡ true)
-      → (asked s.settings s.rows m ≡ true → has_id (ids_of os) m.uid ≡ true) → IsOut n m
-  out n l m g h =
-      let done = fetched_done n m.uid in
-      let old = λ (d : is_delivered s.rows m.uid ≡ true). done_more n m.uid (is.known m.uid g.0 g.1 d) in
-      grind (arith, h, old, done, ids_both ws (past_limit s.settings.max_count os) m.uid, both_parts s.settings.max_count os, take_all n ws l)
+  pub left_out : (n : ℕ) → length (wanted s.settings s.rows s.effect.listing) ≤ n → AllByRecursion (λ (m : Message). (is_done_after s n m.uid ≡ true)
+      ⊎ (fit m ≡ false) ⊎ (is_past_count s.settings s.rows s.effect.listing m.uid ≡ true)) (here s)
+  left_out n l = all_map _ (passing_in (here s)) (λ m h. grind (
+    arith,
+    h,
+    done_more n m.uid,
+    fetched_done n m.uid,
+    is.known m.uid,
+    is.same,
+    ap (λ ids. has_id ids m.uid) past_ids,
+    ids_both ws (past_limit s.settings.max_count os) m.uid,
+    both_parts s.settings.max_count os,
+    take_all n ws (rw (← wants_snd s.settings s.rows (here s), length-map) (rw (wanted_is, length-map) at l)),
+  ))
+    where
+      -- a message that passes a test keeps its id in the filtered list
+      passing_in : (ms : List Message) → AllByRecursion (λ (m : Message). asked s.settings s.rows m ≡ true → has_id (ids_of (offered s.settings s.rows ms)) m.uid ≡ true) ms
+      passing_in [] = tt
+      passing_in (m ∷ ms) = (λ e. rw e (or_left _ _ (bytes_self m.uid)), all_map _ (passing_in ms) (λ x h e. grind (arith, h, e)))
 
-  pub left_out : (n : ℕ) → length ws ≤ n → AllByRecursion (IsOut n) (here s)
-  left_out n l = all_both _ _ (IsOut n) (out n l) (here s) (all_both IsLegal _ _ (λ m l h. (l, h)) (here s) legal_here (members (here s)))
-      (passing_in (asked s.settings s.rows) (here s))
+-- ---- in every state a session can end, so the laws over runs aren't empty
+
+are_texts : (drop : List Message) (qs : List (ℕ × Message)) → AllByRecursion (IsNumbered drop) qs → AreTexts drop (map num_item qs) (map (λ (q : ℕ × Message). q.1.text) qs)
+are_texts drop [] h = tt
+are_texts drop (q ∷ qs) h = ((q.1, h.0.1, refl), are_texts drop qs h.1)
+
+-- a session that retrieves all that is wanted by these rows
+abbrev fetch_all : ℕ → Settings → List Row → List Message → Effect
+fetch_all now settings rows drop = record { now = now; listing = listing_of drop; texts = map (λ (q : ℕ × Message). q.1.text) (wants_by_number settings rows drop); begun = []; ended = true }
+
+-- is an honest one, and retrieves as many texts
+can_fetch : DistinctAreFiltered → (all : List Message) → IsWorld all → (come : ℕ) (gone : List (List ℕ)) (now : ℕ) (settings : Settings) (rows : List Row)
+    → let effect = fetch_all now settings rows (maildrop_of all come gone) in
+    (length (wanted settings rows effect.listing) ≡ length effect.texts) × IsHonest (wanted settings rows effect.listing) (maildrop_of all come gone) effect
+can_fetch filtered all sound come gone now settings rows =
+    let drop : List Message = maildrop_of all come gone in
+    let distinct = distinct_filter (λ (m : Message). not (has_id gone m.uid)) (take come all) (distinct_take come all (distinct_is all sound.distinct)) in
+    let is : wanted settings rows (listing_of drop) ≡ map num_item (wants_by_number settings rows drop) = wanted_are settings rows filtered drop refl distinct in
+    (rw is (simp length-map), record { listing = refl; texts = rw is (are_texts drop _ (wants_placed settings rows drop)) })
+
+pub can_end : DistinctAreFiltered → CanEnd
+can_end filtered world before settings come now is same =
+    let here : List Message = maildrop_of world.all come before.gone in
+    let rows : List Row = merged before.account.rows (listing_of here) (flags_of world.account before.account.maildir (listing_of here)) now in
+    let effect : Effect = fetch_all now settings rows here in
+    let can = can_fetch filtered world.all is.mail come before.gone now settings rows in
+    let after : AccountMail = record { rows = _; maildir = record before.account.maildir { files = _ } } in
+    let stores : Stores settings world.account before.account effect after =
+    record { stored = length effect.texts; recorded = length effect.texts; order = omega arith; fetched = omega arith; came = refl; rows = inr refl; begun = tt; ended = λ e. omega (arith, can.0) } in
+    (record { settings = settings; come = come; effect = effect; vanished = []; after = after }, record { same = same; step = inr (stores, can.1); vanished = tt }, refl, refl)
+
+pub mbox_can_end : DistinctAreFiltered → MboxCanEnd
+mbox_can_end filtered world before settings come now sound same only_new =
+    let here : List Message = maildrop_of world.all come before.gone in
+    let rows : List Row = merged (settled (listing_of here) before.account).rows (listing_of here) (none_held (listing_of here)) now in
+    let effect : Effect = fetch_all now settings rows here in
+    let can = can_fetch filtered world.all sound come before.gone now settings rows in
+    let after : MboxMail = record { rows = _; intent = None; file = _ } in
+    let stores : MboxStores settings before.account effect after =
+    record { stored = length effect.texts; fetched = omega arith; rows = refl; ending = inl (record { intent = refl; file = refl }); begun = tt; ended = λ e. (omega (arith, can.0), refl) } in
+    (record { settings = settings; come = come; effect = effect; vanished = []; after = after }, record { same = same; only_new = only_new; step = inr (stores, can.1); vanished = tt }, refl, refl)

@@ -1,11 +1,12 @@
--- Ids of messages, and what a filter or a prefix keeps of them.
-use Rattle.std.proofs.Common.{◌≡◌, ◌≢◌, ◌≤◌, inl, inr, ℕ, zero, suc, List, [], ◌∷◌, ◌++◌, Bool, true, false, cond, ◌&&◌, ◌||◌, length, take, drop, map, refl, sym, ◌∙◌, ap, subst, arith, take-append-drop}
+-- Ids of messages, what a filter or a prefix of a list keeps, and what a record says of an id.
+use Rattle.std.proofs.Common.{◌≡◌, ℕ, List, [], ◌∷◌, ◌++◌, Bool, true, false, ◌&&◌, ◌||◌, length, take, drop, map, refl, ap, arith, ◌∙◌, take-append-drop, ◌≢◌, ◌≤◌, inl, zero, suc, cond, sym, ◌⊎◌}
+use Rattle.std.specs.List.{filter, list_any, AllByRecursion}
+use Rattle.std.proofs.lemmas.List.{take_at, map-append, take-take}
 use Rattle.std.specs.Prelude.{bytes_eq}
-use Rattle.std.specs.List.{filter, AllByRecursion}
-use Rattle.std.proofs.lemmas.Bool.{both_ways, or_parts, or_cases, or_left, false_from_ne_true}
+use Rattle.std.proofs.Math.Logic.{⊎_elim}
+use Rattle.std.proofs.lemmas.Bool.{cases_Bool, both_ways, or_cases, or_left, or_right, false_from_ne_true}
 use Rattle.std.proofs.lemmas.Bool.Decides.{same_from_decides, Decides-like}
 use Rattle.std.proofs.lemmas.Slice.Eq.{bytes_eq-Decides}
-use Rattle.std.proofs.lemmas.List.{map-append, take-take}
 use Rattle.std.proofs.lemmas.List.Elements.{filter-append}
 use Rattle.std.proofs.lemmas.List.Folds.{list_any-append, list_any_at, list_any_none}
 use Rattle.std.proofs.lemmas.List.Kept.{AllPairs-cons}
@@ -13,7 +14,84 @@ use Rattle.mail_terms.specs.Distinct.{AreDistinct}
 use Rattle.pop3_wire.specs.World.{Message}
 use Rattle.mail_terms.specs.UniqueId.{has_id}
 use Rattle.run_law.specs.Mails.{ids_of, texts_of}
-use Rattle.run_law.proofs.Lists.{filter-map, any-map, any_filter, is_some, all_map, all_append, all_mapped}
+use Rattle.std.proofs.Math.Bool.{or-false}
+use Rattle.mail_terms.specs.Listing.{Item, has_item, is_flagged}
+use Rattle.mail_terms.specs.MaildirName.{base}
+use Rattle.fetch_rules.specs.Record.{Row, has_row, is_delivered, marked, merged, marked_all}
+use Rattle.fetch_rules.specs.Wanted.{DistinctAreFiltered}
+use Rattle.mail_store.specs.Maildir.{Maildir}
+use Rattle.mail_store.specs.FileName.{NamesHaveStems, StemsDiffer, is_held, stem}
+use Rattle.mail_store.specs.Held.{flags_of}
+use Rattle.run_law.specs.Mboxes.{none_held}
+
+pub filter-filter : {X : Type 0} (p q : X → Bool) (xs : List X) → filter p (filter q xs) ≡ filter (λ x. q x && p x) xs
+filter-filter p q [] = refl
+filter-filter p q (x ∷ xs) = grind (arith, filter-filter p q xs)
+
+pub filter-swap : {X : Type 0} (p q : X → Bool) (xs : List X) → filter p (filter q xs) ≡ filter q (filter p xs)
+filter-swap p q [] = refl
+filter-swap p q (x ∷ xs) = grind (arith, filter-swap p q xs)
+
+pub filter-map : {X Y : Type 0} (p : Y → Bool) (f : X → Y) (xs : List X) → filter p (map f xs) ≡ map f (filter (λ x. p (f x)) xs)
+filter-map p f [] = refl
+filter-map p f (x ∷ xs) = grind (arith, filter-map p f xs)
+
+pub any-map : {X Y : Type 0} (p : Y → Bool) (f : X → Y) (xs : List X) → list_any p (map f xs) ≡ list_any (λ x. p (f x)) xs
+any-map p f [] = refl
+any-map p f (x ∷ xs) = ap (λ b. p (f x) || b) (any-map p f xs)
+
+-- whether a list has elements
+abbrev pub is_some : {X : Type 0} → List X → Bool
+is_some [] = false
+is_some (x ∷ xs) = true
+
+pub any_filter : {X Y : Type 0} (p : X → Bool) (f : X → Y) (xs : List X) → list_any p xs ≡ is_some (map f (filter p xs))
+any_filter p f [] = refl
+any_filter p f (x ∷ xs) = grind (arith, any_filter p f xs)
+
+-- what a list begins with
+pub front_is : {X : Type 0} {xs : List X} (ys zs : List X) → xs ≡ ys ++ zs → take (length ys) xs ≡ ys
+front_is ys zs e = ap (take (length ys)) e ∙ take_at ys zs (length ys) refl
+
+-- ---- what holds of each
+
+module _ {X : Type 0} where
+  pub all_both : {P Q R : X → Type 0} (xs : List X) → AllByRecursion P xs → AllByRecursion Q xs → ((x : X) → P x → Q x → R x) → AllByRecursion R xs
+  all_both [] h k f = tt
+  all_both (x ∷ xs) h k f = (f x h.0 k.0, all_both xs h.1 k.1 f)
+
+  pub all_map : {P Q : X → Type 0} (xs : List X) → AllByRecursion P xs → ((x : X) → P x → Q x) → AllByRecursion Q xs
+  all_map xs h f = all_both xs h h (λ x p q. f x p)
+
+  pub all_filter : (P : X → Type 0) (p : X → Bool) (xs : List X) → AllByRecursion P xs → AllByRecursion P (filter p xs)
+  all_filter P p [] h = tt
+  all_filter P p (x ∷ xs) h = grind (arith, h.0, all_filter P p xs h.1)
+
+  -- what a filter keeps passes its test
+  pub all_passing : (p : X → Bool) (xs : List X) → AllByRecursion (λ x. p x ≡ true) (filter p xs)
+  all_passing p [] = tt
+  all_passing p (x ∷ xs) = grind (arith, all_passing p xs)
+
+  pub filter_all : (p : X → Bool) (xs : List X) → AllByRecursion (λ x. p x ≡ true) xs → filter p xs ≡ xs
+  filter_all p [] h = refl
+  filter_all p (x ∷ xs) h = grind (arith, filter_all p xs h.1)
+
+  pub all_append : (P : X → Type 0) (xs ys : List X) → AllByRecursion P xs → AllByRecursion P ys → AllByRecursion P (xs ++ ys)
+  all_append P [] ys h k = k
+  all_append P (x ∷ xs) ys h k = (h.0, all_append P xs ys h.1 k)
+
+  pub all_parts : (P : X → Type 0) (xs ys : List X) → AllByRecursion P (xs ++ ys) → AllByRecursion P xs × AllByRecursion P ys
+  all_parts P [] ys h = (tt, h)
+  all_parts P (x ∷ xs) ys h = let more = all_parts P xs ys h.1 in ((h.0, more.0), more.1)
+
+  pub all_take : (P : X → Type 0) (n : ℕ) (xs : List X) → AllByRecursion P xs → AllByRecursion P (take n xs)
+  all_take P n xs h = (all_parts P (take n xs) (drop n xs) (rw take-append-drop h)).0
+
+  pub all_mapped : {Y : Type 0} (P : Y → Type 0) (f : X → Y) (xs : List X) → AllByRecursion (λ x. P (f x)) xs → AllByRecursion P (map f xs)
+  all_mapped P f [] h = tt
+  all_mapped P f (x ∷ xs) h = (h.0, all_mapped P f xs h.1)
+
+-- ---- ids of messages
 
 pub bytes_same : (a b : List ℕ) → bytes_eq a b ≡ true → a ≡ b
 bytes_same a b test = (bytes_eq-Decides a b).0 test
@@ -28,45 +106,47 @@ bytes_swap a b = same_from_decides (bytes_eq a b) (bytes_eq b a) (bytes_eq-Decid
 
 pub has_filtered : (p : List ℕ → Bool) (ids : List (List ℕ)) (id : List ℕ) → has_id (filter p ids) id ≡ (has_id ids id && p id)
 has_filtered p [] id = refl
-has_filtered p (x ∷ xs) id =
-    let same = λ (e : bytes_eq id x ≡ true). ap p (bytes_same id x e) in
-    grind (arith, has_filtered p xs id, same)
+has_filtered p (x ∷ xs) id = grind (arith, has_filtered p xs id, λ (e : bytes_eq id x ≡ true). ap p (bytes_same id x e))
 
 pub ids_filtered : (p : List ℕ → Bool) (ms : List Message) (id : List ℕ) → has_id (ids_of (filter (λ (m : Message). p m.uid) ms)) id ≡ (has_id (ids_of ms) id && p id)
-ids_filtered p ms id = ap (λ l. has_id l id) (sym (filter-map p (λ (m : Message). m.uid) ms)) ∙ has_filtered p (ids_of ms) id
+ids_filtered p ms id = rw (← filter-map p (λ (m : Message). m.uid) ms) (has_filtered p (ids_of ms) id)
 
 pub has_texts : (ms : List Message) (id : List ℕ) → has_id (ids_of ms) id ≡ is_some (texts_of ms id)
 has_texts ms id = any-map (bytes_eq id) (λ (m : Message). m.uid) ms ∙ any_filter (λ (m : Message). bytes_eq id m.uid) (λ (m : Message). m.text) ms
 
 pub ids_both : (ms ns : List Message) (id : List ℕ) → has_id (ids_of (ms ++ ns)) id ≡ (has_id (ids_of ms) id || has_id (ids_of ns) id)
-ids_both ms ns id = ap (λ l. has_id l id) (map-append (λ (m : Message). m.uid) ms ns) ∙ list_any-append (bytes_eq id) (ids_of ms) (ids_of ns)
+ids_both ms ns id = simp (map-append, list_any-append)
 
 pub texts-append : (ms ns : List Message) (id : List ℕ) → texts_of (ms ++ ns) id ≡ texts_of ms id ++ texts_of ns id
-texts-append ms ns id = ap (map (λ (m : Message). m.text)) (filter-append (λ (m : Message). bytes_eq id m.uid) ms ns) ∙ map-append (λ (m : Message). m.text) _ _
+texts-append ms ns id = simp (filter-append, map-append)
 
-pub all_ids_at : (P : List ℕ → Type 0) (ids : List (List ℕ)) (id : List ℕ) → AllByRecursion P ids → has_id ids id ≡ true → P id
-all_ids_at P [] id h e = absurd (both_ways false refl e)
-all_ids_at P (x ∷ xs) id h e = elim (or_cases (bytes_eq id x) (has_id xs id) e) [
-  | inl same ↦ subst P (sym (bytes_same id x same)) h.0
-  | inr more ↦ all_ids_at P xs id h.1 more
-]
+pub all_ids_at : (P : List ℕ → Type 0) (ids : List (List ℕ)) {id : List ℕ} → AllByRecursion P ids → has_id ids id ≡ true → P id
+all_ids_at P [] h e = absurd (both_ways false refl e)
+all_ids_at P (x ∷ xs) {id} h e = ⊎_elim (λ (same : bytes_eq id x ≡ true). rw (bytes_same id x same) h.0) (all_ids_at P xs h.1) (or_cases (bytes_eq id x) (has_id xs id) e)
+
+-- what holds of this id, and of each other one, holds of all
+pub by_id : (P : List ℕ → Type 0) {id other : List ℕ} → P id → (bytes_eq other id ≡ false → P other) → P other
+by_id P {id} {other} here apart = ⊎_elim (λ (same : bytes_eq other id ≡ true). rw (bytes_same other id same) here) apart (cases_Bool (bytes_eq other id))
 
 -- what holds of each message's id holds of any id among them
-pub all_at : (P : List ℕ → Type 0) (ms : List Message) (id : List ℕ) → AllByRecursion (λ (m : Message). P m.uid) ms → has_id (ids_of ms) id ≡ true → P id
-all_at P ms id h e = all_ids_at P (ids_of ms) id (all_mapped P (λ (m : Message). m.uid) ms h) e
+pub all_at : (P : List ℕ → Type 0) (ms : List Message) {id : List ℕ} → AllByRecursion (λ (m : Message). P m.uid) ms → has_id (ids_of ms) id ≡ true → P id
+all_at P ms h = all_ids_at P (ids_of ms) (all_mapped P _ ms h)
+
+-- the id of each is among the ids of all
+pub members : (ms : List Message) → AllByRecursion (λ (m : Message). has_id (ids_of ms) m.uid ≡ true) ms
+members [] = tt
+members (m ∷ ms) = (or_left _ _ (bytes_self m.uid), all_map ms (members ms) (λ x h. or_right _ _ h))
 
 -- the ids of a shorter prefix are among those of a longer one
-pub taken_more : {X : Type 0} (f : X → List ℕ) (m n : ℕ) (xs : List X) (id : List ℕ) → m ≤ n → has_id (map f (take m xs)) id ≡ true → has_id (map f (take n xs)) id ≡ true
-taken_more f m n xs id l e =
+pub taken_more : {X : Type 0} (f : X → List ℕ) {m n : ℕ} (xs : List X) (id : List ℕ) → m ≤ n → has_id (map f (take m xs)) id ≡ true → has_id (map f (take n xs)) id ≡ true
+taken_more f {m} {n} xs id l e =
     rw (← take-append-drop m (take n xs), take-take m n xs l, map-append f (take m xs) (drop m (take n xs)), list_any-append (bytes_eq id) (map f (take m xs)) (map f (drop m (take n xs))))
     (or_left _ _ e)
 
 -- what is gone after a session is done, if all that was gone before is, and each id for which a DELE was begun
-pub gone_is_done : (was is : List ℕ → Bool) (begun gone vanished : List (List ℕ)) → ((id : List ℕ) → was id ≡ true → is id ≡ true) → AllByRecursion (λ id. is id ≡ true) begun
-    → AllByRecursion (λ id. was id ≡ true) gone → AllByRecursion (λ id. has_id begun id ≡ true) vanished → AllByRecursion (λ id. is id ≡ true) (gone ++ vanished)
-gone_is_done was is begun gone vanished stays b g v = all_append (λ id. is id ≡ true) gone vanished
-    (all_map (λ id. was id ≡ true) (λ id. is id ≡ true) stays gone g)
-    (all_map (λ id. has_id begun id ≡ true) (λ id. is id ≡ true) (λ id e. all_ids_at (λ x. is x ≡ true) begun id b e) vanished v)
+pub gone_is_done : {P Q : List ℕ → Type 0} (begun gone vanished : List (List ℕ)) → AllByRecursion P gone → ((id : List ℕ) → P id → Q id) → AllByRecursion Q begun
+    → AllByRecursion (λ id. has_id begun id ≡ true) vanished → AllByRecursion Q (gone ++ vanished)
+gone_is_done {Q} begun gone vanished g stays b v = all_append Q gone vanished (all_map gone g stays) (all_map vanished v (λ id e. all_ids_at Q begun b e))
 
 -- ---- distinct ids
 
@@ -86,71 +166,132 @@ are_distinct [] d = λ i j e before inside. absurd (omega arith)
 are_distinct (id ∷ ids) d = AllPairs-cons (λ (a b : List ℕ). a ≢ b) id ids
     (λ k e l same. both_ways _ d.0 (list_any_at (bytes_eq id) ids k e l (ap (bytes_eq id) (sym same) ∙ bytes_self id))) (are_distinct ids d.1)
 
-none_take : (n : ℕ) (ms : List Message) (id : List ℕ) → has_id (ids_of ms) id ≡ false → has_id (ids_of (take n ms)) id ≡ false
-none_take n ms id e = (or_parts _ _ (sym (ids_both (take n ms) (drop n ms) id) ∙ rw (take-append-drop n ms) e)).0
-
 pub distinct_take : (n : ℕ) (ms : List Message) → Distinct (ids_of ms) → Distinct (ids_of (take n ms))
 distinct_take zero ms d = tt
 distinct_take (suc n) [] d = tt
-distinct_take (suc n) (m ∷ ms) d = (none_take n ms m.uid d.0, distinct_take n ms d.1)
-
-none_filter : (p : Message → Bool) (ms : List Message) (id : List ℕ) → has_id (ids_of ms) id ≡ false → has_id (ids_of (filter p ms)) id ≡ false
-none_filter p [] id e = refl
-none_filter p (m ∷ ms) id e = let parts = or_parts (bytes_eq id m.uid) (has_id (ids_of ms) id) e in grind (arith, parts.0, none_filter p ms id parts.1)
+distinct_take (suc n) (m ∷ ms) d = (grind (arith, d.0, ids_both (take n ms) (drop n ms) m.uid, take-append-drop n ms), distinct_take n ms d.1)
 
 pub distinct_filter : (p : Message → Bool) (ms : List Message) → Distinct (ids_of ms) → Distinct (ids_of (filter p ms))
 distinct_filter p [] d = tt
-distinct_filter p (m ∷ ms) d = grind (arith, none_filter p ms m.uid d.0, distinct_filter p ms d.1)
+distinct_filter p (m ∷ ms) d = grind (arith, none_filter ms m.uid d.0, distinct_filter p ms d.1)
+  where
+    none_filter : (ms : List Message) (id : List ℕ) → has_id (ids_of ms) id ≡ false → has_id (ids_of (filter p ms)) id ≡ false
+    none_filter [] id e = refl
+    none_filter (m ∷ ms) id e = grind (arith, e, none_filter ms id)
 
 pub no_texts : (ms : List Message) (id : List ℕ) → has_id (ids_of ms) id ≡ false → texts_of ms id ≡ []
 no_texts [] id e = refl
-no_texts (m ∷ ms) id e = let parts = or_parts (bytes_eq id m.uid) (has_id (ids_of ms) id) e in grind (arith, parts.0, no_texts ms id parts.1)
+no_texts (m ∷ ms) id e = grind (arith, e, no_texts ms id)
 
 -- an id that an earlier message has isn't among these
 pub other_id : (m : Message) (ms : List Message) (id : List ℕ) → has_id (ids_of ms) m.uid ≡ false → bytes_eq id m.uid ≡ true → has_id (ids_of ms) id ≡ false
-other_id m ms id none same = ap (has_id (ids_of ms)) (bytes_same id m.uid same) ∙ none
+other_id m ms id none same = rw (bytes_same id m.uid same) none
 
 pub lone : (ms : List Message) (id : List ℕ) → Distinct (ids_of ms) → length (texts_of ms id) ≤ 1
 lone [] id d = omega arith
-lone (m ∷ ms) id d =
-    let none = λ (e : bytes_eq id m.uid ≡ true). no_texts ms id (other_id m ms id d.0 e) in
-    grind (arith, none, lone ms id d.1)
+lone (m ∷ ms) id d = grind (arith, λ (e : bytes_eq id m.uid ≡ true). no_texts ms id (other_id m ms id d.0 e), lone ms id d.1)
 
 -- ---- the texts of an id in a part of a list
 
 -- of messages picked by their ids an id has all its texts, or none
 pub texts_filtered : (p : List ℕ → Bool) (ms : List Message) (id : List ℕ) → texts_of (filter (λ (m : Message). p m.uid) ms) id ≡ cond (p id) (texts_of ms id) []
 texts_filtered p [] id = grind arith
-texts_filtered p (m ∷ ms) id =
-    let same = λ (e : bytes_eq id m.uid ≡ true). ap p (bytes_same id m.uid e) in
-    grind (arith, texts_filtered p ms id, same)
+texts_filtered p (m ∷ ms) id = grind (arith, texts_filtered p ms id, λ (e : bytes_eq id m.uid ≡ true). ap p (bytes_same id m.uid e))
 
--- an id of the part has all its texts there
-abbrev pub HasTextsOf : List Message → List Message → List ℕ → Type 0
-HasTextsOf part ms id = has_id (ids_of part) id ≡ true → texts_of part id ≡ texts_of ms id
+-- the message's text is the only one of its id
+abbrev pub HasOneText : List Message → Message → Type 0
+HasOneText ms m = texts_of ms m.uid ≡ m.text ∷ []
 
-pub through : (xs ys zs : List Message) (id : List ℕ) → HasTextsOf xs ys id → HasTextsOf ys zs id → HasTextsOf xs zs id
-through xs ys zs id f g h = let e = f h in e ∙ g (has_texts ys id ∙ ap is_some (sym e) ∙ sym (has_texts xs id) ∙ h)
+pub each_text : (ms : List Message) → Distinct (ids_of ms) → AllByRecursion (HasOneText ms) ms
+each_text [] d = tt
+each_text (m ∷ ms) d = (
+  rw (bytes_self m.uid, no_texts ms m.uid d.0),
+  all_both ms (each_text ms d.1) (members ms) (λ x e there. grind (arith, e, there, other_id m ms x.uid d.0)),
+)
 
--- a part of the rest of a list, and perhaps its first message
-with_first : (q : Bool) (m : Message) (part ms : List Message) (id : List ℕ) → has_id (ids_of ms) m.uid ≡ false → has_id (ids_of part) m.uid ≡ false
-    → HasTextsOf part ms id → HasTextsOf (cond q (m ∷ part) part) (m ∷ ms) id
-with_first q m part ms id none none' ih is =
-    let here = λ (e : bytes_eq id m.uid ≡ true). no_texts ms id (other_id m ms id none e) in
-    let there = λ (e : bytes_eq id m.uid ≡ true). no_texts part id (other_id m part id none' e) in
-    let absent = λ (e : bytes_eq id m.uid ≡ true). other_id m part id none' e in
-    grind (arith, here, there, absent, ih, is)
+-- an id of a part has all its texts there
+pub whole_part : (part ms : List Message) (id : List ℕ) → Distinct (ids_of part) → AllByRecursion (HasOneText ms) part → has_id (ids_of part) id ≡ true → texts_of part id ≡ texts_of ms id
+whole_part part ms id d each = all_at (λ id. texts_of part id ≡ texts_of ms id) part (all_both part (each_text part d) each (λ m e f. e ∙ sym f))
 
-pub whole_filter : (p : Message → Bool) (ms : List Message) (id : List ℕ) → Distinct (ids_of ms) → HasTextsOf (filter p ms) ms id
-whole_filter p [] id d h = refl
-whole_filter p (m ∷ ms) id d h = with_first (p m) m (filter p ms) ms id d.0 (none_filter p ms m.uid d.0) (whole_filter p ms id d.1) h
+-- ---- what a record says of an id after it was merged and marked: the laws of the crates below
 
-pub whole_take : (n : ℕ) (ms : List Message) (id : List ℕ) → Distinct (ids_of ms) → HasTextsOf (take n ms) ms id
-whole_take zero ms id d h = absurd (both_ways false refl h)
-whole_take (suc n) [] id d h = refl
-whole_take (suc n) (m ∷ ms) id d h = with_first true m (take n ms) ms id d.0 (none_take n ms m.uid d.0) (whole_take n ms id d.1) h
+-- of names without their marks
+abbrev pub StemsOfBases : Type 0
+StemsOfBases = (name : List ℕ) → stem (base name) ≡ stem name
 
--- no id is among those of an empty list
-pub none_vanish : (ids : List (List ℕ)) (begun : List (List ℕ)) → begun ≡ [] → AllByRecursion (λ id. has_id begun id ≡ true) ids → ids ≡ []
-none_vanish [] begun e h = refl
-none_vanish (id ∷ ids) begun e h = absurd (both_ways false refl (sym (ap (λ l. has_id l id) e) ∙ h.0))
+-- of a record after a merge and after a mark
+abbrev MergedIsDelivered : Type 0
+MergedIsDelivered = (rows : List Row) (listing : List Item) (held : List Bool) (now : ℕ) (uid : List ℕ)
+    → is_delivered (merged rows listing held now) uid ≡ (is_delivered rows uid || is_flagged listing held uid)
+
+abbrev pub MarkedIsDelivered : Type 0
+MarkedIsDelivered = (rows : List Row) (uid other : List ℕ)
+    → is_delivered (marked rows uid) other ≡ (is_delivered rows other || (has_row rows other && bytes_eq uid other))
+
+-- of records and what is held
+pub record Records : Type 0 where
+  pub held : MergedIsDelivered
+  pub flags : (account : List ℕ) (maildir : Maildir) (items : List Item) (uid : List ℕ)
+      → is_flagged items (flags_of account maildir items) uid ≡ (has_item items uid && is_held account maildir uid)
+  pub marks : MarkedIsDelivered
+
+-- of all that a session stores
+pub record Below : Type 0 where
+  pub differ : StemsDiffer
+  pub stems : NamesHaveStems
+  pub own : StemsOfBases
+  pub filtered : DistinctAreFiltered
+  pub records : Records
+
+-- of the rows of a record
+pub record RowLaws : Type 0 where
+  pub held : MergedIsDelivered
+  pub listed : (rows : List Row) (listing : List Item) (held : List Bool) (now : ℕ) (uid : List ℕ)
+      → has_row (merged rows listing held now) uid ≡ (has_row rows uid || has_item listing uid)
+  pub marks : MarkedIsDelivered
+  pub keeps : (rows : List Row) (uid other : List ℕ) → has_row (marked rows uid) other ≡ has_row rows other
+
+-- ---- marks
+
+-- an id that is recorded after these were marked was so before, or is one of them
+pub delivered_marked : MarkedIsDelivered → (rows : List Row) (uids : List (List ℕ)) (id : List ℕ) → is_delivered (marked_all rows uids) id ≡ true
+    → (is_delivered rows id ≡ true) ⊎ (has_id uids id ≡ true)
+delivered_marked marks rows [] id e = inl e
+delivered_marked marks rows (uid ∷ uids) id e = grind (arith, delivered_marked marks (marked rows uid) uids id e, marks rows uid id, bytes_swap id uid)
+
+-- what is recorded stays so after others were marked
+pub marks_stay : MarkedIsDelivered → (rows : List Row) (uids : List (List ℕ)) (id : List ℕ) → is_delivered rows id ≡ true → is_delivered (marked_all rows uids) id ≡ true
+marks_stay marks rows [] id e = e
+marks_stay marks rows (uid ∷ uids) id e = marks_stay marks (marked rows uid) uids id (marks rows uid id ∙ or_left _ _ e)
+
+-- after a merge an id is recorded exactly if it was before, or is listed and held
+pub delivered_merged : Records → (account : List ℕ) (maildir : Maildir) (rows : List Row) (items : List Item) (now : ℕ) (id : List ℕ)
+    → is_delivered (merged rows items (flags_of account maildir items) now) id ≡ (is_delivered rows id || (has_item items id && is_held account maildir id))
+delivered_merged laws account maildir rows items now id = laws.held rows items (flags_of account maildir items) now id
+    ∙ rw (laws.flags account maildir items id)
+
+-- ---- with nothing held, and marks of ids that have rows
+
+module _ (laws : RowLaws) (rows : List Row) where
+  -- after such a merge an id is recorded exactly if it was before
+  pub delivered_unheld : (listing : List Item) (now : ℕ) (id : List ℕ) → is_delivered (merged rows listing (none_held listing) now) id ≡ is_delivered rows id
+  delivered_unheld listing now id = laws.held rows listing (none_held listing) now id ∙ rw (none_flagged listing) (or-false (is_delivered rows id))
+    where
+      none_flagged : (listing : List Item) → is_flagged listing (none_held listing) id ≡ false
+      none_flagged [] = refl
+      none_flagged (item ∷ listing) = none_flagged listing
+
+  -- after a mark an id is recorded exactly if it was before, or is the one that was marked
+  pub delivered_one : (uid id : List ℕ) → has_row rows uid ≡ true → is_delivered (marked rows uid) id ≡ (is_delivered rows id || bytes_eq id uid)
+  delivered_one uid id has = grind (arith, laws.marks rows uid id, bytes_swap uid id, has, λ (e : bytes_eq id uid ≡ true). bytes_same id uid e)
+
+pub rows_marked : RowLaws → (rows : List Row) (uids : List (List ℕ)) (id : List ℕ) → has_row (marked_all rows uids) id ≡ has_row rows id
+rows_marked laws rows [] id = refl
+rows_marked laws rows (uid ∷ uids) id = rows_marked laws (marked rows uid) uids id ∙ laws.keeps rows uid id
+
+-- the same for several ids
+pub delivered_all : RowLaws → (rows : List Row) (uids : List (List ℕ)) (id : List ℕ) → AllByRecursion (λ uid. has_row rows uid ≡ true) uids
+    → is_delivered (marked_all rows uids) id ≡ (is_delivered rows id || has_id uids id)
+delivered_all laws rows [] id h = sym (or-false (is_delivered rows id))
+delivered_all laws rows (uid ∷ uids) id h =
+    grind (arith, delivered_all laws (marked rows uid) uids id (all_map _ h.1 (λ u k. laws.keeps rows uid u ∙ k)), delivered_one laws rows uid id h.0)

@@ -1,47 +1,41 @@
--- What the replies to STAT, UIDL, LIST and RETR say of an honest server's maildrop.
-use Rattle.std.proofs.Common.{◌≡◌, ◌-◌, ◌+◌, ◌<◌, ℕ, zero, suc, List, [], ◌∷◌, ◌++◌, Bool, not, rules, length, map, get_or, refl, sym, ◌∙◌, ap, subst, arith, Some, Ok, Result, Contains, true, false}
-use Rattle.std.specs.List.{AllByRecursion, AllZip, enumerate_from, count_by}
-use Rattle.std.specs.List.Sorted.{IsPermutation}
+-- What was got splits into replies in one way only, so what was read is what an honest server said of its maildrop.
+use Rattle.std.proofs.Common.{◌≡◌, ◌-◌, ◌+◌, ◌<◌, ℕ, List, [], ◌∷◌, ◌++◌, Bool, not, rules, length, map, get_or, refl, sym, ◌∙◌, ap, arith, Ok, Result, Option, Contains, true, false, inl, inr, append_assoc, Some, None}
+use Rattle.std.specs.List.{All, AllByRecursion, AllZip, HoldsAt, enumerate_from, count_by, flat_map}
 use Rattle.std.proofs.lemmas.List.{ext_get_or, length-map, get_or-map, get_or_default, append-nil, append_cancel_left}
+use Rattle.std.proofs.lemmas.List.Elements.{All-from_recursion, recursion_from_All}
 use Rattle.std.proofs.lemmas.List.Sorted.{Contains-permutation}
 use Rattle.std.proofs.lemmas.List.FromFn.{length-enumerate_from, get_or-enumerate_from}
 use Rattle.std.proofs.lemmas.List.Sums.{length-filter}
-use Rattle.pop3_wire.specs.declared.command.Command.{Command}
-use Rattle.pop3_wire.specs.declared.command.Command.TheVariants.{Stat, UidlAll, ListAll, Retr}
+use Rattle.pop3_wire.specs.declared.command.Command.TheVariants.{Stat, Retr, UidlAll, ListAll}
 use Rattle.pop3_wire.specs.declared.fault.WireFault.{WireFault}
-use Rattle.pop3_wire.specs.declared.reply.Status.TheVariants.{Positive}
-use Rattle.pop3_wire.specs.Line.{ended, OneLine}
-use Rattle.pop3_wire.specs.Body.{IsContent, unstuffed, Body}
+use Rattle.pop3_wire.specs.declared.reply.Status.TheVariants.{Positive, Negative}
+use Rattle.pop3_wire.specs.Line.{IsLine, ended, OneLine}
+use Rattle.pop3_wire.specs.Body.{IsContent, unstuffed}
 use Rattle.pop3_wire.specs.Reply.{IsFirstLine, without_space, indicator}
-use Rattle.pop3_wire.specs.Fields.{number_and_size}
+use Rattle.pop3_wire.specs.Fields.{number_and_size, number_and_id}
 use Rattle.pop3_wire.specs.World.{Message}
-use Rattle.pop3_wire.specs.Honest.{SaysAnything, ListsAll, IsScanRow, IsUidRow, unmarked_from, Grants, no_marks}
+use Rattle.pop3_wire.specs.Honest.{SaysAnything, ListsAll, unmarked_from, Grants, no_marks, Reply, Replies, OneListOfCommands}
 use Rattle.pop3_wire.specs.Stuffed.{OneBody}
 use Rattle.mail_terms.specs.Listing.{Item}
-use Rattle.mail_terms.specs.declared.listing.UidRow.{UidRow}
-use Rattle.mail_terms.specs.declared.listing.ScanRow.{ScanRow}
 use Rattle.run_law.specs.Mails.{item_of, listing_of}
-use Rattle.pop3_wire.specs.Reading.{WholeReply, body_bytes, reply_bytes, has_body, IsBodyIf, IsUidLine, IsScanLine, OneListOfLines, GivesCount}
-use Rattle.run_law.specs.Readings.{IsGood, IsNumbered, TextsAreMessages, ListingIsMaildrop}
-use Rattle.run_law.proofs.Lists.{filter_all}
+use Rattle.pop3_wire.specs.Reading.{WholeReply, body_bytes, reply_bytes, HasListing, OneListOfLines, GivesCount, has_body, IsBodyIf, IsReplyTo, OneReading}
+use Rattle.run_law.specs.Readings.{IsGood, TextsAreMessages, ListingIsMaildrop, AreGood, AreGranted, HonestIsGranted}
+use Rattle.run_law.proofs.Ids.{filter_all}
+use Rattle.pop3_wire.specs.declared.command.Command.{Command}
+
+-- a reply's body is what follows its first line
+body_is : OneLine → (reply : WholeReply) (first body : List ℕ) → IsLine reply.first → SaysAnything Positive first → reply_bytes reply ≡ first ++ body → body ≡ body_bytes reply.body
+body_is one reply first body line says whole = (one says.1.line reply.first body (body_bytes reply.body) says.1.is_line line (rw (← says.1.whole) (sym whole))).1
 
 -- ---- texts
 
--- the text of a granted RETR is its message's
-text_is : OneLine → OneBody → (drop : List Message) (marks next : List Bool) (number : ℕ) (reply : WholeReply) (text : List ℕ) → IsGood (Retr number) reply
-    → Grants drop marks (Retr number) (reply_bytes reply) next → Body (body_bytes reply.body) text → IsNumbered drop (number, text)
-text_is one bodies drop marks next number reply text good g body =
-    let behind : g.1 ≡ body_bytes reply.body = (one g.4.1.line reply.first g.1 (body_bytes reply.body) g.4.1.is_line good.line
-    (ap (λ f. f ++ g.1) (sym g.4.1.whole) ∙ sym g.3)).1 in
-    let same = bodies (body_bytes reply.body) g.1 text g.2.text [] [] body g.6 (ap (λ b. b ++ []) (sym behind)) in
-    (g.2, g.5.there, same.1)
-
 pub texts_are_messages : OneLine → OneBody → TextsAreMessages
-texts_are_messages one bodies drop marks commands [] found good are found_is = subst (AllByRecursion (IsNumbered drop)) (sym found_is) tt
+texts_are_messages one bodies drop marks commands [] found good are found_is = rw found_is tt
 texts_are_messages one bodies drop marks [] (reply ∷ replies) found good are found_is = absurd good
-texts_are_messages one bodies drop marks (Retr number ∷ commands) (reply ∷ replies) found good are found_is =
-    subst (AllByRecursion (IsNumbered drop)) (sym found_is.3)
-    (text_is one bodies drop marks are.0 number reply found_is.0 good.0 are.1 found_is.2, texts_are_messages one bodies drop are.0 commands replies found_is.1 good.1 are.2 found_is.4)
+texts_are_messages one bodies drop marks (Retr number ∷ commands) (reply ∷ replies) found good are (text, more, body, is, later) =
+    let (first, rest, message, whole, says, unmarked, body', _) = are.1 in
+    let same = bodies (body_bytes reply.body) (body_bytes reply.body) text message.text [] [] body (rw (body_is one reply first rest good.0.line says whole) at body') refl in
+    rw is ((message, unmarked.there, same.1), texts_are_messages one bodies drop are.0 commands replies more good.1 are.2 later)
 texts_are_messages one bodies drop marks (other ∷ commands) (reply ∷ replies) found good are found_is =
     texts_are_messages one bodies drop are.0 commands replies found good.1 are.2 found_is
 
@@ -65,111 +59,143 @@ pair_of n x = (n, x)
 same_row : {V : Type 0} (n m : ℕ) (x y : V) → ◌≡◌ {A = Result (ℕ × V) WireFault} (Ok (n, x)) (Ok (m, y)) → (n ≡ m) × (x ≡ y)
 same_row {V} n m x y e = let both : pair_of n x ≡ pair_of m y = cc in (ap (λ (p : ℕ × V). p.0) both, ap (λ (p : ℕ × V). p.1) both)
 
--- a row has its message's number, and what a listing says of it
-abbrev Shows : {R V : Type 0} → (R → ℕ) → (R → V) → (Message → V) → ℕ × Message → R → Type 0
-Shows number value of q row = (number row ≡ q.0) × (value row ≡ of q.1)
+nobody : Message
+nobody = record { uid = []; size = 0; text = [] }
 
--- rows as the session reads them, and as the server wrote them, over the same lines
-both_read : {R V : Type 0} (IsLineOf : List ℕ → R → Type 0) (IsRowOf : ℕ × Message → List ℕ → Type 0) (number : R → ℕ) (value : R → V) (of : Message → V)
-    → ((q : ℕ × Message) (line : List ℕ) (row : R) → IsRowOf q (unstuffed line) → IsLineOf line row → Shows number value of q row)
-    → (numbered : List (ℕ × Message)) (lines : List (List ℕ)) (rows : List R) → AllZip IsRowOf numbered (map unstuffed lines) → AllZip IsLineOf lines rows
-    → AllZip (Shows number value of) numbered rows
-both_read IsLineOf IsRowOf number value of f [] [] [] h k = tt
-both_read IsLineOf IsRowOf number value of f (q ∷ qs) (line ∷ lines) (row ∷ rows) h k = (f q line row h.0 k.0, both_read IsLineOf IsRowOf number value of f qs lines rows h.1 k.1)
-both_read IsLineOf IsRowOf number value of f qs lines rows h k = search rules
+-- the replies to UIDL and to LIST: how a row is read, its number and value, and what of a message and of an item the value is
+module _ {R V : Type 0} (read : List ℕ → Result (ℕ × V) WireFault) (number : R → ℕ) (value : R → V) (of : Message → V) (what : Item → V) (items : List Item) where
+  -- a line as the server writes it, and as the session reads it
+  abbrev IsRow : ℕ × Message → List ℕ → Type 0
+  IsRow q line = read line ≡ Ok (q.0, of q.1)
 
-zip_at : {X R : Type 0} (P : X → R → Type 0) (xs : List X) (rows : List R) → AllZip P xs rows → (j : ℕ) (d : X) → j < length xs
-    → (row : R) × (j < length rows) × (get_or rows j row ≡ row) × P (get_or xs j d) row
-zip_at P [] rows h j d l = absurd (omega arith)
-zip_at P (x ∷ xs) [] h j d l = absurd h
-zip_at P (x ∷ xs) (row ∷ rows) h zero d l = (row, omega arith, refl, h.0)
-zip_at P (x ∷ xs) (row ∷ rows) h (suc j) d l =
-    let r = zip_at P xs rows h.1 j d (omega (arith, l)) in (r.0, (let b = r.1 in omega (arith, b)), r.2, r.3)
+  abbrev IsRead : List ℕ → R → Type 0
+  IsRead line row = read (unstuffed line) ≡ Ok (number row, value row)
+
+  -- the item of this number has this value
+  abbrev Has : ℕ → V → Type 0
+  Has n x = HoldsAt (λ (item : Item). what item ≡ x) items (n - 1)
+
+  -- over the same lines
+  each_has : (numbered : List (ℕ × Message)) (lines : List (List ℕ)) (rows : List R) → AllZip IsRow numbered (map unstuffed lines) → AllZip IsRead lines rows
+      → AllByRecursion (λ row. Has (number row) (value row)) rows → AllByRecursion (λ (q : ℕ × Message). Has q.0 (of q.1)) numbered
+  each_has [] lines rows h k a = tt
+  each_has (q ∷ qs) (line ∷ lines) (row ∷ rows) h k a =
+      let same = same_row (number row) q.0 (value row) (of q.1) (sym k.0 ∙ h.0) in (rw (same.0, same.1) at a.0, each_has qs lines rows h.1 k.1 a.1)
+  each_has qs lines rows h k a = search rules
+
+  -- so the item at each place has the value of the message there
+  value_at : OneLine → OneListOfLines → (drop : List Message) (marks : List Bool) (reply : WholeReply) (rows : List R) → marks ≡ no_marks drop → IsLine reply.first
+      → (listing : HasListing IsRead reply rows) → AllByRecursion IsContent listing.0
+      → (first body : List ℕ) → reply_bytes reply ≡ first ++ body → SaysAnything Positive first → ListsAll IsRow drop marks body
+      → All (λ row. Has (number row) (value row)) rows → (k : ℕ) → k < length drop → what (get_or items k (item_of nobody)) ≡ of (get_or drop k nobody)
+  value_at one lists drop marks reply rows none line (lines, is, are) content first body whole says l all k inside =
+      let same : l.lines ≡ lines = (lists l.lines lines [] [] l.content content (ap (λ b. b ++ []) (sym l.whole ∙ body_is one reply first body line says whole ∙ ap body_bytes is))).0 in
+      let each = All-from_recursion _ l.numbered (each_has l.numbered lines rows (rw same at l.rows) are (recursion_from_All _ rows all)) in
+      let q : ℕ × Message = (1 + k, get_or drop k nobody) in
+      let placed = get_or-enumerate_from 1 drop k q inside ∙ ap (pair_of (1 + k)) (get_or_default drop k q.1 nobody inside) in
+      let there : Contains (enumerate_from 1 drop) q = (k, omega (arith, inside, length-enumerate_from 1 drop), placed) in
+      let c = Contains-permutation (enumerate_from 1 drop) l.numbered q (rw (none, fresh) at l.all) there in
+      let place : 1 + k - 1 ≡ k = omega arith in
+      rw (c.2, place) at (each c.0 q c.1 (item_of nobody))
 
 -- ---- the three replies
 
--- the lines of a listing are those that the server wrote
-listed_lines : OneLine → OneListOfLines → (IsRow : ℕ × Message → List ℕ → Type 0) (command : Command) (drop : List Message) (marks : List Bool) (reply : WholeReply) (first body : List ℕ) (lines : List (List ℕ))
-    → IsGood command reply → reply_bytes reply ≡ first ++ body → SaysAnything Positive first → (l : ListsAll IsRow drop marks body) → reply.body ≡ Some lines
-    → AllZip IsRow l.numbered (map unstuffed lines)
-listed_lines one lists IsRow command drop marks reply first body lines good whole says l is =
-    subst (λ (ls : List (List ℕ)). AllZip IsRow l.numbered (map unstuffed ls)) same l.rows
-  where
-    behind : body ≡ body_bytes reply.body
-    behind = (one says.1.line reply.first body (body_bytes reply.body) says.1.is_line good.line (ap (λ f. f ++ body) (sym says.1.whole) ∙ sym whole)).1
-
-    body_content : (has : Bool) → IsBodyIf has (Some lines) → AllByRecursion IsContent lines
-    body_content true content = content
-    body_content false none = absurd none
-
-    content : AllByRecursion IsContent lines
-    content = body_content (has_body command) (subst (IsBodyIf (has_body command)) is good.body)
-
-    same : l.lines ≡ lines
-    same = (lists l.lines lines [] [] l.content content (ap (λ b. b ++ []) (sym l.whole ∙ behind ∙ ap body_bytes is))).0
-
 -- STAT's count
-pub rest_same : (line rest other : List ℕ) → IsFirstLine line Positive rest → IsFirstLine line Positive other → rest ≡ other
-rest_same line rest other p q = p.2 ∙ ap without_space (append_cancel_left (indicator Positive) p.0 q.0 (sym p.1 ∙ q.1)) ∙ sym q.2
-
 count_same : OneLine → (drop : List Message) (marks next : List Bool) (stat : WholeReply) (count : ℕ) → IsGood Stat stat → Grants drop marks Stat (reply_bytes stat) next → GivesCount stat count
     → count ≡ count_by not marks
 count_same one drop marks next stat count good g gives =
     let line : g.2.line ≡ stat.first = (one g.2.line stat.first [] (body_bytes stat.body) g.2.is_line good.line (append-nil (ended g.2.line) ∙ sym g.2.whole)).0 in
-    let rest : gives.0 ≡ g.0 = rest_same stat.first gives.0 g.0 gives.2 (subst (λ l. IsFirstLine l Positive g.0) line g.2.first) in
+    let first = rw line at g.2.first in
+    let rest : gives.0 ≡ g.0 = gives.2.2 ∙ ap without_space (append_cancel_left (indicator Positive) gives.2.0 first.0 (sym gives.2.1 ∙ first.1)) ∙ sym first.2 in
     (same_row count (count_by not marks) gives.1 g.1 (sym gives.3 ∙ ap number_and_size rest ∙ g.3)).0
-
-nobody : Message
-nobody = record { uid = []; size = 0; text = [] }
 
 same_item : (i : Item) (m : Message) → i.uid ≡ m.uid → i.size ≡ m.size → i ≡ item_of m
 same_item i m p q = λ t. record { uid = p t; size = q t }
 
 pub listing_is_maildrop : OneLine → OneListOfLines → ListingIsMaildrop
 listing_is_maildrop one lists drop name word commands user pass stat uidl list replies items good are listed =
-    ext_get_or (item_of nobody) items (listing_of drop) (total ∙ sym (length-map drop item_of))
-    (λ k l. let inside : k < length drop = omega (arith, l, total) in
-    same_item (get_or items k (item_of nobody)) (get_or drop k nobody) (uid_at k inside) (size_at k inside) ∙ sym (get_or-map item_of drop k nobody (item_of nobody) inside))
-  where
-    -- the marks stay
-    marks_two : are.2.0 ≡ no_marks drop
-    marks_two = are.2.1.1 ∙ are.1.1
+    let marks : are.2.0 ≡ no_marks drop = are.2.1.1 ∙ are.1.1 in
+    let stays : are.2.2.0 ≡ no_marks drop = are.2.2.1.4 ∙ marks in
+    let total = listed.joined.count ∙ count_same one drop are.2.0 are.2.2.0 stat listed.count good.1.1.0 are.2.2.1 listed.counts ∙ ap (count_by not) marks ∙ fresh_count drop in
+    let g = are.2.2.2.1 in
+    let h = are.2.2.2.2.1 in
+    ext_get_or (item_of nobody) items (listing_of drop) (total ∙ sym (length-map drop item_of)) (λ k l.
+    let inside : k < length drop = omega (arith, l, total) in
+    same_item (get_or items k (item_of nobody)) (get_or drop k nobody)
+    (value_at number_and_id (λ row. row.number) (λ row. row.uid.items) (λ m. m.uid) (λ i. i.uid) items one lists drop are.2.2.0 uidl listed.uids stays good.1.1.1.0.line
+    listed.named (rw listed.named.1 at good.1.1.1.0.body) g.0 g.1 g.2 g.3 g.4 listed.joined.ids k inside)
+    (value_at number_and_size (λ row. row.number) (λ row. row.size) (λ m. m.size) (λ i. i.size) items one lists drop are.2.2.2.0 list listed.sizes (g.5 ∙ stays) good.1.1.1.1.0.line
+    listed.sized (rw listed.sized.1 at good.1.1.1.1.0.body) h.0 h.1 h.2 h.3 h.4 listed.joined.octets k inside)
+    ∙ sym (get_or-map item_of drop k nobody (item_of nobody) inside))
 
-    total : length items ≡ length drop
-    total = listed.joined.count ∙ count_same one drop are.2.0 are.2.2.0 stat listed.count good.1.1.0 are.2.2.1 listed.counts ∙ ap (count_by not) marks_two ∙ fresh_count drop
+-- ---- what was got splits into replies in one way only
 
-    -- what the rows of a listing say of each message
-    row_at : {R V : Type 0} (IsLineOf : List ℕ → R → Type 0) (IsRowOf : ℕ × Message → List ℕ → Type 0) (number : R → ℕ) (value : R → V) (of : Message → V)
-        → ((q : ℕ × Message) (line : List ℕ) (row : R) → IsRowOf q (unstuffed line) → IsLineOf line row → Shows number value of q row)
-        → (marks : List Bool) (numbered : List (ℕ × Message)) (lines : List (List ℕ)) (rows : List R) → marks ≡ no_marks drop
-        → IsPermutation (unmarked_from 1 drop marks) numbered → AllZip IsRowOf numbered (map unstuffed lines) → AllZip IsLineOf lines rows
-        → (k : ℕ) → k < length drop
-        → (j : ℕ) × (row : R) × (j < length rows) × (get_or rows j row ≡ row) × (number row - 1 ≡ k) × (value row ≡ of (get_or drop k nobody))
-    row_at IsLineOf IsRowOf number value of f marks numbered lines rows fresh_marks all zip read_are k inside =
-        let same = subst (λ (l : List (ℕ × Message)). IsPermutation l numbered) (ap (unmarked_from 1 drop) fresh_marks ∙ fresh 1 drop) all in
-        let pairs = both_read IsLineOf IsRowOf number value of f numbered lines rows zip read_are in
-        let q : ℕ × Message = (1 + k, get_or drop k nobody) in
-        let placed = get_or-enumerate_from 1 drop k q inside ∙ ap (pair_of (1 + k)) (get_or_default drop k q.1 nobody inside) in
-        let there : Contains (enumerate_from 1 drop) q = (k, (omega (arith, inside, length-enumerate_from 1 drop)), placed) in
-        let c = Contains-permutation (enumerate_from 1 drop) numbered q same there in
-        let r = zip_at (Shows number value of) numbered rows pairs c.0 q c.1 in
-        let counted = r.3.0 ∙ ap (λ (p : ℕ × Message). p.0) c.2 in
-        (c.0, r.0, r.1, r.2, (omega (arith, counted)), r.3.1 ∙ ap (λ (p : ℕ × Message). of p.1) c.2)
+-- a line isn't both positive and negative
+not_both : (line rest other : List ℕ) → IsFirstLine line Positive rest → IsFirstLine line Negative other → ⊥
+not_both line rest other p n =
+    let head : ◌≡◌ {A = ℕ} 43 45 = cc (p.1, n.1) in absurd (omega (arith, head))
 
-    uid_at : (k : ℕ) → k < length drop → (get_or items k (item_of nobody)).uid ≡ (get_or drop k nobody).uid
-    uid_at k inside =
-        let g = are.2.2.2.1 in
-        let zip = listed_lines one lists IsUidRow UidlAll drop are.2.2.0 uidl g.0 g.1 listed.named.0 good.1.1.1.0 g.2 g.3 g.4 listed.named.1 in
-        let r = row_at IsUidLine IsUidRow (λ row. row.number) (λ row. row.uid.items) (λ m. m.uid) (λ q line row h r. same_row _ _ _ _ (sym r ∙ h))
-        are.2.2.0 g.4.numbered listed.named.0 listed.uids (are.2.2.1.4 ∙ marks_two) g.4.all zip listed.named.2 k inside in
-        ap (λ j. (get_or items j (item_of nobody)).uid) (sym r.4 ∙ ap (λ (row : UidRow). row.number - 1) (sym r.3))
-        ∙ listed.joined.ids r.0 r.1 r.2 (item_of nobody) ∙ ap (λ (row : UidRow). row.uid.items) r.3 ∙ r.5
+-- the octets are those of a whole reply to the command
+pub record Looks (command : Command) (bytes : List ℕ) : Type 0 where
+  pub reply : WholeReply
+  pub is : IsReplyTo (Some command) reply
+  pub whole : bytes ≡ reply_bytes reply
 
-    size_at : (k : ℕ) → k < length drop → (get_or items k (item_of nobody)).size ≡ (get_or drop k nobody).size
-    size_at k inside =
-        let g = are.2.2.2.2.1 in
-        let zip = listed_lines one lists IsScanRow ListAll drop are.2.2.2.0 list g.0 g.1 listed.sized.0 good.1.1.1.1.0 g.2 g.3 g.4 listed.sized.1 in
-        let r = row_at IsScanLine IsScanRow (λ row. row.number) (λ row. row.size) (λ m. m.size) (λ q line row h r. same_row _ _ _ _ (sym r ∙ h))
-        are.2.2.2.0 g.4.numbered listed.sized.0 listed.sizes (are.2.2.2.1.5 ∙ are.2.2.1.4 ∙ marks_two) g.4.all zip listed.sized.2 k inside in
-        ap (λ j. (get_or items j (item_of nobody)).size) (sym r.4 ∙ ap (λ (row : ScanRow). row.number - 1) (sym r.3))
-        ∙ listed.joined.octets r.0 r.1 r.2 (item_of nobody) ∙ ap (λ (row : ScanRow). row.size) r.3 ∙ r.5
+look : (command : Command) {bytes first body : List ℕ} (lines : Option (List (List ℕ))) → IsBodyIf (has_body command) lines → bytes ≡ first ++ body → SaysAnything Positive first → body ≡ body_bytes lines
+    → Looks command bytes
+look command lines has whole (rest, says) is = record {
+  reply = record { first = says.line; body = lines };
+  is = record { line = says.is_line; status = inr ((rest, says.first), has) };
+  whole = whole ∙ rw (says.whole, is);
+}
+
+plain_look : (command : Command) (bytes : List ℕ) → IsBodyIf (has_body command) None → SaysAnything Positive bytes → Looks command bytes
+plain_look command bytes none says = look command None none (sym (append-nil bytes)) says refl
+
+-- what a positive reply looks like
+looks : (drop : List Message) (marks : List Bool) (command : Command) (bytes : List ℕ) (next : List Bool) → Grants drop marks command bytes next → Looks command bytes
+looks drop marks UidlAll bytes next g = look UidlAll (Some g.4.lines) g.4.content g.2 g.3 g.4.whole
+looks drop marks ListAll bytes next g = look ListAll (Some g.4.lines) g.4.content g.2 g.3 g.4.whole
+looks drop marks (Retr number) bytes next g = look (Retr number) (Some g.6.lines) g.6.content g.3 g.4 g.6.whole
+looks drop marks other bytes next g = search (rules, plain_look)
+
+module _ (law : OneReading) (drop : List Message) where
+  -- what was read of a reply is what was said
+  same_reply : {command : Command} {bytes : List ℕ} (reply : WholeReply) (more tail : List ℕ) → (look : Looks command bytes) → IsGood command reply
+      → bytes ++ more ≡ reply_bytes reply ++ tail → (look.reply ≡ reply) × (more ≡ tail)
+  same_reply {command} reply more tail look good e =
+      let same = law (Some command ∷ []) (look.reply ∷ []) (reply ∷ []) more tail (look.is, tt) (record { line = good.line; status = inr ((good.rest, good.positive), good.body) }, tt)
+      (rw (append-nil, append-nil, ← look.whole) e) in
+      ((let are : look.reply ∷ [] ≡ reply ∷ [] = same.0 in cc), same.1)
+
+  -- a positive reply was granted
+  granted : (marks : List Bool) (command : Command) (bytes : List ℕ) (next : List Bool) (reply : WholeReply) (more tail : List ℕ)
+      → Reply drop marks command bytes next → IsGood command reply → bytes ++ more ≡ reply_bytes reply ++ tail → Grants drop marks command (reply_bytes reply) next × (more ≡ tail)
+  granted marks command bytes next reply more tail (inl ((rest, says), stays)) good e =
+      let refused : Looks command bytes = record {
+        reply = record { first = says.line; body = None };
+        is = record { line = says.is_line; status = inl ((rest, says.first), tt) };
+        whole = says.whole ∙ sym (append-nil (ended says.line));
+      } in
+      absurd (not_both reply.first good.rest rest good.positive (rw (ap (λ (r : WholeReply). r.first) (same_reply reply more tail refused good e).0) at says.first))
+  granted marks command bytes next reply more tail (inr grants) good e =
+      let look = looks drop marks command bytes next grants in
+      let same = same_reply reply more tail look good e in
+      (rw (look.whole, same.0) at grants, same.1)
+
+  walk : (marks last : List Bool) (commands : List Command) (replies : List WholeReply) (bytes later tail : List ℕ)
+      → Replies drop marks commands bytes last → AreGood commands replies → bytes ++ later ≡ flat_map reply_bytes replies ++ tail → AreGranted drop marks commands replies
+  walk marks last commands [] bytes later tail said good e = tt
+  walk marks last [] (reply ∷ replies) bytes later tail said good e = absurd good
+  walk marks last (command ∷ commands) (reply ∷ replies) bytes later tail said good e =
+      let one = granted marks command said.0 said.2 reply (said.1 ++ later) (flat_map reply_bytes replies ++ tail) said.4 good.0
+      (rw (← append_assoc said.0 said.1 later, ← said.3) (e ∙ append_assoc (reply_bytes reply) (flat_map reply_bytes replies) tail)) in
+      (said.2, one.0, walk said.2 last commands replies said.1 later tail said.5 good.1 one.1)
+
+pub honest_is_granted : OneLine → OneReading → OneListOfCommands → HonestIsGranted
+honest_is_granted one law told drop sent got marks commands replies honest talked =
+    let same = told commands honest.commands sent talked.asked honest.asked in
+    let behind = one honest.greets.1.line talked.hello honest.replies ((flat_map reply_bytes replies ++ talked.rest) ++ honest.later) honest.greets.1.is_line talked.line
+    (rw (← honest.greets.1.whole, honest.begins, talked.whole) (append_assoc (ended talked.hello) (flat_map reply_bytes replies ++ talked.rest) honest.later)) in
+    rw same (walk law drop (no_marks drop) marks honest.commands replies honest.replies [] (talked.rest ++ honest.later) honest.replied
+    (rw same at talked.good) (rw append-nil (behind.1 ∙ append_assoc (flat_map reply_bytes replies) talked.rest honest.later)))

@@ -1,4 +1,4 @@
-use Rattle.run_law.proofs.Ends as laws
+use Rattle.run_law.proofs.Core as laws
 use Rattle.run_law.proofs.mbox_can_end.Goals as goal
 
 pub returns : goal.returns
