@@ -1,3 +1,2 @@
 mod DigestLemmas
-mod ListingLemmas
 mod MaildirLemmas

@@ -1,16 +1,20 @@
 -- The files that a folder in memory keeps, as entries.
-use Rattle.std.proofs.Common.{◌≡◌, ℕ, zero, suc, ◌<◌, length, get_or, slice_set, refl, List, [], ◌∷◌, ◌++◌, cond, sym, ap, subst, ◌∙◌, arith, Bool, false, Option, Some, None, Result, Ok, Err, inl, inr, String, Global, string_bytes}
-use Rattle.std.specs.Prelude.{HoldsAt, bytes_eq, ◌⊎◌, ◌≢◌, Contains, OnOk, OnErr}
+use Rattle.std.proofs.Common.{◌≡◌, ◌⊎◌, ◌≢◌, ℕ, zero, suc, ◌<◌, length, get_or, slice_set, refl, List, [], ◌∷◌, ◌++◌, sym, ap, ◌∙◌, arith, false, Option, Some, None, Result, Ok, Err, OnOk, OnErr, Contains, HoldsAt, bytes_eq, inl, inr, ⊎_elim, String, Global, string_bytes, ◌-◌, ◌≤◌, take, drop, map, subst, true, option_map, append_assoc, append-nil, length-append, length-take, take-append-drop, take-take, get_or-take, slice_index}
 use Rattle.std.proofs.lemmas.Slice.Eq.{bytes_eq-Decides}
-use Rattle.std.proofs.lemmas.Bool.{cases_Bool, false_from_ne_true}
-use Rattle.std.proofs.lemmas.List.{map-append, get_or_default}
+use Rattle.std.proofs.lemmas.Bool.{cases_Bool, cases_lt}
+use Rattle.std.proofs.lemmas.List.{map-append, get_or_default, get_or_append_left, get_or-append_right}
 use Rattle.std.proofs.lemmas.List.Quantifiers.{all_pairs_push}
+use Rattle.std.proofs.lemmas.List.Recursion.{found_at as found_first}
 use Rattle.mail_terms.specs.Distinct.{AreDistinct}
 use Rattle.folder_store.specs.declared.memory.MemoryBlob.{MemoryBlob}
 use Rattle.mail_store.specs.declared.fault.StoreFault.{StoreFault}
-use Rattle.folder_store.specs.FileFolder.{Blob, Directory, Entry, entry, names_in, find, placed, appended, cut, flushed, changed, AppendsTo, CutsTo, FlushesFile}
-use Rattle.folder_store.specs.MemoryFolder.{blob_of, entry_of, entries_of}
-use Rattle.folder_store.proofs.Files.{find_here, find_later, not_ahead, placed_new}
+use Rattle.folder_store.specs.FileFolder.{Blob, Directory, Entry, names_in, find, placed, appended, cut, flushed, changed, AppendsTo, CutsTo, FlushesFile, Older, entry, secured}
+use Rattle.folder_store.specs.MemoryFolder.{blob_of, entry_of, entries_of, older_of, left_under, IsZeroed, MayBeOf, Survive}
+use Rattle.std.proofs.lemmas.List.Elements.{Contains-get_or}
+use Rattle.std.proofs.lemmas.List.Kept.{AllPairs-cons}
+use Rattle.folder_store.specs.PowerLoss.{IsLeft, IsLeftOf, WasOnce, Loses}
+use Rattle.folder_store.proofs.Files.{differ, find_later, not_ahead, placed_new, find_here, none_of, not_here}
+use Rattle.folder_store.proofs.PowerLoss.{left_content, left_is_flushed}
 
 abbrev pub Pair : Type 0
 Pair = String Global × MemoryBlob
@@ -28,15 +32,12 @@ names_placed name b (e ∷ es) = elim (cases_Bool (bytes_eq name e.name)) [
 ]
 
 placed_distinct : (name : List ℕ) (b : Blob) (es : List Entry) → AreDistinct (names_in es) → AreDistinct (names_in (placed name b es))
-placed_distinct name b es h = elim (names_placed name b es) [
-  | inl same ↦ subst (λ (ns : List (List ℕ)). AreDistinct ns) (sym same) h
-  | inr more ↦ subst (λ (ns : List (List ℕ)). AreDistinct ns) (sym more.0)
-      (all_pairs_push (λ a b. a ≢ b) (names_in es) name h
-      (λ k d inside same. more.1 (k, inside, get_or_default (names_in es) k name d inside ∙ same)))
-]
+placed_distinct name b es h = ⊎_elim (λ same. rw same h)
+    (λ more. rw more.0 (all_pairs_push (λ a b. a ≢ b) (names_in es) name h
+    (λ k d inside same. more.1 (k, inside, get_or_default (names_in es) k name d inside ∙ same)))) (names_placed name b es)
 
 apart_of : (a b : List ℕ) → (b ≡ a → ⊥) → bytes_eq a b ≡ false
-apart_of a b differ = false_from_ne_true (bytes_eq a b) (λ same. differ (sym ((bytes_eq-Decides a b).0 same)))
+apart_of a b apart = differ a b (λ same. apart (sym same))
 
 pub not_found : (files : List Pair) (name : List ℕ) → ((k : ℕ) (d : Pair) → k < length files → string_bytes (get_or files k d).0 ≡ name → ⊥)
     → find name (entries_of files) ≡ None
@@ -48,25 +49,18 @@ not_found (p ∷ files) name none =
 pub found_at : (files : List Pair) (name : List ℕ) (i : ℕ) → i < length files → HoldsAt (λ (f : Pair). string_bytes f.0 ≡ name) files i
     → ((k : ℕ) (d : Pair) → k < i → string_bytes (get_or files k d).0 ≡ name → ⊥) → (x : Pair)
     → find name (entries_of files) ≡ Some (blob_of (get_or files i x).1)
-found_at [] name i below at first x = absurd (omega (arith, below))
-found_at (p ∷ files) name zero below at first x =
-    find_here name (entry_of p) (entries_of files) ((bytes_eq-Decides name (string_bytes p.0)).1 (sym (at p)))
-found_at (p ∷ files) name (suc i) below at first x =
-    find_later name (entry_of p) (entries_of files) (apart_of name (string_bytes p.0) (first 0 p (omega arith)))
-    ∙ found_at files name i (omega (arith, below)) at (λ k d before. first (suc k) d (omega (arith, before))) x
+found_at files name i below at first x =
+    found_first (λ (fs : List Pair). find name (entries_of fs)) (λ (p : Pair). bytes_eq name (string_bytes p.0)) (λ (p : Pair). Some (blob_of p.1)) None refl (λ p fs. refl)
+    files i x below (λ k before. apart_of name _ (first k x before)) ((bytes_eq-Decides name _).1 (sym (at x)))
 
 pub set_placed : (files : List Pair) (name : List ℕ) (i : ℕ) → i < length files → HoldsAt (λ (f : Pair). string_bytes f.0 ≡ name) files i
     → ((k : ℕ) (d : Pair) → k < i → string_bytes (get_or files k d).0 ≡ name → ⊥) → (q : Pair) → string_bytes q.0 ≡ name
     → entries_of (slice_set files i q) ≡ placed name (blob_of q.1) (entries_of files)
 set_placed [] name i below at first q named = absurd (omega (arith, below))
-set_placed (p ∷ files) name zero below at first q named =
-    ap (λ (n : List ℕ). entry n (blob_of q.1) ∷ entries_of files) named
-    ∙ ap (λ (v : Bool). cond v (entry name (blob_of q.1) ∷ entries_of files) (entry_of p ∷ placed name (blob_of q.1) (entries_of files)))
-    (sym ((bytes_eq-Decides name (string_bytes p.0)).1 (sym (at p))))
+set_placed (p ∷ files) name zero below at first q named = rw ((bytes_eq-Decides name (string_bytes p.0)).1 (sym (at p)), named) refl
 set_placed (p ∷ files) name (suc i) below at first q named =
-    ap (λ (es : List Entry). entry_of p ∷ es) (set_placed files name i (omega (arith, below)) at (λ k d before. first (suc k) d (omega (arith, before))) q named)
-    ∙ ap (λ (v : Bool). cond v (entry name (blob_of q.1) ∷ entries_of files) (entry_of p ∷ placed name (blob_of q.1) (entries_of files)))
-    (sym (apart_of name (string_bytes p.0) (first 0 p (omega arith))))
+    rw (apart_of name (string_bytes p.0) (first 0 p (omega arith)))
+    (ap (λ (es : List Entry). entry_of p ∷ es) (set_placed files name i (omega (arith, below)) at (λ k d before. first (suc k) d (omega (arith, before))) q named))
 
 pub push_placed : (files : List Pair) (q : Pair) → find (string_bytes q.0) (entries_of files) ≡ None
     → entries_of (files ++ q ∷ []) ≡ placed (string_bytes q.0) (blob_of q.1) (entries_of files)
@@ -78,26 +72,6 @@ pub place_distinct : {T E : Type 0} (r : Result T E) (old new : List Pair) (name
     → AreDistinct (names_in (entries_of old)) → AreDistinct (names_in (entries_of new))
 place_distinct (Ok x) old new name b ok err h = rw ok (placed_distinct name b (entries_of old) h)
 place_distinct (Err e) old new name b ok err h = rw err h
-
--- what `place` did if the name led to a file
-pub set_seen : (seen files : List Pair) (text name : List ℕ) (i : ℕ) → seen ≡ files → text ≡ name → i < length seen
-    → HoldsAt (λ (f : Pair). string_bytes f.0 ≡ text) seen i → ((k : ℕ) (d : Pair) → k < i → string_bytes (get_or seen k d).0 ≡ text → ⊥)
-    → (now : Pair) → now ≡ get_or files i now → (dest file : MemoryBlob) → dest ≡ file
-    → entries_of (slice_set files i (now.0, dest)) ≡ placed name (blob_of file) (entries_of files)
-set_seen seen files text name i e t inside at first now is dest file d =
-    let was = subst (λ (fs : List Pair). now ≡ get_or fs i now) (sym e) is in
-    rw (sym e, sym t, sym d) (set_placed seen text i inside at first (now.0, dest) (ap (λ (p : Pair). string_bytes p.0) was ∙ at now))
-
-pub was_seen : (seen files : List Pair) (text name : List ℕ) (i : ℕ) → seen ≡ files → text ≡ name → i < length seen
-    → HoldsAt (λ (f : Pair). string_bytes f.0 ≡ text) seen i → ((k : ℕ) (d : Pair) → k < i → string_bytes (get_or seen k d).0 ≡ text → ⊥)
-    → (now : Pair) → now ≡ get_or files i now → (was : MemoryBlob) → was ≡ now.1
-    → Some (blob_of was) ≡ find name (entries_of files)
-was_seen seen files text name i e t inside at first now is was w =
-    let told = subst (λ (fs : List Pair). now ≡ get_or fs i now) (sym e) is in
-    rw (sym e, sym t, w) (ap (λ (p : Pair). Some (blob_of p.1)) told ∙ sym (found_at seen text i inside at first now))
-
-pub none_seen : (seen files : List Pair) (text name : List ℕ) → seen ≡ files → text ≡ name → find text (entries_of seen) ≡ None → find name (entries_of files) ≡ None
-none_seen seen files text name e t none = rw (sym e, sym t) none
 
 -- the file that a look into the folder found
 pub found_in : (name : List ℕ) (o : Option Blob) (seen files : List Pair) (was now : Directory) → o ≡ find name (entries_of seen)
@@ -122,3 +96,142 @@ module _ (old new : Directory) (name : List ℕ) (b file : Blob) where
       → OnOk r (new ≡ changed old name file) → OnErr r (new ≡ old) → FlushesFile old name r new
   change_flushes (Ok done) at is ok err = (b, at, ok ∙ ap (λ (x : Blob). changed old name x) is)
   change_flushes (Err e) at is ok err = inl err
+
+-- ---- what is left of a folder in memory after a loss of power
+
+-- one more zero
+zeros_push : (zeros : List ℕ) → ((k : ℕ) → slice_index zeros k ≡ 0) → (k : ℕ) → slice_index (zeros ++ 0 ∷ []) k ≡ 0
+zeros_push [] h zero = refl
+zeros_push [] h (suc k) = refl
+zeros_push (z ∷ zeros) h zero = h zero
+zeros_push (z ∷ zeros) h (suc k) = zeros_push zeros (λ j. h (suc j)) k
+
+pub zeroed_next : (content bytes new : List ℕ) (len : ℕ) → IsZeroed content len bytes → length bytes < length content → new ≡ bytes ++ 0 ∷ []
+    → IsZeroed content len new
+zeroed_next content bytes new len (zeros, is, all, le) room e = (
+  zeros ++ 0 ∷ [],
+  e ∙ ap (λ (xs : List ℕ). xs ++ 0 ∷ []) is ∙ append_assoc (take len content) zeros (0 ∷ []),
+  zeros_push zeros all,
+  subst (λ (xs : List ℕ). length xs ≤ length content) (sym e) (omega (arith, room, length-append bytes (0 ∷ []))),
+)
+
+-- the same, with zeros in the place of the others
+pub zeroed_left : (b : Blob) (n : ℕ) (left : List ℕ) → b.uncut ≤ n → IsZeroed b.content n left → IsLeft b left
+zeroed_left b n left enough (zeros, is, all, le) = subst (λ (xs : List ℕ). IsLeft b xs) (sym is) (inr (inr (record {
+  behind = drop b.uncut (take n b.content) ++ zeros;
+  kept =
+      ap (λ (xs : List ℕ). xs ++ zeros) (sym (take-append-drop b.uncut (take n b.content))
+      ∙ ap (λ (xs : List ℕ). xs ++ drop b.uncut (take n b.content)) (take-take b.uncut n b.content enough))
+      ∙ append_assoc (take b.uncut b.content) (drop b.uncut (take n b.content)) zeros;
+  most = inl short;
+  each = λ i from inside. ⊎_elim
+      (λ before. inl (
+        omega (arith, inside, short),
+        get_or_append_left (take n b.content) zeros 0 i before ∙ get_or-take n b.content i 0 (omega (arith, before, length-take n b.content)),
+      ))
+      (λ after. inr (inr (omega (arith, inside, short), λ j later within page. zero_at j (omega (arith, after, later)))))
+      (cases_lt i (length (take n b.content)));
+})))
+  where
+    short : length (take n b.content ++ zeros) ≤ length b.content
+    short = subst (λ (xs : List ℕ). length xs ≤ length b.content) is le
+
+    zero_at : (j : ℕ) → length (take n b.content) ≤ j → slice_index (take n b.content ++ zeros) j ≡ 0
+    zero_at j after = get_or-append_right (take n b.content) zeros (length (take n b.content)) j 0 refl after ∙ all (j - length (take n b.content))
+
+-- the first bytes of a file, with all that was flushed and not cut off since
+pub front_left : (b : Blob) (n : ℕ) → b.uncut ≤ n → IsLeft b (take n b.content)
+front_left b n enough = zeroed_left b n (take n b.content) enough ([], sym (append-nil (take n b.content)), λ k. refl, omega (arith, length-take n b.content))
+
+abbrev pub Before : Type 0
+Before = String Global × Option MemoryBlob
+
+-- a change of the name is at a place
+pub was_once : (older : List Before) (name : List ℕ) (i : ℕ) → i < length older → HoldsAt (λ (o : Before). string_bytes o.0 ≡ name) older i
+    → (d : Before) (left : Option (List ℕ)) → IsLeftOf (option_map blob_of (get_or older i d).1) left → WasOnce (map older_of older) name left
+was_once [] name i inside at d left h = absurd (omega (arith, inside))
+was_once (o ∷ older) name zero inside at d left h = inl (at o, h)
+was_once (o ∷ older) name (suc i) inside at d left h = inr (was_once older name i (omega (arith, inside)) at d left h)
+
+-- ---- the files, one by one
+
+-- the next file, as it is left
+pub survives_next : (older : List Older) (es left : List Entry) (e : Entry) (text : Option (List ℕ)) → Survive older es left → MayBeOf older e text
+    → Survive older (es ++ e ∷ []) (left ++ left_under e.name text)
+survives_next older [] left e None is may = inl (may, append-nil left ∙ is)
+survives_next older [] left e (Some bytes) is may = inr (bytes, [], ap (λ (xs : List Entry). xs ++ entry e.name (secured bytes) ∷ []) is, may, refl)
+survives_next older (x ∷ es) left e text (inl (gone, rest)) may = inl (gone, survives_next older es left e text rest may)
+survives_next older (x ∷ es) left e text (inr (bytes, rest, is, kept, more)) may =
+    inr (bytes, rest ++ left_under e.name text, ap (λ (xs : List Entry). xs ++ left_under e.name text) is, kept, survives_next older es rest e text more may)
+
+-- a name that led to no file leads to none
+survives_none : (older : List Older) (es left : List Entry) (name : List ℕ) → Survive older es left → find name es ≡ None → find name left ≡ None
+survives_none older [] left name is none = ap (find name) is
+survives_none older (e ∷ es) left name (inl (gone, rest)) none = survives_none older es left name rest (not_here name e es none).1
+survives_none older (e ∷ es) left name (inr (bytes, rest, is, may, more)) none =
+    let n = not_here name e es none in
+    rw is (find_later name (entry e.name (secured bytes)) rest n.0 ∙ survives_none older es rest name more n.1)
+
+-- what is left under a name
+abbrev Stays : List Older → List Entry → List Entry → List ℕ → Type 0
+Stays older es left name =
+    (text : Option (List ℕ)) × (find name left ≡ option_map secured text) × (IsLeftOf (find name es) text ⊎ WasOnce older name text)
+
+distinct_head : (x : List ℕ) (xs : List (List ℕ)) → AreDistinct (x ∷ xs) → Contains xs x → ⊥
+distinct_head x xs distinct h = let fits : h.0 < length xs = h.1 in distinct 0 (suc h.0) x (omega arith) (omega arith) (sym h.2)
+
+distinct_tail : (x : List ℕ) (xs : List (List ℕ)) → AreDistinct (x ∷ xs) → AreDistinct xs
+distinct_tail x xs distinct = λ i j d less fits. distinct (suc i) (suc j) d (omega (arith, less)) (omega (arith, fits))
+
+distinct_cons : (x : List ℕ) (xs : List (List ℕ)) → (Contains xs x → ⊥) → AreDistinct xs → AreDistinct (x ∷ xs)
+distinct_cons x xs absent distinct =
+    AllPairs-cons (λ a b. a ≢ b) x xs (λ k d fits e. absent (subst (λ y. Contains xs y) (sym e) (Contains-get_or xs k d fits))) distinct
+
+survives_find : (older : List Older) (es left : List Entry) (name : List ℕ) → AreDistinct (names_in es) → Survive older es left → Stays older es left name
+survives_find older [] left name distinct is = (None, ap (find name) is, inl tt)
+survives_find older (e ∷ es) left name distinct (inl (gone, rest)) = elim (cases_Bool (bytes_eq name e.name)) [
+  | inl same ↦
+      let titled : e.name ≡ name = sym ((bytes_eq-Decides name e.name).0 same) in
+      let none : find name es ≡ None = none_of name es (rw titled at (distinct_head e.name (names_in es) distinct)) in
+      (None, survives_none older es left name rest none, rw (find_here name e es same, ← titled) gone)
+  | inr apart ↦
+      let later = survives_find older es left name (distinct_tail e.name (names_in es) distinct) rest in
+      (later.0, later.1, rw (find_later name e es apart) later.2)
+]
+survives_find older (e ∷ es) left name distinct (inr (bytes, rest, is, may, more)) = elim (cases_Bool (bytes_eq name e.name)) [
+  | inl same ↦
+      let titled : e.name ≡ name = sym ((bytes_eq-Decides name e.name).0 same) in
+      (Some bytes, rw is (find_here name (entry e.name (secured bytes)) rest same), rw (find_here name e es same, ← titled) may)
+  | inr apart ↦
+      let later = survives_find older es rest name (distinct_tail e.name (names_in es) distinct) more in
+      (later.0, rw is (find_later name (entry e.name (secured bytes)) rest apart ∙ later.1), rw (find_later name e es apart) later.2)
+]
+
+-- the names that are left are distinct
+-- a name that is there leads to a file
+found : (name : List ℕ) (es : List Entry) → find name es ≡ None → Contains (names_in es) name → ⊥
+found name [] none c = absurd (omega (arith, c.1))
+found name (e ∷ es) none c = let n = not_here name e es none in not_ahead name e.name (names_in es) (found name es n.1) n.0 c.0 c.1 c.2
+
+pub survives_names : (older : List Older) (es left : List Entry) → Survive older es left → AreDistinct (names_in es) → AreDistinct (names_in left)
+survives_names older [] left is distinct = rw is distinct
+survives_names older (e ∷ es) left (inl (gone, rest)) distinct = survives_names older es left rest (distinct_tail e.name (names_in es) distinct)
+survives_names older (e ∷ es) left (inr (bytes, rest, is, may, more)) distinct =
+    let gone : find e.name rest ≡ None =
+    survives_none older es rest e.name more (none_of e.name es (distinct_head e.name (names_in es) distinct)) in
+    rw is (distinct_cons e.name (names_in rest) (found e.name rest gone) (survives_names older es rest more (distinct_tail e.name (names_in es) distinct)))
+
+abbrev pub memory_in : List Pair → List Before → Option Blob → Directory
+memory_in files older made = record { can_make = true; entries = entries_of files; older = map older_of older; made = made }
+
+-- the folder of what is left
+pub memory_loses : (files left : List Pair) (was now : List Before) (made : Option Blob) → AreDistinct (names_in (entries_of files))
+    → Survive (map older_of was) (entries_of files) (entries_of left) → now ≡ [] → Loses (memory_in files was made) (memory_in left now None)
+memory_loses files left was now made distinct h e =
+    let found : (name : List ℕ) → Stays (map older_of was) (entries_of files) (entries_of left) name = λ name.
+    survives_find (map older_of was) (entries_of files) (entries_of left) name distinct h in rw e (record {
+      can_make = refl;
+      each = λ name. let s = found name in rw (s.1, left_content s.0) s.2;
+      on_disk = λ name. let s = found name in record { named = refl; flushed = rw s.1 (left_is_flushed s.0) };
+      made = refl;
+    })

@@ -1,8 +1,7 @@
 use Rattle.std.proofs.Common.{inl, Ok, Err}
 use Rattle.std.proofs.lemmas.Result.{err_from_is_err_and}
-use Rattle.folder_store.proofs.MailBrings.{flushed_brings}
-use Rattle.folder_store.proofs.MailLooks.{has_leads}
-use Rattle.folder_store.proofs.MailWriting.{gives_up, not_put, put_all}
+use Rattle.folder_store.proofs.MailWriting.{flushed_brings, gives_up, not_put, put_all}
+use Rattle.folder_store.proofs.MailTelling.{has_leads}
 use Rattle.folder_store.proofs.mail_steps.put_for_good.Goals as goal
 
 pub returns-in_err-flush_made : goal.returns-in_err-flush_made
@@ -37,4 +36,4 @@ returns g c = λ s.
     let p = c.in_ok-put.ensures n.0 in
     let h = c.in_ok-has.ensures p.0 in
     let f = c.in_ok-flush_made.ensures h.0 in
-    (f.0, put_all _ _ _ _ _ _ c.flush_names.result f.1 (has_leads c.args.name.now _ _ (Ok c.in_ok-has.field-0) h.1) p.1 n.1)
+    (f.0, put_all _ _ _ _ _ f.1 (has_leads c.args.name.now _ _ (Ok c.in_ok-has.field-0) h.1) p.1 _ c.flush_names.result n.1)

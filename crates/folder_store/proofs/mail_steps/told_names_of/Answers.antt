@@ -1,7 +1,6 @@
-use Rattle.std.proofs.Common.{Global, ◌∙◌, Ok, Err, ap}
+use Rattle.std.proofs.Common.{◌∙◌, Ok, Err, ap}
 use Rattle.std.proofs.lemmas.Result.{err_from_is_err_and}
-use Rattle.folder_store.proofs.MailLearns.{learns_same}
-use Rattle.folder_store.proofs.MailLooks.{lists_learns, one_lacking, one_unflushed, told_one}
+use Rattle.folder_store.proofs.MailTelling.{learns_same, lists_learns, one_lacking, one_unflushed, told_one}
 use Rattle.folder_store.proofs.mail_steps.told_names_of.Goals as goal
 
 pub returns-in_err-names-clause-tells : goal.returns-in_err-names-clause-tells
@@ -9,7 +8,7 @@ returns-in_err-names-clause-tells g c =
     let p = err_from_is_err_and c.from_residual.result c.from_residual.ensures.1 in
     rw (p.1 ∙ ap Err p.2) (λ s.
     let t = c.in_err-names.ensures.lists s in
-    (t.0, one_lacking Global Global _ _ _ c.args.folder c.in_err-names.field-0.0 (learns_same _) t.1))
+    (t.0, one_lacking _ _ _ c.args.folder c.in_err-names.field-0.0 (learns_same _) t.1))
 
 pub returns-in_err-flush_names-clause-tells : goal.returns-in_err-flush_names-clause-tells
 returns-in_err-flush_names-clause-tells g c =
@@ -18,7 +17,7 @@ returns-in_err-flush_names-clause-tells g c =
     let n = c.in_err-flush_names.ensures.flushes s in
     let t = c.in_ok-names.ensures.lists n.0 in (
       t.0,
-      one_unflushed Global Global (Unit {0}) _ _ _ c.args.folder c.in_err-flush_names.field-0.0
+      one_unflushed _ _ _ c.args.folder c.in_err-flush_names.field-0.0
           (lists_learns c.args.folder _ _ (Ok c.in_ok-names.names) t.1) n.1,
     ))
 

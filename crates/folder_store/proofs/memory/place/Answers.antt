@@ -1,17 +1,22 @@
-use Rattle.std.proofs.Common.{List, ap, ◌∙◌}
-use Rattle.folder_store.specs.MemoryFolder.{entries_of}
-use Rattle.folder_store.proofs.MemoryFiles.{Pair, set_seen, was_seen, none_seen, push_placed}
+use Rattle.std.proofs.Common.{List, Some, ap, sym, string_bytes, ◌∙◌}
+use Rattle.folder_store.specs.MemoryFolder.{blob_of, entries_of}
+use Rattle.folder_store.proofs.MemoryFiles.{Pair, found_at, push_placed, set_placed}
 use Rattle.folder_store.proofs.memory.place.Goals as goal
 
 pub returns-in-Some-clause-placed : goal.returns-in-Some-clause-placed
-returns-in-Some-clause-placed c = set_seen _ _ _ _ c.in-Some.i c.deref.ensures.value c.as_str.ensures.value
-    c.in-Some.ensures.inside c.in-Some.ensures.named c.in-Some.ensures.first _ c.index_mut.ensures.value _ _ c.replace.ensures.after
+returns-in-Some-clause-placed c =
+    let was = rw (← c.deref.ensures.value) at c.index_mut.ensures.value in
+    rw (← c.deref.ensures.value, ← c.as_str.ensures.value, ← c.replace.ensures.after)
+    (set_placed _ _ c.in-Some.i c.in-Some.ensures.inside c.in-Some.ensures.named c.in-Some.ensures.first _
+    (ap (λ (p : Pair). string_bytes p.0) was ∙ c.in-Some.ensures.named _))
 
 pub returns-in-Some-clause-was : goal.returns-in-Some-clause-was
-returns-in-Some-clause-was c = was_seen _ _ _ _ c.in-Some.i c.deref.ensures.value c.as_str.ensures.value
-    c.in-Some.ensures.inside c.in-Some.ensures.named c.in-Some.ensures.first _ c.index_mut.ensures.value _ c.replace.ensures.value
+returns-in-Some-clause-was c =
+    let was = rw (← c.deref.ensures.value) at c.index_mut.ensures.value in
+    rw (← c.deref.ensures.value, ← c.as_str.ensures.value, c.replace.ensures.value) (ap (λ (p : Pair). Some (blob_of p.1)) was
+    ∙ sym (found_at _ _ c.in-Some.i c.in-Some.ensures.inside c.in-Some.ensures.named c.in-Some.ensures.first _))
 
 pub returns-in_ok-push-in-None-clause-placed : goal.returns-in_ok-push-in-None-clause-placed
 returns-in_ok-push-in-None-clause-placed c =
     ap (λ (fs : List Pair). entries_of fs) c.in_ok-push-in-None.ensures.items
-    ∙ push_placed _ (c.args.name, c.args.file) (none_seen _ _ _ _ c.deref.ensures.value c.as_str.ensures.value c.in-None.ensures.none)
+    ∙ push_placed _ (c.args.name, c.args.file) (rw (c.deref.ensures.value, c.as_str.ensures.value) at c.in-None.ensures.none)

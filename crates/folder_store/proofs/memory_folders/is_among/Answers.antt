@@ -1,5 +1,4 @@
-use Rattle.std.proofs.Common.{arith, refl, sym, ◌∙◌}
-use Rattle.std.proofs.lemmas.Bool.{true≢false}
+use Rattle.std.proofs.Common.{arith, refl, sym, ◌∙◌, true≢false}
 use Rattle.std.proofs.lemmas.Slice.Eq.{bytes_eq-Decides}
 use Rattle.folder_store.proofs.MemoryMail.{is_none, is_one}
 use Rattle.folder_store.proofs.memory_folders.is_among.Goals as goal

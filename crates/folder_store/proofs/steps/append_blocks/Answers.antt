@@ -1,7 +1,5 @@
-use Rattle.std.proofs.Common.{◌++◌, ℕ, List, Err, sym, ap, subst, ◌∙◌, append_assoc}
+use Rattle.std.proofs.Common.{◌++◌, append_assoc}
 use Rattle.std.proofs.lemmas.Result.{err_from_is_err_and}
-use Rattle.folder_store.specs.FileFolder.{Directory}
-use Rattle.folder_store.specs.HostFile.{AppendsPiece}
 use Rattle.folder_store.proofs.Files.{first_refused, later_refused, later_done, in_parts}
 use Rattle.folder_store.proofs.steps.append_blocks.Goals as goal
 
@@ -11,12 +9,10 @@ returns-in_err-append_flushed g c =
     rw p.1 (λ s.
     let piece = c.in_err-append_flushed.ensures s in
     let sized = c.in_ok-size.ensures piece.0 in
-    let old = g.F.FileFolder.directory c.args.folder.now in
-    let new = g.F.FileFolder.directory c.append_flushed.new.folder in
     let front = c.split_at.result.0.now in (
       sized.0,
-      first_refused old new c.args.name.now _ front _ p.0 (in_parts _ front _ _ c.split_at.ensures.front c.split_at.ensures.back)
-          (subst (λ (d : Directory). AppendsPiece {T = Unit {0}} d c.args.name.now front (Err p.0) new) sized.1.1 piece.1),
+      first_refused (g.F.FileFolder.directory c.args.folder.now) _ c.args.name.now _ front _ p.0
+          (in_parts _ front _ _ c.split_at.ensures.front c.split_at.ensures.back) (rw sized.1.1 at piece.1),
     ))
 
 pub returns-in_err-append_flushed-2 : goal.returns-in_err-append_flushed-2
@@ -25,14 +21,10 @@ returns-in_err-append_flushed-2 g c =
     rw p.1 (λ s.
     let piece = c.in_err-append_flushed-2.ensures s in
     let done = c.loop-rest.invariant in
-    let before = done.2 piece.0 in
-    let page = c.split_at-in-loop-rest.result.0.now in (
+    let before = done.2 piece.0 in (
       before.0,
-      later_refused (g.F.FileFolder.directory c.args.folder.now) (g.F.FileFolder.directory c.loop-rest.folder)
-          (g.F.FileFolder.directory c.append_flushed-in-loop-rest.new.folder) _ _ done.0 page _ p.0
-          (done.1 ∙ ap (λ (xs : List ℕ). done.0 ++ xs) (in_parts _ page _ _
-          c.split_at-in-loop-rest.ensures.front c.split_at-in-loop-rest.ensures.back))
-          before.1 piece.1,
+      later_refused (g.F.FileFolder.directory c.args.folder.now) (g.F.FileFolder.directory c.loop-rest.folder) _ _ _ done.0 _ _ p.0 _ done.1
+          (in_parts _ _ _ _ c.split_at-in-loop-rest.ensures.front c.split_at-in-loop-rest.ensures.back) before.1 piece.1,
     ))
 
 pub loop-rest-preserved : goal.loop-rest-preserved
@@ -41,13 +33,8 @@ loop-rest-preserved g c =
     let page = c.split_at-in-loop-rest.result.0.now in
     let after = c.split_at-in-loop-rest.result.1.now in (
       done.0 ++ page,
-      done.1 ∙ ap (λ (xs : List ℕ). done.0 ++ xs) (in_parts _ page after _
-          c.split_at-in-loop-rest.ensures.front c.split_at-in-loop-rest.ensures.back)
-          ∙ sym (append_assoc done.0 page after),
+      rw (append_assoc done.0 page after, ← in_parts _ page after _ c.split_at-in-loop-rest.ensures.front c.split_at-in-loop-rest.ensures.back) done.1,
       λ s. let piece = c.in_ok-append_flushed-2.ensures s in
-          let before = done.2 piece.0 in (
-            before.0,
-            later_done (g.F.FileFolder.directory c.args.folder.now) (g.F.FileFolder.directory c.loop-rest.folder)
-                _ _ done.0 page before.1 piece.1,
-          ),
+          let before = done.2 piece.0 in
+          (before.0, later_done (g.F.FileFolder.directory c.args.folder.now) (g.F.FileFolder.directory c.loop-rest.folder) _ _ done.0 page before.1 piece.1),
     )

@@ -1,5 +1,4 @@
-use Rattle.std.proofs.Common.{length}
-use Rattle.std.specs.List.{Contains}
+use Rattle.std.proofs.Common.{length, Contains}
 use Rattle.folder_drop.specs.declared.listed_file.ListedFile.{ListedFile}
 use Rattle.folder_drop.proofs.listed_file.CountedSizes.size_of.Given as goal
 

@@ -1,6 +1,5 @@
 use Rattle.std.proofs.Common.{refl, Ok, Err}
 use Rattle.folder_store.proofs.Files.{cuts}
-use Rattle.folder_store.proofs.Leaving.{cuts_front}
 use Rattle.folder_store.proofs.PowerLoss.{cuts_for_good, told_lasts}
 use Rattle.folder_store.proofs.file.HostFileFlatFile.cut_to.Goals as goal
 
@@ -17,9 +16,9 @@ returns-in-Ok-clause-lasts g c = λ s known on.
 
 pub returns-in-Ok-clause-keeps : goal.returns-in-Ok-clause-keeps
 returns-in-Ok-clause-keeps g c = λ s.
-    cuts_front (g.F.FileFolder.directory c.args.self.now.folder) _ c.args.self.now.name.now _ (Ok tt) (c.in-Ok.ensures s.0).1
+    (cuts_for_good (g.F.FileFolder.directory c.args.self.now.folder) _ c.args.self.now.name.now _ (Ok tt) (c.in-Ok.ensures s.0).1).fronts
 
 pub returns-in-Err-clause-keeps : goal.returns-in-Err-clause-keeps
 returns-in-Err-clause-keeps g c = rw c.doubt.ensures.doubted (λ s.
     let old = g.F.FileFolder.directory c.args.self.now.folder in
-    cuts_front old _ c.args.self.now.name.now _ (Err c.in-Err.field-0) (c.in-Err.ensures s.0).1)
+    (cuts_for_good old _ c.args.self.now.name.now _ (Err c.in-Err.field-0) (c.in-Err.ensures s.0).1).fronts)

@@ -1,5 +1,4 @@
-use Rattle.std.proofs.Common.{string_bytes}
-use Rattle.std.specs.Prelude.{option_map}
+use Rattle.std.proofs.Common.{string_bytes, option_map}
 use Rattle.folder_store.proofs.MailWriting.{gives_up, maildir_dropped}
 use Rattle.folder_store.proofs.maildir.FolderMaildirMaildirDisk.abandon.Goals as goal
 

@@ -1,4 +1,5 @@
-use Rattle.folder_store.proofs.MailWriting.{added, added_brings, not_added, changes_bring}
+use Rattle.std.proofs.Common.{Ok, Err}
+use Rattle.folder_store.proofs.MailWriting.{added, not_added, writes_bring}
 use Rattle.folder_store.proofs.maildir.FolderMaildirMaildirDisk.add.Goals as goal
 
 pub returns-in-Ok-clause-adds : goal.returns-in-Ok-clause-adds
@@ -7,7 +8,7 @@ returns-in-Ok-clause-adds g c = λ s.
     ((t.0, s.1), added _ _ _ _ _ t.1)
 
 pub returns-in-Ok-clause-lasts : goal.returns-in-Ok-clause-lasts
-returns-in-Ok-clause-lasts g c = λ s. (added_brings _ _ _ (c.in-Ok.ensures s.0).1).keeps
+returns-in-Ok-clause-lasts g c = λ s. (writes_bring _ _ _ (Ok tt) (c.in-Ok.ensures s.0).1).keeps
 
 pub returns-in-Err-clause-adds : goal.returns-in-Err-clause-adds
 returns-in-Err-clause-adds g c = λ s.
@@ -15,4 +16,4 @@ returns-in-Err-clause-adds g c = λ s.
     ((t.0, c.in_ok-admit.ensures.admitted), not_added _ _ _ _ _ c.refuse-in-Err.ensures.counted t.1)
 
 pub returns-in-Err-clause-lasts : goal.returns-in-Err-clause-lasts
-returns-in-Err-clause-lasts g c = λ s. (changes_bring _ _ (c.in-Err.ensures s.0).1).keeps
+returns-in-Err-clause-lasts g c = λ s. (writes_bring _ _ c.args.bytes.now (Err c.in-Err.field-0) (c.in-Err.ensures s.0).1).keeps

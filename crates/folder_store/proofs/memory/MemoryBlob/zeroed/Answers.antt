@@ -1,5 +1,5 @@
 use Rattle.std.proofs.Common.{arith}
-use Rattle.folder_store.proofs.MemoryLoss.{zeroed_next}
+use Rattle.folder_store.proofs.MemoryFiles.{zeroed_next}
 use Rattle.folder_store.proofs.memory.MemoryBlob.zeroed.Goals as goal
 
 pub loop-bytes-preserved : goal.loop-bytes-preserved

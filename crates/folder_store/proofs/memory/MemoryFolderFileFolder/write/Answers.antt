@@ -1,5 +1,4 @@
-use Rattle.std.proofs.Common.{refl, sym, ap}
-use Rattle.std.specs.Prelude.{option_map}
+use Rattle.std.proofs.Common.{refl, sym, ap, option_map}
 use Rattle.folder_store.specs.MemoryFolder.{blob_of}
 use Rattle.folder_store.proofs.memory.MemoryFolderFileFolder.write.Goals as goal
 

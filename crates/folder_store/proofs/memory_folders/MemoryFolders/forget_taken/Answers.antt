@@ -1,5 +1,4 @@
-use Rattle.std.proofs.Common.{◌∙◌, List, ap, option_map, rules}
-use Rattle.std.specs.List.{filter}
+use Rattle.std.proofs.Common.{◌∙◌, List, ap, option_map, rules, filter}
 use Rattle.std.proofs.lemmas.List.Elements.{filter_from_retain}
 use Rattle.folder_store.specs.MailFolders.{Directories, MailFile, is_left}
 use Rattle.folder_store.specs.MemoryFolders.{draft_of}

@@ -1,9 +1,7 @@
-use Rattle.std.proofs.Common.{arith, option_map, set, subst, true}
-use Rattle.folder_store.specs.MailFolders.{Directories, Moved}
-use Rattle.folder_store.specs.MemoryFolders.{draft_of, mail_file}
-use Rattle.folder_store.proofs.MailMoves.{same_keeps}
-use Rattle.folder_store.proofs.MailReaders.{rest}
-use Rattle.folder_store.proofs.MemoryMail.{file_moves, memory_dirs}
+use Rattle.std.proofs.Common.{arith, option_map, refl, true}
+use Rattle.folder_store.specs.MemoryFolders.{draft_of}
+use Rattle.folder_store.proofs.MailMoves.{rest}
+use Rattle.folder_store.proofs.MemoryMail.{file_moves}
 use Rattle.folder_store.proofs.memory_folders.MemoryFolders.take_file.Goals as goal
 
 pub returns-then-place-len : goal.returns-then-place-len
@@ -13,13 +11,8 @@ pub returns : goal.returns
 returns c =
     let was = c.self.inside in
     let file = c.index_mut-file.result.now in
-    let gone = record file { is_gone = true } in
-    let new_rests = c.still_rests-self-inside.result in
-    let cur_rests = c.still_rests-self-inside-2.result in
-    let made = option_map draft_of was.made in
-    let keeps = same_keeps (mail_file file) in
-    subst (λ (d : Directories). Moved d (memory_dirs (set was.files.items c.args.place gone) new_rests cur_rests made)) c.self.view_is
-    (file_moves was.files.items c.args.place file gone was.new_rests new_rests was.cur_rests cur_rests made
+    rw c.self.view_is at (file_moves was.files.items c.args.place file (record file { is_gone = true }) was.new_rests c.still_rests-self-inside.result
+    was.cur_rests c.still_rests-self-inside-2.result (option_map draft_of was.made)
     (omega (arith, c.if-place-len.false, c.len.ensures)) c.index_mut-file.ensures.value
-    (record { keeps = record { title = keeps.title; content = keeps.content; flushed = keeps.flushed; named = keeps.named }; new = λ h. h; cur = λ h. h })
+    (record { keeps = record { title = refl; content = refl; flushed = λ h. h; named = λ h. h }; new = λ h. h; cur = λ h. h })
     c.still_rests-self-inside.ensures c.still_rests-self-inside-2.ensures)
