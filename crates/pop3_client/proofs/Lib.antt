@@ -1,6 +1,1 @@
-mod ClientLemmas
-mod LawLemmas
-mod ListingLemmas
-mod MostLemmas
 mod TalkLemmas
-mod TextLemmas

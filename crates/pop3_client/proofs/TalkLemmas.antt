@@ -1,25 +1,80 @@
--- How the parts of a turn make a turn, and turns make a conversation.
-use Rattle.std.proofs.Common.{◌≡◌, inl, inr, ◌<◌, ◌≤◌, ◌+◌, ℕ, false, List, [], ◌∷◌, ◌++◌, length, take, drop, None, Some, Result, Ok, Err, refl, sym, ap, subst, ◌∙◌, arith, append_assoc, length-append, codes, append-nil, take_all, length-take}
-use Rattle.std.proofs.lemmas.Bool.{false≢true}
-use Rattle.std.specs.List.{flat_map, AllZip}
+-- How the parts of a turn make a turn, and turns make a conversation, and what holds of every conversation.
+use Rattle.pop3_wire.specs.declared.wire.Wire.{Ghosts}
+use Rattle.pop3_wire.specs.Link.{WhereSound, Link}
+use Rattle.std.proofs.Common.{IsErrAnd, Some, Option, ◌≡◌, inl, inr, ◌<◌, ◌≤◌, ◌+◌, ◌*◌, ℕ, false, List, [], ◌∷◌, ◌++◌, length, take, drop, None, Result, Ok, Err, refl, sym, ap, subst, ◌∙◌, arith, append_assoc, length-append, codes, append-nil, take_all, length-take, ◌≢◌, ◌⊎◌, IfOk, IfErr, rules}
+use Rattle.std.specs.List.{flat_map, AllZip, AllByRecursion}
 use Rattle.pop3_wire.specs.Line.{crlf, IsLine, ended}
 use Rattle.pop3_wire.specs.Reply.{IsFirstLine}
-use Rattle.pop3_wire.specs.Reading.{WholeReply, reply_bytes, gives_body}
-use Rattle.pop3_wire.specs.Body.{body_of}
-use Rattle.pop3_wire.specs.Bodies.{Drew}
+use Rattle.pop3_wire.specs.Reading.{WholeReply, reply_bytes, body_bytes, gives_body, IsUidLine, IsScanLine}
+use Rattle.pop3_wire.specs.Bodies.{Drew, Rest, LeavesRest}
 use Rattle.pop3_wire.specs.declared.reply.Status.{Status}
+use Rattle.std.proofs.lemmas.Result.{err_from_is_err_and}
 use Rattle.std.proofs.lemmas.Grind.{flat_map-append}
 use Rattle.pop3_wire.specs.declared.reply.Status.TheVariants.{Positive, Negative}
 use Rattle.pop3_wire.specs.Commands.{line_of}
-use Rattle.pop3_wire.specs.Link.{Link}
 use Rattle.pop3_wire.specs.Place.{Place, at, GoesOn, Gains, HasLine, HasNoLine}
 use Rattle.pop3_client.specs.declared.fault.Asked.{Asked}
 use Rattle.pop3_client.specs.declared.fault.ClientFault.{ClientFault}
-use Rattle.pop3_client.specs.declared.fault.ClientFault.TheVariants.{ConnectionEnded, ReadFailed, WriteFailed, ReplyTooLong, BadReply, Refused, ListingsDisagree, TooMany}
-use Rattle.pop3_client.specs.Turns.{Turn, turn_bytes, Names, stat, gives_count, Fits, IsBody, IsGood, line_limit, IsShort, most}
-use Rattle.pop3_client.specs.Causes.{Cause, BeginsPositive, FirstLine}
-use Rattle.pop3_client.specs.Conversation.{Opened, Talked, NoLineCause, TakesRefusal, Heard, Broke, NotAnswered, Stopped, Sent, GivesFew, AsksTurn, Completes, Talks}
-use Rattle.pop3_client.proofs.MostLemmas.{most_least}
+use Rattle.pop3_client.specs.declared.fault.ClientFault.TheVariants.{ConnectionEnded, ReplyTooLong, ReadFailed, BadReply, Refused, TooMany, BadListing, ListingsDisagree, NoMemory}
+use Rattle.pop3_client.specs.Turns.{Turn, turn_bytes, Names, stat, Fits, IsBody, IsGood, line_limit, IsShort, most, asking, uidl, list, IsRow, IsListing, LinesFit, text_limit, retr}
+use Rattle.pop3_client.specs.Causes.{Cause, BeginsPositive, FirstLine, IsPartOfListing, IsPartOfBody, HasRows, NextLine}
+use Rattle.pop3_client.specs.Conversation.{NoLineCause, Opened, Talked, TakesRefusal, Heard, Broke, NotAnswered, Stopped, Sent, GivesFew, AsksTurn, Completes, Talks, most_of, IsFrontOfNext, Paced, ConversationsArePaced}
+use Rattle.pop3_wire.specs.declared.command.Command.TheVariants.{UidlAll, ListAll, Retr}
+use Rattle.std.proofs.lemmas.List.Elements.{All-push, All-from_recursion, recursion_from_All}
+use Rattle.std.proofs.lemmas.Slice.Zip.{AllZip-long, all_zipped_more}
+use Rattle.mail_terms.specs.Listing.{Item, Agree, Joins, message_limit}
+use Rattle.mail_terms.specs.declared.listing.UidRow.{UidRow}
+use Rattle.mail_terms.specs.declared.listing.ScanRow.{ScanRow}
+use Rattle.pop3_wire.specs.Body.{dot, IsContent, Body}
+use Rattle.pop3_client.specs.Listing.{Listed, GetsListing, ListsRows, RowBehind, RowCause, RowsCause, NotTaken, TakesRows}
+use Rattle.std.proofs.lemmas.List.{append_cancel_left}
+use Rattle.pop3_wire.specs.declared.unstuffer.Spot.TheVariants.{Done}
+use Rattle.pop3_client.specs.Texts.{Fetched, Fetching}
+
+-- what `?` passes up
+pub is_err : {T E : Type 0} {e : E} (r : Result T E) → IsErrAnd r (λ y. y ≡ e) → r ≡ Err e
+is_err r h = let p = err_from_is_err_and r h in p.1 ∙ ap Err p.2
+
+module _ {W : Type 0} (link : Ghosts W) where
+  -- what follows from what a call did
+  pub in_words : {a b : W} {P Q : Type 0} → WhereSound link.sound link.leads_to a b P → (P → Q) → WhereSound link.sound link.leads_to a b Q
+  in_words did words sound = let all = did sound in (all.0, all.1, words all.2)
+
+  -- a call and then another
+  pub and_then : {a b c : W} {P Q R : Type 0} → ((u v w : W) → link.leads_to u v → link.leads_to v w → link.leads_to u w)
+      → WhereSound link.sound link.leads_to a b P → WhereSound link.sound link.leads_to b c Q → (P → Q → R) → WhereSound link.sound link.leads_to a c R
+  and_then on first second both sound =
+      let then = second sound in
+      let all = first then.0 in
+      (all.0, on _ _ _ all.1 then.1, both all.2 then.2)
+
+-- ---- how many octets a reply has at most
+
+-- each turn's reply may have a line
+most_least : (turn : Turn) → line_limit ≤ most turn
+most_least (Some UidlAll) = omega arith
+most_least (Some ListAll) = omega arith
+most_least (Some (Retr number)) = omega arith
+most_least other = omega arith
+
+-- how many octets these lines have at most
+pub lines_within : (lines : List (List ℕ)) → AllByRecursion IsShort lines → length (flat_map ended lines) ≤ line_limit * length lines
+lines_within [] short = omega arith
+lines_within (line ∷ lines) short = omega (arith, length-append {A = ℕ}, short.0, lines_within lines short.1)
+
+-- the same for the body of a turn's reply, if it has one, and its first line
+body_within : (turn : Turn) (body : Option (List (List ℕ))) → IsBody turn body → line_limit + length (body_bytes body) ≤ most turn
+body_within turn None is = omega (arith, most_least turn)
+body_within (Some UidlAll) (Some lines) is = omega (arith, length-append {A = ℕ}, is.1.0, lines_within lines is.1.1)
+body_within (Some ListAll) (Some lines) is = omega (arith, length-append {A = ℕ}, is.1.0, lines_within lines is.1.1)
+body_within (Some (Retr number)) (Some lines) is = omega (arith, is.1)
+body_within other (Some lines) is = absurd is.1
+
+-- the same for a good reply
+pub reply_within : (turn : Turn) (reply : WholeReply) → IsGood turn reply → length (reply_bytes reply) ≤ most turn
+reply_within turn reply good = omega (arith, length-append {A = ℕ}, good.short, body_within turn reply.body good.body)
+
+-- ---- parts of a turn
 
 -- what follows both sides of an equation
 pub append_on : (a g l h more : List ℕ) → a ++ g ≡ l ++ h → a ++ (g ++ more) ≡ l ++ (h ++ more)
@@ -28,57 +83,36 @@ append_on a g l h more e = sym (append_assoc a g more) ∙ ap (λ (s : List ℕ)
 pub none_in_all : (limit : ℕ) (bytes : List ℕ) → HasNoLine limit bytes → length bytes < limit → IsLine bytes
 none_in_all limit bytes none short = subst IsLine (take_all limit bytes (omega arith)) none.none
 
--- no line came, so no reply did
-pub no_line_no_reply : (fault : ClientFault) (turn : Turn) (old new : Link) (bytes : List ℕ) → NoLineCause fault old new bytes → Cause fault turn old new bytes
-no_line_no_reply ConnectionEnded turn old new bytes why = (why.0, inl why.1)
-no_line_no_reply ReadFailed turn old new bytes why = (why.0, inl why.1)
-no_line_no_reply WriteFailed turn old new bytes why = why
-no_line_no_reply ReplyTooLong turn old new bytes why = inl why
-no_line_no_reply ListingsDisagree turn old new bytes why = why
-no_line_no_reply other turn old new bytes why = absurd why
-
 -- a cause depends on the old link only by its failure count
 pub cause_since : (fault : ClientFault) (turn : Turn) (old said new : Link) (bytes : List ℕ) → said.failures ≡ old.failures → Cause fault turn said new bytes → Cause fault turn old new bytes
 cause_since ReadFailed turn old said new bytes same why = (subst (λ (n : ℕ). n < new.failures) same why.0, why.1)
 cause_since other turn old said new bytes same why = why
 
--- what waits begins with the line and its CR LF
-pub line_waits : (limit n : ℕ) (bytes : List ℕ) → HasLine limit bytes n → bytes ≡ ended (take n bytes) ++ drop (n + 2) bytes
-line_waits limit n bytes has = has.whole ∙ sym (append_assoc (take n bytes) crlf (drop (n + 2) bytes))
-
-pub line_short : (n : ℕ) (bytes : List ℕ) → HasLine line_limit bytes n → IsShort (take n bytes)
-line_short n bytes has = omega (arith, has.within, length-take n bytes)
+-- what waits begins with the line, which is short, and its CR LF
+pub line_at : {n : ℕ} {bytes : List ℕ} → HasLine line_limit bytes n → IsShort (take n bytes) × (bytes ≡ ended (take n bytes) ++ drop (n + 2) bytes)
+line_at {n} {bytes} has = (omega (arith, has.within, length-take n bytes), has.whole ∙ sym (append_assoc (take n bytes) crlf (drop (n + 2) bytes)))
 
 -- a turn was sent whole, and its first line taken
-pub opened : (turn : Turn) (old : Place) (said : Link) (mid : Place) (gained : List ℕ) (n : ℕ) (rest : List ℕ)
-    → said ≡ record old.link { sent = old.link.sent ++ turn_bytes turn } → Gains (at said old.waiting) mid gained
-    → HasLine line_limit mid.waiting n → GoesOn said mid.link
-    → IsFirstLine (take n mid.waiting) Positive rest → Fits turn rest
-    → Opened turn (take n mid.waiting) old (at mid.link (drop (n + 2) mid.waiting))
-opened turn old said mid gained n rest is gains has onward positive fits =
+pub opened : {old : Place} {said : Link} {mid : Place} {n : ℕ} {bytes : List ℕ} (turn : Turn) → said ≡ record old.link { sent = old.link.sent ++ bytes } → bytes ≡ turn_bytes turn
+    → (heard : Heard turn (at said old.waiting) (Ok n) mid) → Fits turn heard.4.0 → Opened turn (take n mid.waiting) old (at mid.link (drop (n + 2) mid.waiting))
+opened turn is same heard fits =
+    let gains = rw (is, same) at heard.1 in
+    let on = rw is at heard.3 in
     record {
-      gained = gained;
-      rest = rest;
-      sent = gains.sent ∙ ap (λ (l : Link). l.sent) is;
-      got = gains.got ∙ ap (λ (l : Link). l.got ++ gained) is;
-      heard = sym gains.waiting ∙ line_waits line_limit n mid.waiting has;
-      is = has.line;
-      short = line_short n mid.waiting has;
-      positive = positive;
+      gained = heard.0;
+      rest = heard.4.0;
+      sent = gains.sent;
+      got = gains.got;
+      heard = sym gains.waiting ∙ (line_at heard.2).1;
+      is = heard.2.line;
+      short = (line_at heard.2).0;
+      positive = heard.4.1;
       fits = fits;
-      goes_on = record {
-        ended = onward.ended ∙ ap (λ (l : Link). l.ended) is;
-        failures = onward.failures ∙ ap (λ (l : Link). l.failures) is;
-      };
+      goes_on = record { ended = on.ended; failures = on.failures };
     }
 
--- nothing is stated of what is used before a fault that is no refusal
-pub takes_other : (fault : ClientFault) (used : List ℕ) → ((to : Asked) → fault ≡ Refused to → ⊥) → TakesRefusal fault used
-takes_other (Refused to) used other = absurd (other to refl)
-takes_other rest used other = tt
-
-pub drew_of : (old new : Place) (gained : List ℕ) → Gains old new gained → Drew old.link new.link gained
-drew_of old new gained gains = record { got = gains.got; sent = gains.sent }
+pub drew_of : {old new : Place} {gained : List ℕ} → Gains old new gained → Drew old.link new.link gained
+drew_of gains = record { got = gains.got; sent = gains.sent }
 
 -- nothing was used
 heard_unused : {fault : ClientFault} {turn : Turn} {old new : Place} {gained : List ℕ} → Gains old new gained → Cause fault turn old.link new.link (old.waiting ++ gained)
@@ -87,51 +121,53 @@ heard_unused {gained = gained} gains cause takes =
     record { gained = gained; used = []; sent = gains.sent; got = gains.got; heard = sym gains.waiting; within = omega arith; cause = cause; takes = takes }
 
 -- no line came
-pub heard_none : (fault : ClientFault) (turn : Turn) (old new : Place) (gained : List ℕ) → Gains old new gained
-    → NoLineCause fault old.link new.link new.waiting → Heard turn old (Err fault) new
-heard_none fault turn old new gained gains why =
-    let here = rw gains.waiting at why in
-    heard_unused gains (no_line_no_reply fault turn old.link new.link (old.waiting ++ gained) here)
-    (takes_other fault [] (λ to is. subst (λ (f : ClientFault). NoLineCause f old.link new.link (old.waiting ++ gained)) is here))
+pub heard_none : (fault : ClientFault) {turn : Turn} {old new : Place} {gained : List ℕ} → Gains old new gained → NoLineCause fault old.link new.link new.waiting
+    → Heard turn old (Err fault) new
+heard_none ConnectionEnded gains why = let here = rw gains.waiting at why in heard_unused gains (here.0, inl here.1) tt
+heard_none ReadFailed gains why = let here = rw gains.waiting at why in heard_unused gains (here.0, inl here.1) tt
+heard_none ReplyTooLong gains why = heard_unused gains (inl (rw gains.waiting at why)) tt
+heard_none other gains why = absurd why
 
 -- a line came
-module _ (turn : Turn) (old mid : Place) (gained : List ℕ) (n : ℕ) (gains : Gains old mid gained) (has : HasLine line_limit mid.waiting n) where
-  came : old.waiting ++ gained ≡ ended (take n mid.waiting) ++ drop (n + 2) mid.waiting
-  came = sym gains.waiting ∙ line_waits line_limit n mid.waiting has
+module _ {old mid : Place} {gained : List ℕ} {n : ℕ} (gains : Gains old mid gained) (has : HasLine line_limit mid.waiting n) where
+  abbrev pub first_came : FirstLine (old.waiting ++ gained) (take n mid.waiting)
+  first_came = record { after = drop (n + 2) mid.waiting; is = has.line; short = (line_at has).0; whole = sym gains.waiting ∙ (line_at has).1 }
 
-  pub first_came : FirstLine (old.waiting ++ gained) (take n mid.waiting)
-  first_came = record { after = drop (n + 2) mid.waiting; is = has.line; short = line_short n mid.waiting has; whole = came }
+  pub heard_refused : (turn : Turn) (to : Asked) (rest : List ℕ) → Names to turn → IsFirstLine (take n mid.waiting) Negative rest → Heard turn old (Err (Refused to)) (at mid.link (drop (n + 2) mid.waiting))
+  heard_refused turn to rest names first = record {
+    gained = gained;
+    used = ended (take n mid.waiting);
+    sent = gains.sent;
+    got = gains.got;
+    heard = first_came.whole;
+    within = omega (arith, length-append {A = ℕ}, (line_at has).0);
+    cause = (names, (take n mid.waiting, rest, first_came, first));
+    takes = (take n mid.waiting, has.line, refl);
+  }
 
-  pub heard_refused : (to : Asked) (rest : List ℕ) → Names to turn → IsFirstLine (take n mid.waiting) Negative rest
-      → Heard turn old (Err (Refused to)) (at mid.link (drop (n + 2) mid.waiting))
-  heard_refused to rest names first =
-      record {
-        gained = gained;
-        used = ended (take n mid.waiting);
-        sent = gains.sent;
-        got = gains.got;
-        heard = came;
-        within = omega (arith, length-append {A = ℕ}, line_short n mid.waiting has);
-        cause = (names, (take n mid.waiting, rest, first_came, first));
-        takes = (take n mid.waiting, has.line, refl);
-      }
+  pub heard_bad : (turn : Turn) → ((status : Status) (rest : List ℕ) → IsFirstLine (take n mid.waiting) status rest → ⊥) → Heard turn old (Err BadReply) mid
+  heard_bad turn none = heard_unused gains (take n mid.waiting, first_came, none Negative, λ rest first. absurd (none Positive rest first)) tt
 
-  pub heard_bad : ((status : Status) (rest : List ℕ) → IsFirstLine (take n mid.waiting) status rest → ⊥) → Heard turn old (Err BadReply) mid
-  heard_bad none = heard_unused gains (take n mid.waiting, first_came, none Negative, λ rest first. absurd (none Positive rest first)) tt
+  -- STAT's line isn't good
+  pub few_heard : (fault : ClientFault) → GivesFew (take n mid.waiting) (Err fault) → Heard stat old (Err fault) mid
+  few_heard BadReply why = heard_unused gains (take n mid.waiting, first_came, why.0, λ rest read. (refl, why.1 rest read)) tt
+  few_heard TooMany why = heard_unused gains (inl (refl, (take n mid.waiting, why.0, why.1, why.2, first_came, why.3, why.4, why.5))) tt
+  few_heard other why = absurd why
 
 -- a turn was sent whole, and its reply isn't good
 pub broke_there : (turn : Turn) (old : Place) (said : Link) (new : Place) (fault : ClientFault)
     → said ≡ record old.link { sent = old.link.sent ++ turn_bytes turn } → Heard turn (at said old.waiting) (Err fault) new → Broke turn old new fault
 broke_there turn old said new fault is heard =
+    let why = rw is at heard in
     inr (inl record {
-      gained = heard.gained;
-      used = heard.used;
-      sent = heard.sent ∙ ap (λ (l : Link). l.sent) is;
-      got = heard.got ∙ ap (λ (l : Link). l.got ++ heard.gained) is;
-      heard = heard.heard;
-      within = omega (arith, most_least turn, heard.within);
-      cause = cause_since fault turn old.link said new.link (old.waiting ++ heard.gained) (ap (λ (l : Link). l.failures) is) heard.cause;
-      takes = heard.takes;
+      gained = why.gained;
+      used = why.used;
+      sent = why.sent;
+      got = why.got;
+      heard = why.heard;
+      within = omega (arith, most_least turn, why.within);
+      cause = cause_since fault turn old.link (record old.link { sent = old.link.sent ++ turn_bytes turn }) new.link (old.waiting ++ why.gained) refl why.cause;
+      takes = why.takes;
     })
 
 pub stat_bytes : codes "STAT" ++ crlf ≡ turn_bytes stat
@@ -141,11 +177,11 @@ stat_bytes = refl
 -- the octets that were sent are a turn's
 pub sent_for : (turn : Turn) (old said : Link) (bytes : List ℕ) → said ≡ record old { sent = old.sent ++ bytes } → bytes ≡ turn_bytes turn
     → said ≡ record old { sent = old.sent ++ turn_bytes turn }
-sent_for turn old said bytes is same = is ∙ ap (λ (b : List ℕ). record old { sent = old.sent ++ b }) same
+sent_for turn old said bytes is same = rw same at is
 
 -- nothing is sent for the greeting
 pub nothing_said : (link : Link) → link ≡ record link { sent = link.sent ++ [] }
-nothing_said link = ap (λ (s : List ℕ). record link { sent = s }) (sym (append-nil link.sent))
+nothing_said link = rw append-nil
 
 -- a turn wasn't sent whole
 pub broke_saying : (turn : Turn) (old new : Place) (fault : ClientFault) → Sent (turn_bytes turn) old.link (Err fault) new.link → new.waiting ≡ old.waiting → Broke turn old new fault
@@ -156,23 +192,10 @@ broke_saying turn old new fault said waits =
       record { front = said.1.0; rest = said.1.1; split = said.1.2; sent = rw is; got = rw is; waiting = waits; risen = rw is (omega arith) },
     )
 
--- why STAT's line isn't good
-pub few_cause : (fault : ClientFault) (old new : Link) (line bytes : List ℕ) → FirstLine bytes line
-    → GivesFew line (Err fault) → Cause fault stat old new bytes × ((to : Asked) → fault ≡ Refused to → ⊥)
-few_cause BadReply old new line bytes first why = ((line, first, why.0, λ rest read. (refl, why.1 rest read)), λ to is. cc)
-few_cause TooMany old new line bytes first why = (inl (refl, (line, why.0, why.1, why.2, first, why.3, why.4, why.5)), λ to is. cc)
-few_cause other old new line bytes first why = absurd why
-
-pub few_heard : (fault : ClientFault) (said mid : Place) (gained : List ℕ) (n : ℕ) → Gains said mid gained → HasLine line_limit mid.waiting n
-    → GivesFew (take n mid.waiting) (Err fault) → Heard stat said (Err fault) mid
-few_heard fault said mid gained n gains has why =
-    let cause = few_cause fault said.link mid.link (take n mid.waiting) (said.waiting ++ gained) (first_came stat said mid gained n gains has) why in
-    heard_unused gains cause.0 (takes_other fault [] cause.1)
-
 -- ---- turns in a row
 
-pub goes_further : (a b c : Link) → GoesOn a b → GoesOn b c → GoesOn a c
-goes_further a b c first then = record { ended = then.ended ∙ first.ended; failures = then.failures ∙ first.failures }
+pub goes_further : {a b c : Link} → GoesOn a b → GoesOn b c → GoesOn a c
+goes_further first then = record { ended = then.ended ∙ first.ended; failures = then.failures ∙ first.failures }
 
 pub talked_none : (place : Place) → Talked [] [] place place
 talked_none place = record {
@@ -196,39 +219,32 @@ talked_on xs ys ls ms a b c first then = record {
   got = simp (then.got, first.got, append_assoc);
   heard = append_on a.waiting first.gained (flat_map reply_bytes ls) b.waiting then.gained first.heard ∙ simp (then.heard, flat_map-append, append_assoc);
   good = good_on xs ys ls ms first.good then.good;
-  goes_on = goes_further a.link b.link c.link first.goes_on then.goes_on;
+  goes_on = goes_further first.goes_on then.goes_on;
+}
+
+-- a turn whose first line was taken, and then the body of its reply, if there is one
+pub talked_reply : {turn : Turn} {line : List ℕ} {old mid new : Place} {gained : List ℕ} (body : Option (List (List ℕ))) → Opened turn line old mid → Drew mid.link new.link gained
+    → GoesOn mid.link new.link → mid.waiting ++ gained ≡ body_bytes body ++ new.waiting → IsBody turn body → Talked (turn ∷ []) (record { first = line; body = body } ∷ []) old new
+talked_reply {line = line} {old} {mid} {gained = gained} body begun drew onward heard is = record {
+  gained = begun.gained ++ gained;
+  sent = simp (drew.sent, begun.sent, append-nil);
+  got = simp (drew.got, begun.got, append_assoc);
+  heard = append_on old.waiting begun.gained (ended line) mid.waiting gained begun.heard ∙ simp (heard, append-nil, append_assoc);
+  good = (record { rest = begun.rest; line = begun.is; short = begun.short; positive = begun.positive; fits = begun.fits; body = is }, tt);
+  goes_on = goes_further begun.goes_on onward;
 }
 
 -- a reply of one line
 pub talked_line : (turn : Turn) (line : List ℕ) (old new : Place) → Opened turn line old new → gives_body turn ≡ false
     → Talked (turn ∷ []) (record { first = line; body = None } ∷ []) old new
-talked_line turn line old new begun none = record {
-  gained = begun.gained;
-  sent = begun.sent ∙ ap (λ (s : List ℕ). old.link.sent ++ s) (sym (append-nil (turn_bytes turn)));
-  got = begun.got;
-  heard = begun.heard ∙ ap (λ (s : List ℕ). s ++ new.waiting) (sym (append-nil (ended line ++ []) ∙ append-nil (ended line)));
-  good = (record { rest = begun.rest; line = begun.is; short = begun.short; positive = begun.positive; fits = begun.fits; body = none }, tt);
-  goes_on = begun.goes_on;
-}
-
--- a reply with a body
-pub talked_body : (turn : Turn) (line : List ℕ) (old mid new : Place) (lines : List (List ℕ)) (gained : List ℕ) → Opened turn line old mid
-    → Drew mid.link new.link gained → GoesOn mid.link new.link → mid.waiting ++ gained ≡ body_of lines ++ new.waiting
-    → IsBody turn (Some lines) → Talked (turn ∷ []) (record { first = line; body = Some lines } ∷ []) old new
-talked_body turn line old mid new lines gained begun drew onward heard is = record {
-  gained = begun.gained ++ gained;
-  sent = drew.sent ∙ begun.sent ∙ ap (λ (s : List ℕ). old.link.sent ++ s) (sym (append-nil (turn_bytes turn)));
-  got = simp (drew.got, begun.got, append_assoc);
-  heard = append_on old.waiting begun.gained (ended line) mid.waiting gained begun.heard ∙ simp (heard, append-nil, append_assoc);
-  good = (record { rest = begun.rest; line = begun.is; short = begun.short; positive = begun.positive; fits = begun.fits; body = is }, tt);
-  goes_on = goes_further old.link mid.link new.link begun.goes_on onward;
-}
+talked_line turn line old new begun none =
+    talked_reply None begun (record { got = sym (append-nil new.link.got); sent = refl }) (record { ended = refl; failures = refl }) (append-nil new.waiting) none
 
 -- a turn broke after its good first line
-pub not_answered_behind : (turn : Turn) (line : List ℕ) (old mid new : Place) (gained used : List ℕ) (fault : ClientFault) → Opened turn line old mid
+pub not_answered_behind : {turn : Turn} {line : List ℕ} {old mid new : Place} {gained : List ℕ} (fault : ClientFault) (used : List ℕ) → Opened turn line old mid
     → Drew mid.link new.link gained → Cause fault turn mid.link new.link (ended line ++ (mid.waiting ++ gained))
-    → mid.waiting ++ gained ≡ used ++ new.waiting → line_limit + length used ≤ most turn → ((to : Asked) → fault ≡ Refused to → ⊥) → NotAnswered turn old new fault
-not_answered_behind turn line old mid new gained used fault begun drew why rest small other =
+    → mid.waiting ++ gained ≡ used ++ new.waiting → line_limit + length used ≤ most turn → TakesRefusal fault (ended line ++ used) → NotAnswered turn old new fault
+not_answered_behind {turn} {line} {old} {mid} {new} {gained} fault used begun drew why rest small takes =
     let heard = append_on old.waiting begun.gained (ended line) mid.waiting gained begun.heard in
     record {
       gained = begun.gained ++ gained;
@@ -238,7 +254,7 @@ not_answered_behind turn line old mid new gained used fault begun drew why rest 
       heard = heard ∙ simp (rest, append_assoc);
       within = omega (arith, length-append {A = ℕ}, begun.short);
       cause = cause_since fault turn old.link mid.link new.link (old.waiting ++ (begun.gained ++ gained)) begun.goes_on.failures (rw heard why);
-      takes = takes_other fault (ended line ++ used) other;
+      takes = takes;
     }
 
 pub stopped_first : (turn : Turn) (turns : List Turn) (old new : Place) (fault : ClientFault) → Broke turn old new fault → Stopped (turn ∷ turns) old new fault
@@ -258,13 +274,9 @@ stopped_behind xs ys rs a b new fault first then = record {
   broke = then.broke;
 }
 
--- the rest of a first line has to give something only for STAT
-pub fits_other : (turn : Turn) (rest : List ℕ) → gives_count turn ≡ false → Fits turn rest
-fits_other turn rest other is = absurd (false≢true (sym other ∙ is))
-
 -- a turn whose first line was taken has a reply that begins well
-pub begins_of : (turn : Turn) (line : List ℕ) (old mid : Place) (after : List ℕ) → Opened turn line old mid → BeginsPositive (ended line ++ after) after
-begins_of turn line old mid after begun = record { line = line; rest = begun.rest; is = begun.is; short = begun.short; whole = refl; positive = begun.positive }
+pub begins_of : {turn : Turn} {line : List ℕ} {old mid : Place} (after : List ℕ) → Opened turn line old mid → BeginsPositive (ended line ++ after) after
+begins_of {line = line} after begun = record { line = line; rest = begun.rest; is = begun.is; short = begun.short; whole = refl; positive = begun.positive }
 
 -- a turn with a reply of one line was completed, or it broke
 pub asks_completes : (turn : Turn) (old new : Place) (result : Result (Unit {0}) ClientFault) → gives_body turn ≡ false → AsksTurn turn old result new → Completes turn old result new
@@ -281,3 +293,258 @@ pub completes_then : (turn : Turn) (turns : List Turn) (old mid new : Place) (re
     → Talked (turn ∷ []) (reply ∷ []) old mid → Talks turns mid result new → Talks (turn ∷ turns) old result new
 completes_then turn turns old mid new reply (Ok done) first then = (reply ∷ then.0, talked_on (turn ∷ []) turns (reply ∷ []) then.0 old mid new first then.1)
 completes_then turn turns old mid new reply (Err fault) first then = stopped_behind (turn ∷ []) turns (reply ∷ []) old mid new fault first then
+
+-- ---- what holds of every conversation
+
+-- the replies to some turns before others keep to what all of them may have
+replies_within : (turns rest : List Turn) (replies : List WholeReply) → AllZip IsGood turns replies → length (flat_map reply_bytes replies) + most_of rest ≤ most_of (turns ++ rest)
+replies_within [] rest [] good = omega arith
+replies_within (turn ∷ turns) rest (reply ∷ replies) good = omega (arith, length-append {A = ℕ}, reply_within turn reply good.0, replies_within turns rest replies good.1)
+replies_within _ rest _ good = absurd good
+
+-- some of the turns were completed, `part` of the others' octets was sent, and `used` was used of what waited and came after that
+behind : {done : List Turn} {replies : List WholeReply} {old mid new : Place} (rest : List Turn) → Talked done replies old mid → (part later gained used : List ℕ)
+    → IsFrontOfNext part rest → asking rest ≡ part ++ later → new.link.sent ≡ mid.link.sent ++ part → new.link.got ≡ mid.link.got ++ gained
+    → mid.waiting ++ gained ≡ used ++ new.waiting → length used ≤ most_of rest → Paced (done ++ rest) old new
+behind {done} {replies} {old} {mid} rest talked part later gained used begun front sent got heard small = record {
+  done = done;
+  rest = rest;
+  part = part;
+  replies = replies;
+  gained = talked.gained ++ gained;
+  after = mid.waiting ++ gained;
+  split = refl;
+  begun = begun;
+  sent = simp (sent, talked.sent, append_assoc);
+  front = (later, simp (flat_map-append, front, append_assoc));
+  got = simp (got, talked.got, append_assoc);
+  good = talked.good;
+  heard = append_on old.waiting talked.gained (flat_map reply_bytes replies) mid.waiting gained talked.heard;
+  within = omega (arith, length-append {A = ℕ}, replies_within done rest replies talked.good, ap length talked.heard, ap length heard, small);
+}
+
+pub paced : ConversationsArePaced
+paced turns old new (Ok done) talks =
+    rw append-nil at (behind {new = new} [] talks.1 [] [] [] [] refl refl (sym (append-nil new.link.sent)) (sym (append-nil new.link.got)) (append-nil new.waiting) (omega arith))
+paced turns old new (Err fault) at =
+    let front = behind {new = new} (at.next ∷ at.later) at.talked in
+    rw at.split (elim at.broke [
+      | inl cut ↦ front cut.1.front (cut.1.rest ++ asking at.later) [] [] (cut.1.rest, cut.1.split) (simp (cut.1.split, append_assoc)) cut.1.sent
+          (cut.1.got ∙ sym (append-nil at.mid.link.got)) (append-nil at.mid.waiting ∙ sym cut.1.waiting) (omega arith)
+      | inr (inl bad) ↦ front (turn_bytes at.next) (asking at.later) bad.gained bad.used ([], sym (append-nil (turn_bytes at.next))) refl bad.sent bad.got bad.heard
+          (omega (arith, bad.within))
+      | inr (inr none) ↦ front [] (asking (at.next ∷ at.later)) [] [] (turn_bytes at.next, refl) refl (rw (none.2, append-nil)) (rw (none.2, append-nil))
+          (append-nil at.mid.waiting ∙ sym (ap (λ (p : Place). p.waiting) none.2)) (omega arith)
+    ])
+
+-- ---- the bodies of replies: the rows of a listing, taken one by one, and a text that is being taken
+
+-- what holds of both listings
+pub by_listing : (P : Turn → Type 0) → P uidl → P list → (turn : Turn) → IsListing turn → P turn
+by_listing P first second turn (inl is) = rw is first
+by_listing P first second turn (inr is) = rw is second
+
+-- some rows were taken: these lines, which stand for these rows, and the rest waits
+pub record TookRows {R : Type 0} (turn : Turn) (StandsFor : List ℕ → R → Type 0) (old new : Place) (rows : List R) : Type 0 where
+  pub lines : List (List ℕ)
+  pub gained : List ℕ
+  pub has : HasRows turn (old.waiting ++ gained) new.waiting lines
+  pub read : AllZip StandsFor lines rows
+  pub drew : Drew old.link new.link gained
+  pub goes_on : GoesOn old.link new.link
+
+drew_on : {a b c : Link} {g h : List ℕ} → Drew a b g → Drew b c h → Drew a c (g ++ h)
+drew_on first then = record { got = simp (then.got, first.got, append_assoc); sent = then.sent ∙ first.sent }
+
+pub took_none : {R : Type 0} (turn : Turn) (StandsFor : List ℕ → R → Type 0) (place : Place) → IsListing turn → TookRows turn StandsFor place place []
+took_none turn StandsFor place listing = record {
+  lines = [];
+  gained = [];
+  has = record { listing = listing; content = tt; short = tt; rows = tt; few = omega arith; whole = append-nil place.waiting };
+  read = tt;
+  drew = record { got = sym (append-nil place.link.got); sent = refl };
+  goes_on = record { ended = refl; failures = refl };
+}
+
+all_push : (P : List ℕ → Type 0) (lines : List (List ℕ)) (line : List ℕ) → AllByRecursion P lines → P line → AllByRecursion P (lines ++ line ∷ [])
+all_push P lines line all is = recursion_from_All P (lines ++ line ∷ []) (All-push P lines line (All-from_recursion P lines all) is)
+
+module _ {R : Type 0} {turn : Turn} {StandsFor : List ℕ → R → Type 0} {old here : Place} {rows : List R} (now : TookRows turn StandsFor old here rows) where
+  -- more was got, and nothing taken yet
+  more_waits : {new : Place} {more : List ℕ} → Gains here new more → HasRows turn (old.waiting ++ (now.gained ++ more)) new.waiting now.lines
+  more_waits {more = more} gains = record {
+    listing = now.has.listing;
+    content = now.has.content;
+    short = now.has.short;
+    rows = now.has.rows;
+    few = now.has.few;
+    whole = append_on old.waiting now.gained (flat_map ended now.lines) here.waiting more now.has.whole ∙ ap (λ (l : List ℕ). flat_map ended now.lines ++ l) (sym gains.waiting);
+  }
+
+  pub took_on : {new : Place} {more : List ℕ} → Gains here new more → GoesOn here.link new.link → TookRows turn StandsFor old new rows
+  took_on {more = more} gains onward = record {
+    lines = now.lines;
+    gained = now.gained ++ more;
+    has = more_waits gains;
+    read = now.read;
+    drew = drew_on now.drew (drew_of gains);
+    goes_on = goes_further now.goes_on onward;
+  }
+
+  -- a row waits
+  module _ {n : ℕ} (has : HasLine line_limit here.waiting n) (other : take n here.waiting ≢ dot) where
+    -- it was taken
+    pub took_row : {row : R} → IsRow turn (take n here.waiting) → StandsFor (take n here.waiting) row → length rows < message_limit → TookRows turn StandsFor old (at here.link (drop (n + 2) here.waiting)) (rows ++ row ∷ [])
+    took_row {row} good read few =
+        let line = take n here.waiting in record {
+          lines = now.lines ++ line ∷ [];
+          gained = now.gained;
+          has = record {
+            listing = now.has.listing;
+            content = all_push IsContent now.lines line now.has.content (has.line, other);
+            short = all_push IsShort now.lines line now.has.short ((line_at has).0);
+            rows = all_push (IsRow turn) now.lines line now.has.rows good;
+            few = omega (arith, length-append now.lines (line ∷ []), AllZip-long StandsFor now.lines rows now.read);
+            whole = now.has.whole ∙ ap (λ (l : List ℕ). flat_map ended now.lines ++ l) (line_at has).1 ∙ simp (flat_map-append, append-nil, append_assoc);
+          };
+          read = all_zipped_more StandsFor now.lines rows line row now.read read;
+          drew = now.drew;
+          goes_on = now.goes_on;
+        }
+
+    -- it wasn't
+    pub row_behind : RowBehind turn (old.waiting ++ now.gained) (take n here.waiting) (length rows)
+    row_behind = record {
+      behind = drop (n + 2) here.waiting;
+      lines = now.lines;
+      has = subst (λ (l : List ℕ). HasRows turn (old.waiting ++ now.gained) l now.lines) (line_at has).1 now.has;
+      count = sym (AllZip-long StandsFor now.lines rows now.read);
+      content = (has.line, other);
+      short = (line_at has).0;
+    }
+
+  -- the rows stop at one that waits
+  pub rows_stop : (fault : ClientFault) → RowsCause fault turn old.link here.link (old.waiting ++ now.gained) → NotTaken turn old here fault
+  rows_stop fault cause = record { gained = now.gained; used = now.lines; drew = now.drew; cause = cause; has = now.has }
+
+  -- neither a row nor the end mark came
+  pub rows_cause : {new : Place} {more : List ℕ} (fault : ClientFault) (n : ℕ) → n ≡ length rows → Gains here new more → RowCause fault n here.link new.link new.waiting
+      → NotTaken turn old new fault
+  rows_cause {new} {more} fault n count gains why = record {
+    gained = now.gained ++ more;
+    used = now.lines;
+    drew = drew_on now.drew (drew_of gains);
+    cause = by fault why;
+    has = more_waits gains;
+  }
+    where
+      by : (f : ClientFault) → RowCause f n here.link new.link new.waiting → RowsCause f turn old.link new.link (old.waiting ++ (now.gained ++ more))
+      by ConnectionEnded w = (w.0, (new.waiting, now.lines, more_waits gains, w.1))
+      by ReadFailed w = (subst (λ (k : ℕ). k < new.link.failures) now.goes_on.failures w.0, (new.waiting, now.lines, more_waits gains, w.1))
+      by ReplyTooLong w = (new.waiting, now.lines, more_waits gains, w)
+      by TooMany w = (
+        w.0,
+        record {
+          behind = w.1;
+          lines = now.lines;
+          has = rw w.5 at (more_waits gains);
+          count = omega (arith, w.2, now.has.few, AllZip-long StandsFor now.lines rows now.read);
+          content = w.3;
+          short = w.4;
+        },
+      )
+      by _ w = absurd w
+
+  -- the end mark was taken
+  pub rows_end : (new : Place) (more : List ℕ) → Drew here.link new.link more → GoesOn here.link new.link → here.waiting ++ more ≡ ended dot ++ new.waiting
+      → TakesRows turn StandsFor old (Ok rows) new
+  rows_end new more drew onward heard = (
+    now.lines,
+    record {
+      gained = now.gained ++ more;
+      drew = drew_on now.drew drew;
+      goes_on = goes_further now.goes_on onward;
+      content = now.has.content;
+      fit = by_listing (λ t. AllByRecursion (IsRow t) now.lines → LinesFit t now.lines) (λ rows. (now.has.few, now.has.short, rows)) (λ rows. (now.has.few, now.has.short, rows)) turn now.has.listing now.has.rows;
+      heard = append_on old.waiting now.gained (flat_map ended now.lines) here.waiting more now.has.whole ∙ simp (heard, append_assoc);
+    },
+    now.read,
+  )
+
+part_of_body : (bytes : List ℕ) (turn : Turn) → IsListing turn → IsPartOfListing turn bytes → IsPartOfBody turn bytes
+part_of_body bytes = by_listing (λ (turn : Turn). IsPartOfListing turn bytes → IsPartOfBody turn bytes) (λ part. part) (λ part. part)
+
+-- the next row of a listing is the next line of its reply
+next_line_of : (turn : Turn) (bytes after row : List ℕ) (rows : ℕ) → BeginsPositive bytes after → RowBehind turn after row rows → NextLine turn bytes row rows
+next_line_of turn bytes after row rows begins there = record {
+  after = after;
+  behind = there.behind;
+  lines = there.lines;
+  begins = begins;
+  has = there.has;
+  count = there.count;
+  content = there.content;
+  short = there.short;
+}
+
+-- why a listing isn't good, as a cause of its whole reply
+cause_of_rows : (fault : ClientFault) (turn : Turn) (old new : Link) (bytes after used : List ℕ) → BeginsPositive bytes after → IsListing turn
+    → RowsCause fault turn old new after → Cause fault turn old new bytes × TakesRefusal fault used
+cause_of_rows ConnectionEnded turn old new bytes after used begins listing why = ((why.0, inr (after, begins, part_of_body after turn listing why.1)), tt)
+cause_of_rows ReadFailed turn old new bytes after used begins listing why = ((why.0, inr (after, begins, part_of_body after turn listing why.1)), tt)
+cause_of_rows ReplyTooLong turn old new bytes after used begins listing why = (inr (after, why.0, why.1, begins, why.2, why.3), tt)
+cause_of_rows BadListing turn old new bytes after used begins listing why = ((why.0, why.1, next_line_of turn bytes after why.0 why.1 begins why.2, why.3, why.4), tt)
+cause_of_rows TooMany turn old new bytes after used begins listing why = (inr (why.0, next_line_of turn bytes after why.0 message_limit begins why.1), tt)
+cause_of_rows NoMemory turn old new bytes after used begins listing why = ((why.0, why.1, next_line_of turn bytes after why.0 why.1 begins why.2, why.3, why.4), tt)
+cause_of_rows _ turn old new bytes after used begins listing why = absurd why
+
+-- a listing was asked for, and its rows taken or not
+pub lists_of : {R : Type 0} (turn : Turn) (IsThisRow : List ℕ → R → Type 0) (line : List ℕ) (old mid new : Place) (result : Result (List R) ClientFault)
+    → Opened turn line old mid → IsListing turn → TakesRows turn IsThisRow mid result new → ListsRows turn IsThisRow old result new
+lists_of turn IsThisRow line old mid new (Ok rows) begun listing takes = (
+  record { first = line; body = Some takes.0 },
+  talked_reply (Some takes.0) begun takes.1.drew takes.1.goes_on takes.1.heard (takes.1.content, takes.1.fit),
+  (takes.0, refl, takes.2),
+)
+lists_of turn IsThisRow line old mid new (Err fault) begun listing takes =
+    let after = mid.waiting ++ takes.gained in
+    let used = flat_map ended takes.used in
+    let cause = cause_of_rows fault turn mid.link new.link (ended line ++ after) after (ended line ++ used) (begins_of after begun) listing takes.cause in
+    inr (inl (not_answered_behind fault used begun takes.drew cause.0 takes.has.whole
+    (omega (arith, takes.has.few, lines_within takes.used takes.has.short, by_listing (λ (t : Turn). most t ≡ line_limit + line_limit * (message_limit + 1)) refl refl turn listing)) cause.1))
+
+-- both listings were completed
+pub listed : (old mid new : Place) (uids : List UidRow) (sizes : List ScanRow) → ListsRows uidl IsUidLine old (Ok uids) mid → ListsRows list IsScanLine mid (Ok sizes) new → Listed old new uids sizes
+listed old mid new uids sizes first second = record {
+  first = first.0;
+  second = second.0;
+  talked = talked_on (uidl ∷ []) (list ∷ []) (first.0 ∷ []) (second.0 ∷ []) old mid new first.1 second.1;
+  names = first.2;
+  octets = second.2;
+}
+
+-- and joined, or not
+pub lists_joined : (count : ℕ) (old new : Place) (uids : List UidRow) (sizes : List ScanRow) (result : Result (List Item) ClientFault) → Listed old new uids sizes
+    → IfOk result (Joins count uids sizes) → IfErr result (λ fault. ((fault ≡ ListingsDisagree) × (Agree count uids sizes → ⊥)) ⊎ (fault ≡ NoMemory)) → GetsListing count old result new
+lists_joined count old new uids sizes (Ok items) all ok err = (uids, sizes, all, ok)
+lists_joined count old new uids sizes (Err fault) all ok err = search rules
+
+-- ---- a text
+
+-- a text that has ended was taken whole
+pub fetched : {number : ℕ} {old new : Place} {body : Rest} {text : List ℕ} → Fetching (retr number) old new body text → body.spot ≡ Done → Fetched (retr number) old text new
+fetched {new = new} {text = text} now done =
+    let is : Body now.under.used text = rw done at now.under.reached in (
+      record { first = now.line; body = Some is.lines },
+      talked_reply (Some is.lines) now.opened now.under.drew now.under.goes_on (now.under.heard ∙ ap (λ (b : List ℕ). b ++ new.waiting) is.whole) (is.content, omega (arith, now.under.sizes, ap length is.whole)),
+      is.read,
+    )
+
+-- the turn broke while its text was being taken
+module _ {number : ℕ} {start mid : Place} {line : List ℕ} (begun : Opened (retr number) line start mid) where
+  pub broke_text : {new : Place} {gained : List ℕ} (fault : ClientFault) (leaves : LeavesRest text_limit mid new) → Drew mid.link new.link gained
+      → (BeginsPositive (ended line ++ (mid.waiting ++ gained)) (mid.waiting ++ gained) → Cause fault (retr number) mid.link new.link (ended line ++ (mid.waiting ++ gained)))
+      → TakesRefusal fault (ended line ++ leaves.used) → NotAnswered (retr number) start new fault
+  broke_text {new} {gained} fault leaves drew cause takes =
+      let same : leaves.gained ≡ gained = append_cancel_left mid.link.got leaves.gained gained (sym leaves.got ∙ drew.got) in
+      not_answered_behind fault leaves.used begun drew (cause (begins_of (mid.waiting ++ gained) begun)) (rw same at leaves.heard) (omega (arith, leaves.within)) takes

@@ -50,10 +50,7 @@ impl<'a, W: Wire> Client<'a, W> {
         ensures few { IfOk result (λ found. IfSome found (λ n. rows < message_limit)) }
         ensures next { WhereLinkSound W.Wire self.old self.new (λ old new. NextRow rows old result new) }
     {
-        let length = match self.next_line(false) {
-            Ok(length) => length,
-            Err(fault) => return Err(fault),
-        };
+        let length = self.next_line(false)?;
         if is_end_mark(&self.reader.waiting()[..length]) {
             self.reader.skip(length + 2);
             return Ok(None);
@@ -74,19 +71,12 @@ impl<'a, W: Wire> Client<'a, W> {
     {
         let mut rows = Vec::new(alloc);
         'rows: loop {
-            let length = match self.next_row(rows.len()) {
-                Ok(Some(length)) => length,
-                Ok(None) => return Ok(rows),
-                Err(fault) => return Err(fault),
+            let Some(length) = self.next_row(rows.len())? else {
+                return Ok(rows);
             };
-            let row = match R::read(alloc, &self.reader.waiting()[..length]) {
-                Ok(row) => row,
-                Err(fault) => return Err(fault),
-            };
-            match rows.push(row) {
-                Ok(()) => self.reader.skip(length + 2),
-                Err(_) => return Err(ClientFault::NoMemory),
-            }
+            let row = R::read(alloc, &self.reader.waiting()[..length])?;
+            rows.push(row)?;
+            self.reader.skip(length + 2);
         }
     }
 
@@ -98,9 +88,7 @@ impl<'a, W: Wire> Client<'a, W> {
         ensures lists { WhereLinkSound W.Wire self.old self.new
             (λ old new. ListsRows R.turn R.stands_for old (items_of result) new) }
     {
-        if let Err(fault) = self.ask(R::asked(), R::command()) {
-            return Err(fault);
-        }
+        self.ask(R::asked(), R::command())?;
         self.rows(alloc)
     }
 
@@ -113,14 +101,8 @@ impl<'a, W: Wire> Client<'a, W> {
         ensures legal { IfOk result (λ listing. All (λ item. IsLegalId item.uid) listing) }
         ensures lists { WhereLinkSound W.Wire self.old self.new (λ old new. GetsListing count old result new) }
     {
-        let uids = match self.listing::<UidRow>(alloc) {
-            Ok(uids) => uids,
-            Err(fault) => return Err(fault),
-        };
-        let sizes = match self.listing::<ScanRow>(alloc) {
-            Ok(sizes) => sizes,
-            Err(fault) => return Err(fault),
-        };
+        let uids = self.listing::<UidRow>(alloc)?;
+        let sizes = self.listing::<ScanRow>(alloc)?;
         joined(alloc, count, &uids, &sizes)
     }
 }

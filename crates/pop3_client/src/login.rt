@@ -48,12 +48,8 @@ impl<'a, W: Wire> Client<'a, W> {
             (λ old new. (name password : List ℕ) → name_line.now ≡ turn_bytes (user name) → password_line.now ≡ turn_bytes (pass password)
             → Talks (login name password) old result new) }
     {
-        if let Err(fault) = self.greet() {
-            return Err(fault);
-        }
-        if let Err(fault) = self.ask(Asked::User, name_line) {
-            return Err(fault);
-        }
+        self.greet()?;
+        self.ask(Asked::User, name_line)?;
         self.ask(Asked::Pass, password_line)
     }
 

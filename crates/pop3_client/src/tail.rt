@@ -24,9 +24,7 @@ impl<'a, W: Wire> Client<'a, W> {
         ensures counted { CountsRefusals W.Wire self.old result self.new }
         ensures talks { WhereLinkSound W.Wire self.old self.new (λ old new. Talks undoing old result new) }
     {
-        if let Err(fault) = self.reset() {
-            return Err(fault);
-        }
+        self.reset()?;
         self.quit()
     }
 }

@@ -124,10 +124,7 @@ impl<'a, W: Wire> Client<'a, W> {
         ensures heard { WhereLinkSound W.Wire self.old self.new
             (λ old new. (turn : Turn) → Names asked turn → Heard turn old result new) }
     {
-        let length = match self.next_line(true) {
-            Ok(length) => length,
-            Err(fault) => return Err(fault),
-        };
+        let length = self.next_line(true)?;
         match read_status(&self.reader.waiting()[..length]) {
             Ok((Status::Positive, _)) => Ok(length),
             Ok((Status::Negative, _)) => {
@@ -144,10 +141,7 @@ impl<'a, W: Wire> Client<'a, W> {
         ensures counted { CountsRefusals W.Wire self.old result self.new }
         ensures asks { WhereLinkSound W.Wire self.old self.new (λ old new. AsksTurn greeting old result new) }
     {
-        let length = match self.hear(Asked::Greeting) {
-            Ok(length) => length,
-            Err(fault) => return Err(fault),
-        };
+        let length = self.hear(Asked::Greeting)?;
         self.reader.skip(length + 2);
         Ok(())
     }
@@ -161,13 +155,8 @@ impl<'a, W: Wire> Client<'a, W> {
             (λ old new. (turn : Turn) → Names asked turn → gives_count turn ≡ false → bytes.now ≡ turn_bytes turn
             → AsksTurn turn old result new) }
     {
-        if let Err(fault) = self.say(bytes) {
-            return Err(fault);
-        }
-        let length = match self.hear(asked) {
-            Ok(length) => length,
-            Err(fault) => return Err(fault),
-        };
+        self.say(bytes)?;
+        let length = self.hear(asked)?;
         self.reader.skip(length + 2);
         Ok(())
     }
@@ -179,13 +168,8 @@ impl<'a, W: Wire> Client<'a, W> {
         ensures few { IfOk result (λ n. n ≤ message_limit) }
         ensures counts { WhereLinkSound W.Wire self.old self.new (λ old new. CountsMessages old result new) }
     {
-        if let Err(fault) = self.say(b"STAT\r\n") {
-            return Err(fault);
-        }
-        let length = match self.hear(Asked::Stat) {
-            Ok(length) => length,
-            Err(fault) => return Err(fault),
-        };
+        self.say(b"STAT\r\n")?;
+        let length = self.hear(Asked::Stat)?;
         match count_of(&self.reader.waiting()[..length]) {
             Ok(count) => {
                 self.reader.skip(length + 2);

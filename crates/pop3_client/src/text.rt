@@ -24,9 +24,7 @@ impl<'a, W: Wire> Client<'a, W> {
         ensures opens { WhereLinkSound W.Wire self.old self.new
             (λ old new. line.now ≡ turn_bytes (retr number) → Opens (retr number) old result new) }
     {
-        if let Err(fault) = self.ask(Asked::Retr(number), line) {
-            return Err(fault);
-        }
+        self.ask(Asked::Retr(number), line)?;
         Ok(BodyReader::new(TEXT_LIMIT))
     }
 
@@ -93,10 +91,7 @@ impl<'a, W: Wire> Client<'a, W> {
         }
         let mut out = [0u8; PIECE_ROOM];
         'pieces: loop {
-            let piece = match self.next_piece(body, &mut out) {
-                Ok(piece) => piece,
-                Err(fault) => return Err(fault),
-            };
+            let piece = self.next_piece(body, &mut out)?;
             if piece.ended {
                 return Ok(());
             }

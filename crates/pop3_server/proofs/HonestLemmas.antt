@@ -1,33 +1,42 @@
 -- The server's conversations are honest: how its rows follow the messages and their marks, and what each answer says.
-use Rattle.std.proofs.Common.{◌≡◌, ◌≢◌, ◌⊎◌, inl, inr, ◌<◌, ◌≤◌, ◌+◌, ◌-◌, ◌*◌, ◌^◌, ℕ, zero, suc, Bool, true, false, cond, List, [], ◌∷◌, ◌++◌, map, length, refl, sym, ap, subst, ◌∙◌, arith, append_assoc, Some, None, codes, not, slice_get, slice_set, if◌then◌else◌, decimal}
-use Rattle.std.specs.List.{flat_map, All, AllByRecursion, AllZip, count_by, list_all}
-use Rattle.std.specs.Char.{is_ascii_digit}
-use Rattle.std.proofs.lemmas.Bool.{and_parts, and_from, cond-true, cond-false}
-use Rattle.std.proofs.lemmas.List.{length-map}
-use Rattle.std.proofs.lemmas.List.Folds.{list_all-append}
+use Rattle.std.proofs.Common.{length-append, ◌%◌, ◌≡◌, ◌≢◌, ◌⊎◌, inl, inr, ◌<◌, ◌≤◌, ◌+◌, ◌-◌, ◌*◌, ◌^◌, ℕ, zero, suc, Bool, true, false, cond, List, [], ◌∷◌, ◌++◌, map, length, refl, sym, ap, subst, ◌∙◌, arith, append_assoc, Some, None, codes, not, slice_get, slice_set, decimal, length-append, Option, Ok, bytes_eq, ◌&&◌, ap₂}
+use Rattle.std.specs.List.{flat_map, All, AllByRecursion, AllZip, count_by}
+use Rattle.std.proofs.lemmas.Bool.{and_from, cond-true, cond-false, false≢true}
+use Rattle.std.proofs.lemmas.Fmt.{decimal_by_steps}
+use Rattle.std.proofs.lemmas.List.{length-map, append-nil, length-set}
+use Rattle.std.proofs.lemmas.List.Folds.{list_all-append, flat_map-map}
 use Rattle.std.proofs.lemmas.Bool.Decides.{eqb_tells, nat_tests}
 use Rattle.std.proofs.lemmas.List.Elements.{recursion_from_All}
-use Rattle.std.proofs.lemmas.List.Sums.{AllPass-from_list_all, list_all-from_AllPass, sum_by-cons}
+use Rattle.std.proofs.lemmas.List.Sums.{sum_by-cons, count_by-le-length}
 use Rattle.std.proofs.lemmas.List.Sorted.{IsPermutation-refl}
 use Rattle.pop3_wire.specs.declared.command.Command.{Command}
 use Rattle.pop3_wire.specs.declared.reply.Status.TheVariants.{Positive, Negative}
-use Rattle.pop3_wire.specs.Line.{crlf, ended, is_no_lf, HoldsNoLf}
+use Rattle.pop3_wire.specs.Line.{crlf, ended, HoldsNoLf, IsLine, OneLine}
 use Rattle.pop3_wire.specs.Body.{dot, IsContent, unstuffed}
 use Rattle.pop3_wire.specs.Fields.{number_and_size, number_and_id}
-use Rattle.mail_terms.specs.Numeral.{greatest_size}
 use Rattle.pop3_wire.specs.World.{Message, IsMessage}
-use Rattle.pop3_wire.specs.Honest.{SaysAnything, FirstLinesAreRead, IsUnmarked, unmarked_from, IsScanRow, IsUidRow, ListsAll, Reply, no_marks}
-use Rattle.pop3_wire.specs.Rows.{NumbersAreRead, ScanRowsAreRead, UidRowsAreRead}
+use Rattle.pop3_wire.specs.Honest.{SaysAnything, FirstLinesAreRead, IsUnmarked, unmarked_from, IsScanRow, IsUidRow, ListsAll, Reply, no_marks, Honest, Grants, Replies}
+use Rattle.pop3_wire.specs.Rows.{NumbersAreRead, ScanRowsAreRead, UidRowsAreRead, scan_row}
 use Rattle.pop3_server.specs.declared.rows.MessageRow.{MessageRow}
-use Rattle.pop3_server.specs.Maildrop.{entry_of, max_count, max_size}
-use Rattle.pop3_server.specs.ServerMachine.{said, is_left, left_count, left_size, left_total, unless_marked, row_at, mark_at, unmarked, row_of, scan_line, uid_line, lines_from, listed, IsSmall, KeepLimits}
+use Rattle.pop3_server.proofs.RemovalLemmas.{none_gone, left_by_quit}
+use Rattle.pop3_server.proofs.RowLemmas.{row_with, rows_with}
+use Rattle.pop3_server.specs.Maildrop.{max_count, max_size, Mail, there}
+use Rattle.pop3_server.specs.ServerMachine.{said, is_left, left_count, left_size, left_total, unless_marked, row_at, mark_at, unmarked, row_of, scan_line, uid_line, lines_from, listed, IsSmall, KeepLimits, Machine, Action, Say, Open, Give, Leave, Does, action_of, is_open, octets_line, in_authorization, in_transaction, greeting}
+use Rattle.pop3_server.specs.HonestServer.{AreLeft, IsClosedByQuit, IsOfSession, IsAsked, lines_of, IsHonest, Gone}
+use Rattle.pop3_wire.specs.declared.command.Command.TheVariants.{User, Pass, Stat, UidlAll, ListAll, Retr, Dele, Rset, Noop, Quit}
+use Rattle.pop3_wire.specs.Commands.{line_of, can_be_sent}
+use Rattle.pop3_wire.specs.CommandLine.{HasNumbers, ReadAsWritten, CommandsAreLines}
+use Rattle.mail_terms.specs.Text.{lines_of_text, IsWhole, whole_text}
+use Rattle.pop3_wire.specs.Stuffed.{stuffed_lines, StuffedIsBody}
+use Rattle.pop3_server.specs.declared.state.State.{State}
+use Rattle.pop3_server.specs.declared.state.State.TheVariants.{Authorization, Transaction, Closed}
+use Rattle.pop3_server.specs.AnswersLines.{AnswersLines}
+use Rattle.pop3_server.proofs.SlotLemmas.{there_map}
+use Rattle.pop3_server.specs.HonestLoop.{GivesHonest}
 
 -- the laws of the wire on what a server writes
-pub record Written : Type 0 where
-  pub first : FirstLinesAreRead
-  pub numbers : NumbersAreRead
-  pub scan : ScanRowsAreRead
-  pub uid : UidRowsAreRead
+abbrev pub Written : Type 0
+Written = record { first : FirstLinesAreRead; numbers : NumbersAreRead; scan : ScanRowsAreRead; uid : UidRowsAreRead }
 
 -- ---- messages that PASS listed
 
@@ -56,14 +65,6 @@ are_served ms rows messages limits is =
 
 -- ---- the rows of messages with their marks
 
-abbrev pub row_with : Message → Bool → MessageRow
-row_with message mark = record { entry = entry_of message; marked = mark }
-
-abbrev pub rows_with : List Message → List Bool → List MessageRow
-rows_with [] marks = []
-rows_with (m ∷ ms) [] = []
-rows_with (m ∷ ms) (b ∷ bs) = row_with m b ∷ rows_with ms bs
-
 pub fresh_rows : (ms : List Message) → map row_of ms ≡ rows_with ms (no_marks ms)
 fresh_rows [] = refl
 fresh_rows (m ∷ ms) = ap (λ (rows : List MessageRow). row_with m false ∷ rows) (fresh_rows ms)
@@ -79,86 +80,52 @@ marked_rows (m ∷ ms) [] i = refl
 marked_rows (m ∷ ms) (b ∷ bs) zero = refl
 marked_rows (m ∷ ms) (b ∷ bs) (suc i) = ap (λ (rows : List MessageRow). row_with m b ∷ rows) (marked_rows ms bs i)
 
--- the row at a place is that of an unmarked message, or there is none
-found_at : (ms : List Message) (bs : List Bool) (i : ℕ)
+-- the row at a place is that of an unmarked message, which is at this place, or there is none
+found_at : (ms : List Message) (bs : List Bool) (i : ℕ) → AllByRecursion IsServed ms
     → (unless_marked (slice_get (rows_with ms bs) i) ≡ None)
-    ⊎ ((m : Message) × (unless_marked (slice_get (rows_with ms bs) i) ≡ Some (row_with m false)) × (slice_get ms i ≡ Some m) × (slice_get bs i ≡ Some false))
-found_at [] bs i = inl refl
-found_at (m ∷ ms) [] i = inl refl
-found_at (m ∷ ms) (true ∷ bs) zero = inl refl
-found_at (m ∷ ms) (false ∷ bs) zero = inr (m, refl, refl, refl)
-found_at (m ∷ ms) (b ∷ bs) (suc i) = found_at ms bs i
+    ⊎ ((m : Message) × (unless_marked (slice_get (rows_with ms bs) i) ≡ Some (row_with m false)) × (slice_get ms i ≡ Some m) × (slice_get bs i ≡ Some false)
+    × (slice_get (map Some ms) i ≡ Some (Some m)) × IsServed m)
+found_at [] bs i all = inl refl
+found_at (m ∷ ms) [] i all = inl refl
+found_at (m ∷ ms) (true ∷ bs) zero all = inl refl
+found_at (m ∷ ms) (false ∷ bs) zero all = inr (m, refl, refl, refl, refl, all.0)
+found_at (m ∷ ms) (b ∷ bs) (suc i) all = found_at ms bs i all.1
 
-pub found : (ms : List Message) (bs : List Bool) (k : ℕ)
-    → (row_at (rows_with ms bs) k ≡ None) ⊎ ((m : Message) × (row_at (rows_with ms bs) k ≡ Some (row_with m false)) × IsUnmarked ms bs k m)
-found ms bs k = elim (eqb_tells k 0) [
+pub found : (ms : List Message) (bs : List Bool) (k : ℕ) → AllByRecursion IsServed ms
+    → (row_at (rows_with ms bs) k ≡ None)
+    ⊎ ((m : Message) × (row_at (rows_with ms bs) k ≡ Some (row_with m false)) × IsUnmarked ms bs k m × (slice_get (map Some ms) (k - 1) ≡ Some (Some m)) × IsServed m)
+found ms bs k all = elim (eqb_tells k 0) [
   | inl p ↦ inl (cond-true _ _ _ p.0)
-  | inr p ↦ elim (found_at ms bs (k - 1)) [
+  | inr p ↦ elim (found_at ms bs (k - 1) all) [
     | inl none ↦ inl (cond-false _ _ _ p.0 ∙ none)
-    | inr some ↦ inr (some.0, cond-false _ _ _ p.0 ∙ some.1, record { counted = (let other : k ≢ 0 = p.1 in omega arith); there = some.2; unmarked = some.3 })
+    | inr some ↦ inr (some.0, cond-false _ _ _ p.0 ∙ some.1, record { counted = (let other : k ≢ 0 = p.1 in omega arith); there = some.2; unmarked = some.3 }, some.4, some.5)
   ]
 ]
 
-pub served_at : (ms : List Message) (i : ℕ) (m : Message) → AllByRecursion IsServed ms → slice_get ms i ≡ Some m → IsServed m
-served_at [] i m all e = absurd cc
-served_at (x ∷ ms) zero m all e = let same : x ≡ m = cc in subst IsServed same all.0
-served_at (x ∷ ms) (suc i) m all e = served_at ms i m all.1 e
-
-pub text_at : (ms : List Message) (i : ℕ) (m x : Message) → slice_get ms i ≡ Some m → slice_get (map Some ms) i ≡ Some (Some x) → x ≡ m
-text_at [] i m x e h = absurd cc
-text_at (y ∷ ms) zero m x e h = cc
-text_at (y ∷ ms) (suc i) m x e h = text_at ms i m x e h
-
-pub counted_left : (ms : List Message) (bs : List Bool) → length bs ≡ length ms → left_count (rows_with ms bs) ≡ count_by not bs
-counted_left [] [] e = refl
-counted_left [] (b ∷ bs) e = absurd (omega arith)
-counted_left (m ∷ ms) [] e = absurd (omega arith)
-counted_left (m ∷ ms) (b ∷ bs) e =
-    sum_by-cons (λ row. cond (is_left row) 1 0) (row_with m b) (rows_with ms bs) ∙ ap (λ (n : ℕ). cond (not b) 1 0 + n) (counted_left ms bs (omega arith))
-    ∙ sym (sum_by-cons (λ b. cond (not b) 1 0) b bs)
-
-pub total_left : (ms : List Message) (bs : List Bool) → AllByRecursion IsServed ms → left_total (rows_with ms bs) ≤ 134217728 * length ms
-total_left [] bs all = omega arith
-total_left (m ∷ ms) [] all = omega arith
-total_left (m ∷ ms) (true ∷ bs) all = let ih = total_left ms bs all.1 in let one = sum_by-cons left_size (row_with m true) (rows_with ms bs) in omega arith
-total_left (m ∷ ms) (false ∷ bs) all =
-    let ih = total_left ms bs all.1 in
-    let one = sum_by-cons left_size (row_with m false) (rows_with ms bs) in
-    let few : m.size ≤ 134217728 = all.0.within in
-    omega arith
+-- how many messages aren't marked, and a bound of their octets
+pub left_of : (ms : List Message) (bs : List Bool) → AllByRecursion IsServed ms → length bs ≡ length ms
+    → (left_count (rows_with ms bs) ≡ count_by not bs) × (left_total (rows_with ms bs) ≤ 134217728 * length ms)
+left_of [] [] all e = (refl, omega arith)
+left_of [] (b ∷ bs) all e = absurd (omega arith)
+left_of (m ∷ ms) [] all e = absurd (omega arith)
+left_of (m ∷ ms) (b ∷ bs) all e =
+    grind (arith, all.0.within, left_of ms bs all.1 (omega arith), sum_by-cons (λ row. cond (is_left row) 1 0) (row_with m b) (rows_with ms bs), sum_by-cons (λ b. cond (not b) 1 0) b bs, sum_by-cons left_size (row_with m b) (rows_with ms bs))
 
 -- ---- first lines
 
-digits_no_lf : (digits : List ℕ) → list_all is_ascii_digit digits ≡ true → HoldsNoLf digits
-digits_no_lf digits e = list_all-from_AllPass is_no_lf digits (λ k d inside. digit_no_lf _ (AllPass-from_list_all is_ascii_digit digits e k d inside))
+pub no_lf_decimal : (n : ℕ) → n < 2 ^ 64 → HoldsNoLf (decimal n)
+no_lf_decimal = decimal_by_steps (λ _ digits. HoldsNoLf digits) (λ n small. digit n small) (λ n digits _ none. rw list_all-append (and_from _ _ none (digit (n % 10) (omega arith))))
   where
-    digit_no_lf : (d : ℕ) → is_ascii_digit d ≡ true → is_no_lf d ≡ true
-    digit_no_lf d e = grind (arith, nat_tests)
-
-pub no_lf_decimal : Written → (n : ℕ) → n < 2 ^ 64 → HoldsNoLf (decimal n)
-no_lf_decimal written n fits =
-    digits_no_lf (decimal n) (and_parts _ (list_all is_ascii_digit (decimal n)) (written.numbers n n (omega arith) (omega (arith, fits))).numeral).1
-
-pub no_lf_append : (xs ys : List ℕ) → HoldsNoLf xs → HoldsNoLf ys → HoldsNoLf (xs ++ ys)
-no_lf_append xs ys a b = list_all-append is_no_lf xs ys ∙ and_from (list_all is_no_lf xs) (list_all is_no_lf ys) a b
+    digit : (n : ℕ) → n < 10 → HoldsNoLf ((48 + n) ∷ [])
+    digit n small = grind (arith, nat_tests)
 
 pub refused : Written → (ms : List Message) (bs : List Bool) (c : Command) (answer after : List ℕ) → answer ≡ said (codes "-ERR" ++ after) → HoldsNoLf after → Reply ms bs c answer bs
-refused written ms bs c answer after is none = inl (subst (SaysAnything Negative) (sym is) (_, written.first Negative after none), refl)
+refused written ms bs c answer after is none = inl (rw is (_, written.first Negative after none), refl)
 
 pub granted : Written → (answer after : List ℕ) → answer ≡ said (codes "+OK" ++ after) → HoldsNoLf after → SaysAnything Positive answer
-granted written answer after is none = subst (SaysAnything Positive) (sym is) (_, written.first Positive after none)
+granted written answer after is none = rw is (_, written.first Positive after none)
 
 -- ---- listings
-
-abbrev row_lines : (ℕ → MessageRow → List ℕ) → ℕ → List MessageRow → List (List ℕ)
-row_lines line k [] = []
-row_lines line k (row ∷ rows) = if row.marked then row_lines line (k + 1) rows else line k row ∷ row_lines line (k + 1) rows
-
-lines_flat : (line : ℕ → MessageRow → List ℕ) (k : ℕ) (ms : List Message) (bs : List Bool) → lines_from line k (rows_with ms bs) ≡ flat_map ended (row_lines line k (rows_with ms bs))
-lines_flat line k [] bs = refl
-lines_flat line k (m ∷ ms) [] = refl
-lines_flat line k (m ∷ ms) (true ∷ bs) = lines_flat line (k + 1) ms bs
-lines_flat line k (m ∷ ms) (false ∷ bs) = ap (λ (l : List ℕ). said (line k (row_with m false)) ++ l) (lines_flat line (k + 1) ms bs)
 
 -- each row of a served message is a line of a body, and is read as that message's
 abbrev pub GoodRows : (ℕ → MessageRow → List ℕ) → (ℕ × Message → List ℕ → Type 0) → Type 0
@@ -166,19 +133,18 @@ GoodRows line IsRow = (k : ℕ) (m : Message) → k ≤ 4294967295 → IsServed 
 
 rows_content : (line : ℕ → MessageRow → List ℕ) (IsRow : ℕ × Message → List ℕ → Type 0) → GoodRows line IsRow → (k : ℕ) (ms : List Message) (bs : List Bool)
     → k + length ms ≤ 4294967296 → AllByRecursion IsServed ms
-    → AllByRecursion IsContent (row_lines line k (rows_with ms bs)) × AllZip IsRow (unmarked_from k ms bs) (map unstuffed (row_lines line k (rows_with ms bs)))
-rows_content line IsRow good k [] bs few all = (tt, tt)
-rows_content line IsRow good k (m ∷ ms) [] few all = (tt, tt)
+    → (lines : List (List ℕ)) × (lines_from line k (rows_with ms bs) ≡ flat_map ended lines) × AllByRecursion IsContent lines × AllZip IsRow (unmarked_from k ms bs) (map unstuffed lines)
+rows_content line IsRow good k [] bs few all = ([], refl, tt, tt)
+rows_content line IsRow good k (m ∷ ms) [] few all = ([], refl, tt, tt)
 rows_content line IsRow good k (m ∷ ms) (true ∷ bs) few all = rows_content line IsRow good (k + 1) ms bs (omega arith) all.1
 rows_content line IsRow good k (m ∷ ms) (false ∷ bs) few all =
     let one = good k m (omega arith) all.0 in
     let more = rows_content line IsRow good (k + 1) ms bs (omega arith) all.1 in
-    ((one.0, more.0), (one.1, more.1))
+    (line k (row_with m false) ∷ more.0, ap (λ (l : List ℕ). said (line k (row_with m false)) ++ l) more.1, (one.0, more.2), (one.1, more.3))
 
 pub scan_rows : Written → GoodRows scan_line IsScanRow
 scan_rows written k m few served =
-    let size : m.size ≤ greatest_size = (let w : m.size ≤ 134217728 = served.within in omega arith) in
-    let row = written.scan k m.size few size in
+    let row = written.scan k m.size few (omega (arith, served.within)) in
     (row.0.0, ap number_and_size row.0.1 ∙ row.1)
 
 pub uid_rows : Written → GoodRows uid_line IsUidRow
@@ -196,12 +162,308 @@ lists_all written line IsRow good ms bs answer served is =
       is ∙ append_assoc (codes "+OK" ++ crlf) (lines_from line 1 (rows_with ms bs)) (ended dot),
       granted written (said (codes "+OK")) [] refl refl,
       record {
-        lines = row_lines line 1 (rows_with ms bs);
-        content = rows.0;
-        whole = ap (λ (l : List ℕ). l ++ ended dot) (lines_flat line 1 ms bs);
+        lines = rows.0;
+        content = rows.2;
+        whole = ap (λ (l : List ℕ). l ++ ended dot) rows.1;
         numbered = unmarked_from 1 ms bs;
         all = IsPermutation-refl (unmarked_from 1 ms bs);
-        rows = rows.1;
+        rows = rows.3;
       },
       refl,
+    )
+
+-- ---- each answer of the server to a command of a session is an honest reply, and so are all of them in order
+
+-- the laws of the wire on what is written
+pub record Laws : Type 0 where
+  pub written : Written
+  pub stuffed : StuffedIsBody
+  pub read : ReadAsWritten
+
+-- the server's state with these messages, if these are marked
+abbrev pub IsStateWith : List Message → State → Mail → List Bool → Type 0
+IsStateWith ms (Authorization kept) mail marks = (there mail.slots ≡ ms) × (marks ≡ no_marks ms)
+IsStateWith ms (Transaction rows) mail marks = (mail.slots ≡ map Some ms) × (length marks ≡ length ms) × (rows ≡ rows_with ms marks) × AreServed ms
+IsStateWith ms Closed mail marks = AreLeft ms marks (there mail.slots)
+
+-- a text that ends in LF stays as it is
+ended_stays : (front : List ℕ) → whole_text (front ++ 10 ∷ []) ≡ front ++ 10 ∷ []
+ended_stays [] = refl
+ended_stays (byte ∷ []) = refl
+ended_stays (byte ∷ next ∷ more) = ap (λ (l : List ℕ). byte ∷ l) (ended_stays (next ∷ more))
+
+whole_stays : (text : List ℕ) → IsWhole text → whole_text text ≡ text
+whole_stays text (inl none) = rw none refl
+whole_stays text (inr (front, is)) = rw is (ended_stays front)
+
+-- commands that are asked can be sent, and their numbers fit
+pub all_asked : (commands : List Command) → AllByRecursion IsAsked commands → AllByRecursion (λ c. can_be_sent c ≡ true) commands × AllByRecursion HasNumbers commands
+all_asked [] all = (tt, tt)
+all_asked (c ∷ commands) all = let more = all_asked commands all.1 in ((all.0.sendable, more.0), (all.0.numbers, more.1))
+
+-- an honest reply, after which the server is in that state; only QUIT closes it
+record Replied (ms : List Message) (marks : List Bool) (c : Command) (answer : List ℕ) (next : State) (mail : Mail) : Type 0 where
+  after : List Bool
+  reply : Reply ms marks c answer after
+  stands : IsStateWith ms next mail after
+  closes : (is_open next ≡ true) ⊎ (c ≡ Quit)
+
+-- one answer, with these messages in the maildrop at first
+module _ (laws : Laws) {D : Type 0} (sound : D → Type 0) (mail : D → Mail) (ms : List Message) (messages : AllByRecursion IsMessage ms) (old : D) (answer : List ℕ) (next : State) (new : D) (s : sound new) where
+  -- by the state that is next, and the maildrop as it is then
+  replies : {marks : List Bool} {c : Command} {state : State} {then_ : Mail} (after : List Bool) → next ≡ state → mail new ≡ then_ → Reply ms marks c answer after
+      → IsStateWith ms state then_ after → (is_open state ≡ true) ⊎ (c ≡ Quit) → Replied ms marks c answer next (mail new)
+  replies after state known reply stands closes = record { after = after; reply = reply; stands = rw (state, known) stands; closes = rw state closes }
+
+  -- a line that says no, and nothing changes
+  says_no : {marks : List Bool} {c : Command} {state : State} (after : List ℕ) → (answer ≡ said (codes "-ERR" ++ after)) × (next ≡ state) × (new ≡ old)
+      → HoldsNoLf after → IsStateWith ms state (mail old) marks → is_open state ≡ true → Replied ms marks c answer next (mail new)
+  says_no {marks} {c} after does none stands opened =
+      replies marks does.1 (ap mail does.2) (refused laws.written ms marks c answer after does.0 none) stands (inl opened)
+
+  -- a line that says yes, if no more is asked for
+  says_yes : {marks : List Bool} {c : Command} {state : State} (after_marks : List Bool) (after : List ℕ) → (answer ≡ said (codes "+OK" ++ after)) × (next ≡ state) × (new ≡ old)
+      → HoldsNoLf after → (SaysAnything Positive answer → Grants ms marks c answer after_marks) → IsStateWith ms state (mail old) after_marks
+      → (is_open state ≡ true) ⊎ (c ≡ Quit) → Replied ms marks c answer next (mail new)
+  says_yes after_marks after does none grants stands closes =
+      replies after_marks does.1 (ap mail does.2) (inr (grants (granted laws.written answer after does.0 none))) stands closes
+
+  -- ---- AUTHORIZATION
+
+  passed : (word : List ℕ) (right : Bool) → there (mail old).slots ≡ ms
+      → Does sound mail (cond right Open (Say (said (codes "-ERR refused")) (Authorization None))) old answer next new → Replied ms (no_marks ms) (Pass word) answer next (mail new)
+  passed word false same does = says_no (codes " refused") does refl (same, refl) refl
+  passed word true same (inl (is, state, known)) =
+      replies (no_marks ms) state (known s).1 (refused laws.written ms (no_marks ms) (Pass word) answer (codes " maildrop unavailable") is refl) (same, refl) (inl refl)
+  passed word true same (inr (rows, limits, is, state, known)) =
+      let drop = (known s).1 in
+      let same_rows : rows ≡ map row_of ms = drop.1 ∙ ap (map row_of) same in
+      let few : length rows ≤ 100000 = limits.few in
+      let none : HoldsNoLf (32 ∷ (decimal (length rows) ++ codes " messages")) = simp (list_all-append, no_lf_decimal (length rows) (omega arith)) in
+      replies (no_marks ms) state drop.0 (inr (granted laws.written answer (32 ∷ (decimal (length rows) ++ codes " messages")) is none, refl))
+      (ap (map Some) same, length-map ms _, same_rows ∙ fresh_rows ms, are_served ms rows messages limits same_rows) (inl refl)
+
+  in_auth : (user pass : List ℕ) (kept : Option (List ℕ)) (c : Command) → there (mail old).slots ≡ ms → Does sound mail (in_authorization user pass kept c) old answer next new
+      → Replied ms (no_marks ms) c answer next (mail new)
+  in_auth user pass kept (User name) same does = says_yes (no_marks ms) (codes " send PASS") does refl (λ says. (says, refl)) (same, refl) (inl refl)
+  in_auth user pass None (Pass word) same does = says_no (codes " USER first") does refl (same, refl) refl
+  in_auth user pass (Some name) (Pass word) same does = passed word (bytes_eq name user && bytes_eq word pass) same does
+  in_auth user pass kept Quit same does =
+      says_yes (no_marks ms) (codes " bye") does refl (λ says. (says, refl)) (rw same (none_gone ms (no_marks ms) (length-map ms _))) (inr refl)
+  in_auth user pass kept other same does = says_no (codes " not now") does refl (same, refl) refl
+
+  -- ---- TRANSACTION
+
+  module _ (marks : List Bool) (stands : IsStateWith ms (Transaction (rows_with ms marks)) (mail old) marks) where
+    -- RETR of an unmarked message
+    gave : (k : ℕ) (m : Message) → IsUnmarked ms marks k m → slice_get (map Some ms) (k - 1) ≡ Some (Some m) → IsServed m
+        → Does sound mail (Give (rows_with ms marks) (k - 1) (said (octets_line (row_with m false))) None) old answer next new → Replied ms marks (Retr k) answer next (mail new)
+    gave k m at slot served (state, inl (is, known)) =
+        replies marks state (known s).1 (refused laws.written ms marks (Retr k) answer (codes " message unavailable") is refl) stands (inl refl)
+    gave k m at slot served (state, inr (text, is, known)) =
+        let drop = (known s).1 in
+        let found = rw stands.0 at drop.1.1 in
+        let same : drop.1.0 ≡ m = cc in
+        let words : stuffed_lines (lines_of_text text) ≡ stuffed_lines (lines_of_text m.text) = drop.1.2 ∙ ap (λ (x : Message). stuffed_lines (lines_of_text x.text)) same in
+        let none : HoldsNoLf (32 ∷ (decimal m.size ++ codes " octets")) = simp (list_all-append, no_lf_decimal m.size (omega (arith, served.within))) in
+        replies marks state drop.0 (inr (
+          said (octets_line (row_with m false)),
+          stuffed_lines (lines_of_text text),
+          m,
+          is,
+          granted laws.written (said (octets_line (row_with m false))) (32 ∷ (decimal m.size ++ codes " octets")) refl none,
+          at,
+          rw words (rw (whole_stays m.text served.is_message.whole) at (laws.stuffed m.text)),
+          refl,
+        )) stands (inl refl)
+
+    stated : Does sound mail (in_transaction (rows_with ms marks) Stat) old answer next new → Replied ms marks Stat answer next (mail new)
+    stated does =
+        let count = left_count (rows_with ms marks) in
+        let total = left_total (rows_with ms marks) in
+        let left = left_of ms marks stands.3.served stands.1 in
+        let few : count_by not marks ≤ length marks = count_by-le-length not marks in
+        let fewer : length marks ≤ 100000 = rw stands.1 stands.3.few in
+        let small : count ≤ 4294967295 = omega arith in
+        let fits : total < 2 ^ 64 = omega arith in
+        let none : HoldsNoLf (32 ∷ scan_row count total) = simp (list_all-append, no_lf_decimal count (omega arith), no_lf_decimal total fits) in
+        replies marks does.1 (ap mail does.2) (inr (
+          scan_row count total,
+          total,
+          rw does.0 (laws.written.first Positive (32 ∷ scan_row count total) none),
+          (laws.written.scan count total small (omega arith)).1 ∙ ap (λ n. Ok (n, total)) left.0,
+          refl,
+        )) stands (inl refl)
+
+    in_trans : (c : Command) → IsOfSession c → Does sound mail (in_transaction (rows_with ms marks) c) old answer next new → Replied ms marks c answer next (mail new)
+    in_trans (User name) asked does = says_no (codes " not now") does refl stands refl
+    in_trans (Pass word) asked does = says_no (codes " not now") does refl stands refl
+    in_trans Stat asked does = stated does
+    in_trans UidlAll asked does =
+        replies marks does.1 (ap mail does.2) (inr (lists_all laws.written uid_line IsUidRow (uid_rows laws.written) ms marks answer stands.3 does.0)) stands (inl refl)
+    in_trans ListAll asked does =
+        replies marks does.1 (ap mail does.2) (inr (lists_all laws.written scan_line IsScanRow (scan_rows laws.written) ms marks answer stands.3 does.0)) stands (inl refl)
+    in_trans (Retr k) asked does = elim (found ms marks k stands.3.served) [
+      | inl none ↦ says_no (codes " no such message") (rw none at does) refl stands refl
+      | inr some ↦ gave k some.0 some.2 some.3 some.4 (rw some.1 at does)
+    ]
+    in_trans (Dele k) asked does = elim (found ms marks k stands.3.served) [
+      | inl none ↦ says_no (codes " no such message") (rw none at does) refl stands refl
+      | inr some ↦ says_yes (slice_set marks (k - 1) true) (codes " marked") (rw some.1 at does) refl (λ says. (some.0, says, some.2, refl))
+          (stands.0, length-set marks (k - 1) true ∙ stands.1, marked_rows ms marks (k - 1), stands.3) (inl refl)
+    ]
+    in_trans Rset asked does =
+        says_yes (map (λ _. false) marks) [] does refl (λ says. (says, refl)) (stands.0, length-map marks _ ∙ stands.1, cleared_rows ms marks, stands.3) (inl refl)
+    in_trans Noop asked does = says_yes marks [] does refl (λ says. (says, refl)) stands (inl refl)
+    in_trans Quit asked (state, (true, is, known)) =
+        replies marks state refl (inr (granted laws.written answer (codes " bye") is refl, refl)) (left_by_quit ms marks (mail old) (mail new) true stands.1 stands.0 (known s).1) (inr refl)
+    in_trans Quit asked (state, (false, is, known)) =
+        replies marks state refl (refused laws.written ms marks Quit answer (codes " some messages not removed") is refl) (left_by_quit ms marks (mail old) (mail new) false stands.1 stands.0 (known s).1) (inr refl)
+    in_trans other asked does = absurd asked
+
+  replied : (marks : List Bool) (user pass : List ℕ) (state : State) (c : Command) → is_open state ≡ true → IsStateWith ms state (mail old) marks → IsOfSession c
+      → Does sound mail (action_of user pass state (Ok c)) old answer next new → Replied ms marks c answer next (mail new)
+  replied marks user pass (Authorization kept) c opened stands asked does = rw stands.1 (in_auth user pass kept c stands.0 does)
+  replied marks user pass (Transaction rows) c opened stands asked does = in_trans marks (stands.0, stands.1, refl, stands.3) c asked (rw stands.2 at does)
+  replied marks user pass Closed c opened stands asked does = absurd (false≢true opened)
+
+-- ---- all answers in order
+
+module _ (laws : Laws) {D : Type 0} (sound : D → Type 0) (mail : D → Mail) where
+  did_sound : (asked : Action) (old : D) (answer : List ℕ) (next : State) (new : D) → Does sound mail asked old answer next new → sound new → sound old
+  did_sound (Say bytes state) old answer next new does s = rw does.2 at s
+  did_sound Open old answer next new (inl (is, state, known)) s = (known s).0
+  did_sound Open old answer next new (inr (rows, limits, is, state, known)) s = (known s).0
+  did_sound (Give rows i line top) old answer next new (state, inl (is, known)) s = (known s).0
+  did_sound (Give rows i line top) old answer next new (state, inr (text, is, known)) s = (known s).0
+  did_sound (Leave rows) old answer next new (state, (all, is, known)) s = (known s).0
+
+  run_sound : (old new : Machine D) (lines : List (List ℕ)) (answers : List ℕ) → AnswersLines sound mail old lines answers new → sound new.drop → sound old.drop
+  run_sound old new [] answers (none, same) s = rw same at s
+  run_sound old new (line ∷ lines) answers (first, rest, next, is, turn, run) s = did_sound _ old.drop first next.state next.drop turn.answers.does (run_sound next new lines rest run s)
+
+  -- after the answer to a command, and the answers to others
+  closed_by : {c : Command} {commands : List Command} (next last : State) → (is_open next ≡ true) ⊎ (c ≡ Quit) → (is_open next ≡ true → IsClosedByQuit last commands) → IsClosedByQuit last (c ∷ commands)
+  closed_by {commands = commands} next last (inr quits) later = inr ([], commands, ap (λ (d : Command). d ∷ commands) quits)
+  closed_by {c} next last (inl opened) later = elim (later opened) [
+    | inl still ↦ inl still
+    | inr (front, behind, split) ↦ inr (c ∷ front, behind, ap (λ (l : List Command). c ∷ l) split)
+  ]
+
+  all_replied : (ms : List Message) (marks : List Bool) (commands : List Command) (old new : Machine D) (answers : List ℕ)
+      → AllByRecursion IsMessage ms → AllByRecursion IsAsked commands → AnswersLines sound mail old (lines_of commands) answers new → sound new.drop → IsStateWith ms old.state (mail old.drop) marks
+      → (last : List Bool) × Replies ms marks commands answers last × IsStateWith ms new.state (mail new.drop) last × (is_open old.state ≡ true → IsClosedByQuit new.state commands)
+  all_replied ms marks [] old new answers messages asked run s stands = (marks, (run.0, refl), rw run.1 stands, λ opened. inl (rw run.1 opened))
+  all_replied ms marks (c ∷ commands) old new answers messages asked (first, rest, next, is, turn, run) s stands =
+      let does = rw (laws.read c asked.0.numbers asked.0.sendable) at turn.answers.does in
+      let one = replied laws sound mail ms messages old.drop first next.state next.drop (run_sound next new (lines_of commands) rest run s) marks old.user old.pass old.state c turn.was_open stands asked.0.of_session does in
+      let more = all_replied ms one.after commands next new rest messages asked.1 run s one.stands in
+      (more.0, (first, rest, one.after, is, one.reply, more.1), more.2, λ _. closed_by next.state new.state one.closes more.3)
+
+  gone_at : (ms : List Message) (marks : List Bool) (state : State) (mail : Mail) → IsStateWith ms state mail marks → Gone ms marks state (there mail.slots)
+  gone_at ms marks (Authorization kept) mail stands =
+      record { left = rw stands.0 (none_gone ms marks (ap length stands.1 ∙ length-map ms _)); before_quit = λ _. stands.0 }
+  gone_at ms marks (Transaction rows) mail stands =
+      let same : there mail.slots ≡ ms = ap there stands.0 ∙ there_map ms in
+      record { left = rw same (none_gone ms marks stands.1); before_quit = λ _. same }
+  gone_at ms marks Closed mail stands = record { left = stands; before_quit = λ e. absurd (false≢true e) }
+
+  -- what was answered is honest, what is gone then was marked, and only QUIT closes the server
+  pub answers_honestly : (old new : Machine D) (commands : List Command) (answers : List ℕ)
+      → old.state ≡ Authorization None → AllByRecursion IsAsked commands → AnswersLines sound mail old (lines_of commands) answers new
+      → sound new.drop → AllByRecursion IsMessage (there (mail old.drop).slots)
+      → (marks : List Bool) × Replies (there (mail old.drop).slots) (no_marks (there (mail old.drop).slots)) commands answers marks
+      × Gone (there (mail old.drop).slots) marks new.state (there (mail new.drop).slots) × IsClosedByQuit new.state commands
+  answers_honestly old new commands answers state asked run s messages =
+      let ms = there (mail old.drop).slots in
+      let all = all_replied ms (no_marks ms) commands old new answers messages asked run s (rw state (refl, refl)) in
+      (all.0, all.1, gone_at ms all.0 new.state (mail new.drop) all.2, all.3 (rw state refl))
+
+  -- the greeting and honest replies
+  abbrev pub honest_from : (ms : List Message) (marks : List Bool) (commands : List Command) (part replies got later sent : List ℕ) → AllByRecursion IsAsked commands → IsLine part
+      → sent ≡ flat_map ended (lines_of commands) ++ part → Replies ms (no_marks ms) commands replies marks → greeting ++ replies ≡ got ++ later → Honest ms sent got marks
+  honest_from ms marks commands part replies got later sent asked line is replied begins = record {
+    status = Positive;
+    hello = greeting;
+    greets = granted laws.written greeting (codes " popd ready") refl refl;
+    commands = commands;
+    asked = (let all = all_asked commands asked in record { sendable = all.0; numbers = all.1; part = part; no_line = line; whole = is ∙ ap (λ (l : List ℕ). l ++ part) (flat_map-map ended line_of commands) });
+    replies = replies;
+    replied = replied;
+    later = later;
+    begins = begins;
+  }
+
+  pub is_honest : IsHonest sound mail
+  is_honest old new commands answers state asked run s messages =
+      let all = answers_honestly old new commands answers state asked run s messages in
+      (all.0, honest_from _ all.0 commands [] answers _ [] _ asked (λ front rest e. omega (arith, ap length e, length-append front (crlf ++ rest))) (sym (append-nil _)) all.1 (sym (append-nil _)), all.2)
+
+-- ---- what a link to a new server gives is honest: the lines that were answered are the first of the commands that were sent
+
+-- the lines are those of the first of these commands, and the others wait
+pub record Cut (lines : List (List ℕ)) (commands : List Command) (waiting part : List ℕ) : Type 0 where
+  pub first : List Command
+  pub later : List Command
+  pub all : commands ≡ first ++ later
+  pub lines_are : lines ≡ lines_of first
+  pub rest : waiting ≡ flat_map ended (lines_of later) ++ part
+
+cut_at : OneLine → CommandsAreLines → (lines : List (List ℕ)) (commands : List Command) (waiting part : List ℕ) → AllByRecursion IsLine lines → AllByRecursion IsAsked commands → IsLine part
+    → flat_map ended lines ++ waiting ≡ flat_map ended (lines_of commands) ++ part → Cut lines commands waiting part
+cut_at one are_lines [] commands waiting part each asked whole e = record { first = []; later = commands; all = refl; lines_are = refl; rest = e }
+cut_at one are_lines (l ∷ ls) [] waiting part each asked whole e = absurd (whole l _ (simp append_assoc at (sym e)))
+cut_at one are_lines (l ∷ ls) (c ∷ cs) waiting part each asked whole e =
+    let same = one l (line_of c) _ _ each.0 (are_lines c asked.0.numbers asked.0.sendable) (rw (append_assoc (ended l), append_assoc (ended (line_of c))) at e) in
+    let more = cut_at one are_lines ls cs waiting part each.1 asked.1 whole same.1 in
+    record {
+      first = c ∷ more.first;
+      later = more.later;
+      all = ap (λ (l : List Command). c ∷ l) more.all;
+      lines_are = ap₂ (λ (x : List ℕ) (xs : List (List ℕ)). x ∷ xs) same.0 more.lines_are;
+      rest = more.rest;
+    }
+
+asked_front : (a b : List Command) → AllByRecursion IsAsked (a ++ b) → AllByRecursion IsAsked a
+asked_front [] b all = tt
+asked_front (c ∷ a) b all = (all.0, asked_front a b all.1)
+
+-- a negative reply to each command
+abbrev nos : List Command → List ℕ
+nos [] = []
+nos (c ∷ commands) = said (codes "-ERR") ++ nos commands
+
+refused_all : Written → (ms : List Message) (marks : List Bool) (commands : List Command) → Replies ms marks commands (nos commands) marks
+refused_all written ms marks [] = (refl, refl)
+refused_all written ms marks (c ∷ commands) = (said (codes "-ERR"), nos commands, marks, refl, refused written ms marks c (said (codes "-ERR")) [] refl refl, refused_all written ms marks commands)
+
+replies_on : (ms : List Message) (marks mid last : List Bool) (a b : List Command) (x y : List ℕ) → Replies ms marks a x mid → Replies ms mid b y last → Replies ms marks (a ++ b) (x ++ y) last
+replies_on ms marks mid last [] b x y first second = rw first.0 (rw first.1 at second)
+replies_on ms marks mid last (c ∷ a) b x y (one, more, next, is, reply, rest) second =
+    (one, more ++ y, next, ap (λ (l : List ℕ). l ++ y) is ∙ append_assoc one more y, reply, replies_on ms next mid last a b more y rest second)
+
+shuffle : (hello more lost nos got left : List ℕ) → got ++ left ≡ hello ++ more → hello ++ ((more ++ lost) ++ nos) ≡ got ++ (left ++ (lost ++ nos))
+shuffle hello more lost nos got left e = rw (append_assoc more, ← append_assoc hello, ← e, append_assoc got)
+
+closed_later : (state : State) (first later : List Command) → IsClosedByQuit state first → IsClosedByQuit state (first ++ later)
+closed_later state first later (inl still) = inl still
+closed_later state first later (inr (front, behind, split)) = inr (front, behind ++ later, rw (split, append_assoc))
+
+pub gives_honest : Laws → OneLine → CommandsAreLines → {D : Type 0} (sound : D → Type 0) (mail : D → Mail) → GivesHonest sound mail
+gives_honest laws one are_lines sound mail old new commands part fresh serves asked line sent s served =
+    let ms = there (mail old.machine.drop).slots in
+    let gained : serves.gained ≡ flat_map ended (lines_of commands) ++ part = rw fresh.sent at (sym serves.sent ∙ sent) in
+    let cut = cut_at one are_lines serves.lines commands new.waiting part serves.each asked line (rw fresh.waiting at (sym serves.heard) ∙ gained) in
+    let asked_all = rw cut.all at asked in
+    let same = serves.same.unanswered.messages s in
+    let replied = answers_honestly laws sound mail old.machine serves.last cut.first (serves.more ++ serves.lost) fresh.state
+    (asked_front cut.first cut.later asked_all) (rw cut.lines_are at serves.run) same.0 served in
+    let told : new.link.got ++ new.left ≡ greeting ++ serves.more = rw (serves.answers, fresh.answers) at (serves.told (rw (fresh.got, fresh.left, fresh.answers))) in (
+      replied.0,
+      honest_from laws sound mail ms replied.0 (cut.first ++ cut.later) part ((serves.more ++ serves.lost) ++ nos cut.later) new.link.got (new.left ++ (serves.lost ++ nos cut.later)) new.link.sent
+          asked_all line (rw cut.all at sent)
+          (replies_on ms (no_marks ms) replied.0 replied.0 cut.first cut.later (serves.more ++ serves.lost) (nos cut.later) replied.1 (refused_all laws.written ms replied.0 cut.later))
+          (shuffle greeting serves.more serves.lost (nos cut.later) new.link.got new.left told),
+      rw (serves.same.state, same.1) replied.2,
+      closed_later new.machine.state cut.first cut.later (rw serves.same.state replied.3),
     )

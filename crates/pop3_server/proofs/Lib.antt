@@ -1,17 +1,8 @@
-mod CloseLemmas
-mod DistinctLemmas
 mod EventLemmas
-mod GoneLemmas
 mod HonestLemmas
-mod HonestLoopLemmas
-mod HonestTurns
-mod LeaveLemmas
 mod LoopLemmas
-mod OpenLemmas
 mod RemovalLemmas
 mod RowLemmas
-mod SendLemmas
-mod ServeIntakeLemmas
 mod ServeLemmas
 mod SizeLemmas
 mod SlotLemmas

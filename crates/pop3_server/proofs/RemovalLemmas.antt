@@ -1,11 +1,14 @@
 -- Removals, and what is left.
-use Rattle.std.proofs.Common.{◌≡◌, ℕ, zero, suc, ◌+◌, ◌<◌, ◌≤◌, Bool, true, false, List, [], ◌∷◌, Option, Some, None, slice_get, slice_set, refl, sym, ◌∙◌, ap, inl, inr, arith, if◌then◌else◌}
+use Rattle.std.proofs.Common.{◌≡◌, ◌⊎◌, ℕ, zero, suc, ◌+◌, ◌<◌, ◌≤◌, Bool, true, false, List, [], ◌∷◌, ◌++◌, map, Option, Some, None, slice_get, slice_set, refl, sym, ◌∙◌, ap, inl, inr, arith, if◌then◌else◌, length, drop, get_or, add-one, drop-cons, append_assoc, length-append}
 use Rattle.std.proofs.lemmas.Bool.{false≢true}
+use Rattle.std.proofs.lemmas.List.{set_at}
 use Rattle.pop3_wire.specs.World.{Message}
 use Rattle.pop3_server.specs.declared.rows.MessageRow.{MessageRow}
-use Rattle.pop3_server.specs.Maildrop.{Mail}
+use Rattle.pop3_server.specs.Maildrop.{Mail, HasPlace, there}
 use Rattle.pop3_server.specs.ServerMachine.{Tries, Empties, none, stays, goes}
 use Rattle.pop3_server.specs.Removal.{holds, left_marked}
+use Rattle.pop3_server.specs.HonestServer.{AreLeft}
+use Rattle.pop3_server.proofs.RowLemmas.{rows_with}
 
 slot_removed : (slots : List (Option Message)) (i : ℕ) → holds (slice_get (slice_set slots i None) i) ≡ false
 slot_removed [] i = refl
@@ -19,13 +22,15 @@ slot_other (slot ∷ slots) zero (suc k) other = refl
 slot_other (slot ∷ slots) (suc i) zero other = refl
 slot_other (slot ∷ slots) (suc i) (suc k) other = slot_other slots i k (λ e. other (ap suc e))
 
-pub tries_other : (old new : Mail) (i k : ℕ) (done : Bool) → Tries old i done new → (k ≡ i → ⊥) → slice_get new.slots k ≡ slice_get old.slots k
-tries_other old new i k true tries other = ap (λ (m : Mail). slice_get m.slots k) tries ∙ slot_other old.slots i k other
-tries_other old new i k false tries other =
-    elim tries [
-      | inl kept ↦ ap (λ (m : Mail). slice_get m.slots k) kept
-      | inr gone ↦ ap (λ (m : Mail). slice_get m.slots k) gone ∙ slot_other old.slots i k other
-    ]
+-- one more refusal is counted if it wasn't done, and only this place may have changed
+tried : (old mid : Mail) (i : ℕ) (done : Bool) → Tries old i done mid
+    → (mid.failures ≡ (if done then 0 else 1) + old.failures) × ((mid.slots ≡ old.slots) ⊎ (mid.slots ≡ slice_set old.slots i None))
+tried old mid i true tries = rw tries (omega arith, inr refl)
+tried old mid i false (inl kept) = rw kept (omega arith, inl refl)
+tried old mid i false (inr gone) = rw gone (omega arith, inr refl)
+
+tries_other : (old new : Mail) (i k : ℕ) (done : Bool) → Tries old i done new → (k ≡ i → ⊥) → slice_get new.slots k ≡ slice_get old.slots k
+tries_other old new i k done tries other = elim (tried old new i done tries).1 [ inl kept ↦ rw kept | inr gone ↦ rw gone (slot_other old.slots i k other) ]
 
 -- earlier places stay as they are
 earlier : {i : ℕ} {rows : List MessageRow} {old : Mail} {all : Bool} {new : Mail} → Empties i rows old all new → (k : ℕ) → k < i → slice_get new.slots k ≡ slice_get old.slots k
@@ -34,27 +39,13 @@ earlier (stays i row rows old all new unmarked rest) k less = earlier rest k (om
 earlier (goes i row rows old mid done all new marked tries rest) k less =
     earlier rest k (omega arith) ∙ tries_other old mid i k done tries (λ e. omega arith)
 
-tries_count : (old new : Mail) (i : ℕ) (done : Bool) (holding : Bool) → Tries old i done new → (done ≡ true → holding ≡ false) → (if holding then 1 else 0) + old.failures ≤ new.failures
-tries_count old new i true holding tries gone =
-    let same : new.failures ≡ old.failures = ap (λ (m : Mail). m.failures) tries in
-    rw (gone refl) (omega (arith, same))
-tries_count old new i false true tries gone =
-    elim tries [ inl kept ↦ (let more = ap (λ (m : Mail). m.failures) kept in omega (arith, more)) | inr lost ↦ (let more = ap (λ (m : Mail). m.failures) lost in omega (arith, more)) ]
-tries_count old new i false false tries gone =
-    elim tries [ inl kept ↦ (let more = ap (λ (m : Mail). m.failures) kept in omega (arith, more)) | inr lost ↦ (let more = ap (λ (m : Mail). m.failures) lost in omega (arith, more)) ]
-
--- a message that was removed isn't there any more
-gone_at : (old mid : Mail) (i : ℕ) (done : Bool) (slot : Option (Option Message)) → Tries old i done mid → slot ≡ slice_get mid.slots i → done ≡ true → holds slot ≡ false
-gone_at old mid i true slot tries same done = ap holds (same ∙ ap (λ (m : Mail). slice_get m.slots i) tries) ∙ slot_removed old.slots i
-gone_at old mid i false slot tries same done = cc
-
 pub few_left : {i : ℕ} {rows : List MessageRow} {old : Mail} {all : Bool} {new : Mail} → Empties i rows old all new → left_marked i rows new + old.failures ≤ new.failures
 few_left (none i old) = omega arith
-few_left (stays i row rows old all new unmarked rest) = let less = few_left rest in rw unmarked (omega (arith, less))
-few_left (goes i row rows old mid done all new marked tries rest) =
-    let less = few_left rest in
-    let one = tries_count old mid i done (holds (slice_get new.slots i)) tries (gone_at old mid i done (slice_get new.slots i) tries (earlier rest i (omega arith))) in
-    rw marked (omega (arith, less, one))
+few_left (stays i row rows old all new unmarked rest) = rw unmarked (omega (arith, few_left rest))
+few_left (goes i row rows old mid true all new marked tries rest) =
+    let gone : holds (slice_get new.slots i) ≡ false = ap holds (earlier rest i (omega arith) ∙ ap (λ (m : Mail). slice_get m.slots i) tries) ∙ slot_removed old.slots i in
+    rw (marked, gone) (omega (arith, few_left rest, (tried old mid i true tries).0))
+few_left (goes i row rows old mid false all new marked tries rest) = rw marked (grind (arith, few_left rest, (tried old mid i false tries).0))
 
 pub all_removed : {i : ℕ} {rows : List MessageRow} {old : Mail} {all : Bool} {new : Mail} → Empties i rows old all new → all ≡ true → new.failures ≡ old.failures
 all_removed (none i old) whole = refl
@@ -65,14 +56,8 @@ all_removed (goes i row rows old mid false all new marked tries rest) whole = cc
 pub some_refused : {i : ℕ} {rows : List MessageRow} {old : Mail} {all : Bool} {new : Mail} → Empties i rows old all new → all ≡ false → old.failures < new.failures
 some_refused (none i old) left = cc
 some_refused (stays i row rows old all new unmarked rest) left = some_refused rest left
-some_refused (goes i row rows old mid true all new marked tries rest) left =
-    let later = some_refused rest left in
-    let same = ap (λ (m : Mail). m.failures) tries in
-    omega (arith, later, same)
-some_refused (goes i row rows old mid false all new marked tries rest) left =
-    let one = tries_count old mid i false true tries sym in
-    let later = few_left rest in
-    omega (arith, one, later)
+some_refused (goes i row rows old mid true all new marked tries rest) left = omega (arith, some_refused rest left, ap (λ (m : Mail). m.failures) tries)
+some_refused (goes i row rows old mid false all new marked tries rest) left = omega (arith, (tried old mid i false tries).0, few_left rest)
 
 pub others_stay : {i : ℕ} {rows : List MessageRow} {old : Mail} {all : Bool} {new : Mail} → Empties i rows old all new → (k j : ℕ) (row : MessageRow) → slice_get rows k ≡ Some row → row.marked ≡ false → j ≡ i + k → slice_get new.slots j ≡ slice_get old.slots j
 others_stay (none i old) k j row h unmarked at = refl
@@ -82,3 +67,43 @@ others_stay (goes i first rows old mid done all new marked tries rest) zero j ro
     let same : first ≡ row = cc in absurd (false≢true (sym unmarked ∙ ap (λ (r : MessageRow). r.marked) (sym same) ∙ marked))
 others_stay (goes i first rows old mid done all new marked tries rest) (suc k) j row h unmarked at =
     others_stay rest k j row h unmarked (omega (arith, at)) ∙ tries_other old mid i j done tries (λ same. omega (arith, at, same))
+
+-- ---- one after another
+
+-- the rows from a place on begin with the row there
+pub drop_row : (rows : List MessageRow) (i : ℕ) (row : MessageRow) → row ≡ get_or rows i row → i < length rows → drop i rows ≡ row ∷ drop (i + 1) rows
+drop_row rows i row is fits = rw add-one (drop-cons rows i row fits ∙ ap (λ r. r ∷ drop (suc i) rows) (sym is))
+
+-- a removal leaves the other places
+pub later_place : (old new : Mail) (i k : ℕ) (done : Bool) → Tries old i done new → i < k → HasPlace old k → HasPlace new k
+later_place old new i k done tries less h = (h.0, tries_other old new i k done tries (λ same. omega arith) ∙ h.1)
+
+-- ---- what QUIT leaves of the messages
+
+pub none_gone : (ms : List Message) (marks : List Bool) → length marks ≡ length ms → AreLeft ms marks ms
+none_gone [] marks e = refl
+none_gone (m ∷ ms) [] e = absurd (omega arith)
+none_gone (m ∷ ms) (b ∷ bs) e = inl (ms, refl, none_gone ms bs (omega arith))
+
+abbrev LeftBehind : List (Option Message) → List Message → List Bool → Mail → Type 0
+LeftBehind pre ms marks new = (after : List (Option Message)) × (new.slots ≡ pre ++ after) × AreLeft ms marks (there after)
+
+stayed : (pre : List (Option Message)) (m : Message) (ms : List Message) (b : Bool) (bs : List Bool) (new : Mail) → LeftBehind (pre ++ Some m ∷ []) ms bs new → LeftBehind pre (m ∷ ms) (b ∷ bs) new
+stayed pre m ms b bs new left = (Some m ∷ left.0, left.1 ∙ append_assoc pre (Some m ∷ []) left.0, inl (there left.0, refl, left.2))
+
+emptied : (ms : List Message) (marks : List Bool) (pre : List (Option Message)) {i : ℕ} {old : Mail} {all : Bool} {new : Mail} → Empties i (rows_with ms marks) old all new
+    → i ≡ length pre → length marks ≡ length ms → old.slots ≡ pre ++ map Some ms → LeftBehind pre ms marks new
+emptied [] marks pre (none i old) at same slots = ([], slots, refl)
+emptied (m ∷ ms) [] pre empties at same slots = absurd (omega arith)
+emptied (m ∷ ms) (b ∷ bs) pre (stays i row rows old all new unmarked rest) at same slots =
+    stayed pre m ms b bs new (emptied ms bs (pre ++ Some m ∷ []) rest (omega (arith, at, length-append pre (Some m ∷ []))) (omega arith) (rw (slots, append_assoc)))
+emptied (m ∷ ms) (b ∷ bs) pre (goes i row rows old mid done all new marked tries rest) at same slots = elim (tried old mid i done tries).1 [
+  | inl kept ↦ stayed pre m ms b bs new (emptied ms bs (pre ++ Some m ∷ []) rest (omega (arith, at, length-append pre (Some m ∷ []))) (omega arith) (rw (kept, slots, append_assoc)))
+  | inr gone ↦
+      let left = emptied ms bs (pre ++ None ∷ []) rest (omega (arith, at, length-append pre (None ∷ []))) (omega arith) (rw (gone, slots, set_at pre (Some m) (map Some ms) None i (sym at), append_assoc)) in
+      (None ∷ left.0, left.1 ∙ append_assoc pre (None ∷ []) left.0, inr (marked, left.2))
+]
+
+pub left_by_quit : (ms : List Message) (marks : List Bool) (old new : Mail) (all : Bool) → length marks ≡ length ms → old.slots ≡ map Some ms → Empties 0 (rows_with ms marks) old all new → AreLeft ms marks (there new.slots)
+left_by_quit ms marks old new all same slots empties =
+    let left = emptied ms marks [] empties refl same slots in rw left.1 left.2

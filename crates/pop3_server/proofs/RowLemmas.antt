@@ -1,8 +1,9 @@
 -- Rows, marked and unmarked.
-use Rattle.std.proofs.Common.{◌≡◌, ℕ, zero, suc, ◌<◌, ◌≤◌, true, List, [], ◌∷◌, ◌++◌, map, length, get_or, slice_set, refl, ap, arith, All}
+use Rattle.std.proofs.Common.{◌≡◌, ℕ, zero, suc, ◌<◌, ◌≤◌, Bool, true, List, [], ◌∷◌, ◌++◌, map, length, get_or, slice_set, refl, ap, arith, All}
 use Rattle.pop3_server.specs.declared.rows.MessageRow.{MessageRow}
 use Rattle.std.proofs.lemmas.List.Elements.{All-push}
-use Rattle.pop3_server.specs.Maildrop.{max_size}
+use Rattle.pop3_wire.specs.World.{Message}
+use Rattle.pop3_server.specs.Maildrop.{entry_of, max_size}
 use Rattle.pop3_server.specs.ServerMachine.{marked, unmarked, mark_at, IsSmall, SamePlaces}
 
 -- a row that is written back with its mark
@@ -30,3 +31,12 @@ row_of_unmark (first ∷ rows) (suc k) row h = row_of_unmark rows k row h
 -- one more row within the limit
 pub small_push : (rows : List MessageRow) (row : MessageRow) → All IsSmall rows → row.entry.size ≤ max_size → All IsSmall (rows ++ row ∷ [])
 small_push rows row all small = All-push IsSmall rows row all small
+
+-- the rows of messages with their marks
+abbrev pub row_with : Message → Bool → MessageRow
+row_with message mark = record { entry = entry_of message; marked = mark }
+
+abbrev pub rows_with : List Message → List Bool → List MessageRow
+rows_with [] marks = []
+rows_with (m ∷ ms) [] = []
+rows_with (m ∷ ms) (b ∷ bs) = row_with m b ∷ rows_with ms bs

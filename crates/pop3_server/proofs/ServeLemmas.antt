@@ -1,13 +1,20 @@
 -- How far a server that serves a link has come, and why it ends.
-use Rattle.std.proofs.Common.{◌≡◌, ◌⊎◌, inl, inr, ◌<◌, ◌+◌, ℕ, true, false, List, [], ◌∷◌, ◌++◌, length, take, drop, refl, sym, ap, subst, ◌∙◌, arith, append_assoc, length-append, Option, Some, Result, Ok, Err, codes}
+use Rattle.pop3_wire.specs.declared.wire.Wire.{Ghosts}
+use Rattle.pop3_wire.specs.Link.{WhereSound, Link}
+use Rattle.std.proofs.Common.{IsErrAnd, true, ◌⊎◌, Ok, ◌≡◌, ◌<◌, ◌≤◌, ◌+◌, ℕ, zero, suc, List, [], ◌∷◌, ◌++◌, length, take, drop, refl, sym, ap, subst, ◌∙◌, arith, append_assoc, length-append, length-take-le, take-append-drop, take_all, append-nil, length-drop, inl, inr, false, Option, Some, Result, Err, codes}
+use Rattle.std.proofs.lemmas.List.{nil_from_length, take-append-le}
+use Rattle.std.proofs.Math.Seq.{take-add}
+use Rattle.pop3_wire.specs.Line.{crlf, IsLine, ended}
+use Rattle.pop3_wire.specs.Place.{HasLine, HasNoLine}
+use Rattle.pop3_server.specs.Got.{Waiting}
+use Rattle.pop3_server.specs.Serving.{Hears, Queues, LastSent, SendsAnswer, Served, WentOut}
+use Rattle.pop3_server.specs.declared.intake.NextLine.TheVariants.{LongLine, End, Line}
+use Rattle.pop3_wire.specs.Bodies.{Drew}
 use Rattle.std.specs.List.{flat_map, AllByRecursion}
+use Rattle.std.proofs.lemmas.Result.{err_from_is_err_and}
 use Rattle.std.proofs.lemmas.Bool.{cond-true, lt-ltb}
-use Rattle.std.proofs.lemmas.List.{append-nil, flat_map_more}
 use Rattle.pop3_wire.specs.declared.fault.WireFault.TheVariants.{BadCommand}
 use Rattle.pop3_wire.specs.CommandLine.{command_of}
-use Rattle.pop3_wire.specs.Line.{crlf, IsLine, ended}
-use Rattle.pop3_wire.specs.Link.{Link}
-use Rattle.pop3_wire.specs.Place.{HasLine}
 use Rattle.pop3_server.specs.declared.fault.ServerFault.{ServerFault}
 use Rattle.pop3_server.specs.declared.fault.ServerFault.TheVariants.{ReadFailed, WriteFailed, MaildropFailed, NoMemory}
 use Rattle.pop3_server.specs.declared.text_part.TextBody.{TextBody}
@@ -15,204 +22,275 @@ use Rattle.pop3_server.specs.Maildrop.{Mail}
 use Rattle.pop3_server.specs.ServerMachine.{Machine, greeting, said, is_open}
 use Rattle.pop3_server.specs.LoopLaws.{lines_on, runs_on}
 use Rattle.pop3_server.specs.AnswersLines.{AnswersLines, AnswersLine, MakesAnswer}
-use Rattle.pop3_server.specs.Got.{Waiting}
-use Rattle.pop3_server.specs.declared.intake.NextLine.TheVariants.{End}
-use Rattle.pop3_server.specs.Serving.{Hears, Queues, AllSent, LastSent, SendsAnswer, Served, WentOut}
-use Rattle.pop3_wire.specs.Bodies.{Drew}
-use Rattle.pop3_server.proofs.ServeIntakeLemmas.{took_none, takes_none}
+use Rattle.std.proofs.lemmas.Grind.{flat_map-append}
+
+-- what `?` passes up
+pub is_err : {T E : Type 0} {e : E} (r : Result T E) → IsErrAnd r (λ y. y ≡ e) → r ≡ Err e
+is_err r h = let p = err_from_is_err_and r h in p.1 ∙ ap Err p.2
+
+module _ {W : Type 0} (link : Ghosts W) where
+  -- what follows from what a call did
+  pub in_words : {a b : W} {P Q : Type 0} → WhereSound link.sound link.leads_to a b P → (P → Q) → WhereSound link.sound link.leads_to a b Q
+  in_words did words sound = let all = did sound in (all.0, all.1, words all.2)
+
+  -- two things that a call did
+  pub both_words : {a b : W} {P Q : Type 0} → (link.sound b → link.sound a × link.leads_to a b × P × Q) → WhereSound link.sound link.leads_to a b (P × Q)
+  both_words did sound = let all = did sound in (all.0, all.1, (all.2, all.3))
+
+  -- a call and then another
+  pub and_then : {a b c : W} {P Q R : Type 0} → ((u v w : W) → link.leads_to u v → link.leads_to v w → link.leads_to u w)
+      → WhereSound link.sound link.leads_to a b P → WhereSound link.sound link.leads_to b c Q → (P → Q → R) → WhereSound link.sound link.leads_to a c R
+  and_then on first second both sound =
+      let later = second sound in
+      let all = first later.0 in
+      (all.0, on _ _ _ all.1 later.1, both all.2 later.2)
+
+  -- three calls
+  pub and_then_two : {a b c d : W} {P Q R S : Type 0} → ((u v w : W) → link.leads_to u v → link.leads_to v w → link.leads_to u w)
+      → WhereSound link.sound link.leads_to a b P → WhereSound link.sound link.leads_to b c Q → WhereSound link.sound link.leads_to c d R → (P → Q → R → S)
+      → WhereSound link.sound link.leads_to a d S
+  and_then_two {Q = Q} {R = R} on first second third all = and_then on first (and_then {R = Q × R} on second third (λ q r. (q, r))) (λ p both. all p both.0 both.1)
+
+-- ---- octets that are dropped in pieces and make one line
+
+-- the parts of a line are lines
+IsLine-front : (a b : List ℕ) → IsLine (a ++ b) → IsLine a
+IsLine-front a b line front rest e = line front (rest ++ b) (ap (λ l. l ++ b) e ∙ append_assoc front (crlf ++ rest) b)
+
+IsLine-back : (a b : List ℕ) → IsLine (a ++ b) → IsLine b
+IsLine-back a b line front rest e = line (a ++ front) rest (ap (λ l. a ++ l) e ∙ sym (append_assoc a front (crlf ++ rest)))
+
+-- two pieces that share an octet are a line if both are
+no_split : (part back : List ℕ) (b : ℕ) → IsLine (part ++ b ∷ []) → IsLine (b ∷ back) → (front rest : List ℕ) → part ++ b ∷ back ≡ front ++ (crlf ++ rest) → ⊥
+no_split [] back b first second front rest e = second front rest e
+no_split (p ∷ []) back b first second [] rest e = first [] [] (cc)
+no_split (p ∷ q ∷ ps) back b first second [] rest e = first [] (ps ++ b ∷ []) (cc)
+no_split (p ∷ ps) back b first second (f ∷ front) rest e = no_split ps back b (IsLine-back (p ∷ []) (ps ++ b ∷ []) first) second front rest (cc)
+
+pub spliced : (part octets : List ℕ) (n : ℕ) → IsLine (part ++ take 1 octets) → IsLine (take n octets) → IsLine (part ++ take n octets)
+spliced part [] zero first second = first
+spliced part [] (suc n) first second = first
+spliced part (b ∷ octets) zero first second = IsLine-front (part ++ []) (b ∷ []) (subst IsLine (ap (λ (l : List ℕ). l ++ b ∷ []) (sym (append-nil part))) first)
+spliced part (b ∷ octets) (suc n) first second = no_split part (take n octets) b first second
+
+-- what was got, and waits behind what waited, except for this part in front
+abbrev pub Waits : Waiting → Link → List ℕ → Waiting → Link → Type 0
+Waits before from part now to = (gained : List ℕ) × Drew from to gained × Queues before part now gained
+
+-- more came
+pub waits_more : {before now after : Waiting} {from to next : Link} {part piece : List ℕ} → Waits before from part now to → Drew to next piece
+    → after.octets ≡ now.octets ++ piece → length piece + after.left ≡ now.left → Waits before from part after next
+waits_more {before} {now} {from = from} {part = part} {piece = piece} (gained, drew, takes) more octets left = (
+  gained ++ piece,
+  record { got = simp (more.got, drew.got, append_assoc); sent = more.sent ∙ drew.sent },
+  record {
+    octets = sym (append_assoc before.octets gained piece) ∙ ap (λ (l : List ℕ). l ++ piece) takes.octets ∙ simp (octets, append_assoc);
+    left = omega (arith, length-append gained piece, takes.left, left);
+  },
+)
+
+-- nothing more came, and what waits has no line's end
+pub waits_end : {before now after : Waiting} {from to next : Link} {part piece : List ℕ} → Waits before from part now to → IsLine (part ++ now.octets) → Drew to next piece
+    → after.octets ≡ now.octets ++ piece → length piece + after.left ≡ now.left → length piece ≡ 0 → (next.ended ≡ true) ⊎ (after.left ≡ 0) → Hears from before (Ok End) next after
+waits_end {part = part} {piece = piece} waits line more octets left none why =
+    let all = waits_more waits more octets left in
+    (all.0, part, all.1, all.2, rw (octets, nil_from_length piece none, append-nil) line, why)
+
+-- the octets so far of a line that is dropped piece by piece
+pub record Dropping (before : Waiting) (from : Link) (now : Waiting) (to : Link) : Type 0 where
+  pub part : List ℕ
+  pub waits : Waits before from part now to
+  pub line : IsLine (part ++ take 1 now.octets)
+  pub some : 0 < length now.octets
+  pub long : 510 < length part
+
+pub drops_first : {before : Waiting} {link : Link} → HasNoLine 512 before.octets → 512 ≤ length before.octets
+    → Dropping before link (record { octets = drop 511 before.octets; left = before.left }) link
+drops_first {before} {link} none long = record {
+  part = take 511 before.octets;
+  waits = ([], record { got = sym (append-nil link.got); sent = refl }, record { octets = append-nil before.octets ∙ sym (take-append-drop 511 before.octets); left = omega arith });
+  line = rw (take-add 511 1 before.octets) at none.none;
+  some = omega (arith, length-drop 511 before.octets);
+  long = omega (arith, length-take-le 511 before.octets (omega arith));
+}
+
+pub drops_more : {before now : Waiting} {from to : Link} → Dropping before from now to → HasNoLine 512 now.octets → 512 ≤ length now.octets
+    → Dropping before from (record { octets = drop 511 now.octets; left = now.left }) to
+drops_more {now = now} d none long = record {
+  part = d.part ++ take 511 now.octets;
+  waits = (d.waits.0, d.waits.1, record { octets = d.waits.2.octets ∙ rw (append_assoc, take-append-drop); left = d.waits.2.left });
+  line = rw (append_assoc, ← take-add 511 1 now.octets) (spliced d.part now.octets 512 d.line none.none);
+  some = omega (arith, length-drop 511 now.octets);
+  long = omega (arith, length-append d.part (take 511 now.octets), d.long);
+}
+
+pub drops_on : {before now after : Waiting} {from to next : Link} {piece : List ℕ} → Dropping before from now to → Drew to next piece
+    → after.octets ≡ now.octets ++ piece → length piece + after.left ≡ now.left → Dropping before from after next
+drops_on {now = now} {piece = piece} d more octets left = record {
+  part = d.part;
+  waits = waits_more d.waits more octets left;
+  line = rw (octets, take-append-le 1 now.octets piece d.some) d.line;
+  some = omega (arith, ap length octets, length-append now.octets piece, d.some);
+  long = d.long;
+}
+
+-- the line's end came
+pub dropped_line : {before now : Waiting} {from to : Link} {n : ℕ} → Dropping before from now to → HasLine 512 now.octets n
+    → Hears from before (Ok LongLine) to (record { octets = drop (n + 2) now.octets; left = now.left })
+dropped_line {now = now} {n = n} d has = (
+  d.waits.0,
+  d.part ++ take n now.octets,
+  d.waits.1,
+  record { octets = d.waits.2.octets ∙ ap (λ (l : List ℕ). d.part ++ l) has.whole ∙ simp append_assoc; left = d.waits.2.left },
+  spliced d.part now.octets n d.line has.line,
+  omega (arith, length-append d.part (take n now.octets), d.long),
+)
+
+-- nothing more came
+pub dropped_end : {before now : Waiting} {from to : Link} (d : Dropping before from now to) → HasNoLine 512 now.octets → length now.octets < 512 → IsLine (d.part ++ now.octets)
+dropped_end {now = now} d none short = rw (take_all 512 now.octets (omega arith)) at (spliced d.part now.octets 512 d.line none.none)
+
+-- ---- how far a server that serves a link has come, and why it ends
+
+-- what was got after that: these lines, and what follows them; and how much may still be taken
+pub record Came (before after : List ℕ) (lines : List (List ℕ)) (rest : List ℕ) (left : ℕ) : Type 0 where
+  pub gained : List ℕ
+  pub got : after ≡ before ++ gained
+  pub each : AllByRecursion IsLine lines
+  pub heard : gained ≡ flat_map ended lines ++ rest
+  pub all : length gained + left ≡ 16777216
 
 -- the greeting and the answers to all lines that came whole were sent
 pub record Progress {D : Type 0} (sound : D → Type 0) (mail : D → Mail) (old : Machine D) (before : Link) (server : Machine D) (link : Link) (waiting : Waiting) : Type 0 where
-  pub gained : List ℕ
   pub lines : List (List ℕ)
   pub answers : List ℕ
-  pub each : AllByRecursion IsLine lines
-  pub got : link.got ≡ before.got ++ gained
-  pub heard : gained ≡ flat_map ended lines ++ waiting.octets
-  pub left : length gained + waiting.left ≡ 16777216
+  pub came : Came before.got link.got lines waiting.octets waiting.left
   pub sent : link.sent ≡ before.sent ++ (greeting ++ answers)
   pub run : AnswersLines sound mail old lines answers server
 
--- the greeting was sent
-pub greeted : {D : Type 0} (sound : D → Type 0) (mail : D → Mail) (old server : Machine D) (before link : Link) (waiting : Waiting) (hello : List ℕ) → server ≡ old → hello ≡ greeting
-    → link ≡ record before { sent = before.sent ++ hello } → waiting ≡ record { octets = []; left = 16777216 } → Progress sound mail old before server link waiting
-greeted sound mail old server before link waiting hello same is sends starts = record {
-  gained = [];
-  lines = [];
-  answers = [];
-  each = tt;
-  got = ap (λ (l : Link). l.got) sends ∙ sym (append-nil before.got);
-  heard = sym (ap (λ (w : Waiting). w.octets) starts);
-  left = let all : waiting.left ≡ 16777216 = ap (λ (w : Waiting). w.left) starts in omega (arith, all);
-  sent = ap (λ (l : Link). l.sent) sends ∙ ap (λ (l : List ℕ). before.sent ++ l) (is ∙ sym (append-nil greeting));
-  run = (refl, same);
+-- a line came behind what waited
+pub record LineCame (waiting after : Waiting) (link taken : Link) (line : List ℕ) : Type 0 where
+  pub gained : List ℕ
+  pub took : Drew link taken gained
+  pub takes : Queues waiting (ended line) after gained
+  pub is : IsLine line
+
+-- a line that waits, and what is left after it
+pub line_came : {before mid after : Waiting} {link taken : Link} {seen : List ℕ} {n : ℕ} → Hears link before (Ok (Line n)) taken mid → seen ≡ mid.octets
+    → after ≡ record { octets = drop (n + 2) mid.octets; left = mid.left } → LineCame before after link taken (take n seen)
+line_came {mid = mid} {n = n} (gained, took, takes, has) same is = rw (is, same) (record {
+  gained = gained;
+  took = took;
+  takes = record { octets = takes.octets ∙ has.whole ∙ sym (append_assoc (take n mid.octets) crlf _); left = takes.left };
+  is = has.line;
+})
+
+came_none : (got : List ℕ) → Came got got [] [] 16777216
+came_none got = record { gained = []; got = sym (append-nil got); each = tt; heard = refl; all = refl }
+
+-- more came, of which this was dropped in front
+came_on : {before : List ℕ} {link taken : Link} {lines : List (List ℕ)} {waiting after : Waiting} {dropped gained : List ℕ} → Came before link.got lines waiting.octets waiting.left
+    → Drew link taken gained → Queues waiting dropped after gained → Came before taken.got lines (dropped ++ after.octets) after.left
+came_on {gained = gained} came took takes = record {
+  gained = came.gained ++ gained;
+  got = simp (took.got, came.got, append_assoc);
+  each = came.each;
+  heard = simp (came.heard, takes.octets, append_assoc);
+  all = omega (arith, length-append came.gained gained, came.all, takes.left);
 }
 
 -- a run of one line
 pub run_one : {D : Type 0} (sound : D → Type 0) (mail : D → Mail) (a b : Machine D) (line answer : List ℕ) → AnswersLine sound mail a line answer b → AnswersLines sound mail a (line ∷ []) answer b
 run_one sound mail a b line answer turn = (answer, [], b, sym (append-nil answer), turn, (refl, refl))
 
--- one more line came and was answered
-pub progress_line : {D : Type 0} (sound : D → Type 0) (mail : D → Mail) (old server next : Machine D) (before link taken sent : Link) (waiting after : Waiting) (g line answer : List ℕ)
-    → Progress sound mail old before server link waiting → Drew link taken g → waiting.octets ++ g ≡ ended line ++ after.octets → length g + after.left ≡ waiting.left → IsLine line
-    → AnswersLine sound mail server line answer next → sent ≡ record taken { sent = taken.sent ++ answer } → Progress sound mail old before next sent after
-progress_line sound mail old server next before link taken sent waiting after g line answer p took octets left is turn sends = record {
-  gained = p.gained ++ g;
-  lines = p.lines ++ line ∷ [];
-  answers = p.answers ++ answer;
-  each = lines_on p.lines (line ∷ []) p.each (is, tt);
-  got = ap (λ (l : Link). l.got) sends ∙ took.got ∙ ap (λ (l : List ℕ). l ++ g) p.got ∙ append_assoc before.got p.gained g;
-  heard = ap (λ (l : List ℕ). l ++ g) p.heard ∙ append_assoc (flat_map ended p.lines) waiting.octets g ∙ ap (λ (l : List ℕ). flat_map ended p.lines ++ l) octets
-      ∙ sym (append_assoc (flat_map ended p.lines) (ended line) after.octets) ∙ ap (λ (l : List ℕ). l ++ after.octets) (flat_map_more ended [] p.lines line);
-  left = let start : length p.gained + waiting.left ≡ 16777216 = p.left in omega (arith, length-append p.gained g);
-  sent = ap (λ (l : Link). l.sent) sends ∙ ap (λ (l : List ℕ). l ++ answer) (took.sent ∙ p.sent) ∙ append_assoc before.sent (greeting ++ p.answers) answer
-      ∙ ap (λ (l : List ℕ). before.sent ++ l) (append_assoc greeting p.answers answer);
-  run = runs_on sound mail old server next p.lines (line ∷ []) p.answers answer p.run (run_one sound mail server next line answer turn);
-}
+module _ {D : Type 0} (sound : D → Type 0) (mail : D → Mail) (old : Machine D) (before : Link) where
+  -- the greeting was sent
+  pub greeted : (server : Machine D) (link : Link) (waiting : Waiting) (hello : List ℕ) → server ≡ old → hello ≡ greeting
+      → link ≡ record before { sent = before.sent ++ hello } → waiting ≡ record { octets = []; left = 16777216 } → Progress sound mail old before server link waiting
+  greeted server link waiting hello same is sends starts = rw (same, sends, is, starts) (record { lines = []; answers = []; came = came_none before.got; sent = refl; run = (refl, refl) })
 
-pub all_sent : {D : Type 0} (sound : D → Type 0) (mail : D → Mail) (old server : Machine D) (before link : Link) (waiting : Waiting)
-    (p : Progress sound mail old before server link waiting) → AllSent sound mail old p.lines (greeting ++ p.answers) server
-all_sent sound mail old server before link waiting p = (p.answers, p.run, refl)
+  served : {lines : List (List ℕ)} {rest : List ℕ} {left : ℕ} {result : Result (Unit {0}) ServerFault} {next : Machine D} {link : Link} (out : List ℕ) → Came before.got link.got lines rest left
+      → link.sent ≡ before.sent ++ out → WentOut sound mail old lines rest out result next
+      → (result ≡ Ok tt → (is_open next.state ≡ false) ⊎ ((link.ended ≡ true) ⊎ (left ≡ 0))) → Served sound mail old before result next link
+  served {lines} {rest} out came sent answered ends = record {
+    gained = came.gained;
+    got = came.got;
+    bound = omega (arith, came.all);
+    lines = lines;
+    rest = rest;
+    each = came.each;
+    heard = came.heard;
+    out = out;
+    sent = sent;
+    answered = answered;
+    ends = λ ok. elim (ends ok) [
+      | inl closed ↦ inl closed
+      | inr (inl over) ↦ inr (inl over)
+      | inr (inr none) ↦ inr (inr (omega (arith, came.all, none)))
+    ];
+  }
 
-last_sent : {D : Type 0} (sound : D → Type 0) (mail : D → Mail) (old server next : Machine D) (before link : Link) (waiting : Waiting) (line front unsent : List ℕ) (text : Option TextBody)
-    (p : Progress sound mail old before server link waiting) → MakesAnswer sound mail server line (front ++ unsent) text next
-    → LastSent sound mail old (p.lines ++ line ∷ []) ((greeting ++ p.answers) ++ front) unsent text next
-last_sent sound mail old server next before link waiting line front unsent text p makes = record {
-  before = p.lines;
-  line = line;
-  whole = greeting ++ p.answers;
-  front = front;
-  mid = server;
-  each = refl;
-  all = all_sent sound mail old server before link waiting p;
-  makes = makes;
-  out = refl;
-}
+  -- memory ran out for the greeting, or it was sent in part
+  pub served_unmade : (server : Machine D) → server ≡ old → Served sound mail old before (Err NoMemory) server before
+  served_unmade server same = served [] (came_none before.got) (sym (append-nil before.sent)) (inl (refl, refl, same)) (λ e. cc)
 
--- a link that took more, within what may be taken
-within : {D : Type 0} (sound : D → Type 0) (mail : D → Mail) (old server : Machine D) (before link : Link) (waiting : Waiting) (g : List ℕ) (left : ℕ)
-    (p : Progress sound mail old before server link waiting) → length g + left ≡ waiting.left → length (p.gained ++ g) + left ≡ 16777216
-within sound mail old server before link waiting g left p more = let start : length p.gained + waiting.left ≡ 16777216 = p.left in omega (arith, length-append p.gained g)
+  pub served_ungreeted : (server : Machine D) (link : Link) (hello front rest : List ℕ) → server ≡ old → hello ≡ greeting → hello ≡ front ++ rest
+      → link ≡ record before { sent = before.sent ++ front; failures = before.failures + 1 } → Served sound mail old before (Err WriteFailed) server link
+  served_ungreeted server link hello front rest same is part sends = rw sends (served front (came_none before.got) refl (inl (rest, sym is ∙ part, refl, same)) (λ e. cc))
 
--- no whole line came
-served_after : {D : Type 0} (sound : D → Type 0) (mail : D → Mail) (old server next : Machine D) (before link taken : Link) (waiting after : Waiting) (g dropped : List ℕ) (result : Result (Unit {0}) ServerFault)
-    (p : Progress sound mail old before server link waiting) → Drew link taken g → Queues waiting dropped after g
-    → WentOut sound mail old p.lines (dropped ++ after.octets) (greeting ++ p.answers) result next
-    → (result ≡ Ok tt → (is_open next.state ≡ false) ⊎ ((taken.ended ≡ true) ⊎ (length (p.gained ++ g) ≡ 16777216)))
-    → Served sound mail old before result next taken
-served_after sound mail old server next before link taken waiting after g dropped result p took takes answered ends =
-    let total = within sound mail old server before link waiting g after.left p takes.left in
-    record {
-      gained = p.gained ++ g;
-      got = took.got ∙ ap (λ (l : List ℕ). l ++ g) p.got ∙ append_assoc before.got p.gained g;
-      bound = omega arith;
-      lines = p.lines;
-      rest = dropped ++ after.octets;
-      each = p.each;
-      heard = ap (λ (l : List ℕ). l ++ g) p.heard ∙ append_assoc (flat_map ended p.lines) waiting.octets g ∙ ap (λ (l : List ℕ). flat_map ended p.lines ++ l) takes.octets;
-      out = greeting ++ p.answers;
-      sent = took.sent ∙ p.sent;
-      answered = answered;
-      ends = ends;
+module _ {D : Type 0} {sound : D → Type 0} {mail : D → Mail} {old server : Machine D} {before link : Link} {waiting : Waiting} (p : Progress sound mail old before server link waiting) where
+  -- the session is over
+  pub served_closed : is_open server.state ≡ false → Served sound mail old before (Ok tt) server link
+  served_closed closed = served sound mail old before (greeting ++ p.answers) p.came p.sent ((p.answers, p.run, refl), inl closed) (λ _. inl closed)
+
+  module _ {taken : Link} {after : Waiting} {line : List ℕ} (more : LineCame waiting after link taken line) where
+    came : Came before.got taken.got (p.lines ++ line ∷ []) after.octets after.left
+    came = let now = came_on p.came more.took more.takes in record {
+      gained = now.gained;
+      got = now.got;
+      each = lines_on p.lines (line ∷ []) now.each (more.is, tt);
+      heard = simp (now.heard, flat_map-append, append_assoc, append-nil);
+      all = now.all;
     }
 
--- the session is over
-pub served_closed : {D : Type 0} (sound : D → Type 0) (mail : D → Mail) (old server : Machine D) (before link : Link) (waiting : Waiting)
-    → Progress sound mail old before server link waiting → is_open server.state ≡ false → Served sound mail old before (Ok tt) server link
-served_closed sound mail old server before link waiting p closed =
-    served_after sound mail old server server before link link waiting waiting [] [] (Ok tt) p (took_none link) (takes_none waiting) (all_sent sound mail old server before link waiting p, inl closed) (λ _. inl closed)
-
--- one more line came, and this much of its answer was sent before a fault
-served_last : {D : Type 0} (sound : D → Type 0) (mail : D → Mail) (old server next : Machine D) (before link taken sent : Link) (waiting after : Waiting) (g line front : List ℕ) (fault : ServerFault)
-    (p : Progress sound mail old before server link waiting) → Drew link taken g → waiting.octets ++ g ≡ ended line ++ after.octets → length g + after.left ≡ waiting.left → IsLine line
-    → sent.got ≡ taken.got → sent.sent ≡ taken.sent ++ front
-    → WentOut sound mail old (p.lines ++ line ∷ []) after.octets ((greeting ++ p.answers) ++ front) (Err fault) next → Served sound mail old before (Err fault) next sent
-served_last sound mail old server next before link taken sent waiting after g line front fault p took octets left is got sends answered =
-    let total = within sound mail old server before link waiting g after.left p left in
-    record {
-      gained = p.gained ++ g;
-      got = got ∙ took.got ∙ ap (λ (l : List ℕ). l ++ g) p.got ∙ append_assoc before.got p.gained g;
-      bound = omega arith;
+    -- the line was answered
+    pub progress_line : (next : Machine D) (sent : Link) (answer : List ℕ) → AnswersLine sound mail server line answer next → sent ≡ record taken { sent = taken.sent ++ answer }
+        → Progress sound mail old before next sent after
+    progress_line next sent answer turn sends = rw sends (record {
       lines = p.lines ++ line ∷ [];
-      rest = after.octets;
-      each = lines_on p.lines (line ∷ []) p.each (is, tt);
-      heard = ap (λ (l : List ℕ). l ++ g) p.heard ∙ append_assoc (flat_map ended p.lines) waiting.octets g ∙ ap (λ (l : List ℕ). flat_map ended p.lines ++ l) octets
-          ∙ sym (append_assoc (flat_map ended p.lines) (ended line) after.octets) ∙ ap (λ (l : List ℕ). l ++ after.octets) (flat_map_more ended [] p.lines line);
-      out = (greeting ++ p.answers) ++ front;
-      sent = sends ∙ ap (λ (l : List ℕ). l ++ front) (took.sent ∙ p.sent) ∙ append_assoc before.sent (greeting ++ p.answers) front;
-      answered = answered;
-      ends = λ e. cc;
+      answers = p.answers ++ answer;
+      came = came;
+      sent = simp (more.took.sent, p.sent, append_assoc);
+      run = runs_on sound mail old server next p.lines (line ∷ []) p.answers answer p.run (run_one sound mail server next line answer turn);
+    })
+
+    -- this much of its answer was sent before a fault
+    served_last : {next : Machine D} {fault : ServerFault} (front : List ℕ) (count : ℕ) → WentOut sound mail old (p.lines ++ line ∷ []) after.octets ((greeting ++ p.answers) ++ front) (Err fault) next
+        → Served sound mail old before (Err fault) next (record taken { sent = taken.sent ++ front; failures = count })
+    served_last front count answered = served sound mail old before ((greeting ++ p.answers) ++ front) came (simp (more.took.sent, p.sent, append_assoc)) answered (λ e. cc)
+
+    last_sent : {next : Machine D} (front unsent : List ℕ) (text : Option TextBody) → MakesAnswer sound mail server line (front ++ unsent) text next
+        → LastSent sound mail old (p.lines ++ line ∷ []) ((greeting ++ p.answers) ++ front) unsent text next
+    last_sent front unsent text makes = record {
+      before = p.lines;
+      line = line;
+      whole = greeting ++ p.answers;
+      front = front;
+      mid = server;
+      each = refl;
+      all = (p.answers, p.run, refl);
+      makes = makes;
+      out = refl;
     }
 
--- one more line came, and what was made of its answer was sent in part
-pub served_unsent : {D : Type 0} (sound : D → Type 0) (mail : D → Mail) (old server next : Machine D) (before link taken sent : Link) (waiting after : Waiting) (g line made front unsent : List ℕ) (text : Option TextBody) (count : ℕ)
-    → Progress sound mail old before server link waiting → Drew link taken g → waiting.octets ++ g ≡ ended line ++ after.octets → length g + after.left ≡ waiting.left → IsLine line
-    → MakesAnswer sound mail server line made text next → made ≡ front ++ unsent → sent ≡ record taken { sent = taken.sent ++ front; failures = count }
-    → Served sound mail old before (Err WriteFailed) next sent
-served_unsent sound mail old server next before link taken sent waiting after g line made front unsent text count p took octets left is makes part sends =
-    served_last sound mail old server next before link taken sent waiting after g line front WriteFailed p took octets left is
-    (ap (λ (l : Link). l.got) sends) (ap (λ (l : Link). l.sent) sends)
-    (inr (
-      unsent,
-      text,
-      last_sent sound mail old server next before link waiting line front unsent text p
-          (subst (λ (l : List ℕ). MakesAnswer sound mail server line l text next) part makes),
-    ))
-
--- one more line came, and its answer met a fault
-pub served_stopped : {D : Type 0} (sound : D → Type 0) (mail : D → Mail) (old server next : Machine D) (before link taken sent : Link) (waiting after : Waiting) (g line : List ℕ) (fault : ServerFault)
-    → Progress sound mail old before server link waiting → Drew link taken g → waiting.octets ++ g ≡ ended line ++ after.octets → length g + after.left ≡ waiting.left → IsLine line
-    → SendsAnswer sound mail server line taken (Err fault) next sent → Served sound mail old before (Err fault) next sent
-served_stopped sound mail old server next before link taken sent waiting after g line ReadFailed p took octets left is went = absurd went
-served_stopped sound mail old server next before link taken sent waiting after g line WriteFailed p took octets left is (front, unsent, text, makes, sends) =
-    served_unsent sound mail old server next before link taken sent waiting after g line (front ++ unsent) front unsent text (taken.failures + 1) p took octets left is makes refl sends
-served_stopped sound mail old server next before link taken sent waiting after g line MaildropFailed p took octets left is (made, text, last, makes, refuses, sends) =
-    served_last sound mail old server next before link taken sent waiting after g line made MaildropFailed p took octets left is
-    (ap (λ (l : Link). l.got) sends) (ap (λ (l : Link). l.sent) sends) (
-      text,
-      last,
-      last_sent sound mail old server last before link waiting line made [] (Some text) p
-          (subst (λ (l : List ℕ). MakesAnswer sound mail server line l (Some text) last) (sym (append-nil made)) makes),
-      refuses,
-    )
-served_stopped sound mail old server next before link taken sent waiting after g line NoMemory p took octets left is (same, none) =
-    subst (λ (l : Link). Served sound mail old before (Err NoMemory) next l) (sym none)
-    (served_after sound mail old server next before link taken waiting (record { octets = waiting.octets ++ g; left = after.left }) g [] (Err NoMemory) p took (record { octets = refl; left = left })
-    (inr (server, all_sent sound mail old server before link waiting p, same)) (λ e. cc))
-
-pub served_ended : {D : Type 0} (sound : D → Type 0) (mail : D → Mail) (old server : Machine D) (before link taken : Link) (waiting after : Waiting)
-    → Progress sound mail old before server link waiting → Hears link waiting (Ok End) taken after → Served sound mail old before (Ok tt) server taken
-served_ended sound mail old server before link taken waiting after p heard =
-    let total = within sound mail old server before link waiting heard.0 after.left p heard.3.left in
-    served_after sound mail old server server before link taken waiting after heard.0 heard.1 (Ok tt) p heard.2 heard.3 (all_sent sound mail old server before link waiting p, inr heard.4)
-    (λ _. inr (elim heard.5 [ inl ends ↦ inl ends | inr none ↦ inr (omega (arith, total, none)) ]))
-
--- not even the greeting was sent whole
-served_nothing : {D : Type 0} (sound : D → Type 0) (mail : D → Mail) (old server : Machine D) (before link : Link) (front : List ℕ) (fault : ServerFault)
-    → link.got ≡ before.got → link.sent ≡ before.sent ++ front → WentOut sound mail old [] [] front (Err fault) server → Served sound mail old before (Err fault) server link
-served_nothing sound mail old server before link front fault got sent answered = record {
-  gained = [];
-  got = got ∙ sym (append-nil before.got);
-  bound = omega arith;
-  lines = [];
-  rest = [];
-  each = tt;
-  heard = refl;
-  out = front;
-  sent = sent;
-  answered = answered;
-  ends = λ e. cc;
-}
-
--- memory ran out for the greeting, or it was sent in part
-pub served_unmade : {D : Type 0} (sound : D → Type 0) (mail : D → Mail) (old server : Machine D) (before : Link) → server ≡ old → Served sound mail old before (Err NoMemory) server before
-served_unmade sound mail old server before same = served_nothing sound mail old server before before [] NoMemory refl (sym (append-nil before.sent)) (inl (refl, refl, same))
-
-pub served_ungreeted : {D : Type 0} (sound : D → Type 0) (mail : D → Mail) (old server : Machine D) (before link : Link) (hello front rest : List ℕ) (count : ℕ)
-    → server ≡ old → hello ≡ greeting → hello ≡ front ++ rest → link ≡ record before { sent = before.sent ++ front; failures = count } → Served sound mail old before (Err WriteFailed) server link
-served_ungreeted sound mail old server before link hello front rest count same is part sends =
-    served_nothing sound mail old server before link front WriteFailed (ap (λ (l : Link). l.got) sends) (ap (λ (l : Link). l.sent) sends)
-    (inl (rest, sym is ∙ part, refl, same))
+    -- its answer met a fault
+    pub served_stopped : (next : Machine D) (sent : Link) (fault : ServerFault) → SendsAnswer sound mail server line taken (Err fault) next sent → Served sound mail old before (Err fault) next sent
+    served_stopped next sent ReadFailed went = absurd went
+    served_stopped next sent WriteFailed (front, unsent, text, makes, sends) = rw sends (served_last front (taken.failures + 1) (inr (unsent, text, last_sent front unsent text makes)))
+    served_stopped next sent MaildropFailed (made, text, last, makes, refuses, sends) =
+        rw sends (served_last made taken.failures (text, last, last_sent made [] (Some text) (rw append-nil makes), refuses))
+    served_stopped next sent NoMemory (same, none) =
+        rw none (served sound mail old before (greeting ++ p.answers) (came_on p.came more.took more.takes) (more.took.sent ∙ p.sent) (inr (server, (p.answers, p.run, refl), same)) (λ e. cc))
 
 long_command : (line : List ℕ) → 510 < length line → command_of line ≡ Err BadCommand
 unfolding command_of
@@ -228,14 +306,3 @@ long_turn sound mail server line opened long = record {
   state = tt;
   answers = rw (long_command line long) (record { removals = refl; does = (refl, refl, refl) });
 }
-
--- the line that waits, and what is left after it
-pub line_octets : (before mid after : Waiting) (g seen : List ℕ) (n : ℕ) → Queues before [] mid g → HasLine 512 mid.octets n → seen ≡ mid.octets
-    → after ≡ record { octets = drop (n + 2) mid.octets; left = mid.left }
-    → (before.octets ++ g ≡ ended (take n seen) ++ after.octets) × (length g + after.left ≡ before.left) × IsLine (take n seen)
-line_octets before mid after g seen n takes has same is = (
-  takes.octets ∙ has.whole ∙ sym (append_assoc (take n mid.octets) crlf (drop (n + 2) mid.octets))
-      ∙ ap (λ (l : List ℕ). ended (take n l) ++ drop (n + 2) mid.octets) (sym same) ∙ ap (λ (w : Waiting). ended (take n seen) ++ w.octets) (sym is),
-  ap (λ (w : Waiting). length g + w.left) is ∙ takes.left,
-  subst (λ (l : List ℕ). IsLine (take n l)) (sym same) has.line,
-)

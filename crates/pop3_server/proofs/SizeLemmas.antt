@@ -1,5 +1,5 @@
 -- The size of a text by what its bytes add.
-use Rattle.std.proofs.Common.{◌≡◌, ◌≢◌, ◌==◌, ℕ, ◌+◌, Bool, true, false, not, List, [], ◌∷◌, ◌++◌, length, refl, sym, ◌∙◌, ap, arith, inl, inr, if◌then◌else◌}
+use Rattle.std.proofs.Common.{◌≡◌, ◌==◌, ℕ, ◌+◌, Bool, true, false, not, List, [], ◌∷◌, ◌++◌, length, refl, sym, ◌∙◌, ap, arith, if◌then◌else◌}
 use Rattle.std.specs.List.{flat_map, sum_by, onto_first}
 use Rattle.std.proofs.lemmas.List.Sums.{sum_by-cons, sum_by-append}
 use Rattle.pop3_wire.specs.Line.{ended}
@@ -10,18 +10,14 @@ use Rattle.pop3_server.specs.TextPiece.{is_open_after}
 use Rattle.pop3_server.proofs.TextPieceLemmas.{open_append}
 use Rattle.pop3_server.specs.Size.{size_of, weight, ends_open, capped, CountsText}
 
--- a text that isn't empty has lines
-some_lines : (at_end : Bool) (byte : ℕ) (lines : List (List ℕ)) → (if at_end then [] ∷ lines else onto_first byte lines) ≢ []
-some_lines true byte lines = λ e. cc
-some_lines false byte [] = λ e. cc
-some_lines false byte (line ∷ lines) = λ e. cc
-
 -- a byte before some lines adds one octet, and an end of a line two
-size_more : (at_end : Bool) (byte : ℕ) (lines : List (List ℕ)) → lines ≢ []
-    → length (flat_map ended (if at_end then [] ∷ lines else onto_first byte lines)) ≡ (if at_end then 2 else 1) + length (flat_map ended lines)
-size_more at_end byte [] some = absurd (some refl)
-size_more true byte (line ∷ lines) some = omega arith
-size_more false byte (line ∷ lines) some = omega arith
+size_more : (at_end other_end : Bool) (byte other : ℕ) (lines : List (List ℕ))
+    → length (flat_map ended (if at_end then [] ∷ (if other_end then [] ∷ lines else onto_first other lines) else onto_first byte (if other_end then [] ∷ lines else onto_first other lines)))
+    ≡ (if at_end then 2 else 1) + length (flat_map ended (if other_end then [] ∷ lines else onto_first other lines))
+size_more true other_end byte other lines = omega arith
+size_more false true byte other lines = omega arith
+size_more false false byte other [] = omega arith
+size_more false false byte other (line ∷ lines) = omega arith
 
 size_one : (at_end : Bool) (byte : ℕ) → length (flat_map ended (if at_end then [] ∷ [] else onto_first byte [])) ≡ (if at_end then 2 else 1) + (if not at_end then 2 else 0)
 size_one true byte = refl
@@ -31,16 +27,13 @@ pub size_of-weights : (text : List ℕ) → size_of text ≡ sum_by weight text 
 size_of-weights [] = refl
 size_of-weights (byte ∷ []) = size_one (byte == 10) byte ∙ omega (arith, sum_by-cons weight byte [])
 size_of-weights (byte ∷ other ∷ rest) =
-    size_more (byte == 10) byte (lines_of_text (other ∷ rest)) (some_lines (other == 10) other (lines_of_text rest))
+    size_more (byte == 10) (other == 10) byte other (lines_of_text rest)
     ∙ ap (λ n. weight byte + n) (size_of-weights (other ∷ rest)) ∙ omega (arith, sum_by-cons weight byte (other ∷ rest))
 
 -- a piece without LF adds its length
 weights : (piece : List ℕ) → HasNoLf piece → sum_by weight piece ≡ length piece
 weights [] none = refl
-weights (byte ∷ rest) none = elim (eqb_tells byte 10) [
-  | inl p ↦ absurd (none.0 p.1)
-  | inr p ↦ let one : weight byte ≡ 1 = rw p.0 refl in omega (arith, sum_by-cons weight byte rest, one, weights rest none.1)
-]
+weights (byte ∷ rest) none = grind (arith, eqb_tells byte 10, none.0, sum_by-cons weight byte rest, weights rest none.1)
 
 -- a line and its end add its length and two
 pub line_weights : (piece line after : List ℕ) → HasNoLf line → piece ≡ line ++ 10 ∷ after → sum_by weight piece ≡ length line + 2 + sum_by weight after
@@ -57,12 +50,7 @@ CountsText-more count next text piece rest octets in_line none h counted open_no
 }
 
 -- the size of what was counted, if the last line is open and if it isn't
-pub size_open : (count : SizeCount) (text : List ℕ) → CountsText count text → count.in_line ≡ true → capped (count.octets + 2) ≡ capped (size_of text)
-size_open count text h more = let open_text : ends_open text ≡ true = sym h.in_line ∙ more in
-    let e = size_of-weights text in
-    let e2 : size_of text ≡ sum_by weight text + 2 = rw open_text at e in omega (arith, h.octets, e2)
-
-pub size_closed : (count : SizeCount) (text : List ℕ) → CountsText count text → count.in_line ≡ false → count.octets ≡ capped (size_of text)
-size_closed count text h closed = let closed_text : ends_open text ≡ false = sym h.in_line ∙ closed in
-    let e = size_of-weights text in
-    let e2 : size_of text ≡ sum_by weight text + 0 = rw closed_text at e in omega (arith, h.octets, e2)
+pub size_open : (count : SizeCount) (text : List ℕ) → CountsText count text → (count.in_line ≡ true → capped (count.octets + 2) ≡ capped (size_of text)) × (count.in_line ≡ false → count.octets ≡ capped (size_of text))
+size_open count text h =
+    let all = rw (← h.in_line) at (size_of-weights text) in
+    (λ more. omega (arith, h.octets, rw more at all), λ closed. omega (arith, h.octets, rw closed at all))

@@ -141,11 +141,7 @@ impl Intake {
                 self.skip(MAX_LINE - 1);
                 continue;
             }
-            let came = match self.more(wire) {
-                Ok(came) => came,
-                Err(fault) => return Err(fault),
-            };
-            if !came {
+            if !self.more(wire)? {
                 return Ok(NextLine::End);
             }
         }
@@ -169,11 +165,7 @@ impl Intake {
             if self.waiting().len() >= MAX_LINE {
                 return self.long_line(wire);
             }
-            let came = match self.more(wire) {
-                Ok(came) => came,
-                Err(fault) => return Err(fault),
-            };
-            if !came {
+            if !self.more(wire)? {
                 return Ok(NextLine::End);
             }
         }

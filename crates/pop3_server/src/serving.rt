@@ -100,31 +100,20 @@ fn answer_line<D: Maildrop, W: Wire, J: Journal>(
         (SendsAnswer D.sound D.mail server.old line.now (W.history wire.old) result server.new (W.history wire.new)) }
 {
     wire.note(Note::Command(line));
-    let Begun { answer, rest } = match server.begin(line, CHUNK) {
-        Ok(begun) => begun,
-        Err(fault) => return Err(fault),
-    };
+    let Begun { answer, mut rest } = server.begin(line, CHUNK)?;
     tell(journal, answer.event);
     let closing = answer.closing;
     let mut bytes = answer.bytes;
     let mut is_first = true;
-    let mut rest = rest;
-    if let Err(fault) = make_room(&mut bytes, &rest) {
-        return Err(fault);
-    }
+    make_room(&mut bytes, &rest)?;
     loop {
-        if let Err(fault) = send(wire, bytes.as_slice(), is_first, rest.is_none()) {
-            return Err(fault);
-        }
+        send(wire, bytes.as_slice(), is_first, rest.is_none())?;
         is_first = false;
         let Some(text) = rest else {
             return Ok(closing);
         };
         bytes.clear();
-        rest = match server.go_on(text, &mut bytes, CHUNK) {
-            Ok(rest) => rest,
-            Err(fault) => return Err(fault),
-        };
+        rest = server.go_on(text, &mut bytes, CHUNK)?;
     }
 }
 
@@ -164,32 +153,18 @@ pub fn serve_and_note<D: Maildrop, W: Wire, J: Journal>(
     ensures served { WhereSound W.sound W.leads_to wire.old wire.new
         (Served D.sound D.mail server.old (W.history wire.old) result server.new (W.history wire.new)) }
 {
-    let hello = match server.greeting() {
-        Ok(hello) => hello,
-        Err(fault) => return Err(fault),
-    };
-    if let Err(fault) = send(wire, hello.bytes.as_slice(), true, true) {
-        return Err(fault);
-    }
+    let hello = server.greeting()?;
+    send(wire, hello.bytes.as_slice(), true, true)?;
     let mut intake = Intake::new();
     loop {
-        let heard = match intake.next(wire) {
-            Ok(heard) => heard,
-            Err(fault) => return Err(fault),
-        };
-        match heard {
+        match intake.next(wire)? {
             NextLine::End => return Ok(()),
             NextLine::LongLine => {
-                if let Err(fault) = send(wire, b"-ERR bad command\r\n", true, true) {
-                    return Err(fault);
-                }
+                send(wire, b"-ERR bad command\r\n", true, true)?;
             }
             NextLine::Line(length) => {
                 let line = &intake.waiting()[..length];
-                let closing = match answer_line(server, wire, journal, line) {
-                    Ok(closing) => closing,
-                    Err(fault) => return Err(fault),
-                };
+                let closing = answer_line(server, wire, journal, line)?;
                 intake.skip(length + 2);
                 if closing {
                     return Ok(());

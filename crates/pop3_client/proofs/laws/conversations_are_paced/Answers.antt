@@ -1,4 +1,4 @@
-use Rattle.pop3_client.proofs.LawLemmas.{paced}
+use Rattle.pop3_client.proofs.TalkLemmas.{paced}
 use Rattle.pop3_client.proofs.laws.conversations_are_paced.Goals as goal
 
 pub returns : goal.returns

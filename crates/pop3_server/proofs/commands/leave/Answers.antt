@@ -1,9 +1,9 @@
-use Rattle.std.proofs.Common.{◌≡◌, refl, ◌+◌, ◌&&◌, drop, ap, sym, ◌∙◌, subst, arith, true, false, []}
+use Rattle.std.proofs.Common.{◌≡◌, refl, ◌+◌, ◌&&◌, drop, arith, true, []}
 use Rattle.std.proofs.Math.Bool.{and_assoc, and-true}
 use Rattle.std.proofs.lemmas.Grind.{common_steps}
 use Rattle.std.proofs.lemmas.Option.{slice_get_read}
-use Rattle.pop3_server.specs.ServerMachine.{Empties, none, stays, goes, with_marked}
-use Rattle.pop3_server.proofs.LeaveLemmas.{drop_row, later_place, count_row}
+use Rattle.pop3_server.specs.ServerMachine.{none, stays, goes}
+use Rattle.pop3_server.proofs.RemovalLemmas.{drop_row, later_place}
 use Rattle.pop3_server.proofs.commands.leave.Goals as goal
 
 pub remove_at-done-requires : goal.remove_at-done-requires
@@ -17,9 +17,9 @@ loop-i-preserved-then-not-row g c =
     let row = c.index-rows-i.result in
     let cut = drop_row rows i row c.index-rows-i.is c.loop-i-test.true in
     let mail = g.D.Maildrop.mail c.loop-i.drop in (
-      sym (count_row row (drop (i + 1) rows) mail.removals false c.if-not-row.true) ∙ ap (λ rs. with_marked rs mail.removals) (sym cut) ∙ c.loop-i.invariant.0,
+      rw (cut, c.if-not-row.true) at c.loop-i.invariant.0,
       λ s. let inv = c.loop-i.invariant.1 s in
-          (inv.0, (λ k r later h. inv.1 k r (omega arith) h), (λ tail end h. inv.2 tail end (subst (λ rs. Empties i rs mail tail end) (sym cut) (stays i row (drop (i + 1) rows) mail tail end c.if-not-row.true h)))),
+          (inv.0, (λ k r later h. inv.1 k r (omega arith) h), (λ tail end h. inv.2 tail end (rw cut (stays i row (drop (i + 1) rows) mail tail end c.if-not-row.true h)))),
     )
 
 pub loop-i-preserved : goal.loop-i-preserved
@@ -31,20 +31,18 @@ loop-i-preserved g c =
     let mail = g.D.Maildrop.mail c.loop-i.drop in
     let next = g.D.Maildrop.mail c.remove_at-done.new.drop in
     let done = c.remove_at-done.result in (
-      ap (with_marked (drop (i + 1) rows)) c.remove_at-done.ensures.asks ∙ sym (count_row row (drop (i + 1) rows) mail.removals true c.if-not-row.false) ∙ ap (λ rs. with_marked rs mail.removals) (sym cut) ∙ c.loop-i.invariant.0,
+      rw c.remove_at-done.ensures.asks (rw (cut, c.if-not-row.false) at c.loop-i.invariant.0),
       λ s. let tried = c.remove_at-done.ensures.tries s in
           let inv = c.loop-i.invariant.1 tried.0 in (
             inv.0,
             (λ k r later h. later_place mail next i k done tried.1 (omega (arith, later)) (inv.1 k r (omega arith) h)),
-            (λ tail end h. subst (λ all. Empties 0 rows (g.D.Maildrop.mail c.args.drop.now) all end) (sym (and_assoc c.loop-i.all done tail))
-                (inv.2 (done && tail) end (subst (λ rs. Empties i rs mail (done && tail) end) (sym cut) (goes i row (drop (i + 1) rows) mail next done tail end c.if-not-row.false tried.1 h)))),
+            (λ tail end h. rw and_assoc (inv.2 (done && tail) end (rw cut (goes i row (drop (i + 1) rows) mail next done tail end c.if-not-row.false tried.1 h)))),
           ),
     )
 
 pub returns-clause-empties : goal.returns-clause-empties
 returns-clause-empties g c = λ s.
     let inv = c.loop-i.invariant.1 s in
-    let rows = c.args.rows.now in
     let mail = g.D.Maildrop.mail c.loop-i.drop in
-    let over : drop c.loop-i.i rows ≡ [] = grind (arith, common_steps) in
-    (inv.0, subst (λ all. Empties 0 rows (g.D.Maildrop.mail c.args.drop.now) all mail) (and-true c.loop-i.all) (inv.2 true mail (subst (λ rs. Empties c.loop-i.i rs mail true mail) (sym over) (none c.loop-i.i mail))))
+    let over : drop c.loop-i.i c.args.rows.now ≡ [] = grind (arith, common_steps) in
+    (inv.0, rw and-true at (inv.2 true mail (rw over (none c.loop-i.i mail))))

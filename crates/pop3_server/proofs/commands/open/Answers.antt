@@ -1,28 +1,58 @@
-use Rattle.std.proofs.Common.{◌++◌, ◌∙◌, ap, length, subst, sym, codes, decimal}
+use Rattle.std.proofs.Common.{◌≡◌, ℕ, zero, suc, List, [], ◌∷◌, map, Some, Vec, Ok, slice_get, refl, ◌∙◌, ap, inr}
+use Rattle.std.proofs.lemmas.Simd.{map-map}
+use Rattle.pop3_wire.specs.World.{Message}
+use Rattle.pop3_server.specs.declared.rows.MessageRow.{MessageRow}
+use Rattle.pop3_server.specs.declared.state.State.TheVariants.{Transaction}
+use Rattle.pop3_server.specs.Maildrop.{Listed, Mail, there, entry_of, ListsMessages}
+use Rattle.pop3_server.specs.ServerMachine.{row_of, row_of_entry, Unanswered, Tied}
+use Rattle.pop3_server.proofs.SlotLemmas.{there_map}
 use Rattle.std.proofs.lemmas.Result.{err_from_is_err_and}
-use Rattle.pop3_server.specs.ServerMachine.{said, Open, Tied, next_of}
-use Rattle.pop3_server.specs.declared.commands.Outcome.{Outcome}
-use Rattle.pop3_server.specs.TextAnswer.{AnswersOrBegins}
-use Rattle.pop3_server.proofs.OpenLemmas.{unanswered_listing, answers_open, tied_open}
 use Rattle.pop3_server.proofs.commands.open.Goals as goal
+
+-- a row of a listing has its message
+placed : (ms : List Message) (i : ℕ) (row : MessageRow) → slice_get (map row_of ms) i ≡ Some row → (m : Message) × (slice_get (map (λ x. Some x) ms) i ≡ Some (Some m))
+placed [] i row h = cc
+placed (m ∷ ms) zero row h = (m, refl)
+placed (m ∷ ms) (suc i) row h = placed ms i row h
+
+module _ {D Z : Type 0} (sound : D → Type 0) (mail : D → Mail) (old new : D) (entries : Vec Listed Z) (lists : sound new → sound old × ListsMessages (mail old) (Ok entries) (mail new)) where
+  unanswered_listing : (mail new).failures ≡ (mail old).failures → (mail new).removals ≡ (mail old).removals → Unanswered sound mail old new
+  unanswered_listing failures removals = record {
+    failures = failures;
+    removals = removals;
+    messages = λ s. let l = lists s in (l.0, ap (λ (m : Mail). there m.slots) l.1.0 ∙ there_map (there (mail old).slots));
+  }
+
+  rows_are : {rows : List MessageRow} → rows ≡ map row_of_entry entries.items → sound new → rows ≡ map row_of (there (mail old).slots)
+  rows_are are s = are ∙ ap (map row_of_entry) (lists s).1.1 ∙ map-map row_of_entry entry_of (there (mail old).slots)
+
+  tied_open : (rows : List MessageRow) → rows ≡ map row_of_entry entries.items → Tied (sound new) (mail new) (Transaction rows)
+  tied_open rows are = λ s i row h.
+      let p = placed (there (mail old).slots) i row (rw (rows_are are s) at h) in
+      (p.0, ap (λ (m : Mail). slice_get m.slots i) (lists s).1.0 ∙ p.1)
 
 pub returns-in_err-rows-clause-err : goal.returns-in_err-rows-clause-err
 returns-in_err-rows-clause-err g c =
     let p = err_from_is_err_and c.from_residual-in_err-rows.result c.from_residual-in_err-rows.ensures.1 in
-    rw p.1 (p.2, unanswered_listing g.D.Maildrop.sound g.D.Maildrop.mail c.args.drop.now c.entries.new.self c.in-Ok.entries c.in-Ok.ensures.lists c.in-Ok.ensures.tally c.in-Ok.ensures.removes_none)
+    rw p.1 (p.2, unanswered_listing _ _ _ _ c.in-Ok.entries c.in-Ok.ensures.lists c.in-Ok.ensures.tally c.in-Ok.ensures.removes_none)
 
 pub returns-in_err-reply-clause-err : goal.returns-in_err-reply-clause-err
 returns-in_err-reply-clause-err g c =
     let p = err_from_is_err_and c.from_residual-in_err-reply.result c.from_residual-in_err-reply.ensures.1 in
-    rw p.1 (p.2 ∙ c.in_err-reply.ensures.err, unanswered_listing g.D.Maildrop.sound g.D.Maildrop.mail c.args.drop.now c.entries.new.self c.in-Ok.entries c.in-Ok.ensures.lists c.in-Ok.ensures.tally c.in-Ok.ensures.removes_none)
+    rw p.1 (p.2 ∙ c.in_err-reply.ensures.err, unanswered_listing _ _ _ _ c.in-Ok.entries c.in-Ok.ensures.lists c.in-Ok.ensures.tally c.in-Ok.ensures.removes_none)
 
 pub returns-clause-ok : goal.returns-clause-ok
-returns-clause-ok g c = λ state.
-    subst (λ (outcome : Outcome). AnswersOrBegins g.D.Maildrop.sound g.D.Maildrop.mail Open c.args.drop.now outcome.bytes.items outcome.rest (next_of state outcome.next) c.entries.new.self) (sym c.go-2.ensures)
-    (answers_open g.D.Maildrop.sound g.D.Maildrop.mail c.args.drop.now c.entries.new.self c.in-Ok.entries c.in-Ok.ensures.lists c.in_ok-rows.rows c.in_ok-reply.reply.items c.in_ok-rows.ensures.rows c.in_ok-rows.ensures.limits c.in-Ok.ensures.removes_none
-    (c.in_ok-reply.ensures.ok ∙ ap (λ rows. said (codes "+OK " ++ decimal (length rows) ++ codes " messages")) c.as_slice.ensures.value))
+returns-clause-ok g c = λ state. rw c.go-2.ensures (record {
+  removals = c.in-Ok.ensures.removes_none;
+  does = inr (
+    c.in_ok-rows.rows,
+    c.in_ok-rows.ensures.limits,
+    rw c.as_slice.ensures.value at c.in_ok-reply.ensures.ok,
+    refl,
+    λ s.
+        let l = c.in-Ok.ensures.lists s in (l.0, (l.1.0, rows_are g.D.Maildrop.sound g.D.Maildrop.mail c.args.drop.now c.entries.new.self c.in-Ok.entries c.in-Ok.ensures.lists c.in_ok-rows.ensures.rows s)),
+  );
+})
 
 pub returns-clause-tied : goal.returns-clause-tied
-returns-clause-tied g c = λ state.
-    subst (λ (outcome : Outcome). Tied (g.D.Maildrop.sound c.entries.new.self) (g.D.Maildrop.mail c.entries.new.self) (next_of state outcome.next)) (sym c.go-2.ensures)
-    (tied_open g.D.Maildrop.sound g.D.Maildrop.mail c.args.drop.now c.entries.new.self c.in-Ok.entries c.in-Ok.ensures.lists c.in_ok-rows.rows c.in_ok-rows.ensures.rows)
+returns-clause-tied g c = λ state. rw c.go-2.ensures (tied_open g.D.Maildrop.sound g.D.Maildrop.mail c.args.drop.now c.entries.new.self c.in-Ok.entries c.in-Ok.ensures.lists c.in_ok-rows.rows c.in_ok-rows.ensures.rows)

@@ -1,14 +1,9 @@
-use Rattle.pop3_server.proofs.HonestTurns.{is_honest}
+use Rattle.pop3_server.proofs.HonestLemmas.{is_honest}
 use Rattle.pop3_server.proofs.honesty.conversations_are_honest.Goals as goal
 
 pub returns : goal.returns
 returns g c = is_honest (record {
-  written = record {
-    first = c.replies_are_read_as_written.ensures.first;
-    numbers = c.replies_are_read_as_written.ensures.numbers;
-    scan = c.replies_are_read_as_written.ensures.scan;
-    uid = c.replies_are_read_as_written.ensures.uid;
-  };
+  written = c.replies_are_read_as_written.ensures;
   stuffed = c.stuffed_is_body.ensures;
   read = c.read_as_written.ensures;
 }) g.D.Maildrop.sound g.D.Maildrop.mail

@@ -1,8 +1,10 @@
-use Rattle.std.proofs.Common.{◌≡◌, take, sym, ◌∙◌, arith, subst, refl, Contains}
+use Rattle.std.proofs.Common.{◌≡◌, take, sym, ◌∙◌, arith, subst, refl, Contains, append-nil, inl, inr}
 use Rattle.std.proofs.lemmas.Bool.{false≢true}
+use Rattle.std.proofs.lemmas.List.{map-append}
+use Rattle.std.proofs.lemmas.List.Elements.{Contains-push_cases}
 use Rattle.std.proofs.lemmas.Grind.{common_steps}
 use Rattle.pop3_server.specs.Maildrop.{ids}
-use Rattle.pop3_server.proofs.SlotLemmas.{Contains-slot, absent_none, absent_some}
+use Rattle.pop3_server.proofs.SlotLemmas.{Contains-slot, there_more}
 use Rattle.pop3_server.proofs.memory_drop.has_id.Goals as goal
 use Rattle.pop3_server.proofs.memory_drop.has_id.Goals.{in-None, in-Some+else-is}
 
@@ -11,10 +13,11 @@ returns-then-is c =
     (λ _. subst (λ u. Contains (ids c.args.slots.now) u) (c.is.ensures.0 c.if-is.true) (Contains-slot c.args.slots.now c.loop-slot.slot-index _ c.in-Some.message c.loop-slot-test.true c.slot-item.is c.in-Some.is), λ _. refl)
 
 pub loop-slot-preserved : goal.loop-slot-preserved
-loop-slot-preserved c =
+loop-slot-preserved c = λ h.
+    let more = there_more c.args.slots.now c.loop-slot.slot-index _ c.loop-slot-test.true c.slot-item.is in
     elim c.match-slot.branch [
-      | in-None w ↦ absent_none c.args.slots.now c.loop-slot.slot-index _ c.args.uid.now c.loop-slot-test.true c.slot-item.is w.in-None.is c.loop-slot.invariant
-      | in-Some+else-is w ↦ absent_some c.args.slots.now c.loop-slot.slot-index _ w.in-Some.message c.args.uid.now c.loop-slot-test.true c.slot-item.is w.in-Some.is (λ same. false≢true (sym w.if-is.false ∙ w.is.ensures.1 same)) c.loop-slot.invariant
+      | in-None w ↦ c.loop-slot.invariant (rw (more, w.in-None.is, append-nil) at h)
+      | in-Some+else-is w ↦ elim (Contains-push_cases _ _ _ (rw (more, w.in-Some.is, map-append) at h)) [ inl old ↦ c.loop-slot.invariant old | inr same ↦ absurd (false≢true (sym w.if-is.false ∙ w.is.ensures.1 same)) ]
     ]
 
 pub returns : goal.returns

@@ -1,22 +1,27 @@
-use Rattle.std.proofs.Common.{rules}
-use Rattle.std.proofs.Common.{◌∷◌, [], refl}
+use Rattle.std.proofs.Common.{rules, ◌∷◌, [], refl}
 use Rattle.pop3_client.specs.Turns.{greeting, user, pass}
-use Rattle.pop3_client.proofs.ClientLemmas.{and_then, and_then_two}
-use Rattle.pop3_client.proofs.TalkLemmas.{asks_completes, completes_talks, completes_then, talked_line, stopped_first, stopped_behind}
+use Rattle.pop3_client.proofs.TalkLemmas.{is_err, and_then, asks_completes, completes_talks, completes_then, talked_line, stopped_first, stopped_behind}
 use Rattle.pop3_client.proofs.client.Client.log_in_by.Goals as goal
 
-pub returns-in-Err-clause-talks : goal.returns-in-Err-clause-talks
-returns-in-Err-clause-talks g c = search (rules, stopped_first)
+pub returns-in_err-greet-clause-talks : goal.returns-in_err-greet-clause-talks
+returns-in_err-greet-clause-talks g c = search (rules, stopped_first)
 
-pub returns-in-Err-ask-clause-talks : goal.returns-in-Err-ask-clause-talks
-returns-in-Err-ask-clause-talks g c = and_then g.W.Wire g.met.W.Wire.leads_on c.in_default.ensures.asks c.in-Err-ask.ensures.asks (λ first second name password is also.
-    stopped_behind (greeting ∷ []) (user name ∷ pass password ∷ []) _ _ _ _ c.in-Err-ask.fault (talked_line greeting first.0 _ _ first.1 refl)
-    (stopped_first (user name) (pass password ∷ []) _ _ c.in-Err-ask.fault (second (user name) (name, refl) refl is)))
+pub returns-in_err-ask-clause-talks : goal.returns-in_err-ask-clause-talks
+returns-in_err-ask-clause-talks g c =
+    rw (is_err c.from_residual-in_err-ask.result c.from_residual-in_err-ask.ensures.1) (and_then g.W.Wire g.met.W.Wire.leads_on c.in_ok-greet.ensures.asks c.in_err-ask.ensures.asks (λ first second name password is also.
+    stopped_behind (greeting ∷ []) (user name ∷ pass password ∷ []) _ _ _ _ c.in_err-ask.field-0.0 (talked_line greeting first.0 _ _ first.1 refl)
+    (stopped_first (user name) (pass password ∷ []) _ _ c.in_err-ask.field-0.0 (second (user name) (name, refl) refl is))))
 
 pub returns-clause-talks : goal.returns-clause-talks
-returns-clause-talks g c = and_then_two g.W.Wire g.met.W.Wire.leads_on c.in_default.ensures.asks c.in_default-ask.ensures.asks c.ask-2.ensures.asks
-    (λ first second third name password is also.
-    let named = second (user name) (name, refl) refl is in
-    let last = completes_talks (pass password) _ _ c.ask-2.result (asks_completes (pass password) _ _ c.ask-2.result refl (third (pass password) (password, refl) refl also)) in
-    completes_then greeting (user name ∷ pass password ∷ []) _ _ _ _ c.ask-2.result (talked_line greeting first.0 _ _ first.1 refl)
-    (completes_then (user name) (pass password ∷ []) _ _ _ _ c.ask-2.result (talked_line (user name) named.0 _ _ named.1 refl) last))
+returns-clause-talks g c = λ s.
+    let third = c.ask-2.ensures.asks s in
+    let second = c.in_ok-ask.ensures.asks third.0 in
+    let first = c.in_ok-greet.ensures.asks second.0 in (
+      first.0,
+      g.met.W.Wire.leads_on _ _ _ first.1 (g.met.W.Wire.leads_on _ _ _ second.1 third.1),
+      λ name password is also.
+          let named = second.2 (user name) (name, refl) refl is in
+          let last = completes_talks (pass password) _ _ c.ask-2.result (asks_completes (pass password) _ _ c.ask-2.result refl (third.2 (pass password) (password, refl) refl also)) in
+          completes_then greeting (user name ∷ pass password ∷ []) _ _ _ _ c.ask-2.result (talked_line greeting first.2.0 _ _ first.2.1 refl)
+          (completes_then (user name) (pass password ∷ []) _ _ _ _ c.ask-2.result (talked_line (user name) named.0 _ _ named.1 refl) last),
+    )

@@ -1,10 +1,8 @@
-use Rattle.std.proofs.Common.{refl}
+use Rattle.std.proofs.Common.{rules}
 use Rattle.pop3_wire.specs.Commands.{line_of}
-use Rattle.pop3_client.specs.Turns.{quit}
-use Rattle.pop3_client.proofs.ClientLemmas.{in_words}
 use Rattle.pop3_client.proofs.TalkLemmas.{asks_completes}
 use Rattle.pop3_client.proofs.client.Client.quit.Goals as goal
 
 pub returns-clause-completes : goal.returns-clause-completes
 unfolding line_of
-returns-clause-completes g c = in_words g.W.Wire c.ask.ensures.asks (λ asks. asks_completes quit _ _ c.ask.result refl (asks quit refl refl refl))
+returns-clause-completes g c = search (rules, asks_completes)

@@ -1,13 +1,12 @@
-use Rattle.std.proofs.Common.{◌∷◌, []}
+use Rattle.std.proofs.Common.{rules, ◌∷◌, []}
 use Rattle.pop3_client.specs.Client.{place_of}
 use Rattle.pop3_client.specs.Turns.{rset, quit}
-use Rattle.pop3_client.proofs.ClientLemmas.{in_words, and_then}
-use Rattle.pop3_client.proofs.TalkLemmas.{stopped_first, completes_talks, completes_then}
+use Rattle.pop3_client.proofs.TalkLemmas.{and_then, stopped_first, completes_talks, completes_then}
 use Rattle.pop3_client.proofs.client.Client.reset_and_quit.Goals as goal
 
-pub returns-in-Err-clause-talks : goal.returns-in-Err-clause-talks
-returns-in-Err-clause-talks g c = in_words g.W.Wire c.in-Err.ensures.completes (λ completes. stopped_first rset (quit ∷ []) _ _ c.in-Err.fault completes)
+pub returns-in_err-reset-clause-talks : goal.returns-in_err-reset-clause-talks
+returns-in_err-reset-clause-talks g c = search (rules, stopped_first)
 
 pub returns-clause-talks : goal.returns-clause-talks
-returns-clause-talks g c = and_then g.W.Wire g.met.W.Wire.leads_on c.in_default.ensures.completes c.quit.ensures.completes (λ first second.
+returns-clause-talks g c = and_then g.W.Wire g.met.W.Wire.leads_on c.in_ok-reset.ensures.completes c.quit.ensures.completes (λ first second.
     completes_then rset (quit ∷ []) _ (place_of g.W.Wire c.reset.new.self) _ first.0 c.quit.result first.1 (completes_talks quit _ _ c.quit.result second))

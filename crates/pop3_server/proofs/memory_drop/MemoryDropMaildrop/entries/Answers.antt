@@ -1,9 +1,8 @@
-use Rattle.std.proofs.Common.{◌≡◌, ℕ, length, map, Some, Option, List, is_some, sym, ◌∙◌, ap, arith, subst, rules}
+use Rattle.std.proofs.Common.{◌≡◌, length, map, Some, Option, List, is_some, ◌∙◌, ap, arith, rules}
 use Rattle.std.proofs.lemmas.List.Elements.{filter_from_retain}
 use Rattle.std.proofs.lemmas.Simd.{map-map}
-use Rattle.mail_terms.specs.Distinct.{AreDistinct}
 use Rattle.pop3_wire.specs.World.{Message}
-use Rattle.pop3_server.specs.Maildrop.{Mail, Listed, there, ids, entry_of}
+use Rattle.pop3_server.specs.Maildrop.{Mail, there, entry_of}
 use Rattle.pop3_server.proofs.SlotLemmas.{there_map, filter_there}
 use Rattle.pop3_server.proofs.memory_drop.MemoryDropMaildrop.entries.Goals as goal
 
@@ -12,14 +11,13 @@ kept_is c = filter_from_retain _ is_some (λ p x b q h. search rules) _ _ _ c.re
 
 pub invariant_of-self : goal.invariant_of-self
 invariant_of-self c =
-    (subst (λ (l : List (List ℕ)). AreDistinct l) (sym (ap ids (kept_is c) ∙ ap (map (λ (m : Message). m.uid)) (there_map (there c.self.inside.slots.items)))) c.self.invariant.0, omega (arith, ap (λ s. length (there s)) (kept_is c), ap length (there_map (there c.self.inside.slots.items)), c.self.invariant.1))
+    (rw (kept_is c, there_map) c.self.invariant.0, omega (arith, ap (λ s. length (there s)) (kept_is c), ap length (there_map (there c.self.inside.slots.items)), c.self.invariant.1))
 
 entries_are : (c : goal.After-retain) → c.in_ok-entries.entries.items ≡ map entry_of (there c.self.inside.slots.items)
 entries_are c = c.in_ok-entries.ensures ∙ ap (λ s. map entry_of (there s)) c.as_slice.ensures.value
 
 pub returns-clause-distinct : goal.returns-clause-distinct
-returns-clause-distinct c =
-    subst (λ (l : List (List ℕ)). AreDistinct l) (sym (ap (map (λ (e : Listed). e.uid)) (entries_are c) ∙ map-map (λ (e : Listed). e.uid) entry_of (there c.self.inside.slots.items))) c.self.invariant.0
+returns-clause-distinct c = rw (entries_are c, map-map) c.self.invariant.0
 
 pub returns-clause-lists : goal.returns-clause-lists
 returns-clause-lists c = λ s.

@@ -1,30 +1,24 @@
-use Rattle.std.proofs.Common.{◌≡◌, ◌++◌, ◌∷◌, ℕ, List, [], sym, ap, ◌∙◌}
-use Rattle.pop3_server.specs.TextPiece.{taken, top_octets}
-use Rattle.pop3_server.proofs.TextTopLemmas.{before_rest, done_takes_none, not_done, split_on, takes_rest, went_all, went_on}
+use Rattle.std.proofs.Common.{◌≡◌, ◌++◌, ◌∷◌, ◌-◌, ℕ, List, [], take, length, sym, ap, ◌∙◌, append_assoc, arith, length-append, take_at}
+use Rattle.pop3_server.specs.TextPiece.{taken}
+use Rattle.pop3_server.proofs.TextTopLemmas.{done_takes_none, not_done, takes_rest}
 use Rattle.pop3_server.proofs.text_top.Top.take.Goals as goal
 
 pub loop-rest-preserved : goal.loop-rest-preserved
 loop-rest-preserved c =
     let so_far = c.loop-rest.invariant in
     let cut = c.in-Some.ensures.cut in
-    let line = c.in-Some.line.now in
-    let after = c.in-Some.after.now in (
+    let line = c.in-Some.line.now in (
       so_far.0 ++ (line ++ 10 ∷ []),
-      split_on c.args.piece.now so_far.0 c.loop-rest.rest.now line after so_far.1 cut.1,
-      λ rest. went_on (taken c.args.self.now) (taken c.loop-rest.self) (taken c.end_line.new.self) c.args.piece.now so_far.0 c.loop-rest.rest.now line after rest
-          cut.1 (so_far.2 rest) (c.end_line.ensures cut.0 (after ++ rest)),
+      so_far.1 ∙ rw cut.1 (simp append_assoc),
+      λ rest. so_far.2 rest ∙ rw (cut.1, append_assoc line, c.end_line.ensures cut.0 (c.in-Some.after.now ++ rest)) (simp append_assoc),
     )
 
 pub returns-in-None-clause-taken : goal.returns-in-None-clause-taken
 returns-in-None-clause-taken c = λ rest.
     let so_far = c.loop-rest.invariant in
     let self = c.loop-rest.self in
-    let piece = c.loop-rest.rest.now in
-    let opened = c.is_open_behind-self.result in
     let more = not_done c.is_done.result self.in_head self.left c.is_done.ensures c.loop-rest-test.true in
-    let step : taken self (piece ++ rest) ≡ piece ++ top_octets self.in_head opened self.left rest =
-    takes_rest self.in_head self.in_line opened self.left piece rest c.in-None.ensures.cut more c.is_open_behind-self.ensures in
-    went_all (taken c.args.self.now) (taken self) (top_octets self.in_head opened self.left) c.args.piece.now so_far.0 piece rest so_far.1 (so_far.2 rest) step
+    so_far.2 rest ∙ rw (takes_rest self.in_head self.in_line c.is_open_behind-self.result self.left c.loop-rest.rest.now rest c.in-None.ensures.cut more c.is_open_behind-self.ensures, so_far.1) (simp append_assoc)
 
 pub returns-clause-taken : goal.returns-clause-taken
 returns-clause-taken c = λ rest.
@@ -32,5 +26,6 @@ returns-clause-taken c = λ rest.
     let self = c.loop-rest.self in
     let done = c.is_done.ensures.0 c.loop-rest-test.false in
     let none = done_takes_none self.in_head self.in_line self.left done.0 done.1 in
+    let many : length so_far.0 ≡ length c.args.piece.now - length c.loop-rest.rest.now = omega (arith, ap (λ (t : List ℕ). length t) so_far.1, length-append so_far.0 c.loop-rest.rest.now) in
     so_far.2 rest ∙ ap (λ (t : List ℕ). so_far.0 ++ t) (none (c.loop-rest.rest.now ++ rest) ∙ sym (none rest))
-    ∙ ap (λ (t : List ℕ). t ++ taken self rest) (sym (before_rest c.args.piece.now so_far.0 c.loop-rest.rest.now so_far.1))
+    ∙ ap (λ (t : List ℕ). t ++ taken self rest) (sym (ap (λ (t : List ℕ). take (length c.args.piece.now - length c.loop-rest.rest.now) t) so_far.1 ∙ take_at so_far.0 c.loop-rest.rest.now _ many))
