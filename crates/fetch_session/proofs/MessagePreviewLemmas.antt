@@ -9,7 +9,7 @@ use Rattle.fetch_rules.specs.declared.steps.Step.{Step}
 use Rattle.fetch_session.specs.declared.message_preview.Known.{Known}
 use Rattle.fetch_session.specs.declared.message_preview.MessagePreview.{MessagePreview}
 use mir.Val.{bool_byte}
-use Rattle.fetch_session.proofs.FreshLemmas.{no_item, step_at}
+use Rattle.fetch_session.proofs.ReadyLemmas.{no_item, step_at}
 use Rattle.fetch_session.specs.declared.message_preview.Fate.{Fate}
 use Rattle.fetch_session.specs.declared.message_preview.Fate.TheVariants.{Fetched, FetchedAndDeleted, Deleted, DeliveredBefore, TooLarge}
 use Rattle.fetch_session.specs.declared.report.LeftOut.{LeftOut}
@@ -17,13 +17,9 @@ use Rattle.fetch_session.specs.MessagePreview.{fate_of, fetched_by, known_of, me
 use Rattle.fetch_session.specs.Report.{count_fates, is_for_id, is_for_limit, is_for_size, left_out_of, with_fate}
 use Rattle.fetch_session.specs.Target.{none_held}
 
-one_at_most : (b : Bool) → cond b 1 0 ≤ 1
-one_at_most true = omega arith
-one_at_most false = omega arith
-
-byte_of : (b : Bool) → bool_byte b ≡ cond b 1 0
-byte_of true = refl
-byte_of false = refl
+byte_of : (b : Bool) → (bool_byte b ≡ cond b 1 0) × (cond b 1 0 ≤ 1)
+byte_of true = (refl, omega arith)
+byte_of false = (refl, omega arith)
 
 plus_fate : (left : LeftOut) (fate : Fate) → with_fate left fate
     ≡ record { too_large = left.too_large + cond (is_for_size fate) 1 0; past_limit = left.past_limit + cond (is_for_limit fate) 1 0; repeated = left.repeated + cond (is_for_id fate) 1 0 }
@@ -39,9 +35,6 @@ with_at_most left _ = (omega arith, omega arith, omega arith)
 count_one : (test : Fate → Bool) (told : List MessagePreview) (p : MessagePreview) → count_fates test (told ++ p ∷ []) ≡ count_fates test told + cond (test p.fate) 1 0
 count_one test told p = sum_by-append (λ (q : MessagePreview). cond (test q.fate) 1 0) told (p ∷ []) ∙ ap (λ n. count_fates test told + n) (zero-add (cond (test p.fate) 1 0))
 
-one_more : (told : List MessagePreview) (p : MessagePreview) → with_fate (left_out_of told) p.fate ≡ left_out_of (told ++ p ∷ [])
-one_more told p = rw (count_one is_for_size told p, count_one is_for_limit told p, count_one is_for_id told p) (plus_fate (left_out_of told) p.fate)
-
 module _ (settings : Settings) (rows : List Row) (now : ℕ) where
   -- the preview has the first i messages, and `fetched` of them are fetched
   pub record IsTold (steps : List Step) (items : List Item) (flags : List Bool) (i : ℕ) (told : List MessagePreview) (fetched : ℕ) : Type 0 where
@@ -53,11 +46,11 @@ module _ (settings : Settings) (rows : List Row) (now : ℕ) where
       → p ≡ message_preview_of settings now fetched (step_at steps i) known → more ≡ bool_byte (step_at steps i).retrieve → IsTold steps items flags (i + 1) (told ++ p ∷ []) (fetched + more)
   told_more steps items flags i told fetched more known p was within all_steps all_flags known_is p_is more_is = record {
     so_far = append_assoc told (p ∷ []) _ ∙ ap (λ (l : List MessagePreview). told ++ l) (sym split) ∙ was.so_far;
-    few = omega (arith, was.few, more_as, one_at_most (step_at steps i).retrieve);
+    few = omega (arith, was.few, more_as, (byte_of (step_at steps i).retrieve).1);
   }
     where
       more_as : more ≡ cond (step_at steps i).retrieve 1 0
-      more_as = more_is ∙ byte_of (step_at steps i).retrieve
+      more_as = more_is ∙ (byte_of (step_at steps i).retrieve).0
 
       split : message_previews settings rows now fetched (drop i steps) (drop i items) (drop i flags)
           ≡ p ∷ message_previews settings rows now (fetched + more) (drop (i + 1) steps) (drop (i + 1) items) (drop (i + 1) flags)
@@ -77,21 +70,9 @@ module _ (settings : Settings) (rows : List Row) (now : ℕ) where
     pub told : List MessagePreview
     pub is_told : IsTold steps items (none_held items) i told fetched
     pub counts : left ≡ left_out_of told
-    pub few : fetched ≤ i
     pub size : left.too_large ≤ i
     pub limit : left.past_limit ≤ i
     pub id : left.repeated ≤ i
-
-  pub counted_none : (steps : List Step) (items : List Item) (left : LeftOut) → left ≡ left_out_of [] → IsCounted steps items 0 left 0
-  counted_none steps items left none = record {
-    told = [];
-    is_told = record { so_far = refl; few = omega arith };
-    counts = none;
-    few = omega arith;
-    size = rw none (omega arith);
-    limit = rw none (omega arith);
-    id = rw none (omega arith);
-  }
 
   pub counted_more : (steps : List Step) (items : List Item) (i : ℕ) (left new : LeftOut) (fetched more : ℕ) (fate : Fate) → IsCounted steps items i left fetched
       → i < length items → length steps ≡ length items → fate ≡ fate_of settings (step_at steps i) (known_of rows now false (get_or items i no_item)) fetched
@@ -99,8 +80,7 @@ module _ (settings : Settings) (rows : List Row) (now : ℕ) where
   counted_more steps items i left new fetched more fate was within all_steps fate_is new_is more_is = record {
     told = was.told ++ p ∷ [];
     is_told = is_told;
-    counts = new_is ∙ ap₂ with_fate was.counts fate_is ∙ one_more was.told p;
-    few = is_told.few;
+    counts = new_is ∙ ap₂ with_fate was.counts fate_is ∙ rw (count_one is_for_size was.told p, count_one is_for_limit was.told p, count_one is_for_id was.told p) (plus_fate (left_out_of was.told) p.fate);
     size = rw new_is (omega (arith, was.size, (with_at_most left fate).0));
     limit = rw new_is (omega (arith, was.limit, (with_at_most left fate).1));
     id = rw new_is (omega (arith, was.id, (with_at_most left fate).2));
@@ -118,10 +98,6 @@ module _ (settings : Settings) (rows : List Row) (now : ℕ) where
       is_told : IsTold steps items (none_held items) (i + 1) (was.told ++ p ∷ []) (fetched + more)
       is_told = told_more steps items (none_held items) i was.told fetched more known p was.is_told within all_steps (length-map items (λ (item : Item). false)) unheld refl more_is
 
-  pub counted_all : (steps : List Step) (items : List Item) (i : ℕ) (left : LeftOut) (fetched : ℕ) → IsCounted steps items i left fetched → length steps ≤ i
-      → left ≡ left_out_of (message_previews settings rows now 0 steps items (none_held items))
-  counted_all steps items i left fetched was past = was.counts ∙ ap left_out_of (told_all steps items (none_held items) i was.told fetched was.is_told past)
-
 -- what is known is counted nowhere
 uncounted : (told : List MessagePreview) (p : MessagePreview) (retrieve delete : Bool)
     → p.fate ≡ (if retrieve && delete then FetchedAndDeleted else if retrieve then Fetched else if delete then Deleted else DeliveredBefore)
@@ -130,14 +106,9 @@ uncounted told p true true is = rw is refl
 uncounted told p false true is = rw is refl
 uncounted told p _ _ is = rw is refl
 
-known_fate : (settings : Settings) (step : Step) (known : Known) (fetched : ℕ) → settings.read_all ≡ false → known.held ≡ false → known.delivered ≡ true
-    → fate_of settings step known fetched
-    ≡ (if step.retrieve && step.delete then FetchedAndDeleted else if step.retrieve then Fetched else if step.delete then Deleted else DeliveredBefore)
-known_fate settings step known fetched new unheld is = rw (new, unheld, is) refl
-
 pub none_left : (settings : Settings) (rows : List Row) (now fetched : ℕ) (steps : List Step) (items : List Item) → settings.read_all ≡ false
     → All (λ (item : Item). is_delivered rows item.uid ≡ true) items → left_out_of (message_previews settings rows now fetched steps items (none_held items)) ≡ left_out_of []
 none_left settings rows now fetched (s ∷ ss) (i ∷ is) new all =
-    uncounted (message_previews settings rows now (fetched + fetched_by s) ss is (none_held is)) (message_preview_of settings now fetched s (known_of rows now false i)) s.retrieve s.delete (known_fate settings s (known_of rows now false i) fetched new refl (all 0 i (omega arith)))
+    uncounted (message_previews settings rows now (fetched + fetched_by s) ss is (none_held is)) (message_preview_of settings now fetched s (known_of rows now false i)) s.retrieve s.delete (rw (new, all 0 i (omega arith)) refl)
     ∙ none_left settings rows now (fetched + fetched_by s) ss is new (λ k d inside. all (suc k) d (omega (arith, inside)))
 none_left settings rows now fetched _ _ new all = refl

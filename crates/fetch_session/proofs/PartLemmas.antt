@@ -1,21 +1,21 @@
--- What parts of a session keep and do, one after the other.
-use Rattle.std.proofs.Common.{◌≡◌, ◌≤◌, ◌+◌, ◌*◌, ℕ, Bool, true, false, List, [], ◌∷◌, ◌++◌, length, None, Result, Ok, Err, IfErr, OnOk, refl, sym, ap, subst, ◌∙◌, inl, arith, append_assoc, length-append, Vec, Global}
+-- What parts of a session keep and do, one after the other, and QUIT at their end.
+use Rattle.std.proofs.Common.{◌≡◌, ◌≤◌, ◌+◌, ◌*◌, ℕ, Bool, true, false, List, [], ◌∷◌, ◌++◌, length, None, Result, Ok, Err, IfErr, OnOk, refl, sym, ap, subst, ◌∙◌, inl, arith, append_assoc, length-append, Vec, Global, Option, inr}
 use Rattle.std.proofs.lemmas.Grind.{flat_map-append}
+use Rattle.std.proofs.lemmas.Result.{on_ok_weaker}
 use Rattle.std.specs.List.{AllByRecursion}
 use Rattle.mail_terms.specs.Listing.{Item}
-use Rattle.mail_terms.specs.UniqueId.{IsLegalId}
 use Rattle.mail_store.specs.declared.file.flat_file.FlatFile.{Ghosts as FileGhosts}
 use Rattle.mail_store.specs.declared.maildir.disk.MaildirDisk.{Ghosts as DiskGhosts}
 use Rattle.mail_store.specs.FileName.{stem_of}
 use Rattle.mail_store.specs.Maildir.{Maildir}
-use Rattle.fetch_rules.specs.Record.{has_row, none_open, marked, marked_all}
+use Rattle.fetch_rules.specs.Record.{Row, has_row, none_open, marked, marked_all}
 use Rattle.fetch_rules.specs.declared.steps.Step.{Step}
 use Rattle.mail_terms.specs.FailureCount.{Tallies}
 use Rattle.pop3_client.specs.Client.{HasSameLink, link_of, place_of}
-use Rattle.pop3_client.specs.Conversation.{TurnsJoin, is_refusal, most_of}
+use Rattle.pop3_client.specs.Conversation.{Broke, ConversationsArePaced, TurnsJoin, is_refusal, most_of}
 use Rattle.pop3_client.specs.declared.fault.ClientFault.{ClientFault}
 use Rattle.fetch_session.specs.declared.fault.Fault.{Fault}
-use Rattle.pop3_client.specs.Turns.{Turn, line_limit, text_limit}
+use Rattle.pop3_client.specs.Turns.{Turn, line_limit, text_limit, quit}
 use Rattle.pop3_client.specs.declared.client.Client.{Client}
 use Rattle.pop3_wire.specs.declared.wire.Wire.{Ghosts as WireGhosts}
 use Rattle.pop3_wire.specs.Link.{WhereSound}
@@ -26,24 +26,26 @@ use Rattle.fetch_session.specs.declared.work.Ledger.{Ledger}
 use Rattle.fetch_session.specs.declared.work.Work.{Work}
 use Rattle.fetch_session.specs.Fault.{cut_of, fault_of}
 use Rattle.fetch_session.specs.Intake.{Took, TookTillCut, TookWithTail, step_limit, tail_limit}
-use Rattle.fetch_session.specs.Lasting.{AreLeft, CutLasts, DoesAndLasts, IsSafeWork, KeepsMailIn, KeepsWork, Leaves, NewOutlive, RowsLast}
+use Rattle.fetch_session.specs.Lasting.{AreLeft, CutLasts, DoesAndLasts, IsSafe, IsSafeWork, KeepsMailIn, KeepsWork, Leaves, NewOutlive, IsSafeStore, KeepsMboxIn}
 use Rattle.fetch_session.specs.Parts.{DoesTasks, IsReadyFor, KeepsLedger, KeepsLink, KeepsSession, KeepsStore}
 use Rattle.fetch_session.specs.Record.{Steady}
-use Rattle.fetch_session.specs.Scene.{scene, TakesTask}
+use Rattle.fetch_session.specs.Report.{Adds}
+use Rattle.fetch_session.specs.Scene.{TakesTask, scene, Stops}
 use Rattle.fetch_session.specs.Store.{MayGain}
 use Rattle.fetch_session.specs.Tail.{tail}
-use Rattle.fetch_session.specs.Target.{Target, is_sound, kind_of, stores_of, target_of}
-use Rattle.fetch_session.specs.Task.{Task, stores, ids_in, ids_ahead, turns_in, turns_ahead, AreFresh, fetching, deleting, tasks_planned}
-use Rattle.fetch_session.specs.Work.{IsReady, IsWritten, scene_of}
-use Rattle.fetch_session.proofs.FreshLemmas.{OneMore, ahead, fresh_grows}
-use Rattle.fetch_session.proofs.IntakeLemmas.{most_tail, takes_on, takes_plain, took_less, took_nothing, with_tail_on}
-use Rattle.fetch_session.proofs.LastLemmas.{good_before, good_more, if_err, in_kind, keeps_mail_on, keeps_same, none_came, none_lasts, nothing_cut, rows_last, same_left, texts_ok}
-use Rattle.fetch_session.proofs.RefusalLemmas.{cut_by, till_cut}
-use Rattle.fetch_session.proofs.SceneLemmas.{all_append, all_sound, all_none, all_weaker, fell_first, on_any}
+use Rattle.fetch_session.specs.Target.{Target, is_sound, kind_of, stores_of, target_of, Kind, Files, Entries, Stores, target}
+use Rattle.fetch_session.specs.Task.{Task, stores, ids_in, ids_ahead, turns_in, turns_ahead, AreFresh, fetching, deleting, tasks_in, tasks_planned, says}
+use Rattle.fetch_session.specs.Work.{IsReady, IsWritten}
+use Rattle.fetch_session.proofs.ReadyLemmas.{fetched_all, OneMore, ahead, fresh_grows}
+use Rattle.fetch_session.proofs.TalkLemmas.{most_tail, takes_on, took_broke, took_less, took_nothing, with_tail_on, cut_by, till_cut}
+use Rattle.fetch_session.proofs.SessionLemmas.{good_before, good_more, if_err, in_kind, keeps_mail_on, keeps_same, none_came, none_lasts, nothing_cut, rows_last, same_left, scene_at, texts_ok}
+use Rattle.fetch_session.proofs.SceneLemmas.{did_then, all_append, all_sound, all_none, all_weaker, fell_first, on_any}
+use Rattle.mail_store.specs.FlatFile.{Stored}
+use Rattle.mail_store.specs.declared.file.flat_file.Edges.{Edges}
+use Rattle.fetch_session.specs.declared.account.Store.{Store}
+use Rattle.fetch_session.specs.Ending.{IsTold, LooksAgain}
 
-pub on_map : {T E P Q : Type 0} (result : Result T E) → (P → Q) → OnOk result P → OnOk result Q
-on_map (Ok done) to p = to p
-on_map (Err fault) to p = tt
+-- ---- parts
 
 on_both : {T E P Q R : Type 0} (result : Result T E) → (P → Q → R) → OnOk result P → OnOk result Q → OnOk result R
 on_both (Ok done) to p q = to p q
@@ -56,7 +58,19 @@ same_ledger {file = file} uid ledger cut written = record {
   sound = λ f. f;
   written = tt;
   rows = tt;
-  left = λ f safe. same_left file ledger.file ledger.seen.rows (marked ledger.seen.rows uid) None safe (written.steady f);
+  left = λ f safe. same_left file ledger.file safe (written.steady f);
+}
+
+-- the line of a text was noted, and its id marked, unless that was refused
+pub marked_ledger : {F H Z : Type 0} {file : FileGhosts F} {uid : List ℕ} {old new : Ledger F H Z} {rows : List Row} (r : Result (Unit {0}) Cut)
+    → ((rows : List Row) (uid other : List ℕ) → has_row (marked rows uid) other ≡ has_row rows other) → rows ≡ old.seen.rows → Adds old.lines 1 new.lines → (file.sound new.file → file.sound old.file)
+    → OnOk r ((new.seen.rows ≡ marked rows uid) × IsWritten file new) → (file.sound new.file → IsSafe file old.file → Leaves file new.file (AreLeft rows (marked rows uid))) → KeepsLedger file uid old r new
+marked_ledger r law same lines sound marks left = record {
+  lines = lines;
+  sound = sound;
+  written = on_ok_weaker r (λ is. is.1) marks;
+  rows = on_ok_weaker r (λ is other has. rw (is.0, law, same) has) marks;
+  left = λ f safe. rw same at (left f safe);
 }
 
 -- ---- bounds of tasks
@@ -68,38 +82,28 @@ most_append (x ∷ xs) ys = omega (arith, most_append xs ys)
 most_ahead : (xs ys : List Task) → most_of (turns_ahead (xs ++ ys)) ≡ most_of (turns_ahead xs) + most_of (turns_ahead ys)
 most_ahead xs ys = ap most_of (flat_map-append turns_in xs ys) ∙ most_append (turns_ahead xs) (turns_ahead ys)
 
-most_fetching : (retrieve held : Bool) (number : ℕ) (uid : List ℕ) (size : ℕ)
-    → (most_of (turns_ahead (fetching retrieve held number uid size)) ≤ line_limit + text_limit) × (length (fetching retrieve held number uid size) ≤ 1)
-most_fetching true true number uid size = (omega arith, omega arith)
-most_fetching _ _ number uid size = (omega arith, omega arith)
-
-most_deleting : (delete : Bool) (number : ℕ) → (most_of (turns_ahead (deleting delete number)) ≤ line_limit) × (length (deleting delete number) ≤ 1)
-most_deleting true number = (omega arith, omega arith)
-most_deleting false number = (omega arith, omega arith)
+most_step : (retrieve held delete : Bool) (number : ℕ) (uid : List ℕ) (size : ℕ) → let tasks = fetching retrieve held number uid size ++ deleting delete number in (most_of (turns_ahead tasks) ≤ step_limit) × (length tasks ≤ 2)
+most_step true true true number uid size = (omega arith, omega arith)
+most_step true true false number uid size = (omega arith, omega arith)
+most_step _ _ true number uid size = (omega arith, omega arith)
+most_step _ _ _ number uid size = (omega arith, omega arith)
 
 -- the tasks of steps
 pub most_planned : (steps : List Step) (items : List Item) (held : List Bool)
     → (most_of (turns_ahead (tasks_planned steps items held)) ≤ length items * step_limit) × (length (tasks_planned steps items held) ≤ 2 * length items)
 most_planned (s ∷ ss) (i ∷ is) (h ∷ hs) =
-    let first = fetching s.retrieve h s.number i.uid i.size in
-    let then = deleting s.delete s.number in
+    let first = tasks_in s i h in
     let later = tasks_planned ss is hs in
-    let a = most_fetching s.retrieve h s.number i.uid i.size in
-    let b = most_deleting s.delete s.number in
+    let a = most_step s.retrieve h s.delete s.number i.uid i.size in
     let more = most_planned ss is hs in
-    (omega (arith, most_ahead (first ++ then) later, most_ahead first then, a.0, b.0, more.0), omega (arith, length-append (first ++ then) later, length-append first then, a.1, b.1, more.1))
+    (omega (arith, most_ahead first later, a.0, more.0), omega (arith, length-append first later, a.1, more.1))
 most_planned _ _ _ = (omega arith, omega arith)
-
-fetched_all : (P : List ℕ → Type 0) (retrieve held : Bool) (number : ℕ) (uid : List ℕ) (size : ℕ) → (retrieve ≡ true → P uid) → AllByRecursion P (ids_ahead (fetching retrieve held number uid size))
-fetched_all P true false number uid size p = (p refl, tt)
-fetched_all P _ _ number uid size p = tt
 
 -- what holds of each listed id holds of each that will be marked
 pub planned_all : (P : List ℕ → Type 0) (steps : List Step) (items : List Item) (held : List Bool) → AllByRecursion (λ (item : Item). P item.uid) items
     → AllByRecursion P (ids_ahead (tasks_planned steps items held))
 planned_all P (s ∷ ss) (i ∷ is) (h ∷ hs) all =
-    subst (λ (ids : List (List ℕ)). AllByRecursion P ids) (sym (ahead s i h (tasks_planned ss is hs)))
-    (all_append P (ids_ahead (fetching s.retrieve h s.number i.uid i.size)) (ids_ahead (tasks_planned ss is hs)) (fetched_all P s.retrieve h s.number i.uid i.size (λ _. all.0)) (planned_all P ss is hs all.1))
+    rw (ahead s i h (tasks_planned ss is hs)) (all_append P (ids_ahead (fetching s.retrieve h s.number i.uid i.size)) (ids_ahead (tasks_planned ss is hs)) (fetched_all P s.retrieve h s.number i.uid i.size (λ _. all.0)) (planned_all P ss is hs all.1))
 planned_all P _ _ _ all = tt
 
 -- ---- the first of these tasks
@@ -120,38 +124,31 @@ ready_front {D} {F} {H} {Z} {disk} {file} {account} {work} xs ys ready =
       digits = ready.digits;
       room = omega (arith, ready.room, length-append xs ys);
       ready = ready.ready;
-      legal = all_front IsLegalId (ids_ahead xs) (ids_ahead ys) (subst (λ (ids : List (List ℕ)). AllByRecursion IsLegalId ids) split ready.legal);
-      rows = all_front (λ (uid : List ℕ). has_row work.ledger.seen.rows uid ≡ true) (ids_ahead xs) (ids_ahead ys)
-          (subst (λ (ids : List (List ℕ)). AllByRecursion (λ (uid : List ℕ). has_row work.ledger.seen.rows uid ≡ true) ids) split ready.rows);
-      free = λ d. fresh_front account (stores_of disk file work.store).maildir (ids_ahead xs) (ids_ahead ys)
-          (subst (λ (ids : List (List ℕ)). AreFresh account (stores_of disk file work.store).maildir ids) split (ready.free d));
+      legal = all_front _ (ids_ahead xs) _ (rw split at ready.legal);
+      rows = all_front _ (ids_ahead xs) _ (rw split at ready.rows);
+      free = λ d. fresh_front account (stores_of disk file work.store).maildir (ids_ahead xs) _ (rw split at (ready.free d));
     }
 
 -- ---- the link
 
 module _ {W : Type 0} {link : WireGhosts W} where
-  link_on : {m n : ℕ} (limit : ℕ) {a b c : Client W} {r : Result (Unit {0}) Cut} → m + n ≤ limit → KeepsLink link (TookTillCut m) a (Ok tt) b
-      → KeepsLink link (TookTillCut n) b r c → KeepsLink link (TookTillCut limit) a r c
-  link_on {m} {n} limit {a} {b} {c} {r} less first then = record {
+  -- a part, and then another
+  link_then : {First Then All : Place → Result (Unit {0}) Cut → Place → Type 0} {a b c : Client W} {r : Result (Unit {0}) Cut} → KeepsLink link First a (Ok tt) b → KeepsLink link Then b r c
+      → (First (place_of link a) (Ok tt) (place_of link b) → Then (place_of link b) r (place_of link c) → All (place_of link a) r (place_of link c)) → KeepsLink link All a r c
+  link_then {a = a} {b} {c} {r} first then both = record {
     same = then.same ∙ first.same;
     counted = till_cut (link_of link a) (link_of link b) (link_of link c) r first.counted then.counted;
-    took = λ s.
-        let later = then.took s in
-        let before = first.took later.0 in
-        (before.0, takes_on limit m n (place_of link a) (place_of link b) (place_of link c) r less before.1 later.1);
+    took = λ s. let later = then.took s in let before = first.took later.0 in (before.0, both before.1 later.1);
   }
 
+  link_on : {m n : ℕ} (limit : ℕ) {a b c : Client W} {r : Result (Unit {0}) Cut} → m + n ≤ limit → KeepsLink link (TookTillCut m) a (Ok tt) b
+      → KeepsLink link (TookTillCut n) b r c → KeepsLink link (TookTillCut limit) a r c
+  link_on {m} {n} limit {r = r} less first then = link_then first then (takes_on limit m n _ _ _ r less)
+
   -- the same, with what is said after a fault
-  pub link_on_tail : {m n : ℕ} (limit : ℕ) {a b c : Client W} {r : Result (Unit {0}) Cut} → m + n ≤ limit → KeepsLink link (TookTillCut m) a (Ok tt) b
+  pub link_on_tail : {m n limit : ℕ} {a b c : Client W} {r : Result (Unit {0}) Cut} → m + n ≤ limit → KeepsLink link (TookTillCut m) a (Ok tt) b
       → KeepsLink link (TookWithTail n) b r c → KeepsLink link (TookWithTail limit) a r c
-  link_on_tail {m} {n} limit {a} {b} {c} {r} less first then = record {
-    same = then.same ∙ first.same;
-    counted = till_cut (link_of link a) (link_of link b) (link_of link c) r first.counted then.counted;
-    took = λ s.
-        let later = then.took s in
-        let before = first.took later.0 in
-        (before.0, with_tail_on limit m n (place_of link a) (place_of link b) (place_of link c) r less before.1 later.1);
-  }
+  link_on_tail {m} {n} {limit} {r = r} less first then = link_then first then (with_tail_on limit m n _ _ _ r less)
 
   pub link_still : {c : Client W} → KeepsLink link (TookTillCut 0) c (Ok tt) c
   link_still = record { same = refl; counted = refl; took = λ s. (s, took_nothing) }
@@ -164,23 +161,22 @@ module _ {W : Type 0} {link : WireGhosts W} where
   link_with_tail {limit} {a} {b} {cut} kept =
       record { same = kept.same; counted = kept.counted; took = λ s. ((kept.took s).0, (limit, (kept.took s).1, omega (arith, most_tail (tail cut.fault)))) }
 
-  pub link_cut : (fault : ClientFault) {limit : ℕ} {a b : Client W} {cut : Cut} → HasSameLink a b → cut ≡ cut_of (fault_of fault) None
-      → Tallies (is_refusal fault) (link_of link a).failures (link_of link b).failures → (link.sound b.wire.now → link.sound a.wire.now × Took limit (place_of link a) (place_of link b))
-      → KeepsLink link (TookTillCut limit) a (Err cut) b
-  link_cut fault {limit} {a} {b} {cut} same plain counts took = record {
-    same = same;
-    counted = cut_by fault cut (link_of link a) (link_of link b) plain counts;
-    took = λ s. ((took s).0, takes_plain plain (took s).1);
-  }
+  pub link_cut : (fault : ClientFault) {limit : ℕ} {a b : Client W} → HasSameLink a b → Tallies (is_refusal fault) (link_of link a).failures (link_of link b).failures
+      → (link.sound b.wire.now → link.sound a.wire.now × Took limit (place_of link a) (place_of link b)) → KeepsLink link (TookTillCut limit) a (Err (cut_of (fault_of fault) None)) b
+  link_cut fault {a = a} {b} same counts took = record { same = same; counted = cut_by fault (link_of link a) (link_of link b) counts; took = took }
+
+  pub link_broke : ConversationsArePaced → (turn : Turn) (fault : ClientFault) {a b : Client W} → HasSameLink a b
+      → Tallies (is_refusal fault) (link_of link a).failures (link_of link b).failures → WhereSound link.sound link.leads_to a.wire.now b.wire.now (Broke turn (place_of link a) (place_of link b) fault)
+      → KeepsLink link (TookTillCut (most_of (turn ∷ []))) a (Err (cut_of (fault_of fault) None)) b
+  link_broke paced turn fault same counts broke = link_cut fault same counts (λ s. let all = broke s in (all.0, took_broke paced turn _ _ fault all.2))
 
   -- all went well with the link, and something else failed
-  pub link_then_cut : {fault : Fault} {limit : ℕ} {a b : Client W} {cut : Cut} → cut ≡ cut_of fault None → KeepsLink link (TookTillCut limit) a (Ok tt) b
-      → KeepsLink link (TookTillCut limit) a (Err cut) b
-  link_then_cut plain kept = record { same = kept.same; counted = inl kept.counted; took = λ s. ((kept.took s).0, takes_plain plain (kept.took s).1) }
+  pub link_then_cut : {fault : Fault} {limit : ℕ} {a b : Client W} → KeepsLink link (TookTillCut limit) a (Ok tt) b → KeepsLink link (TookTillCut limit) a (Err (cut_of fault None)) b
+  link_then_cut kept = record { same = kept.same; counted = inl kept.counted; took = kept.took }
 
   -- no call was made
-  pub link_idle : {fault : Fault} {limit : ℕ} {a : Client W} {cut : Cut} → cut ≡ cut_of fault None → KeepsLink link (TookTillCut limit) a (Err cut) a
-  link_idle plain = record { same = refl; counted = inl refl; took = λ s. (s, takes_plain plain (took_less took_nothing (omega arith))) }
+  pub link_idle : {fault : Fault} {limit : ℕ} {a : Client W} → KeepsLink link (TookTillCut limit) a (Err (cut_of fault None)) a
+  link_idle = record { same = refl; counted = inl refl; took = λ s. (s, took_less took_nothing (omega arith)) }
 
 -- ---- the store
 
@@ -201,71 +197,69 @@ none_both : (xs ys : List (List ℕ)) → xs ++ ys ≡ [] → (xs ≡ []) × (ys
 none_both [] ys none = (refl, none)
 none_both (x ∷ xs) ys none = absurd cc
 
+-- these tasks were done, or as far as went well, and what is kept of it
+abbrev pub Goes : {W D F H Z : Type 0} → WireGhosts W → DiskGhosts D → FileGhosts F → List ℕ → List Task → Client W → Work D F H Z → Result (Unit {0}) Cut → Client W → Work D F H Z → Type 0
+Goes link disk file account tasks c w r c' w' = KeepsSession link disk file account tasks c w r c' w' × DoesTasks link disk file account tasks c w r c' w'
+
 module _ {W D F H Z : Type 0} {link : WireGhosts W} {disk : DiskGhosts D} {file : FileGhosts F} {account : List ℕ} where
-  pub kept_nothing : {c : Client W} {w : Work D F H Z} → IsReady disk file w → KeepsSession link disk file account [] c w (Ok tt) c w
-  kept_nothing ready = record {
-    talk = link_still;
-    store = record { lines = (omega arith, omega arith); kind = refl; none_begun = λ d. (d, ready.none_begun d) };
-    lasts = λ d f. (f, (λ name is. is, λ g is. is), λ safe. safe);
-    idle = λ none. refl;
-    next = λ later ready. ready;
-  }
-
-  pub kept_on : (xs ys : List Task) {c c' c'' : Client W} {w w' w'' : Work D F H Z} (r : Result (Unit {0}) Cut) → KeepsSession link disk file account xs c w (Ok tt) c' w'
-      → KeepsSession link disk file account ys c' w' r c'' w'' → KeepsSession link disk file account (xs ++ ys) c w r c'' w''
-  kept_on xs ys {c} {c'} {c''} {w} {w'} {w''} r first then = record {
-    talk = link_on (most_of (turns_ahead (xs ++ ys))) (omega (arith, most_ahead xs ys)) first.talk then.talk;
-    store = store_on (omega (arith, length-append xs ys)) first.store then.store;
-    lasts = λ d f.
-        let later = then.lasts d f in
-        let before = first.lasts (then.store.none_begun d).0 later.0 in
-        (before.0, keeps_mail_on before.1 later.1, λ safe. later.2 (before.2 safe));
-    idle = λ none. let both = none_both (ids_ahead xs) (ids_ahead ys) (sym (flat_map-append ids_in xs ys) ∙ none) in then.idle both.1 ∙ first.idle both.0;
-    next = on_map r (λ next later ready. next later (first.next (ys ++ later) (subst (λ (tasks : List Task). IsReadyFor disk file account tasks w) (append_assoc xs ys later) ready))) then.next;
-  }
-
-  pub kept_before : (xs ys : List Task) {c c' : Client W} {w w' : Work D F H Z} {cut : Cut} → KeepsSession link disk file account xs c w (Err cut) c' w'
-      → KeepsSession link disk file account (xs ++ ys) c w (Err cut) c' w'
-  kept_before xs ys kept = record {
-    talk = link_on (most_of (turns_ahead (xs ++ ys))) (omega (arith, most_ahead xs ys)) link_still kept.talk;
-    store = store_less (omega (arith, length-append xs ys)) kept.store;
-    lasts = kept.lasts;
-    idle = λ none. kept.idle (none_both (ids_ahead xs) (ids_ahead ys) (sym (flat_map-append ids_in xs ys) ∙ none)).0;
-    next = tt;
-  }
-
-  pub does_nothing : ((w : W) → link.leads_to w w) → {c : Client W} {w : Work D F H Z} → KeepsSession link disk file account [] c w (Ok tt) c w → IsReady disk file w
-      → DoesTasks link disk file account [] c w (Ok tt) c w
+  pub goes_nothing : ((w : W) → link.leads_to w w) → {c : Client W} {w : Work D F H Z} → IsReady disk file w → Goes link disk file account [] c w (Ok tt) c w
   unfolding all_none
-  does_nothing same {c} {w} kept ready = λ s d f. (
-    s,
-    d,
-    f,
-    same _,
+  goes_nothing same {c} {w} ready = (
     record {
-      does = all_none (target_of w.store account) _;
-      lasts = λ safe. none_lasts disk file (target_of w.store account) (place_of link c) w w [] safe (keeps_same disk file w) (ready.written.steady f)
-          (same_left file w.ledger.file w.ledger.seen.rows w.ledger.seen.rows None safe.0 (ready.written.steady f));
+      talk = link_still;
+      store = record { lines = (omega arith, omega arith); kind = refl; none_begun = λ d. (d, ready.none_begun d) };
+      lasts = λ d f. (f, (λ name is. is, λ g is. is), λ safe. safe);
+      idle = λ none. refl;
+      next = λ later ready. ready;
     },
+    λ s d f. (
+      s,
+      d,
+      f,
+      same _,
+      record {
+        does = all_none (target_of w.store account) _;
+        lasts = λ safe. let steady = ready.written.steady f in none_lasts disk file (target_of w.store account) (place_of link c) w w [] safe (keeps_same disk file w) steady (same_left file w.ledger.file safe.0 steady);
+      },
+    ),
   )
 
-  pub does_on : TurnsJoin → ((u v w : W) → link.leads_to u v → link.leads_to v w → link.leads_to u w) → (xs ys : List Task) {c c' c'' : Client W} {w w' w'' : Work D F H Z} (r : Result (Unit {0}) Cut)
-      → KeepsSession link disk file account xs c w (Ok tt) c' w' → DoesTasks link disk file account xs c w (Ok tt) c' w'
-      → KeepsSession link disk file account ys c' w' r c'' w'' → DoesTasks link disk file account ys c' w' r c'' w'' → DoesTasks link disk file account (xs ++ ys) c w r c'' w''
-  does_on joining on xs ys {c} {c'} {c''} {w} {w'} {w''} r kept did keeps does = λ s d f.
-      let later = does s d f in
-      let before = did later.0 later.1 later.2 in (
-        before.0,
-        before.1,
-        before.2,
-        on _ _ _ before.3 later.3,
-        good_more joining r w'.store before.4.does (λ safe. (before.4.lasts safe).texts) (keeps.lasts d f).1
-            (in_kind w'.store w.store account kept.store.kind later.4 (kept.lasts later.1 later.2).2),
-      )
+  pub goes_on : TurnsJoin → ((u v w : W) → link.leads_to u v → link.leads_to v w → link.leads_to u w) → (xs ys : List Task) {c c' c'' : Client W} {w w' w'' : Work D F H Z} (r : Result (Unit {0}) Cut)
+      → Goes link disk file account xs c w (Ok tt) c' w' → Goes link disk file account ys c' w' r c'' w'' → Goes link disk file account (xs ++ ys) c w r c'' w''
+  goes_on joining on xs ys {w = w} {w'} r (first, did) (then, does) = (
+    record {
+      talk = link_on (most_of (turns_ahead (xs ++ ys))) (omega (arith, most_ahead xs ys)) first.talk then.talk;
+      store = store_on (omega (arith, length-append xs ys)) first.store then.store;
+      lasts = λ d f.
+          let later = then.lasts d f in
+          let before = first.lasts (then.store.none_begun d).0 later.0 in
+          (before.0, keeps_mail_on before.1 later.1, λ safe. later.2 (before.2 safe));
+      idle = λ none. let both = none_both (ids_ahead xs) (ids_ahead ys) (sym (flat_map-append ids_in xs ys) ∙ none) in then.idle both.1 ∙ first.idle both.0;
+      next = on_ok_weaker r (λ next later ready. next later (first.next (ys ++ later) (rw append_assoc at ready))) then.next;
+    },
+    λ s d f.
+        let later = does s d f in
+        let before = did later.0 later.1 later.2 in (
+          before.0,
+          before.1,
+          before.2,
+          on _ _ _ before.3 later.3,
+          good_more joining r w'.store before.4.does (λ safe. (before.4.lasts safe).texts) (then.lasts d f).1
+              (in_kind w'.store w.store account first.store.kind later.4 (first.lasts later.1 later.2).2),
+        ),
+  )
 
-  pub does_before : (xs ys : List Task) {c c' : Client W} {w w' : Work D F H Z} {cut : Cut} → KeepsSession link disk file account xs c w (Err cut) c' w' → DoesTasks link disk file account xs c w (Err cut) c' w'
-      → DoesTasks link disk file account (xs ++ ys) c w (Err cut) c' w'
-  does_before xs ys kept did = λ s d f. let all = did s d f in (all.0, all.1, all.2, all.3, good_before ys all.4)
+  pub goes_before : (xs ys : List Task) {c c' : Client W} {w w' : Work D F H Z} {cut : Cut} → Goes link disk file account xs c w (Err cut) c' w' → Goes link disk file account (xs ++ ys) c w (Err cut) c' w'
+  goes_before xs ys (kept, did) = (
+    record {
+      talk = link_on (most_of (turns_ahead (xs ++ ys))) (omega (arith, most_ahead xs ys)) link_still kept.talk;
+      store = store_less (omega (arith, length-append xs ys)) kept.store;
+      lasts = kept.lasts;
+      idle = λ none. kept.idle (none_both (ids_ahead xs) (ids_ahead ys) (sym (flat_map-append ids_in xs ys) ∙ none)).0;
+      next = tt;
+    },
+    λ s d f. did_then (did s d f) (good_before ys),
+  )
 
   -- ---- one task
 
@@ -296,24 +290,20 @@ module _ {W D F H Z : Type 0} {link : WireGhosts W} {disk : DiskGhosts D} {file 
 
 module _ {D F H Z : Type 0} {disk : DiskGhosts D} {file : FileGhosts F} where
   -- what a task did, and what of it outlives a loss of power
-  pub good_task : (target : Target) (task : Task) (a b : Place) (old new : Work D F H Z) (r : Result (Unit {0}) Cut)
-      → TakesTask target task (scene a (stores_of disk file old.store) (file.stored old.ledger.file) old.ledger.seen.rows old.ledger.lines.items) r
-      (scene b (stores_of disk file new.store) (file.stored new.ledger.file) new.ledger.seen.rows new.ledger.lines.items)
+  pub good_task : (target : Target) (task : Task) (a b : Place) (old new : Work D F H Z) (r : Result (Unit {0}) Cut) → TakesTask target task (scene_at disk file a old) r (scene_at disk file b new)
       → KeepsWork disk file old new → Steady (file.stored old.ledger.file).content (none_open old.ledger.seen.rows)
       → OnOk r (Steady (file.stored new.ledger.file).content (none_open new.ledger.seen.rows))
       → (IsSafeWork file old → OnOk r (IsSafeWork file new × NewOutlive disk file old.store new.store))
       → (IsSafeWork file old → Leaves file new.ledger.file (AreLeft old.ledger.seen.rows (marked_all old.ledger.seen.rows (ids_in task))))
-      → (IsSafeWork file old → IfErr r (λ cut. CutLasts disk file target cut (scene a (stores_of disk file old.store) (file.stored old.ledger.file) old.ledger.seen.rows old.ledger.lines.items)
-      (scene b (stores_of disk file new.store) (file.stored new.ledger.file) new.ledger.seen.rows new.ledger.lines.items) new.store new.ledger.file))
-      → DoesAndLasts disk file (IsSafeWork file old) target (task ∷ []) (scene a (stores_of disk file old.store) (file.stored old.ledger.file) old.ledger.seen.rows old.ledger.lines.items) r
-      (scene b (stores_of disk file new.store) (file.stored new.ledger.file) new.ledger.seen.rows new.ledger.lines.items) new.store new.ledger.file
+      → (IsSafeWork file old → IfErr r (λ cut. CutLasts disk file target cut (scene_at disk file a old) (scene_at disk file b new) new.store new.ledger.file))
+      → DoesAndLasts disk file (IsSafeWork file old) target (task ∷ []) (scene_at disk file a old) r (scene_at disk file b new) new.store new.ledger.file
   unfolding fell_first
   good_task target task a b old new (Ok done) took keeps steady written lasts left next = record {
     does = record { dones = record { task = task; replies = took.0 } ∷ []; all = refl; went = took.1 };
     lasts = λ safe. record {
       texts = texts_ok disk file target (record { task = task; replies = took.0 } ∷ []) old.store new.store took.1.stored (lasts safe).1 (lasts safe).0.1;
-      rows = subst (λ rows. RowsLast file new.ledger.file rows) took.1.rows (rows_last file new.ledger.file new.ledger.seen.rows (lasts safe).0.0 written);
-      left = subst (λ rows. Leaves file new.ledger.file (AreLeft rows rows)) took.1.rows (same_left file new.ledger.file new.ledger.seen.rows new.ledger.seen.rows None (lasts safe).0.0 written);
+      rows = rw took.1.rows at (rows_last file new.ledger.file new.ledger.seen.rows (lasts safe).0.0 written);
+      left = subst (λ rows. Leaves file new.ledger.file (AreLeft rows rows)) took.1.rows (same_left file new.ledger.file (lasts safe).0.0 written);
     };
   }
   good_task target task a b old new (Err cut) took keeps steady written lasts left next = record {
@@ -322,17 +312,89 @@ module _ {D F H Z : Type 0} {disk : DiskGhosts D} {file : FileGhosts F} where
   }
 
   -- the same for a task that stores nothing
-  pub does_talking : {W : Type 0} (link : WireGhosts W) (account : List ℕ) (task : Task) (client client' : Client W) (work : Work D F H Z)
-      (lines : Vec ReportLine Global) (r : Result (Unit {0}) Cut) → WhereSound link.sound link.leads_to client.wire.now client'.wire.now
-      (TakesTask (target_of work.store account) task (scene_of link disk file client work) r
-      (scene (place_of link client') (stores_of disk file work.store) (file.stored work.ledger.file) work.ledger.seen.rows lines.items))
-      → IsReady disk file work → DoesTasks link disk file account (task ∷ []) client work r client'
-      (record work { ledger = record work.ledger { lines = lines } })
+  pub does_talking : {W : Type 0} (link : WireGhosts W) (account : List ℕ) (task : Task) (client client' : Client W) (work : Work D F H Z) (lines : Vec ReportLine Global) (r : Result (Unit {0}) Cut)
+      → WhereSound link.sound link.leads_to client.wire.now client'.wire.now
+      (TakesTask (target_of work.store account) task (scene_at disk file (place_of link client) work) r (scene_at disk file (place_of link client') (record work { ledger = record work.ledger { lines = lines } })))
+      → IsReady disk file work → DoesTasks link disk file account (task ∷ []) client work r client' (record work { ledger = record work.ledger { lines = lines } })
   does_talking link account task client client' work lines r talked ready = all_sound talked (λ d. (d, tt {0})) (λ f. (f, f)) (λ took _ f.
-      good_task (target_of work.store account) task (place_of link client) (place_of link client') work
-      (record work { ledger = record work.ledger { lines = lines } }) r took
-      (keeps_same disk file work) (ready.written.steady f) (on_any r (ready.written.steady f))
-      (λ safe. on_any r (safe, none_came disk file work.store work.store refl))
-      (λ safe. same_left file work.ledger.file work.ledger.seen.rows _ None safe.0 (ready.written.steady f))
-      (λ safe. if_err r (λ cut. nothing_cut disk file (target_of work.store account) cut _ _ work.store work.ledger.file
-      (same_left file work.ledger.file work.ledger.seen.rows work.ledger.seen.rows None safe.0 (ready.written.steady f)) refl)))
+      let steady = ready.written.steady f in
+      good_task (target_of work.store account) task (place_of link client) (place_of link client') work (record work { ledger = record work.ledger { lines = lines } }) r took
+      (keeps_same disk file work) steady (on_any r steady) (λ safe. on_any r (safe, none_came disk file work.store work.store refl)) (λ safe. same_left file work.ledger.file safe.0 steady)
+      (λ safe. if_err r (λ cut. nothing_cut disk file (target_of work.store account) cut _ _ work.store work.ledger.file (same_left file work.ledger.file safe.0 steady) refl)))
+
+-- ---- what the look left
+
+pub look_told : (kind : Kind) (lines : List ReportLine) (old new : Stores) (told : Option Edges) → LooksAgain kind lines old (Ok told) new → IsTold kind lines old told × (new ≡ old)
+look_told Files lines old new told is = (tt, is)
+look_told Entries lines old new told is = is
+
+pub look_maildir : (kind : Kind) (lines : List ReportLine) (old : Stores) (r : Result (Option Edges) Fault) (new : Stores) → LooksAgain kind lines old r new
+    → new.maildir ≡ old.maildir
+look_maildir Files lines old (Ok told) new is = ap (λ (s : Stores). s.maildir) is
+look_maildir Files lines old (Err fault) new never = absurd never
+look_maildir Entries lines old (Ok told) new is = ap (λ (s : Stores). s.maildir) is.1
+look_maildir Entries lines old (Err fault) new is = is.2
+
+-- the store refused, and QUIT wasn't said
+pub not_left : (kind : Kind) (account : List ℕ) {a : Place} {old new : Stores} {file : Stored} {rows : List Row} {lines seen : List ReportLine} (fault : Fault)
+    → seen ≡ lines → LooksAgain kind seen old (Err fault) new
+    → Stops (target kind account) (says quit) (scene a old file rows lines) (cut_of fault None) (scene a new file rows lines)
+not_left Files account fault same never = absurd never
+not_left Entries account fault same (deleted, refuses, maildir) =
+    inr (inl (inr (inr (record {
+      none = refl;
+      is = refl;
+      deleted = rw same at deleted;
+      refuses = refuses;
+      place = refl;
+      file = refl;
+      rows = refl;
+      lines = refl;
+    }))))
+
+-- ---- what QUIT keeps and does
+
+-- the store was looked at, and its Maildir is as it was
+pub record Looked {D F H Z : Type 0} (disk : DiskGhosts D) (file : FileGhosts F) (work : Work D F H Z) (store : Store D F) : Type 0 where
+  pub ready : IsReady disk file work
+  pub kind : kind_of store ≡ kind_of work.store
+  pub same : is_sound disk file store → is_sound disk file work.store × ((stores_of disk file store).maildir ≡ (stores_of disk file work.store).maildir)
+  pub keeps : is_sound disk file store → KeepsMailIn disk work.store store × KeepsMboxIn disk file work.store store
+
+module _ {D F H Z : Type 0} {disk : DiskGhosts D} {file : FileGhosts F} {work : Work D F H Z} {store : Store D F} (is : Looked disk file work store) where
+  abbrev pub left : Work D F H Z
+  left = record work { store = store }
+
+  pub quitting_store : KeepsStore disk file 0 work left
+  quitting_store = record {
+    lines = (omega arith, omega arith);
+    kind = is.kind;
+    none_begun = λ d. ((is.same d).0, ap (λ (m : Maildir). m.begun) (is.same d).1 ∙ is.ready.none_begun (is.same d).0);
+  }
+
+  pub kept_quitting : {W : Type 0} {link : WireGhosts W} {account : List ℕ} {c c' : Client W} {r : Result (Unit {0}) Cut} → KeepsLink link (TookTillCut line_limit) c r c'
+      → (is_sound disk file store → IsSafeStore file work.store → OnOk r (IsSafeStore file store)) → KeepsSession link disk file account (says quit ∷ []) c work r c' left
+  kept_quitting {account = account} {r = r} talk safe = record {
+    talk = talk;
+    store = store_less (omega arith) quitting_store;
+    lasts = λ d f. (f, (is.keeps d).0, λ sure. on_ok_weaker r (λ s. (sure.0, s)) (safe d sure.1));
+    idle = λ none. refl;
+    next = on_any r (λ later before. record {
+      digits = before.digits;
+      room = omega (arith, before.room);
+      ready = record { none_begun = λ d. (quitting_store.none_begun d).1; written = is.ready.written };
+      legal = before.legal;
+      rows = before.rows;
+      free = λ d. rw (is.same d).1 (before.free (is.same d).0);
+    });
+  }
+
+  pub does_quitting : (account : List ℕ) (a b : Place) (r : Result (Unit {0}) Cut) → TakesTask (target_of work.store account) (says quit) (scene_at disk file a work) r (scene_at disk file b left)
+      → (is_sound disk file store → IsSafeStore file work.store → OnOk r (IsSafeStore file store)) → is_sound disk file store → file.sound work.ledger.file
+      → DoesAndLasts disk file (IsSafeWork file work) (target_of work.store account) (says quit ∷ []) (scene_at disk file a work) r (scene_at disk file b left) store work.ledger.file
+  does_quitting account a b r took safe d f =
+      let steady = is.ready.written.steady f in
+      good_task (target_of work.store account) (says quit) a b work left r took ((is.keeps d).0, (is.keeps d).1, λ last. last) steady (on_any r steady)
+      (λ sure. on_ok_weaker r (λ s. ((sure.0, s), none_came disk file work.store store (is.same d).1)) (safe d sure.1))
+      (λ sure. same_left file work.ledger.file sure.0 steady)
+      (λ sure. if_err r (λ cut. nothing_cut disk file (target_of work.store account) cut _ _ store work.ledger.file (same_left file work.ledger.file sure.0 steady) (ap (λ (m : Maildir). m.files) (is.same d).1)))

@@ -1,34 +1,276 @@
--- What a session has ready, or why it isn't ready.
-use Rattle.std.proofs.Common.{◌≡◌, inl, inr, ◌<◌, ℕ, Bool, true, List, [], ◌∷◌, ◌++◌, append_assoc, Ok, Err, refl, sym, ap, subst, ◌∙◌, arith, ◌||◌, bytes_eq, Result}
-use Rattle.mail_terms.specs.Listing.{Item, has_item}
-use Rattle.std.proofs.Math.Bool.{or-true}
+-- What is planned and which ids stay fresh, what a session has ready, or why it isn't ready, and what of it outlives a loss of power.
+use Rattle.std.proofs.Common.{◌≡◌, ◌≢◌, inl, inr, ◌<◌, ◌+◌, ℕ, suc, Bool, true, false, List, [], ◌∷◌, ◌++◌, drop, get_or, length, refl, sym, ap, ◌∙◌, arith, append_assoc, ◌||◌, bytes_eq, drop-cons, not, map, take, Option, Ok, subst, HoldsAt, Result, Err, All, IfOk, ⊎_elim, None}
 use Rattle.std.specs.List.{AllByRecursion}
-use Rattle.std.proofs.lemmas.List.Folds.{list_any-append}
+use Rattle.std.proofs.lemmas.Bool.{false_from_ne_true, true≢false, or_parts}
+use Rattle.std.proofs.lemmas.Grind.{flat_map-append}
 use Rattle.std.proofs.lemmas.Slice.Eq.{bytes_eq-Decides}
-use Rattle.fetch_rules.specs.Record.{Row, RecordState, Loaded, has_row, none_open, merged}
-use Rattle.fetch_rules.specs.Intents.{closed_rows}
-use Rattle.fetch_rules.specs.Plan.{planned}
-use Rattle.fetch_rules.specs.RecordGrowth.{OneRecord}
-use Rattle.rc_file.specs.declared.settings.Settings.{Settings}
-use Rattle.mail_store.specs.Maildir.{File, Maildir}
-use Rattle.mail_store.specs.FlatFile.{Stored}
-use Rattle.fetch_session.specs.declared.fault.Fault.{Fault}
-use Rattle.fetch_session.specs.declared.fault.Fault.TheVariants.{StoreRefused, SeenRefused, NoMemory, BadSeen}
-use Rattle.fetch_session.specs.declared.fault.Why.TheVariants as why
-use Rattle.fetch_session.specs.declared.readiness.Found.{Found}
-use Rattle.fetch_session.specs.declared.readiness.Ready.{Ready}
-use Rattle.fetch_session.specs.Mbox.{AsksMbox}
-use Rattle.mail_store.specs.declared.file.flat_file.FlatFile.{Ghosts as FileGhosts}
+use Rattle.mail_terms.specs.UniqueId.{IsLegalId}
+use Rattle.mail_terms.specs.Listing.{Item, has_item, numbered}
+use Rattle.fetch_rules.specs.declared.steps.Step.{Step}
+use Rattle.mail_store.specs.Maildir.{Maildir, with_file, File, IsPart}
+use Rattle.mail_store.specs.FileName.{mail_file, stem_of, is_held, IsAccountText}
+use Rattle.fetch_session.specs.Task.{Task, ids_in, ids_ahead, AreFresh, fetching, deleting, tasks_in, tasks_planned}
+use Rattle.fetch_session.specs.Store.{MayGain}
+use Rattle.std.proofs.lemmas.List.Folds.{list_any-append, list_any_at}
 use Rattle.mail_store.specs.declared.maildir.disk.MaildirDisk.{Ghosts as DiskGhosts}
+use Rattle.mail_store.specs.declared.file.flat_file.FlatFile.{Ghosts as FileGhosts}
 use Rattle.fetch_session.specs.declared.account.Store.{Store}
-use Rattle.fetch_session.specs.Lasting.{AllStayIn, FoundLastIn, IsSafe, IsSafeStore, KeepsLeftIn, LeavesMerged, NewsLast, ReadiesAndLasts}
-use Rattle.fetch_session.specs.Readiness.{CausesUnready, FindsIn, FindsRefused, IsSettledBy, MboxUnready, Settles, Unready, UnreadyCause, merged_in}
-use Rattle.fetch_session.specs.Task.{tasks_planned}
-use Rattle.fetch_session.specs.Record.{Keeps, ReadAs, Reads, Merges, record_state_in}
-use Rattle.fetch_session.specs.Target.{Target, AsFiles, AsEntries, Stores, closed_file, flags_in, kind_of, left_in, rows_in, stores_of, target_of}
-use Rattle.fetch_session.proofs.NewsLemmas.{news_found}
-use Rattle.fetch_session.proofs.RecordLemmas.{read_keeps, steady_keeps, not_whole}
-use Rattle.fetch_session.proofs.UnreadyLemmas.{left_found}
+use Rattle.fetch_session.specs.declared.account.Store.TheVariants.{Maildir as InMaildir, Mboxrd as InMbox}
+use Rattle.fetch_session.specs.Target.{flags_in, stores_of, target_of, Stores, in_maildir, kind_of, left_in, AfterTakingIn, AsFiles, Target, AsEntries, closed_file, rows_in, Kind, Files, Entries, in_mbox}
+use Rattle.mail_store.specs.Held.{flags_of, FoundOutlive}
+use Rattle.fetch_rules.specs.Laws.{FetchesFirsts}
+use Rattle.fetch_session.proofs.SceneLemmas.{all_append, all_weaker, read_keeps, steady_keeps, not_whole, read_steady}
+use Rattle.std.proofs.lemmas.List.{map-append, take_more, length-map}
+use Rattle.fetch_rules.specs.Record.{Loaded, Row, is_delivered, Intent, RecordState, has_row, none_open, merged, IsRecord}
+use Rattle.fetch_rules.specs.RecordGrowth.{OneRecord}
+use Rattle.fetch_session.specs.declared.readiness.Found.{Found}
+use Rattle.fetch_session.specs.Lasting.{FoundLast, FoundLastIn, NewsLast, KeepsLeftIn, KeepsMailIn, ReadiesAndLasts, ReadyLasts, AllStayIn, IsSafe, IsSafeStore, LeavesMerged}
+use Rattle.fetch_session.specs.Readiness.{FindsIn, Unready, CausesUnready, FindsRefused, MboxUnready, Settles, UnreadyCause, merged_in, AreAsHeld, ChecksStore, HasPlan, IsIdle, Readies, Rests}
+use Rattle.fetch_session.specs.Record.{ReadAs, IsSecured, Reads, Keeps, Merges, record_state_in}
+use Rattle.fetch_rules.specs.Plan.{IsQuiet, planned, step_of}
+use Rattle.mail_store.specs.FlatFile.{Stored}
+use Rattle.mail_store.specs.Power.{LeavesNoMore}
+use Rattle.rc_file.specs.declared.settings.Settings.{Settings}
+use Rattle.fetch_session.specs.declared.fault.Fault.{Fault}
+use Rattle.fetch_session.specs.declared.fault.Fault.TheVariants.{BadSeen, NoMemory, SeenRefused, StoreRefused}
+use Rattle.fetch_session.specs.declared.fault.Why.TheVariants as why
+use Rattle.fetch_session.specs.declared.readiness.Ready.{Ready}
+use Rattle.std.proofs.Math.Bool.{or-true}
+use Rattle.std.proofs.lemmas.List.Elements.{recursion_from_All}
+use Rattle.fetch_rules.specs.Intents.{closed_rows}
+use Rattle.fetch_session.specs.Mbox.{AsksMbox, IsStoreFault}
+use Rattle.mail_store.specs.declared.fault.StoreFault.{StoreFault}
+use Rattle.mail_store.specs.declared.fault.StoreFault.TheVariants as refused
+use Rattle.fetch_session.proofs.TextLemmas.{asks_refused, held_same}
+use Rattle.std.proofs.lemmas.List.FromFn.{length-enumerate_from}
+
+-- ---- which ids stay fresh while others are stored
+
+-- a file under the name of an id makes that id held, and no other
+abbrev pub OneMore : Type 0
+OneMore = (account a b content : List ℕ) (maildir : Maildir) → IsAccountText account → IsLegalId a → IsLegalId b
+    → is_held account (with_file maildir (mail_file account a content)) b ≡ (is_held account maildir b || bytes_eq b a)
+
+still_free : OneMore → (account uid other : List ℕ) (a b : Maildir) → IsAccountText account → IsLegalId uid → IsLegalId other → other ≢ uid → MayGain (stem_of account uid) a b
+    → is_held account a other ≡ false → is_held account b other ≡ false
+still_free law account uid other a b text legal legal' apart grows free =
+    elim grows.came [
+      | inl same ↦ rw same free
+      | inr more ↦ rw more.1 (law account uid other more.0 a text legal legal' ∙ ap (λ (k : Bool). k || bytes_eq other uid) free
+          ∙ false_from_ne_true (bytes_eq other uid) (λ same. apart ((bytes_eq-Decides other uid).0 same)))
+    ]
+
+pub fresh_grows : OneMore → (account uid : List ℕ) (uids : List (List ℕ)) (a b : Maildir) → IsAccountText account → IsLegalId uid → AllByRecursion (λ (other : List ℕ). other ≢ uid) uids
+    → MayGain (stem_of account uid) a b → AreFresh account a uids → AreFresh account b uids
+fresh_grows law account uid [] a b text legal apart grows fresh = tt
+fresh_grows law account uid (x ∷ xs) a b text legal apart grows fresh =
+    (fresh.0, still_free law account uid x a b text legal fresh.0 apart.0 grows fresh.1, fresh.2, fresh_grows law account uid xs a b text legal apart.1 grows fresh.3)
+
+no_ids_deleting : (delete : Bool) (number : ℕ) → ids_ahead (deleting delete number) ≡ []
+no_ids_deleting true number = refl
+no_ids_deleting false number = refl
+
+pub ahead : (step : Step) (item : Item) (held : Bool) (later : List Task)
+    → ids_ahead (tasks_in step item held ++ later) ≡ ids_ahead (fetching step.retrieve held step.number item.uid item.size) ++ ids_ahead later
+ahead step item held later =
+    let front = fetching step.retrieve held step.number item.uid item.size in
+    flat_map-append ids_in (tasks_in step item held) later
+    ∙ ap (λ (l : List (List ℕ)). l ++ ids_ahead later) (flat_map-append ids_in front (deleting step.delete step.number))
+    ∙ append_assoc (ids_ahead front) (ids_ahead (deleting step.delete step.number)) (ids_ahead later)
+    ∙ ap (λ (l : List (List ℕ)). ids_ahead front ++ (l ++ ids_ahead later)) (no_ids_deleting step.delete step.number)
+
+pub no_item : Item
+no_item = record { uid = []; size = 0 }
+
+-- the i-th step, and the tasks after it
+abbrev pub step_at : List Step → ℕ → Step
+step_at steps i = get_or steps i (record { number = 0; retrieve = false; delete = false })
+
+abbrev pub later_at : List Step → List Item → List Bool → ℕ → List Task
+later_at steps items held i = tasks_planned (drop (i + 1) steps) (drop (i + 1) items) (drop (i + 1) held)
+
+-- the tasks from the i-th step on; what is done first with its message is given
+pub tasks_left : (steps : List Step) (items : List Item) (held : List Bool) (i : ℕ) (uid : List ℕ) (size : ℕ) (first : Task) → i < length items → length steps ≡ length items
+    → length held ≡ length items → uid ≡ (get_or items i no_item).uid → size ≡ (get_or items i no_item).size
+    → fetching (step_at steps i).retrieve (get_or held i false) (step_at steps i).number uid size ≡ first ∷ []
+    → tasks_planned (drop i steps) (drop i items) (drop i held) ≡ (first ∷ deleting (step_at steps i).delete (step_at steps i).number) ++ later_at steps items held i
+tasks_left steps items held i uid size first within all_steps all_flags u s is =
+    let next : suc i ≡ i + 1 = omega arith in
+    let of_steps = drop-cons steps i (record { number = 0; retrieve = false; delete = false }) (omega (arith, within, all_steps)) in
+    let of_items = drop-cons items i no_item within in
+    let of_held = drop-cons held i false (omega (arith, within, all_flags)) in
+    (λ j. tasks_planned (of_steps j) (of_items j) (of_held j))
+    ∙ (λ j. tasks_in (step_at steps i) (record { uid = sym u j; size = sym s j }) (get_or held i false) ++ tasks_planned (drop (next j) steps) (drop (next j) items) (drop (next j) held))
+    ∙ ap (λ (front : List Task). (front ++ deleting (step_at steps i).delete (step_at steps i).number) ++ later_at steps items held i) is
+
+-- ---- each id is stored once, and only if it isn't held
+
+has_item-last : (front : List Item) (item : Item) (uid : List ℕ) → has_item (front ++ item ∷ []) uid ≡ false → (has_item front uid ≡ false) × (uid ≢ item.uid)
+has_item-last front item uid none =
+    let parts = or_parts (has_item front uid) (bytes_eq uid item.uid || false) (sym (list_any-append (λ (i : Item). bytes_eq uid i.uid) front (item ∷ [])) ∙ none) in
+    let apart = or_parts (bytes_eq uid item.uid) false parts.1 in
+    (parts.0, λ same. true≢false (sym ((bytes_eq-Decides uid item.uid).1 same) ∙ apart.0))
+
+pub fetched_all : (P : List ℕ → Type 0) (retrieve held : Bool) (number : ℕ) (uid : List ℕ) (size : ℕ) → (retrieve ≡ true → P uid) → AllByRecursion P (ids_ahead (fetching retrieve held number uid size))
+fetched_all P true false number uid size p = (p refl, tt)
+fetched_all P _ _ number uid size p = tt
+
+not_in : (front : List Item) (steps : List Step) (items : List Item) (held : List Bool) → FetchesFirsts front steps items
+    → AllByRecursion (λ (id : List ℕ). has_item front id ≡ false) (ids_ahead (tasks_planned steps items held))
+not_in front (s ∷ ss) (i ∷ is) (h ∷ hs) firsts =
+    rw (ahead s i h (tasks_planned ss is hs)) (all_append (λ (id : List ℕ). has_item front id ≡ false) (ids_ahead (fetching s.retrieve h s.number i.uid i.size)) (ids_ahead (tasks_planned ss is hs))
+    (fetched_all (λ (id : List ℕ). has_item front id ≡ false) s.retrieve h s.number i.uid i.size firsts.0)
+    (all_weaker (λ (id : List ℕ). has_item (front ++ i ∷ []) id ≡ false) (λ (id : List ℕ). has_item front id ≡ false) (ids_ahead (tasks_planned ss is hs))
+    (λ id none. (has_item-last front i id none).0) (not_in (front ++ i ∷ []) ss is hs firsts.1)))
+not_in front _ _ _ firsts = tt
+
+fresh_head : (account : List ℕ) (maildir : Maildir) (retrieve held : Bool) (number size : ℕ) (uid : List ℕ) (ids : List (List ℕ)) → IsLegalId uid → held ≡ is_held account maildir uid
+    → AllByRecursion (λ (other : List ℕ). other ≢ uid) ids → AreFresh account maildir ids → AreFresh account maildir (ids_ahead (fetching retrieve held number uid size) ++ ids)
+fresh_head account maildir true false number size uid ids legal is apart fresh = (legal, sym is, apart, fresh)
+fresh_head account maildir _ _ number size uid ids legal is apart fresh = fresh
+
+pub fresh_firsts : (account : List ℕ) (maildir : Maildir) (front : List Item) (steps : List Step) (items : List Item) → FetchesFirsts front steps items
+    → AllByRecursion (λ (item : Item). IsLegalId item.uid) items → AreFresh account maildir (ids_ahead (tasks_planned steps items (flags_of account maildir items)))
+fresh_firsts account maildir front (s ∷ ss) (i ∷ is) firsts legal =
+    let later = tasks_planned ss is (flags_of account maildir is) in
+    rw (ahead s i (is_held account maildir i.uid) later) (fresh_head account maildir s.retrieve (is_held account maildir i.uid) s.number i.size i.uid (ids_ahead later) legal.0 refl
+    (all_weaker (λ (id : List ℕ). has_item (front ++ i ∷ []) id ≡ false) (λ (other : List ℕ). other ≢ i.uid) (ids_ahead later)
+    (λ id none. (has_item-last front i id none).1) (not_in (front ++ i ∷ []) ss is (flags_of account maildir is) firsts.1))
+    (fresh_firsts account maildir (front ++ i ∷ []) ss is firsts.1 legal.1))
+fresh_firsts account maildir front _ _ firsts legal = tt
+
+-- the flags are those of the Maildir, if there is one: none is held in an mboxrd file
+pub flags_same : {D F : Type 0} (disk : DiskGhosts D) (file : FileGhosts F) (store : Store D F) (account : List ℕ) (items : List Item)
+    → flags_in (target_of store account) (stores_of disk file store) items ≡ flags_of account (stores_of disk file store).maildir items
+flags_same disk file (InMaildir device) account items = refl
+flags_same disk file (InMbox device) account items = refl
+
+-- ---- messages that a Maildir holds and that the record doesn't show as delivered
+
+-- the flag of one item more
+pub flags_more : (f : List ℕ → Bool) (items : List Item) (i : ℕ) (flags new : List Bool) (uid : List ℕ) (flag : Bool)
+    → flags ≡ map (λ (item : Item). f item.uid) (take i items) → i < length items → HoldsAt (λ (item : Item). uid ≡ item.uid) items i
+    → flag ≡ f uid → new ≡ flags ++ flag ∷ [] → new ≡ map (λ (item : Item). f item.uid) (take (i + 1) items)
+flags_more f items i flags new uid flag before inside at is pushed =
+    let test : Item → Bool = λ item. f item.uid in
+    let item = get_or items i no_item in
+    pushed ∙ ap (λ xs. xs ++ flag ∷ []) before ∙ ap (λ b. map test (take i items) ++ b ∷ []) (is ∙ ap f (at no_item))
+    ∙ sym (map-append test (take i items) (item ∷ [])) ∙ ap (map test) (sym (take_more items i no_item inside))
+
+-- the items for which a flag is set are those that the rows don't show as delivered
+pub found_last : (account : List ℕ) (rows : List Row) (items : List Item) (flags : List Bool) (maildir : Maildir) (outlives : File → Type 0)
+    → flags ≡ map (λ (item : Item). not (is_delivered rows item.uid)) items → FoundOutlive account maildir outlives items flags → FoundLast account rows items maildir outlives
+found_last account rows [] flags maildir outlives is found = tt
+found_last account rows (item ∷ rest) flags maildir outlives is found = let f = rw is at found in (λ new held. f.0 (ap not new) held, found_last account rows rest _ maildir outlives refl f.1)
+
+-- a file of the record stands for the rows that were read
+pub news_found : OneRecord → {D F : Type 0} (disk : DiskGhosts D) (files : FileGhosts F) (was store : Store D F) (account : List ℕ) (content : Option (List ℕ)) (loaded : Loaded)
+    (items : List Item) (found : Found) (left : List File) → ReadAs content loaded → kind_of store ≡ kind_of was
+    → FindsIn (target_of was account) loaded.intent (left_in (stores_of disk files was) left) items (Ok found) (stores_of disk files store)
+    → FoundLastIn disk account loaded.rows items store
+    → NewsLast disk (target_of was account) content items (left_in (stores_of disk files was) left) store
+news_found one disk files (InMaildir device) (InMaildir now) account content loaded items found left read same finds last = λ held stood.
+    let rows = (one content loaded.rows held.rows loaded.intent held.intent (read_keeps content loaded read) stood).0 in
+    let maildir = ap (λ (s : Stores). s.maildir) finds.2 in
+    rw (maildir, rows) at last
+news_found one disk files (InMaildir device) (InMbox now) account content loaded items found left read same finds last = absurd (cc same)
+news_found one disk files (InMbox device) store account content loaded items found left read same finds last = tt
+
+-- ---- what outlives a loss of power once a record was made ready, or wasn't
+
+-- no file was taken away
+pub part_same : (files : List File) → IsPart files files
+part_same [] = refl
+part_same (f ∷ files) = inr (files, refl, part_same files)
+
+pub untaken : {Q : List File → Type 0} (files : List File) → Q files → (left : List File) × IsPart files left × Q left
+untaken files is = (files, part_same files, is)
+
+-- a record's file that couldn't be read or flushed has the same bytes
+pub misread_same : (old new : Stored) (loaded : Loaded) (fault : Fault) → Reads old loaded (Err fault) new → new.content ≡ old.content
+misread_same old new loaded SeenRefused is = ap (λ (s : Stored). s.content) is
+misread_same old new loaded (BadSeen line) is = ap (λ (s : Stored). s.content) is.3
+misread_same old new loaded NoMemory is = ap (λ (s : Stored). s.content) is
+misread_same old new loaded _ never = absurd never
+
+pub unsecured_same : (old new : Stored) (fault : Fault) → IsSecured old (Err fault) new → new.content ≡ old.content
+unsecured_same old new SeenRefused is = ap (λ (s : Stored). s.content) is
+unsecured_same old new _ never = absurd never
+
+module _ {D F : Type 0} (disk : DiskGhosts D) (files : FileGhosts F) where
+  -- ---- a Maildir
+
+  -- no name was told
+  pub left_same : (was store : Store D F) (left : List File) → KeepsMailIn disk was store → KeepsLeftIn disk files was left store
+  left_same was store left keeps = (λ name is. inl (keeps.0 name is), λ f is. inl (keeps.1 f is))
+
+  -- the store wasn't asked, and the record's file has the same bytes
+  pub unasked : {A B safe : Type 0} {settings : Settings} {items : List Item} {now : ℕ} {fault : Fault} {after : List Row} (was : Store D F) (from f : F) (target : Target) → A → B
+      → Unready target items now (stores_of disk files was) (files.stored from) fault (stores_of disk files was) (files.stored f) → LeavesNoMore (files.may_leave from) (files.may_leave f)
+      → (files.stored f).content ≡ (files.stored from).content
+      → A × B × AfterTakingIn (stores_of disk files was) (λ left. ReadiesAndLasts disk files safe was from settings target items now left (Err fault) after was f)
+  unasked was from f target a b why no_more same =
+      (a, b, untaken _ (record { readies = why; lasts = λ sure. record { mail = left_same was was _ (λ name is. is, λ one is. is); rows = inl (no_more, same) } }))
+
+  pub left_on : (was mid end : Store D F) (left : List File) → KeepsLeftIn disk files was left mid → KeepsMailIn disk mid end → KeepsLeftIn disk files was left end
+  left_on was mid end left first then = (
+    λ name is. ⊎_elim (λ stays. inl (then.0 name stays)) inr (first.0 name is),
+    λ f is. ⊎_elim (λ outlives. inl (then.1 f outlives)) inr (first.1 f is),
+  )
+
+  -- the files that are left are those that are there now
+  pub left_found : (was store : Store D F) (account : List ℕ) (intent : Option Intent) (items : List Item) (r : Result Found Fault) (left : List File)
+      → FindsIn (target_of was account) intent (left_in (stores_of disk files was) left) items r (stores_of disk files store)
+      → KeepsLeftIn disk files was (stores_of disk files store).maildir.files store → KeepsLeftIn disk files was left store
+  left_found (InMaildir device) store account intent items r left finds keeps =
+      subst (λ (fs : List File). KeepsLeftIn disk files (InMaildir device) fs store) (same r finds) keeps
+    where
+      same : (r : Result Found Fault) → FindsIn (AsFiles account) intent (left_in (in_maildir (disk.maildir device)) left) items r (stores_of disk files store)
+          → (stores_of disk files store).maildir.files ≡ left
+      same (Ok found) (held, stored, is) = ap (λ (s : Stores). s.maildir.files) is
+      same (Err (StoreRefused why.Missing)) is = ap (λ (m : Maildir). m.files) is.1
+      same (Err (StoreRefused why.Refused)) is = ap (λ (m : Maildir). m.files) is
+      same (Err NoMemory) is = ap (λ (m : Maildir). m.files) is
+      same (Err _) never = absurd never
+  left_found (InMbox device) store account intent items r left finds keeps = (λ name never. absurd never, λ f never. absurd never)
+
+  -- ---- what was made ready
+
+  -- the store wasn't asked what it holds
+  pub rest_lasts : (was store : Store D F) (from f : F) (target : Target) (items : List Item) (now : ℕ) (old : Stores) (r : Result Ready Fault) (steps : List Step)
+      → KeepsMailIn disk was store → LeavesNoMore (files.may_leave from) (files.may_leave f) → files.stored f ≡ files.stored from → All IsQuiet steps
+      → IfOk r (λ ready. ready.steps.items ≡ steps) → ReadyLasts disk files was from target items now old r store f
+  rest_lasts was store from f target items now old (Ok ready) steps keeps no_more same quiet are =
+      inl (subst (λ (ss : List Step). All IsQuiet ss) (sym are) quiet, record { mail = keeps; no_more = no_more; same = same })
+  rest_lasts was store from f target items now old (Err fault) steps keeps no_more same quiet are =
+      record { mail = left_same was store old.maildir.files keeps; rows = inl (no_more, ap (λ (s : Stored). s.content) same) }
+
+  -- the same if the record's file was read and flushed before
+  module _ (from mid f : F) (no_more : LeavesNoMore (files.may_leave from) (files.may_leave mid)) (same : files.stored mid ≡ files.stored from) where
+    ready_from : (was store : Store D F) (target : Target) (items : List Item) (now : ℕ) (old : Stores) (r : Result Ready Fault)
+        → ReadyLasts disk files was mid target items now old r store f → ReadyLasts disk files was from target items now old r store f
+    ready_from was store target items now old (Ok ready) (inl (quiet, un)) =
+        inl (quiet, record { mail = un.mail; no_more = λ left may. no_more left (un.no_more left may); same = un.same ∙ same })
+    ready_from was store target items now old (Ok ready) (inr (safe, stay, left, news)) =
+        inr (safe, stay, left, rw same at news)
+    ready_from was store target items now old (Err fault) lasts = record {
+      mail = lasts.mail;
+      rows = elim lasts.rows [
+        | inl (none, is) ↦ inl (λ left may. no_more left (none left may), is ∙ ap (λ (s : Stored). s.content) same)
+        | inr merge ↦ inr (record {
+          stay = merge.stay;
+          was = merge.was;
+          stood = rw same at merge.stood;
+          leaves = λ left may. ⊎_elim (λ before. inl (no_more left before)) inr (merge.leaves left may);
+          news = rw same at merge.news;
+        })
+      ];
+    }
+
+    pub readies_from : {safe sure : Type 0} {was store : Store D F} {settings : Settings} {target : Target} {items : List Item} {now : ℕ} {old : Stores} {r : Result Ready Fault}
+        {after : List Row} → (sure → safe) → ReadiesAndLasts disk files safe was mid settings target items now old r after store f → ReadiesAndLasts disk files sure was from settings target items now old r after store f
+    readies_from {safe} {sure} {was} {store} {settings} {target} {items} {now} {old} {r} {after} firm is =
+        record { readies = rw same at is.readies; lasts = λ s. ready_from was store target items now old r (is.lasts (firm s)) }
 
 -- ---- what was found
 
@@ -47,10 +289,6 @@ found_is : (target : Target) (store store' : Stores) (items : List Item) (was : 
     → (closed_rows found.stored was.rows was.intent ≡ rows_in target store was items) × (found.held.items ≡ flags_in target store items) × Settles target was items store store'
 found_is (AsFiles account) store store' items was found (held, stored, same) = (rw stored (not_whole was.rows was.intent), held, same)
 found_is AsEntries store store' items was found (bytes, is, stored, now, goes_on, held) = (rw (stored, is), held, (bytes, is, now, goes_on))
-
-settled_at_most : (items : List Item) (file : Stored) (store store' : Stores) (was : RecordState) → Keeps file.content was → Settles AsEntries was items store store' → IsSettledBy items file store.mbox store'.mbox
-settled_at_most items file store store' was kept (bytes, is, now, goes_on) =
-    inr (was, kept, inr (bytes, is, ap (λ (s : Stored). s.content) now))
 
 -- ---- nothing was planned
 
@@ -117,29 +355,25 @@ module _ {D F : Type 0} (disk : DiskGhosts D) (files : FileGhosts F) (was place 
   as_now : here ≡ merged_in (target_of was account) store state items now
   as_now = rw (is.1, is.0)
 
-  risen_cause : (files.stored from).failures < (files.stored f).failures → (t : Target)
-      → Settles t state items store (stores_of disk files place)
-      → CausesUnready t items SeenRefused store (files.stored from) (stores_of disk files place) (files.stored f)
-  risen_cause risen (AsFiles account) same = (risen, ap (λ (s : Stores). s.maildir) same)
-  risen_cause risen AsEntries same = (risen, settled_at_most items (files.stored from) store (stores_of disk files place) state kept same)
-
-  wants_cause : (t : Target) → Settles t state items store (stores_of disk files place)
+  -- why it isn't ready, if memory ran out, or if the record's file was refused
+  cause : (t : Target) → Settles t state items store (stores_of disk files place)
       → CausesUnready t items NoMemory store (files.stored from) (stores_of disk files place) (files.stored f)
-  wants_cause (AsFiles account) same = ap (λ (s : Stores). s.maildir) same
-  wants_cause AsEntries same = settled_at_most items (files.stored from) store (stores_of disk files place) state kept same
+      × ((files.stored from).failures < (files.stored f).failures → CausesUnready t items SeenRefused store (files.stored from) (stores_of disk files place) (files.stored f))
+  cause (AsFiles account) same = let is = ap (λ (s : Stores). s.maildir) same in (is, λ risen. (risen, is))
+  cause AsEntries (bytes, is, now, goes_on) = let settled = inr (state, kept, inr (bytes, is, ap (λ (s : Stored). s.content) now)) in (settled, λ risen. (risen, settled))
 
   -- it wasn't saved, or memory ran out for the plan
   unmade : (r : Result (Unit {0}) Fault) → Merges (files.stored from) state (none_open here) r (files.stored f)
       → Unready (target_of was account) items now store (files.stored from) (stop_of r) (stores_of disk files place) (files.stored f)
   unmade (Ok done) merges = record {
-    cause = wants_cause (target_of was account) is.2;
+    cause = (cause (target_of was account) is.2).0;
     content = inr (state, kept, is.2, inr (rw as_now at (steady_keeps (files.stored f).content (none_open here) merges.1)));
   }
   unmade (Err SeenRefused) merges = record {
-    cause = risen_cause (omega (arith, merges.0)) (target_of was account) is.2;
+    cause = (cause (target_of was account) is.2).1 (omega (arith, merges.0));
     content = inr (state, kept, is.2, rw as_now at merges.1);
   }
-  unmade (Err NoMemory) merges = record { cause = wants_cause (target_of was account) is.2; content = inl (ap (λ (s : Stored). s.content) merges) }
+  unmade (Err NoMemory) merges = record { cause = (cause (target_of was account) is.2).0; content = inl (ap (λ (s : Stored). s.content) merges) }
   unmade (Err _) never = absurd never
 
   module _ (law : OneRecord) {safe : Type 0} (kind : kind_of place ≡ kind_of was)
@@ -183,19 +417,88 @@ module _ {D F : Type 0} (disk : DiskGhosts D) (files : FileGhosts F) (was place 
 
 -- ---- every listed id has a row
 
-has_item-at : (front rest : List Item) (item : Item) → has_item (front ++ item ∷ rest) item.uid ≡ true
-has_item-at front rest item =
-    list_any-append (λ (i : Item). bytes_eq item.uid i.uid) front (item ∷ rest)
-    ∙ ap (λ (b : Bool). has_item front item.uid || (b || has_item rest item.uid)) ((bytes_eq-Decides item.uid item.uid).1 refl)
-    ∙ or-true (has_item front item.uid)
-
-all_listed : (rows : List Row) (items : List Item) → ((uid : List ℕ) → has_item items uid ≡ true → has_row rows uid ≡ true) → (front rest : List Item) → items ≡ front ++ rest
-    → AllByRecursion (λ (item : Item). has_row rows item.uid ≡ true) rest
-all_listed rows items each front [] split = tt
-all_listed rows items each front (item ∷ rest) split =
-    (each item.uid (subst (λ (l : List Item). has_item l item.uid ≡ true) (sym split) (has_item-at front rest item)), all_listed rows items each (front ++ item ∷ []) rest (split ∙ sym (append_assoc front (item ∷ []) rest)))
-
 pub all_have_rows : ((rows : List Row) (listing : List Item) (held : List Bool) (now : ℕ) (uid : List ℕ) → has_row (merged rows listing held now) uid ≡ (has_row rows uid || has_item listing uid))
     → (rows : List Row) (items : List Item) (held : List Bool) (now : ℕ) (after : List Row) → after ≡ merged rows items held now → AllByRecursion (λ (item : Item). has_row after item.uid ≡ true) items
-all_have_rows law rows items held now after is =
-    all_listed after items (λ uid listed. ap (λ (r : List Row). has_row r uid) is ∙ law rows items held now uid ∙ ap (λ (b : Bool). has_row rows uid || b) listed ∙ or-true (has_row rows uid)) [] items refl
+all_have_rows law rows items held now after is = recursion_from_All (λ (item : Item). has_row after item.uid ≡ true) items (λ k d inside.
+    let listed = list_any_at (λ (i : Item). bytes_eq (get_or items k d).uid i.uid) items k d inside ((bytes_eq-Decides (get_or items k d).uid (get_or items k d).uid).1 refl) in rw (is, law, listed) (or-true _))
+
+-- ---- what is ready if the store needn't be asked what it holds
+
+pub planned_length : (settings : Settings) (rows : List Row) (items : List Item) (now : ℕ) → length (planned settings rows items now) ≡ length items
+planned_length settings rows items now = length-map (numbered items) (step_of settings rows items now) ∙ length-enumerate_from 1 items
+
+-- steps that fetch nothing ask for the same, whatever is held
+pub quiet_same : (steps : List Step) (items : List Item) (xs ys : List Bool) → All IsQuiet steps → length xs ≡ length items → length ys ≡ length items → AreAsHeld steps items xs ys
+quiet_same (s ∷ ss) (i ∷ is) [] ys quiet ones others = absurd (omega (arith, ones))
+quiet_same (s ∷ ss) (i ∷ is) (x ∷ xs) [] quiet ones others = absurd (omega (arith, others))
+quiet_same (s ∷ ss) (i ∷ is) (x ∷ xs) (y ∷ ys) quiet ones others =
+    rw ((quiet 0 s (omega arith)).0, quiet_same ss is xs ys (λ k d inside. quiet (suc k) d (omega (arith, inside))) (omega (arith, ones)) (omega (arith, others)))
+quiet_same _ _ xs ys quiet ones others = refl
+
+flags_length : (target : Target) (store : Stores) (items : List Item) → length (flags_in target store items) ≡ length items
+flags_length (AsFiles account) store items = length-map items (λ (item : Item). is_held account store.maildir item.uid)
+flags_length AsEntries _ items = length-map items (λ (item : Item). false)
+
+-- ---- what was looked at
+
+-- there is no place
+pub no_place : (kind : Kind) (items : List Item) (old new : Stores) (refusal : StoreFault) (fault : Fault) → ChecksStore {T = Unit {0}} kind old (Err refusal) new → IsStoreFault refusal fault
+    → Rests kind old items (Err fault) new
+no_place Files items old new refused.Missing fault is told = rw told is.0
+no_place Files items old new refused.Refused fault is told = rw told is.0
+no_place Files items old new _ fault is told = absurd is.0
+no_place Entries items old new refusal fault is told = (asks_refused None old.mbox old.mbox new.mbox false items refusal fault (refl, refl) is.0 told, is.1)
+
+module _ {D F : Type 0} (disk : DiskGhosts D) (files : FileGhosts F) (account : List ℕ) where
+  -- a store that was only looked at
+  settles_same : (store : Store D F) (was : RecordState) (items : List Item) (new : Stores) → was.intent ≡ None → ChecksStore {T = Unit {0}} (kind_of store) (stores_of disk files store) (Ok tt) new
+      → Settles (target_of store account) was items (stores_of disk files store) new
+  settles_same (InMaildir device) was items new closed ((news, curs, same), others) = λ i. record { maildir = same i; mbox = others i }
+  settles_same (InMbox device) was items new closed (((bytes, goes_on), same), others) =
+      rw closed (bytes, goes_on.0, same ∙ held_same (files.stored device) bytes goes_on.0, goes_on.1)
+
+  rows_same : (store : Store D F) (was : RecordState) (items : List Item) → was.intent ≡ None → rows_in (target_of store account) (stores_of disk files store) was items ≡ was.rows
+  rows_same (InMaildir device) was items closed = refl
+  rows_same (InMbox device) was items closed = rw closed refl
+
+  pub rested : {settings : Settings} {items : List Item} {now : ℕ} (store : Store D F) (new : Stores) (file read : Stored) (loaded : Loaded) (r : Result Ready Fault) (steps : List Step)
+      → ((rows : List Row) (listing : List Item) (held : List Bool) (now : ℕ) → IsRecord rows → All (λ (item : Item). is_delivered rows item.uid ≡ true) listing → merged rows listing held now ≡ rows)
+      → loaded.intent ≡ None → Rests (kind_of store) (stores_of disk files store) items r new → ReadAs file.content loaded → read ≡ file → loaded.stale ≡ false
+      → IsIdle settings loaded.rows items now steps → IfOk r (λ ready. ready.steps.items ≡ steps) → IfOk r (λ ready. length ready.held.items ≡ length items)
+      → Readies settings (target_of store account) items now (stores_of disk files store) file r loaded.rows new read
+  rested {settings} {items} {now} store new file read loaded (Ok ready) steps law closed rests stood same fresh idle are counted =
+      let flags = flags_in (target_of store account) (stores_of disk files store) items in
+      record {
+        was = record_state_in loaded;
+        stood = read_keeps file.content loaded stood;
+        held = quiet_same ready.steps.items items ready.held.items flags (rw are idle.quiet) counted (flags_length (target_of store account) (stores_of disk files store) items);
+        rows = sym (law loaded.rows items flags now idle.is_record idle.known) ∙ ap (λ (rows : List Row). merged rows items flags now) (sym (rows_same store (record_state_in loaded) items closed));
+        steps = are ∙ idle.planned;
+        saved = rw same (read_steady file.content loaded stood fresh).0;
+        file_count = rw same;
+        settles = settles_same store (record_state_in loaded) items new closed rests;
+      }
+  rested {settings} {items} {now} (InMaildir device) new file read loaded (Err fault) steps law closed finds stood same fresh idle are counted =
+      not_found (AsFiles account) items now (in_maildir (disk.maildir device)) new file read loaded fault stood same finds
+  rested {settings} {items} {now} (InMbox device) new file read loaded (Err fault) steps law closed finds stood same fresh idle are counted =
+      not_found AsEntries items now (in_mbox (files.stored device)) new file read loaded fault stood same (subst (λ (intent : Option Intent). AsksMbox intent (files.stored device) items (Err fault) new.mbox) (sym closed) finds.0)
+
+-- ---- whatever came of it
+
+pub rest_has_plan : (settings : Settings) (items : List Item) (now : ℕ) (seen : Loaded) (r : Result Ready Fault) (steps : List Step)
+    → ((rows : List Row) (uid : List ℕ) → is_delivered rows uid ≡ true → has_row rows uid ≡ true) → IsIdle settings seen.rows items now steps → seen.intent ≡ None
+    → IfOk r (λ ready. ready.steps.items ≡ steps) → IfOk r (λ ready. length ready.held.items ≡ length items) → IfOk r (λ ready. HasPlan settings items now ready seen)
+rest_has_plan settings items now seen (Ok ready) steps law idle closed same held = record {
+  steps = same ∙ idle.planned;
+  lengths = (ap length (same ∙ idle.planned) ∙ planned_length settings seen.rows items now, held);
+  rows = recursion_from_All (λ (item : Item). has_row seen.rows item.uid ≡ true) items (λ k d inside. law seen.rows _ (idle.known k d inside));
+  closed = closed;
+}
+rest_has_plan settings items now seen (Err fault) steps law idle closed same held = tt
+
+pub rest_held : (r : Result Ready Fault) (target : Target) (steps : List Step) (items : List Item) (new : Stores) → All IsQuiet steps
+    → IfOk r (λ ready. ready.steps.items ≡ steps) → IfOk r (λ ready. length ready.held.items ≡ length items)
+    → IfOk r (λ ready. AreAsHeld ready.steps.items items ready.held.items (flags_in target new items))
+rest_held (Ok ready) target steps items new quiet same held =
+    quiet_same ready.steps.items items ready.held.items (flags_in target new items) (rw same quiet) held (flags_length target new items)
+rest_held (Err fault) target steps items new quiet same held = tt

@@ -24,7 +24,7 @@ ghost use Rattle.fetch_session.specs.Target.{AsEntries, in_mbox};
 ghost use Rattle.fetch_session.specs.Task.{stores};
 ghost use Rattle.fetch_session.specs.Work.{IsWritten};
 
-use crate::fault::{Cut, Fault, Why, broken, plain};
+use crate::fault::{Cut, Fault};
 use crate::record::{intend, remember, take_back};
 use crate::report::{ReportLine, note};
 use crate::work::Ledger;
@@ -35,18 +35,6 @@ use pop3_wire::{BodyReader, PIECE_ROOM, Wire};
 use std::alloc::Global;
 use std::hash::BuildHasher;
 use std::vec::Vec;
-
-/// The fault of a session whose store refused a call.
-pub(crate) fn refused(fault: StoreFault) -> Fault
-    ensures { IsStoreFault fault result }
-{
-    match fault {
-        StoreFault::Missing => Fault::StoreRefused(Why::Missing),
-        StoreFault::Refused => Fault::StoreRefused(Why::Refused),
-        StoreFault::NotMbox => Fault::StoreRefused(Why::NotMbox),
-        StoreFault::NoMemory => Fault::NoMemory,
-    }
-}
 
 /// Takes a text that is under way, and keeps it whole.
 fn read_text<W: Wire>(
@@ -65,13 +53,8 @@ fn read_text<W: Wire>(
     let mut text = Vec::new(alloc);
     let mut out = [0u8; PIECE_ROOM];
     'pieces: loop {
-        let piece = match client.next_piece(&mut rest, &mut out) {
-            Ok(piece) => piece,
-            Err(fault) => return Err(broken(fault)),
-        };
-        if let Err(_) = text.extend_from_slice(&out[..piece.put]) {
-            return Err(plain(Fault::NoMemory));
-        }
+        let piece = client.next_piece(&mut rest, &mut out)?;
+        text.extend_from_slice(&out[..piece.put])?;
         if piece.ended {
             return Ok(text);
         }
@@ -102,22 +85,15 @@ fn append_text<F: FlatFile, H: BuildHasher>(
     ensures lasts { F.sound mbox.new → F.sound ledger.new.file → F.is_sure mbox.old → IsSafe F.FlatFile ledger.old.file
         → OnOk result (IsSafe F.FlatFile mbox.new × IsSafe F.FlatFile ledger.new.file) }
 {
-    let edges = match mbox.edges() {
-        Ok(edges) => edges,
-        Err(fault) => return Err(refused(fault)),
-    };
+    let edges = mbox.edges()?;
     let len = entry_len(&text);
-    if let Err(fault) = intend(&mut ledger.file, &mut ledger.seen, uid, edges.size, len) {
-        return Err(fault);
-    }
+    intend(&mut ledger.file, &mut ledger.seen, uid, edges.size, len)?;
     match append_entry(mbox, text) {
         Ok(()) => Ok(()),
-        Err(EntryFault::Front) => Err(refused(StoreFault::Refused)),
+        Err(EntryFault::Front) => Err(Fault::from(StoreFault::Refused)),
         Err(EntryFault::Nothing(fault)) => {
-            if let Err(fault) = take_back(&mut ledger.file, &mut ledger.seen) {
-                return Err(fault);
-            }
-            Err(refused(fault))
+            take_back(&mut ledger.file, &mut ledger.seen)?;
+            Err(Fault::from(fault))
         }
     }
 }
@@ -151,24 +127,14 @@ pub(crate) fn take_into_mbox<W: Wire, F: FlatFile, H: BuildHasher>(
 {
     conversations_are_paced();
     marked_keeps_rows();
-    let body = match client.open(ledger.alloc, number) {
-        Ok(body) => body,
-        Err(fault) => return Err(broken(fault)),
-    };
-    let text = match read_text(ledger.alloc, client, body) {
-        Ok(text) => text,
-        Err(cut) => return Err(cut),
-    };
+    let body = client.open(ledger.alloc, number)?;
+    let text = read_text(ledger.alloc, client, body)?;
     if !is_whole(&text) {
-        return Err(plain(Fault::BadReply));
+        return Err(Cut::from(Fault::BadReply));
     }
     let length = text.len() as u64;
-    if let Err(fault) = append_text(mbox, ledger, uid, text) {
-        return Err(plain(fault));
-    }
+    append_text(mbox, ledger, uid, text)?;
     note(&mut ledger.lines, ReportLine::Delivered { number, length });
-    match remember(&mut ledger.file, &mut ledger.seen, uid) {
-        Ok(()) => Ok(()),
-        Err(fault) => Err(plain(fault)),
-    }
+    remember(&mut ledger.file, &mut ledger.seen, uid)?;
+    Ok(())
 }

@@ -10,8 +10,7 @@ ghost use Rattle.fetch_session.specs.Task.{says};
 ghost use Rattle.fetch_session.specs.Work.{IsReady};
 
 use crate::account::Store;
-use crate::appending::refused;
-use crate::fault::{Cut, Fault, broken, plain};
+use crate::fault::{Cut, Fault};
 use crate::report::{ReportLine, has_deletions};
 use crate::work::Work;
 use mail_store::{Edges, FlatFile, MaildirDisk, peek_ends};
@@ -40,10 +39,7 @@ fn look_again<D: MaildirDisk, F: FlatFile>(
     if !has_deletions(lines) {
         return Ok(None);
     }
-    match peek_ends(mbox) {
-        Ok(edges) => Ok(Some(edges)),
-        Err(fault) => Err(refused(fault)),
-    }
+    Ok(Some(peek_ends(mbox)?))
 }
 
 /// Quits. If a message was deleted, an mboxrd file is looked at before: if others have changed it since
@@ -64,12 +60,7 @@ pub fn end<W: Wire, D: MaildirDisk, F: FlatFile, H: BuildHasher>(
         client.old work.old (went result) client.new work.new }
 {
     conversations_are_paced();
-    let told = match look_again(&mut work.store, &work.ledger.lines) {
-        Ok(told) => told,
-        Err(fault) => return Err(plain(fault)),
-    };
-    match client.quit() {
-        Ok(()) => Ok(told),
-        Err(fault) => Err(broken(fault)),
-    }
+    let told = look_again(&mut work.store, &work.ledger.lines)?;
+    client.quit()?;
+    Ok(told)
 }

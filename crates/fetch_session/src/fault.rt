@@ -1,9 +1,8 @@
 //! A session's fault, and how a session is cut.
-ghost use Rattle.std.specs.Prelude.{◌≡◌, None};
-ghost use Rattle.fetch_session.specs.Fault.{cut_of, fault_of};
-
+use mail_store::StoreFault;
 use pop3_client::{Asked, ClientFault};
 use pop3_wire::BodyReader;
+use std::alloc::AllocError;
 
 /// Why a store refused a call.
 #[derive(Clone, Copy, Debug, PartialEq, Eq)]
@@ -72,6 +71,32 @@ impl From<ClientFault> for Fault {
     }
 }
 
+impl From<StoreFault> for Fault {
+    ghost use Rattle.fetch_session.specs.Mbox.{IsStoreFault};
+
+    ghost from_gives = { IsStoreFault };
+
+    fn from(fault: StoreFault) -> Fault {
+        match fault {
+            StoreFault::Missing => Fault::StoreRefused(Why::Missing),
+            StoreFault::Refused => Fault::StoreRefused(Why::Refused),
+            StoreFault::NotMbox => Fault::StoreRefused(Why::NotMbox),
+            StoreFault::NoMemory => Fault::NoMemory,
+        }
+    }
+}
+
+impl From<AllocError> for Fault {
+    ghost use Rattle.std.specs.Prelude.{◌≡◌};
+    ghost use Rattle.fetch_session.specs.declared.fault.Fault.TheVariants.{NoMemory};
+
+    ghost from_gives = { λ _ fault. fault ≡ NoMemory };
+
+    fn from(_error: AllocError) -> Fault {
+        Fault::NoMemory
+    }
+}
+
 /// Why a session is cut, and the reply that is under way then, if one is. No public call returns or
 /// takes a `Cut`: it is public because the definitions of what a session did use it.
 #[derive(Drop)]
@@ -83,15 +108,37 @@ pub struct Cut {
 }
 
 /// A cut with no reply under way.
-pub(crate) fn plain(fault: Fault) -> Cut
-    ensures { result ≡ cut_of fault None }
-{
-    Cut { fault, rest: None }
+impl From<Fault> for Cut {
+    ghost use Rattle.std.specs.Prelude.{◌≡◌, None};
+    ghost use Rattle.fetch_session.specs.Fault.{cut_of};
+
+    ghost from_gives = { λ fault cut. cut ≡ cut_of fault None };
+
+    fn from(fault: Fault) -> Cut {
+        Cut { fault, rest: None }
+    }
 }
 
 /// A cut because the conversation went wrong.
-pub(crate) fn broken(fault: ClientFault) -> Cut
-    ensures { result ≡ cut_of (fault_of fault) None }
-{
-    plain(Fault::from(fault))
+impl From<ClientFault> for Cut {
+    ghost use Rattle.std.specs.Prelude.{◌≡◌, None};
+    ghost use Rattle.fetch_session.specs.Fault.{cut_of, fault_of};
+
+    ghost from_gives = { λ fault cut. cut ≡ cut_of (fault_of fault) None };
+
+    fn from(fault: ClientFault) -> Cut {
+        Cut::from(Fault::from(fault))
+    }
+}
+
+impl From<AllocError> for Cut {
+    ghost use Rattle.std.specs.Prelude.{◌≡◌, None};
+    ghost use Rattle.fetch_session.specs.Fault.{cut_of};
+    ghost use Rattle.fetch_session.specs.declared.fault.Fault.TheVariants.{NoMemory};
+
+    ghost from_gives = { λ _ cut. cut ≡ cut_of NoMemory None };
+
+    fn from(_error: AllocError) -> Cut {
+        Cut::from(Fault::NoMemory)
+    }
 }

@@ -15,7 +15,7 @@ ghost use Rattle.fetch_session.specs.Session.{Proceeds, keeping, noted};
 ghost use Rattle.fetch_session.specs.Target.{AfterTakingIn, NoneBegun, target_of};
 
 use crate::account::Account;
-use crate::fault::{Cut, Fault, broken, plain};
+use crate::fault::Cut;
 use crate::listener::{Listener, Silent};
 use crate::opening::enter;
 use crate::plan::carry_out;
@@ -71,14 +71,9 @@ fn proceed<W: Wire, D: MaildirDisk, F: FlatFile, H: BuildHasher, L: Listener>(
     ensures heard { L.goes_on listener.old listener.new }
 {
     conversations_are_paced();
-    let listing = match enter(work.ledger.alloc, terms.settings, client) {
-        Ok(listing) => listing,
-        Err(fault) => return Err(broken(fault)),
-    };
+    let listing = enter(work.ledger.alloc, terms.settings, client)?;
     counts.total = listing.len();
-    if let Err(_) = work.ledger.lines.reserve(2 * listing.len() as usize) {
-        return Err(plain(Fault::NoMemory));
-    }
+    work.ledger.lines.reserve(2 * listing.len() as usize)?;
     carry_out(client, work, terms, &listing, &mut counts.skipped, listener)
 }
 

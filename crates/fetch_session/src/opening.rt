@@ -30,12 +30,7 @@ pub(crate) fn enter<W: Wire>(
     turns_join();
     let name = settings.username.as_bytes();
     let password = settings.password.as_bytes();
-    if let Err(fault) = client.log_in(alloc, name, password) {
-        return Err(fault);
-    }
-    let messages = match client.count() {
-        Ok(messages) => messages,
-        Err(fault) => return Err(fault),
-    };
+    client.log_in(alloc, name, password)?;
+    let messages = client.count()?;
     client.list(alloc, messages)
 }

@@ -13,7 +13,7 @@ ghost use Rattle.fetch_session.specs.Plan.{Carries};
 ghost use Rattle.fetch_session.specs.Report.{HasRoom, none_skipped};
 
 use crate::ending::end;
-use crate::fault::{Cut, plain};
+use crate::fault::Cut;
 use crate::listener::Listener;
 use crate::message_preview::skips_of;
 use crate::readiness::{Ready, prepare};
@@ -56,10 +56,7 @@ pub fn carry_out<W: Wire, D: MaildirDisk, F: FlatFile, H: BuildHasher, L: Listen
 {
     turns_join();
     firsts_are_fetched();
-    let ready = match prepare(work, terms, listing) {
-        Ok(ready) => ready,
-        Err(fault) => return Err(plain(fault)),
-    };
+    let ready = prepare(work, terms, listing)?;
     let Ready { held, steps } = ready;
     *skipped = skips_of(terms, &work.ledger.seen, listing, &steps);
     let plan = Planned {
@@ -68,11 +65,7 @@ pub fn carry_out<W: Wire, D: MaildirDisk, F: FlatFile, H: BuildHasher, L: Listen
         held: &held,
     };
     tell_plan(work.ledger.alloc, terms, &work.ledger.seen, plan, listener);
-    if let Err(cut) = do_steps(client, work, terms.account, plan, listener) {
-        return Err(cut);
-    }
-    match end(client, work) {
-        Ok(_) => Ok(()),
-        Err(cut) => Err(cut),
-    }
+    do_steps(client, work, terms.account, plan, listener)?;
+    end(client, work)?;
+    Ok(())
 }

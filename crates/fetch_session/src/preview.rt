@@ -12,8 +12,7 @@ ghost use Rattle.fetch_session.specs.Session.{keeping};
 ghost use Rattle.fetch_session.specs.Target.{AfterTakingIn, NoneBegun, is_sound, kind_of, none_held, stores_of, target_of};
 
 use crate::account::{Account, Store};
-use crate::appending::refused;
-use crate::fault::{Cut, Fault, broken, plain};
+use crate::fault::{Cut, Fault};
 use crate::message_preview::{MessagePreview, message_previews};
 use crate::opening::enter;
 use crate::readiness::{ask_held, read};
@@ -60,9 +59,7 @@ fn none_held(alloc: Global, listing: &Listing, unsettled: bool) -> Result<Looked
     ensures unsettled { IfOk result (λ looked. looked.unsettled ≡ unsettled) }
     ensures fault { IfErr result (λ fault. fault ≡ Fault.NoMemory) }
 {
-    let Ok(held) = vec![in alloc; false; listing.len() as usize] else {
-        return Err(Fault::NoMemory);
-    };
+    let held = vec![in alloc; false; listing.len() as usize]?;
     Ok(Looked { held, unsettled })
 }
 
@@ -81,9 +78,7 @@ fn look_at_mbox<F: FlatFile, H: BuildHasher>(
     let None = seen.intent() else {
         return none_held(alloc, listing, true);
     };
-    if let Err(fault) = peek_mbox(mbox) {
-        return Err(refused(fault));
-    }
+    peek_mbox(mbox)?;
     none_held(alloc, listing, false)
 }
 
@@ -104,13 +99,10 @@ fn look<D: MaildirDisk, F: FlatFile, H: BuildHasher>(
         left listing.now result (stores_of D.MaildirDisk F.FlatFile store.new)) }
 {
     match store {
-        Store::Maildir(disk) => match ask_held(alloc, disk, account, listing) {
-            Ok(held) => Ok(Looked {
-                held,
-                unsettled: false,
-            }),
-            Err(fault) => Err(fault),
-        },
+        Store::Maildir(disk) => Ok(Looked {
+            held: ask_held(alloc, disk, account, listing)?,
+            unsettled: false,
+        }),
         Store::Mboxrd(mbox) => look_at_mbox(alloc, mbox, seen, listing),
     }
 }
@@ -161,20 +153,13 @@ fn preview_work<D: MaildirDisk, F: FlatFile, H: BuildHasher>(
         (target_of store.old terms.entry.account.now) listing.now terms.entry.now (keeping left (F.stored file.old)) result
         (keeping (stores_of D.MaildirDisk F.FlatFile store.new) (F.stored file.new))) }
 {
-    if let Err(fault) = read(alloc, file, seen) {
-        return Err(fault);
-    }
-    let looked = match look(alloc, store, seen, terms.account, listing) {
-        Ok(looked) => looked,
-        Err(fault) => return Err(fault),
-    };
-    match preview_merged(alloc, terms, seen, listing, &looked.held) {
-        Ok(message_previews) => Ok(WorkPreview {
-            unsettled: looked.unsettled,
-            message_previews,
-        }),
-        Err(_) => Err(Fault::NoMemory),
-    }
+    read(alloc, file, seen)?;
+    let looked = look(alloc, store, seen, terms.account, listing)?;
+    let message_previews = preview_merged(alloc, terms, seen, listing, &looked.held)?;
+    Ok(WorkPreview {
+        unsettled: looked.unsettled,
+        message_previews,
+    })
 }
 
 /// Logs in, tells what would be done with the listed messages, and quits, up to the first fault.
@@ -199,32 +184,23 @@ fn preview_session<W: Wire, D: MaildirDisk, F: FlatFile, H: BuildHasher>(
         (keeping left (F.stored work.old.ledger.file)) result (place_of W.Wire client.new)
         (keeping (stores_of D.MaildirDisk F.FlatFile work.new.store) (F.stored work.new.ledger.file)) (told_in preview.new))) }
 {
-    let listing = match enter(work.ledger.alloc, terms.settings, client) {
-        Ok(listing) => listing,
-        Err(fault) => return Err(broken(fault)),
-    };
+    let listing = enter(work.ledger.alloc, terms.settings, client)?;
     preview.total = listing.len();
-    let work_preview = match preview_work(
+    let WorkPreview {
+        unsettled,
+        message_previews,
+    } = preview_work(
         work.ledger.alloc,
         terms,
         &mut work.store,
         &mut work.ledger.file,
         &mut work.ledger.seen,
         &listing,
-    ) {
-        Ok(work_preview) => work_preview,
-        Err(fault) => return Err(plain(fault)),
-    };
-    let WorkPreview {
-        unsettled,
-        message_previews,
-    } = work_preview;
+    )?;
     preview.unsettled = unsettled;
     preview.message_previews = message_previews;
-    match client.quit() {
-        Ok(()) => Ok(()),
-        Err(fault) => Err(broken(fault)),
-    }
+    client.quit()?;
+    Ok(())
 }
 
 /// Tells what a run would do, over a client with nothing waiting.

@@ -19,7 +19,6 @@ ghost use Rattle.fetch_session.specs.Readiness.{AreAsHeld, ChecksBoth, ChecksSto
 ghost use Rattle.fetch_session.specs.Record.{Gets, Reads, ReadAs, Merges, IsLineFault, IsSecured, Steady, bytes_in, record_state_in};
 
 use crate::account::Store;
-use crate::appending::refused;
 use crate::fault::Fault;
 use crate::record::{grow, save};
 use crate::terms::Terms;
@@ -91,10 +90,7 @@ pub(crate) fn read<F: FlatFile, H: BuildHasher>(
     ensures keeps { F.sound file.new → LeavesNoMore (F.may_leave file.old) (F.may_leave file.new) }
     ensures sure { F.sound file.new → F.is_sure file.old → F.is_sure file.new }
 {
-    let bytes = match load(alloc, file) {
-        Ok(bytes) => bytes,
-        Err(fault) => return Err(fault),
-    };
+    let bytes = load(alloc, file)?;
     match seen.reread(&bytes) {
         Ok(()) => Ok(bytes.is_empty()),
         Err(fault) => Err(line_of(fault)),
@@ -128,10 +124,7 @@ pub(crate) fn ask_held<D: MaildirDisk>(
         (D.stays disk.old) (D.outlives disk.old) (D.stays disk.new) (D.outlives disk.new)
         × OnOk result (AllStay (D.maildir disk.new) (D.stays disk.new)) }
 {
-    match held(alloc, disk, account, listing) {
-        Ok(flags) => Ok(flags),
-        Err(fault) => Err(refused(fault)),
-    }
+    Ok(held(alloc, disk, account, listing)?)
 }
 
 /// For each message, whether the record doesn't show it as delivered.
@@ -166,13 +159,8 @@ fn find_held<D: MaildirDisk, H: BuildHasher>(
         × OnOk result (AllStay (D.maildir disk.new) (D.stays disk.new)
         × FoundLast account.now seen.now.rows listing.now (D.maildir disk.new) (D.outlives disk.new)) }
 {
-    let Ok(flags) = undelivered(alloc, seen, listing) else {
-        return Err(Fault::NoMemory);
-    };
-    match flush_held(alloc, disk, account, listing, &flags) {
-        Ok(flags) => Ok(flags),
-        Err(fault) => Err(refused(fault)),
-    }
+    let flags = undelivered(alloc, seen, listing)?;
+    Ok(flush_held(alloc, disk, account, listing, &flags)?)
 }
 
 /// Settles the open intent of the record in the mboxrd file, by the size that is listed for its
@@ -191,10 +179,7 @@ fn settle<F: FlatFile, H: BuildHasher>(
         return Ok(false);
     };
     let listed = listed_size(listing, intent.uid);
-    match settle_file(alloc, mbox, intent.start, intent.len, listed) {
-        Ok(whole) => Ok(whole),
-        Err(fault) => Err(refused(fault)),
-    }
+    Ok(settle_file(alloc, mbox, intent.start, intent.len, listed)?)
 }
 
 /// Settles the mboxrd file, and checks whether an entry may follow it. No message is held, except
@@ -210,16 +195,9 @@ fn ask_mbox<F: FlatFile, H: BuildHasher>(
         × AsksMbox seen.now.intent (F.stored mbox.old) listing.now result (F.stored mbox.new) }
     ensures lasts { F.sound mbox.new → F.is_sure mbox.old → OnOk result (IsSafe F.FlatFile mbox.new) }
 {
-    let stored = match settle(alloc, mbox, seen, listing) {
-        Ok(stored) => stored,
-        Err(fault) => return Err(fault),
-    };
-    if let Err(fault) = check_mbox(mbox) {
-        return Err(refused(fault));
-    }
-    let Ok(held) = vec![in alloc; false; listing.len() as usize] else {
-        return Err(Fault::NoMemory);
-    };
+    let stored = settle(alloc, mbox, seen, listing)?;
+    check_mbox(mbox)?;
+    let held = vec![in alloc; false; listing.len() as usize]?;
     Ok(Found { held, stored })
 }
 
@@ -249,13 +227,10 @@ fn ask_store<D: MaildirDisk, F: FlatFile, H: BuildHasher>(
         × FoundLastIn D.MaildirDisk account.now seen.now.rows listing.now store.new) }
 {
     match store {
-        Store::Maildir(disk) => match find_held(alloc, disk, seen, account, listing) {
-            Ok(held) => Ok(Found {
-                held,
-                stored: false,
-            }),
-            Err(fault) => Err(fault),
-        },
+        Store::Maildir(disk) => Ok(Found {
+            held: find_held(alloc, disk, seen, account, listing)?,
+            stored: false,
+        }),
         Store::Mboxrd(mbox) => ask_mbox(alloc, mbox, seen, listing),
     }
 }
@@ -288,9 +263,7 @@ fn take_in<F: FlatFile, H: BuildHasher>(
         × OnOk result (IsSafe F.FlatFile file.new) }
 {
     seen.close(found.stored);
-    let Ok(group) = seen.merge_rows(listing, &found.held, now) else {
-        return Err(Fault::NoMemory);
-    };
+    let group = seen.merge_rows(listing, &found.held, now)?;
     if seen.needs_rewrite() {
         return save(file, seen);
     }
@@ -368,12 +341,8 @@ fn rest<D: MaildirDisk, F: FlatFile>(
         (stores_of D.MaildirDisk F.FlatFile store.new) }
     ensures keeps { is_sound D.MaildirDisk F.FlatFile store.new → KeepsMailIn D.MaildirDisk store.old store.new }
 {
-    if let Err(fault) = check_store(store) {
-        return Err(refused(fault));
-    }
-    let Ok(held) = vec![in alloc; false; listing.len() as usize] else {
-        return Err(Fault::NoMemory);
-    };
+    check_store(store)?;
+    let held = vec![in alloc; false; listing.len() as usize]?;
     Ok(Ready { held, steps })
 }
 
@@ -403,27 +372,20 @@ fn prepare_by_store<D: MaildirDisk, F: FlatFile, H: BuildHasher>(
     listed_has_row();
     files_stand_for_one_record();
     let alloc = work.ledger.alloc;
-    let found = match ask_store(
+    let found = ask_store(
         alloc,
         &mut work.store,
         &work.ledger.seen,
         terms.account,
         listing,
-    ) {
-        Ok(found) => found,
-        Err(fault) => return Err(fault),
-    };
+    )?;
     let Ledger { file, seen, .. } = &mut work.ledger;
-    if let Err(fault) = take_in(file, seen, listing, &found, terms.now, is_new) {
-        return Err(fault);
-    }
-    match plan(alloc, terms.settings, seen, listing, terms.now) {
-        Ok(steps) => Ok(Ready {
-            held: found.held,
-            steps,
-        }),
-        Err(_) => Err(Fault::NoMemory),
-    }
+    take_in(file, seen, listing, &found, terms.now, is_new)?;
+    let steps = plan(alloc, terms.settings, seen, listing, terms.now)?;
+    Ok(Ready {
+        held: found.held,
+        steps,
+    })
 }
 
 /// Reads the record, settles its open intent, merges the listing and what the store holds of it,
@@ -452,17 +414,10 @@ pub fn prepare<D: MaildirDisk, F: FlatFile, H: BuildHasher>(
     known_listings_change_nothing();
     let alloc = work.ledger.alloc;
     let Ledger { file, seen, .. } = &mut work.ledger;
-    let is_new = match read(alloc, file, seen) {
-        Ok(is_new) => is_new,
-        Err(fault) => return Err(fault),
-    };
-    match idle_steps(alloc, terms, seen, listing) {
-        Ok(Some(steps)) => return rest(alloc, &mut work.store, listing, steps),
-        Ok(None) => {}
-        Err(_) => return Err(Fault::NoMemory),
+    let is_new = read(alloc, file, seen)?;
+    if let Some(steps) = idle_steps(alloc, terms, seen, listing)? {
+        return rest(alloc, &mut work.store, listing, steps);
     }
-    if let Err(fault) = secure(file) {
-        return Err(fault);
-    }
+    secure(file)?;
     prepare_by_store(work, terms, listing, is_new)
 }

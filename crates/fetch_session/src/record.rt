@@ -25,9 +25,7 @@ pub(crate) fn save<F: FlatFile, H: BuildHasher>(file: &mut F, seen: &Seen<H>) ->
     ensures lasts { F.sound file.new → OnOk result (IsSafe F.FlatFile file.new) }
 {
     bytes_stand();
-    let Ok(bytes) = seen.bytes() else {
-        return Err(Fault::NoMemory);
-    };
+    let bytes = seen.bytes()?;
     match file.replace(&bytes) {
         Ok(()) => Ok(()),
         Err(_) => Err(Fault::SeenRefused),
@@ -81,9 +79,7 @@ pub(crate) fn intend<F: FlatFile, H: BuildHasher>(
         × (IsSafe F.FlatFile file.old → ((others : List Row) → Leaves F.FlatFile file.new (AreLeft seen.old.rows others))) }
     ensures lasts { F.sound file.new → IsSafe F.FlatFile file.old → OnOk result (IsSafe F.FlatFile file.new) }
 {
-    let Ok(line) = seen.intend(uid, start, len) else {
-        return Err(Fault::NoMemory);
-    };
+    let line = seen.intend(uid, start, len)?;
     grow(file, &line)
 }
 
@@ -103,9 +99,7 @@ pub(crate) fn take_back<F: FlatFile, H: BuildHasher>(
 {
     bytes_stand();
     seen.close(false);
-    let Ok(bytes) = seen.bytes() else {
-        return Err(Fault::NoMemory);
-    };
+    let bytes = seen.bytes()?;
     let _ = file.replace(&bytes);
     Ok(())
 }
@@ -128,8 +122,6 @@ pub(crate) fn remember<F: FlatFile, H: BuildHasher>(
         × (IsSafe F.FlatFile file.old → Leaves F.FlatFile file.new (AreLeft seen.old.rows (marked seen.old.rows uid.now))) }
     ensures lasts { F.sound file.new → IsSafe F.FlatFile file.old → OnOk result (IsSafe F.FlatFile file.new) }
 {
-    let Ok(group) = seen.mark_rows(uid) else {
-        return Err(Fault::NoMemory);
-    };
+    let group = seen.mark_rows(uid)?;
     grow(file, &group)
 }

@@ -14,7 +14,7 @@ ghost use Rattle.pop3_wire.specs.Link.{WhereSound};
 
 use crate::account::Store;
 use crate::appending::take_into_mbox;
-use crate::fault::{Cut, broken};
+use crate::fault::Cut;
 use crate::listener::Listener;
 use crate::report::{ReportLine, note};
 use crate::storing::{reread, take_into_maildir};
@@ -95,13 +95,9 @@ fn delete<W: Wire>(
         (scene (place_of W.Wire client.new) store file rows lines.new.items)) }
 {
     conversations_are_paced();
-    match client.delete(alloc, number) {
-        Ok(()) => {
-            note(lines, ReportLine::Deleted { number });
-            Ok(())
-        }
-        Err(fault) => Err(broken(fault)),
-    }
+    client.delete(alloc, number)?;
+    note(lines, ReportLine::Deleted { number });
+    Ok(())
 }
 
 /// Does one task.

@@ -24,7 +24,7 @@ ghost use Rattle.fetch_session.specs.Target.{AsFiles, Stores, Target, in_maildir
 ghost use Rattle.fetch_session.specs.Task.{rereads, stores};
 ghost use Rattle.fetch_session.specs.Work.{IsWritten};
 
-use crate::fault::{Cut, Fault, Why, broken, plain};
+use crate::fault::{Cut, Fault, Why};
 use crate::record::remember;
 use crate::report::{ReportLine, note};
 use crate::work::Ledger;
@@ -131,7 +131,7 @@ pub(crate) fn store_text<W: Wire, D: MaildirDisk>(
             Ok(piece) => piece,
             Err(fault) => {
                 disk.abandon();
-                return Err(broken(fault));
+                return Err(Cut::from(fault));
             }
         };
         if let Err(fault) = put_piece(disk, &out[..piece.put]) {
@@ -170,10 +170,7 @@ pub(crate) fn pass_text<W: Wire>(
     let mut length = 0u64;
     let mut out = [0u8; PIECE_ROOM];
     'pieces: loop {
-        let piece = match client.next_piece(&mut rest, &mut out) {
-            Ok(piece) => piece,
-            Err(fault) => return Err(fault),
-        };
+        let piece = client.next_piece(&mut rest, &mut out)?;
         length += piece.put as u64;
         if piece.ended {
             return Ok(length);
@@ -198,17 +195,10 @@ pub(crate) fn reread<W: Wire>(
         (scene (place_of W.Wire client.new) store file rows lines.new.items)) }
 {
     conversations_are_paced();
-    let body = match client.open(alloc, number) {
-        Ok(body) => body,
-        Err(fault) => return Err(broken(fault)),
-    };
-    match pass_text(client, body) {
-        Ok(length) => {
-            note(lines, ReportLine::Held { number, length });
-            Ok(())
-        }
-        Err(fault) => Err(broken(fault)),
-    }
+    let body = client.open(alloc, number)?;
+    let length = pass_text(client, body)?;
+    note(lines, ReportLine::Held { number, length });
+    Ok(())
 }
 
 /// Takes one text: it is read, stored in the Maildir and marked.
@@ -249,21 +239,10 @@ pub(crate) fn take_into_maildir<W: Wire, D: MaildirDisk, F: FlatFile, H: BuildHa
     conversations_are_paced();
     marked_keeps_rows();
     unheld_ids_are_not_there();
-    let stem = match file_stem(ledger.alloc, account, uid) {
-        Ok(stem) => stem,
-        Err(_) => return Err(plain(Fault::NoMemory)),
-    };
-    let body = match client.open(ledger.alloc, number) {
-        Ok(body) => body,
-        Err(fault) => return Err(broken(fault)),
-    };
-    let length = match store_text(client, disk, stem, body) {
-        Ok(length) => length,
-        Err(cut) => return Err(cut),
-    };
+    let stem = file_stem(ledger.alloc, account, uid)?;
+    let body = client.open(ledger.alloc, number)?;
+    let length = store_text(client, disk, stem, body)?;
     note(&mut ledger.lines, ReportLine::Delivered { number, length });
-    match remember(&mut ledger.file, &mut ledger.seen, uid) {
-        Ok(()) => Ok(()),
-        Err(fault) => Err(plain(fault)),
-    }
+    remember(&mut ledger.file, &mut ledger.seen, uid)?;
+    Ok(())
 }

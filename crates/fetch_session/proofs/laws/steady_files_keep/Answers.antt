@@ -1,4 +1,4 @@
-use Rattle.fetch_session.proofs.RecordLemmas.{steady_keeps}
+use Rattle.fetch_session.proofs.SceneLemmas.{steady_keeps}
 use Rattle.fetch_session.proofs.laws.steady_files_keep.Goals as goal
 
 pub returns : goal.returns

@@ -1,4 +1,4 @@
-use Rattle.fetch_session.proofs.StoppingLemmas.{stopping_cuts_short}
+use Rattle.fetch_session.proofs.SceneLemmas.{stopping_cuts_short}
 use Rattle.fetch_session.proofs.laws.stopping_cuts_short.Goals as goal
 
 pub returns : goal.returns

@@ -1,4 +1,4 @@
-use Rattle.fetch_session.proofs.StoppingLemmas.{unsaved_keeps}
+use Rattle.fetch_session.proofs.SceneLemmas.{unsaved_keeps}
 use Rattle.fetch_session.proofs.laws.unsaved_files_keep.Goals as goal
 
 pub returns : goal.returns

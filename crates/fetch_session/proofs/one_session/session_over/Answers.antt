@@ -2,10 +2,9 @@ use Rattle.std.proofs.Common.{ℕ, List, Ok, Err, refl, ap}
 use Rattle.pop3_client.specs.Client.{place_of}
 use Rattle.fetch_session.specs.Session.{noted}
 use Rattle.fetch_session.specs.Target.{target_of}
-use Rattle.fetch_session.proofs.IntakeLemmas.{cut_within, ended_within}
+use Rattle.fetch_session.proofs.TalkLemmas.{ended_within, left_alone, took_leaving, took_less}
 use Rattle.fetch_session.proofs.ReadyLemmas.{followed}
 use Rattle.fetch_session.proofs.SessionLemmas.{left_session}
-use Rattle.fetch_session.proofs.RefusalLemmas.{left_alone}
 use Rattle.fetch_session.proofs.one_session.session_over.Goals as goal
 
 pub returns-in-Err-clause-session : goal.returns-in-Err-clause-session
@@ -15,8 +14,8 @@ returns-in-Err-clause-session g c = λ w d f.
     let done = c.proceed.new in
     let inside = c.account.inside in
     rw (← c.account.view_is) (followed went went.0 (g.met.W.Wire.leads_on _ _ _ went.3 says.1) (λ left is.
-    left_session (target_of inside.work.store inside.id) c.args.client.now.reader (Err c.in-Err.cut) (place_of g.W.Wire done.client) (noted done.counts.total done.counts.skipped done.work.ledger.lines.items)
-    (ap (λ (digits : List ℕ). target_of inside.work.store digits) c.account.invariant.1) c.requires is (place_of g.W.Wire c.leave.new.client, says.2, refl) (rw c.replace-lines.ensures.value at c.reported.ensures)))
+    left_session _ _ (Err c.in-Err.cut) _ (noted done.counts.total done.counts.skipped done.work.ledger.lines.items) (ap (λ (digits : List ℕ). target_of inside.work.store digits) c.account.invariant.1)
+    c.requires is (place_of g.W.Wire c.leave.new.client, says.2, refl) (rw c.replace-lines.ensures.value at c.reported.ensures)))
 
 pub returns-clause-session : goal.returns-clause-session
 returns-clause-session g c = λ w d f.
@@ -24,21 +23,19 @@ returns-clause-session g c = λ w d f.
     let done = c.proceed.new in
     let inside = c.account.inside in
     rw (← c.account.view_is) (followed went went.0 went.3 (λ left is.
-    left_session (target_of inside.work.store inside.id) c.args.client.now.reader (Ok tt) (place_of g.W.Wire done.client) (noted done.counts.total done.counts.skipped done.work.ledger.lines.items)
-    (ap (λ (digits : List ℕ). target_of inside.work.store digits) c.account.invariant.1) c.requires is refl (rw c.replace-lines-2.ensures.value at c.reported-2.ensures)))
+    left_session _ _ (Ok tt) _ (noted done.counts.total done.counts.skipped done.work.ledger.lines.items) (ap (λ (digits : List ℕ). target_of inside.work.store digits) c.account.invariant.1)
+    c.requires is refl (rw c.replace-lines-2.ensures.value at c.reported-2.ensures)))
 
 pub returns-in-Err-clause-bounded : goal.returns-in-Err-clause-bounded
 returns-in-Err-clause-bounded g c = λ w.
     let says = c.leave.ensures.leaves w in
-    let took = c.in-Err.ensures.link.took says.0 in
-    rw c.reported.ensures.total_is (cut_within c.conversations_are_paced.ensures c.proceed.new.counts.total (g.W.Wire.history c.args.client.now.wire.now) c.in-Err.cut
-    (place_of g.W.Wire c.proceed.new.client) (place_of g.W.Wire c.leave.new.client) (rw c.requires at took.1) says.2 (rw c.waiting.ensures.value at c.waiting.ensures.short))
+    let (before, took, small) = rw c.requires at (c.in-Err.ensures.link.took says.0).1 in
+    rw c.reported.ensures.total_is (ended_within c.proceed.new.counts.total _ _ (took_less (took_leaving c.conversations_are_paced.ensures before c.in-Err.cut.fault c.in-Err.cut.rest _ _ _ took says.2) small) (rw c.waiting.ensures.value at c.waiting.ensures.short))
 
 pub returns-clause-bounded : goal.returns-clause-bounded
 returns-clause-bounded g c = λ w.
     let took = c.in_default.ensures.link.took w in
-    rw c.reported-2.ensures.total_is (ended_within c.proceed.new.counts.total (g.W.Wire.history c.args.client.now.wire.now) (place_of g.W.Wire c.proceed.new.client)
-    (rw c.requires at took.1) (rw c.waiting-2.ensures.value at c.waiting-2.ensures.short))
+    rw c.reported-2.ensures.total_is (ended_within c.proceed.new.counts.total _ _ (rw c.requires at took.1) (rw c.waiting-2.ensures.value at c.waiting-2.ensures.short))
 
 pub returns-in-Err-clause-counted : goal.returns-in-Err-clause-counted
 returns-in-Err-clause-counted g c =

@@ -1,18 +1,18 @@
-use Rattle.pop3_client.specs.Client.{place_of}
-use Rattle.fetch_session.proofs.LinkLemmas.{in_words, and_then, and_then_two}
-use Rattle.fetch_session.proofs.OpeningLemmas.{not_entered, not_counted, listed_too}
+use Rattle.std.proofs.Common.{[], ◌∷◌, inl}
+use Rattle.pop3_client.specs.Turns.{list, stat, uidl}
+use Rattle.fetch_session.proofs.TalkLemmas.{err_is, in_words, and_then, listed_too, not_entered, stopped_behind, stopped_first}
 use Rattle.fetch_session.proofs.opening.enter.Goals as goal
 
-pub returns-in-Err-clause-enters : goal.returns-in-Err-clause-enters
-returns-in-Err-clause-enters g c = in_words g.W.Wire c.in-Err.ensures.talks (λ logged.
-    rw (c.as_bytes-name.ensures.value, c.as_bytes-password.ensures.value) at (not_entered c.as_bytes-name.result.now c.as_bytes-password.result.now _ _ c.in-Err.fault logged))
+pub returns-in_err-log_in-clause-enters : goal.returns-in_err-log_in-clause-enters
+returns-in_err-log_in-clause-enters g c = rw (err_is c.from_residual.ensures.1) (in_words g.W.Wire c.in_err-log_in.ensures.talks (λ logged.
+    rw (c.as_bytes-name.ensures.value, c.as_bytes-password.ensures.value) at (not_entered c.as_bytes-name.result.now c.as_bytes-password.result.now _ _ c.in_err-log_in.field-0.0 logged)))
 
-pub returns-in-Err-count-clause-enters : goal.returns-in-Err-count-clause-enters
-returns-in-Err-count-clause-enters g c = and_then g.W.Wire g.met.W.Wire.leads_on c.in_default.ensures.talks c.in-Err-count.ensures.counts (λ logged counted.
-    let new = place_of g.W.Wire c.count.new.self in
-    rw (c.as_bytes-name.ensures.value, c.as_bytes-password.ensures.value) at (not_counted c.turns_join.ensures c.as_bytes-name.result.now c.as_bytes-password.result.now _ (place_of g.W.Wire c.log_in.new.self) new new logged.0 logged.1 c.in-Err-count.fault counted))
+pub returns-in_err-messages-clause-enters : goal.returns-in_err-messages-clause-enters
+returns-in_err-messages-clause-enters g c = rw (err_is c.from_residual-in_err-messages.ensures.1) (and_then g.W.Wire g.met.W.Wire.leads_on c.in_ok-log_in.ensures.talks c.in_err-messages.ensures.counts (λ logged counted.
+    rw (← c.as_bytes-name.ensures.value, ← c.as_bytes-password.ensures.value) (inl (stopped_behind c.turns_join.ensures _ (stat ∷ uidl ∷ list ∷ []) logged.0 _ _ _ c.in_err-messages.field-0.0 logged.1
+    (stopped_first stat (uidl ∷ list ∷ []) _ _ c.in_err-messages.field-0.0 counted)))))
 
 pub returns-clause-enters : goal.returns-clause-enters
-returns-clause-enters g c = and_then_two g.W.Wire g.met.W.Wire.leads_on c.in_default.ensures.talks c.in-Ok.ensures.counts c.list.ensures.lists (λ logged counted listed.
-    rw (c.as_bytes-name.ensures.value, c.as_bytes-password.ensures.value) at (listed_too c.turns_join.ensures c.as_bytes-name.result.now c.as_bytes-password.result.now _ (place_of g.W.Wire c.log_in.new.self) (place_of g.W.Wire c.count.new.self) _
-    logged.0 logged.1 counted.0 c.in-Ok.messages c.list.result counted.1 counted.2 listed))
+returns-clause-enters g c = and_then g.W.Wire g.met.W.Wire.leads_on c.in_ok-log_in.ensures.talks (and_then g.W.Wire {R = _ × _} g.met.W.Wire.leads_on c.in_ok-messages.ensures.counts c.list.ensures.lists (λ q r. (q, r))) (λ logged both.
+    rw (c.as_bytes-name.ensures.value, c.as_bytes-password.ensures.value) at (listed_too c.turns_join.ensures c.as_bytes-name.result.now c.as_bytes-password.result.now _ _ _ _ logged.0 logged.1 both.0.0 c.in_ok-messages.messages c.list.result
+    both.0.1 both.0.2 both.1))

@@ -3,4 +3,4 @@ use Rattle.std.proofs.lemmas.Simd.{splat_is_map}
 use Rattle.fetch_session.proofs.preview.none_held.Goals as goal
 
 pub returns-clause-held : goal.returns-clause-held
-returns-clause-held c = c.in-Ok.ensures.items_if_clones_equal (λ y same. same) ∙ splat_is_map c.args.listing.now c.len.result false (sym c.len.ensures.count)
+returns-clause-held c = c.in_ok-held.ensures.items_if_clones_equal (λ y same. same) ∙ splat_is_map c.args.listing.now c.len.result false (sym c.len.ensures.count)

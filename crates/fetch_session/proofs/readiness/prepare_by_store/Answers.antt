@@ -1,59 +1,46 @@
 use Rattle.std.proofs.Common.{ap, inl, length, refl, ◌∙◌, Ok, Err}
-use Rattle.fetch_session.specs.Target.{left_in, stores_of, target_of}
-use Rattle.fetch_session.proofs.CarryLemmas.{planned_length}
-use Rattle.fetch_session.proofs.ReadyLemmas.{all_have_rows, asked, not_found, ready, unready}
-use Rattle.fetch_session.proofs.UnreadyLemmas.{left_found}
+use Rattle.fetch_session.proofs.TalkLemmas.{err_is}
+use Rattle.fetch_session.specs.Target.{target_of}
+use Rattle.fetch_session.proofs.ReadyLemmas.{planned_length, all_have_rows, asked, not_found, ready, unready, left_found}
 use Rattle.fetch_session.proofs.readiness.prepare_by_store.Goals as goal
 
-pub returns-in-Ok-plan-clause-plans : goal.returns-in-Ok-plan-clause-plans
-returns-in-Ok-plan-clause-plans g c = record {
-  steps = c.in-Ok-plan.ensures.steps;
-  lengths = (ap length c.in-Ok-plan.ensures.steps ∙ planned_length c.args.terms.settings.now c.take_in.new.seen.rows c.args.listing.now c.args.terms.now, c.in-Ok.ensures.length);
-  rows = all_have_rows c.listed_has_row.ensures _ c.args.listing.now _ c.args.terms.now c.take_in.new.seen.rows c.in_default.ensures.rows;
-  closed = c.in_default.ensures.closed;
+pub returns-clause-plans : goal.returns-clause-plans
+returns-clause-plans g c = record {
+  steps = c.in_ok-steps.ensures.steps;
+  lengths = (ap length c.in_ok-steps.ensures.steps ∙ planned_length c.args.terms.settings.now c.take_in.new.seen.rows c.args.listing.now c.args.terms.now, c.in_ok-found.ensures.length);
+  rows = all_have_rows c.listed_has_row.ensures _ c.args.listing.now _ c.args.terms.now c.take_in.new.seen.rows c.in_ok-take_in.ensures.rows;
+  closed = c.in_ok-take_in.ensures.closed;
 }
 
-pub returns-in-Err-clause-readies : goal.returns-in-Err-clause-readies
-returns-in-Err-clause-readies g c = λ d f.
-    let was = c.args.work.now.store in
-    let file = g.F.FlatFile.stored c.args.work.now.ledger.file in
-    let seen = c.args.work.now.ledger.seen in
-    asked (c.in-Err.ensures.finds d) f (λ left finds. record {
-      readies = not_found (target_of was c.args.terms.account.now) c.args.listing.now c.args.terms.now (left_in (stores_of g.D.MaildirDisk g.F.FlatFile was) left)
-          (stores_of g.D.MaildirDisk g.F.FlatFile c.ask_store.new.store) file file seen c.in-Err.fault (c.requires.stands f) refl finds;
-      lasts = λ safe. record {
-        mail = left_found g.D.MaildirDisk g.F.FlatFile was c.ask_store.new.store c.args.terms.account.now seen.intent c.args.listing.now
-            (Err c.in-Err.fault) left finds (c.in-Err.ensures.keeps d);
-        rows = inl (λ left may. may, refl);
-      };
-    })
+pub returns-in_err-found-clause-readies : goal.returns-in_err-found-clause-readies
+returns-in_err-found-clause-readies g c = rw (err_is c.from_residual.ensures.1) (λ d f. asked (c.in_err-found.ensures.finds d) f (λ left finds. record {
+  readies = not_found (target_of c.args.work.now.store c.args.terms.account.now) _ _ _ _ _ _ c.args.work.now.ledger.seen c.in_err-found.field-0.0 (c.requires.stands f) refl finds;
+  lasts = λ safe. record {
+    mail = left_found g.D.MaildirDisk g.F.FlatFile _ c.ask_store.new.store c.args.terms.account.now c.args.work.now.ledger.seen.intent c.args.listing.now (Err c.in_err-found.field-0.0) left finds (c.in_err-found.ensures.keeps d);
+    rows = inl (λ left may. may, refl);
+  };
+}))
 
-pub returns-in-Err-take_in-clause-readies : goal.returns-in-Err-take_in-clause-readies
-returns-in-Err-take_in-clause-readies g c = λ d f.
-    let merges = c.in-Err-take_in.ensures.merges f in
-    let work = c.args.work.now in
-    asked (c.in-Ok.ensures.finds d) merges.0 (λ left finds.
-    unready g.D.MaildirDisk g.F.FlatFile work.store c.ask_store.new.store work.ledger.file c.take_in.new.file c.args.terms.account.now
-    c.args.terms.settings.now c.args.listing.now c.args.terms.now left work.ledger.seen c.in-Ok.found (c.requires.stands merges.0) finds
-    c.files_stand_for_one_record.ensures c.in-Ok.ensures.kind (c.in-Ok.ensures.keeps d) (λ safe. c.in-Ok.ensures.lasts d safe.0)
-    (Err c.in-Err-take_in.fault) merges.1 (λ safe. (c.in-Err-take_in.ensures.lasts f safe.1).0))
+pub returns-in_err-take_in-clause-readies : goal.returns-in_err-take_in-clause-readies
+returns-in_err-take_in-clause-readies g c = rw (err_is c.from_residual-in_err-take_in.ensures.1) (λ d f.
+    let merges = c.in_err-take_in.ensures.merges f in
+    asked (c.in_ok-found.ensures.finds d) merges.0 (λ left finds.
+    unready _ _ _ _ _ c.take_in.new.file c.args.terms.account.now _ _ _ left c.args.work.now.ledger.seen c.in_ok-found.found (c.requires.stands merges.0) finds
+    c.files_stand_for_one_record.ensures c.in_ok-found.ensures.kind (c.in_ok-found.ensures.keeps d) (λ safe. c.in_ok-found.ensures.lasts d safe.0)
+    (Err c.in_err-take_in.field-0.0) merges.1 (λ safe. (c.in_err-take_in.ensures.lasts f safe.1).0)))
 
-pub returns-in-Err-plan-clause-readies : goal.returns-in-Err-plan-clause-readies
-returns-in-Err-plan-clause-readies g c = λ d f.
-    let merges = c.in_default.ensures.merges f in
-    let work = c.args.work.now in
-    asked (c.in-Ok.ensures.finds d) merges.0 (λ left finds.
-    unready g.D.MaildirDisk g.F.FlatFile work.store c.ask_store.new.store work.ledger.file c.take_in.new.file c.args.terms.account.now
-    c.args.terms.settings.now c.args.listing.now c.args.terms.now left work.ledger.seen c.in-Ok.found (c.requires.stands merges.0) finds
-    c.files_stand_for_one_record.ensures c.in-Ok.ensures.kind (c.in-Ok.ensures.keeps d) (λ safe. c.in-Ok.ensures.lasts d safe.0)
-    (Ok tt) merges.1 (λ safe. (c.in_default.ensures.lasts f safe.1).0))
+pub returns-in_err-steps-clause-readies : goal.returns-in_err-steps-clause-readies
+returns-in_err-steps-clause-readies g c = rw (err_is c.from_residual-in_err-steps.ensures.1) (λ d f.
+    let merges = c.in_ok-take_in.ensures.merges f in
+    asked (c.in_ok-found.ensures.finds d) merges.0 (λ left finds.
+    unready _ _ _ _ _ c.take_in.new.file c.args.terms.account.now _ _ _ left c.args.work.now.ledger.seen c.in_ok-found.found (c.requires.stands merges.0) finds
+    c.files_stand_for_one_record.ensures c.in_ok-found.ensures.kind (c.in_ok-found.ensures.keeps d) (λ safe. c.in_ok-found.ensures.lasts d safe.0)
+    (Ok tt) merges.1 (λ safe. (c.in_ok-take_in.ensures.lasts f safe.1).0)))
 
-pub returns-in-Ok-plan-clause-readies : goal.returns-in-Ok-plan-clause-readies
-returns-in-Ok-plan-clause-readies g c = λ d f.
-    let merges = c.in_default.ensures.merges f in
-    let work = c.args.work.now in
-    asked (c.in-Ok.ensures.finds d) merges.0 (λ left finds.
-    ready g.D.MaildirDisk g.F.FlatFile work.store c.ask_store.new.store work.ledger.file c.take_in.new.file c.args.terms.account.now
-    c.args.terms.settings.now c.args.listing.now c.args.terms.now left work.ledger.seen c.in-Ok.found (c.requires.stands merges.0) finds
-    c.files_stand_for_one_record.ensures c.in-Ok.ensures.kind (c.in-Ok.ensures.keeps d) (λ safe. c.in-Ok.ensures.lasts d safe.0)
-    _ merges.1 c.in_default.ensures.rows refl c.in-Ok-plan.ensures.steps (λ safe. (c.in_default.ensures.lasts f safe.1).1))
+pub returns-clause-readies : goal.returns-clause-readies
+returns-clause-readies g c = λ d f.
+    let merges = c.in_ok-take_in.ensures.merges f in
+    asked (c.in_ok-found.ensures.finds d) merges.0 (λ left finds.
+    ready _ _ _ _ _ c.take_in.new.file c.args.terms.account.now _ _ _ left c.args.work.now.ledger.seen c.in_ok-found.found (c.requires.stands merges.0) finds
+    c.files_stand_for_one_record.ensures c.in_ok-found.ensures.kind (c.in_ok-found.ensures.keeps d) (λ safe. c.in_ok-found.ensures.lasts d safe.0)
+    _ merges.1 c.in_ok-take_in.ensures.rows refl c.in_ok-steps.ensures.steps (λ safe. (c.in_ok-take_in.ensures.lasts f safe.1).1))

@@ -1,21 +1,17 @@
-use Rattle.std.proofs.Common.{◌≡◌, List, None, false, inl, refl, sym, ap, subst, ◌∙◌}
+use Rattle.std.proofs.Common.{◌≡◌, List, None, false, inl, sym, ap, subst, ◌∙◌}
 use Rattle.fetch_rules.specs.Intents.{closed_rows}
 use Rattle.fetch_rules.specs.Record.{Row, RecordState, none_open, merged}
-use Rattle.fetch_rules.specs.RecordFile.{Two, file_of}
 use Rattle.fetch_rules.specs.RecordGrowth.{Updates}
-use Rattle.fetch_rules.specs.RecordMeaning.{Means, Rows}
-use Rattle.mail_store.specs.Power.{LeavesEither}
 use Rattle.fetch_session.specs.Record.{Merges, Steady, record_state_in}
-use Rattle.fetch_session.proofs.LastLemmas.{grown_merged, written_merged}
-use Rattle.fetch_session.proofs.RecordLemmas.{saves_merges, writes_merges, read_keeps, read_steady, held_is}
-use Rattle.fetch_session.proofs.readiness.take_in.Given.{Over}
-use Rattle.fetch_session.proofs.readiness.take_in.Goals.{After-grow, After-needs_rewrite}
+use Rattle.fetch_session.proofs.SessionLemmas.{grown_merged, written_merged}
+use Rattle.fetch_session.proofs.SceneLemmas.{saves_merges, writes_merges, read_keeps, read_steady, held_is, and_so}
+use Rattle.fetch_session.proofs.readiness.take_in.Goals.{After-grow}
 use Rattle.fetch_session.proofs.readiness.take_in.Goals as goal
 
 -- ---- the rows were appended
 
 -- the record in the file, and the group that was appended
-grows : (g : Over) (c : After-grow g) → g.F.FlatFile.sound c.grow.new.file
+grows : (g : _) (c : After-grow g) → g.F.FlatFile.sound c.grow.new.file
     → Steady (g.F.FlatFile.stored c.args.file.now).content (none_open c.args.seen.now.rows) × (c.args.seen.now.intent ≡ None)
     × Updates c.args.seen.now.rows None c.deref-2.result.now
     (merged (closed_rows c.args.found.now.stored c.args.seen.now.rows c.args.seen.now.intent) c.args.listing.now c.args.found.now.held.items c.args.now) None
@@ -23,27 +19,24 @@ grows g c kept =
     let was = c.args.seen.now.rows in
     let closed = closed_rows c.args.found.now.stored was c.args.seen.now.intent in
     let rows = merged closed c.args.listing.now c.args.found.now.held.items c.args.now in
-    let fresh : c.args.seen.now.stale ≡ false = rw (c.in-Ok.ensures.after, c.close.ensures.after) at (sym c.needs_rewrite.ensures ∙ c.if-needs_rewrite.false) in
+    let fresh : c.args.seen.now.stale ≡ false = rw (c.in_ok-group.ensures.after, c.close.ensures.after) at (sym c.needs_rewrite.ensures ∙ c.if-needs_rewrite.false) in
     let steady = read_steady (g.F.FlatFile.stored c.args.file.now).content c.args.seen.now (c.requires.stands (c.grow.ensures.saves kept).0) fresh in
     let is_was : closed ≡ was = ap (closed_rows c.args.found.now.stored was) steady.1 in (
       steady.0,
       steady.1,
-      rw c.deref-2.ensures.value (subst (λ (w : List Row). Updates w None c.in-Ok.group.items rows None) is_was
-          (rw (c.in-Ok.ensures.after, c.deref.ensures.value, c.close.ensures.after) at c.in-Ok.ensures.updates)),
+      rw c.deref-2.ensures.value (subst (λ (w : List Row). Updates w None c.in_ok-group.group.items rows None) is_was
+          (rw (c.in_ok-group.ensures.after, c.deref.ensures.value, c.close.ensures.after) at c.in_ok-group.ensures.updates)),
     )
 
 pub returns-clause-merges : goal.returns-clause-merges
 returns-clause-merges g c = λ kept.
-    let saves = c.grow.ensures.saves kept in
-    let old = g.F.FlatFile.stored c.args.file.now in
-    let new = g.F.FlatFile.stored c.grow.new.file in
     let was = c.args.seen.now.rows in
     let rows = merged (closed_rows c.args.found.now.stored was c.args.seen.now.intent) c.args.listing.now c.args.found.now.held.items c.args.now in
-    let it = grows g (goal.at.returns-clause-merges g c).After-grow kept in (
-      saves.0,
-      subst (λ (h : RecordState). Merges old h (none_open rows) c.grow.result new) (held_is c.args.seen.now it.1)
-          (saves_merges old new (none_open was) (none_open rows) c.grow.result it.0 (saves.1 (none_open was) (none_open rows) (inl it.2))),
-    )
+    let it = grows g (goal.at.returns-clause-merges g c).After-grow kept in
+    let old = g.F.FlatFile.stored c.args.file.now in
+    let new = g.F.FlatFile.stored c.grow.new.file in
+    and_so (c.grow.ensures.saves kept) (λ sound saves. subst (λ (h : RecordState). Merges old h (none_open rows) c.grow.result new) (held_is c.args.seen.now it.1)
+    (saves_merges old new (none_open was) (none_open rows) c.grow.result it.0 (saves (none_open was) (none_open rows) (inl it.2))))
 
 pub returns-clause-lasts : goal.returns-clause-lasts
 returns-clause-lasts g c = λ kept safe.
@@ -54,35 +47,23 @@ returns-clause-lasts g c = λ kept safe.
 
 -- ---- the record was written whole
 
--- what was merged
-rows_are : (g : Over) (c : After-needs_rewrite g) → (c.merge_rows.new.self.rows ≡ merged (closed_rows c.args.found.now.stored c.args.seen.now.rows c.args.seen.now.intent) c.args.listing.now c.args.found.now.held.items c.args.now)
-    × (record_state_in c.merge_rows.new.self ≡ none_open (merged (closed_rows c.args.found.now.stored c.args.seen.now.rows c.args.seen.now.intent) c.args.listing.now c.args.found.now.held.items c.args.now))
-rows_are g c = rw (c.in-Ok.ensures.after, c.deref.ensures.value, c.close.ensures.after) (refl, refl)
-
 pub returns-then-needs_rewrite-clause-merges : goal.returns-then-needs_rewrite-clause-merges
-returns-then-needs_rewrite-clause-merges g c = λ kept.
-    let writes = c.save.ensures.saves kept in
+returns-then-needs_rewrite-clause-merges g c = λ kept. and_so (c.save.ensures.saves kept) (λ sound writes.
     let old = g.F.FlatFile.stored c.args.file.now in
-    let new = g.F.FlatFile.stored c.save.new.file in (
-      writes.0,
-      subst (λ (h : RecordState). Merges old (record_state_in c.args.seen.now) h c.save.result new) (rows_are g (goal.at.returns-then-needs_rewrite-clause-merges g c).After-needs_rewrite).1
-          (writes_merges old new (record_state_in c.args.seen.now) (record_state_in c.merge_rows.new.self) c.save.result (read_keeps old.content c.args.seen.now (c.requires.stands writes.0)) c.save.ensures.stands writes.1),
-    )
+    rw (c.in_ok-group.ensures.after, c.deref.ensures.value, c.close.ensures.after) at (writes_merges old (g.F.FlatFile.stored c.save.new.file) (record_state_in c.args.seen.now) (record_state_in c.merge_rows.new.self) c.save.result
+    (read_keeps old.content c.args.seen.now (c.requires.stands sound)) c.save.ensures.stands writes))
 
 pub returns-then-needs_rewrite-clause-lasts : goal.returns-then-needs_rewrite-clause-lasts
-returns-then-needs_rewrite-clause-lasts g c = λ kept safe.
-    let are = rows_are g (goal.at.returns-then-needs_rewrite-clause-lasts g c).After-needs_rewrite in (
-      written_merged g.F.FlatFile c.args.seen.now.rows _ c.args.file.now c.save.new.file _
-          (subst (λ (h : RecordState). Means (file_of h.rows h.intent) (Rows Two h.rows h.intent false)) are.1 c.save.ensures.stands)
-          (subst (λ (r : List Row). LeavesEither (g.F.FlatFile.may_leave c.args.file.now) (file_of r None) (g.F.FlatFile.may_leave c.save.new.file)) are.0 (c.save.ensures.leaves kept)),
-      c.save.ensures.lasts kept,
-    )
+returns-then-needs_rewrite-clause-lasts g c = λ kept safe. (
+  written_merged g.F.FlatFile c.args.seen.now.rows _ c.args.file.now c.save.new.file _ (rw (c.in_ok-group.ensures.after, c.deref.ensures.value, c.close.ensures.after) at c.save.ensures.stands)
+      (rw (c.in_ok-group.ensures.after, c.deref.ensures.value, c.close.ensures.after) at (c.save.ensures.leaves kept)),
+  c.save.ensures.lasts kept,
+)
 
 pub returns-then-not-is_empty-clause-lasts : goal.returns-then-not-is_empty-clause-lasts
 returns-then-not-is_empty-clause-lasts g c = λ kept safe.
-    let are = rows_are g (goal.at.returns-then-not-is_empty-clause-lasts g c).After-needs_rewrite in (
-      written_merged g.F.FlatFile c.args.seen.now.rows _ c.args.file.now c.save-then-not-is_empty.new.file _
-          (subst (λ (h : RecordState). Means (file_of h.rows h.intent) (Rows Two h.rows h.intent false)) are.1 c.save-then-not-is_empty.ensures.stands)
-          (subst (λ (r : List Row). LeavesEither (g.F.FlatFile.may_leave c.args.file.now) (file_of r None) (g.F.FlatFile.may_leave c.save-then-not-is_empty.new.file)) are.0 (c.save-then-not-is_empty.ensures.leaves kept)),
-      c.save-then-not-is_empty.ensures.lasts kept,
+    let save = c.save-then-not-is_empty in (
+      written_merged g.F.FlatFile c.args.seen.now.rows _ c.args.file.now save.new.file _ (rw (c.in_ok-group.ensures.after, c.deref.ensures.value, c.close.ensures.after) at save.ensures.stands)
+          (rw (c.in_ok-group.ensures.after, c.deref.ensures.value, c.close.ensures.after) at (save.ensures.leaves kept)),
+      save.ensures.lasts kept,
     )

@@ -1,9 +1,9 @@
 use Rattle.std.proofs.Common.{ap, arith, not}
 use Rattle.fetch_rules.specs.Record.{is_delivered}
-use Rattle.fetch_session.proofs.NewsLemmas.{flags_more}
+use Rattle.fetch_session.proofs.ReadyLemmas.{flags_more}
 use Rattle.fetch_session.proofs.readiness.undelivered.Goals as goal
 
 pub loop-i-preserved : goal.loop-i-preserved
 loop-i-preserved g c =
-    flags_more (λ uid. not (is_delivered c.args.seen.now.rows uid)) c.args.listing.now c.loop-i.i c.loop-i.flags.items c.push.new.self.items c.uid.result.now (not c.is_delivered.result) c.loop-i.invariant
-    (omega (arith, c.loop-i-test.true, c.len-i-end.ensures.count)) c.uid.ensures.value (ap not c.is_delivered.ensures) c.in_ok-push.ensures.items
+    flags_more (λ uid. not (is_delivered c.args.seen.now.rows uid)) _ _ _ _ c.uid.result.now _ c.loop-i.invariant (omega (arith, c.loop-i-test.true, c.len-i-end.ensures.count))
+    c.uid.ensures.value (ap not c.is_delivered.ensures) c.in_ok-push.ensures.items

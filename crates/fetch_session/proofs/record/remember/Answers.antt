@@ -1,11 +1,10 @@
-use Rattle.std.proofs.Common.{List, ℕ, None, inl, inr, refl, sym, ap, subst}
+use Rattle.std.proofs.Common.{List, None, inl, inr, refl, sym, ap, subst}
 use Rattle.std.specs.Prelude.{OnOk}
 use Rattle.fetch_rules.specs.Record.{Row, Loaded, marked, none_open}
 use Rattle.fetch_rules.specs.RecordGrowth.{Updates}
 use Rattle.fetch_session.specs.Record.{Steady, record_state_in}
-use Rattle.fetch_session.proofs.LastLemmas.{rows_left, same_left}
-use Rattle.fetch_session.proofs.RecordLemmas.{saves_steady, mark_begun}
-use Rattle.fetch_session.proofs.record.remember.Given.{Over}
+use Rattle.fetch_session.proofs.SessionLemmas.{rows_left, same_left}
+use Rattle.fetch_session.proofs.SceneLemmas.{saves_steady, mark_begun, and_so}
 use Rattle.fetch_session.proofs.record.remember.Goals.{After-grow}
 use Rattle.fetch_session.proofs.record.remember.Goals as goal
 
@@ -13,16 +12,13 @@ pub grow-requires : goal.grow-requires
 grow-requires g c = record {
   begun = λ kept some.
       mark_begun (g.F.FlatFile.stored c.args.file.now).content c.args.seen.now.rows c.mark_rows.new.self.rows c.args.seen.now.intent c.mark_rows.new.self.intent c.args.uid.now c.deref.result.now
-      (c.requires.steady kept) (ap (λ (seen : Loaded). seen.rows) c.in-Ok.ensures.after)
-      (subst (λ (bytes : List ℕ). Updates c.args.seen.now.rows c.args.seen.now.intent bytes c.mark_rows.new.self.rows c.mark_rows.new.self.intent) (sym c.deref.ensures.value) c.in-Ok.ensures.updates)
-      some;
+      (c.requires.steady kept) (ap (λ (seen : Loaded). seen.rows) c.in_ok-group.ensures.after)
+      (rw c.deref.ensures.value c.in_ok-group.ensures.updates) some;
 }
 
 -- what was appended marks the id's row, and ends the intent
-updates : (g : Over) (c : After-grow g) → Updates c.args.seen.now.rows c.args.seen.now.intent c.deref.result.now (marked c.args.seen.now.rows c.args.uid.now) None
-updates g c =
-    subst (λ (bytes : List ℕ). Updates c.args.seen.now.rows c.args.seen.now.intent bytes (marked c.args.seen.now.rows c.args.uid.now) None) (sym c.deref.ensures.value)
-    (subst (λ (seen : Loaded). Updates c.args.seen.now.rows c.args.seen.now.intent c.in-Ok.group.items seen.rows seen.intent) c.in-Ok.ensures.after c.in-Ok.ensures.updates)
+updates : (g : _) (c : After-grow g) → Updates c.args.seen.now.rows c.args.seen.now.intent c.deref.result.now (marked c.args.seen.now.rows c.args.uid.now) None
+updates g c = rw c.deref.ensures.value (rw c.in_ok-group.ensures.after at c.in_ok-group.ensures.updates)
 
 pub returns-clause-saves : goal.returns-clause-saves
 returns-clause-saves g c = λ kept.
@@ -30,19 +26,12 @@ returns-clause-saves g c = λ kept.
     (saves.0, saves.1 (record_state_in c.args.seen.now) (none_open (marked c.args.seen.now.rows c.args.uid.now)) (inl (updates g (goal.at.returns-clause-saves g c).After-grow)))
 
 pub returns-clause-steady : goal.returns-clause-steady
-returns-clause-steady g c = λ kept.
-    let saves = returns-clause-saves g c kept in
-    let new = g.F.FlatFile.stored c.grow.new.file in (
-      saves.0,
-      subst (λ (r : List Row). OnOk c.grow.result (Steady new.content (none_open r))) (ap (λ (seen : Loaded). seen.rows) (sym c.in-Ok.ensures.after))
-          (saves_steady (g.F.FlatFile.stored c.args.file.now) new (record_state_in c.args.seen.now) (none_open (marked c.args.seen.now.rows c.args.uid.now)) c.grow.result (c.requires.steady saves.0) saves.1),
-    )
+returns-clause-steady g c = λ kept. and_so (returns-clause-saves g c kept) (λ sound saves.
+    subst (λ (r : List Row). OnOk c.grow.result (Steady (g.F.FlatFile.stored c.grow.new.file).content (none_open r))) (ap (λ (seen : Loaded). seen.rows) (sym c.in_ok-group.ensures.after))
+    (saves_steady (g.F.FlatFile.stored c.args.file.now) (g.F.FlatFile.stored c.grow.new.file) (record_state_in c.args.seen.now) (none_open (marked c.args.seen.now.rows c.args.uid.now)) c.grow.result (c.requires.steady sound) saves))
 
-pub returns-in_default-clause-keeps : goal.returns-in_default-clause-keeps
-returns-in_default-clause-keeps g c = λ kept. (
-  λ rows last. last,
-  λ safe. same_left g.F.FlatFile c.args.file.now c.args.seen.now.rows (marked c.args.seen.now.rows c.args.uid.now) c.args.seen.now.intent safe (c.requires.steady kept),
-)
+pub returns-in_err-group-clause-keeps : goal.returns-in_err-group-clause-keeps
+returns-in_err-group-clause-keeps g c = λ kept. (λ rows last. last, λ safe. same_left g.F.FlatFile c.args.file.now safe (c.requires.steady kept))
 
 pub returns-clause-keeps : goal.returns-clause-keeps
 returns-clause-keeps g c = λ kept.

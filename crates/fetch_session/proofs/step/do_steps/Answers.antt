@@ -1,28 +1,25 @@
-use Rattle.std.proofs.Common.{◌≡◌, ◌++◌, ◌∷◌, List, [], drop, Ok, Err, sym, ap, subst, arith, refl, append_assoc, ◌∙◌}
+use Rattle.std.proofs.Common.{◌≡◌, ◌++◌, ◌∷◌, List, [], drop, Ok, Err, sym, ap, arith, refl, append_assoc, ◌∙◌}
 use Rattle.std.proofs.lemmas.List.{append-nil, drop_all}
-use Rattle.std.proofs.lemmas.Result.{err_from_is_err_and}
 use Rattle.fetch_rules.specs.declared.steps.Step.{Step}
-use Rattle.fetch_session.specs.Parts.{IsReadyFor, task_of}
+use Rattle.fetch_session.proofs.TalkLemmas.{err_is}
+use Rattle.fetch_session.specs.Parts.{task_of}
 use Rattle.fetch_session.specs.Task.{Task, deleting, tasks_planned}
-use Rattle.fetch_session.proofs.FreshLemmas.{later_at, no_item, step_at, tasks_left}
-use Rattle.fetch_session.proofs.PartLemmas.{does_before, does_nothing, does_on, kept_before, kept_nothing, kept_on, ready_front}
-use Rattle.fetch_session.proofs.step.do_steps.Given.{Over}
+use Rattle.fetch_session.proofs.ReadyLemmas.{later_at, no_item, step_at, tasks_left}
+use Rattle.fetch_session.proofs.PartLemmas.{goes_before, goes_nothing, goes_on, ready_front}
 use Rattle.fetch_session.proofs.step.do_steps.Goals.{After-first_task-first, After-loop-i}
 use Rattle.fetch_session.proofs.step.do_steps.Goals as goal
 
 pub loop-i-init : goal.loop-i-init
-loop-i-init g c =
-    let kept = kept_nothing c.requires.ready.ready in
-    ([], refl, kept, does_nothing g.met.W.Wire.leads_same kept c.requires.ready.ready, g.met.L.Listener.goes_same c.args.listener.now)
+loop-i-init g c = ([], refl, goes_nothing g.met.W.Wire.leads_same c.requires.ready.ready, g.met.L.Listener.goes_same c.args.listener.now)
 
 -- what is done for the i-th message, and after it
-abbrev now : (g : Over) → After-first_task-first g → List Task
+abbrev now : (g : _) → After-first_task-first g → List Task
 now g c = task_of c.first_task-first.result ∷ deleting (step_at c.args.plan.steps.now c.loop-i.i).delete (step_at c.args.plan.steps.now c.loop-i.i).number
 
-abbrev later : (g : Over) → After-first_task-first g → List Task
+abbrev later : (g : _) → After-first_task-first g → List Task
 later g c = later_at c.args.plan.steps.now c.args.plan.listing.now c.args.plan.held.now c.loop-i.i
 
-split : (g : Over) (c : After-first_task-first g) → tasks_planned c.args.plan.steps.now c.args.plan.listing.now c.args.plan.held.now ≡ (c.loop-i.invariant.0 ++ now g c) ++ later g c
+split : (g : _) (c : After-first_task-first g) → tasks_planned c.args.plan.steps.now c.args.plan.listing.now c.args.plan.held.now ≡ (c.loop-i.invariant.0 ++ now g c) ++ later g c
 split g c =
     let done = c.loop-i.invariant.0 in
     c.loop-i.invariant.1 ∙ ap (λ (ts : List Task). done ++ ts) (tasks_left c.args.plan.steps.now c.args.plan.listing.now c.args.plan.held.now c.loop-i.i c.uid.result.now c.size.result (task_of c.first_task-first.result)
@@ -33,42 +30,31 @@ pub do_step-requires : goal.do_step-requires
 do_step-requires g c =
     let d = (goal.at.do_step-requires g c).After-first_task-first in
     let inv = c.loop-i.invariant in
-    ready_front (now g d) (later g d) (inv.2.next (now g d ++ later g d)
-    (subst (λ (ts : List Task). IsReadyFor g.D.MaildirDisk g.F.FlatFile c.args.account.now ts c.args.work.now) (split g d ∙ append_assoc inv.0 (now g d) (later g d)) c.requires.ready))
+    ready_front (now g d) (later g d) (inv.2.0.next (now g d ++ later g d) (rw (split g d, append_assoc) at c.requires.ready))
 
 pub loop-i-preserved : goal.loop-i-preserved
 loop-i-preserved g c =
     let d = (goal.at.loop-i-preserved g c).After-first_task-first in
     let inv = c.loop-i.invariant in
-    let kept = c.in_ok-do_step.ensures.keeps in
-    (inv.0 ++ now g d, split g d, kept_on inv.0 (now g d) (Ok tt) inv.2 kept, does_on c.turns_join.ensures g.met.W.Wire.leads_on inv.0 (now g d) (Ok tt) inv.2 inv.3 kept c.in_ok-do_step.ensures.does, g.met.L.Listener.goes_further _ _ _ inv.4 c.hear.ensures)
+    (inv.0 ++ now g d, split g d, goes_on c.turns_join.ensures g.met.W.Wire.leads_on inv.0 (now g d) (Ok tt) inv.2 (c.in_ok-do_step.ensures.keeps, c.in_ok-do_step.ensures.does), g.met.L.Listener.goes_further _ _ _ inv.3 c.hear.ensures)
 
-pub returns-in_err-do_step-clause-keeps : goal.returns-in_err-do_step-clause-keeps
-returns-in_err-do_step-clause-keeps g c =
-    let d = (goal.at.returns-in_err-do_step-clause-keeps g c).After-first_task-first in
+pub returns-in_err-do_step : goal.returns-in_err-do_step
+returns-in_err-do_step g c =
+    let d = (goal.at.returns-in_err-do_step g c).After-first_task-first in
     let inv = c.loop-i.invariant in
-    let p = err_from_is_err_and c.from_residual.result c.from_residual.ensures.1 in
-    rw (p.1, p.2, split g d) (kept_before (inv.0 ++ now g d) (later g d) (kept_on inv.0 (now g d) (Err c.in_err-do_step.field-0.0) inv.2 c.in_err-do_step.ensures.keeps))
-
-pub returns-in_err-do_step-clause-does : goal.returns-in_err-do_step-clause-does
-returns-in_err-do_step-clause-does g c =
-    let d = (goal.at.returns-in_err-do_step-clause-does g c).After-first_task-first in
-    let inv = c.loop-i.invariant in
-    let p = err_from_is_err_and c.from_residual.result c.from_residual.ensures.1 in
-    let cut = c.in_err-do_step.field-0.0 in
-    let kept = c.in_err-do_step.ensures.keeps in
-    rw (p.1, p.2, split g d) (does_before (inv.0 ++ now g d) (later g d) (kept_on inv.0 (now g d) (Err cut) inv.2 kept)
-    (does_on c.turns_join.ensures g.met.W.Wire.leads_on inv.0 (now g d) (Err cut) inv.2 inv.3 kept c.in_err-do_step.ensures.does))
+    let goes = goes_before (inv.0 ++ now g d) (later g d) (goes_on c.turns_join.ensures g.met.W.Wire.leads_on inv.0 (now g d) (Err c.in_err-do_step.field-0.0) inv.2
+    (c.in_err-do_step.ensures.keeps, c.in_err-do_step.ensures.does)) in
+    record { keeps = rw (err_is c.from_residual.ensures.1, split g d) goes.0; does = rw (err_is c.from_residual.ensures.1, split g d) goes.1; heard = inv.3 }
 
 -- none is left
-all_done : (g : Over) (c : After-loop-i g) → tasks_planned c.args.plan.steps.now c.args.plan.listing.now c.args.plan.held.now ≡ c.loop-i.invariant.0
+all_done : (g : _) (c : After-loop-i g) → tasks_planned c.args.plan.steps.now c.args.plan.listing.now c.args.plan.held.now ≡ c.loop-i.invariant.0
 all_done g c =
     let inv = c.loop-i.invariant in
     inv.1 ∙ ap (λ (ss : List Step). inv.0 ++ tasks_planned ss (drop c.loop-i.i c.args.plan.listing.now) (drop c.loop-i.i c.args.plan.held.now))
     (drop_all c.loop-i.i c.args.plan.steps.now (omega (arith, c.loop-i-test.false, c.len-i-end.ensures.count, c.requires.all_steps))) ∙ append-nil inv.0
 
 pub returns-clause-keeps : goal.returns-clause-keeps
-returns-clause-keeps g c = rw (all_done g (goal.at.returns-clause-keeps g c).After-loop-i) c.loop-i.invariant.2
+returns-clause-keeps g c = rw (all_done g (goal.at.returns-clause-keeps g c).After-loop-i) c.loop-i.invariant.2.0
 
 pub returns-clause-does : goal.returns-clause-does
-returns-clause-does g c = rw (all_done g (goal.at.returns-clause-does g c).After-loop-i) c.loop-i.invariant.3
+returns-clause-does g c = rw (all_done g (goal.at.returns-clause-does g c).After-loop-i) c.loop-i.invariant.2.1

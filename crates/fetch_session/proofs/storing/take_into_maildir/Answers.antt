@@ -1,187 +1,123 @@
-use Rattle.std.proofs.Common.{List, ℕ, None, Ok, Err, inl, arith, refl, sym, ap, subst, ◌∙◌, string_bytes}
-use Rattle.fetch_rules.specs.Record.{Row, RecordState, has_row, none_open, marked}
-use Rattle.fetch_session.specs.Record.{Saves, Steady}
-use Rattle.fetch_session.proofs.RecordLemmas.{held_is}
+use Rattle.std.proofs.Common.{rules, [], ◌∷◌, List, ℕ, Ok, Err, inl, inr, arith, refl, sym, subst, ◌∙◌, string_bytes, ap}
+use Rattle.fetch_rules.specs.Record.{RecordState, none_open, marked}
+use Rattle.fetch_session.specs.Record.{Saves}
+use Rattle.fetch_session.proofs.SceneLemmas.{held_is, all_sound, link_alone}
+use Rattle.pop3_client.specs.declared.fault.ClientFault.TheVariants.{NoMemory}
 use Rattle.pop3_client.specs.Turns.{most, retr}
-use Rattle.pop3_client.specs.Client.{link_of, place_of}
-use Rattle.mail_store.specs.Maildir.{IsThere}
+use Rattle.pop3_client.specs.Client.{link_of}
+use Rattle.mail_store.specs.Maildir.{IsThere, Maildir}
 use Rattle.mail_store.specs.FileName.{sized, sized_file, stem_of}
 use Rattle.fetch_session.specs.Store.{MayGain}
-use Rattle.fetch_session.specs.Target.{AsFiles, in_maildir}
-use Rattle.fetch_session.specs.Task.{stores}
-use Rattle.fetch_session.proofs.LastLemmas.{came_outlives, same_left}
-use Rattle.fetch_session.proofs.StoreLemmas.{stopped_same, stores_grows}
-use Rattle.fetch_session.proofs.TakeLemmas.{text_broken, text_wanting, text_stops, text_stored, text_not_saved}
-use Rattle.fetch_session.proofs.IntakeLemmas.{took_broke, takes_text, takes_stopped}
-use Rattle.fetch_session.proofs.PartLemmas.{link_cut, link_then_cut, same_ledger}
+use Rattle.fetch_session.specs.Target.{AsFiles}
+use Rattle.fetch_session.proofs.SessionLemmas.{same_left}
+use Rattle.std.proofs.lemmas.List.{append_cancel_left}
+use Rattle.fetch_session.proofs.TextLemmas.{stores_grows, text_broken, text_stops, text_stored, text_not_saved}
+use Rattle.fetch_session.proofs.TalkLemmas.{took_talked, takes_stopped, before_cut, err_is, and_then, did_both, in_words}
+use Rattle.fetch_session.proofs.PartLemmas.{link_broke, link_idle, link_then_cut, marked_ledger, same_ledger}
 use Rattle.fetch_session.specs.Intake.{TookTillCut}
 use Rattle.fetch_session.specs.Parts.{KeepsLink}
 use Rattle.fetch_session.specs.Report.{Adds}
-use Rattle.fetch_session.proofs.SceneLemmas.{all_sound, link_alone}
-use Rattle.fetch_session.proofs.RefusalLemmas.{before_cut}
-use Rattle.fetch_session.proofs.LinkLemmas.{and_then, did_both, did_so, in_words}
-use Rattle.fetch_session.proofs.storing.take_into_maildir.Given.{Over}
-use Rattle.fetch_session.proofs.storing.take_into_maildir.Goals.{After-note, After-store_text, In-Ok-store_text}
+use Rattle.fetch_session.proofs.storing.take_into_maildir.Goals.{After-note, After-store_text, In_ok-length}
 use Rattle.fetch_session.proofs.storing.take_into_maildir.Goals as goal
-
-pub returns-in-Err-clause-takes : goal.returns-in-Err-clause-takes
-returns-in-Err-clause-takes g c = link_alone (λ w. (
-  w,
-  g.met.W.Wire.leads_same c.args.client.now.wire.now,
-  text_wanting c.args.account.now c.args.number c.args.uid.now (place_of g.W.Wire c.args.client.now) (g.D.MaildirDisk.maildir c.args.disk.now)
-      (g.F.FlatFile.stored c.args.ledger.now.file) c.args.ledger.now.seen.rows c.args.ledger.now.lines.items c.plain.result c.plain.ensures,
-))
 
 pub store_text-requires-clause-not_there : goal.store_text-requires-clause-not_there
 store_text-requires-clause-not_there g c = λ kept size there.
     c.unheld_ids_are_not_there.ensures c.args.account.now c.args.uid.now size (g.D.MaildirDisk.maildir c.args.disk.now) c.requires.digits (c.requires.free kept)
-    (subst (λ (stem : List ℕ). IsThere (g.D.MaildirDisk.maildir c.args.disk.now) (sized stem size)) c.in-Ok.ensures.stem there)
+    (subst (λ (stem : List ℕ). IsThere (g.D.MaildirDisk.maildir c.args.disk.now) (sized stem size)) c.in_ok-stem.ensures.stem there)
 
-pub returns-in-Err-store_text-clause-takes : goal.returns-in-Err-store_text-clause-takes
-returns-in-Err-store_text-clause-takes g c =
-    let stores = c.in-Err-store_text.ensures.stores in
-    all_sound (and_then g.W.Wire g.met.W.Wire.leads_on c.in-Ok-open.ensures.opens stores.2 (λ opened link. link c.args.number _ opened)) stores.1 (λ f. (f, tt {0}))
-    (λ link stored same. text_stops stores.0 (string_bytes c.in-Ok.stem) c.in-Ok.ensures.stem stored link)
-
-pub returns-in-Ok-remember-clause-takes : goal.returns-in-Ok-remember-clause-takes
-returns-in-Ok-remember-clause-takes g c =
-    let stores = c.in-Ok-store_text.ensures.stores in
-    all_sound (and_then g.W.Wire g.met.W.Wire.leads_on c.in-Ok-open.ensures.opens stores.2 (λ opened link. link c.args.number _ opened)) stores.1 c.in-Ok-remember.ensures.saves
-    (λ link stored saved. text_stored c.in-Ok-store_text.length stores.0 (string_bytes c.in-Ok.stem) c.in-Ok.ensures.stem stored link c.in-Ok-remember.ensures.rows
-    (subst (λ (h : RecordState). Saves (g.F.FlatFile.stored c.args.ledger.now.file) h (none_open (marked c.args.ledger.now.seen.rows c.args.uid.now)) (Ok tt) (g.F.FlatFile.stored c.remember.new.file)) (sym (held_is c.args.ledger.now.seen c.requires.ready.closed)) saved) c.note.ensures.items)
-
-pub returns-in-Err-remember-clause-takes : goal.returns-in-Err-remember-clause-takes
-returns-in-Err-remember-clause-takes g c =
-    let stores = c.in-Ok-store_text.ensures.stores in
-    all_sound (and_then g.W.Wire g.met.W.Wire.leads_on c.in-Ok-open.ensures.opens stores.2 (λ opened link. link c.args.number _ opened)) stores.1 c.in-Err-remember.ensures.saves
-    (λ link stored saved. text_not_saved c.in-Ok-store_text.length stores.0 (string_bytes c.in-Ok.stem) c.in-Err-remember.fault c.in-Ok.ensures.stem stored link
-    (subst (λ (h : RecordState). Saves (g.F.FlatFile.stored c.args.ledger.now.file) h (none_open (marked c.args.ledger.now.seen.rows c.args.uid.now)) (Err c.in-Err-remember.fault) (g.F.FlatFile.stored c.remember.new.file)) (sym (held_is c.args.ledger.now.seen c.requires.ready.closed)) saved) c.plain-in-Err-remember.ensures c.note.ensures.items)
-
-grown : (g : Over) (c : After-store_text g) → g.D.MaildirDisk.sound c.store_text.new.disk
+grown : (g : _) (c : After-store_text g) → g.D.MaildirDisk.sound c.store_text.new.disk
     → g.D.MaildirDisk.sound c.args.disk.now × MayGain (stem_of c.args.account.now c.args.uid.now) (g.D.MaildirDisk.maildir c.args.disk.now) (g.D.MaildirDisk.maildir c.store_text.new.disk)
 grown g c d =
     let stored = c.store_text.ensures.stores.1 d in
-    let maildir = g.D.MaildirDisk.maildir c.args.disk.now in
-    let maildir' = g.D.MaildirDisk.maildir c.store_text.new.disk in
-    (stored.0, subst (λ (stem : List ℕ). MayGain stem maildir maildir') c.in-Ok.ensures.stem (stores_grows maildir maildir' (string_bytes c.in-Ok.stem) c.store_text.ensures.stores.0 c.store_text.result (c.requires.none_begun stored.0) stored.1))
-
-pub returns-in-Err-store_text-clause-grows : goal.returns-in-Err-store_text-clause-grows
-returns-in-Err-store_text-clause-grows g c = grown g (goal.at.returns-in-Err-store_text-clause-grows g c).After-store_text
-
-pub returns-in-Ok-remember-clause-grows : goal.returns-in-Ok-remember-clause-grows
-returns-in-Ok-remember-clause-grows g c = grown g (goal.at.returns-in-Ok-remember-clause-grows g c).After-store_text
-
-pub returns-in-Err-remember-clause-grows : goal.returns-in-Err-remember-clause-grows
-returns-in-Err-remember-clause-grows g c = grown g (goal.at.returns-in-Err-remember-clause-grows g c).After-store_text
-
--- ---- ready for the next task
+    (stored.0, rw c.in_ok-stem.ensures.stem at (stores_grows _ _ (string_bytes c.in_ok-stem.stem) c.store_text.ensures.stores.0 c.store_text.result (c.requires.none_begun stored.0) stored.1))
 
 pub remember-requires-clause-steady : goal.remember-requires-clause-steady
-remember-requires-clause-steady g c = λ f.
-    subst (λ (h : RecordState). Steady (g.F.FlatFile.stored c.args.ledger.now.file).content h) (held_is c.args.ledger.now.seen c.requires.ready.closed) (c.requires.ready.steady f)
+remember-requires-clause-steady g c = λ f. rw c.requires.ready.closed (c.requires.ready.steady f)
 
 -- a line is noted for the text
-noted : (g : Over) (c : After-note g) → Adds c.args.ledger.now.lines 1 c.note.new.lines
+noted : (g : _) (c : After-note g) → Adds c.args.ledger.now.lines 1 c.note.new.lines
 noted g c = (omega (arith, c.note.ensures.len), c.note.ensures.capacity)
 
-pub returns-in-Ok-remember-clause-ledger : goal.returns-in-Ok-remember-clause-ledger
-returns-in-Ok-remember-clause-ledger g c = record {
-  lines = noted g (goal.at.returns-in-Ok-remember-clause-ledger g c).After-note;
-  sound = λ f. (c.in-Ok-remember.ensures.saves f).0;
-  written = record { closed = c.in-Ok-remember.ensures.closed; steady = λ f. (c.in-Ok-remember.ensures.steady f).1 };
-  rows = λ other has. ap (λ (r : List Row). has_row r other) c.in-Ok-remember.ensures.rows
-      ∙ c.marked_keeps_rows.ensures c.args.ledger.now.seen.rows c.args.uid.now other ∙ has;
-  left = λ f safe. (c.remember.ensures.keeps f).1 safe;
-}
+pub returns-in_err-stem : goal.returns-in_err-stem
+returns-in_err-stem g c = rw (err_is c.from_residual.ensures.1) (record {
+  link = link_idle;
+  ledger = same_ledger c.args.uid.now c.args.ledger.now _ c.requires.ready;
+  grows = search rules;
+  takes = link_alone (λ w. (w, g.met.W.Wire.leads_same c.args.client.now.wire.now, text_broken (AsFiles c.args.account.now) NoMemory refl (inr (inr (refl, refl, refl)))));
+  keeps = search rules;
+  lasts = λ d f safe. (tt, inl (same_left g.F.FlatFile c.args.ledger.now.file safe (c.requires.ready.steady f), λ none. refl));
+})
 
-pub returns-in-Err-remember-clause-ledger : goal.returns-in-Err-remember-clause-ledger
-returns-in-Err-remember-clause-ledger g c = record {
-  lines = noted g (goal.at.returns-in-Err-remember-clause-ledger g c).After-note;
-  sound = λ f. (c.in-Err-remember.ensures.saves f).0;
-  written = tt;
-  rows = tt;
-  left = λ f safe. (c.remember.ensures.keeps f).1 safe;
-}
+pub returns-in_err-body : goal.returns-in_err-body
+returns-in_err-body g c = rw (err_is c.from_residual-in_err-body.ensures.1) (record {
+  link = link_broke c.conversations_are_paced.ensures (retr c.args.number) c.in_err-body.field-0.0 c.open.ensures.link c.in_err-body.ensures.counted c.in_err-body.ensures.opens;
+  ledger = same_ledger c.args.uid.now c.args.ledger.now _ c.requires.ready;
+  grows = search rules;
+  takes = link_alone (in_words g.W.Wire c.in_err-body.ensures.opens (text_broken (AsFiles c.args.account.now) c.in_err-body.field-0.0 refl));
+  keeps = search rules;
+  lasts = λ d f safe. (tt, inl (same_left g.F.FlatFile c.args.ledger.now.file safe (c.requires.ready.steady f), λ none. refl));
+})
 
-pub returns-in-Err-clause-ledger : goal.returns-in-Err-clause-ledger
-returns-in-Err-clause-ledger g c = same_ledger c.args.uid.now c.args.ledger.now _ c.requires.ready
-
-pub returns-in-Err-open-clause-ledger : goal.returns-in-Err-open-clause-ledger
-returns-in-Err-open-clause-ledger g c = same_ledger c.args.uid.now c.args.ledger.now _ c.requires.ready
-
-pub returns-in-Err-store_text-clause-ledger : goal.returns-in-Err-store_text-clause-ledger
-returns-in-Err-store_text-clause-ledger g c = same_ledger c.args.uid.now c.args.ledger.now _ c.requires.ready
-
--- ---- what was taken from the link
-
-pub returns-in-Err-open-clause-takes : goal.returns-in-Err-open-clause-takes
-returns-in-Err-open-clause-takes g c = link_alone (in_words g.W.Wire c.in-Err-open.ensures.opens (λ broke.
-    text_broken (AsFiles c.args.account.now) (stores c.args.number c.args.uid.now) (retr c.args.number)
-    (place_of g.W.Wire c.args.client.now) (place_of g.W.Wire c.open.new.self)
-    (in_maildir (g.D.MaildirDisk.maildir c.args.disk.now)) (g.F.FlatFile.stored c.args.ledger.now.file) c.args.ledger.now.seen.rows
-    c.args.ledger.now.lines.items
-    c.in-Err-open.fault c.broken.result refl c.broken.ensures broke))
-
-pub returns-in-Err-store_text-clause-link : goal.returns-in-Err-store_text-clause-link
-returns-in-Err-store_text-clause-link g c =
-    let stores = c.in-Err-store_text.ensures.stores in
-    record {
-      same = c.store_text.ensures.link ∙ c.open.ensures.link;
-      counted = before_cut (link_of g.W.Wire c.args.client.now) (link_of g.W.Wire c.open.new.self) (link_of g.W.Wire c.store_text.new.client) c.in-Err-store_text.cut c.in-Ok-open.ensures.counted c.in-Err-store_text.ensures.counted;
-      took = did_both g.W.Wire c.in-Ok-open.ensures.opens stores.2 (λ opened link. takes_stopped c.conversations_are_paced.ensures c.args.number _ stores.0 c.in-Err-store_text.cut (place_of g.W.Wire c.store_text.new.client) (link c.args.number _ opened));
-    }
+pub returns-in_err-length : goal.returns-in_err-length
+returns-in_err-length g c =
+    let stores = c.in_err-length.ensures.stores in
+    let cut = c.in_err-length.field-0.0 in
+    rw (err_is c.from_residual-in_err-length.ensures.1) (record {
+      link = record {
+        same = c.store_text.ensures.link ∙ c.open.ensures.link;
+        counted = before_cut (link_of g.W.Wire c.args.client.now) (link_of g.W.Wire c.open.new.self) (link_of g.W.Wire c.store_text.new.client) cut c.in_ok-body.ensures.counted c.in_err-length.ensures.counted;
+        took = did_both g.W.Wire c.in_ok-body.ensures.opens stores.2 (λ opened link. takes_stopped c.conversations_are_paced.ensures c.args.number _ _ _ cut.fault cut.rest (link c.args.number _ opened));
+      };
+      ledger = same_ledger c.args.uid.now c.args.ledger.now _ c.requires.ready;
+      grows = grown g (goal.at.returns-in_err-length g c).After-store_text;
+      takes = all_sound (and_then g.W.Wire g.met.W.Wire.leads_on c.in_ok-body.ensures.opens stores.2 (λ opened link. link c.args.number _ opened)) stores.1 (λ f. (f, tt {0}))
+          (λ link stored same. text_stops stores.0 (string_bytes c.in_ok-stem.stem) cut.fault cut.rest c.in_ok-stem.ensures.stem stored link);
+      keeps = λ d f. (c.store_text.ensures.keeps d, λ rows last. last);
+      lasts = λ d f safe. (tt, inl (same_left g.F.FlatFile c.args.ledger.now.file safe (c.requires.ready.steady f), λ none. ap (λ (m : Maildir). m.files) (rw none at (stores.1 d).1)));
+    })
 
 -- the text was read
-stored : (g : Over) (c : In-Ok-store_text g) → KeepsLink g.W.Wire (TookTillCut (most (retr c.args.number))) c.args.client.now (Ok tt) c.store_text.new.client
-stored g c =
-    let stores = c.in-Ok-store_text.ensures.stores in
+stored : (g : _) (c : In_ok-length g) → KeepsLink g.W.Wire (TookTillCut (most (retr c.args.number))) c.args.client.now (Ok tt) c.store_text.new.client
+stored g c = record {
+  same = c.store_text.ensures.link ∙ c.open.ensures.link;
+  counted = c.in_ok-length.ensures.counted ∙ c.in_ok-body.ensures.counted;
+  took = did_both g.W.Wire c.in_ok-body.ensures.opens c.in_ok-length.ensures.stores.2 (λ opened link. took_talked c.conversations_are_paced.ensures (link c.args.number _ opened).1);
+}
+
+pub returns : goal.returns
+returns g c =
+    let here = goal.at.returns g c in
+    let stores = c.in_ok-length.ensures.stores in
+    let marks = c.in_ok-remember.ensures in
     record {
-      same = c.store_text.ensures.link ∙ c.open.ensures.link;
-      counted = c.in-Ok-store_text.ensures.counted ∙ c.in-Ok-open.ensures.counted;
-      took = did_both g.W.Wire c.in-Ok-open.ensures.opens stores.2 (λ opened link. takes_text c.conversations_are_paced.ensures c.args.number _ stores.0 c.in-Ok-store_text.length _ (link c.args.number _ opened));
+      link = stored g here.In_ok-length;
+      ledger = marked_ledger (Ok tt) c.marked_keeps_rows.ensures refl (noted g here.After-note) (λ f. (marks.saves f).0) (marks.rows, record { closed = marks.closed; steady = λ f. (marks.steady f).1 })
+          (λ f. (c.remember.ensures.keeps f).1);
+      grows = grown g here.After-store_text;
+      takes = all_sound (and_then g.W.Wire g.met.W.Wire.leads_on c.in_ok-body.ensures.opens stores.2 (λ opened link. link c.args.number _ opened)) stores.1 marks.saves
+          (λ link stored saved. text_stored c.in_ok-length.length stores.0 (string_bytes c.in_ok-stem.stem) c.in_ok-stem.ensures.stem stored link marks.rows (rw c.requires.ready.closed at saved) c.note.ensures.items);
+      keeps = λ d f. (c.store_text.ensures.keeps d, (c.remember.ensures.keeps f).0);
+      lasts = λ d f safe. let is = (stores.1 d).1.0 in (
+        (
+          marks.lasts f safe,
+          λ files came. rw (← append_cancel_left (g.D.MaildirDisk.maildir c.args.disk.now).files (sized_file (string_bytes c.in_ok-stem.stem) stores.0 ∷ []) files (rw is at came)) (c.in_ok-length.ensures.lasts d stores.0 is, tt),
+        ),
+        tt,
+      );
     }
 
-pub returns-in-Ok-remember-clause-link : goal.returns-in-Ok-remember-clause-link
-returns-in-Ok-remember-clause-link g c = stored g (goal.at.returns-in-Ok-remember-clause-link g c).In-Ok-store_text
-
-pub returns-in-Err-remember-clause-link : goal.returns-in-Err-remember-clause-link
-returns-in-Err-remember-clause-link g c = link_then_cut c.plain-in-Err-remember.ensures (stored g (goal.at.returns-in-Err-remember-clause-link g c).In-Ok-store_text)
-
--- ---- what outlives a loss of power
-
-pub returns-in-Ok-remember-clause-lasts : goal.returns-in-Ok-remember-clause-lasts
-returns-in-Ok-remember-clause-lasts g c = λ d f safe.
-    let stores = c.in-Ok-store_text.ensures.stores in
-    let is = (stores.1 d).1.0 in (
-      (
-        c.in-Ok-remember.ensures.lasts f safe,
-        came_outlives (g.D.MaildirDisk.maildir c.args.disk.now) (g.D.MaildirDisk.maildir c.store_text.new.disk) (sized_file (string_bytes c.in-Ok.stem) stores.0)
-            (g.D.MaildirDisk.outlives c.store_text.new.disk) is (c.in-Ok-store_text.ensures.lasts d stores.0 is),
-      ),
-      tt,
-    )
-
-pub returns-in-Err-clause-lasts : goal.returns-in-Err-clause-lasts
-returns-in-Err-clause-lasts g c = λ d f safe.
-    let ledger = c.args.ledger.now in
-    (tt, inl (same_left g.F.FlatFile ledger.file ledger.seen.rows ledger.seen.rows None safe (c.requires.ready.steady f), λ none. refl))
-
-pub returns-in-Err-open-clause-lasts : goal.returns-in-Err-open-clause-lasts
-returns-in-Err-open-clause-lasts g c = λ d f safe.
-    let ledger = c.args.ledger.now in
-    (tt, inl (same_left g.F.FlatFile ledger.file ledger.seen.rows ledger.seen.rows None safe (c.requires.ready.steady f), λ none. refl))
-
-pub returns-in-Err-store_text-clause-lasts : goal.returns-in-Err-store_text-clause-lasts
-returns-in-Err-store_text-clause-lasts g c = λ d f safe.
-    let ledger = c.args.ledger.now in
-    let stores = c.in-Err-store_text.ensures.stores in (
-      tt,
-      inl (
-        same_left g.F.FlatFile ledger.file ledger.seen.rows ledger.seen.rows None safe (c.requires.ready.steady f),
-        stopped_same (g.D.MaildirDisk.maildir c.args.disk.now) (g.D.MaildirDisk.maildir c.store_text.new.disk) (string_bytes c.in-Ok.stem) stores.0 c.in-Err-store_text.cut (stores.1 d).1,
-      ),
-    )
-
-pub returns-in-Err-open-clause-link : goal.returns-in-Err-open-clause-link
-returns-in-Err-open-clause-link g c = link_cut c.in-Err-open.fault c.open.ensures.link c.broken.ensures c.in-Err-open.ensures.counted
-    (did_so g.W.Wire c.in-Err-open.ensures.opens (took_broke c.conversations_are_paced.ensures (retr c.args.number) _ _ c.in-Err-open.fault))
+pub returns-in_err-remember : goal.returns-in_err-remember
+returns-in_err-remember g c =
+    let here = goal.at.returns-in_err-remember g c in
+    let stores = c.in_ok-length.ensures.stores in
+    let marks = c.in_err-remember.ensures in
+    rw (err_is c.from_residual-in_err-remember.ensures.1) (record {
+      link = link_then_cut (stored g here.In_ok-length);
+      ledger = marked_ledger (Err _) c.marked_keeps_rows.ensures refl (noted g here.After-note) (λ f. (marks.saves f).0) tt (λ f. (c.remember.ensures.keeps f).1);
+      grows = grown g here.After-store_text;
+      takes = all_sound (and_then g.W.Wire g.met.W.Wire.leads_on c.in_ok-body.ensures.opens stores.2 (λ opened link. link c.args.number _ opened)) stores.1 marks.saves
+          (λ link stored saved. text_not_saved c.in_ok-length.length stores.0 (string_bytes c.in_ok-stem.stem) c.in_err-remember.field-0.0 c.in_ok-stem.ensures.stem stored link
+          (subst (λ (h : RecordState). Saves (g.F.FlatFile.stored c.args.ledger.now.file) h (none_open (marked c.args.ledger.now.seen.rows c.args.uid.now)) (Err c.in_err-remember.field-0.0) (g.F.FlatFile.stored c.remember.new.file)) (sym (held_is c.args.ledger.now.seen c.requires.ready.closed)) saved) c.note.ensures.items);
+      keeps = λ d f. (c.store_text.ensures.keeps d, (c.remember.ensures.keeps f).0);
+      lasts = λ d f safe. let is = (stores.1 d).1.0 in (tt, inr (sized_file (string_bytes c.in_ok-stem.stem) stores.0, rw is, c.in_ok-length.ensures.lasts d stores.0 is));
+    })
