@@ -1,71 +1,146 @@
 -- A session that is stopped between two of its tasks is a session too.
-use Rattle.std.proofs.Common.{◌≡◌, ◌⊎◌, ◌≤◌, inl, inr, ◌+◌, ℕ, List, [], ◌∷◌, ◌++◌, map, length, refl, sym, ap, subst, ◌∙◌, append_assoc, arith, None, Result, Ok, Err, string_bytes}
+use Rattle.std.proofs.Common.{◌≡◌, inl, inr, ℕ, List, [], ◌∷◌, ◌++◌, Bool, true, refl, sym, ap, subst, subst₂, ◌∙◌, append_assoc, Some, rules, ◌⊎◌, ◌+◌, length, ap₂, arith, None, Result, Ok, Err, string_bytes}
 use Rattle.std.specs.List.{AllByRecursion, AllZip, flat_map}
-use Rattle.std.proofs.lemmas.List.{append-nil, flat_map_more, map-append}
+use Rattle.std.proofs.lemmas.List.{append-nil, append_cancel_left, map-append}
 use Rattle.std.proofs.lemmas.List.Concat.{flat_map-append}
-use Rattle.std.proofs.lemmas.List.Folds.{flat_map-map}
+use Rattle.mail_terms.specs.Credential.{is_credential}
+use Rattle.pop3_wire.specs.declared.command.Command.{Command}
+use Rattle.pop3_wire.specs.declared.reply.Status.TheVariants.{Positive}
+use Rattle.pop3_wire.specs.Honest.{Asked, Honest, Replies, no_marks}
+use Rattle.pop3_wire.specs.Line.{IsLine, ended}
 use Rattle.pop3_wire.specs.Link.{Link}
-use Rattle.pop3_wire.specs.Place.{Place, at}
 use Rattle.pop3_wire.specs.Reading.{WholeReply, reply_bytes}
+use Rattle.pop3_wire.specs.World.{Message}
+use Rattle.pop3_client.specs.Turns.{Turn, IsGood, asking, list, pass, stat, turn_bytes, uidl, user, quit, retr, rset}
+use Rattle.fetch_session.specs.Opening.{opening, Opened}
+use Rattle.run_law.specs.Readings.{AreGranted, HonestIsGranted, Talked as IsTalked}
+use Rattle.run_law.specs.Sessions.{Served}
+use Rattle.fetch_runs.proofs.Lists.{all_append, all_front, all_back}
+use Rattle.fetch_runs.proofs.TalkCommands.{CanBeSaid, IsCommand, can_in, commands_in, octets_same, replies_read, said_in, IsPlain, commands_tasks, one_reply, plain_ahead, said_tasks}
+use Rattle.fetch_runs.proofs.TalkSpeech.{no_body, said_opening, few_items, replies_to}
+use Rattle.std.proofs.lemmas.List.Folds.{flat_map-map}
+use Rattle.pop3_wire.specs.Place.{Place, at}
 use Rattle.mail_store.specs.FlatFile.{Stored}
 use Rattle.mail_store.specs.Maildir.{File, Maildir, with_files}
 use Rattle.rc_file.specs.declared.settings.Settings.{Settings}
 use Rattle.pop3_client.specs.Conversation.{SentInPart, Talked, TurnsJoin}
-use Rattle.pop3_client.specs.Turns.{Turn, IsGood, asking, quit, retr, rset, turn_bytes}
 use Rattle.pop3_client.specs.declared.fault.ClientFault.TheVariants as talk
 use Rattle.fetch_rules.specs.Record.{Row, marked, marked_all, none_open}
 use Rattle.fetch_session.specs.Fault.{cut_of}
 use Rattle.fetch_session.specs.Laws.{SteadyFilesKeep}
-use Rattle.fetch_session.specs.Opening.{opening}
 use Rattle.fetch_session.specs.Plan.{Carried, Prepared}
 use Rattle.fetch_session.specs.Report.{Reports, skips_planned}
-use Rattle.fetch_session.specs.Record.{Steady}
-use Rattle.fetch_session.specs.Scene.{Fell, FileNotSaved, Scene, Stops, Went, scene}
-use Rattle.fetch_session.specs.Session.{Dealt, Enters_with, AccountFiles, LeavesLink, Noted, Proceeds, Session, account_files, keeping, keeps_files, noted, outcome_of}
-use Rattle.fetch_session.specs.Store.{Gained}
-use Rattle.fetch_session.specs.Target.{AsFiles, Stores, in_maildir}
-use Rattle.fetch_session.specs.Task.{Done, IsAnswered, Task, delivered, file_from, files_in, files_of, ids_of, lines_of, replies_of, task_in, tasks_of, turns_in, turns_of}
+use Rattle.fetch_session.specs.Record.{Saves, Steady}
+use Rattle.fetch_session.specs.Store.{Brings, Gained}
+use Rattle.fetch_session.specs.Scene.{Scene, Stops, Went, scene}
+use Rattle.fetch_session.specs.Session.{AccountFiles, LeavesLink, Proceeds, Session, account_files, keeps_files, noted, outcome_of}
+use Rattle.fetch_session.specs.Target.{AsFiles, in_maildir}
+use Rattle.fetch_session.specs.Task.{Done, IsAnswered, delivered, file_from, files_in, files_of, ids_of, lines_of, replies_of, task_in, tasks_of, turns_in, turns_of}
 use Rattle.fetch_session.specs.declared.fault.Cut.{Cut}
 use Rattle.fetch_session.specs.declared.fault.Fault.TheVariants.{SeenRefused, WriteFailed}
 use Rattle.fetch_session.specs.declared.report.Outcome.TheVariants.{Ended, Cut as WasCut}
 use Rattle.fetch_session.specs.declared.report.Report.{Report}
 use Rattle.fetch_session.specs.declared.report.Skips.{Skips}
 use Rattle.fetch_session.specs.Account.{digits_of}
-use Rattle.pop3_wire.specs.World.{Message}
 use Rattle.rc_file.specs.Settings.{IsValid}
-use Rattle.run_law.specs.Readings.{HonestIsGranted}
-use Rattle.run_law.specs.Sessions.{Served}
-use Rattle.fetch_runs.proofs.Lists.{all_back, all_front}
 use Rattle.fetch_runs.specs.Headline.{maildrop_at}
 use Rattle.fetch_runs.specs.Fronts.{FrontsAreSessions, IsCutThere, IsLeftBetween, IsLeftWithin, Uncut, UncutSessionsDoTasks}
-use Rattle.fetch_runs.proofs.FrontsHonest.{served_front, zip_both}
-use Rattle.fetch_runs.proofs.TalkCommands.{CanBeSaid, IsCommand, IsPlain, commands_tasks, one_reply, plain_ahead, said_tasks}
-use Rattle.fetch_runs.proofs.TalkSpeech.{few_items, replied}
+
+pub zip_both : {A B : Type 0} (R : A → B → Type 0) (xs : List A) (ys : List B) (us : List A) (vs : List B) → AllZip R xs ys → AllZip R us vs → AllZip R (xs ++ us) (ys ++ vs)
+zip_both R [] [] us vs h k = k
+zip_both R (x ∷ xs) (y ∷ ys) us vs h k = (h.0, zip_both R xs ys us vs h.1 k)
+zip_both R xs ys us vs h k = search rules
+
+no_line : IsLine []
+no_line [] rest e = cc
+no_line (x ∷ front) rest e = cc
+
+-- all that was sent for these turns
+asked_in : (ts : List Turn) (sent : List ℕ) → AllByRecursion CanBeSaid ts → sent ≡ asking ts → Asked (commands_in ts) sent
+asked_in ts sent can is = record { sendable = (can_in ts can).0; numbers = (can_in ts can).1; part = []; no_line = no_line; whole = is ∙ octets_same ts ∙ sym (append-nil _) }
+
+-- what is granted is replied
+replied_first : (drop : List Message) (marks : List Bool) (turns : List Turn) (more : List Command) (replies : List WholeReply) → AllByRecursion IsCommand turns → AllZip IsGood turns replies
+    → AreGranted drop marks (commands_in turns ++ more) replies → (next : List Bool) × Replies drop marks (commands_in turns) (flat_map reply_bytes replies) next
+replied_first drop marks [] more [] all good granted = (marks, (refl, refl))
+replied_first drop marks (Some command ∷ turns) more (reply ∷ replies) all good granted =
+    let later = replied_first drop granted.0 turns more replies all.1 good.1 granted.2 in
+    (later.0, (reply_bytes reply, flat_map reply_bytes replies, granted.0, refl, inr granted.1, later.1))
+replied_first drop marks turns more replies all good granted = search rules
+
+-- the opening without the greeting
+abbrev asks : List ℕ → List ℕ → List Turn
+asks name word = user name ∷ pass word ∷ stat ∷ uidl ∷ list ∷ []
+
+-- what a link that was cut there gained is served
+pub served_front : HonestIsGranted → (drop : List Message) (vanished : List (List ℕ)) (link link' cut : Link) (name word : List ℕ) → is_credential name ≡ true → is_credential word ≡ true
+    → (first : List WholeReply) → AllZip IsGood (opening name word) first → (ts us : List Turn) (rs : List WholeReply) → AllByRecursion IsCommand ts → AllByRecursion CanBeSaid (ts ++ us)
+    → AllZip IsGood ts rs → (rest : List ℕ)
+    → link'.sent ≡ ((link.sent ++ asking (opening name word)) ++ asking ts) ++ asking us → link'.got ≡ ((link.got ++ flat_map reply_bytes first) ++ flat_map reply_bytes rs) ++ rest
+    → ((sent got : List ℕ) → link'.sent ≡ link.sent ++ sent → link'.got ≡ link.got ++ got → Served drop sent got vanished)
+    → cut.sent ≡ (link.sent ++ asking (opening name word)) ++ asking ts → cut.got ≡ (link.got ++ flat_map reply_bytes first) ++ flat_map reply_bytes rs
+    → (sent got : List ℕ) → cut.sent ≡ link.sent ++ sent → cut.got ≡ link.got ++ got → Served drop sent got []
+served_front law drop vanished link link' cut name word named worded [] opened ts us rs commands can good rest all_sent all_got served cut_sent cut_got sent got sent_is got_is = absurd opened
+served_front law drop vanished link link' cut name word named worded (hello ∷ others) opened ts us rs commands can good rest all_sent all_got served cut_sent cut_got sent got sent_is got_is = record {
+  marks = granted.0;
+  honest = subst₂ (λ s g. Honest drop s g granted.0) (append_cancel_left link.sent _ _ (sym (append_assoc link.sent _ _) ∙ sym cut_sent ∙ sent_is))
+      (append_cancel_left link.got _ _ (sym (append_assoc link.got _ _) ∙ sym cut_got ∙ got_is)) front;
+  quits = inl refl;
+  marked = tt;
+}
+  where
+    said : List Turn
+    said = asks name word ++ ts
+
+    greeted : reply_bytes hello ≡ ended hello.first
+    greeted = rw (no_body hello.body opened.0.body) (append-nil (ended hello.first))
+
+    all_commands : AllByRecursion IsCommand said
+    all_commands = all_append IsCommand (asks name word) ts (tt, (tt, (tt, (tt, (tt, tt))))) commands
+
+    all_replied : AllZip IsGood said (others ++ rs)
+    all_replied = zip_both IsGood (asks name word) others ts rs opened.1 good
+
+    talked : IsTalked (commands_in said ++ commands_in us) (others ++ rs) (asking (opening name word) ++ (asking ts ++ asking us)) (flat_map reply_bytes (hello ∷ others) ++ (flat_map reply_bytes rs ++ rest))
+    talked = record {
+      asked = subst (λ cs. Asked cs (asking (opening name word) ++ (asking ts ++ asking us))) (flat_map-append said_in said us)
+          (asked_in (said ++ us) _ (all_append CanBeSaid (asks name word) (ts ++ us) (said_opening name word named worded).1 can)
+          (sym (append_assoc (asking (opening name word)) (asking ts) (asking us)) ∙ ap (λ l. l ++ asking us) (sym (flat_map-append turn_bytes (asks name word) ts)) ∙ sym (flat_map-append turn_bytes said us)));
+      hello = hello.first;
+      line = opened.0.line;
+      good = replies_read said (others ++ rs) (commands_in us) all_commands all_replied;
+      rest = rest;
+      whole = rw greeted (simp (flat_map-append, append_assoc));
+    }
+
+    whole : Served drop (asking (opening name word) ++ (asking ts ++ asking us)) (flat_map reply_bytes (hello ∷ others) ++ (flat_map reply_bytes rs ++ rest)) vanished
+    whole = served _ _ (all_sent ∙ simp append_assoc) (all_got ∙ simp append_assoc)
+
+    granted : (next : List Bool) × Replies drop (no_marks drop) (commands_in said) (flat_map reply_bytes (others ++ rs)) next
+    granted = replied_first drop (no_marks drop) said (commands_in us) (others ++ rs) all_commands all_replied (law drop _ _ whole.marks _ (others ++ rs) whole.honest talked)
+
+    front : Honest drop (asking (opening name word) ++ asking ts) (flat_map reply_bytes (hello ∷ others) ++ flat_map reply_bytes rs) granted.0
+    front = record {
+      status = Positive;
+      hello = ended hello.first;
+      greets = (opened.0.rest, record { line = hello.first; is_line = opened.0.line; first = opened.0.positive; whole = refl });
+      commands = commands_in said;
+      asked = asked_in said _ (all_append CanBeSaid (asks name word) ts (said_opening name word named worded).1 (all_front CanBeSaid ts us can)) (sym (flat_map-append turn_bytes (asks name word) ts));
+      replies = flat_map reply_bytes (others ++ rs);
+      replied = granted.1;
+      later = [];
+      begins = rw greeted (simp (flat_map-append, append_assoc, append-nil));
+    }
 
 -- ---- the tasks of an uncut session
 
-uncut_by : (settings : Settings) (account : List ℕ) (now : ℕ) (link : Link) (before : AccountFiles) (link' : Link) (after : AccountFiles) (result : Result (Unit {0}) Cut) (mid : Place) (notes : Noted)
-    → Proceeds settings (AsFiles account) now (at link []) (keeps_files before) result mid (keeps_files after) notes → LeavesLink result mid link' → outcome_of result ≡ Ended
-    → Uncut settings account now link before link' after
-uncut_by settings account now link before link' after (Ok done) mid notes dealt leaves ended = record {
-  items = dealt.items;
-  entered = dealt.mid;
-  enters = dealt.enters;
-  ready = dealt.carries.1.mid;
-  prepared = dealt.carries.1.prepared;
-  dones = dealt.carries.1.does.dones;
-  tasks = dealt.carries.1.does.all;
-  last = scene mid (in_maildir after.maildir) after.file dealt.carries.0 notes.lines;
-  went = dealt.carries.1.does.went;
-  link_is = leaves;
-  maildir_is = refl;
-  file_is = refl;
-}
-uncut_by settings account now link before link' after (Err cut) mid notes proceeds leaves ended = absurd cc
-
 pub uncut_sessions_do_tasks : UncutSessionsDoTasks
-uncut_sessions_do_tasks settings account now link before report link' after s ended =
-    uncut_by settings account now link before link' after s.result s.mid s.notes s.proceeds s.leaves (sym s.reports.outcome_is ∙ ended)
+uncut_sessions_do_tasks settings account now link before report link' after s ended = by s.result s.proceeds s.leaves (sym s.reports.outcome_is ∙ ended)
+  where
+    by : (result : Result (Unit {0}) Cut) → Proceeds settings (AsFiles account) now (at link []) (keeps_files before) result s.mid (keeps_files after) s.notes → LeavesLink result s.mid link' → outcome_of result ≡ Ended
+        → Uncut settings account now link before link' after
+    by (Err cut) proceeds leaves ended = absurd cc
+    by (Ok done) dealt leaves ended = search (dealt.carries.1.does.went, leaves)
 
 -- ---- the conversation again
 
@@ -95,9 +170,10 @@ refused_at place = at (record place.link { failures = place.link.failures + 1 })
 refuses : (turn : Turn) (place : Place) → SentInPart turn place (refused_at place)
 refuses turn place = record { front = []; rest = turn_bytes turn; split = refl; sent = sym (append-nil place.link.sent); got = refl; waiting = refl; risen = omega arith }
 
-module _ (joins : TurnsJoin) (settings : Settings) (account : List ℕ) (now : ℕ) (link : Link) (before : AccountFiles) (link' : Link) (after : AccountFiles) (u : Uncut settings account now link before link' after) where
+module _ (joins : TurnsJoin) (granted : HonestIsGranted) (settings : Settings) (account : List ℕ) (now : ℕ) (link : Link) (before : AccountFiles) (link' : Link) (after : AccountFiles) (u : Uncut settings account now link before link' after)
+    (valid : IsValid settings) (drop : List Message) (vanished : List (List ℕ)) (served : (sent got : List ℕ) → link'.sent ≡ link.sent ++ sent → link'.got ≡ link.got ++ got → Served drop sent got vanished) where
   abbrev first : List WholeReply
-  first = u.enters.3.welcome ++ u.enters.3.counted ∷ u.enters.3.named ∷ u.enters.3.sized ∷ []
+  first = replies_to u.enters.3
 
   abbrev turns : List Turn
   turns = opening (string_bytes settings.username) (string_bytes settings.password)
@@ -105,88 +181,44 @@ module _ (joins : TurnsJoin) (settings : Settings) (account : List ℕ) (now : �
   abbrev entered : Place
   entered = heard_at turns first link
 
-  entered_is : Enters_with settings (at link []) (Ok u.items) entered
-  entered_is = (
-    u.enters.0,
-    u.enters.1,
-    u.enters.2,
-    record {
-      welcome = u.enters.3.welcome;
-      counted = u.enters.3.counted;
-      named = u.enters.3.named;
-      sized = u.enters.3.sized;
-      talked = exactly turns first link u.enters.3.talked.good;
-      gives = u.enters.3.gives;
-      names = u.enters.3.names;
-      octets = u.enters.3.octets;
-    },
-    u.enters.4,
-  )
+  opened : Opened (string_bytes settings.username) (string_bytes settings.password) (at link []) entered u.enters.0 u.enters.1 u.enters.2
+  opened = search (u.enters.3, exactly turns first link u.enters.3.talked.good)
 
   abbrev ready : Scene
   ready = record u.ready { place = entered }
 
   prepared : Prepared (AsFiles account) u.items now entered (in_maildir before.maildir) before.file [] ready
-  prepared = record {
-    was = u.prepared.was;
-    stood = u.prepared.stood;
-    rows = u.prepared.rows;
-    saved = u.prepared.saved;
-    file_count = u.prepared.file_count;
-    place_is = refl;
-    settles = u.prepared.settles;
-    lines_are = u.prepared.lines_are;
-  }
+  prepared = search u.prepared
 
-  abbrev waits : List ℕ
-  waits = u.last.place.waiting
+  open u.last.place use {waiting as waits}
 
   -- ---- what the whole session sent and got
 
   module _ (front back : List Done) (split : u.dones ≡ front ++ back) where
-    answered : AllByRecursion IsAnswered (front ++ back)
-    answered = subst (AllByRecursion IsAnswered) split u.went.each
+    answered : AllByRecursion IsAnswered front
+    answered = all_front IsAnswered front back (rw split at u.went.each)
 
     sent_is : link'.sent ≡ ((link.sent ++ asking turns) ++ asking (turns_of front)) ++ asking (turns_of back)
-    sent_is = ap (λ (l : Link). l.sent) u.link_is ∙ u.went.talked.sent ∙ ap (λ (p : Place). p.link.sent ++ asking (turns_of u.dones)) u.prepared.place_is
-        ∙ rw (u.enters.3.talked.sent, split) (simp (flat_map-append, append_assoc))
+    sent_is = ap (λ (l : Link). l.sent) u.link_is ∙ rw (u.went.talked.sent, u.prepared.place_is, u.enters.3.talked.sent, split) (simp (flat_map-append, append_assoc))
 
     got_is : link'.got ≡ ((link.got ++ flat_map reply_bytes first) ++ flat_map reply_bytes (replies_of front)) ++ (flat_map reply_bytes (replies_of back) ++ waits)
     got_is =
         let waited : u.entered.waiting ++ u.went.talked.gained ≡ flat_map reply_bytes (replies_of (front ++ back)) ++ waits = rw (← split)
         (ap (λ (p : Place). p.waiting ++ u.went.talked.gained) (sym u.prepared.place_is) ∙ u.went.talked.heard) in
-        ap (λ (l : Link). l.got) u.link_is ∙ u.went.talked.got ∙ ap (λ (p : Place). p.link.got ++ u.went.talked.gained) u.prepared.place_is
-        ∙ ap (λ l. l ++ u.went.talked.gained) u.enters.3.talked.got ∙ ap (λ l. (link.got ++ l) ++ u.went.talked.gained) u.enters.3.talked.heard
-        ∙ simp (append_assoc, waited, flat_map-append)
+        let parts : link'.got ≡ (link.got ++ (flat_map reply_bytes first ++ u.entered.waiting)) ++ u.went.talked.gained = cc (u.link_is, u.went.talked.got, u.prepared.place_is, u.enters.3.talked.got, u.enters.3.talked.heard) in
+        parts ∙ simp (append_assoc, waited, flat_map-append)
 
     -- what a link gained that was cut after the front is served, if the whole session's is
-    module _ (granted : HonestIsGranted) (valid : IsValid settings) (drop : List Message) (vanished : List (List ℕ))
-        (served : (sent got : List ℕ) → link'.sent ≡ link.sent ++ sent → link'.got ≡ link.got ++ got → Served drop sent got vanished) where
-      few : length u.items ≤ 100000
-      few = few_items u.enters.3.counted u.enters.0 u.enters.1 u.enters.2 u.items
-          (replied (string_bytes settings.username) (string_bytes settings.password)
-          u.enters.3.welcome u.enters.3.counted u.enters.3.named u.enters.3.sized u.enters.3.talked.good).good.1.1.1.0 u.enters.3.gives u.enters.4
+    plain : AllByRecursion IsPlain (tasks_of (front ++ back))
+    plain = subst (AllByRecursion IsPlain) (u.tasks ∙ ap tasks_of split) (plain_ahead settings (AsFiles account) u.items now (in_maildir before.maildir) u.ready.rows (few_items u.enters.3 u.enters.4))
 
-      plain : AllByRecursion IsPlain (tasks_of (front ++ back))
-      plain = subst (AllByRecursion IsPlain) (u.tasks ∙ ap tasks_of split) (plain_ahead settings (AsFiles account) u.items now (in_maildir before.maildir) u.ready.rows few)
-
-      turns_parted : flat_map turns_in (tasks_of (front ++ back)) ≡ turns_of front ++ turns_of back
-      turns_parted = flat_map-map turns_in task_in (front ++ back) ∙ flat_map-append (λ (d : Done). turns_in d.task) front back
-
-      can_all : AllByRecursion CanBeSaid (turns_of front ++ turns_of back)
-      can_all = subst (AllByRecursion CanBeSaid) turns_parted (said_tasks (tasks_of (front ++ back)) plain)
-
-      all_send : AllByRecursion IsCommand (turns_of front ++ turns_of back)
-      all_send = subst (AllByRecursion IsCommand) turns_parted (commands_tasks (tasks_of (front ++ back)) plain)
-
-      served_at : (cut : Link) → cut.sent ≡ (link.sent ++ asking turns) ++ asking (turns_of front)
-          → cut.got ≡ (link.got ++ flat_map reply_bytes first) ++ flat_map reply_bytes (replies_of front)
-          → (sent got : List ℕ) → cut.sent ≡ link.sent ++ sent → cut.got ≡ link.got ++ got → Served drop sent got []
-      served_at cut = served_front granted drop vanished link link' cut (string_bytes settings.username) (string_bytes settings.password)
-          valid.valid_username valid.valid_password first u.enters.3.talked.good
-          (turns_of front) (turns_of back) (replies_of front) (all_front IsCommand (turns_of front) (turns_of back) all_send)
-          (all_front CanBeSaid (turns_of front) (turns_of back) can_all) (all_back CanBeSaid (turns_of front) (turns_of back) can_all)
-          (all_good front (all_front IsAnswered front back answered)) (flat_map reply_bytes (replies_of back) ++ waits) sent_is got_is served
+    served_at : (cut : Link) → cut.sent ≡ (link.sent ++ asking turns) ++ asking (turns_of front)
+        → cut.got ≡ (link.got ++ flat_map reply_bytes first) ++ flat_map reply_bytes (replies_of front)
+        → (sent got : List ℕ) → cut.sent ≡ link.sent ++ sent → cut.got ≡ link.got ++ got → Served drop sent got []
+    served_at cut = served_front granted drop vanished link link' cut (string_bytes settings.username) (string_bytes settings.password)
+        valid.valid_username valid.valid_password first u.enters.3.talked.good
+        (turns_of front) (turns_of back) (replies_of front) (all_front IsCommand (turns_of front) (turns_of back) (simp (flat_map-map, flat_map-append) at (commands_tasks (tasks_of (front ++ back)) plain)))
+        (simp (flat_map-map, flat_map-append) at (said_tasks (tasks_of (front ++ back)) plain)) (all_good front answered) (flat_map reply_bytes (replies_of back) ++ waits) sent_is got_is served
 
   -- ---- a session that stops there
 
@@ -206,57 +238,36 @@ module _ (joins : TurnsJoin) (settings : Settings) (account : List ℕ) (now : �
     abbrev here : Scene
     here = scene there (in_maildir (maildir (files_of account front))) (file u.ready.file.failures) rows (lines_of front)
 
-    brought : Gained before.maildir (maildir (files_of account front)) (files_of account front)
-    brought = record { came = refl; there = refl; none_begun = λ none. none; failures = omega arith }
-
-    went_first : Steady left.file.content (none_open rows) → Went (AsFiles account) front ready here
-    went_first steady = record {
-      talked = exactly (turns_of front) (replies_of front) entered.link (all_good front (all_front IsAnswered front (next ∷ back) (answered front (next ∷ back) split)));
-      each = all_front IsAnswered front (next ∷ back) (answered front (next ∷ back) split);
-      stored = subst (λ (s : Stores). Gained s.maildir (maildir (files_of account front)) (files_of account front)) (sym u.prepared.settles) brought;
-      rows = refl;
-      saved = λ was. steady;
-      file_count = omega arith;
-      lines = ap (λ l. l ++ lines_of front) (sym u.prepared.lines_are);
-    }
-
     abbrev skipped : Skips
     skipped = skips_planned settings u.ready.rows u.items now
 
     -- a session that stopped in the next task and left the link so
     module _ (steady : Steady left.file.content (none_open rows)) (cut : Cut) (stopped : Scene) (cut_link : Link) (stops : Stops (AsFiles account) next.task here cut stopped)
         (leaves : LeavesLink (Err cut) stopped.place cut_link) (kept_is : stopped.store ≡ in_maildir stopped.store.maildir) where
-      fell : Fell (AsFiles account) (tasks_of u.dones) ready cut stopped
-      fell = record {
-        dones = front;
-        next = next.task;
-        later = tasks_of back;
-        mid = here;
-        split = ap tasks_of split ∙ map-append task_in front (next ∷ back);
-        went = went_first steady;
-        stops = stops;
-      }
-
       carried : Carried settings (AsFiles account) u.items now entered (in_maildir before.maildir) before.file [] (Err cut) stopped skipped
       carried = record {
         mid = ready;
         prepared = prepared;
-        does = subst (λ tasks. Fell (AsFiles account) tasks ready cut stopped) (sym u.tasks) fell;
+        does =
+            let stored : Brings (AsFiles account) front ready.store here.store = rw u.prepared.settles (search arith) in
+            let went : Went (AsFiles account) front ready here = search (
+              stored,
+              steady,
+              arith,
+              answered front (next ∷ back) split,
+              ap (λ l. l ++ lines_of front) (sym u.prepared.lines_are),
+              exactly (turns_of front) (replies_of front) entered.link (all_good front (answered front (next ∷ back) split)),
+            ) in
+            rw u.tasks (search (went, stops, ap tasks_of split ∙ map-append task_in front (next ∷ back)));
         skips = refl;
       }
-
-      abbrev left_with : Stores → Type 0
-      left_with store = Dealt settings (AsFiles account) now (at link []) (keeps_files before) (Err cut) stopped.place (keeping store stopped.file) (noted (length u.items) skipped stopped.lines)
-
-      dealt : left_with stopped.store
-      dealt = record { items = u.items; mid = entered; enters = entered_is; total = refl; carries = (stopped.rows, inr carried) }
 
       session : (report : Report) → Reports (WasCut cut.fault) (length u.items) skipped stopped.lines report → Session settings account now link before report cut_link (account_files stopped.store.maildir stopped.file)
       session report told = record {
         result = Err cut;
         mid = stopped.place;
         notes = noted (length u.items) skipped stopped.lines;
-        proceeds = inr (inr (subst left_with kept_is dealt));
+        proceeds = inr (inr (rw (← kept_is) (record { items = u.items; mid = entered; enters = (u.enters.0, u.enters.1, u.enters.2, opened, u.enters.4); total = refl; carries = (stopped.rows, inr carried) })));
         leaves = leaves;
         reports = told;
       }
@@ -285,57 +296,30 @@ module _ (joins : TurnsJoin) (settings : Settings) (account : List ℕ) (now : �
     split_next = split ∙ sym (append_assoc front (next ∷ []) back)
 
     cut_sent : place.link.sent ≡ (link.sent ++ asking turns) ++ asking (turns_of (front ++ next ∷ []))
-    cut_sent = append_assoc (link.sent ++ asking turns) (asking (turns_of front)) (asking (turns_in next.task))
-        ∙ ap (λ l. (link.sent ++ asking turns) ++ l) (sym (flat_map-append turn_bytes (turns_of front) (turns_in next.task))
-        ∙ ap asking (flat_map_more (λ (d : Done). turns_in d.task) [] front next))
+    cut_sent = simp (flat_map-append, append-nil, append_assoc)
 
     cut_got : place.link.got ≡ (link.got ++ flat_map reply_bytes first) ++ flat_map reply_bytes (replies_of (front ++ next ∷ []))
-    cut_got = append_assoc (link.got ++ flat_map reply_bytes first) (flat_map reply_bytes (replies_of front)) (flat_map reply_bytes next.replies)
-        ∙ ap (λ l. (link.got ++ flat_map reply_bytes first) ++ l) (sym (flat_map-append reply_bytes (replies_of front) next.replies)
-        ∙ ap (flat_map reply_bytes) (flat_map_more (λ (d : Done). d.replies) [] front next))
+    cut_got = simp (flat_map-append, append-nil, append_assoc)
 
     -- after a text was stored, and before the record shows it
     module _ (keeps : SteadyFilesKeep) (is : IsLeftWithin account before u.ready front next left) where
       good : AllZip IsGood (turns_in next.task) next.replies
-      good = (all_back IsAnswered front (next ∷ back) (answered front (next ∷ back) split)).0
-
-      abbrev Whole : List WholeReply → Type 0
-      Whole replies = Talked (turns_in next.task) replies there place → (reply : WholeReply) × (replies ≡ reply ∷ []) × Talked (retr is.number ∷ []) (reply ∷ []) there place
+      good = (all_back IsAnswered front (next ∷ back) (rw split at u.went.each)).0
 
       whole : (reply : WholeReply) × (next.replies ≡ reply ∷ []) × Talked (retr is.number ∷ []) (reply ∷ []) there place
-      whole = one_reply Whole (retr is.number) next.replies (subst (λ (t : Task). AllZip IsGood (turns_in t) next.replies) is.is good)
-          (λ reply good talked. (reply, refl, subst (λ (t : Task). Talked (turns_in t) (reply ∷ []) there place) is.is talked))
-          (exactly (turns_in next.task) next.replies there.link good)
+      whole =
+          let one = one_reply (retr is.number) next.replies (rw is.is at good) in
+          (one.0, one.1, subst₂ (λ ts rs. Talked ts rs there place) (ap turns_in is.is) one.1 (exactly (turns_in next.task) next.replies there.link good))
 
       abbrev reply : WholeReply
       reply = whole.0
 
       files_are : files_of account (front ++ next ∷ []) ≡ files_of account front ++ file_from account is.uid reply ∷ []
-      files_are = flat_map-append (λ (d : Done). files_in account d.task d.replies) front (next ∷ [])
-          ∙ ap (λ l. files_of account front ++ l) (append-nil (files_in account next.task next.replies)
-          ∙ ap (λ (t : Task). files_in account t next.replies) is.is ∙ ap (map (file_from account is.uid)) whole.1)
+      files_are = flat_map-append (λ (d : Done). files_in account d.task d.replies) front (next ∷ []) ∙ ap (λ l. files_of account front ++ l) (append-nil (files_in account next.task next.replies) ∙ ap₂ (files_in account) is.is whole.1)
 
       abbrev stopped : Scene
       stopped = scene place (in_maildir (maildir (files_of account front ++ file_from account is.uid reply ∷ []))) (file (u.ready.file.failures + 1)) (marked rows is.uid)
           (lines_of front ++ delivered is.number reply ∷ [])
-
-      not_saved : FileNotSaved account next.task here stopped (cut_of SeenRefused None)
-      not_saved = record {
-        none = refl;
-        number = is.number;
-        uid = is.uid;
-        reply = reply;
-        is = is.is;
-        talked = whole.2;
-        stored = record {
-          came = sym (append_assoc before.maildir.files (files_of account front) (file_from account is.uid reply ∷ []));
-          there = refl;
-          none_begun = λ none. none;
-          failures = omega arith;
-        };
-        saves = (refl, λ steady. inl (keeps left.file.content (none_open rows) steady));
-        lines = refl;
-      }
 
       abbrev within : IsCutThere settings account now link before link' u.items u.ready left
       within = record {
@@ -344,49 +328,25 @@ module _ (joins : TurnsJoin) (settings : Settings) (account : List ℕ) (now : �
         cut = (refused_at place).link;
         after = account_files (maildir (files_of account front ++ file_from account is.uid reply ∷ [])) (file (u.ready.file.failures + 1));
         files = record { files = is.files ∙ ap (λ l. before.maildir.files ++ l) files_are; content = refl };
-        sent = (
-          asking (turns_of back),
-          sent_is (front ++ next ∷ []) back split_next ∙ ap (λ l. l ++ asking (turns_of back)) (sym cut_sent),
-        );
-        got = (
-          flat_map reply_bytes (replies_of back) ++ waits,
-          got_is (front ++ next ∷ []) back split_next ∙ ap (λ l. l ++ (flat_map reply_bytes (replies_of back) ++ waits)) (sym cut_got),
-        );
-        session = session is.file (cut_of SeenRefused None) stopped (refused_at place).link (inr (inr not_saved)) (
-          refused_at place,
-          (
-            Err talk.WriteFailed,
-            record {
-              done = [];
-              replies = [];
-              next = rset;
-              later = quit ∷ [];
-              mid = place;
-              split = refl;
-              talked = joins.none place;
-              broke = inl (refl, refuses rset place);
-            },
-          ),
-          refl,
-        ) refl;
+        sent = (asking (turns_of back), rw cut_sent (sent_is (front ++ next ∷ []) back split_next));
+        got = (flat_map reply_bytes (replies_of back) ++ waits, rw cut_got (got_is (front ++ next ∷ []) back split_next));
+        session =
+            let stored : Gained here.store.maildir stopped.store.maildir (file_from account is.uid reply ∷ []) = search (append_assoc, arith) in
+            let saves : Saves here.file (none_open rows) (none_open (marked rows is.uid)) (Err SeenRefused) stopped.file = (refl, λ steady. inl (keeps left.file.content (none_open rows) steady)) in
+            session is.file (cut_of SeenRefused None) stopped (refused_at place).link (inr (inr (search (is.is, whole.2, stored, saves)))) (refused_at place, (Err talk.WriteFailed, record { done = []; replies = []; next = rset; later = quit ∷ []; mid = place; split = refl; talked = joins.none place; broke = inl (refl, refuses rset place) }), refl) refl;
       }
 
     -- what is left there a session left that was cut, and what its link gained is served
-    module _ (granted : HonestIsGranted) (valid : IsValid settings) (drop : List Message) (vanished : List (List ℕ))
-        (served : (sent got : List ℕ) → link'.sent ≡ link.sent ++ sent → link'.got ≡ link.got ++ got → Served drop sent got vanished) where
-      found : SteadyFilesKeep → IsLeftBetween account before u.ready front next left ⊎ IsLeftWithin account before u.ready front next left
-          → (there : IsCutThere settings account now link before link' u.items u.ready left)
-          × ((sent got : List ℕ) → there.cut.sent ≡ link.sent ++ sent → there.cut.got ≡ link.got ++ got → Served drop sent got [])
-      found keeps (inl here) = (between here, served_at front (next ∷ back) split granted valid drop vanished served (refused_at there).link refl refl)
-      found keeps (inr here) = (
-        within keeps here,
-        served_at (front ++ next ∷ []) back split_next granted valid drop vanished served (refused_at place).link cut_sent cut_got,
-      )
+    found : SteadyFilesKeep → IsLeftBetween account before u.ready front next left ⊎ IsLeftWithin account before u.ready front next left
+        → (there : IsCutThere settings account now link before link' u.items u.ready left)
+        × ((sent got : List ℕ) → there.cut.sent ≡ link.sent ++ sent → there.cut.got ≡ link.got ++ got → Served drop sent got [])
+    found keeps (inl here) = (between here, served_at front (next ∷ back) split (refused_at there).link refl refl)
+    found keeps (inr here) = (within keeps here, served_at (front ++ next ∷ []) back split_next (refused_at place).link cut_sent cut_got)
 
 pub fronts_are_sessions : SteadyFilesKeep → TurnsJoin → HonestIsGranted → FrontsAreSessions
 fronts_are_sessions keeps joins granted world state occasion is u front back next left split here =
-    let there = found joins occasion.settings (digits_of occasion.settings) occasion.now occasion.link state.account occasion.link' occasion.after
-    u front back next left split granted is.settings.valid (maildrop_at world state occasion) occasion.vanished is.served keeps here in (
+    let there = found joins granted occasion.settings (digits_of occasion.settings) occasion.now occasion.link state.account occasion.link' occasion.after
+    u is.settings.valid (maildrop_at world state occasion) occasion.vanished is.served front back next left split keeps here in (
       there.0,
       λ report told. record {
         session = record { settings = is.settings; session = there.0.session report told; served = there.1 };

@@ -1,16 +1,14 @@
 -- Each id that a record delivers is legal, if a file stands for it.
-use Rattle.std.proofs.Common.{◌≡◌, inl, inr, ℕ, zero, suc, ◌+◌, List, [], ◌∷◌, ◌++◌, Bool, true, false, ◌&&◌, ◌||◌, cond, Option, None, Some, refl, sym, subst}
+use Rattle.std.proofs.Common.{◌≡◌, inl, inr, ℕ, zero, suc, ◌+◌, List, [], ◌∷◌, ◌++◌, Bool, true, Option, None, Some, arith}
 use Rattle.std.specs.List.{AllByRecursion}
-use Rattle.std.proofs.lemmas.Bool.{and_parts, both_ways, cases_Bool, cond_both, or_cases}
+use Rattle.std.proofs.lemmas.Bool.{cond_both}
 use Rattle.std.proofs.lemmas.List.Elements.{recursion_from_All}
-use Rattle.std.proofs.lemmas.Slice.Eq.{bytes_eq-Decides}
 use Rattle.mail_terms.specs.UniqueId.{is_legal_id}
-use Rattle.fetch_rules.specs.Record.{Row, Intent, has_row, is_delivered, is_of, marked}
+use Rattle.fetch_rules.specs.Record.{Row, Intent, has_row, is_delivered, marked}
 use Rattle.fetch_rules.specs.RecordFile.{Version, Two, Line, RowLine, GroupLine, IntentLine, IsLine}
-use Rattle.fetch_rules.specs.RecordMeaning.{Ends, Fails, Fault, Judged, InBase, InGroup, BetweenGroups, Means, Progress, Rows, Stands, after_intent, after_line, counted, has_bytes, has_line_feed, is_open, judged, left_open, line_after, may_take, taken}
-use Rattle.fetch_rules.specs.declared.seen.SeenFault.{SeenFault}
-use Rattle.fetch_rules.specs.declared.seen.SeenFault.TheVariants.{BadRow}
+use Rattle.fetch_rules.specs.RecordMeaning.{Ends, Fails, Judged, InBase, InGroup, BetweenGroups, Means, Progress, Rows, Stands, after_intent, after_line, counted, judged, may_take, taken}
 use Rattle.fetch_session.specs.Record.{KeepsRows}
+use Rattle.fetch_runs.proofs.Ids.{bytes_same}
 use Rattle.fetch_runs.proofs.Lists.{all_append}
 
 abbrev AreLegal : List Row → Type 0
@@ -22,33 +20,25 @@ marked_legal (r ∷ rows) uid all = (all.0, marked_legal rows uid all.1)
 
 taken_legal : (rows : List Row) (row : Row) → AreLegal rows → is_legal_id row.uid ≡ true → AreLegal (taken rows row)
 taken_legal rows row all one = cond_both (has_row rows row.uid) (marked rows row.uid) (rows ++ row ∷ []) AreLegal
-    (λ there. marked_legal rows row.uid all) (λ absent. all_append (λ (r : Row). is_legal_id r.uid ≡ true) rows (row ∷ []) all (one, tt))
+    (λ there. marked_legal rows row.uid all) (λ absent. all_append _ rows (row ∷ []) all (one, tt))
 
 abbrev Legal : Judged → Type 0
-Legal (Stands (InBase rows)) = AreLegal rows
-Legal (Stands (BetweenGroups rows intent)) = AreLegal rows
 Legal (Stands (InGroup before intent rows more)) = AreLegal before × AreLegal rows
+Legal (Stands progress) = AreLegal (counted progress)
 Legal (Fails fault) = Unit {0}
 
-if_stands : (b : Bool) (next : Judged) (fault : SeenFault) → Legal next → Legal (cond b next (Fails fault))
-if_stands true next fault legal = legal
-if_stands false next fault legal = tt
-
 intent_legal : (version : Version) (n : ℕ) (rows : List Row) (before : Option Intent) (intent : Intent) → AreLegal rows → Legal (after_intent version n rows before intent)
-intent_legal Two n rows None intent all = if_stands (has_row rows intent.uid) (Stands (BetweenGroups rows (Some intent))) _ all
+intent_legal Two n rows None intent all = cond_both (has_row rows intent.uid) _ _ Legal (λ there. all) (λ absent. tt)
 intent_legal version n rows before intent all = tt
 
 line_legal : (version : Version) (n : ℕ) (progress : Progress) (line : Line) → Legal (Stands progress) → IsLine line → Legal (after_line version n progress line)
-line_legal version n (InBase rows) (RowLine row) all is = cond_both (has_row rows row.uid) (Fails _) (Stands (InBase (rows ++ row ∷ []))) Legal (λ there. tt)
-    (λ absent. all_append (λ (r : Row). is_legal_id r.uid ≡ true) rows (row ∷ []) all (is.legal, tt))
+line_legal version n (InBase rows) (RowLine row) all is = cond_both (has_row rows row.uid) _ _ Legal (λ there. tt) (λ absent. all_append _ rows (row ∷ []) all (is.legal, tt))
 line_legal version n (InBase rows) (GroupLine count) all is = (all, all)
 line_legal version n (InBase rows) (IntentLine intent) all is = intent_legal version n rows None intent all
 line_legal version n (BetweenGroups rows before) (GroupLine count) all is = (all, all)
 line_legal version n (BetweenGroups rows before) (IntentLine intent) all is = intent_legal version n rows before intent all
-line_legal version n (InGroup old before rows zero) (RowLine row) all is =
-    if_stands (may_take version rows row) (Stands (BetweenGroups (taken rows row) None)) _ (taken_legal rows row all.1 is.legal)
-line_legal version n (InGroup old before rows (suc more)) (RowLine row) all is =
-    if_stands (may_take version rows row) (Stands (InGroup old before (taken rows row) more)) _ (all.0, taken_legal rows row all.1 is.legal)
+line_legal version n (InGroup old before rows zero) (RowLine row) all is = cond_both (may_take version rows row) _ _ Legal (λ may. taken_legal rows row all.1 is.legal) (λ not. tt)
+line_legal version n (InGroup old before rows (suc more)) (RowLine row) all is = cond_both (may_take version rows row) _ _ Legal (λ may. (all.0, taken_legal rows row all.1 is.legal)) (λ not. tt)
 line_legal version n progress line all is = tt
 
 lines_legal : (version : Version) (n : ℕ) (so_far : Judged) (lines : List Line) → Legal so_far → AllByRecursion IsLine lines → Legal (judged version n so_far lines)
@@ -58,37 +48,26 @@ lines_legal version n (Stands progress) (line ∷ lines) legal each =
     lines_legal version (n + 1) (after_line version n progress line) lines (line_legal version n progress line legal each.0) each.1
 
 counted_legal : (progress : Progress) → Legal (Stands progress) → AreLegal (counted progress)
-counted_legal (InBase rows) all = all
-counted_legal (BetweenGroups rows intent) all = all
 counted_legal (InGroup before intent rows more) all = all.0
+counted_legal progress all = all
 
 ends_legal : (version : Version) (rows : List Row) (intent : Option Intent) (torn : Bool) (of : Version) (n : ℕ) (end : Judged) (rest : List ℕ) → Legal end
     → Ends of n end rest (Rows version rows intent torn) → AreLegal rows
 ends_legal version rows intent torn of n (Fails fault) rest legal never = absurd cc
-ends_legal version rows intent torn of n (Stands progress) rest legal (none, is) = elim (cases_Bool (has_line_feed rest)) [
-  | inl e ↦
-      let never : Rows version rows intent torn ≡ Fault (BadRow (line_after n)) = rw e at is in
-      absurd cc
-  | inr e ↦
-      let there : Rows version rows intent torn ≡ Rows of (counted progress) (left_open progress) (is_open progress || has_bytes rest) = rw e at is in
-      let same : rows ≡ counted progress = cc in
-      subst AreLegal (sym same) (counted_legal progress legal)
-]
+ends_legal version rows intent torn of n (Stands progress) rest legal (none, is) =
+    let same : rows ≡ counted progress = grind (arith, is) in rw same (counted_legal progress legal)
 
 means_legal : (bytes : List ℕ) (version : Version) (rows : List Row) (intent : Option Intent) (torn : Bool) → Means bytes (Rows version rows intent torn) → AreLegal rows
-means_legal bytes version rows intent torn (inl (none, is)) = let same : rows ≡ [] = cc in subst AreLegal (sym same) tt
+means_legal bytes version rows intent torn (inl (none, is)) = let same : rows ≡ [] = cc in rw same tt
 means_legal bytes version rows intent torn (inr (inl (some, other, never))) = absurd cc
 means_legal bytes version rows intent torn (inr (inr by_lines)) =
     ends_legal version rows intent torn by_lines.version _ (judged by_lines.version 0 (Stands (InBase [])) by_lines.lines) by_lines.rest
     (lines_legal by_lines.version 0 (Stands (InBase [])) by_lines.lines tt (recursion_from_All IsLine by_lines.lines by_lines.cut.each)) by_lines.ends
 
 delivered_legal : (rows : List Row) (id : List ℕ) → AreLegal rows → is_delivered rows id ≡ true → is_legal_id id ≡ true
-delivered_legal [] id all never = absurd (both_ways false refl never)
-delivered_legal (row ∷ rows) id all delivered = elim (or_cases (is_of id row && row.delivered) (is_delivered rows id) delivered) [
-  | inl here ↦ subst (λ (x : List ℕ). is_legal_id x ≡ true) (sym ((bytes_eq-Decides id row.uid).0 (and_parts (is_of id row) row.delivered here).0)) all.0
-  | inr later ↦ delivered_legal rows id all.1 later
-]
+delivered_legal [] id all never = absurd cc
+delivered_legal (row ∷ rows) id all delivered = grind (arith, delivered, all.0, bytes_same id row.uid, delivered_legal rows id all.1)
 
 pub kept_legal : (content : Option (List ℕ)) (rows : List Row) → KeepsRows content rows → (id : List ℕ) → is_delivered rows id ≡ true → is_legal_id id ≡ true
-kept_legal None rows (intent, stands) id delivered = absurd (both_ways false refl (subst (λ (r : List Row). is_delivered r id ≡ true) stands.0 delivered))
+kept_legal None rows (intent, stands) id delivered = absurd (let never = rw stands.0 at delivered in cc)
 kept_legal (Some bytes) rows keeps id delivered = delivered_legal rows id (means_legal bytes keeps.1.0 rows keeps.0 keeps.1.1 keeps.1.2) delivered

@@ -1,7 +1,6 @@
 mod Bridge
 mod Courses
 mod Fronts
-mod FrontsHonest
 mod HeadlineLemmas
 mod Ids
 mod LegalRows
@@ -10,16 +9,11 @@ mod MboxHeadlineLemmas
 mod MboxState
 mod PowerEvents
 mod PowerLosses
-mod PowerRecord
 mod PowerSessions
-mod PowerTakings
 mod RunLemmas
-mod StateCases
 mod StateDone
 mod StateLaw
-mod StatePlan
 mod Takings
 mod TalkCommands
 mod TalkConversation
-mod TalkCourses
 mod TalkSpeech

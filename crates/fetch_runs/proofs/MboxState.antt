@@ -1,49 +1,39 @@
 -- What a session leaves of an account with an mboxrd file.
-use Rattle.std.proofs.Common.{arith, ◌≡◌, inl, inr, ◌+◌, ℕ, List, [], ◌∷◌, ◌++◌, map, take, length, Option, None, Some, refl, sym, ap, ◌∙◌, ◌⊎◌, Bool, true, false, Result, Ok, Err, subst, append_assoc, rules}
-use Rattle.std.specs.Prelude.{slice_get, option_map}
-use Rattle.std.specs.List.{AllByRecursion, flat_map, AllZip}
-use Rattle.std.proofs.lemmas.Bool.{true≢false}
+use Rattle.std.proofs.Common.{⊎_elim, true, arith, ◌≡◌, inl, inr, ℕ, List, [], ◌∷◌, ◌++◌, map, take, Option, None, Some, refl, sym, ap, ◌∙◌, ◌⊎◌, false, Result, Ok, Err, append_assoc}
+use Rattle.std.specs.List.{AllByRecursion}
 use Rattle.std.proofs.lemmas.List.{append-nil, length-map, map-append, take_at}
 use Rattle.std.proofs.lemmas.List.Concat.{flat_map-append}
 use Rattle.mail_terms.specs.Listing.{Item}
 use Rattle.rc_file.specs.declared.settings.Settings.{Settings}
 use Rattle.mail_store.specs.Mboxrd.{entry_of}
 use Rattle.mail_store.specs.MboxCalls.{RefusesLook}
-use Rattle.mail_store.specs.declared.fault.StoreFault.{StoreFault}
 use Rattle.pop3_wire.specs.Reading.{WholeReply}
 use Rattle.pop3_client.specs.Texts.{body_text}
 use Rattle.fetch_session.specs.Task.{Task, stores, rereads, Done, IsAnswered, tasks_of, texts_in, texts_of}
 use Rattle.fetch_session.specs.Target.{no_maildir, AsEntries, Stores, mail_in, is_stored, closed_file, rows_in}
-use Rattle.run_law.specs.Steps.{Effect}
-use Rattle.run_law.specs.Mboxes.{MboxMail, settled, mbox_wanted, entries, intent_of as law_intent}
+use Rattle.run_law.specs.Mboxes.{MboxLeaves, settled, entries}
 use Rattle.run_law.specs.MboxCounted.{bytes_at, OpensAt, AllRecorded, LastUnrecorded, MboxCounted}
-use Rattle.fetch_runs.proofs.Lists.{mapped_at}
-use Rattle.fetch_runs.proofs.Courses.{found_in, found_by, Course, course, stored_done, course_stopped, course_does, found_of, begun_of, SessionCourse, Idle, Deals, course_carried, course_carries, course_proceeded}
-use Rattle.fetch_runs.proofs.StatePlan.{key, fetched_in, fetched, IsRight}
-use Rattle.fetch_runs.proofs.StateDone.{text_found, texts_by, same_length, number_found, number_of, Laws, Inputs, rows_on, messages_on, tasks_on, rows_after, Part, effect_of, right_part, records_part, wanted_are}
+use Rattle.fetch_runs.proofs.Lists.{at_length, mapped_at}
+use Rattle.fetch_runs.proofs.Courses.{found_of, found_in, found_by, Course, course, stored_done, course_stopped, course_does, begun_of, course_proceeded}
+use Rattle.fetch_runs.proofs.StateDone.{key, fetched_in, fetched, IsRight, count, text_found, texts_by, same_length, Laws, Inputs, rows_on, messages_on, tasks_on, rows_after, Part, effect_of, right_part, records_part, wanted_are}
 use Rattle.std.proofs.lemmas.Option.{same_Some}
-use Rattle.fetch_rules.specs.Record.{Row, Intent, RecordState, none_open, marked, merged}
+use Rattle.fetch_rules.specs.Record.{Row, Intent, RecordState, none_open, marked}
 use Rattle.mail_store.specs.FlatFile.{Stored}
-use Rattle.pop3_client.specs.Turns.{IsGood, retr}
 use Rattle.fetch_session.specs.declared.fault.Cut.{Cut}
 use Rattle.fetch_session.specs.declared.fault.Fault.{Fault}
-use Rattle.fetch_session.specs.declared.fault.Fault.TheVariants.{StoreRefused, SeenRefused, NoMemory, BadSeen}
+use Rattle.fetch_session.specs.declared.fault.Fault.TheVariants.{StoreRefused, SeenRefused, NoMemory}
 use Rattle.fetch_session.specs.declared.fault.Why.TheVariants as why
 use Rattle.fetch_session.specs.declared.report.ReportLine.{ReportLine}
-use Rattle.fetch_session.specs.declared.report.Skips.{Skips}
 use Rattle.fetch_session.specs.Report.{retrieved_in}
 use Rattle.fetch_session.specs.Laws.{SteadyFilesKeep, UnsavedFilesKeep}
-use Rattle.fetch_session.specs.Record.{Keeps, Steady, with_open}
-use Rattle.fetch_session.specs.Mbox.{IsIntended, IsTakenBack, MarksEntry, RefusesEntry, intent_of}
-use Rattle.fetch_session.specs.Scene.{Scene, EntryNotSaved, Went, Fell, Stops, Does, scene}
+use Rattle.fetch_session.specs.Record.{record_state, Keeps, Steady, with_open}
+use Rattle.fetch_session.specs.Mbox.{IsTakenBack, RefusesEntry, intent_of}
+use Rattle.fetch_session.specs.Scene.{Scene, EntryNotSaved, Went, Fell, Stops, Does}
 use Rattle.fetch_runs.specs.MboxSteps.{mbox_holds}
-use Rattle.fetch_runs.proofs.StateCases.{is_ended, UnsavedIn, unsaved_why, Starts, Tally, tally_right, tally_numbers, tally_number, mid_rows, mid_keeps, part_all, tally_all, part_done, tally_no_line, tally_before, full_found, one_found, tally_spare, tally_old, tally_new, full_rows, tally_none}
-use Rattle.fetch_rules.specs.Intents.{closed_rows}
-use Rattle.mail_store.specs.Held.{flags_of}
-use Rattle.pop3_wire.specs.Place.{Place}
-use Rattle.fetch_session.specs.Plan.{tasks_ahead, Unprepared, Carried, Carries}
-use Rattle.fetch_session.specs.Readiness.{IsMergedAtMost, IsSettledBy, MboxUnready, Settles}
-use Rattle.fetch_session.specs.Session.{outcome_of, Keeping, Noted, Proceeds}
+use Rattle.fetch_runs.proofs.StateLaw.{not_ended, CourseLeads, by_course, or_less, tally_begun, is_ended, unsaved_why, Starts, Tally, tally_number, mid_rows, mid_keeps, part_all, tally_all, part_done, tally_no_line, tally_before, full_found, one_found, tally_spare, tally_old, tally_new, full_rows, tally_none}
+use Rattle.fetch_session.specs.Plan.{tasks_ahead}
+use Rattle.fetch_session.specs.Readiness.{IsSettledBy, MboxUnready, Settles}
+use Rattle.fetch_session.specs.Session.{Keeping, Noted, Proceeds}
 use Rattle.run_law.specs.Mboxes as Law
 use Rattle.std.proofs.lemmas.Simd.{map-map}
 
@@ -54,423 +44,299 @@ use Rattle.std.proofs.lemmas.Simd.{map-map}
 -- no message counts as held, so each text that was retrieved was to be stored
 texts_one : (items : List Item) (task : Task) (replies : List WholeReply) → IsRight [] no_maildir items task → texts_in task replies ≡ map text_found (found_in task replies)
 texts_one items (stores number uid) replies right = sym (map-map text_found (λ (reply : WholeReply). (number, body_text reply.body)) replies)
-texts_one items (rereads number uid) replies right = absurd (true≢false (sym right.0))
+texts_one items (rereads number uid) replies right = absurd cc
 texts_one items other replies right = refl
 
-pub texts_same : (items : List Item) (dones : List Done) → AllByRecursion (IsRight [] no_maildir items) (tasks_of dones) → texts_of dones ≡ texts_by dones
+texts_same : (items : List Item) (dones : List Done) → AllByRecursion (IsRight [] no_maildir items) (tasks_of dones) → texts_of dones ≡ texts_by dones
 texts_same items [] right = refl
 texts_same items (d ∷ dones) right =
     simp (map-append, texts_one items d.task d.replies right.0, texts_same items dones right.1)
 
 -- ---- the next message
 
-at_length : {A : Type 0} (xs : List A) (y : A) (ys : List A) → slice_get (xs ++ y ∷ ys) (length xs) ≡ Some y
-at_length [] y ys = refl
-at_length (x ∷ xs) y ys = at_length xs y ys
-
--- the message that the task after these fetches is the next of the wanted ones
-pub next_wanted : (tasks later : List Task) (dones : List Done) (messages : List (ℕ × Item)) (number : ℕ) (uid : List ℕ) → fetched tasks ≡ map key messages
-    → tasks ≡ tasks_of dones ++ (stores number uid ∷ later) → AllByRecursion IsAnswered dones
-    → (q : ℕ × Item) × (slice_get messages (length (found_by dones)) ≡ Some q) × (key q ≡ (number, uid))
-next_wanted tasks later dones messages number uid are split answered =
-    mapped_at key messages (length (found_by dones)) (number, uid)
-    (ap (λ (l : List (ℕ × List ℕ)). slice_get l (length (found_by dones))) (sym are ∙ ap fetched split ∙ flat_map-append fetched_in (tasks_of dones) (stores number uid ∷ later))
-    ∙ ap (λ (n : ℕ). slice_get (fetched (tasks_of dones) ++ (number, uid) ∷ fetched later) n) (sym (same_length dones answered))
-    ∙ at_length (fetched (tasks_of dones)) (number, uid) (fetched later))
-
--- ---- what the law over runs takes
-
-front_texts : (texts more : List (List ℕ)) (dones : List Done) → texts ≡ texts_by dones ++ more → take (length (found_by dones)) texts ≡ texts_by dones
-front_texts texts more dones are =
-    ap (λ (l : List (List ℕ)). take (length (found_by dones)) l) are ∙ take_at (texts_by dones) more (length (found_by dones)) (length-map (found_by dones) text_found)
-
--- no intent is open, and nothing follows the entries
-pub closed_at : {settings : Settings} {before : MboxMail} {effect : Effect} {after : MboxMail} (dones : List Done) (more : List (List ℕ)) → effect.texts ≡ texts_by dones ++ more
-    → after.intent ≡ None → after.file ≡ (settled effect.listing before).file ++ entries (texts_by dones) → AllRecorded settings before effect (length (found_by dones)) after
-closed_at {before = before} {effect = effect} dones more are none file = record {
-  text = [];
-  front = [];
-  behind = [];
-  file = file ∙ ap (λ (l : List (List ℕ)). (settled effect.listing before).file ++ entries l) (sym (front_texts effect.texts more dones are)) ∙ sym (append-nil (bytes_at before effect (length (found_by dones))));
-  ending = inl (none, refl);
-}
-
--- the intent of the next entry is open
-pub opens_at : {settings : Settings} {before : MboxMail} {effect : Effect} {after : MboxMail} (dones : List Done) (text : List ℕ) (message : ℕ × Item)
-    → effect.texts ≡ texts_by dones ++ text ∷ [] → slice_get (mbox_wanted settings before effect) (length (found_by dones)) ≡ Some message
-    → after.intent ≡ Some (law_intent ((settled effect.listing before).file ++ entries (texts_by dones)) message.1.uid text) → OpensAt settings before effect (length (found_by dones)) text after
-opens_at {before = before} {effect = effect} dones text message are wanted intent = record {
-  message = message;
-  wanted = wanted;
-  got = ap (λ (l : List (List ℕ)). slice_get l (length (found_by dones))) are
-      ∙ ap (λ (n : ℕ). slice_get (texts_by dones ++ text ∷ []) n) (sym (length-map (found_by dones) text_found)) ∙ at_length (texts_by dones) text [];
-  intent = intent ∙ ap (λ (l : List (List ℕ)). Some (law_intent ((settled effect.listing before).file ++ entries l) message.1.uid text)) (sym (front_texts effect.texts (text ∷ []) dones are));
-}
-
--- and a prefix of it follows
-pub open_at : {settings : Settings} {before : MboxMail} {effect : Effect} {after : MboxMail} (dones : List Done) (text front behind : List ℕ) → effect.texts ≡ texts_by dones ++ text ∷ []
-    → OpensAt settings before effect (length (found_by dones)) text after → entry_of text ≡ front ++ behind → after.file ≡ ((settled effect.listing before).file ++ entries (texts_by dones)) ++ front
-    → AllRecorded settings before effect (length (found_by dones)) after
-open_at {before = before} {effect = effect} dones text front behind are opens entry file = record {
-  text = text;
-  front = front;
-  behind = behind;
-  file = file ∙ ap (λ (l : List (List ℕ)). ((settled effect.listing before).file ++ entries l) ++ front) (sym (front_texts effect.texts (text ∷ []) dones are));
-  ending = inr (opens, entry);
-}
-
--- and it is whole
-pub unrecorded_at : {settings : Settings} {before : MboxMail} {effect : Effect} {after : MboxMail} (dones full : List Done) (text : List ℕ) → effect.texts ≡ texts_by full
-    → length (found_by dones) + 1 ≡ length (found_by full) → OpensAt settings before effect (length (found_by dones)) text after → after.file ≡ (settled effect.listing before).file ++ entries (texts_by full)
-    → LastUnrecorded settings before effect (length (found_by full)) (length (found_by dones)) after
-unrecorded_at {before = before} {effect = effect} dones full text are less opens file = record {
-  one_less = less;
-  text = text;
-  file = file ∙ ap (λ (l : List (List ℕ)). (settled effect.listing before).file ++ entries l) (sym (front_texts effect.texts [] full (are ∙ sym (append-nil (texts_by full)))));
-  opens = opens;
-}
+front_texts : (texts more : List (List ℕ)) (dones : List Done) → texts ≡ texts_by dones ++ more → take (count dones) texts ≡ texts_by dones
+front_texts texts more dones are = rw are (take_at (texts_by dones) more (count dones) (length-map (found_by dones) text_found))
 
 -- ---- what a text that wasn't appended leaves
 
 -- no intent is open, and the file is as it was; or the text's is open, and a prefix of its entry follows
-abbrev LeavesEntry : Stored → List Row → List ℕ → List ℕ → Stored → Stored → Type 0
-LeavesEntry mbox rows uid text mbox' file' = ((mbox'.content ≡ mbox.content) × Keeps file'.content (none_open rows))
-    ⊎ ((was front behind : List ℕ) × (mbox.content ≡ Some was) × (entry_of text ≡ front ++ behind) × (mbox'.content ≡ Some (was ++ front))
-    × Keeps file'.content (with_open rows (intent_of was uid text)))
+abbrev LeavesEntry : List ℕ → List Row → List ℕ → List ℕ → Stored → Stored → Type 0
+LeavesEntry was rows uid text mbox' file' = ((mbox'.content ≡ Some was) × Keeps file'.content (none_open rows))
+    ⊎ ((front behind : List ℕ) × (entry_of text ≡ front ++ behind) × (mbox'.content ≡ Some (was ++ front)) × Keeps file'.content (with_open rows (intent_of was uid text)))
 
-module _ (steadies : SteadyFilesKeep) (unsaved : UnsavedFilesKeep) (mbox file : Stored) (rows : List Row) (uid text : List ℕ) (mbox' file' : Stored) (steady : Steady file.content (none_open rows)) where
-  as_it_was : mbox'.content ≡ mbox.content → file' ≡ file → LeavesEntry mbox rows uid text mbox' file'
-  as_it_was same is = inl (same, subst (λ (s : Stored). Keeps s.content (none_open rows)) (sym is) (steadies file.content (none_open rows) steady))
+same_content : {a b : Stored} → a ≡ b → a.content ≡ b.content
+same_content same = ap (λ (s : Stored). s.content) same
 
-  with_nothing : (was : List ℕ) → mbox.content ≡ Some was → mbox'.content ≡ mbox.content → Keeps file'.content (with_open rows (intent_of was uid text)) → LeavesEntry mbox rows uid text mbox' file'
-  with_nothing was is same keeps = inr (was, [], entry_of text, is, refl, same ∙ is ∙ ap Some (sym (append-nil was)), keeps)
+module _ (steadies : SteadyFilesKeep) (unsaved : UnsavedFilesKeep) (was : List ℕ) (mbox file : Stored) (rows : List Row) (uid text : List ℕ) (mbox' file' : Stored) (there : mbox.content ≡ Some was) (steady : Steady file.content (none_open rows)) where
+  -- what is known of the bytes before the entry is known of these
+  open_for : (other : List ℕ) → mbox.content ≡ Some other → Keeps file'.content (with_open rows (intent_of other uid text)) → Keeps file'.content (with_open rows (intent_of was uid text))
+  open_for other is keeps = rw (← same_Some other was (sym is ∙ there)) keeps
 
-  -- the intent was closed again, unless that was refused
-  closed_again : IsTakenBack mbox file rows uid text file' → mbox'.content ≡ mbox.content → LeavesEntry mbox rows uid text mbox' file'
-  closed_again (was, there, opened, saves, inl closes) same = inl (same, steadies file'.content (none_open rows) (closes.1 (saves.1 steady)))
-  closed_again (was, there, opened, saves, inr closes) same =
-      elim (unsaved opened (with_open rows (intent_of was uid text)) (none_open rows) SeenRefused file' closes (saves.1 steady)) [
-        | inl old ↦ with_nothing was there same old
-        | inr new ↦ inl (same, new)
-      ]
+  with_nothing : (other : List ℕ) → mbox.content ≡ Some other → mbox'.content ≡ mbox.content → Keeps file'.content (with_open rows (intent_of other uid text)) → LeavesEntry was rows uid text mbox' file'
+  with_nothing other is same keeps = inr ([], entry_of text, refl, same ∙ there ∙ ap Some (sym (append-nil was)), open_for other is keeps)
 
-  left_open : IsIntended mbox file rows uid text file' → mbox'.content ≡ mbox.content → LeavesEntry mbox rows uid text mbox' file'
-  left_open (was, there, saves) same = with_nothing was there same (steadies file'.content (with_open rows (intent_of was uid text)) (saves.1 steady))
+  -- no intent was saved; or it was closed again, unless that was refused
+  unopened : (file' ≡ file) ⊎ IsTakenBack mbox file rows uid text file' → mbox'.content ≡ mbox.content → LeavesEntry was rows uid text mbox' file'
+  unopened (inl is) same = inl (same ∙ there, rw is (steadies file.content (none_open rows) steady))
+  unopened (inr (other, is, opened, saves, inl closes)) same = inl (same ∙ there, steadies file'.content (none_open rows) (closes.1 (saves.1 steady)))
+  unopened (inr (other, is, opened, saves, inr closes)) same =
+      ⊎_elim (with_nothing other is same) (λ new. inl (same ∙ there, new)) (unsaved opened (with_open rows (intent_of other uid text)) (none_open rows) SeenRefused file' closes (saves.1 steady))
 
-  leaves_entry : (fault : Fault) → RefusesEntry mbox file rows uid text fault mbox' file' → LeavesEntry mbox rows uid text mbox' file'
-  leaves_entry (StoreRefused why.Missing) (none, same, is) = as_it_was (ap (λ (s : Stored). s.content) same) is
-  leaves_entry (StoreRefused why.Refused) (inl (same, inl is)) = as_it_was (ap (λ (s : Stored). s.content) same) is
-  leaves_entry (StoreRefused why.Refused) (inl (same, inr back)) = closed_again back (ap (λ (s : Stored). s.content) same)
-  leaves_entry (StoreRefused why.Refused) (inr ((was, there, saves), (other, front, behind, goes_on, entry, now))) =
-      inr (
-        was,
-        front,
-        behind,
-        there,
-        entry,
-        ap (λ (s : Stored). s.content) now ∙ ap (λ (l : List ℕ). Some (l ++ front)) (same_Some other was (sym goes_on.0 ∙ there)),
-        steadies file'.content (with_open rows (intent_of was uid text)) (saves.1 steady),
-      )
-  leaves_entry (StoreRefused why.NotMbox) (other, same, back) = closed_again back (ap (λ (s : Stored). s.content) same)
-  leaves_entry SeenRefused (same, (was, there, saves)) =
-      elim (unsaved file (none_open rows) (with_open rows (intent_of was uid text)) SeenRefused file' saves steady) [
-        | inl old ↦ inl (ap (λ (s : Stored). s.content) same, old)
-        | inr new ↦ with_nothing was there (ap (λ (s : Stored). s.content) same) new
-      ]
-  leaves_entry NoMemory (inl (same, inl is)) = as_it_was (ap (λ (s : Stored). s.content) same) is
-  leaves_entry NoMemory (inl (same, inr back)) = closed_again back (ap (λ (s : Stored). s.content) same)
-  leaves_entry NoMemory (inr (inl same, is)) = left_open is (ap (λ (s : Stored). s.content) same)
-  leaves_entry NoMemory (inr (inr same, is)) = left_open is (ap (λ (s : Stored). s.content) same)
+  leaves_entry : (fault : Fault) → RefusesEntry mbox file rows uid text fault mbox' file' → LeavesEntry was rows uid text mbox' file'
+  leaves_entry (StoreRefused why.Missing) (none, same, is) = unopened (inl is) (same_content same)
+  leaves_entry (StoreRefused why.Refused) (inl (same, how)) = unopened how (same_content same)
+  leaves_entry (StoreRefused why.Refused) (inr ((other, is, saves), (bytes, front, behind, goes_on, entry, now))) = inr (
+    front,
+    behind,
+    entry,
+    rw (now, same_Some bytes was (sym goes_on.0 ∙ there)) refl,
+    open_for other is (steadies file'.content (with_open rows (intent_of other uid text)) (saves.1 steady)),
+  )
+  leaves_entry (StoreRefused why.NotMbox) (other, same, back) = unopened (inr back) (same_content same)
+  leaves_entry SeenRefused (same, (other, is, saves)) =
+      ⊎_elim (λ old. inl (same_content same ∙ there, old)) (with_nothing other is (same_content same)) (unsaved file (none_open rows) (with_open rows (intent_of other uid text)) SeenRefused file' saves steady)
+  leaves_entry NoMemory (inl (same, how)) = unopened how (same_content same)
+  leaves_entry NoMemory (inr (how, (other, is, saves))) = with_nothing other is (grind (arith, how)) (steadies file'.content (with_open rows (intent_of other uid text)) (saves.1 steady))
   leaves_entry other never = absurd never
 
 -- a file that was only looked at is as it was
-look_content : (why : StoreFault) (old new : Stored) → RefusesLook old why new → new.content ≡ old.content
+look_content : (why : _) (old new : Stored) → RefusesLook old why new → new.content ≡ old.content
 look_content why old new is = grind arith
 
 -- ---- the account that a session left, and what it found
 
-abbrev pub rows_settled : List Item → RecordState → Stored → List Row
-rows_settled items held mbox = (settled items (mbox_holds held mbox)).rows
-
 abbrev pub bytes_settled : List Item → RecordState → Stored → List ℕ
 bytes_settled items held mbox = (settled items (mbox_holds held mbox)).file
 
-abbrev pub held_with : List Row → Option Intent → RecordState
-held_with rows intent = record { rows = rows; intent = intent }
-
-pub record MboxLeads (settings : Settings) (now : ℕ) (ended : Bool) (c : Course) (held : RecordState) (mbox mbox' : Stored) (content' : Option (List ℕ)) (lines : List ReportLine) (unsaved : Type 0) : Type 0 where
-  pub record_state' : RecordState
-  pub keeps : Keeps content' record_state'
-  pub figures : MboxCounted settings (mbox_holds held mbox) (effect_of now ended c) (mbox_holds record_state' mbox')
-  pub numbers : map number_found (found_of c) ≡ map number_of (take (length (found_of c)) (mbox_wanted settings (mbox_holds held mbox) (effect_of now ended c)))
-  pub right : AllByRecursion (IsRight [] no_maildir c.items) (begun_of c)
-  pub counted : retrieved_in lines ≡ figures.k
-  pub one_less : figures.j + 1 ≡ figures.k → unsaved
-
 -- the tasks are those of an account with an empty Maildir: no message counts as held
-abbrev pub inputs : Settings → List Item → ℕ → RecordState → Stored → Inputs
-inputs settings items now held mbox = record { settings = settings; account = []; items = items; now = now; maildir = no_maildir; rows = rows_settled items held mbox }
+abbrev pub mbox_inputs : Settings → ℕ → RecordState → Stored → List Item → Inputs
+mbox_inputs settings now held mbox items = record { settings = settings; account = []; items = items; now = now; maildir = no_maildir; rows = (settled items (mbox_holds held mbox)).rows }
 
-module _ (laws : Laws) (settings : Settings) (items : List Item) (now : ℕ) (held : RecordState) (mbox : Stored) where
-  abbrev p : Inputs
-  p = inputs settings items now held mbox
+pub record MboxLeads (settings : Settings) (now : ℕ) (held : RecordState) (mbox : Stored) (result : Result (Unit {0}) Cut) (c : Course) (mbox' : Stored) (content' : Option (List ℕ)) (lines : List ReportLine) : Type 0 where
+  pub full : List Done
+  pub noted : List Done
+  pub tally : Tally (mbox_inputs settings now held mbox c.items) result c full noted lines (Unit {0})
+  pub intent' : Option Intent
+  pub keeps : Keeps content' (record_state (rows_after (mbox_inputs settings now held mbox c.items) noted) intent')
+  pub marks : ((count noted ≡ count c.taken) × AllRecorded settings (mbox_holds held mbox) (effect_of now (is_ended result) c) (count c.taken) (mbox_holds (record_state (rows_after (mbox_inputs settings now held mbox c.items) noted) intent') mbox'))
+      ⊎ LastUnrecorded settings (mbox_holds held mbox) (effect_of now (is_ended result) c) (count c.taken) (count noted) (mbox_holds (record_state (rows_after (mbox_inputs settings now held mbox c.items) noted) intent') mbox')
+  pub closed : is_ended result ≡ true → intent' ≡ None
 
-  -- after these were done, with this intent open
-  abbrev held_after : List Done → Option Intent → RecordState
-  held_after dones intent = held_with (rows_after p dones) intent
-
-  abbrev bytes_after : List Done → List ℕ
-  bytes_after dones = bytes_settled items held mbox ++ entries (texts_by dones)
-
-  module _ {ended : Bool} {taken whole noted : List Done} {spare : List WholeReply} {under : List Task} {lines : List ReportLine} {unsaved : Type 0} (t : Tally p ended taken spare under whole noted lines (Unit {0}) unsaved)
-      (mbox' : Stored) (content' : Option (List ℕ)) where
-    abbrev Leading : Type 0
-    Leading = MboxLeads settings now ended (course items taken spare under) held mbox mbox' content' lines unsaved
-
-    lead : (intent' : Option Intent) → Keeps content' (held_after noted intent')
-        → ((length (found_by noted) ≡ length (found_by taken)) × AllRecorded settings (mbox_holds held mbox) (effect_of now ended (course items taken spare under)) (length (found_by taken)) (mbox_holds (held_after noted intent') mbox'))
-        ⊎ LastUnrecorded settings (mbox_holds held mbox) (effect_of now ended (course items taken spare under)) (length (found_by taken)) (length (found_by noted)) (mbox_holds (held_after noted intent') mbox')
-        → (ended ≡ true → intent' ≡ None) → Leading
-    lead intent' keeps marks closed = record {
-      record_state' = held_after noted intent';
-      keeps = keeps;
-      figures = record {
-        k = length (found_by taken);
-        j = length (found_by noted);
-        number = rw (tally_number laws p t) t.number;
-        rows = records_part laws p noted t.part;
-        marks = marks;
-        begun = t.begun;
-        ended = λ is. ((t.ends is).1, closed is);
-      };
-      numbers = tally_numbers laws p t;
-      right = tally_right laws p t;
-      counted = t.counts;
-      one_less = t.one_less;
-    }
-
-  -- no intent is open
-  pub lead_closed : {ended : Bool} {taken whole : List Done} {spare : List WholeReply} {under : List Task} {lines : List ReportLine} {unsaved : Type 0} (t : Tally p ended taken spare under whole taken lines (Unit {0}) unsaved)
-      → (mbox' : Stored) (content' : Option (List ℕ)) (more : List (List ℕ)) → texts_by whole ≡ texts_by taken ++ more
-      → Keeps content' (held_after taken None) → mail_in mbox'.content ≡ bytes_after taken → MboxLeads settings now ended (course items taken spare under) held mbox mbox' content' lines unsaved
-  lead_closed {taken = taken} t mbox' content' more texts keeps file =
-      lead t mbox' content' None keeps (inl (refl, closed_at taken more (ap (map text_found) t.found ∙ texts) refl file)) (λ is. refl)
-
-  module _ {tasks : List Task} {old : Scene} (starts : Starts p tasks old) (same_mbox : old.store.mbox.content ≡ Some (bytes_settled items held mbox)) where
-    -- what there was after the tasks that were done
-    content_after : (dones : List Done) (mid : Scene) → Went AsEntries dones old mid → Part (tasks_on p) dones → mid.store.mbox.content ≡ Some (bytes_after dones)
-    content_after dones mid went part =
-        went.stored.content ∙ ap (option_map (λ (was : List ℕ). was ++ flat_map entry_of (texts_of dones))) same_mbox
-        ∙ ap (λ (ts : List (List ℕ)). Some (bytes_settled items held mbox ++ entries ts)) (texts_same items dones (right_part laws p dones part))
-
-    module _ {cut : Cut} {new : Scene} (fell : Fell AsEntries tasks old cut new) where
-      abbrev Stopped : Course → Type 0
-      Stopped c = MboxLeads settings now false c held mbox new.store.mbox new.file.content new.lines (UnsavedIn (outcome_of (Err cut)))
-
-      mid_content : fell.mid.store.mbox.content ≡ Some (bytes_after fell.dones)
-      mid_content = content_after fell.dones fell.mid fell.went (part_done laws p starts fell)
-
-      same_held : (content : Option (List ℕ)) (intent : Option Intent) → Keeps content (held_with fell.mid.rows intent) → Keeps content (held_after fell.dones intent)
-      same_held content intent keeps = subst (λ (r : List Row). Keeps content (held_with r intent)) (mid_rows laws p starts fell.dones fell.mid fell.went) keeps
-
-      -- the next task left the files and the report as they were
-      bare : new.store.mbox.content ≡ fell.mid.store.mbox.content → new.file ≡ fell.mid.file → new.lines ≡ fell.mid.lines → Stopped (course items fell.dones [] (fell.next ∷ []))
-      bare same file told =
-          lead_closed (tally_no_line laws p starts fell told) new.store.mbox new.file.content [] (sym (append-nil (texts_by fell.dones)))
-          (subst (λ (s : Stored). Keeps s.content (held_after fell.dones None)) (sym file) (mid_keeps laws p starts fell.dones fell.mid fell.went)) (ap mail_in (same ∙ mid_content))
-
-      -- the next task retrieved a text
-      module _ (number : ℕ) (uid : List ℕ) (reply : WholeReply) (is : fell.next ≡ stores number uid) (answered : AllZip IsGood (retr number ∷ []) (reply ∷ [])) where
-        abbrev text : List ℕ
-        text = body_text reply.body
-
-        abbrev full : List Done
-        full = fell.dones ++ stored_done number uid reply ∷ []
-
-        full_texts : texts_by full ≡ texts_by fell.dones ++ text ∷ []
-        full_texts = ap (map text_found) (full_found laws p starts fell number uid reply is answered) ∙ map-append text_found (found_by fell.dones) ((number, text) ∷ [])
-
-        next_message : (q : ℕ × Item) × (slice_get (messages_on p) (length (found_by fell.dones)) ≡ Some q) × (key q ≡ (number, uid))
-        next_message =
-            next_wanted (tasks_on p) fell.later fell.dones (messages_on p) number uid (wanted_are laws p)
-            ((part_done laws p starts fell).split ∙ ap (λ (t : Task). tasks_of fell.dones ++ (t ∷ fell.later)) is) fell.went.each
-
-        -- its intent is open after the entries of the tasks that were done
-        opens : (c : Course) (mbox' : Stored) (was : List ℕ) → c.items ≡ items → map text_found (found_of c) ≡ texts_by full → fell.mid.store.mbox.content ≡ Some was
-            → OpensAt settings (mbox_holds held mbox) (effect_of now false c) (length (found_by fell.dones)) text (mbox_holds (held_after fell.dones (Some (intent_of was uid text))) mbox')
-        opens c mbox' was items_are texts there =
-            opens_at fell.dones text next_message.0 (texts ∙ full_texts) (rw items_are next_message.1)
-            (ap (λ (l : List ℕ). Some (intent_of l uid text)) (same_Some was (bytes_after fell.dones) (sym there ∙ mid_content))
-            ∙ ap (λ (k : ℕ × List ℕ). Some (intent_of (bytes_after fell.dones) k.1 text)) (sym next_message.2)
-            ∙ ap (λ (l : List Item). Some (intent_of (bytes_settled l held mbox ++ entries (texts_by fell.dones)) next_message.0.1.uid text)) (sym items_are))
-
-        -- its entry wasn't appended, or only a prefix of it
-        refused : LeavesEntry fell.mid.store.mbox fell.mid.rows uid text new.store.mbox new.file → new.lines ≡ fell.mid.lines → Stopped (course items fell.dones (reply ∷ []) (fell.next ∷ []))
-        refused left told = by left
-          where
-            t : Tally p false fell.dones (reply ∷ []) (fell.next ∷ []) full fell.dones new.lines (Unit {0}) (UnsavedIn (outcome_of (Err cut)))
-            t = tally_spare laws p starts fell number uid reply is answered told tt
-
-            by : LeavesEntry fell.mid.store.mbox fell.mid.rows uid text new.store.mbox new.file → Stopped (course items fell.dones (reply ∷ []) (fell.next ∷ []))
-            by (inl (same, keeps)) = lead_closed t new.store.mbox new.file.content (text ∷ []) full_texts (same_held _ _ keeps) (ap mail_in (same ∙ mid_content))
-            by (inr (was, front, behind, there, entry, now_is, keeps)) =
-                lead t new.store.mbox new.file.content (Some (intent_of was uid text)) (same_held _ _ keeps)
-                (inl (
-                  refl,
-                  open_at fell.dones text front behind (ap (map text_found) t.found ∙ full_texts)
-                      (opens (course items fell.dones (reply ∷ []) (fell.next ∷ [])) new.store.mbox was refl (ap (map text_found) t.found) there) entry
-                      (ap mail_in now_is ∙ ap (λ (l : List ℕ). l ++ front) (same_Some was (bytes_after fell.dones) (sym there ∙ mid_content))),
-                ))
-                (λ never. absurd (true≢false (sym never)))
-
-      -- its entry was appended, and the record is one of two
-      unsaved : (u : EntryNotSaved fell.next fell.mid new cut) → Stopped (course items (fell.dones ++ stored_done u.number u.uid u.reply ∷ []) [] [])
-      unsaved u = by u.saves
-        where
-          all : List Done
-          all = fell.dones ++ stored_done u.number u.uid u.reply ∷ []
-
-          found : map text_found (found_of (course items all [] [])) ≡ texts_by all
-          found = ap (map text_found) (append-nil (found_by all))
-
-          content : new.store.mbox.content ≡ Some (bytes_after all)
-          content =
-              u.stored.content ∙ ap (option_map (λ (bytes : List ℕ). bytes ++ flat_map entry_of (body_text u.reply.body ∷ []))) mid_content
-              ∙ ap Some (append_assoc (bytes_settled items held mbox) (entries (texts_by fell.dones)) (entries (body_text u.reply.body ∷ []))
-              ∙ ap (λ (l : List ℕ). bytes_settled items held mbox ++ l) (sym (flat_map-append entry_of (texts_by fell.dones) (body_text u.reply.body ∷ [])) ∙ ap entries (sym (full_texts u.number u.uid u.reply u.is u.talked.good))))
-
-          by : MarksEntry fell.mid.store.mbox fell.mid.file fell.mid.rows u.uid (body_text u.reply.body) cut.fault new.file → Stopped (course items all [] [])
-          by (was, there, between, first, second) =
-              elim (laws.unsaved between (with_open fell.mid.rows (intent_of was u.uid (body_text u.reply.body))) (none_open (marked fell.mid.rows u.uid)) cut.fault new.file second (first.1 (fell.went.saved starts.steady))) [
-                | inl old_one ↦
-                    lead (tally_old laws p starts fell u.number u.uid u.reply u.is u.talked.good u.lines
-                    (unsaved_why between (with_open fell.mid.rows (intent_of was u.uid (body_text u.reply.body))) (none_open (marked fell.mid.rows u.uid)) cut.fault new.file second))
-                    new.store.mbox new.file.content (Some (intent_of was u.uid (body_text u.reply.body))) (same_held _ _ old_one)
-                    (inr (unrecorded_at fell.dones all (body_text u.reply.body) found (one_found laws p starts fell u.number u.uid u.reply u.is u.talked.good)
-                    (opens u.number u.uid u.reply u.is u.talked.good (course items all [] []) new.store.mbox was refl found there) (ap mail_in content)))
-                    (λ never. absurd (true≢false (sym never)))
-                | inr new_one ↦
-                    lead_closed (tally_new laws p starts fell u.number u.uid u.reply u.is u.talked.good u.lines) new.store.mbox new.file.content [] (sym (append-nil (texts_by all)))
-                    (subst (λ (r : List Row). Keeps new.file.content (held_with r None)) (full_rows laws p starts fell u.number u.uid u.reply u.is u.talked.good) new_one) (ap mail_in content)
-              ]
-
-      stopped : (stops : Stops AsEntries fell.next fell.mid cut new) → Stopped (course_stopped AsEntries items fell.dones fell.next fell.mid new cut stops)
-      stopped (inl broken) = bare (ap (λ (s : Stores). s.mbox.content) broken.store) broken.file broken.lines
-      stopped (inr (inl (inl wanting))) = bare (ap (λ (s : Stores). s.mbox.content) wanting.store) wanting.file wanting.lines
-      stopped (inr (inl (inr (inl r)))) =
-          refused r.number r.uid r.reply r.is r.talked.good
-          (leaves_entry laws.steady laws.unsaved fell.mid.store.mbox fell.mid.file fell.mid.rows r.uid (body_text r.reply.body) new.store.mbox new.file (fell.went.saved starts.steady) cut.fault r.refuses) r.lines
-      stopped (inr (inl (inr (inr stays)))) =
-          lead_closed (tally_before laws p starts fell stays.lines) new.store.mbox new.file.content [] (sym (append-nil (texts_by fell.dones)))
-          (subst (λ (s : Stored). Keeps s.content (held_after fell.dones None)) (sym stays.file) (mid_keeps laws p starts fell.dones fell.mid fell.went))
-          (ap mail_in (look_content stays.refuses.0 fell.mid.store.mbox new.store.mbox stays.refuses.2 ∙ mid_content))
-      stopped (inr (inr u)) = unsaved u
-
-    pub does_leads : (result : Result (Unit {0}) Cut) (new : Scene) (does : Does AsEntries tasks old result new)
-        → MboxLeads settings now (is_ended result) (course_does AsEntries items tasks old new result does) held mbox new.store.mbox new.file.content new.lines (UnsavedIn (outcome_of result))
-    does_leads (Ok done) new went =
-        lead_closed (tally_all laws p starts went.dones new went.all went.went) new.store.mbox new.file.content [] (sym (append-nil (texts_by went.dones)))
-        (mid_keeps laws p starts went.dones new went.went) (ap mail_in (content_after went.dones new went.went (part_all laws p starts went.dones new went.all went.went)))
-    does_leads (Err cut) new fell = stopped fell fell.stops
+-- nothing was asked for: the record is as it was, and the file is as it was, or settled
+pub record Rests (now : ℕ) (result : Result (Unit {0}) Cut) (c : Course) (held : RecordState) (mbox mbox' : Stored) (content' : Option (List ℕ)) (lines : List ReportLine) : Type 0 where
+  pub none : begun_of c ≡ []
+  pub told : retrieved_in lines ≡ 0
+  pub keeps : Keeps content' held
+  pub leaves : MboxLeaves (mbox_holds held mbox) (effect_of now (is_ended result) c) (mbox_holds held mbox')
 
 -- ---- settling, as the session and as the law over runs has it
 
 same_settled : (intent : Option Intent) (items : List Item) (bytes : List ℕ)
     → (is_stored intent items bytes ≡ Law.is_stored intent items bytes) × (closed_file intent items bytes ≡ Law.closed_file intent items bytes)
-same_settled None items bytes = (refl, refl)
-same_settled (Some intent) items bytes = (refl, refl)
+same_settled intent items bytes = (grind arith, grind arith)
 
 -- a cause leaves the mboxrd file as it was, or settled
 settled_by : (items : List Item) (fault : Fault) (mbox file mbox' file' : Stored) → MboxUnready items fault mbox file mbox' file' → IsSettledBy items file mbox mbox'
-settled_by items (BadSeen line) mbox file mbox' file' is = inl (ap (λ (s : Stored). s.content) is.1)
-settled_by items (StoreRefused why.Missing) mbox file mbox' file' is = inl (ap (λ (s : Stored). s.content) is.1)
-settled_by items fault mbox file mbox' file' is = search rules
+settled_by items fault mbox file mbox' file' is = grind arith
 
--- nothing was asked for: the record is as it was, and the file is as it was, or settled
-pub record Rests (settings : Settings) (now : ℕ) (ended : Bool) (c : Course) (held : RecordState) (mbox mbox' : Stored) (content' : Option (List ℕ)) (lines : List ReportLine) : Type 0 where
-  pub none : begun_of c ≡ []
-  pub told : retrieved_in lines ≡ 0
-  pub keeps : Keeps content' held
-  pub leaves : Law.MboxLeaves (mbox_holds held mbox) (effect_of now ended c) (mbox_holds held mbox')
+module _ (laws : Laws) (settings : Settings) (now : ℕ) (held : RecordState) (mbox : Stored) where
+  abbrev p : List Item → Inputs
+  p items = mbox_inputs settings now held mbox items
 
-abbrev pub Left : Settings → ℕ → Bool → Course → RecordState → Stored → Stored → Option (List ℕ) → List ReportLine → Type 0 → Type 0
-Left settings now ended c held mbox mbox' content' lines unsaved =
-    Rests settings now ended c held mbox mbox' content' lines ⊎ MboxLeads settings now ended c held mbox mbox' content' lines unsaved
+  abbrev Leading : Result (Unit {0}) Cut → Course → Stored → Option (List ℕ) → List ReportLine → Type 0
+  Leading result c mbox' content' lines = MboxLeads settings now held mbox result c mbox' content' lines
 
-module _ (laws : Laws) (settings : Settings) (items : List Item) (now : ℕ) (place : Place) (store : Stores) (file : Stored) (lines : List ReportLine) (held : RecordState) (keeps : Keeps file.content held) (no_lines : lines ≡ []) where
+  module _ {result : Result (Unit {0}) Cut} {c : Course} {mbox' : Stored} {content' : Option (List ℕ)} {lines : List ReportLine} (l : Leading result c mbox' content' lines) where
+    -- what the law over runs takes
+    abbrev pub mbox_figures : MboxCounted settings (mbox_holds held mbox) (effect_of now (is_ended result) c) (mbox_holds (record_state (rows_after (p c.items) l.noted) l.intent') mbox')
+    mbox_figures = record {
+      k = count c.taken;
+      j = count l.noted;
+      number = rw (tally_number laws (p c.items) l.tally) (or_less l.tally.number);
+      rows = records_part laws (p c.items) l.noted l.tally.part;
+      marks = l.marks;
+      begun = tally_begun laws (p c.items) l.tally;
+      ended = λ is. ((l.tally.ends is).1, l.closed is);
+    }
+
+  -- ---- of tasks
+
+  module _ (items : List Item) where
+    abbrev bytes_after : List Done → List ℕ
+    bytes_after dones = bytes_settled items held mbox ++ entries (texts_by dones)
+
+    bytes_are : {result : Result (Unit {0}) Cut} {taken full noted : List Done} {spare : List WholeReply} {under : List Task} {lines : List ReportLine}
+        → Tally (p items) result (course items taken spare under) full noted lines (Unit {0}) → (more : List (List ℕ)) → texts_by full ≡ texts_by taken ++ more
+        → bytes_at (mbox_holds held mbox) (effect_of now (is_ended result) (course items taken spare under)) (count taken) ≡ bytes_after taken
+    bytes_are {taken = taken} t more texts = ap (λ (ts : List (List ℕ)). bytes_settled items held mbox ++ entries ts) (front_texts _ more taken (ap (map text_found) t.found ∙ texts))
+
+    -- no intent is open
+    lead_closed : {result : Result (Unit {0}) Cut} {taken full : List Done} {spare : List WholeReply} {under : List Task} {lines : List ReportLine}
+        → Tally (p items) result (course items taken spare under) full taken lines (Unit {0}) → (mbox' : Stored) (content' : Option (List ℕ)) (more : List (List ℕ)) → texts_by full ≡ texts_by taken ++ more
+        → Keeps content' (none_open (rows_after (p items) taken)) → mail_in mbox'.content ≡ bytes_after taken → Leading result (course items taken spare under) mbox' content' lines
+    lead_closed t mbox' content' more texts keeps file = record {
+      full = _;
+      noted = _;
+      tally = t;
+      intent' = None;
+      keeps = keeps;
+      marks = inl (refl, record { text = []; front = []; behind = []; file = file ∙ sym (bytes_are t more texts) ∙ sym (append-nil _); ending = inl (refl, refl) });
+      closed = λ is. refl;
+    }
+
+    module _ {tasks : List Task} {old : Scene} (starts : Starts (p items) tasks old) (same_mbox : old.store.mbox.content ≡ Some (bytes_settled items held mbox)) where
+      -- what there was after the tasks that were done
+      content_after : (dones : List Done) (mid : Scene) → Went AsEntries dones old mid → Part (tasks_on (p items)) dones → mid.store.mbox.content ≡ Some (bytes_after dones)
+      content_after dones mid went part =
+          rw (went.stored.content, same_mbox, texts_same items dones (right_part laws (p items) dones part)) refl
+
+      module _ {cut : Cut} {new : Scene} (fell : Fell AsEntries tasks old cut new) where
+        abbrev Stopped : Course → Type 0
+        Stopped c = Leading (Err cut) c new.store.mbox new.file.content new.lines
+
+        mid_content : fell.mid.store.mbox.content ≡ Some (bytes_after fell.dones)
+        mid_content = content_after fell.dones fell.mid fell.went (part_done laws (p items) starts fell)
+
+        same_held : (content : Option (List ℕ)) (intent : Option Intent) → Keeps content (record_state fell.mid.rows intent) → Keeps content (record_state (rows_after (p items) fell.dones) intent)
+        same_held content intent keeps = rw (← mid_rows laws (p items) starts fell.dones fell.mid fell.went) keeps
+
+        -- nothing more was recorded or appended
+        still : {spare : List WholeReply} {under : List Task} → Tally (p items) (Err cut) (course items fell.dones spare under) fell.dones fell.dones new.lines (Unit {0})
+            → new.store.mbox.content ≡ fell.mid.store.mbox.content → new.file ≡ fell.mid.file → Stopped (course items fell.dones spare under)
+        still t same file = lead_closed t new.store.mbox new.file.content [] (sym (append-nil _)) (rw file (mid_keeps laws (p items) starts fell.dones fell.mid fell.went)) (ap mail_in (same ∙ mid_content))
+
+        -- the next task retrieved a text
+        module _ (number : ℕ) (uid : List ℕ) (reply : WholeReply) (is : fell.next ≡ stores number uid) (answered : IsAnswered (stored_done number uid reply)) where
+          abbrev text : List ℕ
+          text = body_text reply.body
+
+          abbrev full : List Done
+          full = fell.dones ++ stored_done number uid reply ∷ []
+
+          full_texts : texts_by full ≡ texts_by fell.dones ++ text ∷ []
+          full_texts = rw (full_found laws (p items) starts fell number uid reply is answered) (map-append text_found (found_by fell.dones) ((number, text) ∷ []))
+
+          -- its intent is open after the entries of the tasks that were done
+          opens : (taken : List Done) (spare : List WholeReply) (under : List Task) → map text_found (found_of (course items taken spare under)) ≡ texts_by full
+              → OpensAt settings (mbox_holds held mbox) (effect_of now false (course items taken spare under)) (count fell.dones) text (mbox_holds (record_state (rows_after (p items) fell.dones) (Some (intent_of (bytes_after fell.dones) uid text))) new.store.mbox)
+          opens taken spare under texts =
+              -- its message is the next of the wanted ones
+              let next = mapped_at key (messages_on (p items)) (count fell.dones) (number, uid)
+              (rw (← wanted_are laws (p items), (part_done laws (p items) starts fell).split, is, flat_map-append fetched_in (tasks_of fell.dones) (stores number uid ∷ fell.later), ← same_length fell.dones fell.went.each)
+              (at_length (fetched (tasks_of fell.dones)) (number, uid) (fetched fell.later))) in
+              let are = texts ∙ full_texts in
+              record {
+                message = next.0;
+                wanted = next.1;
+                got = rw (are, ← length-map (found_by fell.dones) text_found) (at_length (texts_by fell.dones) text []);
+                intent = rw (front_texts _ (text ∷ []) fell.dones are) (ap (λ (k : ℕ × List ℕ). Some (intent_of (bytes_after fell.dones) k.1 text)) (sym next.2));
+              }
+
+          -- its entry wasn't appended, or only a prefix of it
+          refused : LeavesEntry (bytes_after fell.dones) fell.mid.rows uid text new.store.mbox new.file → new.lines ≡ fell.mid.lines → Stopped (course items fell.dones (reply ∷ []) (fell.next ∷ []))
+          refused (inl (same, keeps)) told =
+              lead_closed (tally_spare laws (p items) starts fell number uid reply is answered told tt) new.store.mbox new.file.content (text ∷ []) full_texts (same_held _ _ keeps) (ap mail_in same)
+          refused (inr (front, behind, entry, now_is, keeps)) told =
+              let t = tally_spare laws (p items) starts fell number uid reply is answered told tt in
+              record {
+                full = full;
+                noted = fell.dones;
+                tally = t;
+                intent' = _;
+                keeps = same_held _ _ keeps;
+                marks = inl (refl, record { text = text; front = front; behind = behind; file = rw (bytes_are t (text ∷ []) full_texts) (ap mail_in now_is); ending = inr (opens fell.dones (reply ∷ []) (fell.next ∷ []) (ap (map text_found) t.found), entry) });
+                closed = not_ended;
+              }
+
+        -- its entry was appended, and the record is one of two
+        unsaved : (u : EntryNotSaved fell.next fell.mid new cut) → Stopped (course items (fell.dones ++ stored_done u.number u.uid u.reply ∷ []) [] [])
+        unsaved u =
+            let (was, there, between, first, second) = u.saves in
+            let all : List Done = fell.dones ++ stored_done u.number u.uid u.reply ∷ [] in
+            let content : new.store.mbox.content ≡ Some (bytes_after all) =
+            rw (u.stored.content, mid_content, full_texts u.number u.uid u.reply u.is u.talked.good, flat_map-append entry_of (texts_by fell.dones) (body_text u.reply.body ∷ []), append_assoc (bytes_settled items held mbox) (entries (texts_by fell.dones)) (entries (body_text u.reply.body ∷ []))) refl in
+            elim (laws.unsaved between (with_open fell.mid.rows (intent_of was u.uid (body_text u.reply.body))) (none_open (marked fell.mid.rows u.uid)) cut.fault new.file second (first.1 (fell.went.saved starts.steady))) [
+              | inl old_one ↦
+                  let t = tally_old laws (p items) starts fell u.number u.uid u.reply u.is u.talked.good u.lines
+                  (unsaved_why between (with_open fell.mid.rows (intent_of was u.uid (body_text u.reply.body))) (none_open (marked fell.mid.rows u.uid)) cut.fault new.file second) in
+                  record {
+                    full = all;
+                    noted = fell.dones;
+                    tally = t;
+                    intent' = _;
+                    keeps = rw (← same_Some was (bytes_after fell.dones) (sym there ∙ mid_content)) (same_held _ _ old_one);
+                    marks = inr (record {
+                      one_less = one_found laws (p items) starts fell u.number u.uid u.reply u.is u.talked.good;
+                      text = body_text u.reply.body;
+                      file = rw (bytes_are t [] (sym (append-nil (texts_by all)))) (ap mail_in content);
+                      opens = opens u.number u.uid u.reply u.is u.talked.good all [] [] (ap (map text_found) t.found);
+                    });
+                    closed = not_ended;
+                  }
+              | inr new_one ↦
+                  lead_closed (tally_new laws (p items) starts fell u.number u.uid u.reply u.is u.talked.good u.lines) new.store.mbox new.file.content [] (sym (append-nil _))
+                  (rw (← full_rows laws (p items) starts fell u.number u.uid u.reply u.is u.talked.good) new_one) (ap mail_in content)
+            ]
+
+        stopped : (stops : Stops AsEntries fell.next fell.mid cut new) → Stopped (course_stopped AsEntries items fell.dones fell.next fell.mid new cut stops)
+        stopped (inl broken) = still (tally_no_line laws (p items) starts fell broken.lines) (ap (λ (s : Stores). s.mbox.content) broken.store) broken.file
+        stopped (inr (inl (inl wanting))) = still (tally_no_line laws (p items) starts fell wanting.lines) (ap (λ (s : Stores). s.mbox.content) wanting.store) wanting.file
+        stopped (inr (inl (inr (inl r)))) =
+            refused r.number r.uid r.reply r.is r.talked.good
+            (leaves_entry laws.steady laws.unsaved (bytes_after fell.dones) fell.mid.store.mbox fell.mid.file fell.mid.rows r.uid (body_text r.reply.body) new.store.mbox new.file mid_content (fell.went.saved starts.steady) cut.fault r.refuses) r.lines
+        stopped (inr (inl (inr (inr stays)))) =
+            still (tally_before laws (p items) starts fell stays.lines) (look_content stays.refuses.0 fell.mid.store.mbox new.store.mbox stays.refuses.2) stays.file
+        stopped (inr (inr u)) = unsaved u
+
+      does_leads : (result : Result (Unit {0}) Cut) (new : Scene) (does : Does AsEntries tasks old result new)
+          → Leading result (course_does AsEntries items tasks old new result does) new.store.mbox new.file.content new.lines
+      does_leads (Ok done) new went =
+          lead_closed (tally_all laws (p items) starts went.dones new went.all went.went) new.store.mbox new.file.content [] (sym (append-nil _))
+          (mid_keeps laws (p items) starts went.dones new went.went) (ap mail_in (content_after went.dones new went.went (part_all laws (p items) starts went.dones new went.all went.went)))
+      does_leads (Err cut) new fell = stopped fell fell.stops
+
+-- ---- of a session
+
+module _ (laws : Laws) (settings : Settings) (now : ℕ) (before : Keeping) (held : RecordState) (keeps : Keeps before.file.content held) where
   -- the record that was read is this one
-  was_held : (was : RecordState) → Keeps file.content was → was ≡ held
+  was_held : (was : RecordState) → Keeps before.file.content was → was ≡ held
   was_held was stood =
-      let one = laws.one file.content was.rows held.rows was.intent held.intent stood keeps in
+      let one = laws.one before.file.content was.rows held.rows was.intent held.intent stood keeps in
       λ t. record { rows = one.0 t; intent = one.1 t }
 
-  closed_is : (was : RecordState) (bytes : List ℕ) → Keeps file.content was → store.mbox.content ≡ Some bytes → closed_file was.intent items bytes ≡ bytes_settled items held store.mbox
-  closed_is was bytes stood is =
-      ap (λ (h : RecordState). closed_file h.intent items bytes) (was_held was stood) ∙ (same_settled held.intent items bytes).1
-      ∙ ap (λ (o : Option (List ℕ)). Law.closed_file held.intent items (mail_in o)) (sym is)
+  closed_is : (was : RecordState) (bytes : List ℕ) (items : List Item) → Keeps before.file.content was → before.store.mbox.content ≡ Some bytes → closed_file was.intent items bytes ≡ bytes_settled items held before.store.mbox
+  closed_is was bytes items stood is = rw (was_held was stood, is) (same_settled held.intent items bytes).1
 
-  rows_are : (was : RecordState) → Keeps file.content was → rows_in AsEntries store was items ≡ rows_settled items held store.mbox
-  rows_are was stood =
-      ap (λ (h : RecordState). rows_in AsEntries store h items) (was_held was stood)
-      ∙ ap (λ (b : Bool). closed_rows b held.rows held.intent) (same_settled held.intent items (mail_in store.mbox.content)).0
+  rows_are : (was : RecordState) (items : List Item) → Keeps before.file.content was → rows_in AsEntries before.store was items ≡ (settled items (mbox_holds held before.store.mbox)).rows
+  rows_are was items stood = rw (was_held was stood, (same_settled held.intent items (mail_in before.store.mbox.content)).0) refl
 
-  settled_content : (was : RecordState) (new : Stores) → Keeps file.content was → Settles AsEntries was items store new → new.mbox.content ≡ Some (bytes_settled items held store.mbox)
-  settled_content was new stood (bytes, is, settled, goes_on) = ap (λ (s : Stored). s.content) settled ∙ ap Some (closed_is was bytes stood is)
+  settled_content : (was : RecordState) (items : List Item) (new : Stores) → Keeps before.file.content was → Settles AsEntries was items before.store new → new.mbox.content ≡ Some (bytes_settled items held before.store.mbox)
+  settled_content was items new stood (bytes, is, settled, goes_on) = rw (settled, closed_is was bytes items stood is) refl
 
-  -- nothing was planned
-  module _ (cut : Cut) (new : Scene) where
-    rests : new.lines ≡ lines → Keeps new.file.content held → (mail_in new.store.mbox.content ≡ mail_in store.mbox.content) ⊎ (mail_in new.store.mbox.content ≡ bytes_settled items held store.mbox)
-        → Rests settings now false (course items [] [] []) held store.mbox new.store.mbox new.file.content new.lines
-    rests same stands mail = record { none = refl; told = ap retrieved_in (same ∙ no_lines); keeps = stands; leaves = record { rows = refl; intent = refl; file = mail; begun = refl; ended = refl } }
+  abbrev Left : Result (Unit {0}) Cut → Course → Stored → Option (List ℕ) → List ReportLine → Type 0
+  Left result c mbox' content' lines = Rests now result c held before.store.mbox mbox' content' lines ⊎ MboxLeads settings now held before.store.mbox result c mbox' content' lines
 
-    mail_left : IsSettledBy items file store.mbox new.store.mbox → (mail_in new.store.mbox.content ≡ mail_in store.mbox.content) ⊎ (mail_in new.store.mbox.content ≡ bytes_settled items held store.mbox)
-    mail_left (inl same) = inl (ap mail_in same)
-    mail_left (inr (was, stood, inl same)) = inl (ap mail_in same)
-    mail_left (inr (was, stood, inr (bytes, is, settled))) = inr (ap mail_in settled ∙ closed_is was bytes stood is)
-
-    unprepared_leads : Unprepared AsEntries items now place store file lines cut new → Left settings now false (course items [] [] []) held store.mbox new.store.mbox new.file.content new.lines (UnsavedIn (outcome_of (Err cut)))
-    unprepared_leads is = by is.unready.content
-      where
-        by : IsMergedAtMost AsEntries items now store file new.store new.file → Left settings now false (course items [] [] []) held store.mbox new.store.mbox new.file.content new.lines (UnsavedIn (outcome_of (Err cut)))
-        by (inl content) =
-            inl (rests is.lines_are (subst (λ (c : Option (List ℕ)). Keeps c held) (sym content) keeps) (mail_left (settled_by items cut.fault store.mbox file new.store.mbox new.file is.unready.cause)))
-        by (inr (was, stood, settled, inl stays)) =
-            inl (rests is.lines_are (subst (λ (h : RecordState). Keeps new.file.content h) (was_held was stood) stays) (inr (ap mail_in (settled_content was new.store stood settled))))
-        by (inr (was, stood, settled, inr merges)) =
-            inr (lead_closed laws settings items now held store.mbox (tally_none laws (inputs settings items now held store.mbox) new.lines (ap retrieved_in (is.lines_are ∙ no_lines))) new.store.mbox new.file.content [] refl
-            (subst (λ (r : List Row). Keeps new.file.content (held_with (merged r items (flags_of [] no_maildir items) now) None)) (rows_are was stood) merges)
-            (ap mail_in (settled_content was new.store stood settled) ∙ sym (append-nil (bytes_settled items held store.mbox))))
-
-  carried_leads : (result : Result (Unit {0}) Cut) (new : Scene) (skipped : Skips) (is : Carried settings AsEntries items now place store file lines result new skipped)
-      → MboxLeads settings now (is_ended result) (course_carried settings AsEntries items now place store file lines result new skipped is) held store.mbox new.store.mbox new.file.content new.lines (UnsavedIn (outcome_of result))
-  carried_leads result new skipped is =
-      does_leads laws settings items now held store.mbox starts (settled_content is.prepared.was is.mid.store is.prepared.stood is.prepared.settles) result new is.does
-    where
-      rows : is.mid.rows ≡ rows_on (inputs settings items now held store.mbox)
-      rows = is.prepared.rows ∙ ap (λ (r : List Row). merged r items (flags_of [] no_maildir items) now) (rows_are is.prepared.was is.prepared.stood)
-
-      starts : Starts (inputs settings items now held store.mbox) (tasks_ahead settings AsEntries items now store is.mid.rows) is.mid
-      starts = record { tasks_are = ap (tasks_ahead settings AsEntries items now store) rows; rows = rows; lines = is.prepared.lines_are ∙ no_lines; steady = is.prepared.saved }
-
-  carries_leads : (result : Result (Unit {0}) Cut) (place' : Place) (store' : Stores) (file' : Stored) (lines' : List ReportLine) (skipped : Skips)
-      (is : Carries settings AsEntries items now place store file lines result place' store' file' lines' skipped)
-      → Left settings now (is_ended result) (course_carries settings AsEntries items now place store file lines result place' store' file' lines' skipped is) held store.mbox store'.mbox file'.content lines' (UnsavedIn (outcome_of result))
-  carries_leads (Ok done) place' store' file' lines' skipped is = inr (carried_leads (Ok done) (scene place' store' file' is.0 lines') skipped is.1)
-  carries_leads (Err cut) place' store' file' lines' skipped (rows, inl (none, is)) = unprepared_leads cut (scene place' store' file' rows lines') is
-  carries_leads (Err cut) place' store' file' lines' skipped (rows, inr is) = inr (carried_leads (Err cut) (scene place' store' file' rows lines') skipped is)
-
--- the account is as it was, or as the course leaves it
-abbrev pub CourseLeaves : Settings → ℕ → Result (Unit {0}) Cut → SessionCourse → RecordState → Keeping → Keeping → List ReportLine → Type 0
-CourseLeaves settings now result Idle held before after lines = (is_ended result ≡ false) × (after ≡ before) × (lines ≡ [])
-CourseLeaves settings now result (Deals course) held before after lines =
-    Left settings now (is_ended result) course held before.store.mbox after.store.mbox after.file.content lines (UnsavedIn (outcome_of result))
-
-pub course_leaves : (laws : Laws) (settings : Settings) (now : ℕ) (old : Place) (before : Keeping) (result : Result (Unit {0}) Cut) (new : Place) (after : Keeping) (notes : Noted) (held : RecordState)
-    → Keeps before.file.content held → (is : Proceeds settings AsEntries now old before result new after notes)
-    → CourseLeaves settings now result (course_proceeded settings AsEntries now old before result new after notes is) held before after notes.lines
-course_leaves laws settings now old before (Ok done) new after notes held keeps dealt =
-    carries_leads laws settings dealt.items now dealt.mid before.store before.file [] held keeps refl (Ok done) new after.store after.file notes.lines notes.skipped dealt.carries
-course_leaves laws settings now old before (Err cut) new after notes held keeps (inl stopped) = (refl, stopped.same, ap (λ (n : Noted). n.lines) stopped.nothing)
-course_leaves laws settings now old before (Err cut) new after notes held keeps (inr (inl wanting)) = (refl, wanting.same, ap (λ (n : Noted). n.lines) wanting.nothing)
-course_leaves laws settings now old before (Err cut) new after notes held keeps (inr (inr dealt)) =
-    carries_leads laws settings dealt.items now dealt.mid before.store before.file [] held keeps refl (Err cut) new after.store after.file notes.lines notes.skipped dealt.carries
+  pub course_leaves : (old : _) (result : Result (Unit {0}) Cut) (new : _) (after : Keeping) (notes : Noted) (is : Proceeds settings AsEntries now old before result new after notes)
+      → CourseLeads (λ (c : Course). Left result c after.store.mbox after.file.content notes.lines) result before after notes.lines (course_proceeded settings AsEntries now old before result new after notes is)
+  course_leaves old result new after notes is =
+      by_course settings AsEntries now before (λ r c store file lines. Left r c store.mbox file.content lines)
+      (λ items place cut new is.
+      let rests : Keeps new.file.content held → (mail_in new.store.mbox.content ≡ mail_in before.store.mbox.content) ⊎ (mail_in new.store.mbox.content ≡ bytes_settled items held before.store.mbox)
+      → Rests now (Err cut) (course items [] [] []) held before.store.mbox new.store.mbox new.file.content new.lines =
+      λ stands mail. record { none = refl; told = ap retrieved_in is.lines_are; keeps = stands; leaves = record { rows = refl; intent = refl; file = mail; begun = refl; ended = refl } } in
+      elim is.unready.content [
+        | inl content ↦ inl (rests (rw content keeps) (elim (settled_by items cut.fault before.store.mbox before.file new.store.mbox new.file is.unready.cause) [
+          | inl same ↦ inl (ap mail_in same)
+          | inr (was, stood, inl same) ↦ inl (ap mail_in same)
+          | inr (was, stood, inr (bytes, there, settled)) ↦ inr (ap mail_in settled ∙ closed_is was bytes items stood there)
+        ]))
+        | inr (was, stood, settled, inl stays) ↦ inl (rests (rw (← was_held was stood) stays) (inr (ap mail_in (settled_content was items new.store stood settled))))
+        | inr (was, stood, settled, inr merges) ↦
+            inr (lead_closed laws settings now held before.store.mbox items (tally_none laws (mbox_inputs settings now held before.store.mbox items) new.lines (ap retrieved_in is.lines_are)) new.store.mbox new.file.content [] refl
+            (rw (← rows_are was items stood) merges) (ap mail_in (settled_content was items new.store stood settled) ∙ sym (append-nil _)))
+      ])
+      (λ items place result new skipped is.
+      let rows : is.mid.rows ≡ rows_on (mbox_inputs settings now held before.store.mbox items) = rw (is.prepared.rows, rows_are is.prepared.was items is.prepared.stood) refl in
+      let starts : Starts (mbox_inputs settings now held before.store.mbox items) (tasks_ahead settings AsEntries items now before.store is.mid.rows) is.mid =
+      record { tasks_are = ap (tasks_ahead settings AsEntries items now before.store) rows; rows = rows; lines = is.prepared.lines_are; steady = is.prepared.saved } in
+      inr (does_leads laws settings now held before.store.mbox items starts (settled_content is.prepared.was items is.mid.store is.prepared.stood is.prepared.settles) result new is.does)) old result new after notes is

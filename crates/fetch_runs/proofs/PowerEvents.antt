@@ -1,29 +1,64 @@
 -- Each event of a run leaves a state in which a loss of power is one.
-use Rattle.std.proofs.Common.{◌≡◌, ◌≢◌, ◌⊎◌, inl, inr, ℕ, List, [], ◌∷◌, ◌++◌, Bool, true, false, not, ◌&&◌, Option, refl, sym, ap, subst, ◌∙◌, arith, bytes_eq}
+use Rattle.std.proofs.Common.{◌≡◌, ◌⊎◌, inl, inr, ⊎_elim, ◌≤◌, ℕ, zero, suc, List, [], ◌∷◌, true, length, sym, ◌∙◌, arith, bytes_eq, Contains, ◌++◌, map, map-id, false, not, ap, subst}
+use Rattle.std.proofs.lemmas.Bool.{cases_Bool, or_left, or_right, both_ways, false_from_ne_true, or_from}
+use Rattle.std.proofs.lemmas.List.{nil_from_length}
+use Rattle.mail_terms.specs.UniqueId.{has_id, is_legal_id}
+use Rattle.mail_store.specs.FileName.{stem, StemsDiffer, is_held, stem_of}
+use Rattle.mail_store.specs.Maildir.{File, IsPart}
+use Rattle.run_law.specs.Accounts.{copies}
+use Rattle.fetch_session.specs.Session.{AccountFiles}
+use Rattle.fetch_runs.specs.Headline.{AreTakings, Follows, contents_of, after_session, Occasion, Headline, IsKept, IsLastStored, IsRecorded, IsRun, KeepsRecord}
+use Rattle.fetch_runs.proofs.PowerLosses.{named_in, named_some, first_two, held_sure, last_two, same_shown}
+use Rattle.run_law.specs.Runs.{State, World, Event, Between, TakenAway, after_event, IsSound, IsNeither, Fetched, Expired, Withdrawn, BroughtBack, Forgotten, PowerLost, world_after}
+use Rattle.std.proofs.lemmas.List.Elements.{Contains-append_cases, Contains-append_left, Contains-append_right}
+use mathlib.Core.Logic.{⊎_map}
+use mathlib.Core.List.{map-map}
 use Rattle.std.specs.List.{AllByRecursion, filter}
-use Rattle.std.proofs.lemmas.Bool.{both_ways, cases_Bool, false_from_ne_true, or_from, or_left}
 use Rattle.std.proofs.lemmas.List.Folds.{list_any-append}
 use Rattle.fetch_rules.specs.Record.{Row, is_delivered}
 use Rattle.fetch_rules.specs.RecordGrowth.{OneRecord}
 use Rattle.fetch_session.specs.Record.{KeepsRows}
 use Rattle.mail_store.specs.declared.file.flat_file.FlatFile.{Ghosts as FileGhosts}
 use Rattle.mail_store.specs.declared.maildir.disk.MaildirDisk.{Ghosts as DiskGhosts}
-use Rattle.mail_store.specs.FileName.{StemsDiffer, is_held, stem_of}
-use Rattle.mail_terms.specs.UniqueId.{has_id, is_legal_id}
 use Rattle.pop3_wire.specs.World.{Message, IsMessage}
-use Rattle.run_law.specs.Accounts.{copies}
-use Rattle.run_law.specs.Mails.{WorldsShrink, ids_of, is_selected, messages_after, selected, texts_of, without}
-use Rattle.run_law.specs.Runs.{State, IsSound, World, HoldsOf, IsNeither, Event, Fetched, Between, Expired, Withdrawn, TakenAway, BroughtBack, Forgotten, PowerLost, after_event, world_after}
-use Rattle.fetch_session.specs.Session.{AccountFiles}
+use Rattle.run_law.specs.Mails.{WorldsShrink, is_selected, messages_after, selected, texts_of, without}
 use Rattle.fetch_runs.proofs.Ids.{all_at, all_ids_at, bytes_same, bytes_self, has_filtered, has_texts}
 use Rattle.fetch_runs.proofs.Lists.{all_both, all_filter, all_front, all_map, filter-swap, is_some}
-use Rattle.fetch_runs.specs.Headline.{AreTaken, AreTakings, Follows, Headline, IsKept, IsLastStored, IsRecorded, IsRun, KeepsRecord, contents_of, by_rows, after_session, Occasion}
-use Rattle.fetch_runs.specs.Power.{AllMayBeOnDisk, CanLosePower, IsSure, IsSureOrTaken, LossesAreEvents, SessionsAndPower}
+use Rattle.fetch_runs.specs.Power.{AllMayBeOnDisk, CanLosePower, IsSureOrTaken, LossesAreEvents, SessionsAndPower}
 use Rattle.fetch_runs.specs.PowerRuns.{AsMuchIsSure, CanAlwaysLosePower, EventOn, EventsKeepPower, FollowsOn, HeadlineOn, IsRunOn, KeepsSure, TakingsRunOn, events_of}
 use Rattle.fetch_runs.proofs.HeadlineLemmas.{sound_after}
-use Rattle.fetch_runs.proofs.PowerLosses.{held_file, named_in, named_some}
-use Rattle.fetch_runs.proofs.PowerTakings.{contains_part, same_or_taken, stay_taken, two_in}
-use Rattle.fetch_runs.proofs.Takings.{LeaveParts, held_some, some_held, takings_leave_parts}
+use Rattle.fetch_runs.proofs.Takings.{LeaveParts, held_is, some_held, takings_leave_parts}
+
+-- ---- lists
+
+pub contains_part : (fs left : List File) (g : File) → IsPart fs left → Contains left g → Contains fs g
+contains_part [] left g is there = rw is at there
+contains_part (f ∷ fs) left g (inl is) there = Contains-append_right (f ∷ []) fs g (contains_part fs left g is there)
+contains_part (f ∷ fs) left g (inr (rest, e, is)) there =
+    ⊎_elim (Contains-append_left (f ∷ []) fs g) (λ later. Contains-append_right (f ∷ []) fs g (contains_part fs rest g is later)) (Contains-append_cases (f ∷ []) rest g (rw e at there))
+
+-- two files of a stem that only one has are the same
+pub two_in : (front : List ℕ) (fs : List File) (f g : File) → Contains fs f → bytes_eq front (stem f.name) ≡ true → Contains fs g → bytes_eq front (stem g.name) ≡ true → length (copies fs front) ≤ 1 → f ≡ g
+two_in front [] f g (k, below, is) its there named one = absurd (omega (arith, below))
+two_in front (x ∷ fs) f g (zero, below, a) its (zero, below', b) named one = sym a ∙ b
+two_in front (x ∷ fs) f g (zero, below, a) its (suc k, below', b) named one =
+    let some = named_some front fs g.name named (named_in fs g (k, omega (arith, below'), b)) in
+    grind (arith, a, its, one, some, nil_from_length (copies fs front))
+two_in front (x ∷ fs) f g (suc j, below, a) its (zero, below', b) named one =
+    let some = named_some front fs f.name its (named_in fs f (j, omega (arith, below), a)) in
+    grind (arith, b, named, one, some, nil_from_length (copies fs front))
+two_in front (x ∷ fs) f g (suc j, below, a) its (suc k, below', b) named one =
+    two_in front fs f g (j, omega (arith, below), a) its (k, omega (arith, below'), b) named (grind (arith, one))
+
+-- ---- what a taking does
+
+-- an id's files are as they were, or it was taken away; and what was taken away before is so still
+pub same_or_taken : (world : World) (state : State AccountFiles) (event : Event Occasion AccountFiles) (id : List ℕ) → is_legal_id id ≡ true → AreTakings (event ∷ []) → Follows world state event
+    → ((contents_of world (after_event after_session state event).account id ≡ contents_of world state.account id) ⊎ (has_id (after_event after_session state event).taken id ≡ true))
+    × (has_id state.taken id ≡ true → has_id (after_event after_session state event).taken id ≡ true)
+same_or_taken world state (TakenAway x after) id legal each is = (⊎_elim (λ same. inr (or_left _ _ same)) (λ apart. inl (is.others id legal apart)) (cases_Bool (bytes_eq id x)), or_right _ _)
+same_or_taken world state (Between after) id legal each is = (inl (is.mail id legal), λ taken. taken)
+same_or_taken world state _ id legal never is = absurd never
 
 -- the laws that are used
 pub record EventLaws {D F : Type 0} (disk : DiskGhosts D) (files : FileGhosts F) : Type 0 where
@@ -37,12 +72,21 @@ all_after : (P : Message → Type 0) (id : List ℕ) (ms : List Message) → All
 all_after P id [] all = tt
 all_after P id (m ∷ ms) all = grind (arith, all.1, all_after P id ms all.1)
 
+-- what holds of those after a message holds of those that aren't withdrawn
+after_without : (P : Message → Type 0) (ids : List (List ℕ)) (id : List ℕ) → has_id ids id ≡ false → (ms : List Message)
+    → AllByRecursion P (messages_after id ms) → AllByRecursion P (messages_after id (without ids ms))
+after_without P ids id kept [] all = tt
+after_without P ids id kept (m ∷ ms) all =
+    grind (arith, all, kept, bytes_same id m.uid, all_filter P (λ (x : Message). not (has_id ids x.uid)) ms, after_without P ids id kept ms)
+
 -- ---- one event
 
 module _ (one : OneRecord) {D F : Type 0} (disk : DiskGhosts D) (files : FileGhosts F) (world : World) (sound : IsSound world) (state : State AccountFiles) (is : IsKept world state)
     (was : D) (from : F) (can : CanLosePower disk files was from world state) where
-  abbrev account : List ℕ
-  account = world.account
+  open world use {account}
+
+  abbrev IsNone : State AccountFiles → Message → Type 0
+  IsNone now m = IsNeither account now.account.maildir now.taken m.uid
 
   all_legal : AllByRecursion (λ (m : Message). is_legal_id m.uid ≡ true) (selected world.max_size world.all)
   all_legal = all_filter (λ (m : Message). is_legal_id m.uid ≡ true) (is_selected world.max_size) world.all
@@ -50,92 +94,49 @@ module _ (one : OneRecord) {D F : Type 0} (disk : DiskGhosts D) (files : FileGho
 
   -- what is recorded has a file that stays, or was taken away
   pub recorded_sure : (id : List ℕ) → is_delivered is.0 id ≡ true → (is_legal_id id ≡ true) × IsSureOrTaken disk was world state id
-  recorded_sure id delivered = (legal, by (is.2.holds id legal))
+  recorded_sure id delivered = (legal, ⊎_elim held (λ taken. inr taken.0) (is.2.holds id legal))
     where
-      has : has_id (ids_of is.2.done) id ≡ true
-      has = is.2.recorded id delivered
-
       legal : is_legal_id id ≡ true
-      legal = all_at (λ x. is_legal_id x ≡ true) is.2.done id
-          (all_front (λ (m : Message). is_legal_id m.uid ≡ true) is.2.done is.2.rest (subst (AllByRecursion (λ (m : Message). is_legal_id m.uid ≡ true)) is.2.prefix all_legal)) has
+      legal = all_at (λ x. is_legal_id x ≡ true) is.2.done id (all_front (λ (m : Message). is_legal_id m.uid ≡ true) is.2.done is.2.rest (rw is.2.prefix at all_legal)) (is.2.recorded id delivered)
 
-      by : HoldsOf world (by_rows is.0 state) is.2.done id → IsSureOrTaken disk was world state id
-      by (inr taken) = inr taken.0
-      by (inl same) = elim (can.stay id legal (some_held account id state.account.maildir.files (λ none. both_ways (is_some (texts_of is.2.done id)) (ap is_some (sym same ∙ none)) (sym (has_texts is.2.done id) ∙ has)))) [
-        | inl sure ↦ inl sure
-        | inr (inl taken) ↦ inr taken
-        | inr (inr lastly) ↦ absurd (lastly.unrecorded (is.0, is.1, delivered))
-      ]
+      held : contents_of world state.account id ≡ texts_of is.2.done id → IsSureOrTaken disk was world state id
+      held same = ⊎_elim (λ safe. safe) (λ lastly. absurd (lastly.unrecorded (is.0, is.1, delivered)))
+          (first_two (can.stay id legal (held_is (stem_of account id) state.account.maildir.files ∙ ap is_some same ∙ sym (has_texts is.2.done id) ∙ is.2.recorded id delivered)))
 
   -- a message is held where its files hold what they held
-  held_back : (after : AccountFiles) (id : List ℕ) → contents_of world after id ≡ contents_of world state.account id → is_held account after.maildir id ≡ true → is_held account state.account.maildir id ≡ true
-  held_back after id same held = some_held account id state.account.maildir.files (λ none. held_some (stem_of account id) after.maildir.files held (same ∙ none))
-
-  not_held : (after : AccountFiles) (id : List ℕ) → contents_of world after id ≡ contents_of world state.account id → is_held account state.account.maildir id ≡ false → is_held account after.maildir id ≡ false
-  not_held after id same not = false_from_ne_true (is_held account after.maildir id) (λ held. both_ways (is_held account state.account.maildir id) not (held_back after id same held))
+  same_held : (after : AccountFiles) (id : List ℕ) → contents_of world after id ≡ contents_of world state.account id → is_held account after.maildir id ≡ is_held account state.account.maildir id
+  same_held after id same = held_is (stem_of account id) after.maildir.files ∙ ap is_some same ∙ sym (held_is (stem_of account id) state.account.maildir.files)
 
   same_recorded : (after : AccountFiles) → KeepsRecord state.account after → (id : List ℕ) → IsRecorded after id → IsRecorded state.account id
-  same_recorded after keeps id recorded =
-      (is.0, is.1, ap (λ (r : List Row). is_delivered r id) (one after.file.content is.0 recorded.0 (keeps is.0 is.1).0 recorded.1.0 (keeps is.0 is.1).1 recorded.1.1).0 ∙ recorded.2)
+  same_recorded after keeps id recorded = (is.0, is.1, same_shown one after.file.content recorded.0 is.0 recorded.1 (keeps is.0 is.1) id recorded.2)
 
   module _ (device : D) (after : State AccountFiles) where
     abbrev Shown : Type 0
     Shown = (rows : List Row) → KeepsRows after.account.file.content rows → (id : List ℕ) → is_delivered is.0 id ≡ true
         → (is_delivered rows id ≡ true) ⊎ ((is_legal_id id ≡ true) × IsSureOrTaken disk device world after id)
 
-    same_shown : KeepsRecord state.account after.account → Shown
-    same_shown same rows keeps_rows id delivered =
-        inl (ap (λ (r : List Row). is_delivered r id) (one after.account.file.content rows is.0 keeps_rows.0 (same is.0 is.1).0 keeps_rows.1 (same is.0 is.1).1).0 ∙ delivered)
+    pub still_shown : KeepsRecord state.account after.account → Shown
+    still_shown same rows keeps_rows id delivered = inl (same_shown one after.account.file.content is.0 rows (same is.0 is.1) keeps_rows id delivered)
 
-  module _ (device : D) (f : F) (after : State AccountFiles) (keeps : KeepsSure disk files world was from state device f after) where
     -- the last that was stored still is
-    still_last : ((id : List ℕ) → IsRecorded after.account id → IsRecorded state.account id) → ((m : Message) → is_legal_id m.uid ≡ true → IsNeither world.account state.account.maildir state.taken m.uid → IsNeither world.account after.account.maildir after.taken m.uid)
+    pub still_last : ((id : List ℕ) → IsRecorded after.account id → IsRecorded state.account id) → ((m : Message) → is_legal_id m.uid ≡ true → IsNone state m → IsNone after m)
         → (id : List ℕ) → (has_id state.gone id ≡ false → has_id after.gone id ≡ false) → IsLastStored world state id → IsLastStored world after id
-    still_last back neither id on_server lastly = record {
-      unrecorded = λ recorded. lastly.unrecorded (back id recorded);
-      on_server = on_server lastly.on_server;
-      last = all_both (λ (m : Message). is_legal_id m.uid ≡ true) (λ (m : Message). IsNeither world.account state.account.maildir state.taken m.uid) (λ (m : Message). IsNeither world.account after.account.maildir after.taken m.uid) neither
-          (messages_after id (selected world.max_size world.all)) (all_after (λ (m : Message). is_legal_id m.uid ≡ true) id (selected world.max_size world.all) all_legal) lastly.last;
-    }
+    still_last back neither id on_server lastly =
+        let last = all_both (λ (m : Message). is_legal_id m.uid ≡ true) (IsNone state) (IsNone after) neither (messages_after id (selected world.max_size world.all))
+        (all_after (λ (m : Message). is_legal_id m.uid ≡ true) id (selected world.max_size world.all) all_legal) lastly.last in
+        search (last, lastly.unrecorded, back, on_server, lastly.on_server)
 
-    can_after : ((id : List ℕ) → is_legal_id id ≡ true → is_held account after.account.maildir id ≡ true → IsSureOrTaken disk device world after id ⊎ (is_held account state.account.maildir id ≡ true))
-        → ((id : List ℕ) → is_legal_id id ≡ true → IsLastStored world state id → IsSureOrTaken disk device world after id ⊎ IsLastStored world after id)
-        → Shown device after → CanLosePower disk files device f world after
-    can_after held last shown = record {
-      stay = λ id legal there. elim (held id legal there) [
-        | inl safe ↦ placed id (inl safe)
-        | inr before ↦ elim (can.stay id legal before) [
-          | inl sure ↦ placed id (inl (keeps.mail id legal (inl sure)))
-          | inr (inl taken) ↦ placed id (inl (keeps.mail id legal (inr taken)))
-          | inr (inr lastly) ↦ placed id (last id legal lastly)
-        ]
-      ];
-      shows = λ left now rows may keeps_now keeps_rows id delivered. elim (keeps.record_is left may) [
-        | inl same ↦
-            let there = subst (λ (c : Option (List ℕ)). KeepsRows c now) same keeps_now in
-            inl (ap (λ (r : List Row). is_delivered r id) (one after.account.file.content rows now keeps_rows.0 there.0 keeps_rows.1 there.1).0 ∙ delivered)
-        | inr before ↦ elim (can.shows left now is.0 before keeps_now is.1 id delivered) [
-          | inl shown_before ↦ shown rows keeps_rows id shown_before
-          | inr (legal, safe) ↦ inr (legal, keeps.mail id legal safe)
-        ]
-      ];
-    }
-      where
-        placed : (id : List ℕ) → IsSureOrTaken disk device world after id ⊎ IsLastStored world after id
-            → IsSure disk device world after.account.maildir.files id ⊎ (has_id after.taken id ≡ true) ⊎ IsLastStored world after id
-        placed id (inl (inl sure)) = inl sure
-        placed id (inl (inr taken)) = inr (inl taken)
-        placed id (inr lastly) = inr (inr lastly)
-
-  -- what holds of those after a message holds of those that aren't withdrawn
-  after_without : (P : Message → Type 0) (ids : List (List ℕ)) (id : List ℕ) → has_id ids id ≡ false → (ms : List Message)
-      → AllByRecursion P (messages_after id ms) → AllByRecursion P (messages_after id (without ids ms))
-  after_without P ids id kept [] all = tt
-  after_without P ids id kept (m ∷ ms) all =
-      let stays = λ (e : bytes_eq id m.uid ≡ true). ap (has_id ids) (sym (bytes_same id m.uid e)) ∙ kept in
-      let here = all_filter P (λ (x : Message). not (has_id ids x.uid)) ms in
-      let later = after_without P ids id kept ms in
-      grind (arith, all, stays, here, later)
+    module _ (f : F) (keeps : KeepsSure disk files world was from state device f after) where
+      pub can_after : ((id : List ℕ) → is_legal_id id ≡ true → is_held account after.account.maildir id ≡ true → IsSureOrTaken disk device world after id ⊎ (is_held account state.account.maildir id ≡ true))
+          → ((id : List ℕ) → is_legal_id id ≡ true → IsLastStored world state id → IsSureOrTaken disk device world after id ⊎ IsLastStored world after id)
+          → Shown → CanLosePower disk files device f world after
+      can_after held last shown = record {
+        stay = λ id legal there. last_two (⊎_elim inl (λ before. ⊎_elim (λ safe. inl (keeps.mail id legal safe)) (last id legal) (first_two (can.stay id legal before))) (held id legal there));
+        shows = λ left now rows may keeps_now keeps_rows id delivered. elim (keeps.record_is left may) [
+          | inl same ↦ inl (same_shown one after.account.file.content now rows (rw same at keeps_now) keeps_rows id delivered)
+          | inr before ↦ ⊎_elim (shown rows keeps_rows id) (λ (legal, safe). inr (legal, keeps.mail id legal safe)) (can.shows left now is.0 before keeps_now is.1 id delivered)
+        ];
+      }
 
   module _ (device : D) (f : F) where
     abbrev Keeps : State AccountFiles → Type 0
@@ -144,72 +145,26 @@ module _ (one : OneRecord) {D F : Type 0} (disk : DiskGhosts D) (files : FileGho
     -- of each message the files hold what they held, and nothing more was taken away
     after_same : (after : AccountFiles) → Keeps (record state { account = after }) → ((id : List ℕ) → is_legal_id id ≡ true → contents_of world after id ≡ contents_of world state.account id)
         → ((id : List ℕ) → IsRecorded after id → IsRecorded state.account id) → Shown device (record state { account = after }) → CanLosePower disk files device f world (record state { account = after })
-    after_same after keeps same back shown = can_after device f (record state { account = after }) keeps
-        (λ id legal held. inr (held_back after id (same id legal) held))
-        (λ id legal lastly. inr (still_last device f (record state { account = after }) keeps back (λ m l neither. (not_held after m.uid (same m.uid l) neither.0, neither.1)) id (λ on. on) lastly))
+    after_same after keeps same back shown = can_after device (record state { account = after }) f keeps
+        (λ id legal held. inr (sym (same_held after id (same id legal)) ∙ held))
+        (λ id legal lastly. inr (still_last device (record state { account = after }) back (λ m l neither. (same_held after m.uid (same m.uid l) ∙ neither.0, neither.1)) id (λ on. on) lastly))
         shown
-
-    after_expired : (ids : List (List ℕ)) → Keeps (record state { gone = state.gone ++ ids }) → AllByRecursion (λ id. IsLastStored world state id → IsSureOrTaken disk was world state id) ids
-        → CanLosePower disk files device f world (record state { gone = state.gone ++ ids })
-    after_expired ids keeps safe = can_after device f after keeps
-        (λ id legal held. inr held)
-        (λ id legal lastly. elim (cases_Bool (has_id ids id)) [
-          | inl gone ↦ inl (keeps.mail id legal (all_ids_at (λ x. IsLastStored world state x → IsSureOrTaken disk was world state x) ids id safe gone lastly))
-          | inr on ↦ inr (still_last device f after keeps (λ x recorded. recorded) (λ m l neither. neither) id
-              (λ before. list_any-append (bytes_eq id) state.gone ids ∙ or_from (has_id state.gone id) (has_id ids id) before on) lastly)
-        ])
-        (same_shown device after (λ rows keeps_rows. keeps_rows))
-      where
-        after : State AccountFiles
-        after = record state { gone = state.gone ++ ids }
-
-    after_withdrawing : (ids : List (List ℕ)) → Keeps state → AllByRecursion (IsNeither world.account state.account.maildir state.taken) ids → CanLosePower disk files device f (record world { all = without ids world.all }) state
-    after_withdrawing ids keeps neither = record {
-      stay = λ id legal held. elim (same.stay id legal held) [
-        | inl sure ↦ inl (record { one = sure.one; there = sure.there; named = sure.named; sure = sure.sure })
-        | inr (inl taken) ↦ inr (inl taken)
-        | inr (inr lastly) ↦ inr (inr (record {
-          unrecorded = lastly.unrecorded;
-          on_server = lastly.on_server;
-          last = subst (λ (ms : List Message). AllByRecursion (λ (m : Message). IsNeither world.account state.account.maildir state.taken m.uid) (messages_after id ms))
-              (filter-swap (λ (m : Message). not (has_id ids m.uid)) (is_selected world.max_size) world.all)
-              (after_without (λ (m : Message). IsNeither world.account state.account.maildir state.taken m.uid) ids id (kept_id id held) (selected world.max_size world.all) lastly.last);
-        }))
-      ];
-      shows = λ left now rows may keeps_now keeps_rows id delivered. elim (same.shows left now rows may keeps_now keeps_rows id delivered) [
-        | inl shown ↦ inl shown
-        | inr (legal, inl sure) ↦ inr (legal, inl (record { one = sure.one; there = sure.there; named = sure.named; sure = sure.sure }))
-        | inr (legal, inr taken) ↦ inr (legal, inr taken)
-      ];
-    }
-      where
-        same : CanLosePower disk files device f world state
-        same = can_after device f state keeps (λ id legal held. inr held) (λ id legal lastly. inr lastly) (same_shown device state (λ rows keeps_rows. keeps_rows))
-
-        kept_id : (id : List ℕ) → is_held account state.account.maildir id ≡ true → has_id ids id ≡ false
-        kept_id id held = false_from_ne_true (has_id ids id) (λ has. both_ways (is_held account state.account.maildir id) (all_ids_at (IsNeither world.account state.account.maildir state.taken) ids id neither has).0 held)
 
     -- the files of one message changed, and whether it counts as taken away
     after_moving : (id : List ℕ) (after : AccountFiles) (taken : List (List ℕ)) → Keeps (record state { account = after; taken = taken }) → KeepsRecord state.account after
         → ((other : List ℕ) → is_legal_id other ≡ true → bytes_eq other id ≡ false → contents_of world after other ≡ contents_of world state.account other)
         → IsSureOrTaken disk device world (record state { account = after; taken = taken }) id
-        → ((m : Message) → IsNeither world.account state.account.maildir state.taken m.uid → (bytes_eq m.uid id ≡ false) × (has_id taken m.uid ≡ false))
+        → ((m : Message) → IsNone state m → (bytes_eq m.uid id ≡ false) × (has_id taken m.uid ≡ false))
         → CanLosePower disk files device f world (record state { account = after; taken = taken })
-    after_moving id after taken keeps record_is others safe untaken = can_after device f next keeps
-        (λ other legal held. elim (cases_Bool (bytes_eq other id)) [
-          | inl same ↦ inl (subst (IsSureOrTaken disk device world next) (sym (bytes_same other id same)) safe)
-          | inr apart ↦ inr (held_back after other (others other legal apart) held)
-        ])
-        (λ other legal lastly. inr (still_last device f next keeps (same_recorded after record_is) (λ m l neither.
+    after_moving id after taken keeps record_is others safe untaken = can_after device next f keeps
+        (λ other legal held. ⊎_map (λ same. rw (bytes_same other id same) safe) (λ apart. sym (same_held after other (others other legal apart)) ∙ held) (cases_Bool (bytes_eq other id)))
+        (λ other legal lastly. inr (still_last device next (same_recorded after record_is) (λ m l neither.
         let apart = untaken m neither in
-        (not_held after m.uid (others m.uid l apart.0) neither.0, apart.1)) other (λ on. on) lastly))
-        (same_shown device next record_is)
+        (same_held after m.uid (others m.uid l apart.0) ∙ neither.0, apart.1)) other (λ on. on) lastly))
+        (still_shown device next record_is)
       where
         next : State AccountFiles
         next = record state { account = after; taken = taken }
-
-    apart_if : (p : List ℕ → Bool) (a b : List ℕ) → p a ≡ false → p b ≡ true → bytes_eq a b ≡ false
-    apart_if p a b absent there = false_from_ne_true (bytes_eq a b) (λ same. both_ways (p a) absent (ap p (bytes_same a b same) ∙ there))
 
     keeps_power : EventLaws disk files → (event : Event Occasion AccountFiles) → FollowsOn disk files world state was from event device f
         → Follows world state event × CanLosePower disk files device f (world_after world event) (after_event after_session state event)
@@ -217,33 +172,50 @@ module _ (one : OneRecord) {D F : Type 0} (disk : DiskGhosts D) (files : FileGho
     keeps_power laws (Between after) follows = (
       follows.0,
       after_same after follows.2 follows.0.mail (same_recorded after follows.0.record_is)
-          (same_shown device (record state { account = after }) follows.0.record_is),
+          (still_shown device (record state { account = after }) follows.0.record_is),
     )
-    keeps_power laws (Expired ids) follows = (follows.0, after_expired ids follows.2 follows.1)
-    keeps_power laws (Withdrawn ids) follows = (follows.0, after_withdrawing ids follows.2 follows.0)
+    keeps_power laws (Expired ids) (expire, safe, keeps) =
+        let after : State AccountFiles = record state { gone = state.gone ++ ids } in (
+          expire,
+          can_after device after f keeps
+              (λ id legal held. inr held)
+              (λ id legal lastly. ⊎_map (λ gone. keeps.mail id legal (all_ids_at (λ x. IsLastStored world state x → IsSureOrTaken disk was world state x) ids id safe gone lastly))
+              (λ on. still_last device after (λ x recorded. recorded) (λ m l neither. neither) id (λ before. list_any-append (bytes_eq id) state.gone ids ∙ or_from _ _ before on) lastly)
+              (cases_Bool (has_id ids id)))
+              (still_shown device after (λ rows keeps_rows. keeps_rows)),
+        )
+    keeps_power laws (Withdrawn ids) (neither, none_lost, keeps) = (
+      neither,
+      record {
+        stay = λ id legal held. last_two (⊎_map (again id) (λ lastly.
+            let last = subst (λ (ms : List Message). AllByRecursion (IsNone state) (messages_after id ms)) (filter-swap (λ (m : Message). not (has_id ids m.uid)) (is_selected world.max_size) world.all)
+            (after_without (IsNone state) ids id
+            (false_from_ne_true _ (λ has. both_ways _ (all_ids_at (IsNeither world.account state.account.maildir state.taken) ids id neither has).0 held))
+            (selected world.max_size world.all) lastly.last) in
+            search (last, lastly)) (first_two (same.stay id legal held)));
+        shows = λ left now rows may keeps_now keeps_rows id delivered. ⊎_map (λ shown. shown) (λ (legal, safe). (legal, again id safe)) (same.shows left now rows may keeps_now keeps_rows id delivered);
+      },
+    )
+      where
+        same : CanLosePower disk files device f world state
+        same = can_after device state f keeps (λ id legal. inr) (λ id legal. inr) (still_shown device state (λ rows keeps_rows. keeps_rows))
+
+        again : (id : List ℕ) → IsSureOrTaken disk device world state id → IsSureOrTaken disk device (record world { all = without ids world.all }) state id
+        again id = ⊎_map (λ sure. search sure) (λ taken. taken)
     keeps_power laws (TakenAway id after) (taken, none_lost, keeps) = (
       taken,
-      after_moving id after (id ∷ state.taken) keeps taken.record_is taken.others (inr (or_left _ _ (bytes_self id))) (λ m neither.
-          let apart = apart_if (is_held account state.account.maildir) m.uid id neither.0 taken.held in
-          (apart, or_from (bytes_eq m.uid id) (has_id state.taken m.uid) apart neither.1)),
+      after_moving id after (id ∷ state.taken) keeps taken.record_is taken.others (inr (or_left _ _ (bytes_self id))) (λ m neither. grind (arith, neither.0, neither.1, taken.held, bytes_same m.uid id)),
     )
     keeps_power laws (BroughtBack id after) (brought, none_lost, keeps) = (
       brought,
-      after_moving id after (filter (λ x. not (bytes_eq x id)) state.taken) keeps brought.record_is brought.others
-          (keeps.mail id brought.legal (inr brought.taken)) (λ m neither. (
-            apart_if (has_id state.taken) m.uid id neither.1 brought.taken,
-            has_filtered (λ x. not (bytes_eq x id)) state.taken m.uid ∙ ap (λ b. b && not (bytes_eq m.uid id)) neither.1,
-          )),
+      after_moving id after (filter (λ x. not (bytes_eq x id)) state.taken) keeps brought.record_is brought.others (keeps.mail id brought.legal (inr brought.taken))
+          (λ m neither. grind (arith, neither.1, brought.taken, bytes_same m.uid id, has_filtered (λ x. not (bytes_eq x id)) state.taken m.uid)),
     )
     keeps_power laws (Forgotten after) (forgets, none_lost, keeps) = (
       forgets,
       after_same after keeps forgets.mail (λ id recorded.
-          let fewer = forgets.record_is is.0 is.1 in (
-            is.0,
-            is.1,
-            fewer.2 id (ap (λ (r : List Row). is_delivered r id) (one after.file.content fewer.0 recorded.0 fewer.1.0 recorded.1.0 fewer.1.1 recorded.1.1).0
-                ∙ recorded.2),
-          ))
+          let fewer = forgets.record_is is.0 is.1 in
+          (is.0, is.1, fewer.2 id (same_shown one after.file.content recorded.0 fewer.0 recorded.1 fewer.1 id recorded.2)))
           (λ rows keeps_rows id delivered. let safe = recorded_sure id delivered in inr (safe.0, keeps.mail id safe.0 safe.1)),
     )
     keeps_power laws (PowerLost after) left = (
@@ -263,8 +235,8 @@ run_on : {D F : Type 0} (disk : DiskGhosts D) (files : FileGhosts F) → Headlin
 run_on disk files law shrink keep world state was from [] sound is can run = (tt, can)
 run_on disk files law shrink keep world state was from (on ∷ ons) sound is can run =
     let now = keep world state was from on.event on.device on.file sound is can run.0 in
-    let after = (law world state (on.event ∷ []) sound is (now.0, tt)).1 in
-    let later = run_on disk files law shrink keep (world_after world on.event) (after_event after_session state on.event) on.device on.file ons (sound_after shrink world on.event sound) after now.1 run.1 in
+    let later = run_on disk files law shrink keep (world_after world on.event) (after_event after_session state on.event) on.device on.file ons
+    (sound_after shrink world on.event sound) (law world state (on.event ∷ []) sound is (now.0, tt)).1 now.1 run.1 in
     ((now.0, later.0), (can, later.1))
 
 pub headline_on : {D F : Type 0} (disk : DiskGhosts D) (files : FileGhosts F) → Headline → WorldsShrink → EventsKeepPower disk files → HeadlineOn disk files
@@ -277,57 +249,42 @@ headline_on disk files law shrink keep world start was from ons sound is can run
 
 pub as_much_is_sure : Headline → {D F : Type 0} (disk : DiskGhosts D) (files : FileGhosts F) → AsMuchIsSure disk files
 as_much_is_sure law disk files world state was from event device f sound is takes follows part much = record {
-  mail = λ id legal safe. by id legal safe (same_or_taken world state (event ∷ []) id legal takes (follows, tt));
+  mail = λ id legal safe. ⊎_elim (by id legal safe) inr (same_or_taken world state event id legal takes follows).0;
   record_is = λ left may. inr (much.record_is left may);
 }
   where
     next : State AccountFiles
     next = after_event after_session state event
 
-    by : (id : List ℕ) → is_legal_id id ≡ true → IsSureOrTaken disk was world state id → (contents_of world next.account id ≡ contents_of world state.account id) ⊎ (has_id next.taken id ≡ true)
-        → IsSureOrTaken disk device world next id
-    by id legal safe (inr taken) = inr taken
-    by id legal (inr taken) (inl same) = inr (stay_taken state (event ∷ []) id takes taken)
-    by id legal (inl sure) (inl same) =
-        let front = stem_of world.account id in
-        let some : copies next.account.maildir.files front ≢ [] = λ none. named_some front state.account.maildir.files sure.one.name sure.named (named_in state.account.maildir.files sure.one sure.there) (sym same ∙ none) in
-        let g = held_file world.account id next.account.maildir.files (some_held world.account id next.account.maildir.files some) in
-        let e = two_in front state.account.maildir.files g.0 sure.one (contains_part state.account.maildir.files next.account.maildir.files g.0 part g.1) g.2 sure.there sure.named ((law world state [] sound is tt).0.once id legal) in
-        inl (record {
-          one = g.0;
-          there = g.1;
-          named = g.2;
-          sure = elim sure.sure [
-            | inl stays ↦ inl (subst (λ h. disk.stays device h.name) (sym e) (much.mail.0 sure.one.name stays))
-            | inr outlives ↦ inr (subst (disk.outlives device) (sym e) (much.mail.1 sure.one outlives))
-          ];
-        })
+    by : (id : List ℕ) → is_legal_id id ≡ true → IsSureOrTaken disk was world state id → contents_of world next.account id ≡ contents_of world state.account id → IsSureOrTaken disk device world next id
+    by id legal (inr taken) same = inr ((same_or_taken world state event id legal takes follows).1 taken)
+    by id legal (inl sure) same = held_sure disk device world next.account.maildir.files id (some_held world.account id next.account.maildir.files
+        (λ none. named_some (stem_of world.account id) state.account.maildir.files sure.one.name sure.named (named_in state.account.maildir.files sure.one sure.there) (sym same ∙ none)))
+        (λ g there named. inl (rw (two_in (stem_of world.account id) state.account.maildir.files g sure.one (contains_part state.account.maildir.files next.account.maildir.files g part there)
+        named sure.there sure.named ((law world state [] sound is tt).0.once id legal)) (⊎_map (much.mail.0 sure.one.name) (much.mail.1 sure.one) sure.sure)))
 
 abbrev on_same : {D F : Type 0} → D → F → List (Event Occasion AccountFiles) → List (EventOn D F)
-on_same device f [] = []
-on_same device f (event ∷ events) = record { event = event; device = device; file = f } ∷ on_same device f events
+on_same device f events = map (λ (event : Event Occasion AccountFiles). record { event = event; device = device; file = f }) events
 
-same_events : {D F : Type 0} (device : D) (f : F) (events : List (Event Occasion AccountFiles)) → events_of (on_same device f events) ≡ events
-same_events device f [] = refl
-same_events device f (event ∷ events) = ap (λ (es : List (Event Occasion AccountFiles)). event ∷ es) (same_events device f events)
+module _ (law : Headline) {D F : Type 0} (disk : DiskGhosts D) (files : FileGhosts F) (device : D) (f : F) (world : World) (sound : IsSound world) where
+  keeps_all : (state : State AccountFiles) (event : Event Occasion AccountFiles) → IsKept world state → AreTakings (event ∷ []) → Follows world state event
+      → IsPart state.account.maildir.files (after_event after_session state event).account.maildir.files → KeepsSure disk files world device f state device f (after_event after_session state event)
+  keeps_all state event is takes follows part = as_much_is_sure law disk files world state device f event device f sound is takes follows part
+      (record { mail = (λ name stays. stays, λ one outlives. outlives); record_is = λ left may. may })
 
-taking_on : Headline → {D F : Type 0} (disk : DiskGhosts D) (files : FileGhosts F) (device : D) (f : F) (world : World) (state : State AccountFiles) (events : List (Event Occasion AccountFiles)) → IsSound world → IsKept world state
-    → AreTakings events → IsRun world state events → LeaveParts state events → IsRunOn disk files world state device f (on_same device f events)
-taking_on law disk files device f world state [] sound is each run parts = tt
-taking_on law disk files device f world state (TakenAway id after ∷ events) sound is each run parts = (
-  (run.0, tt, as_much_is_sure law disk files world state device f (TakenAway id after) device f sound is tt run.0 parts.0 (record { mail = (λ name stays. stays, λ one outlives. outlives); record_is = λ left may. may })),
-  taking_on law disk files device f world (after_event {S = Occasion} after_session state (TakenAway id after)) events sound (law world state (TakenAway id after ∷ []) sound is (run.0, tt)).1 each run.1 parts.1,
-)
-taking_on law disk files device f world state (Between after ∷ events) sound is each run parts = (
-  (run.0, tt, as_much_is_sure law disk files world state device f (Between after) device f sound is tt run.0 parts.0 (record { mail = (λ name stays. stays, λ one outlives. outlives); record_is = λ left may. may })),
-  taking_on law disk files device f world (after_event {S = Occasion} after_session state (Between after)) events sound (law world state (Between after ∷ []) sound is (run.0, tt)).1 each run.1 parts.1,
-)
-taking_on law disk files device f world state (_ ∷ events) sound is never run parts = absurd never
+  taking_on : (state : State AccountFiles) (events : List (Event Occasion AccountFiles)) → IsKept world state → AreTakings events → IsRun world state events → LeaveParts state events
+      → IsRunOn disk files world state device f (on_same device f events)
+  taking_on state [] is each run parts = tt
+  taking_on state (TakenAway id after ∷ events) is each run parts =
+      ((run.0, tt, keeps_all state (TakenAway id after) is tt run.0 parts.0), taking_on _ events (law world state (TakenAway id after ∷ []) sound is (run.0, tt)).1 each run.1 parts.1)
+  taking_on state (Between after ∷ events) is each run parts =
+      ((run.0, tt, keeps_all state (Between after) is tt run.0 parts.0), taking_on _ events (law world state (Between after ∷ []) sound is (run.0, tt)).1 each run.1 parts.1)
+  taking_on state (_ ∷ events) is never run parts = absurd never
 
 pub takings_run_on : Headline → StemsDiffer → {D F : Type 0} (disk : DiskGhosts D) (files : FileGhosts F) → TakingsRunOn disk files
 takings_run_on law differ disk files device f world state left sound is part =
     let told = takings_leave_parts law differ world state left sound is part in (
       on_same device f told.0,
-      subst (AreTaken world state left) (sym (same_events device f told.0)) told.1,
-      taking_on law disk files device f world state told.0 sound is told.1.each told.1.run told.2,
+      rw (map-map, map-id) told.1,
+      taking_on law disk files device f world sound state told.0 is told.1.each told.1.run told.2,
     )

@@ -1,251 +1,82 @@
--- What tasks that were done retrieved, stored and recorded, compared with what was wanted.
-use Rattle.std.proofs.Common.{◌≡◌, ℕ, Bool, true, not, cond, List, [], ◌∷◌, ◌++◌, map, take, zip, length, length-append, refl, sym, ap, subst, ◌∙◌, arith, rules}
-use Rattle.std.specs.List.{filter, AllByRecursion, AllZip}
-use Rattle.std.proofs.lemmas.List.{take_at, take-map, length-map, map-append}
+-- The tasks of a plan: what they fetch, whether it is held, and what comes before a deletion; and what those that were done retrieved, stored and recorded, compared with what was wanted.
+use Rattle.fetch_runs.proofs.Ids.{bytes_self, bytes_same}
+use Rattle.fetch_runs.proofs.Lists.{all_append, all_mapped, all_front, all_map, at_length}
+use Rattle.std.proofs.Common.{◌≡◌, ◌+◌, ◌-◌, ℕ, Bool, true, false, cond, List, [], ◌∷◌, ◌++◌, map, zip, Option, Some, refl, sym, ap, append_assoc, length, length-append, arith, rules, take, ◌∙◌}
+use Rattle.std.specs.Prelude.{◌&&◌, ◌<◌, bytes_eq, slice_get, ◌||◌, option_to_list}
+use Rattle.std.specs.List.{flat_map, filter, AllByRecursion, enumerate_from, AllZip}
+use Rattle.std.proofs.lemmas.Bool.{or_right, or_left}
+use Rattle.std.proofs.lemmas.List.{append-nil, take_at, take-map, length-map, map-append}
 use Rattle.std.proofs.lemmas.List.Concat.{flat_map-append}
+use Rattle.std.proofs.lemmas.List.Folds.{list_any-append}
+use Rattle.mail_terms.specs.Listing.{Item, has_item, numbered, is_first, is_last, is_flagged}
+use Rattle.rc_file.specs.declared.settings.Settings.{Settings}
+use Rattle.fetch_rules.specs.Record.{Row, is_delivered, is_of, has_row, with_delivered, marked, marked_all, new_ids, with_held, merged}
+use Rattle.fetch_rules.specs.Wanted.{wanted}
+use Rattle.fetch_rules.specs.Plan.{step_of, planned, retrieved}
+use Rattle.fetch_rules.specs.declared.steps.Step.{Step}
+use Rattle.mail_store.specs.Maildir.{Maildir}
+use Rattle.mail_store.specs.FileName.{is_held}
+use Rattle.pop3_client.specs.Turns.{quit, IsGood}
+use Rattle.fetch_session.specs.Task.{Task, says, stores, rereads, deletes, fetching, deleting, tasks_in, tasks_planned, Done, IsAnswered, turns_in, tasks_of, files_in, files_of, lines_in, lines_of, ids_ahead}
+use Rattle.fetch_session.specs.Plan as Session
+use Rattle.fetch_session.specs.Target.{AsFiles, in_maildir}
 use Rattle.std.proofs.lemmas.List.Sums.{sum_by-append}
-use Rattle.mail_terms.specs.Listing.{Item, has_item, is_flagged}
-use Rattle.mail_store.specs.Maildir.{Maildir, File}
-use Rattle.mail_store.specs.FileName.{is_held, mail_file}
 use Rattle.pop3_wire.specs.Reading.{WholeReply}
-use Rattle.pop3_client.specs.Turns.{IsGood}
-use Rattle.fetch_session.specs.Task.{Task, stores, rereads, deletes, Done, IsAnswered, turns_in, tasks_of, files_in, files_of, lines_in, lines_of, ids_in, ids_of, ids_ahead}
 use Rattle.fetch_session.specs.Report.{is_taken, retrieved_in}
 use Rattle.run_law.specs.Steps.{file_for, is_unheld, Effect, ids_wanted}
 use Rattle.std.proofs.lemmas.Simd.{map-map}
-use Rattle.fetch_runs.proofs.Lists.{all_append, all_front, all_map}
 use Rattle.fetch_runs.proofs.Courses.{found_in, found_by, Course, found_of, begun_of}
-use Rattle.fetch_runs.proofs.StatePlan.{key, fetched_in, fetched, IsRight, deleted_in, deleted_by, Safe, tasks_ahead, PlansFetchWanted, fetched_ahead, right_ahead, safe_ahead}
-use Rattle.std.specs.Prelude.{◌&&◌, ◌||◌, bytes_eq}
-use Rattle.std.proofs.lemmas.Slice.Eq.{bytes_eq-Decides}
-use Rattle.std.proofs.Math.Bool.{or-true}
-use Rattle.std.proofs.lemmas.Bool.{or_left}
-use Rattle.fetch_rules.specs.Record.{Row, is_of, has_row, is_delivered, with_delivered, marked, marked_all, new_ids, with_held, merged}
 use Rattle.mail_store.specs.Held.{flags_of}
-use Rattle.rc_file.specs.declared.settings.Settings.{Settings}
 use Rattle.fetch_rules.specs.RecordGrowth.{OneRecord}
-use Rattle.fetch_rules.specs.Wanted.{wanted}
 use Rattle.fetch_session.specs.Laws.{SteadyFilesKeep, UnsavedFilesKeep}
 
-abbrev pub number_found : ℕ × List ℕ → ℕ
-number_found found = found.0
+-- the tasks of an account with a Maildir
+abbrev pub tasks_ahead : Settings → List ℕ → List Item → ℕ → Maildir → List Row → List Task
+tasks_ahead settings account items now maildir rows = Session.tasks_ahead settings (AsFiles account) items now (in_maildir maildir) rows
 
-abbrev pub text_found : ℕ × List ℕ → List ℕ
-text_found found = found.1
+-- the number and the id of a message
+abbrev pub key : ℕ × Item → ℕ × List ℕ
+key message = (message.0, message.1.uid)
 
-abbrev pub number_of : ℕ × Item → ℕ
-number_of message = message.0
+-- the number and the id of the message that a task fetches, if it fetches one
+abbrev pub fetched_in : Task → List (ℕ × List ℕ)
+fetched_in (stores number uid) = (number, uid) ∷ []
+fetched_in (rereads number uid) = (number, uid) ∷ []
+fetched_in _ = []
 
-abbrev pub texts_by : List Done → List (List ℕ)
-texts_by dones = map text_found (found_by dones)
+abbrev pub fetched : List Task → List (ℕ × List ℕ)
+fetched tasks = flat_map fetched_in tasks
 
--- ---- numbers
+-- the ids of the messages that tasks delete
+abbrev pub deleted_in : List Item → Task → List (List ℕ)
+deleted_in items (deletes number) = map (λ (item : Item). item.uid) (option_to_list (slice_get items (number - 1)))
+deleted_in items _ = []
 
-found_numbers : (task : Task) (replies : List WholeReply) → AllZip IsGood (turns_in task) replies → map number_found (found_in task replies) ≡ map (λ (p : ℕ × List ℕ). p.0) (fetched_in task)
-found_numbers (stores number uid) (reply ∷ []) answered = refl
-found_numbers (rereads number uid) (reply ∷ []) answered = refl
-found_numbers task replies answered = search rules
+abbrev pub deleted_by : List Item → List Task → List (List ℕ)
+deleted_by items tasks = flat_map (deleted_in items) tasks
 
-pub numbers_by : (dones : List Done) → AllByRecursion IsAnswered dones → map number_found (found_by dones) ≡ map (λ (p : ℕ × List ℕ). p.0) (fetched (tasks_of dones))
-numbers_by [] answered = refl
-numbers_by (d ∷ dones) answered =
-    simp (map-append, found_numbers d.task d.replies answered.0, numbers_by dones answered.1)
+-- what a task fetches is listed, and is stored only if it isn't held; what it deletes is at its number, and
+-- no other message has its id
+abbrev pub IsRight : List ℕ → Maildir → List Item → Task → Type 0
+IsRight account maildir items (stores number uid) = (is_held account maildir uid ≡ false) × (has_item items uid ≡ true)
+IsRight account maildir items (rereads number uid) = (is_held account maildir uid ≡ true) × (has_item items uid ≡ true)
+IsRight account maildir items (deletes number) = (item : Item) × (slice_get items (number - 1) ≡ Some item) × (0 < number) × ((is_first items (number, item) && is_last items (number, item)) ≡ true)
+IsRight account maildir items _ = Unit {0}
 
--- ---- files
+-- what holds of each stored id holds of an id when its message is deleted
+abbrev pub Safe : (List ℕ → Type 0) → List Item → List Task → Type 0
+Safe D items [] = Unit {0}
+Safe D items (stores number uid ∷ tasks) = D uid → Safe D items tasks
+Safe D items (deletes number ∷ tasks) = AllByRecursion D (deleted_in items (deletes number)) × Safe D items tasks
+Safe D items (_ ∷ tasks) = Safe D items tasks
 
--- the file of a fetched message and its text
-abbrev file_at : List ℕ → (ℕ × List ℕ) × List ℕ → File
-file_at account pair = mail_file account pair.0.1 pair.1
+abbrev pub tasks_at : (ℕ × Item → Step) → (List ℕ → Bool) → ℕ × Item → List Task
+tasks_at f held message = tasks_in (f message) message.1 (held message.1.uid)
 
-abbrev is_free : List ℕ → Maildir → (ℕ × List ℕ) × List ℕ → Bool
-is_free account maildir pair = not (is_held account maildir pair.0.1)
-
-files_by : (account : List ℕ) (maildir : Maildir) (items : List Item) (dones : List Done) → AllByRecursion IsAnswered dones → AllByRecursion (IsRight account maildir items) (tasks_of dones)
-    → files_of account dones ≡ map (file_at account) (filter (is_free account maildir) (zip (fetched (tasks_of dones)) (texts_by dones)))
-files_by account maildir items [] answered right = refl
-files_by account maildir items (d ∷ dones) answered right = by d.task d.replies answered.0 right.0 (files_by account maildir items dones answered.1 right.1)
-  where
-    by : (task : Task) (replies : List WholeReply) → AllZip IsGood (turns_in task) replies → IsRight account maildir items task
-        → files_of account dones ≡ map (file_at account) (filter (is_free account maildir) (zip (fetched (tasks_of dones)) (texts_by dones)))
-        → files_in account task replies ++ files_of account dones
-        ≡ map (file_at account) (filter (is_free account maildir) (zip (fetched_in task ++ fetched (tasks_of dones)) (map text_found (found_in task replies ++ found_by dones))))
-    by (stores number uid) (reply ∷ []) is right ih = grind (arith, ih, right.0)
-    by (rereads number uid) (reply ∷ []) is right ih = grind (arith, ih, right.0)
-    by task replies is right ih = search rules
-
-by_messages : (account : List ℕ) (maildir : Maildir) (messages : List (ℕ × Item)) (texts : List (List ℕ))
-    → map (file_at account) (filter (is_free account maildir) (zip (map key messages) texts)) ≡ map (file_for account) (filter (is_unheld account maildir) (zip messages texts))
-by_messages account maildir [] texts = refl
-by_messages account maildir (q ∷ qs) [] = refl
-by_messages account maildir (q ∷ qs) (text ∷ texts) = grind (arith, by_messages account maildir qs texts)
-
--- ---- a plan that fetches what is wanted, as far as it was done
-
-pub same_length : (dones : List Done) → AllByRecursion IsAnswered dones → length (fetched (tasks_of dones)) ≡ length (found_by dones)
-same_length dones answered =
-    sym (length-map (fetched (tasks_of dones)) (λ (p : ℕ × List ℕ). p.0)) ∙ sym (ap (λ (l : List ℕ). length l) (numbers_by dones answered)) ∙ length-map (found_by dones) number_found
-
--- ---- by their lines in the report
-
-counted_in : (task : Task) (replies : List WholeReply) → AllZip IsGood (turns_in task) replies → retrieved_in (lines_in task replies) ≡ length (found_in task replies)
-counted_in (stores number uid) (reply ∷ []) answered = refl
-counted_in (rereads number uid) (reply ∷ []) answered = refl
-counted_in task replies answered = search rules
-
-pub counted_by : (dones : List Done) → AllByRecursion IsAnswered dones → retrieved_in (lines_of dones) ≡ length (found_by dones)
-counted_by [] answered = refl
-counted_by (d ∷ dones) answered =
-    let first = counted_in d.task d.replies answered.0 in
-    let later = counted_by dones answered.1 in
-    omega (arith, first, later, sum_by-append (λ line. cond (is_taken line) 1 0) (lines_in d.task d.replies) (lines_of dones), length-append (found_in d.task d.replies) (found_by dones))
-
--- the laws of the crates below that are used
-pub record Laws : Type 0 where
-  pub plans : PlansFetchWanted
-  pub held : (rows : List Row) (listing : List Item) (held : List Bool) (now : ℕ) (uid : List ℕ) → is_delivered (merged rows listing held now) uid ≡ is_delivered rows uid || is_flagged listing held uid
-  pub listed : (rows : List Row) (listing : List Item) (held : List Bool) (now : ℕ) (uid : List ℕ) → has_row (merged rows listing held now) uid ≡ has_row rows uid || has_item listing uid
-  pub marks : (rows : List Row) (uid other : List ℕ) → is_delivered (marked rows uid) other ≡ is_delivered rows other || (has_row rows other && bytes_eq uid other)
-  pub rows : (rows : List Row) (uid other : List ℕ) → has_row (marked rows uid) other ≡ has_row rows other
-  pub flags : (account : List ℕ) (maildir : Maildir) (items : List Item) (uid : List ℕ) → is_flagged items (flags_of account maildir items) uid ≡ (has_item items uid && is_held account maildir uid)
-  pub one : OneRecord
-  pub steady : SteadyFilesKeep
-  pub unsaved : UnsavedFilesKeep
-
--- ---- marks that change nothing
-
-or_swap : (d a b : Bool) → ((d || a) || b) ≡ ((d || b) || a)
-or_swap d a b = grind arith
-
-marks_swap : (rows : List Row) (x y : List ℕ) → marked (marked rows x) y ≡ marked (marked rows y) x
-marks_swap [] x y = refl
-marks_swap (row ∷ rows) x y =
-    ap (λ (d : Bool). let first : Row = record row { delivered = d } in first ∷ marked (marked rows x) y) (or_swap row.delivered (is_of x row) (is_of y row))
-    ∙ ap (λ l. let first : Row = record row { delivered = (row.delivered || is_of y row) || is_of x row } in first ∷ l) (marks_swap rows x y)
-
--- the rows of the id are delivered
-abbrev IsSettled : List ℕ → Row → Type 0
-IsSettled uid row = is_of uid row ≡ true → row.delivered ≡ true
-
-or_same : (d e : Bool) → (e ≡ true → d ≡ true) → (d || e) ≡ d
-or_same d e is = grind arith
-
-settled_stays : (rows : List Row) (uid : List ℕ) → AllByRecursion (IsSettled uid) rows → marked rows uid ≡ rows
-settled_stays [] uid settled = refl
-settled_stays (row ∷ rows) uid settled =
-    ap (λ (d : Bool). let first : Row = record row { delivered = d } in first ∷ marked rows uid) (or_same row.delivered (is_of uid row) settled.0)
-    ∙ ap (λ l. row ∷ l) (settled_stays rows uid settled.1)
-
-settled_held : (test : List ℕ → Bool) (uid : List ℕ) (rows : List Row) → test uid ≡ true → AllByRecursion (IsSettled uid) (map (λ row. with_delivered (test row.uid) row) rows)
-settled_held test uid [] is = tt
-settled_held test uid (row ∷ rows) is = (
-  λ same. ap (λ b. row.delivered || b) (subst (λ (id : List ℕ). test id ≡ true) ((bytes_eq-Decides uid row.uid).0 same) is) ∙ or-true row.delivered,
-  settled_held test uid rows is,
-)
-
-settled_new : (test : List ℕ → Bool) (uid : List ℕ) (now : ℕ) (ids : List (List ℕ)) → test uid ≡ true
-    → AllByRecursion (IsSettled uid) (map (λ (id : List ℕ). let row : Row = record { uid = id; first_seen = now; delivered = test id } in row) ids)
-settled_new test uid now [] is = tt
-settled_new test uid now (id ∷ ids) is = (λ same. subst (λ (other : List ℕ). test other ≡ true) ((bytes_eq-Decides uid id).0 same) is, settled_new test uid now ids is)
-
--- after the merge a mark of an id that is listed and held changes nothing
-pub held_settled : Laws → (account : List ℕ) (maildir : Maildir) (items : List Item) (now : ℕ) (rows : List Row) (uid : List ℕ)
-    → has_item items uid ≡ true → is_held account maildir uid ≡ true → marked (merged rows items (flags_of account maildir items) now) uid ≡ merged rows items (flags_of account maildir items) now
-held_settled laws account maildir items now rows uid listed held =
-    settled_stays (merged rows items flags now) uid
-    (all_append (IsSettled uid) (with_held items flags rows) (map (λ (id : List ℕ). let row : Row = record { uid = id; first_seen = now; delivered = is_flagged items flags id } in row) (new_ids rows items))
-    (settled_held (is_flagged items flags) uid rows flagged) (settled_new (is_flagged items flags) uid now (new_ids rows items) flagged))
-  where
-    flags : List Bool
-    flags = flags_of account maildir items
-
-    flagged : is_flagged items (flags_of account maildir items) uid ≡ true
-    flagged = laws.flags account maildir items uid ∙ ap (λ b. b && is_held account maildir uid) listed ∙ held
-
--- so marking what was stored is marking all that was fetched
-pub marks_by : (account : List ℕ) (maildir : Maildir) (items : List Item) (dones : List Done) (rows : List Row)
-    → ((uid : List ℕ) → has_item items uid ≡ true → is_held account maildir uid ≡ true → marked rows uid ≡ rows) → AllByRecursion (IsRight account maildir items) (tasks_of dones)
-    → marked_all rows (ids_of dones) ≡ marked_all rows (map (λ (p : ℕ × List ℕ). p.1) (fetched (tasks_of dones)))
-marks_by account maildir items [] rows settled right = refl
-marks_by account maildir items (d ∷ dones) rows settled right = by d.task right.0 (λ other still. marks_by account maildir items dones other still right.1)
-  where
-    IsSettledAll : List Row → Type 0
-    IsSettledAll other = (uid : List ℕ) → has_item items uid ≡ true → is_held account maildir uid ≡ true → marked other uid ≡ other
-
-    later : List (List ℕ)
-    later = map (λ (p : ℕ × List ℕ). p.1) (fetched (tasks_of dones))
-
-    by : (task : Task) → IsRight account maildir items task → ((other : List Row) → IsSettledAll other → marked_all other (ids_of dones) ≡ marked_all other later)
-        → marked_all rows (ids_in task ++ ids_of dones) ≡ marked_all rows (map (λ (p : ℕ × List ℕ). p.1) (fetched_in task ++ fetched (tasks_of dones)))
-    by (stores number uid) is ih = ih (marked rows uid) (λ other listed held. marks_swap rows uid other ∙ ap (λ (r : List Row). marked r uid) (settled other listed held))
-    by (rereads number uid) is ih = ih rows settled ∙ ap (λ (r : List Row). marked_all r later) (sym (settled uid is.1 is.0))
-    by other is ih = ih rows settled
-
--- ---- what is recorded as delivered
-
-marks_stay : Laws → (rows : List Row) (ids : List (List ℕ)) (uid : List ℕ) → is_delivered rows uid ≡ true → is_delivered (marked_all rows ids) uid ≡ true
-marks_stay laws rows [] uid is = is
-marks_stay laws rows (id ∷ ids) uid is = marks_stay laws (marked rows id) ids uid (laws.marks rows id uid ∙ or_left _ _ is)
-
-pub marked_delivered : Laws → (rows : List Row) (ids : List (List ℕ)) → AllByRecursion (λ (uid : List ℕ). has_row rows uid ≡ true) ids
-    → AllByRecursion (λ (uid : List ℕ). is_delivered (marked_all rows ids) uid ≡ true) ids
-marked_delivered laws rows [] all = tt
-marked_delivered laws rows (id ∷ ids) all = (
-  marks_stay laws (marked rows id) ids id
-      (laws.marks rows id id ∙ ap (λ b. is_delivered rows id || (b && bytes_eq id id)) all.0 ∙ ap (λ b. is_delivered rows id || b) ((bytes_eq-Decides id id).1 refl) ∙ or-true (is_delivered rows id)),
-  marked_delivered laws (marked rows id) ids
-      (all_map (λ (uid : List ℕ). has_row rows uid ≡ true) (λ (uid : List ℕ). has_row (marked rows id) uid ≡ true) (λ other has. laws.rows rows id other ∙ has) ids all.1),
-)
-
-pub ids_are : (dones : List Done) → ids_of dones ≡ ids_ahead (tasks_of dones)
-ids_are [] = refl
-ids_are (d ∷ dones) = ap (λ l. ids_in d.task ++ l) (ids_are dones)
-
--- each stored id has a row after the merge
-pub stored_has_row : Laws → (account : List ℕ) (maildir : Maildir) (items : List Item) (now : ℕ) (rows : List Row) (held : List Bool) (tasks : List Task)
-    → AllByRecursion (IsRight account maildir items) tasks → AllByRecursion (λ (uid : List ℕ). has_row (merged rows items held now) uid ≡ true) (ids_ahead tasks)
-stored_has_row laws account maildir items now rows held [] right = tt
-stored_has_row laws account maildir items now rows held (stores number uid ∷ tasks) right = (
-  laws.listed rows items held now uid ∙ ap (λ b. has_row rows uid || b) right.0.1 ∙ or-true (has_row rows uid),
-  stored_has_row laws account maildir items now rows held tasks right.1,
-)
-stored_has_row laws account maildir items now rows held (task ∷ tasks) right = stored_has_row laws account maildir items now rows held tasks right.1
-
--- what is listed and held is recorded as delivered after the merge
-pub held_delivered : Laws → (account : List ℕ) (maildir : Maildir) (items : List Item) (now : ℕ) (rows : List Row) (uid : List ℕ)
-    → has_item items uid ≡ true → is_held account maildir uid ≡ true → is_delivered (merged rows items (flags_of account maildir items) now) uid ≡ true
-held_delivered laws account maildir items now rows uid listed held =
-    laws.held rows items (flags_of account maildir items) now uid
-    ∙ ap (λ b. is_delivered rows uid || b) (laws.flags account maildir items uid ∙ ap (λ b. b && is_held account maildir uid) listed ∙ held)
-    ∙ or-true (is_delivered rows uid)
-
--- ---- deletions
-
--- one more task of any kind
-pub safe_next : (D : List ℕ → Type 0) (items : List Item) (tasks later : List Task) (next : Task) → Safe D items (tasks ++ next ∷ later) → AllByRecursion D (ids_ahead tasks)
-    → AllByRecursion D (deleted_by items (tasks ++ next ∷ []))
-safe_next D items [] later (deletes number) safe all = all_append D (deleted_in items (deletes number)) [] safe.0 tt
-safe_next D items [] later other safe all = tt
-safe_next D items (stores number uid ∷ tasks) later next safe all = safe_next D items tasks later next (safe all.0) all.1
-safe_next D items (deletes number ∷ tasks) later next safe all = all_append D (deleted_in items (deletes number)) (deleted_by items (tasks ++ next ∷ [])) safe.0 (safe_next D items tasks later next safe.1 all)
-safe_next D items (other ∷ tasks) later next safe all = safe_next D items tasks later next safe all
-
-pub safe_done : (D : List ℕ → Type 0) (items : List Item) (tasks later : List Task) → Safe D items (tasks ++ later) → AllByRecursion D (ids_ahead tasks) → AllByRecursion D (deleted_by items tasks)
-safe_done D items [] later safe all = tt
-safe_done D items (stores number uid ∷ tasks) later safe all = safe_done D items tasks later (safe all.0) all.1
-safe_done D items (deletes number ∷ tasks) later safe all = all_append D (deleted_in items (deletes number)) (deleted_by items tasks) safe.0 (safe_done D items tasks later safe.1 all)
-safe_done D items (other ∷ tasks) later safe all = safe_done D items tasks later safe all
-
--- ---- What a session did, as the law over runs takes it, from the tasks that it completed.
-
--- the parts of a session that the law over runs uses
-abbrev pub effect_of : ℕ → Bool → Course → Effect
-effect_of now ended course = record {
-  now = now;
-  listing = course.items;
-  texts = map text_found (found_of course);
-  begun = deleted_by course.items (begun_of course);
-  ended = ended;
-}
+by_message : (f : ℕ × Item → Step) (held : List ℕ → Bool) (n : ℕ) (items : List Item)
+    → tasks_planned (map f (enumerate_from n items)) items (map (λ (item : Item). held item.uid) items) ≡ flat_map (tasks_at f held) (enumerate_from n items)
+by_message f held n [] = refl
+by_message f held n (item ∷ items) = ap (λ l. tasks_at f held (n, item) ++ l) (by_message f held (n + 1) items)
 
 -- what a plan is made from; with an mboxrd file the Maildir is an empty one
 pub record Inputs : Type 0 where
@@ -266,16 +97,140 @@ tasks_on p = tasks_ahead p.settings p.account p.items p.now p.maildir (rows_on p
 abbrev pub messages_on : Inputs → List (ℕ × Item)
 messages_on p = wanted p.settings (rows_on p) p.items
 
+abbrev pub IsRightOn : Inputs → Task → Type 0
+IsRightOn p task = IsRight p.account p.maildir p.items task
+
+abbrev steps_on : Inputs → ℕ × Item → Step
+steps_on p = step_of p.settings (rows_on p) p.items p.now
+
+-- the tasks of a plan are those of its messages, and QUIT
+tasks_are : (p : Inputs) → tasks_on p ≡ flat_map (tasks_at (steps_on p) (is_held p.account p.maildir)) (numbered p.items) ++ says quit ∷ []
+tasks_are p = rw (by_message (steps_on p) (is_held p.account p.maildir) 1 p.items) refl
+
+-- ---- what is fetched
+
+fetched_plan : (f : ℕ × Item → Step) (held : List ℕ → Bool) → ((q : ℕ × Item) → (f q).number ≡ q.0) → (qs : List (ℕ × Item))
+    → fetched (flat_map (tasks_at f held) qs) ≡ map key (map (λ (p : Step × (ℕ × Item)). p.1) (filter (λ (p : Step × (ℕ × Item)). p.0.retrieve) (zip (map f qs) qs)))
+fetched_plan f held same [] = refl
+fetched_plan f held same (q ∷ qs) = grind (arith, same q, flat_map-append fetched_in (tasks_at f held q) (flat_map (tasks_at f held) qs), fetched_plan f held same qs)
+
+-- ---- what is held
+
+-- a message is at its number, which counts from 1, and is listed
+abbrev IsAt : List Item → ℕ × Item → Type 0
+IsAt items message = (slice_get items (message.0 - 1) ≡ Some message.1) × (has_item items message.1.uid ≡ true) × (0 < message.0)
+
+all_stand : (items front behind : List Item) (n : ℕ) → items ≡ front ++ behind → n ≡ length front + 1 → AllByRecursion (IsAt items) (enumerate_from n behind)
+all_stand items front [] n split is = tt
+all_stand items front (item ∷ behind) n split is =
+    let place : n - 1 ≡ length front = omega (arith, is) in
+    let listed : has_item (front ++ item ∷ behind) item.uid ≡ true = grind (arith, bytes_self item.uid, list_any-append (λ (i : Item). bytes_eq item.uid i.uid) front (item ∷ behind)) in
+    (rw (split, place) (at_length front item behind, listed, omega (arith, is)), all_stand items (front ++ item ∷ []) behind (n + 1) (simp (split, append_assoc)) (simp length-append (omega (arith, is))))
+
+-- ---- what is deleted
+
+module _ (D : List ℕ → Type 0) (p : Inputs) (delivered : (uid : List ℕ) → is_delivered (rows_on p) uid ≡ true → D uid)
+    (known : (uid : List ℕ) → has_item p.items uid ≡ true → is_held p.account p.maildir uid ≡ true → D uid) where
+  -- these tasks are right, and safe before later ones
+  abbrev AreFit : List Task → List Task → Type 0
+  AreFit tasks later = AllByRecursion (IsRightOn p) tasks × (Safe D p.items later → Safe D p.items (tasks ++ later))
+
+  fit_by : (r h d : Bool) (n : ℕ) (uid : List ℕ) (size : ℕ) (later : List Task) → is_held p.account p.maildir uid ≡ h → has_item p.items uid ≡ true → (d ≡ true → IsRightOn p (deletes n))
+      → (d ≡ true → r ≡ false → D uid) → (D uid → AllByRecursion D (deleted_in p.items (deletes n))) → AreFit (fetching r h n uid size ++ deleting d n) later
+  fit_by true true true n uid size later held listed at due gone = (((held, listed), (at refl, tt)), λ safe. (gone (known uid listed held), safe))
+  fit_by true false true n uid size later held listed at due gone = (((held, listed), (at refl, tt)), λ safe stored. (gone stored, safe))
+  fit_by false h true n uid size later held listed at due gone = ((tt, (at refl, tt)), λ safe. (gone (due refl refl), safe))
+  fit_by r h d n uid size later held listed at due gone = search rules
+
+  fit_all : (qs : List (ℕ × Item)) (later : List Task) → AllByRecursion (IsAt p.items) qs → AreFit (flat_map (tasks_at (steps_on p) (is_held p.account p.maildir)) qs) later
+  fit_all [] later at = (tt, λ safe. safe)
+  fit_all (q ∷ qs) later at =
+      let more = fit_all qs later at.1 in
+      let first = fit_by (steps_on p q).retrieve (is_held p.account p.maildir q.1.uid) (steps_on p q).delete q.0 q.1.uid q.1.size (flat_map (tasks_at (steps_on p) (is_held p.account p.maildir)) qs ++ later) refl at.0.1
+      (λ is. (q.1, at.0.0, at.0.2, grind (arith, is))) (λ is not. delivered q.1.uid (grind (arith, is, not))) (λ is. rw at.0.0 (is, tt)) in
+      (all_append _ _ _ first.0 more.0, λ safe. rw (append_assoc (tasks_at (steps_on p) (is_held p.account p.maildir) q) (flat_map (tasks_at (steps_on p) (is_held p.account p.maildir)) qs) later) (first.1 (more.1 safe)))
+
+  -- a plan is right, and safe for what holds of each id that is recorded as delivered after the merge, or is held and listed
+  fit_ahead : AllByRecursion (IsRightOn p) (tasks_on p) × Safe D p.items (tasks_on p)
+  fit_ahead =
+      let all = fit_all (numbered p.items) (says quit ∷ []) (all_stand p.items [] p.items 1 refl refl) in
+      rw (tasks_are p) (all_append _ _ _ all.0 (tt, tt), all.1 tt)
+
+-- ---- tasks that were done
+
+abbrev pub number_found : ℕ × List ℕ → ℕ
+number_found found = found.0
+
+abbrev pub text_found : ℕ × List ℕ → List ℕ
+text_found found = found.1
+
+abbrev pub number_of : ℕ × Item → ℕ
+number_of message = message.0
+
+abbrev pub texts_by : List Done → List (List ℕ)
+texts_by dones = map text_found (found_by dones)
+
+-- how many messages were retrieved
+abbrev pub count : List Done → ℕ
+count dones = length (found_by dones)
+
+-- ---- numbers, and lines in the report
+
+found_one : (task : Task) (replies : List WholeReply) → AllZip IsGood (turns_in task) replies
+    → (map number_found (found_in task replies) ≡ map (λ (p : ℕ × List ℕ). p.0) (fetched_in task)) × (retrieved_in (lines_in task replies) ≡ length (found_in task replies))
+found_one (stores number uid) (reply ∷ []) answered = (refl, refl)
+found_one (rereads number uid) (reply ∷ []) answered = (refl, refl)
+found_one task replies answered = search rules
+
+pub found_all : (dones : List Done) → AllByRecursion IsAnswered dones
+    → (map number_found (found_by dones) ≡ map (λ (p : ℕ × List ℕ). p.0) (fetched (tasks_of dones))) × (retrieved_in (lines_of dones) ≡ count dones)
+found_all [] answered = (refl, refl)
+found_all (d ∷ dones) answered =
+    let first = found_one d.task d.replies answered.0 in
+    let more = found_all dones answered.1 in
+    let sum = sum_by-append (λ line. cond (is_taken line) 1 0) (lines_in d.task d.replies) (lines_of dones) in
+    (simp (map-append, first.0, more.0), omega (arith, first.1, more.1, sum, length-append (found_in d.task d.replies) (found_by dones)))
+
+-- ---- files
+
+files_by : (account : List ℕ) (maildir : Maildir) (items : List Item) (dones : List Done) (messages : List (ℕ × Item)) → AllByRecursion IsAnswered dones
+    → AllByRecursion (IsRight account maildir items) (tasks_of dones) → fetched (tasks_of dones) ≡ map key messages
+    → files_of account dones ≡ map (file_for account) (filter (is_unheld account maildir) (zip messages (texts_by dones)))
+files_by account maildir items [] [] answered right are = refl
+files_by account maildir items [] (m ∷ ms) answered right are = absurd cc
+files_by account maildir items (d ∷ dones) messages answered right are = by d.task d.replies messages answered.0 right.0 are (λ more. files_by account maildir items dones more answered.1 right.1)
+  where
+    by : (task : Task) (replies : List WholeReply) (ms : List (ℕ × Item)) → AllZip IsGood (turns_in task) replies → IsRight account maildir items task → fetched_in task ++ fetched (tasks_of dones) ≡ map key ms
+        → ((more : List (ℕ × Item)) → fetched (tasks_of dones) ≡ map key more → files_of account dones ≡ map (file_for account) (filter (is_unheld account maildir) (zip more (texts_by dones))))
+        → files_in account task replies ++ files_of account dones ≡ map (file_for account) (filter (is_unheld account maildir) (zip ms (map text_found (found_in task replies ++ found_by dones))))
+    by (stores number uid) (reply ∷ []) (q ∷ ms) is right are ih = grind (arith, are, ih ms, right.0)
+    by (rereads number uid) (reply ∷ []) (q ∷ ms) is right are ih = grind (arith, are, ih ms, right.0)
+    by task replies ms is right are ih = grind (arith, are, is, ih ms)
+
+-- ---- a plan that fetches what is wanted, as far as it was done
+
+pub same_length : (dones : List Done) → AllByRecursion IsAnswered dones → length (fetched (tasks_of dones)) ≡ count dones
+same_length dones answered = omega (arith, simp length-map at (ap (λ (l : List ℕ). length l) (found_all dones answered).0))
+
+-- the laws of the crates below that are used
+pub record Laws : Type 0 where
+  pub plans : (settings : Settings) (rows : List Row) (listing : List Item) (now : ℕ) → retrieved (planned settings rows listing now) listing ≡ wanted settings rows listing
+  pub held : (rows : List Row) (listing : List Item) (held : List Bool) (now : ℕ) (uid : List ℕ) → is_delivered (merged rows listing held now) uid ≡ is_delivered rows uid || is_flagged listing held uid
+  pub listed : (rows : List Row) (listing : List Item) (held : List Bool) (now : ℕ) (uid : List ℕ) → has_row (merged rows listing held now) uid ≡ has_row rows uid || has_item listing uid
+  pub marks : (rows : List Row) (uid other : List ℕ) → is_delivered (marked rows uid) other ≡ is_delivered rows other || (has_row rows other && bytes_eq uid other)
+  pub rows : (rows : List Row) (uid other : List ℕ) → has_row (marked rows uid) other ≡ has_row rows other
+  pub flags : (account : List ℕ) (maildir : Maildir) (items : List Item) (uid : List ℕ) → is_flagged items (flags_of account maildir items) uid ≡ (has_item items uid && is_held account maildir uid)
+  pub one : OneRecord
+  pub steady : SteadyFilesKeep
+  pub unsaved : UnsavedFilesKeep
+
 -- the rows once these were done
 abbrev pub rows_after : Inputs → List Done → List Row
-rows_after p dones = marked_all (rows_on p) (ids_of dones)
+rows_after p dones = marked_all (rows_on p) (ids_ahead (tasks_of dones))
 
 -- an id is recorded once these were done
 abbrev pub IsRecorded : Inputs → List Done → List ℕ → Type 0
 IsRecorded p dones uid = is_delivered (rows_after p dones) uid ≡ true
-
-abbrev pub IsRightOn : Inputs → Task → Type 0
-IsRightOn p task = IsRight p.account p.maildir p.items task
 
 -- a list of done tasks, and those after it
 pub record Part (tasks : List Task) (dones : List Done) : Type 0 where
@@ -283,53 +238,116 @@ pub record Part (tasks : List Task) (dones : List Done) : Type 0 where
   pub split : tasks ≡ tasks_of dones ++ rest
   pub answered : AllByRecursion IsAnswered dones
 
-module _ (laws : Laws) (p : Inputs) where
-  pub safe_tasks : (dones : List Done) → Safe (IsRecorded p dones) p.items (tasks_on p)
-  safe_tasks dones =
-      safe_ahead (IsRecorded p dones) p.settings p.account p.items p.now p.maildir (rows_on p) (λ uid known. marks_stay laws (rows_on p) (ids_of dones) uid known)
-      (λ uid listed held. marks_stay laws (rows_on p) (ids_of dones) uid (held_delivered laws p.account p.maildir p.items p.now p.rows uid listed held))
+-- ---- marks that change nothing
 
+-- the rows of the id are delivered
+abbrev IsSettled : List ℕ → Row → Type 0
+IsSettled uid row = is_of uid row ≡ true → row.delivered ≡ true
+
+settled_stays : (rows : List Row) (uid : List ℕ) → AllByRecursion (IsSettled uid) rows → marked rows uid ≡ rows
+settled_stays [] uid settled = refl
+settled_stays (row ∷ rows) uid settled = grind (arith, settled.0, settled_stays rows uid settled.1)
+
+settled_marked : (uid other : List ℕ) (rows : List Row) → AllByRecursion (IsSettled uid) rows → AllByRecursion (IsSettled uid) (marked rows other)
+settled_marked uid other [] settled = tt
+settled_marked uid other (row ∷ rows) settled = (λ same. or_left _ _ (settled.0 same), settled_marked uid other rows settled.1)
+
+-- after the merge the rows of an id that is listed and held are delivered
+held_settled : Laws → (p : Inputs) (uid : List ℕ) → has_item p.items uid ≡ true → is_held p.account p.maildir uid ≡ true → AllByRecursion (IsSettled uid) (rows_on p)
+held_settled laws p uid listed held =
+    let flags : List Bool = flags_of p.account p.maildir p.items in
+    let new_row : List ℕ → Row = λ id. record { uid = id; first_seen = p.now; delivered = is_flagged p.items flags id } in
+    let flagged : is_flagged p.items flags uid ≡ true = rw (laws.flags p.account p.maildir p.items uid, listed) held in
+    all_append (IsSettled uid) (with_held p.items flags p.rows) (map new_row (new_ids p.rows p.items))
+    (all_mapped (IsSettled uid) (λ (row : Row). with_delivered (is_flagged p.items flags row.uid) row) (λ row same. or_right row.delivered _ (rw (← bytes_same uid row.uid same) flagged)) p.rows)
+    (all_mapped (IsSettled uid) new_row (λ id same. rw (← bytes_same uid id same) flagged) (new_ids p.rows p.items))
+
+-- so marking what was stored is marking all that was fetched
+marks_by : (p : Inputs) (tasks : List Task) (rows : List Row) → ((uid : List ℕ) → has_item p.items uid ≡ true → is_held p.account p.maildir uid ≡ true → AllByRecursion (IsSettled uid) rows)
+    → AllByRecursion (IsRightOn p) tasks → marked_all rows (ids_ahead tasks) ≡ marked_all rows (map (λ (found : ℕ × List ℕ). found.1) (fetched tasks))
+marks_by p [] rows settled right = refl
+marks_by p (stores number uid ∷ tasks) rows settled right = marks_by p tasks (marked rows uid) (λ other listed held. settled_marked other uid rows (settled other listed held)) right.1
+marks_by p (rereads number uid ∷ tasks) rows settled right = rw (settled_stays rows uid (settled uid right.0.1 right.0.0)) (marks_by p tasks rows settled right.1)
+marks_by p (other ∷ tasks) rows settled right = marks_by p tasks rows settled right.1
+
+-- ---- what is recorded as delivered
+
+marks_stay : Laws → (rows : List Row) (ids : List (List ℕ)) (uid : List ℕ) → is_delivered rows uid ≡ true → is_delivered (marked_all rows ids) uid ≡ true
+marks_stay laws rows [] uid is = is
+marks_stay laws rows (id ∷ ids) uid is = marks_stay laws (marked rows id) ids uid (laws.marks rows id uid ∙ or_left _ _ is)
+
+marked_delivered : Laws → (rows : List Row) (ids : List (List ℕ)) → AllByRecursion (λ (uid : List ℕ). has_row rows uid ≡ true) ids
+    → AllByRecursion (λ (uid : List ℕ). is_delivered (marked_all rows ids) uid ≡ true) ids
+marked_delivered laws rows [] all = tt
+marked_delivered laws rows (id ∷ ids) all = (
+  marks_stay laws (marked rows id) ids id (rw (laws.marks rows id id, all.0, bytes_self id) (or_right (is_delivered rows id) _ refl)),
+  marked_delivered laws (marked rows id) ids (all_map _ (λ (uid : List ℕ). has_row (marked rows id) uid ≡ true) (λ other has. rw (laws.rows rows id other) has) ids all.1),
+)
+
+-- each stored id has a row after the merge
+stored_has_row : Laws → (p : Inputs) (tasks : List Task) → AllByRecursion (IsRightOn p) tasks → AllByRecursion (λ (uid : List ℕ). has_row (rows_on p) uid ≡ true) (ids_ahead tasks)
+stored_has_row laws p [] right = tt
+stored_has_row laws p (stores number uid ∷ tasks) right =
+    (rw (laws.listed p.rows p.items (flags_of p.account p.maildir p.items) p.now uid, right.0.1) (or_right (has_row p.rows uid) _ refl), stored_has_row laws p tasks right.1)
+stored_has_row laws p (task ∷ tasks) right = stored_has_row laws p tasks right.1
+
+-- ---- deletions
+
+-- what was deleted, and what one more task is to delete
+pub safe_front : (D : List ℕ → Type 0) (items : List Item) (tasks : List Task) (next : Option Task) (later : List Task) → Safe D items (tasks ++ (option_to_list next ++ later)) → AllByRecursion D (ids_ahead tasks)
+    → AllByRecursion D (deleted_by items (tasks ++ option_to_list next))
+safe_front D items [] (Some (deletes number)) later safe all = all_append D (deleted_in items (deletes number)) [] safe.0 tt
+safe_front D items [] next later safe all = search rules
+safe_front D items (stores number uid ∷ tasks) next later safe all = safe_front D items tasks next later (safe all.0) all.1
+safe_front D items (deletes number ∷ tasks) next later safe all =
+    all_append D (deleted_in items (deletes number)) (deleted_by items (tasks ++ option_to_list next)) safe.0 (safe_front D items tasks next later safe.1 all)
+safe_front D items (other ∷ tasks) next later safe all = safe_front D items tasks next later safe all
+
+-- ---- What a session did, as the law over runs takes it, from the tasks that it completed.
+
+-- the parts of a session that the law over runs uses
+abbrev pub effect_of : ℕ → Bool → Course → Effect
+effect_of now ended course = record {
+  now = now;
+  listing = course.items;
+  texts = map text_found (found_of course);
+  begun = deleted_by course.items (begun_of course);
+  ended = ended;
+}
+
+module _ (laws : Laws) (p : Inputs) where
   pub right_front : (front rest : List Task) → tasks_on p ≡ front ++ rest → AllByRecursion (IsRightOn p) front
-  right_front front rest split = all_front (IsRightOn p) front rest (subst (AllByRecursion (IsRightOn p)) split (right_ahead p.settings p.account p.items p.now p.maildir (rows_on p)))
+  right_front front rest split = all_front (IsRightOn p) front rest (rw split at (fit_ahead (λ uid. Unit {0}) p (λ uid known. tt) (λ uid listed held. tt)).0)
 
   pub right_part : (dones : List Done) → Part (tasks_on p) dones → AllByRecursion (IsRightOn p) (tasks_of dones)
   right_part dones part = right_front (tasks_of dones) part.rest part.split
 
-  pub recorded_all : (dones : List Done) → Part (tasks_on p) dones → AllByRecursion (IsRecorded p dones) (ids_ahead (tasks_of dones))
-  recorded_all dones part =
-      subst (λ (ids : List (List ℕ)). AllByRecursion (λ (uid : List ℕ). is_delivered (marked_all (rows_on p) ids) uid ≡ true) (ids_ahead (tasks_of dones))) (sym (ids_are dones))
-      (marked_delivered laws (rows_on p) (ids_ahead (tasks_of dones))
-      (stored_has_row laws p.account p.maildir p.items p.now p.rows (flags_of p.account p.maildir p.items) (tasks_of dones) (right_part dones part)))
+  -- what was begun to be deleted is recorded
+  pub safe_part : (dones : List Done) (part : Part (tasks_on p) dones) (next : Option Task) (later : List Task) → part.rest ≡ option_to_list next ++ later
+      → AllByRecursion (IsRecorded p dones) (deleted_by p.items (tasks_of dones ++ option_to_list next))
+  safe_part dones part next later rest =
+      let stay = marks_stay laws (rows_on p) (ids_ahead (tasks_of dones)) in
+      let known : (uid : List ℕ) → has_item p.items uid ≡ true → is_held p.account p.maildir uid ≡ true → is_delivered (rows_on p) uid ≡ true =
+      λ uid listed held. grind (arith, laws.held p.rows p.items (flags_of p.account p.maildir p.items) p.now uid, laws.flags p.account p.maildir p.items uid, listed, held) in
+      safe_front (IsRecorded p dones) p.items (tasks_of dones) next later
+      (rw (part.split, rest) at (fit_ahead (IsRecorded p dones) p stay (λ uid listed held. stay uid (known uid listed held))).1)
+      (marked_delivered laws (rows_on p) (ids_ahead (tasks_of dones)) (stored_has_row laws p (tasks_of dones) (right_part dones part)))
 
   pub wanted_are : fetched (tasks_on p) ≡ map key (messages_on p)
-  wanted_are = fetched_ahead laws.plans p.settings p.account p.items p.now p.maildir (rows_on p)
+  wanted_are =
+      simp (tasks_are p, flat_map-append, append-nil, fetched_plan (steps_on p) (is_held p.account p.maildir) (λ q. refl) (numbered p.items), laws.plans p.settings (rows_on p) p.items p.now)
 
   -- the tasks so far fetched the first of the wanted messages
-  fetched_part : (dones : List Done) → Part (tasks_on p) dones → fetched (tasks_of dones) ≡ map key (take (length (found_by dones)) (messages_on p))
+  pub fetched_part : (dones : List Done) → Part (tasks_on p) dones → fetched (tasks_of dones) ≡ map key (take (count dones) (messages_on p))
   fetched_part dones part =
-      sym (take_at (fetched (tasks_of dones)) (fetched part.rest) (length (found_by dones)) (same_length dones part.answered))
-      ∙ ap (λ (l : List (ℕ × List ℕ)). take (length (found_by dones)) l) (sym (flat_map-append fetched_in (tasks_of dones) part.rest) ∙ ap fetched (sym part.split) ∙ wanted_are)
-      ∙ take-map key (length (found_by dones)) (messages_on p)
+      let all : fetched (tasks_of dones) ++ fetched part.rest ≡ map key (messages_on p) = simp (← flat_map-append, ← part.split, wanted_are) in
+      rw (← take-map key (count dones) (messages_on p), ← all) (sym (take_at (fetched (tasks_of dones)) (fetched part.rest) (count dones) (same_length dones part.answered)))
 
   -- the record is the merged one, with the first of the wanted messages marked
-  pub records_part : (dones : List Done) → Part (tasks_on p) dones → rows_after p dones ≡ marked_all (rows_on p) (ids_wanted (take (length (found_by dones)) (messages_on p)))
+  pub records_part : (dones : List Done) → Part (tasks_on p) dones → rows_after p dones ≡ marked_all (rows_on p) (ids_wanted (take (count dones) (messages_on p)))
   records_part dones part =
-      marks_by p.account p.maildir p.items dones (rows_on p) (held_settled laws p.account p.maildir p.items p.now p.rows) (right_part dones part)
-      ∙ ap (λ (l : List (ℕ × List ℕ)). marked_all (rows_on p) (map (λ (found : ℕ × List ℕ). found.1) l)) (fetched_part dones part)
-      ∙ ap (marked_all (rows_on p)) (map-map (λ (found : ℕ × List ℕ). found.1) key (take (length (found_by dones)) (messages_on p)))
-
-  pub numbers_part : (dones : List Done) → Part (tasks_on p) dones → map number_found (found_by dones) ≡ map number_of (take (length (found_by dones)) (messages_on p))
-  numbers_part dones part =
-      numbers_by dones part.answered ∙ ap (map (λ (found : ℕ × List ℕ). found.0)) (fetched_part dones part)
-      ∙ map-map (λ (found : ℕ × List ℕ). found.0) key (take (length (found_by dones)) (messages_on p))
+      marks_by p (tasks_of dones) (rows_on p) (held_settled laws p) (right_part dones part) ∙ simp (fetched_part dones part, map-map)
 
   pub files_part : (dones : List Done) → Part (tasks_on p) dones
-      → files_of p.account dones ≡ map (file_for p.account) (filter (is_unheld p.account p.maildir) (zip (take (length (found_by dones)) (messages_on p)) (texts_by dones)))
-  files_part dones part =
-      files_by p.account p.maildir p.items dones part.answered (right_part dones part)
-      ∙ ap (λ (l : List (ℕ × List ℕ)). map (file_at p.account) (filter (is_free p.account p.maildir) (zip l (texts_by dones)))) (fetched_part dones part)
-      ∙ by_messages p.account p.maildir (take (length (found_by dones)) (messages_on p)) (texts_by dones)
-
-  pub wanted_all : (dones : List Done) → tasks_on p ≡ tasks_of dones → AllByRecursion IsAnswered dones → length (found_by dones) ≡ length (messages_on p)
-  wanted_all dones all answered =
-      sym (same_length dones answered) ∙ ap (λ (l : List Task). length (fetched l)) (sym all) ∙ ap (λ (l : List (ℕ × List ℕ)). length l) wanted_are ∙ length-map (messages_on p) key
+      → files_of p.account dones ≡ map (file_for p.account) (filter (is_unheld p.account p.maildir) (zip (take (count dones) (messages_on p)) (texts_by dones)))
+  files_part dones part = files_by p.account p.maildir p.items dones _ part.answered (right_part dones part) (fetched_part dones part)

@@ -1,7 +1,8 @@
 -- The commands and the replies of a conversation, and the tasks of a plan as commands.
-use Rattle.std.proofs.Common.{◌≡◌, inl, inr, ◌⊎◌, ℕ, List, [], ◌∷◌, ◌++◌, true, None, Some, refl, sym, ap, subst, ◌∙◌, append_assoc, ◌<◌, ◌^◌, Bool, Option, ◌≤◌, ◌+◌, length, map, arith, rules}
+use Rattle.std.proofs.Common.{◌≡◌, inl, inr, ◌⊎◌, ℕ, List, [], ◌∷◌, ◌++◌, true, None, Some, refl, sym, ap, ◌∙◌, append_assoc, ◌<◌, ◌^◌, Bool, Option, ◌≤◌, ◌+◌, length, map, arith, rules, Result}
+use mathlib.Core.Logic.{⊎_map}
 use Rattle.std.specs.List.{flat_map, AllByRecursion, AllZip, enumerate_from}
-use Rattle.std.proofs.lemmas.List.{append-nil}
+use Rattle.std.proofs.lemmas.List.{append-nil, append_cancel_left, map-append}
 use Rattle.std.proofs.lemmas.List.Concat.{flat_map-append}
 use Rattle.pop3_wire.specs.declared.command.Command.{Command}
 use Rattle.pop3_wire.specs.Line.{ended}
@@ -9,7 +10,7 @@ use Rattle.pop3_wire.specs.Commands.{line_of, can_be_sent, octets_of}
 use Rattle.pop3_wire.specs.CommandLine.{HasNumbers}
 use Rattle.pop3_wire.specs.Honest.{Asked, BeginsNext, FrontsAreAsked}
 use Rattle.pop3_wire.specs.Reading.{WholeReply, body_bytes, has_body, IsBodyIf}
-use Rattle.pop3_client.specs.Turns.{Turn, asking, retr, dele, quit, IsBody, IsGood}
+use Rattle.pop3_client.specs.Turns.{Turn, asking, retr, dele, quit, IsBody, IsGood, turn_bytes}
 use Rattle.run_law.specs.Sessions.{BeginsOne}
 use Rattle.fetch_runs.proofs.Lists.{all_append}
 use Rattle.fetch_runs.specs.Conversations.{SentBehind, Conversation}
@@ -17,16 +18,27 @@ use Rattle.std.proofs.lemmas.Bool.{true≢false}
 use Rattle.pop3_wire.specs.declared.command.Command.TheVariants.{Retr}
 use Rattle.pop3_wire.specs.Body.{Body}
 use Rattle.pop3_client.specs.Texts.{body_text}
-use Rattle.run_law.specs.Readings.{AreGood, Retrieves, IsGood as IsRead}
-use Rattle.fetch_session.specs.Task.{Task, says, skips, stores, rereads, deletes, Done, turns_in, tasks_of, turns_of, replies_of, IsAnswered, fetching, deleting, tasks_planned}
-use Rattle.fetch_runs.proofs.Courses.{found_in, found_by, IsOfTask}
+use Rattle.run_law.specs.Readings.{AreGood, Retrieves}
+use Rattle.fetch_session.specs.Task.{Task, says, skips, stores, rereads, deletes, Done, turns_in, tasks_of, turns_of, replies_of, IsAnswered, tasks_planned, task_in}
+use Rattle.fetch_runs.proofs.Courses.{found_in, found_by, IsOfTask, Course, course, course_stopped, stored_done, spare_in, found_of, begun_of}
 use Rattle.mail_terms.specs.Listing.{Item}
 use Rattle.fetch_rules.specs.Record.{Row}
 use Rattle.fetch_rules.specs.Plan.{planned, step_of}
 use Rattle.fetch_rules.specs.declared.steps.Step.{Step}
 use Rattle.rc_file.specs.declared.settings.Settings.{Settings}
 use Rattle.fetch_session.specs.Plan.{tasks_ahead}
-use Rattle.fetch_session.specs.Target.{Target, Stores, flags_in}
+use Rattle.fetch_session.specs.Target.{Target, Stores, flags_in, AsFiles, AsEntries}
+use Rattle.pop3_wire.specs.Link.{Link}
+use Rattle.pop3_wire.specs.Place.{Place}
+use Rattle.pop3_client.specs.declared.fault.ClientFault.{ClientFault}
+use Rattle.pop3_client.specs.Conversation.{Talked, Talks, Broke, IsFrontOfNext, ConversationsArePaced, TurnsJoin}
+use Rattle.fetch_session.specs.Fault.{fault_of}
+use Rattle.fetch_session.specs.Tail.{tail, turns_in as tail_turns, LeftBy, Left, WentOn}
+use Rattle.std.proofs.lemmas.List.Folds.{flat_map-map}
+use Rattle.mail_store.specs.FileName.{stem_of}
+use Rattle.fetch_session.specs.declared.fault.Cut.{Cut}
+use Rattle.fetch_session.specs.Store.{RefusesText}
+use Rattle.fetch_session.specs.Scene.{Scene, NoFile, Stops}
 
 -- ---- The commands in a conversation's octets.
 
@@ -58,27 +70,11 @@ octets_same [] = refl
 octets_same (None ∷ turns) = octets_same turns
 octets_same (Some command ∷ turns) = ap (λ (l : List ℕ). ended (line_of command) ++ l) (octets_same turns)
 
-pub sendable_in : (turns : List Turn) → AllByRecursion CanBeSaid turns → AllByRecursion (λ command. can_be_sent command ≡ true) (commands_in turns)
-sendable_in [] all = tt
-sendable_in (None ∷ turns) all = sendable_in turns all.1
-sendable_in (Some command ∷ turns) all = (all.0.0, sendable_in turns all.1)
-
-pub numbers_in : (turns : List Turn) → AllByRecursion CanBeSaid turns → AllByRecursion HasNumbers (commands_in turns)
-numbers_in [] all = tt
-numbers_in (None ∷ turns) all = numbers_in turns all.1
-numbers_in (Some command ∷ turns) all = (all.0.1, numbers_in turns all.1)
-
--- commands after others
-abbrev asked_behind : (first more : List Command) (octets : List ℕ) → AllByRecursion (λ command. can_be_sent command ≡ true) first → AllByRecursion HasNumbers first → Asked more octets
-    → Asked (first ++ more) (octets_of first ++ octets)
-asked_behind first more octets sendable numbers asked = record {
-  sendable = all_append (λ (command : Command). can_be_sent command ≡ true) first more sendable asked.sendable;
-  numbers = all_append HasNumbers first more numbers asked.numbers;
-  part = asked.part;
-  no_line = asked.no_line;
-  whole = ap (λ (l : List ℕ). octets_of first ++ l) asked.whole ∙ sym (append_assoc (octets_of first) (octets_of more) asked.part)
-      ∙ ap (λ (l : List ℕ). l ++ asked.part) (sym (flat_map-append (λ (command : Command). ended (line_of command)) first more));
-}
+-- they can be sent, and their numbers fit
+pub can_in : (turns : List Turn) → AllByRecursion CanBeSaid turns → AllByRecursion (λ command. can_be_sent command ≡ true) (commands_in turns) × AllByRecursion HasNumbers (commands_in turns)
+can_in [] all = (tt, tt)
+can_in (None ∷ turns) all = can_in turns all.1
+can_in (Some command ∷ turns) all = let later = can_in turns all.1 in ((all.0.0, later.0), (all.0.1, later.1))
 
 -- octets after which the next of these commands may have been begun
 abbrev Spoken : List Command → List Command → List ℕ → Type 0
@@ -90,8 +86,7 @@ begins_one Is [] part none all = inl none
 begins_one Is (command ∷ next) part (unsent, is) all = inr (command, unsent, is, all.0)
 
 pub begins_of : {Is Other : Command → Type 0} → ((command : Command) → Is command → Other command) → (part : List ℕ) → BeginsOne Is part → BeginsOne Other part
-begins_of on part (inl none) = inl none
-begins_of on part (inr (command, unsent, is, holds)) = inr (command, unsent, is, on command holds)
+begins_of on part = ⊎_map (λ none. none) (λ (command, unsent, is, holds). (command, unsent, is, on command holds))
 
 -- the commands that were sent whole: those of the completed turns, of the one that was begun, and of the tail
 pub record Commanded (done begun tail : List Turn) (sent : List ℕ) : Type 0 where
@@ -104,35 +99,27 @@ pub record Commanded (done begun tail : List Turn) (sent : List ℕ) : Type 0 wh
   pub asked : Asked (commands_in done ++ (ahead ++ ends)) sent
   pub begins : BeginsNext unsaid asked.part ⊎ BeginsNext unended asked.part
 
+-- commands after others
 spoken_behind : (turns : List Turn) (more next : List Command) (octets : List ℕ) → AllByRecursion CanBeSaid turns → Spoken more next octets → Spoken (commands_in turns ++ more) next (asking turns ++ octets)
-spoken_behind turns more next octets can (asked, begins) = subst (λ (l : List ℕ). Spoken (commands_in turns ++ more) next (l ++ octets)) (sym (octets_same turns))
-    (asked_behind (commands_in turns) more octets (sendable_in turns can) (numbers_in turns can) asked, begins)
+spoken_behind turns more next octets can (asked, begins) =
+    let whole : asking turns ++ octets ≡ octets_of (commands_in turns ++ more) ++ asked.part = rw (octets_same turns, asked.whole) (simp (flat_map-append, append_assoc)) in
+    let now : Asked (commands_in turns ++ more) (asking turns ++ octets) =
+    search (whole, asked.no_line, all_append (λ (command : Command). can_be_sent command ≡ true) (commands_in turns) more (can_in turns can).0 asked.sendable, all_append HasNumbers (commands_in turns) more (can_in turns can).1 asked.numbers) in
+    (now, begins)
 
-commanded_by : FrontsAreAsked → (done begun tail : List Turn) (behind : List ℕ) → AllByRecursion CanBeSaid done → AllByRecursion CanBeSaid begun → AllByRecursion CanBeSaid tail
-    → SentBehind begun tail behind → Commanded done begun tail (asking done ++ behind)
-commanded_by law done begun tail behind d b t (inl (later, front)) =
-    let some = law (commands_in begun) behind later (sendable_in begun b) (numbers_in begun b) (sym (octets_same begun) ∙ front) in
-    let all = spoken_behind done (some.0 ++ []) some.1 behind d (subst (λ (cs : List Command). Spoken cs some.1 behind) (sym (append-nil some.0)) (some.3, some.4)) in
-    record { ahead = some.0; unsaid = some.1; ends = []; unended = commands_in tail; of_begun = some.2; of_tail = refl; asked = all.0; begins = inl all.1 }
-commanded_by law done begun tail behind d b t (inr (part, later, front, whole)) =
-    let some = law (commands_in tail) part later (sendable_in tail t) (numbers_in tail t) (sym (octets_same tail) ∙ front) in
-    let all = spoken_behind done (commands_in begun ++ some.0) some.1 behind d
-    (subst (λ (l : List ℕ). Spoken (commands_in begun ++ some.0) some.1 l) (sym whole) (spoken_behind begun some.0 some.1 part b (some.3, some.4))) in
-    record {
-      ahead = commands_in begun;
-      unsaid = [];
-      ends = some.0;
-      unended = some.1;
-      of_begun = sym (append-nil (commands_in begun));
-      of_tail = some.2;
-      asked = all.0;
-      begins = inr all.1;
-    }
-
-pub commanded : FrontsAreAsked → (done : List Turn) (replies : List WholeReply) (begun tail : List Turn) (sent got : List ℕ) → AllByRecursion CanBeSaid done
+pub commanded : FrontsAreAsked → {done begun tail : List Turn} {replies : List WholeReply} {sent got : List ℕ} → AllByRecursion CanBeSaid done
     → AllByRecursion CanBeSaid begun → AllByRecursion CanBeSaid tail → Conversation done replies begun tail sent got → Commanded done begun tail sent
-commanded law done replies begun tail sent got d b t said =
-    subst (λ (l : List ℕ). Commanded done begun tail l) (sym said.said) (commanded_by law done begun tail said.behind d b t said.sent_behind)
+commanded law {done} {begun} {tail} d b t said = rw said.said (by said.sent_behind)
+  where
+    by : SentBehind begun tail said.behind → Commanded done begun tail (asking done ++ said.behind)
+    by (inl (later, front)) =
+        let some = law (commands_in begun) said.behind later (can_in begun b).0 (can_in begun b).1 (sym (octets_same begun) ∙ front) in
+        let all = spoken_behind done (some.0 ++ []) some.1 said.behind d (rw append-nil (some.3, some.4)) in
+        record { ahead = some.0; unsaid = some.1; ends = []; unended = commands_in tail; of_begun = some.2; of_tail = refl; asked = all.0; begins = inl all.1 }
+    by (inr (part, later, front, whole)) =
+        let some = law (commands_in tail) part later (can_in tail t).0 (can_in tail t).1 (sym (octets_same tail) ∙ front) in
+        let all = spoken_behind done (commands_in begun ++ some.0) some.1 said.behind d (rw whole (spoken_behind begun some.0 some.1 part b (some.3, some.4))) in
+        record { ahead = commands_in begun; unsaid = []; ends = some.0; unended = some.1; of_begun = sym (append-nil _); of_tail = some.2; asked = all.0; begins = inr all.1 }
 
 -- ---- The replies of a conversation, as the law over runs reads them.
 
@@ -142,27 +129,22 @@ IsCommand None = ⊥
 IsCommand (Some command) = Unit {0}
 
 body_read : (command : Command) (body : Option (List (List ℕ))) → IsBody (Some command) body → IsBodyIf (has_body command) body
-body_read command None none = subst (λ (has : Bool). IsBodyIf has None) (sym none) tt
+body_read command None none = rw none tt
 body_read (Retr number) (Some lines) is = is.0
 body_read other (Some lines) is = search rules
-
-pub reply_read : (command : Command) (reply : WholeReply) → IsGood (Some command) reply → IsRead command reply
-reply_read command reply good = record { rest = good.rest; line = good.line; positive = good.positive; body = body_read command reply.body good.body }
 
 -- the replies to turns that send commands are whole and positive ones to these commands
 pub replies_read : (turns : List Turn) (replies : List WholeReply) (more : List Command) → AllByRecursion IsCommand turns → AllZip IsGood turns replies → AreGood (commands_in turns ++ more) replies
 replies_read [] [] more all good = tt
-replies_read (Some command ∷ turns) (reply ∷ replies) more all good = (reply_read command reply good.0, replies_read turns replies more all.1 good.1)
+replies_read (Some command ∷ turns) (reply ∷ replies) more all good =
+    (record { rest = good.0.rest; line = good.0.line; positive = good.0.positive; body = body_read command reply.body good.0.body }, replies_read turns replies more all.1 good.1)
 replies_read turns replies more all good = search rules
 
 -- ---- texts
 
-text_body : (number : ℕ) (body : Option (List (List ℕ))) → IsBody (retr number) body → Body (body_bytes body) (body_text body)
+pub text_body : (number : ℕ) (body : Option (List (List ℕ))) → IsBody (retr number) body → Body (body_bytes body) (body_text body)
 text_body number None none = absurd (true≢false none)
 text_body number (Some lines) is = record { lines = lines; content = is.0; whole = refl; read = refl }
-
-pub text_read : (number : ℕ) (reply : WholeReply) → IsGood (retr number) reply → Body (body_bytes reply.body) (body_text reply.body)
-text_read number reply good = text_body number reply.body good.body
 
 -- a task as a plan has it: its number is below 2 ^ 32, and a turn for no message is QUIT
 abbrev pub IsPlain : Task → Type 0
@@ -173,75 +155,48 @@ IsPlain (rereads number uid) = number < 2 ^ 32
 IsPlain (deletes number) = number < 2 ^ 32
 
 -- the replies to one turn are one reply
-pub one_reply : (P : List WholeReply → Type 0) (turn : Turn) (replies : List WholeReply) → AllZip IsGood (turn ∷ []) replies → ((reply : WholeReply) → IsGood turn reply → P (reply ∷ [])) → P replies
-one_reply P turn (reply ∷ []) good of_one = of_one reply good.0
-one_reply P turn replies good of_one = search rules
+pub one_reply : (turn : Turn) (replies : List WholeReply) → AllZip IsGood (turn ∷ []) replies → (reply : WholeReply) × (replies ≡ reply ∷ [])
+one_reply turn (reply ∷ []) good = (reply, refl)
+one_reply turn replies good = search rules
 
 -- what one task's replies retrieve, before others
 read_first : (task : Task) (replies others : List WholeReply) (commands : List Command) (found : List (ℕ × List ℕ)) → IsPlain task → AllZip IsGood (turns_in task) replies
     → Retrieves commands others found → Retrieves (commands_in (turns_in task) ++ commands) (replies ++ others) (found_in task replies ++ found)
-read_first (says turn) (r ∷ []) others commands found is good later =
-    subst (λ (t : Turn). Retrieves (commands_in (t ∷ []) ++ commands) (r ∷ others) found) (sym is) later
+read_first (says turn) (r ∷ []) others commands found is good later = rw is later
 read_first (skips number size) [] others commands found is good later = later
-read_first (stores number uid) (r ∷ []) others commands found is good later = (body_text r.body, found, text_read number r good.0, refl, later)
-read_first (rereads number uid) (r ∷ []) others commands found is good later = (body_text r.body, found, text_read number r good.0, refl, later)
+read_first (stores number uid) (r ∷ []) others commands found is good later = (body_text r.body, found, text_body number r.body good.0.body, refl, later)
+read_first (rereads number uid) (r ∷ []) others commands found is good later = (body_text r.body, found, text_body number r.body good.0.body, refl, later)
 read_first (deletes number) (r ∷ []) others commands found is good later = later
 read_first task replies others commands found is good later = search rules
-
-pub commands_on : (xs ys : List Turn) (more : List Command) → commands_in (xs ++ ys) ++ more ≡ commands_in xs ++ (commands_in ys ++ more)
-commands_on xs ys more = ap (λ (l : List Command). l ++ more) (flat_map-append said_in xs ys) ∙ append_assoc (commands_in xs) (commands_in ys) more
 
 -- what the replies to done tasks retrieve, before others
 pub dones_read : (dones : List Done) (others : List WholeReply) (commands : List Command) (found : List (ℕ × List ℕ)) → AllByRecursion IsPlain (tasks_of dones) → AllByRecursion IsAnswered dones
     → Retrieves commands others found → Retrieves (commands_in (turns_of dones) ++ commands) (replies_of dones ++ others) (found_by dones ++ found)
 dones_read [] others commands found plain answered later = later
 dones_read (d ∷ dones) others commands found plain answered later =
-    subst (λ (cs : List Command). Retrieves cs ((d.replies ++ replies_of dones) ++ others) ((found_in d.task d.replies ++ found_by dones) ++ found)) (sym (commands_on (turns_in d.task) (turns_of dones) commands))
-    (subst (λ (rs : List WholeReply). Retrieves (commands_in (turns_in d.task) ++ (commands_in (turns_of dones) ++ commands)) rs ((found_in d.task d.replies ++ found_by dones) ++ found))
-    (sym (append_assoc d.replies (replies_of dones) others))
-    (subst (λ (fs : List (ℕ × List ℕ)). Retrieves (commands_in (turns_in d.task) ++ (commands_in (turns_of dones) ++ commands)) (d.replies ++ (replies_of dones ++ others)) fs)
-    (sym (append_assoc (found_in d.task d.replies) (found_by dones) found))
-    (read_first d.task d.replies (replies_of dones ++ others) (commands_in (turns_of dones) ++ commands) (found_by dones ++ found) plain.0 answered.0
-    (dones_read dones others commands found plain.1 answered.1 later))))
+    simp (flat_map-append, append_assoc)
+    (read_first d.task d.replies (replies_of dones ++ others) (commands_in (turns_of dones) ++ commands) (found_by dones ++ found) plain.0 answered.0 (dones_read dones others commands found plain.1 answered.1 later))
 
 pub nothing_found : (task : Task) → found_in task [] ≡ []
 nothing_found (stores number uid) = refl
-nothing_found (rereads number uid) = refl
 nothing_found other = refl
 
 -- ---- the tasks of a plan
 
-abbrev IsSmall : Step → Type 0
-IsSmall step = step.number < 2 ^ 32
+plain_planned : (steps : List Step) (items : List Item) (held : List Bool) → AllByRecursion (λ (s : Step). s.number < 2 ^ 32) steps → AllByRecursion IsPlain (tasks_planned steps items held)
+plain_planned (s ∷ steps) (i ∷ items) (h ∷ held) small = grind (arith, small.0, plain_planned steps items held small.1)
+plain_planned steps items held small = tt
 
-plain_step : (retrieve held delete : Bool) (number size : ℕ) (uid : List ℕ) → number < 2 ^ 32
-    → AllByRecursion IsPlain (fetching retrieve held number uid size ++ deleting delete number)
-plain_step true true true number size uid small = (small, (small, tt))
-plain_step retrieve held delete number size uid small = search rules
-
-plain_planned : (steps : List Step) (items : List Item) (held : List Bool) → AllByRecursion IsSmall steps → AllByRecursion IsPlain (tasks_planned steps items held)
-plain_planned [] items held small = tt
-plain_planned (s ∷ steps) [] held small = tt
-plain_planned (s ∷ steps) (i ∷ items) [] small = tt
-plain_planned (s ∷ steps) (i ∷ items) (h ∷ held) small =
-    all_append IsPlain (fetching s.retrieve h s.number i.uid i.size ++ deleting s.delete s.number) (tasks_planned steps items held)
-    (plain_step s.retrieve h s.delete s.number i.size i.uid small.0) (plain_planned steps items held small.1)
-
-small_steps : (f : ℕ × Item → Step) → ((q : ℕ × Item) → (f q).number ≡ q.0) → (n : ℕ) (items : List Item) → n + length items ≤ 2 ^ 32 → AllByRecursion IsSmall (map f (enumerate_from n items))
+small_steps : (f : ℕ × Item → Step) → ((q : ℕ × Item) → (f q).number ≡ q.0) → (n : ℕ) (items : List Item) → n + length items ≤ 2 ^ 32 → AllByRecursion (λ (s : Step). s.number < 2 ^ 32) (map f (enumerate_from n items))
 small_steps f same n [] within = tt
-small_steps f same n (item ∷ items) within =
-    let is : (f (n, item)).number ≡ n = same (n, item) in
-    let small : (f (n, item)).number < 2 ^ 32 = omega (arith, is, within) in
-    let later : n + 1 + length items ≤ 2 ^ 32 = omega (arith, within) in
-    (small, small_steps f same (n + 1) items later)
+small_steps f same n (item ∷ items) within = (omega (arith, same (n, item), within), small_steps f same (n + 1) items (omega (arith, within)))
 
 -- of a listing of at most 100,000 messages
 pub plain_ahead : (settings : Settings) (target : Target) (items : List Item) (now : ℕ) (store : Stores) (rows : List Row) → length items ≤ 100000
     → AllByRecursion IsPlain (tasks_ahead settings target items now store rows)
 plain_ahead settings target items now store rows few =
-    let within : 1 + length items ≤ 2 ^ 32 = omega (arith, few) in
     all_append IsPlain (tasks_planned (planned settings rows items now) items (flags_in target store items)) (says quit ∷ [])
-    (plain_planned (planned settings rows items now) items (flags_in target store items) (small_steps (step_of settings rows items now) (λ q. refl) 1 items within))
+    (plain_planned (planned settings rows items now) items (flags_in target store items) (small_steps (step_of settings rows items now) (λ q. refl) 1 items (omega (arith, few))))
     (refl, tt)
 
 -- ---- their turns
@@ -249,7 +204,7 @@ plain_ahead settings target items now store rows few =
 -- what holds of QUIT, and of RETR and DELE with a small number, holds of the turns of plain tasks
 turns_all : (P : Turn → Type 0) → P quit → ((n : ℕ) → n < 2 ^ 32 → P (retr n) × P (dele n)) → (tasks : List Task) → AllByRecursion IsPlain tasks → AllByRecursion P (flat_map turns_in tasks)
 turns_all P quits some [] plain = tt
-turns_all P quits some (says turn ∷ tasks) plain = (subst P (sym plain.0) quits, turns_all P quits some tasks plain.1)
+turns_all P quits some (says turn ∷ tasks) plain = (rw plain.0 quits, turns_all P quits some tasks plain.1)
 turns_all P quits some (skips number size ∷ tasks) plain = turns_all P quits some tasks plain.1
 turns_all P quits some (stores number uid ∷ tasks) plain = ((some number plain.0).0, turns_all P quits some tasks plain.1)
 turns_all P quits some (rereads number uid ∷ tasks) plain = ((some number plain.0).0, turns_all P quits some tasks plain.1)
@@ -261,28 +216,198 @@ said_tasks = turns_all CanBeSaid (refl, tt) (λ n small. ((refl, small), (refl, 
 pub commands_tasks : (tasks : List Task) → AllByRecursion IsPlain tasks → AllByRecursion IsCommand (flat_map turns_in tasks)
 commands_tasks = turns_all IsCommand tt (λ n small. (tt, tt))
 
--- the turns of done tasks, and of others after them
-pub turns_on : (dones : List Done) (tasks : List Task) → flat_map turns_in (tasks_of dones ++ tasks) ≡ turns_of dones ++ flat_map turns_in tasks
-turns_on [] tasks = refl
-turns_on (d ∷ dones) tasks = ap (λ (ts : List Turn). turns_in d.task ++ ts) (turns_on dones tasks) ∙ sym (append_assoc (turns_in d.task) (turns_of dones) (flat_map turns_in tasks))
-
 -- ---- their retrievals and deletions
 
 of_first : (front behind : List Task) (task : Task) (commands : List Command) → IsPlain task
     → AllByRecursion (IsOfTask (front ++ task ∷ behind)) commands → AllByRecursion (IsOfTask (front ++ task ∷ behind)) (commands_in (turns_in task) ++ commands)
-of_first front behind (says turn) commands is later =
-    subst (λ (t : Turn). AllByRecursion (IsOfTask (front ++ says turn ∷ behind)) (commands_in (t ∷ []) ++ commands)) (sym is) (tt, later)
+of_first front behind (says turn) commands is later = rw is (tt, rw is at later)
 of_first front behind (skips number size) commands is later = later
 of_first front behind (stores number uid) commands is later = ((front, stores number uid, behind, refl), later)
 of_first front behind (rereads number uid) commands is later = ((front, rereads number uid, behind, refl), later)
 of_first front behind (deletes number) commands is later = ((front, behind, refl), later)
 
-pub commands_split : (xs ys : List Turn) → commands_in (xs ++ ys) ≡ commands_in xs ++ commands_in ys
-commands_split xs ys = flat_map-append said_in xs ys
-
 pub of_tasks : (front tasks : List Task) → AllByRecursion IsPlain tasks → AllByRecursion (IsOfTask (front ++ tasks)) (commands_in (flat_map turns_in tasks))
 of_tasks front [] plain = tt
 of_tasks front (task ∷ tasks) plain =
-    subst (AllByRecursion (IsOfTask (front ++ task ∷ tasks))) (sym (commands_split (turns_in task) (flat_map turns_in tasks)))
-    (of_first front tasks task (commands_in (flat_map turns_in tasks)) plain.0
-    (subst (λ (ts : List Task). AllByRecursion (IsOfTask ts) (commands_in (flat_map turns_in tasks))) (append_assoc front (task ∷ []) tasks) (of_tasks (front ++ task ∷ []) tasks plain.1)))
+    rw (flat_map-append said_in (turns_in task) (flat_map turns_in tasks))
+    (of_first front tasks task (commands_in (flat_map turns_in tasks)) plain.0 (rw append_assoc at (of_tasks (front ++ task ∷ []) tasks plain.1)))
+
+pub fronted : ConversationsArePaced → (turns : List Turn) (old new : Place) (result : Result (Unit {0}) ClientFault) → Talks turns old result new → WentOn turns old new
+fronted paced turns old new result talks =
+    let p = paced turns old new result talks in
+    search p
+
+-- what came after turns that were completed
+pub record Goes (begun tail : List Turn) (old new : Link) : Type 0 where
+  pub gained : List ℕ
+  pub got : new.got ≡ old.got ++ gained
+  pub behind : List ℕ
+  pub sent : new.sent ≡ old.sent ++ behind
+  pub sent_behind : SentBehind begun tail behind
+
+-- the tail alone
+pub goes_tail : {tail : List Turn} {old new : Place} → WentOn tail old new → Goes [] tail old.link new.link
+goes_tail f = search (f, inr)
+
+-- one turn, whole, and the tail
+goes_whole : {turn : Turn} {tail : List Turn} {old : Link} {mid new : Place} (gained : List ℕ) → mid.link.sent ≡ old.sent ++ turn_bytes turn → mid.link.got ≡ old.got ++ gained → WentOn tail mid new
+    → Goes (turn ∷ []) tail old new.link
+goes_whole {turn} gained sent got f = record {
+  gained = gained ++ f.gained;
+  got = rw (f.got, got) (simp append_assoc);
+  behind = asking (turn ∷ []) ++ f.said;
+  sent = rw (f.sent, sent) (simp (append_assoc, append-nil));
+  sent_behind = inr (f.said, f.front.0, f.front.1, refl);
+}
+
+-- a part of one turn
+goes_part : {turn : Turn} {tail : List Turn} {old : Link} {mid new : Place} (front rest : List ℕ) → turn_bytes turn ≡ front ++ rest → mid.link.sent ≡ old.sent ++ front → mid.link.got ≡ old.got → WentOn [] mid new
+    → Goes (turn ∷ []) tail old new.link
+goes_part {turn} front rest split sent got f = record {
+  gained = f.gained;
+  got = rw (f.got, got);
+  behind = front;
+  sent = rw (f.sent, (both_none f.said f.front.0 (sym f.front.1)).0, append-nil) sent;
+  sent_behind = inl (rest, append-nil (turn_bytes turn) ∙ split);
+}
+
+-- a turn that broke, and the tail for its fault
+pub goes_broke : (turn : Turn) (old mid new : Place) (why : ClientFault) → Broke turn old mid why → WentOn (tail_turns (tail (fault_of why))) mid new
+    → Goes (turn ∷ []) (tail_turns (tail (fault_of why))) old.link new.link
+goes_broke turn old mid new why (inl (is, said)) f = goes_part said.front said.rest said.split said.sent said.got (rw is at f)
+goes_broke turn old mid new why (inr (inl bad)) f = goes_whole bad.gained bad.sent bad.got f
+goes_broke turn old mid new why (inr (inr (is, may, same))) f = goes_part [] (turn_bytes turn) refl (rw same (sym (append-nil old.link.sent))) (rw same) (rw is at f)
+
+under_way : (turn : Turn) (tail done rest : List Turn) (part : List ℕ) → turn ∷ tail ≡ done ++ rest → IsFrontOfNext part rest
+    → (later : List ℕ) → asking (turn ∷ tail) ≡ (asking done ++ part) ++ later → SentBehind (turn ∷ []) tail (asking done ++ part)
+under_way turn tail [] rest part split begun later front =
+    let next = rw (← split) at begun in
+    inl (next.0, append-nil (turn_bytes turn) ∙ next.1)
+under_way turn tail (d ∷ done) rest part split begun later front =
+    let same : d ≡ turn = cc in
+    inr (asking done ++ part, later, append_cancel_left (turn_bytes turn) _ _ (front ∙ rw same (simp append_assoc)), rw same (simp (append_assoc, append-nil)))
+
+-- turns that were completed, and what came after them
+pub conversation : {done begun tail : List Turn} {replies : List WholeReply} {start there : Place} {link : Link} → start.waiting ≡ [] → Talked done replies start there → Goes begun tail there.link link
+    → (sent got : List ℕ) × (link.sent ≡ start.link.sent ++ sent) × (link.got ≡ start.link.got ++ got) × Conversation done replies begun tail sent got
+conversation {done} {there = there} none talked goes = (
+  asking done ++ goes.behind,
+  talked.gained ++ goes.gained,
+  rw (goes.sent, talked.sent) (simp append_assoc),
+  rw (goes.got, talked.got) (simp append_assoc),
+  record { good = talked.good; rest = there.waiting ++ goes.gained; heard = rw (rw none at talked.heard) (simp append_assoc); behind = goes.behind; said = refl; sent_behind = goes.sent_behind },
+)
+
+-- ---- What a link gains after the opening, for each way in which a session's tasks may end.
+
+-- the turns that were completed after the opening, one that was begun, and what the link gained by them and
+-- the tail
+pub record Took (c : Course) (start : Place) (tail : List Turn) (link : Link) : Type 0 where
+  pub done : List Turn
+  pub replies : List WholeReply
+  pub begun : List Turn
+  pub there : Place
+  pub talked : Talked done replies start there
+  pub goes : Goes begun tail there.link link
+  pub all : flat_map turns_in (begun_of c) ≡ done ++ begun
+  pub one : (begun ≡ []) ⊎ ((turn : Turn) × (begun ≡ turn ∷ []))
+  pub read : (more : List Command) → Retrieves (commands_in done ++ more) replies (found_of c)
+  pub each : AllByRecursion IsAnswered c.taken
+  pub asks : (done ≡ turns_of c.taken) ⊎ ((number : ℕ) × (done ≡ turns_of c.taken ++ retr number ∷ []) × (begun ≡ []) × ((reply : WholeReply) × (c.spare ≡ reply ∷ [])))
+  pub whole : c.under ≡ [] → begun ≡ []
+
+module _ (joining : TurnsJoin) (paced : ConversationsArePaced) (items : List Item) where
+  -- the tail after a cut with no reply under way
+  pub tailed : (cut : Cut) (there last : Place) → cut.rest ≡ None → Left cut there last → WentOn (tail_turns (tail cut.fault)) there last
+  tailed cut there last none left = let said = rw none at left in fronted paced (tail_turns (tail cut.fault)) there last said.0 said.1
+
+  -- the turns of these tasks were completed, and perhaps that of one more was begun
+  after_dones : (dones : List Done) (under : List Task) {begun tail : List Turn} {first there : Place} {link : Link} → flat_map turns_in under ≡ begun
+      → (begun ≡ []) ⊎ ((turn : Turn) × (begun ≡ turn ∷ [])) → (under ≡ [] → begun ≡ []) → flat_map (λ (task : Task). found_in task []) under ≡ []
+      → Talked (turns_of dones) (replies_of dones) first there → AllByRecursion IsPlain (tasks_of dones) → AllByRecursion IsAnswered dones → Goes begun tail there.link link
+      → Took (course items dones [] under) first tail link
+  after_dones dones under {begun} takes one whole none talked plain each goes =
+      let all : flat_map turns_in (tasks_of dones ++ under) ≡ turns_of dones ++ begun = simp (flat_map-append, flat_map-map, takes) in
+      let read : (more : List Command) → Retrieves (commands_in (turns_of dones) ++ more) (replies_of dones) (found_of (course items dones [] under)) =
+      λ more. rw none (rw (append-nil (replies_of dones)) at (dones_read dones [] more [] plain each refl)) in
+      search (talked, goes, all, one, read, each, whole, inl)
+
+  -- all that was begun was done
+  pub all_done : (dones : List Done) {tail : List Turn} {first there : Place} {link : Link} → Talked (turns_of dones) (replies_of dones) first there → AllByRecursion IsPlain (tasks_of dones)
+      → AllByRecursion IsAnswered dones → Goes [] tail there.link link → Took (course items dones [] []) first tail link
+  all_done dones = after_dones dones [] refl (inl refl) (λ none. refl) refl
+
+  module _ (dones : List Done) (next : Task) (first : Place) (mid : Scene) (talked : Talked (turns_of dones) (replies_of dones) first mid.place) (plain : AllByRecursion IsPlain (tasks_of dones)) (each : AllByRecursion IsAnswered dones) where
+    -- the next turn was begun, and its text isn't stored
+    begun_next : {turn : Turn} {tail : List Turn} {link : Link} → turns_in next ≡ turn ∷ [] → Goes (turn ∷ []) tail mid.place.link link → Took (course items dones [] (next ∷ [])) first tail link
+    begun_next {turn} takes = after_dones dones (next ∷ []) (append-nil (turns_in next) ∙ takes) (inr (turn, refl)) (λ none. absurd cc) (append-nil (found_in next []) ∙ nothing_found next) talked plain each
+
+    -- the text was read to its end, and it isn't in the report
+    with_spare : (number : ℕ) (uid : List ℕ) (reply : WholeReply) {tail : List Turn} {there : Place} {link : Link} → next ≡ stores number uid → Talked (retr number ∷ []) (reply ∷ []) mid.place there
+        → Goes [] tail there.link link → Took (course items dones (reply ∷ []) (next ∷ [])) first tail link
+    with_spare number uid reply {there = there} is fetched goes = record {
+      done = turns_of dones ++ retr number ∷ [];
+      replies = replies_of dones ++ reply ∷ [];
+      begun = [];
+      there = there;
+      talked = joining.on (turns_of dones) (retr number ∷ []) (replies_of dones) (reply ∷ []) first mid.place there talked fetched;
+      goes = goes;
+      all = rw is (simp (flat_map-append, flat_map-map, append-nil));
+      one = inl refl;
+      read = λ more. rw is (simp (flat_map-append, append_assoc)
+          (dones_read dones (reply ∷ []) (Retr number ∷ more) ((number, body_text reply.body) ∷ []) plain each (body_text reply.body, [], text_body number reply.body fetched.good.0.body, refl, refl)));
+      each = each;
+      asks = inr (number, refl, refl, (reply, refl));
+      whole = λ none. refl;
+    }
+
+    module _ (new : Scene) (cut : Cut) (last : Place) (left : Left cut new.place last) where
+      abbrev ends : List Turn
+      ends = tail_turns (tail cut.fault)
+
+      -- the store refused the text, or the rest of it
+      module _ (account : List ℕ) (refused : NoFile account next mid new cut) where
+        rest_left : LeftBy cut.fault (Some refused.rest) new.place last
+        rest_left = rw refused.under_way at left
+
+        took_under : Took (course items dones [] (next ∷ [])) first ends last.link
+        took_under =
+            let said = rest_left.1 refused.number mid.place refused.text refused.fetching in
+            let p = paced (retr refused.number ∷ ends) mid.place last said.0 said.1 in
+            begun_next (ap turns_in refused.is)
+            (search (p, under_way (retr refused.number) ends p.done p.rest p.part p.split p.begun p.front.0 p.front.1))
+
+        took_refused : (refuses : RefusesText mid.store.maildir (stem_of account refused.uid) refused.rest refused.text cut.fault new.store.maildir)
+            → Took (course items dones (spare_in refused refuses) (next ∷ [])) first ends last.link
+        took_refused (inl missing) = took_under
+        took_refused (inr (is, inl same)) = took_under
+        took_refused (inr (is, inr (done, there))) =
+            let said = rest_left.0 done in
+            let whole = refused.whole done in
+            with_spare refused.number refused.uid whole.0 refused.is whole.1 (goes_tail (fronted paced ends new.place last said.0 said.1))
+
+      -- the text was stored, and its id wasn't saved
+      took_unsaved : (number : ℕ) (uid : List ℕ) (reply : WholeReply) → cut.rest ≡ None → next ≡ stores number uid → Talked (retr number ∷ []) (reply ∷ []) mid.place new.place → IsPlain next
+          → Took (course items (dones ++ stored_done number uid reply ∷ []) [] []) first ends last.link
+      took_unsaved number uid reply none is fetched small =
+          let one = stored_done number uid reply in
+          all_done (dones ++ one ∷ []) {there = new.place}
+          (rw (flat_map-append (λ (d : Done). turns_in d.task) dones (one ∷ []), flat_map-append (λ (d : Done). d.replies) dones (one ∷ []))
+          (joining.on (turns_of dones) (retr number ∷ []) (replies_of dones) (reply ∷ []) first mid.place new.place talked fetched))
+          (rw (map-append task_in dones (one ∷ [])) (all_append IsPlain (tasks_of dones) (stores number uid ∷ []) plain (rw is at small, tt)))
+          (all_append IsAnswered dones (one ∷ []) each (fetched.good, tt)) (goes_tail (tailed cut new.place last none left))
+
+      pub took_stopped : (target : Target) → IsPlain next → (stops : Stops target next mid cut new) → Took (course_stopped target items dones next mid new cut stops) first ends last.link
+      took_stopped target small (inl broken) = begun_next broken.takes
+          (rw broken.broke.1 (goes_broke broken.turn mid.place new.place last broken.broke.0 broken.broke.2 (rw broken.broke.1 at (tailed cut new.place last broken.none left))))
+      took_stopped (AsFiles account) small (inr (inl refused)) = took_refused account refused refused.refuses
+      took_stopped (AsFiles account) small (inr (inr u)) = took_unsaved u.number u.uid u.reply u.none u.is u.talked small
+      took_stopped AsEntries small (inr (inl (inl wanting))) =
+          let fetching = wanting.fetching in
+          begun_next (ap turns_in wanting.is) (goes_whole (fetching.opened.gained ++ fetching.under.gained) (fetching.under.drew.sent ∙ fetching.opened.sent)
+          (rw (fetching.under.drew.got, fetching.opened.got) (simp append_assoc)) (tailed cut new.place last wanting.none left))
+      took_stopped AsEntries small (inr (inl (inr (inl refused)))) =
+          with_spare refused.number refused.uid refused.reply refused.is refused.talked (goes_tail (tailed cut new.place last refused.none left))
+      took_stopped AsEntries small (inr (inl (inr (inr stays)))) =
+          all_done dones talked plain each (goes_tail (tailed cut mid.place last stays.none (rw stays.place at left)))
+      took_stopped AsEntries small (inr (inr u)) = took_unsaved u.number u.uid u.reply u.none u.is u.talked small

@@ -1,26 +1,27 @@
 -- What each session sent and read: the opening, what followed it, and the tail.
-use Rattle.std.proofs.Common.{◌≡◌, ◌≤◌, ℕ, Bool, List, [], ◌∷◌, ◌++◌, true, length, take, Option, None, Some, Result, refl, sym, ap, ◌∙◌, arith, inl, inr, map, subst, append_assoc, Err, rules}
+use Rattle.std.proofs.Common.{◌≡◌, ◌≤◌, ℕ, Bool, List, [], ◌∷◌, ◌++◌, true, length, take, Option, None, Some, Result, refl, sym, ap, ap₂, ◌∙◌, arith, inl, inr, ⊎_elim, ◌⊎◌, map, map-id, subst, append_assoc, Err, rules}
 use Rattle.std.specs.List.{AllByRecursion, AllZip, flat_map}
 use Rattle.std.proofs.lemmas.List.{append_cancel_left, append-nil}
+use Rattle.std.proofs.lemmas.List.Concat.{flat_map-append, flat_map_single}
+use Rattle.std.proofs.lemmas.List.Folds.{flat_map-map}
 use Rattle.pop3_wire.specs.declared.reply.Status.TheVariants.{Positive}
 use Rattle.pop3_wire.specs.Fields.{number_and_size}
-use Rattle.pop3_wire.specs.Reply.{IsFirstLine, indicator, without_space}
+use Rattle.pop3_wire.specs.Reply.{indicator, without_space}
 use Rattle.pop3_wire.specs.Place.{Place}
-use Rattle.pop3_wire.specs.Reading.{WholeReply, GivesCount, body_bytes, reply_bytes}
+use Rattle.pop3_wire.specs.Reading.{WholeReply, reply_bytes}
 use Rattle.mail_terms.specs.Credential.{is_credential}
 use Rattle.mail_terms.specs.Listing.{Item, Joins}
 use Rattle.mail_terms.specs.declared.listing.UidRow.{UidRow}
 use Rattle.mail_terms.specs.declared.listing.ScanRow.{ScanRow}
-use Rattle.pop3_client.specs.Turns.{greeting, stat, IsBody, IsGood, Turn, quit, rset}
-use Rattle.run_law.specs.Readings.{IsListed}
+use Rattle.pop3_client.specs.Turns.{greeting, IsBody, IsGood, Turn, quit, rset}
+use Rattle.run_law.specs.Readings.{IsListed, Retrieves, Talked as IsTalked}
 use Rattle.fetch_session.specs.Opening.{opening, Opened, Enters}
 use Rattle.fetch_runs.proofs.Lists.{all_append, all_back, all_front}
-use Rattle.fetch_runs.proofs.TalkCommands.{CanBeSaid, commands_in, Commanded, commanded, both_none, begins_any, begins_one, IsCommand, IsPlain, replies_read, said_tasks, commands_tasks, commands_split, of_tasks}
+use Rattle.fetch_runs.proofs.TalkCommands.{CanBeSaid, commands_in, Commanded, commanded, both_none, begins_any, begins_one, said_in, IsCommand, IsPlain, replies_read, said_tasks, commands_tasks, of_tasks, conversation, Goes, Took, fronted, goes_tail, goes_broke}
 use Rattle.pop3_wire.specs.declared.command.Command.{Command}
 use Rattle.pop3_wire.specs.declared.command.Command.TheVariants.{User, Pass, Stat, UidlAll, ListAll}
-use Rattle.pop3_wire.specs.Line.{ended}
 use Rattle.pop3_wire.specs.Link.{Link}
-use Rattle.pop3_wire.specs.Honest.{BeginsNext, FrontsAreAsked, Asked}
+use Rattle.pop3_wire.specs.Honest.{FrontsAreAsked, Asked}
 use Rattle.run_law.specs.Sessions.{BeginsOne, Reads}
 use Rattle.fetch_session.specs.Task.{Task, turns_in}
 use Rattle.pop3_client.specs.declared.fault.Asked.TheVariants.{Greeting as ByGreeting}
@@ -33,10 +34,9 @@ use Rattle.fetch_runs.specs.Conversations.{Conversation, plan_turns, Converses}
 use Rattle.fetch_runs.specs.Steps.{SaysOnly}
 use Rattle.fetch_runs.proofs.Courses.{Course, found_of, begun_of, IsOfTask}
 use Rattle.fetch_runs.proofs.StateDone.{number_found, number_of, effect_of}
-use Rattle.fetch_runs.proofs.TalkCourses.{conversation, Took, fronted, goes_tail, goes_broke}
 use Rattle.fetch_rules.specs.declared.steps.Step.{Step}
 use Rattle.run_law.specs.Plans.{plan_commands, IsTail as IsTailOf, IsFrontOfPlan}
-use Rattle.pop3_client.specs.Conversation.{ConversationsArePaced, Talks, TurnsJoin}
+use Rattle.pop3_client.specs.Conversation.{ConversationsArePaced, Talked, Talks, TurnsJoin}
 
 -- ---- The opening of a session, as the law over runs reads it.
 
@@ -48,19 +48,19 @@ pub record Replied (name word : List ℕ) (welcome : List WholeReply) (counted n
   pub is : welcome ≡ hello ∷ to_user ∷ to_pass ∷ []
   pub good : AllZip IsGood (opening name word) (hello ∷ to_user ∷ to_pass ∷ counted ∷ named ∷ sized ∷ [])
 
-pub replied : (name word : List ℕ) (welcome : List WholeReply) (counted named sized : WholeReply) → AllZip IsGood (opening name word) (welcome ++ counted ∷ named ∷ sized ∷ [])
-    → Replied name word welcome counted named sized
-replied name word (a ∷ b ∷ c ∷ []) counted named sized good = record { hello = a; to_user = b; to_pass = c; is = refl; good = good }
-replied name word (a ∷ b ∷ c ∷ d ∷ e ∷ f ∷ g ∷ more) counted named sized good = absurd good.1.1.1.1.1.1
-replied name word welcome counted named sized good = search rules depth 9
+pub replied : {name word : List ℕ} (welcome : List WholeReply) {counted named sized : WholeReply} → AllZip IsGood (opening name word) (welcome ++ counted ∷ named ∷ sized ∷ []) → Replied name word welcome counted named sized
+replied (a ∷ b ∷ c ∷ []) good = record { hello = a; to_user = b; to_pass = c; is = refl; good = good }
+replied (a ∷ b ∷ c ∷ d ∷ e ∷ f ∷ g ∷ more) good = absurd good.1.1.1.1.1.1
+replied welcome good = search rules depth 9
+
+-- those that a session got
+abbrev pub replies_to : {name word : List ℕ} {old new : Place} {count : ℕ} {uids : List UidRow} {sizes : List ScanRow} → Opened name word old new count uids sizes → List WholeReply
+replies_to opened = opened.welcome ++ opened.counted ∷ opened.named ∷ opened.sized ∷ []
 
 -- the greeting has no body
-no_body_in : (body : Option (List (List ℕ))) → IsBody greeting body → body ≡ None
-no_body_in None is = refl
-no_body_in (Some lines) is = absurd is.1
-
-pub no_body : (hello : WholeReply) → IsGood greeting hello → hello.body ≡ None
-no_body hello good = no_body_in hello.body good.body
+pub no_body : (body : Option (List (List ℕ))) → IsBody greeting body → body ≡ None
+no_body None is = refl
+no_body (Some lines) is = absurd is.1
 
 -- the opening can be sent
 pub said_opening : (name word : List ℕ) → is_credential name ≡ true → is_credential word ≡ true → AllByRecursion CanBeSaid (opening name word)
@@ -68,24 +68,17 @@ said_opening name word n w = (tt, ((n, tt), ((w, tt), ((refl, tt), ((refl, tt), 
 
 -- ---- how many messages are listed
 
-rest_same : (line rest other : List ℕ) → IsFirstLine line Positive rest → IsFirstLine line Positive other → rest ≡ other
-rest_same line rest other p q = p.2 ∙ ap without_space (append_cancel_left (indicator Positive) p.0 q.0 (sym p.1 ∙ q.1)) ∙ sym q.2
-
-pub few_items : (counted : WholeReply) (count : ℕ) (uids : List UidRow) (sizes : List ScanRow) (items : List Item) → IsGood stat counted → GivesCount counted count → Joins count uids sizes items
-    → length items ≤ 100000
-few_items counted count uids sizes items good gives joins =
+pub few_items : {name word : List ℕ} {old new : Place} {count : ℕ} {uids : List UidRow} {sizes : List ScanRow} {items : List Item} (opened : Opened name word old new count uids sizes) → Joins count uids sizes items → length items ≤ 100000
+few_items {count = count} opened joins =
+    let good = (replied opened.welcome opened.talked.good).good.1.1.1.0 in
     let fits = good.fits refl in
-    let both = sym fits.2 ∙ ap number_and_size (rest_same counted.first good.rest gives.0 good.positive gives.2) ∙ gives.3 in
-    let same : fits.0 ≡ count = grind (arith, both) in
-    let all : length items ≡ count = joins.count in
-    let within : fits.0 ≤ 100000 = fits.3 in
-    omega arith
+    let rest = good.positive.2 ∙ ap without_space (append_cancel_left (indicator Positive) good.positive.0 opened.gives.2.0 (sym good.positive.1 ∙ opened.gives.2.1)) ∙ sym opened.gives.2.2 in
+    grind (arith, sym fits.2 ∙ ap number_and_size rest ∙ opened.gives.3, joins.count, fits.3)
 
 -- the listing that the replies give
-pub listed : (name word : List ℕ) (old new : Place) (count : ℕ) (uids : List UidRow) (sizes : List ScanRow) (items : List Item) → (opened : Opened name word old new count uids sizes)
-    → Joins count uids sizes items → IsListed opened.counted opened.named opened.sized items
-listed name word old new count uids sizes items opened joins =
-    record { count = count; uids = uids; sizes = sizes; counts = opened.gives; named = opened.names; sized = opened.octets; joined = joins }
+pub listed : {name word : List ℕ} {old new : Place} {count : ℕ} {uids : List UidRow} {sizes : List ScanRow} {items : List Item} (opened : Opened name word old new count uids sizes) → Joins count uids sizes items
+    → IsListed opened.counted opened.named opened.sized items
+listed opened joins = search (opened, joins)
 
 -- ---- What a session with a joined listing sent and read, as the law over runs takes it.
 
@@ -111,24 +104,17 @@ pub is_tail : (fault : Fault) → IsTail (tail_turns (tail fault))
 is_tail (Refused ByGreeting) = leaves
 is_tail other = search (silent, leaves, undoes)
 
-pub said_tail : (turns : List Turn) → IsTail turns → AllByRecursion CanBeSaid turns
-said_tail turns silent = tt
-said_tail turns kind = search rules
-
-tail_back : (turns : List Turn) → IsTail turns → turns ≡ map Some (commands_in turns)
-tail_back turns silent = refl
-tail_back turns kind = refl
-
-pub of_tail_tasks : (tasks : List Task) (turns : List Turn) → IsTail turns → AllByRecursion (IsOfTask tasks) (commands_in turns)
-of_tail_tasks tasks turns silent = tt
-of_tail_tasks tasks turns kind = search rules
+-- they can be sent, and delete nothing
+of_tail : (tasks : List Task) {turns : List Turn} → IsTail turns → AllByRecursion CanBeSaid turns × (turns ≡ map Some (commands_in turns)) × AllByRecursion (IsOfTask tasks) (commands_in turns)
+of_tail tasks silent = (tt, refl, tt)
+of_tail tasks kind = (search rules, refl, search rules)
 
 module _ (tasks : List Task) {done begun turns : List Turn} {sent : List ℕ} (kind : IsTail turns) (c : Commanded done begun turns sent) (all : AllByRecursion (IsOfTask tasks) (commands_in done ++ commands_in begun)) where
   begun_of_tasks : AllByRecursion (IsOfTask tasks) (c.ahead ++ c.unsaid)
-  begun_of_tasks = subst (AllByRecursion (IsOfTask tasks)) c.of_begun (all_back (IsOfTask tasks) (commands_in done) (commands_in begun) all)
+  begun_of_tasks = rw c.of_begun at (all_back (IsOfTask tasks) (commands_in done) (commands_in begun) all)
 
   ends_of_tasks : AllByRecursion (IsOfTask tasks) (c.ends ++ c.unended)
-  ends_of_tasks = subst (AllByRecursion (IsOfTask tasks)) c.of_tail (of_tail_tasks tasks turns kind)
+  ends_of_tasks = rw c.of_tail at (of_tail tasks kind).2
 
   -- a RETR or DELE that was sent is a task's: a tail has none
   pub said_of_tasks : AllByRecursion (IsOfTask tasks) (commands_in done ++ (c.ahead ++ c.ends))
@@ -138,104 +124,69 @@ module _ (tasks : List Task) {done begun turns : List Turn} {sent : List ℕ} (k
 
   -- so is one that was begun after them
   pub next_of_tasks : BeginsOne (IsOfTask tasks) c.asked.part
-  next_of_tasks = elim c.begins [
-    | inl is ↦ begins_one (IsOfTask tasks) c.unsaid c.asked.part is (all_back (IsOfTask tasks) c.ahead c.unsaid begun_of_tasks)
-    | inr is ↦ begins_one (IsOfTask tasks) c.unended c.asked.part is (all_back (IsOfTask tasks) c.ends c.unended ends_of_tasks)
-  ]
+  next_of_tasks = ⊎_elim (λ is. begins_one (IsOfTask tasks) c.unsaid c.asked.part is (all_back (IsOfTask tasks) c.ahead c.unsaid begun_of_tasks))
+      (λ is. begins_one (IsOfTask tasks) c.unended c.asked.part is (all_back (IsOfTask tasks) c.ends c.unended ends_of_tasks)) c.begins
 
--- the commands of the opening's turns and of turns after them
-pub commanded_after : FrontsAreAsked → (name word : List ℕ) → is_credential name ≡ true → is_credential word ≡ true → (done begun turns : List Turn) (replies : List WholeReply) (sent got : List ℕ)
-    → IsTail turns → AllByRecursion CanBeSaid (done ++ begun) → Conversation (opening name word ++ done) replies begun turns sent got → Commanded (opening name word ++ done) begun turns sent
-commanded_after law name word named worded done begun turns replies sent got kind can said =
-    commanded law (opening name word ++ done) replies begun turns sent got
-    (all_append CanBeSaid (opening name word) done (said_opening name word named worded) (all_front CanBeSaid done begun can)) (all_back CanBeSaid done begun can) (said_tail turns kind) said
+-- a session that joined its listing
+pub record Said (c : Course) {name word : List ℕ} {start mid : Place} {count : ℕ} {uids : List UidRow} {sizes : List ScanRow} (opened : Opened name word start mid count uids sizes) {turns : List Turn} {link : Link} (took : Took c mid turns link) : Type 0 where
+  pub sent : List ℕ
+  pub got : List ℕ
+  pub sent_is : link.sent ≡ start.link.sent ++ sent
+  pub got_is : link.got ≡ start.link.got ++ got
+  pub speaks : Speaks c turns sent got
+  pub is : Conversation (opening name word ++ took.done) (replies_to opened ++ took.replies) took.begun turns sent got
+  pub whole : Commanded (opening name word ++ took.done) took.begun turns sent
 
-module _ (joining : TurnsJoin) (law : FrontsAreAsked) (name word : List ℕ) (named' : is_credential name ≡ true) (worded : is_credential word ≡ true) where
-  speaks : (c : Course) (count : ℕ) (uids : List UidRow) (sizes : List ScanRow) (start mid : Place) (turns : List Turn) (kind : IsTail turns) (link : Link) (opened : Opened name word start mid count uids sizes)
-      → Joins count uids sizes c.items → AllByRecursion IsPlain (begun_of c) → (took : Took c mid turns link) → (r : Replied name word opened.welcome opened.counted opened.named opened.sized)
-      → (sent got : List ℕ) → Conversation (opening name word ++ took.done) ((opened.welcome ++ opened.counted ∷ opened.named ∷ opened.sized ∷ []) ++ took.replies) took.begun turns sent got
-      → Speaks c turns sent got
-  speaks c count uids sizes start mid turns kind link opened joins plain took r sent got said = record {
-    name = name;
-    word = word;
-    more = commands_in took.done ++ (whole.ahead ++ whole.ends);
-    asked = whole.asked;
-    reads = λ now ends messages numbers. record {
+pub spoken : TurnsJoin → FrontsAreAsked → {name word : List ℕ} {count : ℕ} {uids : List UidRow} {sizes : List ScanRow} {start mid : Place} {turns : List Turn} {link : Link} → is_credential name ≡ true → is_credential word ≡ true
+    → (c : Course) → IsTail turns → start.waiting ≡ [] → (opened : Opened name word start mid count uids sizes) → Joins count uids sizes c.items → AllByRecursion IsPlain (begun_of c) → (took : Took c mid turns link) → Said c opened took
+spoken joining law {name} {word} {start = start} {mid} {turns} {link} named' worded c kind none opened joins plain took =
+    let speaks : Speaks c turns is.0 is.1 = record {
       name = name;
       word = word;
       more = commands_in took.done ++ (whole.ahead ++ whole.ends);
-      commands_are = refl;
-      user = r.to_user;
-      pass = r.to_pass;
-      stat = opened.counted;
-      uidl = opened.named;
-      list = opened.sized;
-      replies = took.replies;
-      talked = record {
-        asked = whole.asked;
-        hello = r.hello.first;
-        line = r.good.0.line;
-        good = replies_read (Some (User name) ∷ Some (Pass word) ∷ Some Stat ∷ Some UidlAll ∷ Some ListAll ∷ took.done) behind (whole.ahead ++ whole.ends)
-            (tt, (tt, (tt, (tt, (tt, all_front IsCommand took.done took.begun (subst (AllByRecursion IsCommand) took.all (commands_tasks (begun_of c) plain))))))) answered.1;
-        rest = said.rest;
-        whole = said.heard ∙ ap (λ (ws : List WholeReply). flat_map reply_bytes ((ws ++ opened.counted ∷ opened.named ∷ opened.sized ∷ []) ++ took.replies) ++ said.rest) r.is
-            ∙ append_assoc (reply_bytes r.hello) (flat_map reply_bytes behind) said.rest
-            ∙ ap (λ (b : List ℕ). b ++ (flat_map reply_bytes behind ++ said.rest)) greeted;
-      };
-      listed = listed name word start mid count uids sizes c.items opened joins;
-      found = found_of c;
-      retrieves = took.read (whole.ahead ++ whole.ends);
-      texts = refl;
-      numbers = numbers;
-    };
-    deletes = said_of_tasks (begun_of c) kind whole (tt, (tt, (tt, (tt, (tt, tasked)))));
-    next = next_of_tasks (begun_of c) kind whole (tt, (tt, (tt, (tt, (tt, tasked)))));
-    stops = says_only;
-  }
-    where
-      behind : List WholeReply
-      behind = r.to_user ∷ r.to_pass ∷ opened.counted ∷ opened.named ∷ opened.sized ∷ took.replies
-
-      answered : AllZip IsGood (opening name word ++ took.done) (r.hello ∷ behind)
-      answered = subst (λ (ws : List WholeReply). AllZip IsGood (opening name word ++ took.done) ((ws ++ opened.counted ∷ opened.named ∷ opened.sized ∷ []) ++ took.replies)) r.is said.good
-
-      greeted : reply_bytes r.hello ≡ ended r.hello.first
-      greeted = ap (λ (b : Option (List (List ℕ))). ended r.hello.first ++ body_bytes b) (no_body r.hello r.good.0) ∙ append-nil (ended r.hello.first)
-
-      whole : Commanded (opening name word ++ took.done) took.begun turns sent
-      whole =
-          commanded_after law name word named' worded took.done took.begun turns ((opened.welcome ++ opened.counted ∷ opened.named ∷ opened.sized ∷ []) ++ took.replies) sent got kind
-          (subst (AllByRecursion CanBeSaid) took.all (said_tasks (begun_of c) plain)) said
-
-      tasked : AllByRecursion (IsOfTask (begun_of c)) (commands_in took.done ++ commands_in took.begun)
-      tasked = subst (AllByRecursion (IsOfTask (begun_of c))) (ap commands_in took.all ∙ commands_split took.done took.begun) (of_tasks [] (begun_of c) plain)
-
-      says_only : begun_of c ≡ [] → SaysOnly turns (commands_in took.done ++ (whole.ahead ++ whole.ends)) whole.asked.part
-      says_only none =
-          let turns' = both_none took.done took.begun (sym took.all ∙ ap (λ (ts : List Task). flat_map turns_in ts) none) in
+      asked = whole.asked;
+      reads = λ now ends messages numbers.
+          let talked : IsTalked (User name ∷ Pass word ∷ Stat ∷ UidlAll ∷ ListAll ∷ (commands_in took.done ++ (whole.ahead ++ whole.ends)))
+          (r.to_user ∷ r.to_pass ∷ opened.counted ∷ opened.named ∷ opened.sized ∷ took.replies) is.0 is.1 = record {
+            asked = whole.asked;
+            hello = r.hello.first;
+            line = r.good.0.line;
+            good = replies_read (Some (User name) ∷ Some (Pass word) ∷ Some Stat ∷ Some UidlAll ∷ Some ListAll ∷ took.done) (r.to_user ∷ r.to_pass ∷ opened.counted ∷ opened.named ∷ opened.sized ∷ took.replies) (whole.ahead ++ whole.ends)
+                (tt, (tt, (tt, (tt, (tt, all_front IsCommand took.done took.begun (rw took.all at (commands_tasks (begun_of c) plain)))))))
+                (subst (λ ws. AllZip IsGood (opening name word ++ took.done) ((ws ++ opened.counted ∷ opened.named ∷ opened.sized ∷ []) ++ took.replies)) r.is is.4.good).1;
+            rest = is.4.rest;
+            whole = is.4.heard ∙ ap (λ ws. flat_map reply_bytes ((ws ++ opened.counted ∷ opened.named ∷ opened.sized ∷ []) ++ took.replies) ++ is.4.rest) r.is
+                ∙ rw (no_body r.hello.body r.good.0.body) (simp (append_assoc, append-nil));
+          } in
+          let read : Retrieves (commands_in took.done ++ (whole.ahead ++ whole.ends)) took.replies (found_of c) = took.read (whole.ahead ++ whole.ends) in
+          search (talked, listed opened joins, read, numbers);
+      deletes = said_of_tasks (begun_of c) kind whole (tt, (tt, (tt, (tt, (tt, tasked)))));
+      next = next_of_tasks (begun_of c) kind whole (tt, (tt, (tt, (tt, (tt, tasked)))));
+      stops = λ none.
+          let turns' = both_none took.done took.begun (sym took.all ∙ ap (flat_map turns_in) none) in
           let none' = both_none whole.ahead whole.unsaid (sym whole.of_begun ∙ ap commands_in turns'.1) in
-          let said_is : commands_in took.done ++ (whole.ahead ++ whole.ends) ≡ whole.ends =
-          ap (λ (ts : List Turn). commands_in ts ++ (whole.ahead ++ whole.ends)) turns'.0 ∙ ap (λ (cs : List Command). cs ++ whole.ends) none'.0 in
           record {
             later = whole.unended;
-            split = tail_back turns kind ∙ ap (map Some) whole.of_tail ∙ ap (λ (cs : List Command). map Some (cs ++ whole.unended)) (sym said_is);
-            begins = elim whole.begins [
-              | inl is ↦ begins_any whole.unended whole.asked.part (subst (λ (cs : List Command). BeginsNext cs whole.asked.part) none'.1 is)
-              | inr is ↦ is
-            ];
-          }
+            split = (of_tail [] kind).1 ∙ ap (map Some) (whole.of_tail ∙ sym (ap₂ (λ ts cs. (commands_in ts ++ (cs ++ whole.ends)) ++ whole.unended) turns'.0 none'.0));
+            begins = ⊎_elim (λ is. begins_any whole.unended whole.asked.part (rw none'.1 at is)) (λ is. is) whole.begins;
+          };
+    } in
+    search (is, speaks, whole)
+  where
+    is : (sent got : List ℕ) × (link.sent ≡ start.link.sent ++ sent) × (link.got ≡ start.link.got ++ got)
+        × Conversation (opening name word ++ took.done) (replies_to opened ++ took.replies) took.begun turns sent got
+    is = conversation none (joining.on (opening name word) took.done (replies_to opened) took.replies start mid took.there opened.talked took.talked) took.goes
 
-  -- a session that joined its listing
-  pub spoken : (c : Course) (count : ℕ) (uids : List UidRow) (sizes : List ScanRow) (start mid : Place) (turns : List Turn) (kind : IsTail turns) (link : Link) → start.waiting ≡ []
-      → (opened : Opened name word start mid count uids sizes) → Joins count uids sizes c.items → AllByRecursion IsPlain (begun_of c) → (took : Took c mid turns link)
-      → (sent got : List ℕ) × (link.sent ≡ start.link.sent ++ sent) × (link.got ≡ start.link.got ++ got) × Speaks c turns sent got
-      × Conversation (opening name word ++ took.done) ((opened.welcome ++ opened.counted ∷ opened.named ∷ opened.sized ∷ []) ++ took.replies) took.begun turns sent got
-  spoken c count uids sizes start mid turns kind link none opened joins plain took =
-      let first = opened.welcome ++ opened.counted ∷ opened.named ∷ opened.sized ∷ [] in
-      let r = replied name word opened.welcome opened.counted opened.named opened.sized opened.talked.good in
-      let is = conversation (opening name word ++ took.done) (first ++ took.replies) took.begun turns start took.there link none
-      (joining.on (opening name word) took.done first took.replies start mid took.there opened.talked took.talked) took.goes in
-      (is.0, is.1, is.2, is.3, speaks c count uids sizes start mid turns kind link opened joins plain took r is.0 is.1 is.4, is.4)
+    r : Replied name word opened.welcome opened.counted opened.named opened.sized
+    r = replied opened.welcome opened.talked.good
+
+    whole : Commanded (opening name word ++ took.done) took.begun turns is.0
+    whole =
+        let can = rw took.all at (said_tasks (begun_of c) plain) in
+        commanded law (all_append CanBeSaid (opening name word) took.done (said_opening name word named' worded) (all_front CanBeSaid took.done took.begun can)) (all_back CanBeSaid took.done took.begun can) (of_tail [] kind).0 is.4
+
+    tasked : AllByRecursion (IsOfTask (begun_of c)) (commands_in took.done ++ commands_in took.begun)
+    tasked = subst (AllByRecursion (IsOfTask (begun_of c))) (ap commands_in took.all ∙ flat_map-append said_in took.done took.begun) (of_tasks [] (begun_of c) plain)
 
 -- ---- The commands of a conversation are a prefix of the plan's, and a tail.
 
@@ -245,22 +196,12 @@ ends_tail turns leaves (c ∷ d ∷ ends) more e = grind arith
 ends_tail turns undoes (c ∷ d ∷ f ∷ ends) more e = grind arith
 ends_tail turns kind ends more e = grind arith
 
-commands_back : (commands : List Command) → commands_in (map Some commands) ≡ commands
-commands_back [] = refl
-commands_back (c ∷ commands) = ap (λ (l : List Command). c ∷ l) (commands_back commands)
-
-pub front_of_plan : (name word : List ℕ) (steps : List Step) (done begun later turns : List Turn) (sent : List ℕ) → plan_turns name word steps ≡ done ++ (begun ++ later) → IsTail turns
+pub front_of_plan : {name word : List ℕ} {steps : List Step} {done begun turns : List Turn} {sent : List ℕ} (later : List Turn) → plan_turns name word steps ≡ done ++ (begun ++ later) → IsTail turns
     → (c : Commanded done begun turns sent) → IsFrontOfPlan name word steps (commands_in done ++ (c.ahead ++ c.ends))
-front_of_plan name word steps done begun later turns sent split kind c = record {
-  front = commands_in done ++ c.ahead;
-  behind = c.unsaid ++ commands_in later;
-  tail = c.ends;
-  plan = sym (commands_back (plan_commands name word steps)) ∙ ap commands_in split ∙ commands_split done (begun ++ later)
-      ∙ ap (λ (l : List Command). commands_in done ++ l) (commands_split begun later ∙ ap (λ (l : List Command). l ++ commands_in later) c.of_begun)
-      ∙ simp append_assoc;
-  is_tail = ends_tail turns kind c.ends c.unended c.of_tail;
-  sent = sym (append_assoc (commands_in done) c.ahead c.ends);
-}
+front_of_plan {name} {word} {steps} {done} {turns = turns} later split kind c =
+    let plan : plan_commands name word steps ≡ (commands_in done ++ c.ahead) ++ (c.unsaid ++ commands_in later) =
+    (simp (flat_map-map, flat_map_single, map-id) at (ap commands_in split)) ∙ simp (flat_map-append, c.of_begun, append_assoc) in
+    search (plan, ends_tail turns kind c.ends c.unended c.of_tail, sym (append_assoc (commands_in done) c.ahead c.ends))
 
 -- ---- What a session sent if it didn't come to deal with a listing.
 
@@ -273,41 +214,30 @@ pub record OpensAlone (name word : List ℕ) (turns : List Turn) (old new : Link
   pub said : Converses (opening name word) turns sent got
 
 module _ (paced : ConversationsArePaced) (name word : List ℕ) (start new last : Place) (none : start.waiting ≡ []) where
-  pub opens_all : (count : ℕ) (uids : List UidRow) (sizes : List ScanRow) (turns : List Turn) → Opened name word start new count uids sizes → (result : Result (Unit {0}) ClientFault)
+  opens_by : {done begun turns : List Turn} {replies : List WholeReply} {mid : Place} (later : List Turn) → opening name word ≡ done ++ (begun ++ later) → (begun ≡ []) ⊎ ((turn : Turn) × (begun ≡ turn ∷ []))
+      → Talked done replies start mid → Goes begun turns mid.link last.link → OpensAlone name word turns start.link last.link
+  opens_by later split one talked goes =
+      let is = conversation none talked goes in
+      search (is, split, one)
+
+  pub opens_all : {count : ℕ} {uids : List UidRow} {sizes : List ScanRow} (turns : List Turn) → Opened name word start new count uids sizes → (result : Result (Unit {0}) ClientFault)
       → Talks turns new result last → OpensAlone name word turns start.link last.link
-  opens_all count uids sizes turns opened result talks =
-      let replies = opened.welcome ++ opened.counted ∷ opened.named ∷ opened.sized ∷ [] in
-      let is = conversation (opening name word) replies [] turns start new last.link none opened.talked (goes_tail turns new.link last.link (fronted paced turns new last result talks)) in
-      record {
-        sent = is.0;
-        got = is.1;
-        sent_is = is.2;
-        got_is = is.3;
-        said = record { done = opening name word; begun = []; later = []; replies = replies; split = sym (append-nil (opening name word)); one = inl refl; is = is.4 };
-      }
+  opens_all turns opened result talks = opens_by [] (sym (append-nil (opening name word))) (inl refl) opened.talked (goes_tail (fronted paced turns new last result talks))
 
   -- no listing was joined
   pub opens_cut : (why : ClientFault) → Enters name word start (Err why) new → (result : Result (Unit {0}) ClientFault) → Talks (tail_turns (tail (fault_of why))) new result last
       → OpensAlone name word (tail_turns (tail (fault_of why))) start.link last.link
   opens_cut why (inl s) result talks =
-      let turns = tail_turns (tail (fault_of why)) in
-      let is = conversation s.done s.replies (s.next ∷ []) turns start s.mid last.link none s.talked (goes_broke s.next s.mid new last why s.broke (fronted paced turns new last result talks)) in
-      record {
-        sent = is.0;
-        got = is.1;
-        sent_is = is.2;
-        got_is = is.3;
-        said = record { done = s.done; begun = s.next ∷ []; later = s.later; replies = s.replies; split = s.split; one = inr (s.next, refl); is = is.4 };
-      }
-  opens_cut why (inr (inl (is, (count, uids, sizes, opened, never)))) result talks = opens_all count uids sizes (tail_turns (tail (fault_of why))) opened result talks
-  opens_cut why (inr (inr (is, (count, uids, sizes, opened)))) result talks = opens_all count uids sizes (tail_turns (tail (fault_of why))) opened result talks
+      opens_by s.later s.split (inr (s.next, refl)) s.talked (goes_broke s.next s.mid new last why s.broke (fronted paced (tail_turns (tail (fault_of why))) new last result talks))
+  opens_cut why (inr (inl (is, (count, uids, sizes, opened, never)))) result talks = opens_all (tail_turns (tail (fault_of why))) opened result talks
+  opens_cut why (inr (inr (is, (count, uids, sizes, opened)))) result talks = opens_all (tail_turns (tail (fault_of why))) opened result talks
 
 -- the commands of a conversation of the opening
-pub commanded_opening : FrontsAreAsked → (name word : List ℕ) → is_credential name ≡ true → is_credential word ≡ true → (turns : List Turn) → IsTail turns → (sent got : List ℕ)
+pub commanded_opening : FrontsAreAsked → (name word : List ℕ) → is_credential name ≡ true → is_credential word ≡ true → {turns : List Turn} {sent got : List ℕ} → IsTail turns
     → (said : Converses (opening name word) turns sent got) → Commanded said.done said.begun turns sent
-commanded_opening law name word named worded turns kind sent got said =
-    commanded law said.done said.replies said.begun turns sent got (all_front CanBeSaid said.done (said.begun ++ said.later) can)
-    (all_front CanBeSaid said.begun said.later (all_back CanBeSaid said.done (said.begun ++ said.later) can)) (said_tail turns kind) said.is
+commanded_opening law name word named worded {turns} kind said =
+    commanded law (all_front CanBeSaid said.done (said.begun ++ said.later) can)
+    (all_front CanBeSaid said.begun said.later (all_back CanBeSaid said.done (said.begun ++ said.later) can)) (of_tail [] kind).0 said.is
   where
     can : AllByRecursion CanBeSaid (said.done ++ (said.begun ++ said.later))
     can = subst (AllByRecursion CanBeSaid) said.split (said_opening name word named worded)
@@ -319,11 +249,10 @@ idle_said law name word named worded turns kind sent got said =
     (commands_in said.done ++ (whole.ahead ++ whole.ends), whole.asked, said_of_tasks [] kind whole none, next_of_tasks [] kind whole none)
   where
     whole : Commanded said.done said.begun turns sent
-    whole = commanded_opening law name word named worded turns kind sent got said
+    whole = commanded_opening law name word named worded kind said
 
     parts : commands_in (opening name word) ≡ (commands_in said.done ++ commands_in said.begun) ++ commands_in said.later
-    parts = ap commands_in said.split ∙ commands_split said.done (said.begun ++ said.later) ∙ ap (λ (l : List Command). commands_in said.done ++ l) (commands_split said.begun said.later)
-        ∙ sym (append_assoc (commands_in said.done) (commands_in said.begun) (commands_in said.later))
+    parts = ap commands_in said.split ∙ simp (flat_map-append, append_assoc)
 
     none : AllByRecursion (IsOfTask []) (commands_in said.done ++ commands_in said.begun)
     none = all_front (IsOfTask []) (commands_in said.done ++ commands_in said.begun) (commands_in said.later) (subst (AllByRecursion (IsOfTask [])) parts (tt, (tt, (tt, (tt, (tt, tt))))))
