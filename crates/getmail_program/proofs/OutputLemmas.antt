@@ -1,5 +1,5 @@
 -- What one write after another has written.
-use Rattle.std.proofs.Common.{◌≡◌, ℕ, List, Option, ◌++◌, append_assoc, codes, subst, sym}
+use Rattle.std.proofs.Common.{◌≡◌, ℕ, List, Option, ◌++◌, append_assoc, codes}
 use Rattle.std.proofs.KnownBytes.{Appends-trans}
 use Rattle.rc_file.specs.declared.settings.Settings.{Settings}
 use Rattle.fetch_session.specs.Text.{fault_text}
@@ -28,6 +28,5 @@ pub in_pieces : {W : Type 0} (contents : W → Option (List ℕ)) (fault : Fault
     → fault_text fault ≡ words ++ number_text number → Puts contents a (codes "getmail: ") b → Puts contents b words c
     → Puts contents c (number_text number) d → Puts contents d (codes "\n") e → Puts contents a (fault_line fault) e
 in_pieces contents fault words number a b c d e is first second third fourth =
-    subst (λ (text : List ℕ). Puts contents a (codes "getmail: " ++ (text ++ codes "\n")) e) (sym is)
-    (subst (λ (text : List ℕ). Puts contents a (codes "getmail: " ++ text) e) (sym (append_assoc words (number_text number) (codes "\n")))
-    (puts_both contents a b e _ _ first (puts_both contents b c e _ _ second (puts_both contents c d e _ _ third fourth))))
+    rw (is, append_assoc words (number_text number) (codes "\n"))
+    (puts_both contents a b e _ _ first (puts_both contents b c e _ _ second (puts_both contents c d e _ _ third fourth)))

@@ -1,5 +1,4 @@
-use Rattle.std.proofs.Common.{map, ◌≡◌, take}
-use Rattle.std.specs.String.{string_bytes}
+use Rattle.std.proofs.Common.{map, ◌≡◌, take, string_bytes}
 use Rattle.popd_program.proofs.words.copies.Given as goal
 
 -- the texts copied so far are those in front

@@ -1,7 +1,5 @@
-use Rattle.std.proofs.Common.{◌∙◌, List, ap, map, subst, sym}
-use Rattle.std.specs.String.{string_bytes}
-use Rattle.clap.specs.Words.{App, Row, fault_of, is_simple_and_free}
-use Rattle.popd_program.specs.CommandLine.{AsksFor}
+use Rattle.std.proofs.Common.{◌∙◌, ap, map, sym, string_bytes}
+use Rattle.clap.specs.Words.{App, fault_of, is_simple_and_free}
 use Rattle.popd_program.proofs.WordsLemmas.{has_kind, popd_is_free, rows_are}
 use Rattle.popd_program.proofs.words.read_words.Goals as goal
 
@@ -12,8 +10,7 @@ returns-in_ok-words_of-in-Ok-clause-faults c =
 
 pub returns-in_ok-words_of-in-Ok-clause-asks : goal.returns-in_ok-words_of-in-Ok-clause-asks
 returns-in_ok-words_of-in-Ok-clause-asks c =
-    subst (λ (rows : List Row). AsksFor rows c.in_ok-words_of-in-Ok.field-0)
-    (rows_are _ _ c.in-Ok.matches c.in_ok-command.ensures c.in-Ok.ensures.matches) c.in_ok-words_of-in-Ok.ensures
+    rw (rows_are _ _ c.in-Ok.matches c.in_ok-command.ensures c.in-Ok.ensures.matches) at c.in_ok-words_of-in-Ok.ensures
 
 pub returns-in-Err-clause-faults : goal.returns-in-Err-clause-faults
 returns-in-Err-clause-faults c = has_kind _ _ c.in-Err.error c.in_ok-command.ensures c.in-Err.ensures.kinds

@@ -1,5 +1,4 @@
-use Rattle.std.proofs.Common.{◌≡◌, ◌++◌, List, Some, ℕ, subst, sym}
-use Rattle.std.specs.Io.KnownBytes.{Appends}
+use Rattle.std.proofs.Common.{◌≡◌, ◌++◌, Some}
 use Rattle.std.proofs.KnownBytes.{Appends-trans}
 use Rattle.std.proofs.lemmas.Bool.Decides.{Decides-eqb}
 use Rattle.std.proofs.lemmas.Slice.Eq.{strip_prefix_is}
@@ -11,8 +10,4 @@ returns-in-Some g c = λ start so whole.
     let begun = so put.0 in
     let split : c.args.text.now ≡ c.args.written.now ++ c.in-Some.rest.now
     = strip_prefix_is Decides-eqb c.args.text.now c.args.written.now (Some c.in-Some.rest) c.in-Some.ensures.cases in
-    let both = Appends-trans _ _ _ _ _ begun.1 put.1 in (
-      begun.0,
-      subst (λ (text : List ℕ). Appends (g.W.Write.contents start.writer) (g.W.Write.contents c.put.new.self.writer) text)
-          (sym split) both,
-    )
+    (begun.0, rw split (Appends-trans _ _ _ _ _ begun.1 put.1))
