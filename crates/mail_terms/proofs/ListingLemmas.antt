@@ -14,11 +14,11 @@ place_of_row number n rows places numbering order k row inside =
     let same = get_or-map number rows k row 0 inside in
     (omega (arith, same, numbering.within k 0 there), rw same at (order.found k there))
 
-pub Joins-from_places : (n : ℕ) (uids : List UidRow) (sizes : List ScanRow) (uid_places size_places : List ℕ) (items : List Item)
+pub joins_from_places : (n : ℕ) (uids : List UidRow) (sizes : List ScanRow) (uid_places size_places : List ℕ) (items : List Item)
     → IsNumbering n (map (λ row. row.number) uids) → IsNumbering n (map (λ row. row.number) sizes)
     → IsOrderOf n (map (λ row. row.number) uids) uid_places → IsOrderOf n (map (λ row. row.number) sizes) size_places
     → length items ≡ n → AreAt uids uid_places sizes size_places items → Joins n uids sizes items
-Joins-from_places n uids sizes uid_places size_places items uid_numbers size_numbers uid_order size_order count rows = record {
+joins_from_places n uids sizes uid_places size_places items uid_numbers size_numbers uid_order size_order count rows = record {
   agree = (uid_numbers, size_numbers);
   count = count;
   ids = λ k row inside item.

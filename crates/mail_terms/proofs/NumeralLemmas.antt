@@ -25,9 +25,9 @@ one_more : (text : List ℕ) (i value : ℕ) → i < length text → HasDigits (
     → digits_value 10 (take (i + 1) text) ≡ value * 10 + (get_or text i 0 - 48)
 one_more text i value inside read digit = omega (arith, digits_value_more 10 text i inside, read.is, value_of (get_or text i 0) digit)
 
-pub HasDigits-more : (text : List ℕ) (i value next : ℕ) → i < length text → HasDigits (take i text) value → is_ascii_digit (get_or text i 0) ≡ true
+pub digits_more : (text : List ℕ) (i value next : ℕ) → i < length text → HasDigits (take i text) value → is_ascii_digit (get_or text i 0) ≡ true
     → next ≡ value * 10 + (get_or text i 0 - 48) → next ≤ 18446744073709551615 → HasDigits (take (i + 1) text) next
-HasDigits-more text i value next inside read digit is fits = record {
+digits_more text i value next inside read digit is fits = record {
   digits = list_all_more is_ascii_digit text i 0 inside ∙ ap (λ (b : Bool). b && is_ascii_digit (get_or text i 0)) read.digits ∙ digit;
   is = is ∙ sym (one_more text i value inside read digit);
   fits = fits;

@@ -149,6 +149,7 @@ impl Listing {
     /// TooMany if `n` is above `MESSAGE_LIMIT`, which is tested first; Disagree if either list isn't
     /// the numbers 1 to `n`, each once. Time and memory grow in proportion to the rows and to `n`,
     /// since each list's places go into a table of `n` slots.
+    #[tactic(auto, using(crate::proofs::ListingLemmas::joins_from_places))]
     pub fn join(
         alloc: Global,
         n: u32,

@@ -8,6 +8,7 @@ use std::alloc::Global;
 
 /// For each number of 1 to `count`, at the index of that number less 1, its place in the list, if it
 /// is there. Takes time in proportion to `count` and the list's length.
+#[tactic(auto, using(crate::proofs::NumberingLemmas::not_numbering_taken))]
 fn found_places(
     alloc: Global,
     count: u32,

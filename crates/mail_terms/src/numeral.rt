@@ -5,6 +5,7 @@ ghost use Rattle.mail_terms.specs.Numeral.{numeral_value};
 
 /// The number that 1 to 20 digits stand for; leading zeros are allowed. None if it is above
 /// 18,446,744,073,709,551,615, or if the text is anything else.
+#[tactic(auto, using(crate::proofs::NumeralLemmas::no_value, crate::proofs::NumeralLemmas::whole_value))]
 pub fn read_numeral(text: &[u8]) -> Option<u64>
     ensures { result ≡ numeral_value text.now }
 {

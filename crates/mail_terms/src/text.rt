@@ -7,6 +7,7 @@ ghost use Rattle.mail_terms.specs.Text.{is_line_feed, lines_of_text};
 use memchr::memchr;
 
 /// How many octets come before the first LF, or how many there are if there is no LF.
+#[tactic(auto, using(crate::proofs::TextLemmas::end_found))]
 fn line_end(text: &[u8]) -> usize
     ensures value { result ≡ position_or_len is_line_feed text.now }
     ensures fits { result ≤ length text.now }
@@ -16,6 +17,7 @@ fn line_end(text: &[u8]) -> usize
 
 /// The first line of a text that isn't empty, without its LF, and what follows that LF. A text
 /// without LF is one line.
+#[tactic(auto, using(crate::proofs::TextLemmas::one_text_line))]
 pub fn cut_text(text: &[u8]) -> (&[u8], &[u8])
     requires { 0 < length text.now }
     ensures line { result.0.now ≡ before_first is_line_feed text.now }

@@ -492,8 +492,8 @@ fronts_are_asked (c ∷ cs) front rest sendable numbers e = ⊎_elim (λ (m, is,
 -- ---- lines split at spaces
 
 -- a line that is split has at least one part
-pub some_part : (rest : List ℕ) → (first : List ℕ) × (more : List (List ℕ)) × (slice_split is_space rest ≡ first ∷ more)
-some_part rest = elim (slice_split is_space rest) as (λ all. length all ≡ count_by is_space rest + 1 → (first : List ℕ) × (more : List (List ℕ)) × (all ≡ first ∷ more)) [
+pub some_part : (rest : List ℕ) → slice_split is_space rest ≡ get_or (slice_split is_space rest) 0 [] ∷ drop 1 (slice_split is_space rest)
+some_part rest = elim (slice_split is_space rest) as (λ all. length all ≡ count_by is_space rest + 1 → all ≡ get_or all 0 [] ∷ drop 1 all) [
   | [] ↦ λ size. absurd (omega (arith, size))
-  | first ∷ more ↦ λ size. (first, more, refl)
+  | first ∷ more ↦ λ size. refl
 ] (length-slice_split is_space rest)

@@ -2,6 +2,7 @@
 use Rattle.std.specs.Prelude.{◌≡◌, ◌<◌, ◌^◌, true, ℕ, List, [], ◌∷◌, ◌-◌, if◌then◌else◌, nat_lt}
 use Rattle.std.specs.Prelude.{nat_le, length, take, drop, codes, Option, Some, None, Result, Ok, Err}
 use Rattle.std.specs.List.{before_first, after_first, slice_split, suffix_len}
+use Rattle.std.specs.Option.{option_map_or}
 use Rattle.std.specs.Str.{str_eq_ignore_ascii_case}
 use Rattle.pop3_wire.specs.declared.fault.WireFault.{WireFault}
 use Rattle.pop3_wire.specs.declared.fault.WireFault.TheVariants.{BadNumber, BadCommand, BadArgument}
@@ -79,11 +80,6 @@ two_numbers (word ∷ other ∷ []) = do
   Ok (n, k)
 two_numbers (word ∷ other ∷ third ∷ more) = Err BadArgument
 
--- the command for one message, or for all
-abbrev pub one_or_all : (ℕ → Command) → Command → Option ℕ → Command
-one_or_all one all None = all
-one_or_all one all (Some n) = one n
-
 -- what follows a keyword, and the command that it asks for
 pub data Form : Type 0 where
   -- all that follows the space, spaces included
@@ -124,7 +120,7 @@ command_in (Number command) rest words = do
   Ok (command n)
 command_in (NumberOrNone one all) rest words = do
   which ← number_or_none words
-  Ok (one_or_all one all which)
+  Ok (option_map_or one which all)
 command_in (TwoNumbers command) rest words = do
   which ← two_numbers words
   Ok (command which.0 which.1)

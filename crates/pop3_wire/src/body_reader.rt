@@ -1,13 +1,13 @@
 //! Taking one body from a link, into its text (RFC 1939, section 3).
 ghost use Rattle.std.specs.Prelude.{◌≡◌, ◌≢◌, ◌≤◌, ◌<◌, ◌+◌, ◌-◌, ◌++◌, ◌↔◌, ℕ, List, []};
 ghost use Rattle.std.specs.Prelude.{length, take, drop, min, IsTrue, IfOk, IfErr, OnOk, OnErr};
-ghost use Rattle.pop3_wire.specs.Bodies.{Drew, DrawsNothing, UnderWay, TakesPiece, rest_of, is_refusal};
+ghost use Rattle.pop3_wire.specs.Bodies.{Drew, DrawsNothing, Rest, UnderWay, TakesPiece, rest_of, is_refusal};
 ghost use Rattle.pop3_wire.specs.Link.{CountsRefusal, WhereSound};
 ghost use Rattle.pop3_wire.specs.Place.{Place, at, GoesOn};
 ghost use Rattle.pop3_wire.specs.Unstuffing.{Reaches};
 ghost use Rattle.pop3_wire.specs.declared.unstuffer.Spot.TheVariants.{Start, Done};
 
-use crate::line_reader::LineReader;
+use crate::line_reader::{LineReader, MOST_WAITING};
 use crate::unstuffer::{Fed, Unstuffer};
 use crate::wire::Wire;
 use std::marker::Model;
@@ -43,7 +43,7 @@ fn draw<W: Wire>(wire: &mut W, reader: &mut LineReader) -> Result<(), BodyFault>
     if !reader.waiting().is_empty() {
         return Ok(());
     }
-    match reader.fill(wire) {
+    match reader.fill_at_most(wire, MOST_WAITING) {
         Ok(0) => Err(BodyFault::Ended),
         Ok(_) => Ok(()),
         Err(_) => Err(BodyFault::Failed),
@@ -90,8 +90,6 @@ pub struct BodyReader {
 }
 
 impl Model for BodyReader {
-    ghost use Rattle.pop3_wire.specs.Bodies.{Rest, rest_of};
-
     ghost Value = { Rest };
 
     ghost view = { λ b. rest_of b.unstuffer b.left };
@@ -99,6 +97,7 @@ impl Model for BodyReader {
 
 impl BodyReader {
     /// A reader of a body of at most `limit` octets; none were read yet.
+    #[tactic(auto, using(crate::proofs::BodiesLemmas::under_way_none))]
     pub fn new(limit: usize) -> BodyReader
         ensures value { result ≡ rest_of Start limit }
         ensures starts { (place : Place) → UnderWay limit place place result [] }
@@ -137,9 +136,7 @@ impl BodyReader {
         if self.left == 0 {
             return Err(BodyFault::TooLong);
         }
-        if let Err(fault) = draw(wire, reader) {
-            return Err(fault);
-        }
+        draw(wire, reader)?;
         let fed = use_waiting(reader, &mut self.unstuffer, self.left, out);
         self.left -= fed.used;
         Ok(Piece {

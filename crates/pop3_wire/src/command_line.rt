@@ -60,10 +60,7 @@ fn text_argument(alloc: Global, line: &[u8]) -> Result<Bytes, WireFault>
     ensures err { IfErr result (λ e. (text_argument (rest_of line.now) ≡ Err e)
         ⊎ ((e ≡ WireFault.NoMemory) × IsOk (text_argument (rest_of line.now)))) }
 {
-    let text = match cut_word(line).1 {
-        None => b"".as_slice(),
-        Some(text) => text,
-    };
+    let text = cut_word(line).1.unwrap_or(b"");
     if !is_credential(text) {
         return Err(WireFault::BadArgument);
     }
@@ -82,7 +79,7 @@ fn argument_number(word: &[u8]) -> Result<u32, WireFault>
 }
 
 /// Checks that there is no argument.
-#[tactic(auto, unfolding(crate::specs::CommandLine::no_argument))]
+#[tactic(auto, using(crate::proofs::RowsLemmas::some_part), unfolding(crate::specs::CommandLine::no_argument))]
 fn no_argument(line: &[u8]) -> Result<(), WireFault>
     ensures { result ≡ no_argument (arguments line.now) }
 {
@@ -93,7 +90,7 @@ fn no_argument(line: &[u8]) -> Result<(), WireFault>
 }
 
 /// The one argument, a number.
-#[tactic(auto, unfolding(crate::specs::CommandLine::one_number))]
+#[tactic(auto, using(crate::proofs::RowsLemmas::some_part), unfolding(crate::specs::CommandLine::one_number))]
 fn one_number(line: &[u8]) -> Result<u32, WireFault>
     ensures { result ≡ one_number (arguments line.now) }
 {
@@ -107,7 +104,7 @@ fn one_number(line: &[u8]) -> Result<u32, WireFault>
 }
 
 /// The one argument, a number, if there is one.
-#[tactic(auto, unfolding(crate::specs::CommandLine::number_or_none))]
+#[tactic(auto, using(crate::proofs::RowsLemmas::some_part), unfolding(crate::specs::CommandLine::number_or_none))]
 fn number_or_none(line: &[u8]) -> Result<Option<u32>, WireFault>
     ensures { result ≡ number_or_none (arguments line.now) }
 {
@@ -121,7 +118,7 @@ fn number_or_none(line: &[u8]) -> Result<Option<u32>, WireFault>
 }
 
 /// The two arguments, both numbers.
-#[tactic(auto, unfolding(crate::specs::CommandLine::two_numbers))]
+#[tactic(auto, using(crate::proofs::RowsLemmas::some_part), unfolding(crate::specs::CommandLine::two_numbers))]
 fn two_numbers(line: &[u8]) -> Result<(u32, u32), WireFault>
     ensures { result ≡ two_numbers (arguments line.now) }
 {
@@ -153,10 +150,7 @@ fn read_by(alloc: Global, keyword: Option<Keyword>, line: &[u8]) -> Result<Comma
     match keyword {
         Keyword::User => Ok(Command::User(text_argument(alloc, line)?)),
         Keyword::Pass => Ok(Command::Pass(text_argument(alloc, line)?)),
-        Keyword::Stat => {
-            no_argument(line)?;
-            Ok(Command::Stat)
-        }
+        Keyword::Stat => no_argument(line).and(Ok(Command::Stat)),
         Keyword::Uidl => match number_or_none(line)? {
             None => Ok(Command::UidlAll),
             Some(number) => Ok(Command::UidlOne(number)),
@@ -167,22 +161,13 @@ fn read_by(alloc: Global, keyword: Option<Keyword>, line: &[u8]) -> Result<Comma
         },
         Keyword::Retr => Ok(Command::Retr(one_number(line)?)),
         Keyword::Dele => Ok(Command::Dele(one_number(line)?)),
-        Keyword::Rset => {
-            no_argument(line)?;
-            Ok(Command::Rset)
-        }
-        Keyword::Noop => {
-            no_argument(line)?;
-            Ok(Command::Noop)
-        }
+        Keyword::Rset => no_argument(line).and(Ok(Command::Rset)),
+        Keyword::Noop => no_argument(line).and(Ok(Command::Noop)),
         Keyword::Top => {
             let (number, lines) = two_numbers(line)?;
             Ok(Command::Top(number, lines))
         }
-        Keyword::Quit => {
-            no_argument(line)?;
-            Ok(Command::Quit)
-        }
+        Keyword::Quit => no_argument(line).and(Ok(Command::Quit)),
     }
 }
 
@@ -206,11 +191,13 @@ pub fn read_command(alloc: Global, line: &[u8]) -> Result<Command, WireFault>
 }
 
 /// The line that asks for a command is read as that command, whatever it is.
+#[tactic(auto, using(crate::proofs::RowsLemmas::round_trip))]
 pub fn read_as_written()
     ensures { ReadAsWritten }
 {}
 
 /// The line of a command that can be sent is one line.
+#[tactic(auto, using(crate::proofs::RowsLemmas::is_line))]
 pub fn commands_are_lines()
     ensures { CommandsAreLines }
 {}
@@ -222,6 +209,7 @@ pub fn only_one_list_of_commands()
 
 /// A prefix of the octets of some commands is the first few of them whole, and perhaps a part of the
 /// next.
+#[tactic(auto, using(crate::proofs::RowsLemmas::fronts_are_asked))]
 pub fn fronts_are_asked()
     ensures { FrontsAreAsked }
 {}

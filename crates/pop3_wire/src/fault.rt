@@ -1,4 +1,7 @@
 //! Why a line of the protocol can't be read or written.
+ghost use Rattle.std.specs.Prelude.{◌≡◌};
+ghost use Rattle.pop3_wire.specs.declared.fault.WireFault.TheVariants.{NoMemory};
+
 use std::alloc::{AllocError, AllocFailed};
 use thiserror::Error;
 
@@ -26,9 +29,6 @@ pub enum WireFault {
 }
 
 impl From<AllocError> for WireFault {
-    ghost use Rattle.std.specs.Prelude.{◌≡◌};
-    ghost use Rattle.pop3_wire.specs.declared.fault.WireFault.TheVariants.{NoMemory};
-
     ghost from_gives = { λ _ e. e ≡ NoMemory };
 
     fn from(_error: AllocError) -> WireFault {
@@ -37,9 +37,6 @@ impl From<AllocError> for WireFault {
 }
 
 impl<T: Drop> From<AllocFailed<T>> for WireFault {
-    ghost use Rattle.std.specs.Prelude.{◌≡◌};
-    ghost use Rattle.pop3_wire.specs.declared.fault.WireFault.TheVariants.{NoMemory};
-
     ghost from_gives = { λ _ e. e ≡ NoMemory };
 
     fn from(_error: AllocFailed<T>) -> WireFault {

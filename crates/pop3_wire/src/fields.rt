@@ -133,7 +133,7 @@ pub fn read_scan(line: &[u8]) -> Result<(u32, u64), WireFault>
 /// only spaces may follow. BadField if a field is missing, the id isn't legal or more follows;
 /// BadNumber if the number isn't 1 to 20 digits or is above 4,294,967,295. The first faulty
 /// field decides.
-#[tactic(auto, unfolding(crate::specs::Fields::number_and_id))]
+#[tactic(auto, using(crate::proofs::RowsLemmas::small_and_legal), unfolding(crate::specs::Fields::number_and_id))]
 pub fn read_uid(line: &[u8]) -> Result<(u32, &[u8]), WireFault>
     ensures ok { IfOk result (λ read. number_and_id line.now ≡ Ok (read.0, read.1.now)) }
     ensures err { IfErr result (λ e. number_and_id line.now ≡ Err e) }

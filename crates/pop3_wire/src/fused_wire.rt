@@ -2,7 +2,7 @@
 ghost use Rattle.std.specs.Prelude.{◌≡◌, ◌≤◌, ◌<◌, length, IfOk};
 ghost use Rattle.mail_terms.specs.FailureCount.{greatest_count};
 ghost use Rattle.pop3_wire.specs.Link.{Sends, Receives, CountsFailure, WhereSound};
-ghost use Rattle.pop3_wire.specs.Fuse.{fused_link, fused_is_sound, fused_leads_to, Burns};
+ghost use Rattle.pop3_wire.specs.Fuse.{Fuse, fused_link, fused_is_sound, fused_leads_to, Burns};
 
 use crate::note::Note;
 use crate::wire::{Wire, WireDown};
@@ -19,8 +19,6 @@ pub struct FusedWire<W> {
 }
 
 impl<W> Model for FusedWire<W> {
-    ghost use Rattle.pop3_wire.specs.Fuse.{Fuse};
-
     ghost Value = { Fuse W };
 
     ghost view = { λ f. record { wire = f.wire; left = f.left; failures = f.failures } };
@@ -68,13 +66,11 @@ impl<W: Wire> Wire for FusedWire<W> {
             return Err(WireDown);
         }
         self.left -= 1;
-        match self.wire.send(bytes) {
-            Ok(()) => Ok(()),
-            Err(down) => {
-                self.failures.count_up();
-                Err(down)
-            }
+        if self.wire.send(bytes).is_err() {
+            self.failures.count_up();
+            return Err(WireDown);
         }
+        Ok(())
     }
 
     fn recv(&mut self, buf: &mut [u8]) -> Result<usize, WireDown>
@@ -93,13 +89,11 @@ impl<W: Wire> Wire for FusedWire<W> {
             return Err(WireDown);
         }
         self.left -= 1;
-        match self.wire.recv(buf) {
-            Ok(n) => Ok(n),
-            Err(down) => {
-                self.failures.count_up();
-                Err(down)
-            }
-        }
+        let Ok(n) = self.wire.recv(buf) else {
+            self.failures.count_up();
+            return Err(WireDown);
+        };
+        Ok(n)
     }
 
     fn note(&mut self, part: Note<'_>) {

@@ -19,6 +19,7 @@ pub fn cut_line(bytes: &[u8]) -> Option<(&[u8], &[u8])>
 }
 
 /// Bytes begin with at most one whole line.
+#[tactic(auto, using(crate::proofs::BodyLemmas::one_line))]
 pub fn only_one_line()
     ensures { OneLine }
 {}

@@ -23,7 +23,7 @@ pub enum LineFault {
 }
 
 /// How many octets may wait in a reader.
-const MOST_WAITING: usize = 4_096;
+pub const MOST_WAITING: usize = 4_096;
 
 /// The octets that a link gave and that wait to be used, at most 4,096. It allocates nothing.
 ///
@@ -88,20 +88,6 @@ impl LineReader {
         self.searched = self.searched.saturating_sub(n);
     }
 
-    /// Takes what the link gives next, in one `recv`, after the octets that wait already, and returns
-    /// how many came.
-    pub fn fill<W: Wire>(&mut self, wire: &mut W) -> Result<usize, WireDown>
-        requires { length self.old < most_waiting }
-        ensures counted { CountsFailure (W.history wire.old) result (W.history wire.new) }
-        ensures short { length self.new ≤ most_waiting }
-        ensures ok { IfOk result (λ n. (piece : List ℕ) × (length piece ≡ n) × (self.new ≡ self.old ++ piece)
-            × WhereSound W.sound W.leads_to wire.old wire.new (GotPiece (W.history wire.old) piece (W.history wire.new))) }
-        ensures err { OnErr result ((self.new ≡ self.old)
-            × WhereSound W.sound W.leads_to wire.old wire.new (WasRefused (W.history wire.old) (W.history wire.new))) }
-    {
-        self.fill_at_most(wire, MOST_WAITING)
-    }
-
     /// Takes what the link gives next, at most `most` octets, in one `recv`, after the octets that
     /// wait already, and returns how many came.
     pub fn fill_at_most<W: Wire>(&mut self, wire: &mut W, most: usize) -> Result<usize, WireDown>
@@ -160,7 +146,7 @@ impl LineReader {
             if self.waiting().len() >= limit {
                 return Err(LineFault::TooLong);
             }
-            let n = match self.fill(wire) {
+            let n = match self.fill_at_most(wire, MOST_WAITING) {
                 Ok(n) => n,
                 Err(_) => return Err(LineFault::Failed),
             };

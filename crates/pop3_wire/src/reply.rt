@@ -44,11 +44,13 @@ pub fn read_status(line: &[u8]) -> Result<(Status, &[u8]), WireFault>
 
 /// Octets split into whole replies to given commands in one way only: a first line, and after a
 /// positive one the body that its command asks for.
+#[tactic(auto, using(crate::proofs::BodyLemmas::one_reading))]
 pub fn only_one_reading()
     ensures { OneReading }
 {}
 
 /// The octets of a body split into its lines in one way only.
+#[tactic(auto, using(crate::proofs::BodyLemmas::same_lines))]
 pub fn only_one_list_of_lines()
     ensures { OneListOfLines }
 {}

@@ -57,12 +57,8 @@ fn read_once<R: Read>(reader: &mut R, buf: &mut [u8]) -> io::Result<usize>
 {
     for _ in 0..u64::MAX {
         match reader.read(buf) {
-            Ok(count) => return Ok(count),
-            Err(error) => {
-                if error.kind() != ErrorKind::Interrupted {
-                    return Err(error);
-                }
-            }
+            Err(error) if error.kind() == ErrorKind::Interrupted => {}
+            answer => return answer,
         }
     }
     Err(io::Error::from(ErrorKind::Interrupted))
@@ -84,13 +80,11 @@ impl<R: Read, W: Write> Wire for StreamWire<R, W> {
         if self.failures.is_full() {
             return Err(WireDown);
         }
-        match write_whole(&mut self.writer, bytes) {
-            Ok(()) => Ok(()),
-            Err(_) => {
-                self.failures.count_up();
-                Err(WireDown)
-            }
+        if write_whole(&mut self.writer, bytes).is_err() {
+            self.failures.count_up();
+            return Err(WireDown);
         }
+        Ok(())
     }
 
     fn recv(&mut self, buf: &mut [u8]) -> Result<usize, WireDown>
@@ -105,13 +99,11 @@ impl<R: Read, W: Write> Wire for StreamWire<R, W> {
         if self.failures.is_full() {
             return Err(WireDown);
         }
-        match read_once(&mut self.reader, buf) {
-            Ok(n) => Ok(n),
-            Err(_) => {
-                self.failures.count_up();
-                Err(WireDown)
-            }
-        }
+        let Ok(n) = read_once(&mut self.reader, buf) else {
+            self.failures.count_up();
+            return Err(WireDown);
+        };
+        Ok(n)
     }
 
     fn failures(&self) -> u64 {

@@ -52,6 +52,7 @@ pub fn stuff(alloc: Global, text: &[u8]) -> Result<Vec<u8>, WireFault>
 }
 
 /// What a writer sends is a body of the text, its last line ended.
+#[tactic(auto, using(crate::proofs::BodyLemmas::stuffed_is_body))]
 pub fn stuffed_is_body()
     ensures { StuffedIsBody }
 {}

@@ -2,6 +2,7 @@
 ghost use Rattle.std.specs.Prelude.{◌≡◌, ◌≢◌, ◌≤◌, ◌<◌, ◌+◌, ◌++◌, ◌↔◌, ◌∷◌, ℕ, List, [], length, slice_index, take, IsTrue, IfSome};
 ghost use Rattle.pop3_wire.specs.Body.{Body, HasNoBody};
 ghost use Rattle.pop3_wire.specs.Unstuffing.{Reaches, held_back, bytes_given};
+ghost use Rattle.pop3_wire.specs.declared.unstuffer.Spot.{Spot};
 
 use memchr::memchr;
 use std::marker::Model;
@@ -82,6 +83,7 @@ fn step(spot: Spot, byte: u8) -> (Spot, Given)
 
 /// The place after the two octets that a piece begins with, and the octet that they give, for common
 /// pairs: CR LF in a line, and a full stop at its start with an octet that isn't CR.
+#[tactic(auto, using(crate::proofs::BodyLemmas::middle_two))]
 fn pair(spot: Spot, piece: &[u8]) -> Option<(Spot, u8)>
     ensures fits { IfSome result (λ r. (2 ≤ length piece.now) × (r.0 ≢ Spot.Done) × (held_back r.0 ≤ held_back spot)) }
     ensures reached { IfSome result (λ r. (bytes text : List ℕ) → Reaches spot bytes text
@@ -137,6 +139,7 @@ fn run_length(piece: &[u8]) -> usize
 
 /// Copies the front of a piece after the first `put` octets, as far as it is the same in the body and
 /// in its text: within a line, all up to CR. It returns how many octets that were.
+#[tactic(auto, using(crate::proofs::BodyLemmas::middle_run))]
 fn copy_run(spot: Spot, piece: &[u8], out: &mut [u8], put: usize) -> usize
     requires { put + length piece.now ≤ length out.old }
     ensures fits { result ≤ length piece.now }
@@ -205,8 +208,6 @@ pub struct Unstuffer {
 }
 
 impl Model for Unstuffer {
-    ghost use Rattle.pop3_wire.specs.declared.unstuffer.Spot.{Spot};
-
     ghost Value = { Spot };
 
     ghost view = { λ u. u.spot };
@@ -257,6 +258,7 @@ impl Unstuffer {
 }
 
 /// At the start nothing was read, and nothing put.
+#[tactic(auto, using(crate::proofs::BodyLemmas::partly_none))]
 pub fn starts_empty()
     ensures { Reaches Spot.Start [] [] }
 {}

@@ -1,5 +1,5 @@
 //! What is shown of a command, and of an answer in which the password occurs.
-ghost use Rattle.std.specs.Prelude.{◌≡◌, ◌++◌, ℕ, List, MatchBool, codes};
+ghost use Rattle.std.specs.Prelude.{◌≡◌, ◌++◌, ℕ, List, codes};
 ghost use Rattle.memchr.specs.Find.{OccursAt};
 ghost use Rattle.trace.specs.Command.{IsFree, hidden_answer, shown_command};
 
@@ -41,24 +41,14 @@ fn hidden_answer(answer: &[u8]) -> &[u8]
     b"*"
 }
 
-/// Whether the password occurs in an answer.
-fn holds(answer: &[u8], password: &[u8]) -> bool
-    ensures { MatchBool result ((k : ℕ) × OccursAt answer.now password.now k) (IsFree answer.now password.now) }
-{
-    match memmem::find(answer, password) {
-        Some(_) => true,
-        None => false,
-    }
-}
-
 /// The first line of an answer as it is shown: without what the server says if the password occurs
 /// in it.
 pub fn shown_answer<'a>(answer: &'a [u8], password: &[u8]) -> &'a [u8]
     ensures free { IsFree answer.now password.now → result.now ≡ answer.now }
     ensures held { (k : ℕ) → OccursAt answer.now password.now k → result.now ≡ hidden_answer answer.now }
 {
-    if holds(answer, password) {
-        return hidden_answer(answer);
+    match memmem::find(answer, password) {
+        Some(_) => hidden_answer(answer),
+        None => answer,
     }
-    answer
 }

@@ -39,12 +39,8 @@ fn hex_digit(digit: u8) -> u8
 fn put_octet(line: &mut Vec<u8>, wide: bool, octet: u8) -> Result<(), AllocError>
     ensures { OnOk result (line.new.items ≡ line.old.items ++ shown_octet wide octet) }
 {
-    if octet >= 0x80 {
-        if wide {
-            line.push(octet)?;
-            return Ok(());
-        }
-    } else if octet >= b' ' && octet != b'\\' && octet != 0x7F {
+    let is_plain = octet >= b' ' && octet < 0x7F && octet != b'\\';
+    if is_plain || (wide && octet >= 0x80) {
         line.push(octet)?;
         return Ok(());
     }

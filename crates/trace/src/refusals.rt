@@ -72,10 +72,8 @@ impl Refusals {
     }
 
     fn keep(&self, path: &str, error: io::Error) {
-        self.last.set(match String::from_str(self.alloc, path) {
-            Ok(path) => Some(Refusal { path, error }),
-            Err(_) => None,
-        });
+        let path = String::from_str(self.alloc, path).ok();
+        self.last.set(path.map(|path| Refusal { path, error }));
     }
 
     /// An error for something that the system would grant, with the reason in words. It is kept, but isn't in

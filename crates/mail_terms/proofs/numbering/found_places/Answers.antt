@@ -1,14 +1,10 @@
 use Rattle.std.proofs.Common.{◌≡◌, ◌∙◌, length, sym, arith}
-use Rattle.mail_terms.proofs.NumberingLemmas.{not_numbering-taken, HasPlaces-free}
+use Rattle.mail_terms.proofs.NumberingLemmas.{has_places_free}
 use Rattle.mail_terms.proofs.numbering.found_places.Goals as goal
-
-pub returns-then-is_some-clause-disagree : goal.returns-then-is_some-clause-disagree
-returns-then-is_some-clause-disagree c = λ _ numbering.
-    not_numbering-taken _ _ _ _ _ c.loop-place.invariant (omega arith) (omega arith) (omega arith) c.index.ensures (sym c.is_some.ensures ∙ c.if-is_some.true) numbering
 
 pub loop-place-preserved : goal.loop-place-preserved
 loop-place-preserved c =
-    HasPlaces-free _ _ _ _ _ c.loop-place.invariant (omega arith) (omega arith) c.index.ensures (sym c.is_some.ensures ∙ c.if-is_some.false)
+    has_places_free _ _ _ _ _ c.loop-place.invariant (omega arith) (omega arith) c.index.ensures (sym c.is_some.ensures ∙ c.if-is_some.false)
 
 pub returns-clause-ok : goal.returns-clause-ok
 returns-clause-ok c =

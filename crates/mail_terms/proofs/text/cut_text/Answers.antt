@@ -1,10 +1,7 @@
 use Rattle.std.proofs.Common.{◌+◌, arith}
 use Rattle.std.proofs.lemmas.List.{take_rest}
-use Rattle.mail_terms.proofs.TextLemmas.{one_text_line, first_text_line}
+use Rattle.mail_terms.proofs.TextLemmas.{first_text_line}
 use Rattle.mail_terms.proofs.text.cut_text.Goals as goal
-
-pub returns-then-length-text-clause-cut : goal.returns-then-length-text-clause-cut
-returns-then-length-text-clause-cut c = one_text_line c.args.text.now c.requires (cc)
 
 pub returns-clause-cut : goal.returns-clause-cut
 returns-clause-cut c = rw (take_rest c.args.text.now (c.line_end-length.result + 1))

@@ -1,7 +1,8 @@
+use Rattle.std.proofs.Common.{arith}
 use Rattle.trace.proofs.command.shown_answer.Goals as goal
 
-pub returns-then-holds-clause-free : goal.returns-then-holds-clause-free
-returns-then-holds-clause-free c free = absurd (free c.if-holds.ensures.0 c.if-holds.ensures.1)
+pub returns-in-Some-clause-free : goal.returns-in-Some-clause-free
+returns-in-Some-clause-free c free = absurd (free c.in-Some.field-0 c.in-Some.ensures.1)
 
-pub returns-clause-held : goal.returns-clause-held
-returns-clause-held c k occurs = absurd (c.if-holds.ensures k occurs)
+pub returns-in-None-clause-held : goal.returns-in-None-clause-held
+returns-in-None-clause-held c k occurs = let fits = occurs.fits in absurd (c.in-None.ensures k (omega arith) (omega arith) occurs)

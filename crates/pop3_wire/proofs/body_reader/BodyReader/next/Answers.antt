@@ -1,4 +1,5 @@
-use Rattle.std.proofs.Common.{ap, sym, subst, arith}
+use Rattle.std.proofs.Common.{ap, sym, subst, arith, ◌∙◌, Err}
+use Rattle.std.proofs.lemmas.Result.{err_from_is_err_and}
 use Rattle.pop3_wire.specs.Place.{at}
 use Rattle.pop3_wire.specs.Bodies.{Rest, UnderWay}
 use Rattle.pop3_wire.proofs.BodiesLemmas.{under_way_on, under_way_ends, under_way_too_long}
@@ -12,19 +13,21 @@ returns-then-self-eq0-clause-takes g c = λ s.
       λ limit start text under. under_way_too_long under c.requires (omega (arith, left)),
     )
 
-pub returns-in-Err-clause-takes : goal.returns-in-Err-clause-takes
-returns-in-Err-clause-takes g c = λ s.
+pub returns-in_err-draw-clause-takes : goal.returns-in_err-draw-clause-takes
+returns-in_err-draw-clause-takes g c =
+    let p = err_from_is_err_and c.from_residual.result c.from_residual.ensures.1 in
+    rw (p.1 ∙ ap Err p.2) (λ s.
     let left = ap (λ (b : Rest). b.left) c.self.view_is in
-    let nothing = c.in-Err.ensures.err in
+    let nothing = c.in_err-draw.ensures.err in
     let after = nothing.2 s in (
       after.0,
       after.1,
-      λ limit start text under. under_way_ends under c.requires (omega (arith, left)) c.in-Err.fault (g.W.Wire.history c.draw.new.wire) c.draw.new.reader nothing.0 nothing.1 after.2,
-    )
+      λ limit start text under. under_way_ends under c.requires (omega (arith, left)) c.in_err-draw.field-0.0 (g.W.Wire.history c.draw.new.wire) c.draw.new.reader nothing.0 nothing.1 after.2,
+    ))
 
 pub returns-clause-takes : goal.returns-clause-takes
 returns-clause-takes g c = λ s.
-    let drawn = c.in_default.ensures.ok in
+    let drawn = c.in_ok-draw.ensures.ok in
     let after = drawn.3 s in
     let used = c.use_waiting-fed.ensures.used in (
       after.0,

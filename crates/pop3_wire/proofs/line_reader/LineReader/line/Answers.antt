@@ -73,8 +73,8 @@ returns-then-n-eq0-clause-read g c = λ s.
     let got = filled.3 s in
     let known = inv.2 got.0 in
     let short : length c.loop-length.self < c.args.limit = rw (← c.line_end.ensures.same, ← c.waiting.ensures.value) c.if-waiting-limit.false in
-    let now : c.fill.new.self ≡ c.loop-length.self ++ filled.0 = filled.2 ∙ ap (λ (l : List ℕ). l ++ filled.0) c.line_end.ensures.same in (
+    let now : c.fill_at_most.new.self ≡ c.loop-length.self ++ filled.0 = filled.2 ∙ ap (λ (l : List ℕ). l ++ filled.0) c.line_end.ensures.same in (
       known.0,
       g.met.W.Wire.leads_on _ _ _ known.1 got.1,
-      read_ended (g.W.Wire.history c.fill.new.wire) c.fill.new.self filled.0 known.2 known.3 c.in_default.ensures.none short now (filled.1 ∙ omega (arith, c.if-n-eq0.true)) got.2,
+      read_ended (g.W.Wire.history c.fill_at_most.new.wire) c.fill_at_most.new.self filled.0 known.2 known.3 c.in_default.ensures.none short now (filled.1 ∙ omega (arith, c.if-n-eq0.true)) got.2,
     )
