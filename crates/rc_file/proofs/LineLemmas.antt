@@ -1,16 +1,17 @@
 -- Where a line may be split: next to a blank or a sign, which are ASCII.
-use Rattle.std.proofs.Common.{IsUtf8, IsCharBoundary, ◌≡◌, ℕ, ◌+◌, ◌-◌, ◌<◌, ◌≤◌, List, length, true, false, get_or, arith, reverse, subst, ap, ◌∙◌, refl, inl, inr, eqb}
-use Rattle.std.proofs.lemmas.Bool.{eqb-true, cases_lt, both_ways}
+use Rattle.std.proofs.Common.{IsUtf8, IsCharBoundary, ◌≡◌, ℕ, ◌+◌, ◌-◌, ◌<◌, ◌≤◌, List, length, true, false, get_or, arith, reverse, subst, ap, ◌∙◌, refl, inl, inr, sym, Some, position}
+use Rattle.std.proofs.lemmas.Bool.{cases_lt, both_ways}
 use Rattle.std.proofs.lemmas.List.{get_or_past, get_or-reverse, get_or-take}
+use Rattle.std.proofs.lemmas.List.Quantifiers.{position-Some}
 use Rattle.std.proofs.lemmas.List.Sums.{prefix_len-le-length, suffix_len-le-length, prefix_len_passes}
-use Rattle.std.proofs.lemmas.Str.{IsCharBoundary-before_ascii, IsCharBoundary-after_ascii, IsCharBoundary-end}
+use Rattle.std.proofs.lemmas.Str.{IsCharBoundary-before_ascii, IsCharBoundary-after_ascii, IsCharBoundary-end, IsUtf8-from_is_utf8, is_utf8-from_IsUtf8}
 use Rattle.std.specs.List.{prefix_len, suffix_len}
 use Rattle.rc_file.specs.LineRules.{is_blank, is_sign, before_blanks}
 
 blank_ascii : (byte : ℕ) → is_blank byte ≡ true → byte < 128
 blank_ascii byte h = grind (arith, h)
 
-pub sign_ascii : (byte : ℕ) → is_sign byte ≡ true → byte < 128
+sign_ascii : (byte : ℕ) → is_sign byte ≡ true → byte < 128
 sign_ascii byte h = grind (arith, h)
 
 -- a text may be split after the blanks in front
@@ -43,9 +44,17 @@ before_blanks-first bs some first = elim (cases_lt 0 (length bs - suffix_len is_
 ]
 
 -- a line that begins with '[' still does without the blanks at its end
-pub begins_after_blanks : (line cut : List ℕ) → cut ≡ before_blanks line → eqb (get_or line 0 0) 91 ≡ true → get_or cut 0 0 ≡ 91
-begins_after_blanks line cut same bracket =
-    let first : get_or line 0 0 ≡ 91 = eqb-true (get_or line 0 0) 91 bracket in
+pub begins_after_blanks : (line cut : List ℕ) → cut ≡ before_blanks line → get_or line 0 0 ≡ 91 → get_or cut 0 0 ≡ 91
+begins_after_blanks line cut same first =
     let solid : is_blank (get_or line 0 0) ≡ false = rw first refl in
     let some : 0 < length line = grind (arith, get_or_past line 0 0) in
     ap (λ (l : List ℕ). get_or l 0 0) same ∙ before_blanks-first line some solid ∙ first
+
+-- a text may be split before a sign and after it
+pub before_sign : (bs : List ℕ) (place : ℕ) → Some place ≡ position is_sign bs → IsCharBoundary bs place
+before_sign bs place found = let at = position-Some is_sign bs place 0 (sym found) in IsCharBoundary-before_ascii bs place at.0 (sign_ascii _ at.1)
+
+pub after_sign : (bs : List ℕ) (place : ℕ) → IsUtf8 bs → Some place ≡ position is_sign bs → IsCharBoundary bs (place + 1)
+after_sign bs place utf8 found = let at = position-Some is_sign bs place 0 (sym found) in IsCharBoundary-after_ascii bs place utf8 at.0 (sign_ascii _ at.1)
+
+pub ruleset texts = (IsUtf8-from_is_utf8, is_utf8-from_IsUtf8, begins_after_blanks)

@@ -1,51 +1,22 @@
 -- The meaning of a file, from what its reader finds; the search for what has no effect, and that no warning depends on a value.
-use Rattle.std.proofs.Common.{Bool, append-nil, ◌≡◌, ℕ, ◌≤◌, List, [], ◌∷◌, ◌++◌, length, map, Option, Some, None, Ok, refl, ◌∙◌, le-ltb, rules, BuildHasherDefault, FoldHasher, arith, ◌+◌, ◌<◌, drop, get_or, add-one, true, false, cond, ◌&&◌, ◌||◌, ap, drop-cons, append_assoc, bytes_eq}
+use Rattle.std.proofs.Common.{Bool, append-nil, ◌≡◌, ℕ, ◌≤◌, List, [], ◌∷◌, ◌++◌, length, map, None, Ok, refl, ◌∙◌, le-ltb, BuildHasherDefault, FoldHasher, arith, ◌+◌, ◌<◌, drop, get_or, add-one, true, false, cond, ◌&&◌, ◌||◌, ap, drop-cons, append_assoc, bytes_eq}
 use Rattle.std.specs.HashSet.{HashSet, contains}
 use Rattle.std.specs.List.{list_any, filter}
-use Rattle.std.specs.Option.{option_or}
 use Rattle.rc_file.specs.FileRows.{RcRow, rows_of, section_row, key_row, bad_row}
-use Rattle.rc_file.specs.KeyTable.{retriever_keys, destination_keys, option_keys, all_keys}
-use Rattle.rc_file.specs.RcMeaning.{fault_at, first_bad, first_fault, is_folder, judged, missing_section, settings_in, value_of, warnings_in, rc_meaning, Warned, firsts, has_no_effect, is_same, warned}
+use Rattle.rc_file.specs.RcMeaning.{first_bad, missing_section, settings_in, warnings_in, rc_meaning, Warned, firsts, has_no_effect, is_same, warned}
 use Rattle.rc_file.specs.RcText.{without_value}
 use Rattle.rc_file.specs.RowReading.{rows_in, row_of}
-use Rattle.rc_file.specs.SectionReading.{key_fault}
+use Rattle.rc_file.specs.KeyReading.{key_fault}
 use Rattle.rc_file.specs.WarningSearch.{Name, Tells, name_eq}
-use Rattle.rc_file.specs.declared.fault.RcFault.{RcFault}
-use Rattle.rc_file.specs.declared.key.Key.{Key}
 use Rattle.rc_file.specs.declared.key.Section.TheVariants.{Retriever, Destination}
 use Rattle.rc_file.specs.declared.row.ReadRow.{ReadRow}
 use Rattle.rc_file.proofs.RowLemmas.{continued-nil, first_bad-read}
 
--- what can be wrong with keys
-
-pub fault_is : (rows : List RcRow) (key : Key) → fault_at rows key ≡ judged key (is_folder rows) (value_of rows key)
-unfolding fault_at
-fault_is rows key = refl
-
-pub key_fault_is : (rows : List RcRow) (keys : List Key) → key_fault rows keys ≡ first_fault (map (fault_at rows) keys)
-unfolding key_fault
-key_fault_is rows keys = refl
-
-pub ruleset faults = (rules, fault_is, key_fault_is)
-
-first_fault-append : (faults more : List (Option RcFault)) → first_fault (faults ++ more) ≡ option_or (first_fault faults) (first_fault more)
-first_fault-append [] more = refl
-first_fault-append (None ∷ faults) more = first_fault-append faults more
-first_fault-append (Some fault ∷ faults) more = refl
-
--- the faulty keys of the sections, one after the other
-pub all_faults : (rows : List RcRow) → key_fault rows all_keys
-    ≡ option_or (key_fault rows retriever_keys) (option_or (key_fault rows destination_keys) (key_fault rows option_keys))
-unfolding key_fault
-all_faults rows =
-    first_fault-append (map (fault_at rows) retriever_keys) (map (fault_at rows) (destination_keys ++ option_keys))
-    ∙ rw (first_fault-append (map (fault_at rows) destination_keys) (map (fault_at rows) option_keys))
-
 -- what a whole file means
 
-pub list_any-map : {X Y : Type 0} (test : Y → Bool) (f : X → Y) (xs : List X) → list_any test (map f xs) ≡ list_any (λ x. test (f x)) xs
-list_any-map test f [] = refl
-list_any-map test f (x ∷ xs) = rw (list_any-map test f xs)
+pub list_any_map : {X Y : Type 0} (test : Y → Bool) (f : X → Y) (xs : List X) → list_any test (map f xs) ≡ list_any (λ x. test (f x)) xs
+list_any_map test f [] = refl
+list_any_map test f (x ∷ xs) = rw (list_any_map test f xs)
 
 pub good_rows : (read : List ReadRow) → first_bad (rows_in read) ≡ None
 good_rows read = rw (continued-nil, append-nil) at (first_bad-read read [] [])
@@ -53,7 +24,7 @@ good_rows read = rw (continued-nil, append-nil) at (first_bad-read read [] [])
 -- where nothing is faulty, the settings and the warnings are meant
 pub all_meant : (bytes : List ℕ) (read : List ReadRow) → length bytes ≤ 65536 → rows_of bytes ≡ rows_in read
     → None ≡ missing_section (rows_in read) Retriever → None ≡ missing_section (rows_in read) Destination
-    → key_fault (rows_in read) all_keys ≡ None
+    → key_fault (rows_in read) ≡ None
     → rc_meaning bytes ≡ Ok (settings_in (rows_in read), warnings_in (rows_in read))
 unfolding rc_meaning key_fault
 all_meant bytes read within same there there' sound =

@@ -2,10 +2,10 @@
 use Rattle.std.proofs.Common.{◌≡◌, ℕ, ◌+◌, suc, Result, Ok, Err, List, [], ◌∷◌, ◌++◌, length, take, get_or, set, map, true, false, Option, Some, None, ap, ◌∙◌, refl, inl, inr, arith}
 use Rattle.std.proofs.lemmas.Grind.{common_steps}
 use Rattle.std.proofs.Math.Seq.{split_at}
-use Rattle.std.proofs.lemmas.List.{drop_all, take-set, append-nil, append_assoc, map-append}
+use Rattle.std.proofs.lemmas.List.{drop_all, take-set, append-nil, append_assoc, map-append, nil_from_length}
 use Rattle.std.specs.Char.{to_ascii_lowercase}
 use Rattle.std.proofs.lemmas.Bool.{false≢true}
-use Rattle.rc_file.specs.LineRules.{RcLine, more, section, key, bad}
+use Rattle.rc_file.specs.LineRules.{RcLine, more, key}
 use Rattle.rc_file.specs.FileRows.{RcRow, section_row, key_row, bad_row}
 use Rattle.rc_file.specs.RcMeaning.{first_bad}
 use Rattle.rc_file.specs.RowReading.{row_of, row_at, rows_in, continued_row, continued, section_in, last_section, is_key_row, ends_in_key, file_rows, AddsText, TakesLine}
@@ -43,10 +43,6 @@ continued-nil (row ∷ next ∷ rows) = ap (λ (l : List RcRow). row ∷ l) (con
 
 -- each kind of line
 
-pub file_rows-section : (rows : List RcRow) (n : ℕ) (name : List ℕ) (lines : List RcLine) → file_rows rows n (section name ∷ lines) ≡ file_rows (rows ++ (section_row n name ∷ [])) (n + 1) lines
-unfolding file_rows
-file_rows-section rows n name lines = simp (continued-nil, continued-last, last_section-last, ends_in_key-last, append_assoc)
-
 pub file_rows-key : (rows : List RcRow) (n : ℕ) (name word value : List ℕ) (lines : List RcLine) → last_section rows ≡ Some name
     → file_rows rows n (key word value ∷ lines) ≡ file_rows (rows ++ (key_row n name (map to_ascii_lowercase word) value ∷ [])) (n + 1) lines
 unfolding file_rows
@@ -71,17 +67,9 @@ first_bad-read (row ∷ []) text others = good_row row.line row.section.now row.
 first_bad-read (row ∷ next ∷ read) text others =
     rw (← continued_row-nil (row_of row)) (good_row row.line row.section.now row.entry [] (continued (rows_in (next ∷ read)) text ++ others)) ∙ first_bad-read (next ∷ read) text others
 
-pub first_bad-bad : (read : List ReadRow) (n : ℕ) (lines : List RcLine) → first_bad (file_rows (rows_in read) n (bad ∷ lines)) ≡ Some (BadLine n)
-unfolding file_rows
-first_bad-bad read n lines = first_bad-read read [] _
-
 pub first_bad-more : (read : List ReadRow) (n : ℕ) (text : List ℕ) (lines : List RcLine) → ends_in_key (rows_in read) ≡ false → first_bad (file_rows (rows_in read) n (more text ∷ lines)) ≡ Some (BadLine n)
 unfolding file_rows
 first_bad-more read n text lines none = first_bad-read read _ _ ∙ rw none
-
-pub first_bad-key : (read : List ReadRow) (n : ℕ) (word value : List ℕ) (lines : List RcLine) → last_section (rows_in read) ≡ None → first_bad (file_rows (rows_in read) n (key word value ∷ lines)) ≡ Some (BadLine n)
-unfolding file_rows
-first_bad-key read n word value lines none = first_bad-read read [] _ ∙ rw none
 
 -- the last of some rows, by its place
 split_last : (read : List ReadRow) (k : ℕ) (row : ReadRow) → row ≡ get_or read k row → suc k ≡ length read → read ≡ take k read ++ (row ∷ [])
@@ -113,6 +101,4 @@ more_taken read k row new n text (Err fault) same at_end (inl full) = λ lines. 
 more_taken read k row new n text (Err fault) same at_end (inr h) = λ lines.
     inr (rw h.1 (first_bad-more read n text lines (rw (rows_in-push (take k read) read row (split_last read k row same at_end)) (ends_in_key-last (rows_in (take k read)) (row_of row) ∙ h.0))))
 
-pub file_rows-end : (rows : List RcRow) (n : ℕ) → file_rows rows n [] ≡ rows
-unfolding file_rows
-file_rows-end rows n = append-nil (continued rows []) ∙ continued-nil rows
+pub ruleset one_more = (continued-nil, continued-last, last_section-last, ends_in_key-last, append-nil, append_assoc, map-append, first_bad-read, nil_from_length)

@@ -1,7 +1,13 @@
--- What the readers of single keys return.
-use Rattle.std.specs.Prelude.{◌≡◌, ℕ, List, Option, Some, None, Result, Ok, Err}
+-- What the readers of keys, and of all settings, return.
+use Rattle.std.specs.Prelude.{◌≡◌, ℕ, List, map, Option, Some, None, Result, Ok, Err}
 use Rattle.std.specs.Borrow.{Bor}
+use Rattle.rc_file.specs.Answer.{IsFaultMeant}
+use Rattle.rc_file.specs.FileRows.{RcRow}
+use Rattle.rc_file.specs.KeyTable.{all_keys}
+use Rattle.rc_file.specs.RcMeaning.{fault_at, first_fault, settings_in}
+use Rattle.rc_file.specs.Settings.{content_of, IsValid}
 use Rattle.rc_file.specs.declared.fault.RcFault.{RcFault}
+use Rattle.rc_file.specs.declared.settings.Settings.{Settings}
 
 -- the value if there is no fault, else the fault
 abbrev pub ReadsAs : {V : Type 0} → Option RcFault → V → Result V RcFault → Type 0
@@ -12,3 +18,16 @@ ReadsAs fault wanted (Err found) = fault ≡ Some found
 abbrev pub ReadsText : Option RcFault → List ℕ → Result (Bor (List ℕ)) RcFault → Type 0
 ReadsText fault wanted (Ok text) = (fault ≡ None) × (text.now ≡ wanted)
 ReadsText fault wanted (Err found) = fault ≡ Some found
+
+-- the first key that is faulty
+unfoldable pub key_fault : List RcRow → Option RcFault
+key_fault rows = first_fault (map (fault_at rows) all_keys)
+
+pub record IsSettings (rows : List RcRow) (settings : Settings) : Type 0 where
+  pub sound : key_fault rows ≡ None
+  pub content_is : content_of settings ≡ settings_in rows
+  pub valid : IsValid settings
+
+abbrev pub ReadsSettings : List RcRow → Result Settings RcFault → Type 0
+ReadsSettings rows (Ok settings) = IsSettings rows settings
+ReadsSettings rows (Err fault) = IsFaultMeant (key_fault rows) fault

@@ -1,11 +1,11 @@
 -- The keys that have an effect, as a table, and the forms of their values.
-use Rattle.std.specs.Prelude.{ℕ, Bool, ◌&&◌, ◌||◌, List, [], ◌∷◌, ◌++◌, map, nat_le, if◌then◌else◌, Option, Some, None, codes, bytes_eq}
+use Rattle.std.specs.Prelude.{ℕ, Bool, ◌&&◌, ◌||◌, List, [], ◌∷◌, map, nat_le, if◌then◌else◌, Option, Some, None, codes, bytes_eq}
 use Rattle.std.specs.Char.{to_ascii_lowercase}
 use Rattle.std.specs.List.{list_any}
 use Rattle.std.specs.Str.Parse.{digits_value}
 use Rattle.mail_terms.specs.Credential.{is_credential}
 use Rattle.mail_terms.specs.Numeral.{is_numeral}
-use Rattle.rc_file.specs.Settings.{is_server, is_maildir_path, is_mboxrd_path}
+use Rattle.rc_file.specs.Settings.{is_server, is_destination, destination_at}
 use Rattle.rc_file.specs.declared.settings.TheConstants.{DELETE_AFTER_LIMIT}
 use Rattle.rc_file.specs.declared.key.Key.{Key}
 use Rattle.rc_file.specs.declared.key.Key.TheVariants.{RetrieverKind, UseApop, Server, Port, Username, Password, DestinationKind}
@@ -73,17 +73,9 @@ rule MaxCount = with_default option_section (codes "max_messages_per_session") (
 rule Verbose = with_default option_section (codes "verbose") (number 0 greatest_value) (codes "1")
 
 -- the keys of the table, in the order in which they are checked
-abbrev pub retriever_keys : List Key
-retriever_keys = RetrieverKind ∷ UseApop ∷ Server ∷ Port ∷ Username ∷ Password ∷ []
-
-abbrev pub destination_keys : List Key
-destination_keys = DestinationKind ∷ Path ∷ []
-
-abbrev pub option_keys : List Key
-option_keys = ReadAll ∷ Delete ∷ DeleteAfter ∷ MaxSize ∷ MaxCount ∷ Verbose ∷ []
-
 abbrev pub all_keys : List Key
-all_keys = retriever_keys ++ (destination_keys ++ option_keys)
+all_keys = RetrieverKind ∷ UseApop ∷ Server ∷ Port ∷ Username ∷ Password ∷ DestinationKind ∷ Path
+    ∷ ReadAll ∷ Delete ∷ DeleteAfter ∷ MaxSize ∷ MaxCount ∷ Verbose ∷ []
 
 -- the words for yes and for no, in upper or lower case
 abbrev pub is_word : List ℕ → List ℕ → Bool
@@ -106,4 +98,4 @@ value_fault never key folder text = if is_yes text then Some (Unsupported key) e
 value_fault (number low high) key folder text = if is_number low high text then None else Some (BadValue key)
 value_fault server key folder text = if is_server text then None else Some (BadValue key)
 value_fault credential key folder text = if is_credential text then None else Some (BadValue key)
-value_fault path key folder text = if (if folder then is_maildir_path text else is_mboxrd_path text) then None else Some BadPath
+value_fault path key folder text = if is_destination (destination_at folder text) then None else Some BadPath

@@ -8,6 +8,5 @@ pub mod LineRules
 pub mod RcMeaning
 pub mod RcText
 pub mod RowReading
-pub mod SectionReading
 pub mod Settings
 pub mod WarningSearch

@@ -5,7 +5,7 @@ use Rattle.std.specs.List.{filter, filter_map, last_or, list_any}
 use Rattle.std.specs.Str.Parse.{digits_value}
 use Rattle.rc_file.specs.KeyTable.{rule, value_fault, is_yes, retriever_section, destination_section, all_keys}
 use Rattle.rc_file.specs.FileRows.{RcRow, section_row, key_row, bad_row, rows_of}
-use Rattle.rc_file.specs.Settings.{Content, Destination, maildir, mboxrd}
+use Rattle.rc_file.specs.Settings.{Content, Destination, destination_at}
 use Rattle.rc_file.specs.declared.file.TheConstants.{RC_LIMIT}
 use Rattle.rc_file.specs.declared.key.Section.{Section}
 use Rattle.rc_file.specs.declared.key.Section.TheVariants.{Retriever, Destination as DestinationSection}
@@ -14,9 +14,6 @@ use Rattle.rc_file.specs.declared.key.Key.TheVariants.{Server, Port, Username, P
 use Rattle.rc_file.specs.declared.key.Key.TheVariants.{ReadAll, Delete, DeleteAfter, MaxSize, MaxCount, Verbose}
 use Rattle.rc_file.specs.declared.fault.RcFault.{RcFault}
 use Rattle.rc_file.specs.declared.fault.RcFault.TheVariants.{TooLong, BadLine, MissingSection, MissingKey}
-
-abbrev pub too_long : List ℕ → Option RcFault
-too_long bytes = if nat_lt RC_LIMIT (length bytes) then Some TooLong else None
 
 -- the first bad line
 abbrev pub first_bad : List RcRow → Option RcFault
@@ -78,12 +75,12 @@ first_fault (Some fault ∷ faults) = Some fault
 -- all that can be wrong with a file of these rows; the first fault decides
 abbrev pub faults_of : List ℕ → List RcRow → List (Option RcFault)
 faults_of bytes rows =
-    too_long bytes ∷ first_bad rows ∷ missing_section rows Retriever ∷ missing_section rows DestinationSection
-    ∷ map (fault_at rows) all_keys
+    (if nat_lt RC_LIMIT (length bytes) then Some TooLong else None)
+    ∷ first_bad rows ∷ missing_section rows Retriever ∷ missing_section rows DestinationSection ∷ map (fault_at rows) all_keys
 
 -- the settings, if nothing is wrong
 abbrev pub destination_in : List RcRow → Destination
-destination_in rows = if is_folder rows then maildir (text_of rows Path) else mboxrd (text_of rows Path)
+destination_in rows = destination_at (is_folder rows) (text_of rows Path)
 
 abbrev pub settings_in : List RcRow → Content
 settings_in rows = record {

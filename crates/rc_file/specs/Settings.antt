@@ -43,6 +43,10 @@ pub data Destination : Type 0 where
   maildir : List ℕ → Destination
   mboxrd : List ℕ → Destination
 
+-- a Maildir at this path, or else an mboxrd file
+abbrev pub destination_at : Bool → List ℕ → Destination
+destination_at folder path = if folder then maildir path else mboxrd path
+
 abbrev pub destination_of : Dest → Destination
 destination_of (Maildir path) = maildir (string_bytes path)
 destination_of (Mboxrd path) = mboxrd (string_bytes path)

@@ -31,6 +31,7 @@ pub const RC_LIMIT: usize = 65_536;
 /// first bad line, counted from 1; MissingSection for `[retriever]`, then for
 /// `[destination]`; then the first key, in the order of [`Key`](crate::Key), that is missing, or
 /// whose value doesn't have its form. NoMemory may come in place of any result.
+#[tactic(auto, using(crate::proofs::RcMeaningLemmas::good_rows), unfolding(crate::specs::RcMeaning::rc_meaning))]
 pub fn read_rc(alloc: Global, bytes: &[u8]) -> Result<(Settings, Vec<Warning>), RcFault>
     ensures meaning { IsMeant (rc_meaning bytes.now) result }
     ensures valid { IfOk result (λ read. IsValid read.0) }

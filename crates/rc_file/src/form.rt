@@ -1,7 +1,8 @@
 //! Reads the values of keys, each by its form.
-ghost use Rattle.std.specs.Prelude.{◌≡◌, ◌≤◌, map, IfOk, IsTrue, Some, true};
+#![tactic(auto, unfolding(crate::specs::RcMeaning::fault_at))]
+
+ghost use Rattle.std.specs.Prelude.{◌≡◌, ◌≤◌, map, IfOk, IsTrue};
 ghost use Rattle.std.specs.Char.{to_ascii_lowercase};
-ghost use Rattle.std.specs.Str.Parse.{digits_value};
 ghost use Rattle.mail_terms.specs.Credential.{is_credential};
 ghost use Rattle.rc_file.specs.KeyTable.{
   rule,
@@ -13,7 +14,6 @@ ghost use Rattle.rc_file.specs.KeyTable.{
   is_word,
   is_yes,
   is_no,
-  value_fault,
 };
 ghost use Rattle.rc_file.specs.RcMeaning.{fault_at, is_true, number_of, text_of};
 ghost use Rattle.rc_file.specs.KeyReading.{ReadsAs, ReadsText};
@@ -32,12 +32,7 @@ pub(crate) fn read_boolean(rows: &[ReadRow<'_>], key: Key) -> Result<bool, RcFau
     requires { (rule key).form ≡ boolean }
     ensures { ReadsAs (fault_at (rows_in rows.now) key) (is_true (rows_in rows.now) key) result }
 {
-    parse_boolean(key, required(rows, key)?)
-}
-
-fn parse_boolean(key: Key, text: &str) -> Result<bool, RcFault>
-    ensures { ReadsAs (value_fault boolean key true text.now) (is_yes text.now) result }
-{
+    let text = required(rows, key)?;
     if is_yes(text) {
         Ok(true)
     } else if is_no(text) {
@@ -52,12 +47,7 @@ pub(crate) fn refuse_true(rows: &[ReadRow<'_>], key: Key) -> Result<(), RcFault>
     requires { (rule key).form ≡ never }
     ensures { ReadsAs (fault_at (rows_in rows.now) key) tt result }
 {
-    parse_no(key, required(rows, key)?)
-}
-
-fn parse_no(key: Key, text: &str) -> Result<(), RcFault>
-    ensures { ReadsAs (value_fault never key true text.now) tt result }
-{
+    let text = required(rows, key)?;
     if is_yes(text) {
         Err(RcFault::Unsupported(key))
     } else if is_no(text) {
@@ -97,14 +87,7 @@ pub(crate) fn read_number(
     ensures value { ReadsAs (fault_at (rows_in rows.now) key) (number_of (rows_in rows.now) key) result }
     ensures within { IfOk result (λ n. (low ≤ n) × (n ≤ high)) }
 {
-    parse_within(key, required(rows, key)?, low, high)
-}
-
-fn parse_within(key: Key, text: &str, low: u64, high: u64) -> Result<u64, RcFault>
-    ensures value { ReadsAs (value_fault (number low high) key true text.now) (digits_value 10 text.now) result }
-    ensures within { IfOk result (λ n. (low ≤ n) × (n ≤ high)) }
-{
-    match read_numeral(text.as_bytes()) {
+    match read_numeral(required(rows, key)?.as_bytes()) {
         Some(n) if low <= n && n <= high => Ok(n),
         _ => Err(RcFault::BadValue(key)),
     }
@@ -116,13 +99,7 @@ pub(crate) fn read_server<'r>(rows: &'r [ReadRow<'_>], key: Key) -> Result<&'r s
     ensures reads { ReadsText (fault_at (rows_in rows.now) key) (text_of (rows_in rows.now) key) result }
     ensures valid { IfOk result (λ text. IsTrue (is_server text.now)) }
 {
-    check_server(key, required(rows, key)?)
-}
-
-fn check_server(key: Key, text: &str) -> Result<&str, RcFault>
-    ensures reads { ReadsText (value_fault server key true text.now) text.now result }
-    ensures valid { IfOk result (λ text. IsTrue (is_server text.now)) }
-{
+    let text = required(rows, key)?;
     if is_server(text) {
         Ok(text)
     } else {
@@ -136,13 +113,7 @@ pub(crate) fn read_credential<'r>(rows: &'r [ReadRow<'_>], key: Key) -> Result<&
     ensures reads { ReadsText (fault_at (rows_in rows.now) key) (text_of (rows_in rows.now) key) result }
     ensures valid { IfOk result (λ text. IsTrue (is_credential text.now)) }
 {
-    check_credential(key, required(rows, key)?)
-}
-
-fn check_credential(key: Key, text: &str) -> Result<&str, RcFault>
-    ensures reads { ReadsText (value_fault credential key true text.now) text.now result }
-    ensures valid { IfOk result (λ text. IsTrue (is_credential text.now)) }
-{
+    let text = required(rows, key)?;
     if is_credential(text.as_bytes()) {
         Ok(text)
     } else {

@@ -1,5 +1,5 @@
 //! The kinds of lines of an rc file.
-ghost use Rattle.std.specs.Prelude.{◌≡◌, ◌≤◌, ◌==◌, length, slice_index};
+ghost use Rattle.std.specs.Prelude.{◌≡◌, ◌≤◌, length, slice_index};
 ghost use Rattle.std.specs.List.{position, prefix_len, suffix_len};
 ghost use Rattle.rc_file.specs.LineRules.{
   is_blank,
@@ -32,6 +32,7 @@ pub(crate) enum JudgedLine<'a> {
 /// The line's kind, by the first of five rules that fits it: a line that isn't UTF-8 is bad; one that
 /// is empty, blank or a comment is skipped; one that begins with a blank continues a value; one that
 /// begins with `[` is a section line; any other is a key line.
+#[tactic(auto, using(crate::proofs::LineLemmas::texts), unfolding(crate::specs::LineRules::judge))]
 pub(crate) fn judge(bytes: &[u8]) -> JudgedLine<'_>
     ensures { line_of result ≡ judge bytes.now }
 {
@@ -40,9 +41,9 @@ pub(crate) fn judge(bytes: &[u8]) -> JudgedLine<'_>
     };
     if is_skipped(line) {
         JudgedLine::Skipped
-    } else if begins_with_blank(line) {
+    } else if is_blank(first_byte(line)) {
         JudgedLine::More(trimmed(line))
-    } else if begins_with_bracket(line) {
+    } else if first_byte(line) == b'[' {
         section_line(without_end_blanks(line))
     } else {
         key_line(line)
@@ -88,25 +89,18 @@ fn is_skipped(line: &str) -> bool
     }
 }
 
-fn begins_with_blank(line: &str) -> bool
-    ensures { result ≡ is_blank (slice_index line.now 0) }
+/// The line's first byte; 0 if it has none.
+fn first_byte(line: &str) -> u8
+    ensures { result ≡ slice_index line.now 0 }
 {
     match line.as_bytes() {
-        [first, ..] => is_blank(*first),
-        [] => false,
-    }
-}
-
-fn begins_with_bracket(line: &str) -> bool
-    ensures { result ≡ (slice_index line.now 0 == 91) }
-{
-    match line.as_bytes() {
-        [first, ..] => *first == b'[',
-        [] => false,
+        [first, ..] => *first,
+        [] => 0,
     }
 }
 
 /// The text without the blanks at its end.
+#[tactic(auto, using(crate::proofs::LineLemmas::end_boundary))]
 fn without_end_blanks(text: &str) -> &str
     ensures { result.now ≡ before_blanks text.now }
 {
@@ -114,6 +108,7 @@ fn without_end_blanks(text: &str) -> &str
 }
 
 /// The text without the blanks at its ends.
+#[tactic(auto, using(crate::proofs::LineLemmas::front_boundary))]
 fn trimmed(text: &str) -> &str
     ensures { result.now ≡ trimmed text.now }
 {
@@ -132,6 +127,7 @@ fn section_line(line: &str) -> JudgedLine<'_>
 }
 
 /// The key before the first `=` or `:`, and the value after it.
+#[tactic(auto, using(crate::proofs::LineLemmas::before_sign, crate::proofs::LineLemmas::after_sign))]
 fn key_line(line: &str) -> JudgedLine<'_>
     ensures { line_of result ≡ key_line line.now }
 {

@@ -1,4 +1,6 @@
 //! The rows of an rc file: its section lines and its keys, each with its line number.
+#![tactic(auto, using(crate::proofs::RowLemmas::one_more), unfolding(crate::specs::RowReading::file_rows))]
+
 ghost use Rattle.std.specs.Prelude.{◌≡◌, ◌≤◌, ◌∷◌, ◌++◌, length, IfErr, OnOk};
 ghost use Rattle.std.specs.String.{string_bytes};
 ghost use Rattle.rc_file.specs.JudgedLine.{line_of};

@@ -3,7 +3,7 @@ ghost use Rattle.std.specs.Prelude.{◌≡◌, ◌++◌, drop, if◌then◌else�
 ghost use Rattle.std.specs.String.{string_bytes};
 ghost use Rattle.std.specs.List.{list_all};
 ghost use Rattle.rc_file.specs.Settings.{begins_at_home, is_server_byte, is_path_byte, is_server, is_path};
-ghost use Rattle.rc_file.specs.Settings.{is_maildir_path, is_mboxrd_path};
+ghost use Rattle.rc_file.specs.Settings.{destination_at, is_destination};
 
 use mail_terms::is_credential;
 use std::alloc::{AllocError, Global};
@@ -79,18 +79,15 @@ fn has_path_bytes(bytes: &[u8]) -> bool
         .all(|byte| *byte != b'\n' && *byte != 0 && *byte != b'$')
 }
 
-/// Whether the text may be the path of a Maildir.
-pub(crate) fn is_maildir_path(path: &str) -> bool
-    ensures { result ≡ is_maildir_path path.now }
+/// Whether the text may be the path of a Maildir, or else of an mboxrd file.
+pub(crate) fn is_path_of(path: &str, folder: bool) -> bool
+    ensures { result ≡ is_destination (destination_at folder path.now) }
 {
-    is_path(path) && path.as_bytes().ends_with(b"/")
-}
-
-/// Whether the text may be the path of an mboxrd file.
-pub(crate) fn is_mboxrd_path(path: &str) -> bool
-    ensures { result ≡ is_mboxrd_path path.now }
-{
-    is_path(path) && !path.as_bytes().ends_with(b"/")
+    if folder {
+        is_path(path) && path.as_bytes().ends_with(b"/")
+    } else {
+        is_path(path) && !path.as_bytes().ends_with(b"/")
+    }
 }
 
 /// The whole path: for one that begins with `~/`, `home` followed by the path from its `/`; any other

@@ -73,6 +73,7 @@ fn key_warning(alloc: Global, line: u32, section: &str, key: &str) -> Result<Str
 }
 
 /// No warning depends on a value of the file, such as a password.
+#[tactic(auto, using(crate::proofs::RcMeaningLemmas::warnings_same))]
 pub fn warnings_hide_values()
     ensures { (rows : List RcRow) → warnings_in (map without_value rows) ≡ warnings_in rows }
 {}

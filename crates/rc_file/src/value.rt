@@ -32,6 +32,7 @@ impl ReadRow<'_> {
 }
 
 /// The key's value: that of its last row, or its default.
+#[tactic(auto, unfolding(crate::specs::RcMeaning::value_of))]
 fn value<'r>(rows: &'r [ReadRow<'_>], key: Key) -> Option<&'r str>
     ensures { option_copied result ≡ value_of (rows_in rows.now) key }
 {
@@ -53,6 +54,7 @@ pub(crate) fn required<'r>(rows: &'r [ReadRow<'_>], key: Key) -> Result<&'r str,
 }
 
 /// MissingSection if no row is a line of the section.
+#[tactic(auto, using(crate::proofs::RcMeaningLemmas::list_any_map))]
 pub(crate) fn expect_section(rows: &[ReadRow<'_>], section: Section) -> Result<(), RcFault>
     ensures { fault_in result ≡ missing_section (rows_in rows.now) section }
 {

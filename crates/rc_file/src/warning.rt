@@ -1,12 +1,9 @@
 //! Sections and keys of an rc file that have no effect.
 ghost use Rattle.std.specs.Prelude.{◌≡◌, map, IfOk, OnOk};
-ghost use Rattle.std.specs.Str.{bytes_eq};
-ghost use Rattle.rc_file.specs.KeyTable.{rule};
 ghost use Rattle.rc_file.specs.RcMeaning.{
   has_no_effect,
   is_known_key,
   is_known_section,
-  is_named,
   warned,
   warnings_in,
 };
@@ -101,25 +98,13 @@ impl ReadRow<'_> {
 fn is_known_section(name: &str) -> bool
     ensures { result ≡ is_known_section name.now }
 {
-    Key::ALL.iter().any(|key| key.is_of_section(name))
+    Key::ALL.iter().any(|key| name == key.section())
 }
 
 fn is_known_key(section: &str, name: &str) -> bool
     ensures { result ≡ is_known_key section.now name.now }
 {
-    Key::ALL.iter().any(|key| key.is_named(section, name))
-}
-
-impl Key {
-    fn is_of_section(self, name: &str) -> bool
-        ensures { result ≡ bytes_eq name.now (rule self).section }
-    {
-        name == self.section()
-    }
-
-    fn is_named(self, section: &str, name: &str) -> bool
-        ensures { result ≡ is_named section.now name.now self }
-    {
-        section == self.section() && name == self.name()
-    }
+    Key::ALL
+        .iter()
+        .any(|key| section == key.section() && name == key.name())
 }

@@ -1,24 +1,8 @@
 use Rattle.std.proofs.Common.{arith, rules}
-use Rattle.rc_file.specs.SectionReading.{key_fault}
+use Rattle.rc_file.specs.KeyReading.{key_fault}
 use Rattle.rc_file.specs.RcMeaning.{rc_meaning}
 use Rattle.rc_file.proofs.RcMeaningLemmas.{all_meant, good_rows}
 use Rattle.rc_file.proofs.file.read_rc.Goals as goal
-
-pub returns-then-bytes-gt-RC_LIMIT-clause-meaning : goal.returns-then-bytes-gt-RC_LIMIT-clause-meaning
-unfolding rc_meaning
-returns-then-bytes-gt-RC_LIMIT-clause-meaning c = search rules
-
-pub returns-in_err-rows-clause-meaning : goal.returns-in_err-rows-clause-meaning
-unfolding rc_meaning
-returns-in_err-rows-clause-meaning c = search rules
-
-pub returns-in_err-expect_section-clause-meaning : goal.returns-in_err-expect_section-clause-meaning
-unfolding rc_meaning
-returns-in_err-expect_section-clause-meaning c = search (rules, good_rows c.in_ok-rows.rows.items)
-
-pub returns-in_err-expect_section-2-clause-meaning : goal.returns-in_err-expect_section-2-clause-meaning
-unfolding rc_meaning
-returns-in_err-expect_section-2-clause-meaning c = search (rules, good_rows c.in_ok-rows.rows.items)
 
 pub returns-in_err-settings-clause-meaning : goal.returns-in_err-settings-clause-meaning
 unfolding rc_meaning key_fault

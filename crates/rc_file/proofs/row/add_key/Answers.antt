@@ -1,14 +1,7 @@
-use Rattle.std.proofs.Common.{◌-◌, List, ap, arith, inr, length}
-use Rattle.std.proofs.lemmas.List.{nil_from_length}
-use Rattle.rc_file.specs.declared.row.ReadRow.{ReadRow}
-use Rattle.rc_file.specs.RowReading.{rows_in, last_section}
-use Rattle.rc_file.proofs.RowLemmas.{file_rows-key, first_bad-key, rows_in-push, last_section-read}
+use Rattle.std.proofs.Common.{◌-◌, arith, length}
+use Rattle.rc_file.specs.RowReading.{rows_in}
+use Rattle.rc_file.proofs.RowLemmas.{file_rows-key, rows_in-push, last_section-read}
 use Rattle.rc_file.proofs.row.add_key.Goals as goal
-
-pub returns-in_default : goal.returns-in_default
-returns-in_default c =
-    λ lines. inr (first_bad-key c.args.rows.now.items c.args.number c.args.word.now c.args.value.now lines
-    (ap (λ (read : List ReadRow). last_section (rows_in read)) (nil_from_length c.args.rows.now.items (omega (arith, ap length c.deref.ensures.value, c.in_default.ensures.item.3)))))
 
 pub returns : goal.returns
 returns c =
