@@ -2,5 +2,4 @@ mod LineLemmas
 mod MeaningLemmas
 mod MergeLemmas
 mod PlanLemmas
-mod ProgressLemmas
 mod RowLemmas

@@ -1,5 +1,5 @@
 -- The lines of the record's file: numerals, and how lines are cut.
-use Rattle.std.proofs.Common.{All, Bool, Bor, IfNone, IfSome, List, MatchOption, None, Option, Some, [], ap, append_assoc, ap₂, arith, decimal, drop, false, get_or, if◌then◌else◌, inl, inr, length, lit<, nat_eq, nat_le, nat_lt, refl, sym, take, true, ℕ, ◌&&◌, ◌++◌, ◌+◌, ◌<◌, ◌^◌, ◌∙◌, ◌∷◌, ◌≡◌, ◌≢◌, ◌≤◌}
+use Rattle.std.proofs.Common.{All, Bool, Bor, IfNone, IfSome, List, MatchOption, None, Option, Some, [], ap, append_assoc, ap₂, arith, decimal, drop, false, get_or, if◌then◌else◌, inl, inr, length, lit<, nat_eq, nat_le, nat_lt, refl, subst, sym, take, true, ℕ, ◌&&◌, ◌++◌, ◌+◌, ◌<◌, ◌^◌, ◌∙◌, ◌∷◌, ◌≡◌, ◌≢◌, ◌≤◌}
 use Rattle.mail_terms.specs.Numeral.{greatest_size, is_numeral, numeral_value}
 use Rattle.mail_terms.specs.UniqueId.{IsLegalId}
 use Rattle.std.proofs.lemmas.Bool.{and_from, and_parts, cases_eq, le-leb, leb-true, lt-ltb}
@@ -24,8 +24,8 @@ use Rattle.fetch_rules.proofs.RowLemmas.{id_characters}
 abbrev pub BeginsAsNumeral : List ℕ → Type 0
 BeginsAsNumeral field = (0 < length field) × (48 ≤ get_or field 0 0) × (get_or field 0 0 ≤ 57) × (get_or field 0 0 ≡ 48 → length field ≡ 1)
 
-pub BeginsAsNumeral-decimal : (n : ℕ) → n < 2 ^ 64 → BeginsAsNumeral (decimal n)
-BeginsAsNumeral-decimal n fits = elim (cases_eq n 0) [
+pub begins_as_numeral : (n : ℕ) → n < 2 ^ 64 → BeginsAsNumeral (decimal n)
+begins_as_numeral n fits = elim (cases_eq n 0) [
   | inl none ↦ rw (none, decimal_digit 0 (lit< tt)) (omega arith, omega arith, omega arith, λ _. refl)
   | inr more ↦
       let numeral = (decimal_is_IsNumeral n fits).0 in
@@ -74,28 +74,19 @@ HasNo byte bytes = AllByRecursion (λ other. other ≢ byte) bytes
 pub same_cons : {c d : ℕ} {a b : List ℕ} → c ∷ a ≡ d ∷ b → (c ≡ d) × (a ≡ b)
 same_cons e = (cc, cc)
 
-cut_unique : (s : ℕ) (a b x y : List ℕ) → HasNo s a → HasNo s b → a ++ s ∷ x ≡ b ++ s ∷ y → (a ≡ b) × (x ≡ y)
-cut_unique s [] [] x y p q e = (refl, (same_cons e).1)
-cut_unique s [] (d ∷ b) x y p q e = absurd (q.0 (sym (same_cons e).0))
-cut_unique s (c ∷ a) [] x y p q e = absurd (p.0 (same_cons e).0)
-cut_unique s (c ∷ a) (d ∷ b) x y p q e =
+pub cut_unique : (s t : ℕ) (a b x y : List ℕ) → HasNo t a → HasNo s b → a ++ s ∷ x ≡ b ++ t ∷ y → (a ≡ b) × (s ≡ t) × (x ≡ y)
+cut_unique s t [] [] x y p q e = (refl, (same_cons e).0, (same_cons e).1)
+cut_unique s t [] (d ∷ b) x y p q e = absurd (q.0 (sym (same_cons e).0))
+cut_unique s t (c ∷ a) [] x y p q e = absurd (p.0 (same_cons e).0)
+cut_unique s t (c ∷ a) (d ∷ b) x y p q e =
     let parts = same_cons e in
-    let rest = cut_unique s a b x y p.1 q.1 parts.1 in
-    (ap₂ (λ (k : ℕ) (xs : List ℕ). k ∷ xs) parts.0 rest.0, rest.1)
-
--- two ends of a word
-pub ends_clash : (s t : ℕ) (a b x y : List ℕ) → s ≢ t → HasNo t a → HasNo s b → a ++ s ∷ x ≡ b ++ t ∷ y → ⊥
-ends_clash s t [] [] x y other p q e = other (same_cons e).0
-ends_clash s t [] (d ∷ b) x y other p q e = q.0 (sym (same_cons e).0)
-ends_clash s t (c ∷ a) [] x y other p q e = p.0 (same_cons e).0
-ends_clash s t (c ∷ a) (d ∷ b) x y other p q e = ends_clash s t a b x y other p.1 q.1 (same_cons e).1
+    let rest = cut_unique s t a b x y p.1 q.1 parts.1 in
+    (ap₂ (λ (k : ℕ) (xs : List ℕ). k ∷ xs) parts.0 rest.0, rest.1, rest.2)
 
 -- what lacks the byte isn't cut there
-uncut : (s : ℕ) (a y xs : List ℕ) → HasNo s xs → xs ≡ a ++ s ∷ y → ⊥
-uncut s [] y [] none e = cc
-uncut s (c ∷ a) y [] none e = cc
-uncut s [] y (x ∷ xs) none e = none.0 (same_cons e).0
-uncut s (c ∷ a) y (x ∷ xs) none e = uncut s a y xs none.1 (same_cons e).1
+uncut : (s : ℕ) (a y : List ℕ) → HasNo s (a ++ s ∷ y) → ⊥
+uncut s [] y none = none.0 refl
+uncut s (c ∷ a) y none = uncut s a y none.1
 
 HasNo-id : (s : ℕ) → s < 0x21 → (uid : List ℕ) → IsLegalId uid → HasNo s uid
 HasNo-id s below uid legal = recursion_from_All _ uid (λ k d inside same. omega (arith, (id_characters uid legal k d inside).0, same, below))
@@ -169,11 +160,11 @@ body_text (IntentLine i) behind = intent_split i behind ∙ sym (simp append_ass
 
 same_fields : (a b : List ℕ) (fs gs : List (List ℕ)) → AllByRecursion (HasNo 32) (a ∷ fs) → AllByRecursion (HasNo 32) (b ∷ gs) → joined a fs ≡ joined b gs → (a ≡ b) × (fs ≡ gs)
 same_fields a b [] [] p q e = (e, refl)
-same_fields a b [] (d ∷ gs) p q e = absurd (uncut 32 b _ a p.0 e)
-same_fields a b (c ∷ fs) [] p q e = absurd (uncut 32 a _ b q.0 (sym e))
+same_fields a b [] (d ∷ gs) p q e = absurd (uncut 32 b (joined d gs) (subst (HasNo 32) e p.0))
+same_fields a b (c ∷ fs) [] p q e = absurd (uncut 32 a (joined c fs) (subst (HasNo 32) (sym e) q.0))
 same_fields a b (c ∷ fs) (d ∷ gs) p q e =
-    let parts = cut_unique 32 a b _ _ p.0 q.0 e in
-    let rest = same_fields c d fs gs p.1 q.1 parts.1 in
+    let parts = cut_unique 32 32 a b _ _ p.0 q.0 e in
+    let rest = same_fields c d fs gs p.1 q.1 parts.2 in
     (parts.0, ap₂ (λ (x : List ℕ) (xs : List (List ℕ)). x ∷ xs) rest.0 rest.1)
 
 same_line : (a b : Line) → IsLine a → IsLine b → (fields a).0 ≡ (fields b).0 → (fields a).1 ≡ (fields b).1 → a ≡ b
@@ -192,26 +183,26 @@ same_line a b is_a is_b first rest = absurd cc
 
 pub text_unique : (a b : Line) (x y : List ℕ) → IsLine a → IsLine b → text_of a ++ x ≡ text_of b ++ y → (a ≡ b) × (x ≡ y)
 text_unique a b x y is_a is_b e =
-    let cut = cut_unique 10 (body a) (body b) x y (clean_body a is_a 10 (omega arith)) (clean_body b is_b 10 (omega arith)) (sym (body_text a x) ∙ e ∙ body_text b y) in
+    let cut = cut_unique 10 10 (body a) (body b) x y (clean_body a is_a 10 (omega arith)) (clean_body b is_b 10 (omega arith)) (sym (body_text a x) ∙ e ∙ body_text b y) in
     let same = same_fields _ _ _ _ (clean_fields a is_a 32 (omega arith)) (clean_fields b is_b 32 (omega arith)) cut.0 in
-    (same_line a b is_a is_b same.0 same.1, cut.1)
+    (same_line a b is_a is_b same.0 same.1, cut.2)
 
 -- what has no LF holds no line
 pub no_line : (rest : List ℕ) → HasNo 10 rest → (line : Line) (behind : List ℕ) → IsLine line → rest ≡ text_of line ++ behind → ⊥
-no_line rest none line behind is e = uncut 10 (body line) behind rest none (e ∙ body_text line behind)
+no_line rest none line behind is e = uncut 10 (body line) behind (subst (HasNo 10) (e ∙ body_text line behind) none)
 
 -- ---- the fields that a reader takes
 
 -- what follows a legal id and a space
 pub behind_id : (line uid rest expected tail : List ℕ) → IsLegalId uid → IsLegalId expected → line ≡ uid ++ 32 ∷ rest → line ≡ expected ++ 32 ∷ tail → rest ≡ tail
-behind_id line uid rest expected tail legal legal' cut e = (cut_unique 32 uid expected rest tail (HasNo-id 32 (omega arith) uid legal) (HasNo-id 32 (omega arith) expected legal') (sym cut ∙ e)).1
+behind_id line uid rest expected tail legal legal' cut e = (cut_unique 32 32 uid expected rest tail (HasNo-id 32 (omega arith) uid legal) (HasNo-id 32 (omega arith) expected legal') (sym cut ∙ e)).2
 
 -- a number and what follows its separator
 pub number_behind : (s : ℕ) (line : List ℕ) (number : ℕ) (rest : List ℕ) (expected : ℕ) (tail : List ℕ) → s < 48 → number < 2 ^ 64 → expected < 2 ^ 64
     → line ≡ decimal number ++ s ∷ rest → line ≡ decimal expected ++ s ∷ tail → (number ≡ expected) × (rest ≡ tail)
 number_behind s line number rest expected tail small fits fits' cut e =
-    let parts = cut_unique s (decimal number) (decimal expected) rest tail (HasNo-decimal s small number fits) (HasNo-decimal s small expected fits') (sym cut ∙ e) in
-    (decimal_injective number expected fits fits' parts.0, parts.1)
+    let parts = cut_unique s s (decimal number) (decimal expected) rest tail (HasNo-decimal s small number fits) (HasNo-decimal s small expected fits') (sym cut ∙ e) in
+    (decimal_injective number expected fits fits' parts.0, parts.2)
 
 -- what was stripped
 pub stripped : (prefix bytes : List ℕ) (rest : Bor (List ℕ)) → MatchOption (Some rest) (pointwise nat_eq (take (length prefix) bytes) prefix ≡ false) (λ x. (pointwise nat_eq (take (length prefix) bytes) prefix ≡ true) × (x.now ≡ drop (length prefix) bytes) × (length x.now + length prefix ≡ length bytes)) → bytes ≡ prefix ++ rest.now
@@ -219,10 +210,10 @@ stripped prefix bytes rest cases = strip_prefix_is Decides-eqb bytes prefix (Som
 
 -- the fields that are cut at a separator
 pub field_id : (line uid rest expected tail : List ℕ) → line ≡ uid ++ 32 ∷ rest → All (λ byte. byte ≢ 32) uid → IsLegalId expected → line ≡ expected ++ 32 ∷ tail → uid ≡ expected
-field_id line uid rest expected tail cut none legal e = (cut_unique 32 uid expected rest tail (recursion_from_All _ uid none) (HasNo-id 32 (omega arith) expected legal) (sym cut ∙ e)).0
+field_id line uid rest expected tail cut none legal e = (cut_unique 32 32 uid expected rest tail (recursion_from_All _ uid none) (HasNo-id 32 (omega arith) expected legal) (sym cut ∙ e)).0
 
 pub field_number : (s : ℕ) (line number rest : List ℕ) (n : ℕ) (tail : List ℕ) → s < 48 → n < 2 ^ 64 → line ≡ number ++ s ∷ rest → All (λ byte. byte ≢ s) number → line ≡ decimal n ++ s ∷ tail → number ≡ decimal n
-field_number s line number rest n tail small fits cut none e = (cut_unique s number (decimal n) rest tail (recursion_from_All _ number none) (HasNo-decimal s small n fits) (sym cut ∙ e)).0
+field_number s line number rest n tail small fits cut none e = (cut_unique s s number (decimal n) rest tail (recursion_from_All _ number none) (HasNo-decimal s small n fits) (sym cut ∙ e)).0
 
 pub no_field : (s : ℕ) (line expected tail : List ℕ) → All (λ byte. byte ≢ s) line → line ≡ expected ++ s ∷ tail → ⊥
-no_field s line expected tail none e = uncut s expected tail line (recursion_from_All _ line none) e
+no_field s line expected tail none e = uncut s expected tail (subst (HasNo s) e (recursion_from_All _ line none))

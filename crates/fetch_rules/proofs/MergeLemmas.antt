@@ -2,18 +2,17 @@
 use Rattle.std.proofs.Common.{All, Bool, List, [], ap, append-nil, append_assoc, ap₂, arith, bytes_eq, cond, false, filter, get_or, inl, inr, length, map, not, refl, sym, take, take_all, true, true≢false, zip, ℕ, ◌&&◌, ◌++◌, ◌+◌, ◌<◌, ◌||◌, ◌∙◌, ◌∷◌, ◌≡◌, ◌≢◌, ◌≤◌, ◌⊎◌, None, flat_map, length-append, subst, suc, zero, ◌==◌}
 use Rattle.mail_terms.specs.Listing.{Item, has_item, ids_of, is_flagged}
 use Rattle.mail_terms.specs.UniqueId.{has_id}
-use Rattle.std.proofs.Math.Bool.{or-false, or-true, or_assoc}
+use Rattle.std.proofs.Math.Bool.{and-false, or-false, or-true, or_assoc}
 use Rattle.std.proofs.lemmas.Bool.{OnFalse_at, OnTrue_at, and_parts, cases_Bool, cond_both, or_cases, or_from, or_left, or_parts, or_right, true_from_ne_false, and_from, eq-eqb}
 use Rattle.std.proofs.lemmas.Cmp.{nat_list_eq_equiv}
 use Rattle.std.proofs.lemmas.List.{length-map, map-append, map_more, flat_map_more, length-take, take_more}
-use Rattle.std.proofs.lemmas.List.Elements.{All-cons, All-head, All-map, filter-append}
-use Rattle.std.proofs.lemmas.List.Folds.{Any-from_list_any, list_any-append, list_any_at, list_any_more, map_fixed}
-use Rattle.std.proofs.lemmas.List.Kept.{AllPairs-cons}
+use Rattle.std.proofs.lemmas.List.Elements.{All-from_recursion, recursion_from_All, filter-append}
+use Rattle.std.proofs.lemmas.List.Folds.{Any-from_list_any, list_any-append, list_any_more, map_fixed}
 use Rattle.std.proofs.lemmas.Map.Made.{alike_from_same, is_member-filter, length-le_from_is_member}
 use Rattle.std.proofs.lemmas.Slice.Eq.{bytes_eq-Decides}
 use Rattle.std.proofs.lemmas.Slice.Zip.{get_or-zip, length-zip}
 use Rattle.std.specs.Bool.{OnFalse, OnTrue}
-use Rattle.std.specs.List.{list_any}
+use Rattle.std.specs.List.{AllByRecursion, IsDistinct, list_any}
 use mathlib.Core.List.{map-map}
 use Rattle.fetch_rules.specs.Record.{IsRecord, IsRow, Row, distinct_ids, has_row, is_delivered, is_of, marked, merged, new_ids, undelivered, with_delivered, with_held}
 use Rattle.fetch_rules.specs.RecordFile.{changed, Two, line_of, written}
@@ -65,34 +64,39 @@ new_of-push rows ids uid = rw (distinct_ids-push ids uid) (elim (cases_Bool (has
 abbrev pub HasAdded : List Row → List Item → ℕ → ℕ → List Row → Type 0
 HasAdded rows listing now i new = new ≡ rows ++ map (undelivered now) (new_ids rows (take i listing))
 
-has_row-added : (rows : List Row) (listing : List Item) (now i : ℕ) (new : List Row) (uid : List ℕ) → HasAdded rows listing now i new → has_row new uid ≡ (has_row rows uid || has_id (ids_of (take i listing)) uid)
-has_row-added rows listing now i new uid were =
-    ap (λ (rs : List Row). has_row rs uid) were
-    ∙ list_any-append (is_of uid) rows (map (undelivered now) (new_ids rows (take i listing)))
-    ∙ ap (λ (b : Bool). has_row rows uid || b) (any-map (is_of uid) (undelivered now) (new_ids rows (take i listing)) ∙ has_id-new_of rows (ids_of (take i listing)) uid)
+has_row-longer : (rows : List Row) (ids : List (List ℕ)) (now : ℕ) (uid : List ℕ) → has_row (rows ++ map (undelivered now) (new_of rows ids)) uid ≡ has_row rows uid || has_id ids uid
+has_row-longer rows ids now uid =
+    list_any-append (is_of uid) rows (map (undelivered now) (new_of rows ids))
+    ∙ ap (λ (b : Bool). has_row rows uid || b) (any-map (is_of uid) (undelivered now) (new_of rows ids) ∙ has_id-new_of rows ids uid)
     ∙ grind arith
 
 pub added_next : (rows : List Row) (listing : List Item) (now i : ℕ) (new : List Row) (uid : List ℕ) → HasAdded rows listing now i new → ((d : Item) → uid ≡ (get_or listing i d).uid) → i < length listing
     → rows ++ map (undelivered now) (new_ids rows (take (i + 1) listing)) ≡ cond (has_row new uid) new (new ++ undelivered now uid ∷ [])
 added_next rows listing now i new uid were at inside =
     ap (λ (ids : List (List ℕ)). rows ++ map (undelivered now) (new_of rows ids)) (map_more (λ (item : Item). item.uid) listing i nobody inside ∙ ap (λ (id : List ℕ). ids_of (take i listing) ++ id ∷ []) (sym (at nobody)))
-    ∙ rw (new_of-push rows (ids_of (take i listing)) uid, has_row-added rows listing now i new uid were) (elim (cases_Bool (has_row rows uid || has_id (ids_of (take i listing)) uid)) [
+    ∙ rw (new_of-push rows (ids_of (take i listing)) uid, ap (λ (rs : List Row). has_row rs uid) were ∙ has_row-longer rows (ids_of (take i listing)) now uid) (elim (cases_Bool (has_row rows uid || has_id (ids_of (take i listing)) uid)) [
       | inl old ↦ rw old (sym were)
       | inr none ↦ rw (none, were, map-append (undelivered now) (new_of rows (ids_of (take i listing))) (uid ∷ []), append_assoc) refl
     ])
 
 -- ---- which rows are delivered after a merge or a mark
 
-pub delivered-with : (t : List ℕ → Bool) (rows : List Row) (uid : List ℕ)
+delivered-with : (t : List ℕ → Bool) (rows : List Row) (uid : List ℕ)
     → is_delivered (map (λ row. with_delivered (t row.uid) row) rows) uid ≡ (is_delivered rows uid || (has_row rows uid && t uid))
 delivered-with t [] uid = refl
 delivered-with t (row ∷ rows) uid =
     let same : bytes_eq uid row.uid ≡ true → t row.uid ≡ t uid = λ e. ap t (sym (same_from_test uid row.uid e)) in
     rw (delivered-with t rows uid) (grind (arith, same))
 
-any-and : (h : List ℕ → Bool) (ids : List (List ℕ)) (uid : List ℕ) → list_any (λ id. bytes_eq uid id && h id) ids ≡ (has_id ids uid && h uid)
-any-and h [] uid = refl
-any-and h (x ∷ xs) uid = let same : bytes_eq uid x ≡ true → h x ≡ h uid = λ e. ap h (sym (same_from_test uid x e)) in rw (any-and h xs uid) (grind (arith, same))
+pub delivered-marked : (rows : List Row) (uid other : List ℕ) → is_delivered (marked rows uid) other ≡ is_delivered rows other || (has_row rows other && bytes_eq uid other)
+delivered-marked rows uid other = delivered-with (bytes_eq uid) rows other
+
+pub has_row-marked : (rows : List Row) (uid other : List ℕ) → has_row (marked rows uid) other ≡ has_row rows other
+has_row-marked rows uid other = any-map _ _ rows
+
+none_new : (now : ℕ) (ids : List (List ℕ)) (uid : List ℕ) → is_delivered (map (undelivered now) ids) uid ≡ false
+none_new now [] uid = refl
+none_new now (id ∷ ids) uid = rw and-false (none_new now ids uid)
 
 flagged_listed : (listing : List Item) (held : List Bool) (uid : List ℕ) → is_flagged listing held uid ≡ true → has_item listing uid ≡ true
 flagged_listed [] held uid flagged = cc
@@ -102,52 +106,46 @@ flagged_listed (item ∷ listing) (flag ∷ held) uid flagged = elim (or_cases (
   | inr further ↦ or_right _ _ (flagged_listed listing held uid further)
 ]
 
--- the row of an id that is new
-abbrev new_row : List Item → List Bool → ℕ → List ℕ → Row
-new_row listing held now uid = record { uid = uid; first_seen = now; delivered = is_flagged listing held uid }
+-- new rows of held ids are delivered
+pub merged_steps : (rows : List Row) (listing : List Item) (held : List Bool) (now : ℕ) → with_held listing held (rows ++ map (undelivered now) (new_ids rows listing)) ≡ merged rows listing held now
+merged_steps rows listing held now =
+    map-append (λ (row : Row). with_delivered (is_flagged listing held row.uid) row) rows (map (undelivered now) (new_ids rows listing))
+    ∙ ap (λ (xs : List Row). with_held listing held rows ++ xs) (map-map (λ (row : Row). with_delivered (is_flagged listing held row.uid) row) (undelivered now) (new_ids rows listing))
 
 pub delivered-merged : (rows : List Row) (listing : List Item) (held : List Bool) (now : ℕ) (uid : List ℕ)
     → is_delivered (merged rows listing held now) uid ≡ is_delivered rows uid || is_flagged listing held uid
 delivered-merged rows listing held now uid =
-    list_any-append (λ row. is_of uid row && row.delivered) (with_held listing held rows) (map (new_row listing held now) (new_ids rows listing))
+    ap (λ (rs : List Row). is_delivered rs uid) (sym (merged_steps rows listing held now))
+    ∙ delivered-with (is_flagged listing held) (rows ++ map (undelivered now) (new_ids rows listing)) uid
     ∙ rw (
-      delivered-with (is_flagged listing held) rows uid,
-      any-map (λ (row : Row). is_of uid row && row.delivered) (new_row listing held now) (new_ids rows listing),
-      any-and (is_flagged listing held) (new_ids rows listing) uid,
-      has_id-new_ids rows listing uid,
+      list_any-append (λ row. is_of uid row && row.delivered) rows (map (undelivered now) (new_ids rows listing)),
+      none_new now (new_ids rows listing) uid,
+      has_row-longer rows (ids_of listing) now uid,
+      any-map (bytes_eq uid) (λ (item : Item). item.uid) listing,
     )
     (let listed = flagged_listed listing held uid in grind (arith, listed))
 
 pub has_row-merged : (rows : List Row) (listing : List Item) (held : List Bool) (now : ℕ) (uid : List ℕ)
     → has_row (merged rows listing held now) uid ≡ has_row rows uid || has_item listing uid
 has_row-merged rows listing held now uid =
-    list_any-append (is_of uid) (with_held listing held rows) (map (new_row listing held now) (new_ids rows listing))
-    ∙ ap₂ ◌||◌ (any-map (is_of uid) (λ (row : Row). with_delivered (is_flagged listing held row.uid) row) rows)
-    (any-map (is_of uid) (new_row listing held now) (new_ids rows listing) ∙ has_id-new_ids rows listing uid)
-    ∙ grind arith
+    ap (λ (rs : List Row). has_row rs uid) (sym (merged_steps rows listing held now))
+    ∙ any-map (is_of uid) (λ (row : Row). with_delivered (is_flagged listing held row.uid) row) (rows ++ map (undelivered now) (new_ids rows listing))
+    ∙ has_row-longer rows (ids_of listing) now uid
+    ∙ ap (λ (b : Bool). has_row rows uid || b) (any-map (bytes_eq uid) (λ (item : Item). item.uid) listing)
 
 -- ---- a merge changes no more rows than the listing has messages
 
-IsRecord-cons : (row : Row) (rows : List Row) → IsRow row → IsRecord rows → has_row rows row.uid ≡ false → IsRecord (row ∷ rows)
-IsRecord-cons row rows is_row is none = record {
-  each = All-cons IsRow row rows is_row is.each;
-  distinct = AllPairs-cons (◌≢◌ {A = List ℕ}) row.uid (map uid_of rows) (All-map (λ uid. row.uid ≢ uid) uid_of rows (λ k d inside same.
-      true≢false (sym (list_any_at (is_of row.uid) rows k d inside (test_from_same row.uid (get_or rows k d).uid same)) ∙ none))) is.distinct;
-}
+ids_among : (P : List ℕ → Type 0) (old new : List Row) → AllByRecursion P (map uid_of new) → AllByRecursion P (map uid_of (changed old new))
+ids_among P (row ∷ old) (next ∷ new) each = cond_both (next.delivered && not row.delivered) _ _ (λ (rs : List Row). AllByRecursion P (map uid_of rs)) (λ now. (each.0, ids_among P old new each.1)) (λ same. ids_among P old new each.1)
+ids_among P (row ∷ old) [] each = tt
+ids_among P [] new each = each
 
-changed_lack : (uid : List ℕ) (old new : List Row) → has_row new uid ≡ false → has_row (changed old new) uid ≡ false
-changed_lack uid [] new lack = lack
-changed_lack uid (row ∷ old) [] lack = refl
-changed_lack uid (row ∷ old) (next ∷ new) lack =
-    let parts = or_parts (is_of uid next) (has_row new uid) lack in
-    cond_both (next.delivered && not row.delivered) _ _ (λ (rs : List Row). has_row rs uid ≡ false) (λ now. or_from _ _ parts.0 (changed_lack uid old new parts.1)) (λ same. changed_lack uid old new parts.1)
-
-pub IsRecord-changed : (old new : List Row) → IsRecord new → IsRecord (changed old new)
-IsRecord-changed (row ∷ old) (next ∷ new) is =
-    let rest = IsRecord-changed old new (rest_of next new is) in
-    cond_both (next.delivered && not row.delivered) _ _ IsRecord
-    (λ now. IsRecord-cons next (changed old new) (All-head IsRow next new is.each) rest (changed_lack next.uid old new (apart next.uid next new is (test_from_same next.uid next.uid refl)))) (λ same. rest)
-IsRecord-changed old new is = is
+changed_are : (old new : List Row) → AllByRecursion IsRow new × IsDistinct bytes_eq (map uid_of new) → AllByRecursion IsRow (changed old new) × IsDistinct bytes_eq (map uid_of (changed old new))
+unfolding IsDistinct
+changed_are (row ∷ old) (next ∷ new) are =
+    let rest = changed_are old new (are.0.1, are.1.1) in
+    cond_both (next.delivered && not row.delivered) _ _ (λ (rs : List Row). AllByRecursion IsRow rs × IsDistinct bytes_eq (map uid_of rs)) (λ now. ((are.0.0, rest.0), (ids_among (λ y. bytes_eq next.uid y ≡ false) old new are.1.0, rest.1))) (λ same. rest)
+changed_are old new are = are
 
 -- the id of each row that a merge changes is listed
 changed_listed : (listing : List Item) (held : List Bool) (old more : List Row) (uid : List ℕ) → (has_row more uid ≡ true → has_item listing uid ≡ true)
@@ -161,10 +159,14 @@ changed_listed listing held (row ∷ old) more uid new there =
       | inr behind ↦ further behind
     ]) (λ same at. further at) there
 
-pub merge_is_short : (rows : List Row) (listing : List Item) (held : List Bool) (now : ℕ) → IsRecord (merged rows listing held now) → length (changed rows (merged rows listing held now)) ≤ length listing
+-- the row of an id that is new
+abbrev new_row : List Item → List Bool → ℕ → List ℕ → Row
+new_row listing held now uid = record { uid = uid; first_seen = now; delivered = is_flagged listing held uid }
+
+merge_is_short : (rows : List Row) (listing : List Item) (held : List Bool) (now : ℕ) → IsRecord (merged rows listing held now) → length (changed rows (merged rows listing held now)) ≤ length listing
 merge_is_short rows listing held now is = omega (
   arith,
-  length-le_from_is_member nat_list_eq_equiv (map uid_of group) (ids_of listing) (ids_distinct group (IsRecord-changed rows (merged rows listing held now) is)) (λ uid there.
+  length-le_from_is_member nat_list_eq_equiv (map uid_of group) (ids_of listing) (changed_are rows (merged rows listing held now) (recursion_from_All IsRow _ is.each, ids_distinct _ is)).1 (λ uid there.
       any-map (bytes_eq uid) (λ (item : Item). item.uid) listing ∙ changed_listed listing held rows _ uid
       (λ at. (and_parts _ _ (sym (any-map (is_of uid) (new_row listing held now) (new_ids rows listing) ∙ has_id-new_ids rows listing uid) ∙ at)).0)
       (sym (any-map (bytes_eq uid) uid_of group) ∙ there)),
@@ -290,14 +292,6 @@ module _ (listing : List Item) (held : List Bool) (i : ℕ) (same : length held 
       added id ∙ rw (were id, list_any_more (stands_for id) (zip listing held) i (nobody, false) within, next_is, ← at nobody, nat_list_eq_equiv.symm uid id)
       (grind (arith, same, b_is))
 
--- new rows of held ids are delivered
-pub merged_from_steps : (rows : List Row) (listing : List Item) (held : List Bool) (now : ℕ) (longer new : List Row)
-    → longer ≡ rows ++ map (undelivered now) (new_ids rows listing) → new ≡ with_held listing held longer → new ≡ merged rows listing held now
-merged_from_steps rows listing held now longer new longer_is new_is =
-    new_is ∙ ap (with_held listing held) longer_is
-    ∙ map-append (λ (row : Row). with_delivered (is_flagged listing held row.uid) row) rows (map (undelivered now) (new_ids rows listing))
-    ∙ ap (λ (xs : List Row). with_held listing held rows ++ xs) (map-map (λ (row : Row). with_delivered (is_flagged listing held row.uid) row) (undelivered now) (new_ids rows listing))
-
 -- a record's first rows are those of an older one, some of them delivered since
 abbrev pub GrewFrom : List Row → List Row → Type 0
 GrewFrom [] new = Unit {0}
@@ -374,7 +368,7 @@ leads front (row ∷ old) (next ∷ new) is grew =
     (λ none. subst (λ (r : Row). Leads (front ++ r ∷ old) (changed old new) (front ++ next ∷ new)) (λ i. record { uid = grew.0 i; first_seen = grew.1 i; delivered = stayed row.delivered next.delivered grew.2 none i }) rest)
 
 updates : (old new : List Row) → IsRecord new → GrewFrom old new → length (changed old new) ≤ 100000 → Updates old None (written (changed old new)) new None
-updates old new is grew short = by (changed old new) short (leads [] old new is grew) (IsRecord-changed old new is).each
+updates old new is grew short = by (changed old new) short (leads [] old new is grew) (All-from_recursion IsRow _ (changed_are old new (recursion_from_All IsRow _ is.each, ids_distinct _ is)).0)
   where
     by : (group : List Row) → length group ≤ 100000 → Leads old group new → All IsRow group → Updates old None (written group) new None
     by [] short' leads' each = inl (refl, sym leads'.ends, refl)
@@ -427,7 +421,11 @@ module _ (count : ℕ) (f : Row → Bool) (rows : List Row) (i changes : ℕ) (l
         lines_are ∙ ap (λ (xs : List ℕ). xs ++ line_of (now_of f row)) were.1 ∙ flat_map_more line_of [] group (now_of f row),
       )
 
-pub merge_updates : (rows new : List Row) (listing : List Item) (held : List Bool) (now : ℕ) → new ≡ merged rows listing held now → IsRecord new → length listing ≤ 100000 → Updates rows None (written (changed rows new)) new None
-merge_updates rows new listing held now new_is is short =
-    let good : IsRecord (merged rows listing held now) = subst IsRecord new_is is in
-    rw new_is (updates rows (merged rows listing held now) good (GrewFrom-more (λ (row : Row). is_flagged listing held row.uid) rows _) (omega (arith, short, merge_is_short rows listing held now good)))
+pub merge_updates : (rows longer new : List Row) (listing : List Item) (held : List Bool) (now : ℕ) → longer ≡ rows ++ map (undelivered now) (new_ids rows listing) → new ≡ with_held listing held longer → IsRecord new → length listing ≤ 100000
+    → Updates rows None (written (changed rows new)) new None
+merge_updates rows longer new listing held now longer_is new_is is short =
+    let all = new_is ∙ ap (with_held listing held) longer_is ∙ merged_steps rows listing held now in
+    let good : IsRecord (merged rows listing held now) = subst IsRecord all is in
+    rw all (updates rows (merged rows listing held now) good (GrewFrom-more (λ (row : Row). is_flagged listing held row.uid) rows _) (omega (arith, short, merge_is_short rows listing held now good)))
+
+pub ruleset merge_laws = (delivered-merged, has_row-merged, known_merge, known_has_row, delivered-marked, has_row-marked)

@@ -178,7 +178,7 @@ first_of settings rows front is i now fetched =
     rw (take_at front (i ∷ is) (length front + 1 - 1) (omega arith)) at (not-true (has_item (take (length front + 1 - 1) (front ++ i ∷ is)) i.uid)
     (and_parts (is_first (front ++ i ∷ is) (length front + 1, i)) (is_asked_for settings rows (length front + 1, i)) (rw here at candidate)).0)
 
-pub firsts_from : (settings : Settings) (rows : List Row) (listing front rest : List Item) (now k : ℕ) → listing ≡ front ++ rest → k ≡ length front + 1
+firsts_from : (settings : Settings) (rows : List Row) (listing front rest : List Item) (now k : ℕ) → listing ≡ front ++ rest → k ≡ length front + 1
     → FetchesFirsts front (map (step_of settings rows listing now) (enumerate_from k rest)) rest
 firsts_from settings rows listing front [] now k is at = tt
 firsts_from settings rows listing front (i ∷ rest) now k is at = (
@@ -186,6 +186,9 @@ firsts_from settings rows listing front (i ∷ rest) now k is at = (
       (ap (λ (l : List Item). (step_of settings rows l now (length front + 1, i)).retrieve) (sym is) ∙ ap (λ (n : ℕ). (step_of settings rows listing now (n, i)).retrieve) (sym at) ∙ fetched),
   firsts_from settings rows listing (front ++ i ∷ []) rest now (k + 1) (is ∙ sym (append_assoc front (i ∷ []) rest)) (omega (arith, at, length-append front (i ∷ []))),
 )
+
+pub firsts_planned : (settings : Settings) (rows : List Row) (listing : List Item) (now : ℕ) → FetchesFirsts [] (planned settings rows listing now) listing
+firsts_planned settings rows listing now = firsts_from settings rows listing [] listing now 1 refl (omega arith)
 
 -- ---- loops that fill a set of ids from the front or from the back
 
@@ -331,18 +334,20 @@ joined_once n uids sizes a b p q = ext_get_or nobody a b (p.count ∙ sym q.coun
     let sizes' = same_at (λ (row : ScanRow). row.number) (λ row. row.size) sizes n k (λ j. (get_or a j nobody).size) (λ j. (get_or b j nobody).size) p.agree.1 within (λ j row below. p.octets j row below nobody) (λ j row below. q.octets j row below nobody) in
     λ i. record { uid = ids i; size = sizes' i })
 
+pub ruleset plan_laws = (firsts_planned, retrieved-planned, candidates-distinct)
+
 -- ---- ids in a set that compares them
 
 abbrev pub has_key : List (Bor (List ℕ)) → List ℕ → Bool
 has_key keys uid = list_any (λ other. is_eq (slice_cmp nat_cmp uid other.now)) keys
 
-pub has_id-keys : (uid : List ℕ) (keys : List (Bor (List ℕ))) → has_key keys uid ≡ has_id (map (λ id. id.now) keys) uid
-has_id-keys uid [] = refl
-has_id-keys uid (key ∷ keys) = rw (is_eq-slice_cmp uid key.now, has_id-keys uid keys) refl
+pub has_id_keys : (uid : List ℕ) (keys : List (Bor (List ℕ))) → has_key keys uid ≡ has_id (map (λ id. id.now) keys) uid
+has_id_keys uid [] = refl
+has_id_keys uid (key ∷ keys) = rw (is_eq-slice_cmp uid key.now, has_id_keys uid keys) refl
 
-pub has_id-more : (id uid : List ℕ) (keys keys' : List (Bor (List ℕ))) (ids : List (List ℕ)) → map (λ key. key.now) keys ≡ ids
+pub has_id_more : (id uid : List ℕ) (keys keys' : List (Bor (List ℕ))) (ids : List (List ℕ)) → map (λ key. key.now) keys ≡ ids
     → has_key keys' id ≡ cond (is_eq (slice_cmp nat_cmp uid id)) true (has_key keys id)
     → has_id (map (λ key. key.now) keys') id ≡ (bytes_eq id uid || has_id ids id)
-has_id-more id uid keys keys' ids ids_are updated =
-    sym (has_id-keys id keys') ∙ updated
-    ∙ rw (is_eq-slice_cmp uid id, nat_list_eq_equiv.symm uid id, has_id-keys id keys, ids_are) (grind arith)
+has_id_more id uid keys keys' ids ids_are updated =
+    sym (has_id_keys id keys') ∙ updated
+    ∙ rw (is_eq-slice_cmp uid id, nat_list_eq_equiv.symm uid id, has_id_keys id keys, ids_are) (grind arith)

@@ -1,5 +1,5 @@
 -- Ids, and the record's rows: their ids and their delivery, as the entries of a map, and as the reader takes them.
-use Rattle.std.proofs.Common.{All, Bool, Global, HoldsAt, IfNone, IfSome, List, None, Option, Some, String, [], ap, ap₂, arith, bytes_eq, cond, false, filter, get_or, inl, inr, is_some, length, length-append, map, not, position, refl, string_bytes, subst, suc, sym, take, true, true≢false, zero, ℕ, ◌&&◌, ◌++◌, ◌<◌, ◌==◌, ◌^◌, ◌||◌, ◌∙◌, ◌∷◌, ◌≡◌, ◌≢◌, ◌⊎◌, ◌≤◌, nat_le, IsAscii}
+use Rattle.std.proofs.Common.{All, Bool, Global, HoldsAt, IfNone, IfSome, List, None, Option, Some, String, [], ap, ap₂, arith, bytes_eq, cond, false, filter, get_or, inl, inr, is_some, length, length-append, map, not, position, refl, string_bytes, subst, suc, sym, take, true, true≢false, zero, ℕ, ◌&&◌, ◌++◌, ◌<◌, ◌==◌, ◌^◌, ◌||◌, ◌∙◌, ◌∷◌, ◌≡◌, ◌≢◌, ◌⊎◌, ◌≤◌, nat_le, IsUtf8}
 use Rattle.indexmap.proofs.MapLemmas.{absent_from_lookup, insert_entry-absent}
 use Rattle.indexmap.specs.IndexMap.{insert_entry}
 use Rattle.mail_terms.specs.Distinct.{AreDistinct}
@@ -7,7 +7,7 @@ use Rattle.mail_terms.specs.Listing.{Item, is_flagged}
 use Rattle.mail_terms.specs.UniqueId.{IsLegalId, is_id_byte}
 use Rattle.std.proofs.Math.Bool.{and-not_self, or-false, or-true}
 use Rattle.std.proofs.Math.Seq.{get_or-append_seam}
-use Rattle.std.proofs.lemmas.Bool.{OnTrue_from, and_parts, cases_Bool, cond_both, eq-eqb, eqb-true, false_from_ne_true, not-true, or_parts, or_right, cases_lt, leb-true}
+use Rattle.std.proofs.lemmas.Bool.{and_parts, cases_Bool, cond_both, eq-eqb, eqb-true, false_from_ne_true, or_parts, or_right, cases_lt, leb-true}
 use Rattle.std.proofs.lemmas.Cmp.{nat_list_eq_equiv}
 use Rattle.std.proofs.lemmas.List.{get_or-map, get_or-take, get_or_append_left, length-map, length-take, map-append, take-map, get_or_past}
 use Rattle.std.proofs.lemmas.List.Elements.{All-cons, All-from_recursion, All-head, All-map, All-nil, All-push, All-tail, All-take, All-weaker, recursion_from_All}
@@ -18,7 +18,7 @@ use Rattle.std.proofs.lemmas.Map.Keys.{IsDistinct-push}
 use Rattle.std.proofs.lemmas.Map.Made.{AllPairs-from_IsDistinct, IsDistinct-from_AllPairs}
 use Rattle.std.proofs.lemmas.Option.{none-some, same_Some}
 use Rattle.std.proofs.lemmas.Slice.Eq.{bytes_eq-Decides}
-use Rattle.std.specs.Bool.{OnTrue}
+use Rattle.std.proofs.lemmas.Str.{IsUtf8-from_ascii}
 use Rattle.std.specs.List.{AllByRecursion, IsDistinct, list_any, list_all}
 use Rattle.std.specs.Map.{keys_of, lookup, set_value}
 use mathlib.Core.List.{map-map}
@@ -48,12 +48,12 @@ id_characters id legal = λ k d inside.
     let parts = and_parts (nat_le 0x21 (get_or id k d)) (nat_le (get_or id k d) 0x7E) (AllPass-from_list_all is_id_byte id (and_parts _ (list_all is_id_byte id) legal).1 k d inside) in
     (leb-true 0x21 _ parts.0, leb-true _ 0x7E parts.1)
 
-pub IsAscii-id : (id : List ℕ) → IsLegalId id → IsAscii id
-IsAscii-id id legal k =
+pub utf8_id : (id : List ℕ) → IsLegalId id → IsUtf8 id
+utf8_id id legal = IsUtf8-from_ascii id (λ k.
     elim (cases_lt k (length id)) [
       | inl inside ↦ let within = id_characters id legal k 0 inside in omega (arith, within.1)
       | inr past ↦ let e = get_or_past id k 0 past in omega (arith, e)
-    ]
+    ])
 
 pub any-map : {X Y : Type 0} (p : Y → Bool) (f : X → Y) (xs : List X) → list_any p (map f xs) ≡ list_any (λ x. p (f x)) xs
 any-map p f [] = refl
@@ -107,12 +107,12 @@ pub same_row : (row : Row) (also : Bool) → row.delivered ≡ true → with_del
 same_row row also is = ap (λ (d : Bool). let r : Row = record row { delivered = d } in r) (ap (λ (d : Bool). d || also) is ∙ sym is)
 
 -- nothing is left to be set
-pub with_held-same : (listing : List Item) (held : List Bool) (rows : List Row) → All (λ (row : Row). row.delivered ≡ true) rows → with_held listing held rows ≡ rows
-with_held-same listing held rows all = map_fixed (λ (row : Row). with_delivered (is_flagged listing held row.uid) row) rows (λ k d inside. same_row _ _ (all k d inside))
+pub with_held_same : (listing : List Item) (held : List Bool) (rows : List Row) → All (λ (row : Row). row.delivered ≡ true) rows → with_held listing held rows ≡ rows
+with_held_same listing held rows all = map_fixed (λ (row : Row). with_delivered (is_flagged listing held row.uid) row) rows (λ k d inside. same_row _ _ (all k d inside))
 
-pub changed-same : (rows : List Row) → changed rows rows ≡ []
-changed-same [] = refl
-changed-same (row ∷ rows) = rw and-not_self (changed-same rows)
+pub changed_same : (rows : List Row) → changed rows rows ≡ []
+changed_same [] = refl
+changed_same (row ∷ rows) = rw and-not_self (changed_same rows)
 
 -- ---- the rows of an id
 
@@ -139,22 +139,22 @@ pub none_of : (q : State → Bool) (uid : List ℕ) (rows : List Row) → has_ro
 none_of q uid [] none = refl
 none_of q uid (row ∷ rows) none = let parts = or_parts (is_of uid row) (has_row rows uid) none in rw parts.0 (none_of q uid rows parts.1)
 
-pub state_in-none : (uid : List ℕ) (rows : List Row) → has_row rows uid ≡ false → state_in rows uid ≡ None
-state_in-none uid [] none = refl
-state_in-none uid (row ∷ rows) none = let parts = or_parts (is_of uid row) (has_row rows uid) none in rw parts.0 (state_in-none uid rows parts.1)
+pub state_in_none : (uid : List ℕ) (rows : List Row) → has_row rows uid ≡ false → state_in rows uid ≡ None
+state_in_none uid [] none = refl
+state_in_none uid (row ∷ rows) none = let parts = or_parts (is_of uid row) (has_row rows uid) none in rw parts.0 (state_in_none uid rows parts.1)
 
-pub is_some-state_in : (uid : List ℕ) (rows : List Row) → is_some (state_in rows uid) ≡ has_row rows uid
-is_some-state_in uid [] = refl
-is_some-state_in uid (row ∷ rows) = elim (cases_Bool (is_of uid row)) [
+pub is_some_state_in : (uid : List ℕ) (rows : List Row) → is_some (state_in rows uid) ≡ has_row rows uid
+is_some_state_in uid [] = refl
+is_some_state_in uid (row ∷ rows) = elim (cases_Bool (is_of uid row)) [
   | inl here ↦ rw here refl
-  | inr other ↦ rw other (is_some-state_in uid rows)
+  | inr other ↦ rw other (is_some_state_in uid rows)
 ]
 
 pub has_row-some : (uid : List ℕ) (rows : List Row) (state : State) → state_in rows uid ≡ Some state → has_row rows uid ≡ true
-has_row-some uid rows state found = sym (is_some-state_in uid rows) ∙ ap is_some found
+has_row-some uid rows state found = sym (is_some_state_in uid rows) ∙ ap is_some found
 
-pub has_row-none : (uid : List ℕ) (rows : List Row) → state_in rows uid ≡ None → has_row rows uid ≡ false
-has_row-none uid rows none = sym (is_some-state_in uid rows) ∙ ap is_some none
+pub has_row_none : (uid : List ℕ) (rows : List Row) → state_in rows uid ≡ None → has_row rows uid ≡ false
+has_row_none uid rows none = sym (is_some_state_in uid rows) ∙ ap is_some none
 
 -- the id of a row is legal
 pub legal_of : (rows : List Row) (uid : List ℕ) → IsRecord rows → has_row rows uid ≡ true → IsLegalId uid
@@ -166,10 +166,10 @@ pub illegal : (uid : List ℕ) (rows : List Row) → IsRecord rows → (IsLegalI
 illegal uid rows is bad = false_from_ne_true _ (λ has. bad (legal_of rows uid is has))
 
 pub unmarked_none : (uid : List ℕ) (rows : List Row) → state_in rows uid ≡ None → marked rows uid ≡ rows
-unmarked_none uid rows none = unmarked uid rows (has_row-none uid rows none)
+unmarked_none uid rows none = unmarked uid rows (has_row_none uid rows none)
 
-pub is_delivered-none : (uid : List ℕ) (rows : List Row) → state_in rows uid ≡ None → is_delivered rows uid ≡ false
-is_delivered-none uid rows none = none_of (λ state. state.delivered) uid rows (has_row-none uid rows none)
+pub is_delivered_none : (uid : List ℕ) (rows : List Row) → state_in rows uid ≡ None → is_delivered rows uid ≡ false
+is_delivered_none uid rows none = none_of (λ state. state.delivered) uid rows (has_row_none uid rows none)
 
 abbrev pub now_delivered : List ℕ → State → Row
 now_delivered uid state = record { uid = uid; first_seen = state.first_seen; delivered = true }
@@ -191,7 +191,7 @@ module _ (uid : List ℕ) (rows : List Row) (state : State) (is : IsRecord rows)
   -- what a mark changes
   changed-marked : state.delivered ≡ false → changed rows (marked rows uid) ≡ now_delivered uid state ∷ []
   changed-marked fresh' = by_row (λ rs. changed rs (marked rs uid) ≡ now_delivered uid state ∷ []) uid state
-      (λ rs none. rw (same, fresh', unmarked uid rs none, changed-same rs) refl) (λ row rs test more. rw (test, or-false, and-not_self) more) rows is found
+      (λ rs none. rw (same, fresh', unmarked uid rs none, changed_same rs) refl) (λ row rs test more. rw (test, or-false, and-not_self) more) rows is found
 
   -- the one row of an id after a mark
   filter-marked : filter (is_of uid) (marked rows uid) ≡ now_delivered uid state ∷ []
@@ -199,8 +199,8 @@ module _ (uid : List ℕ) (rows : List Row) (state : State) (is : IsRecord rows)
       (λ rs none. rw (same, or-true, unmarked uid rs none, none_kept uid rs none) refl) (λ row rs test more. rw test more) rows is found
 
   -- an id that was delivered stays as it is
-  pub marked-delivered : state.delivered ≡ true → marked rows uid ≡ rows
-  marked-delivered old = by_row (λ rs. marked rs uid ≡ rs) uid state
+  pub marked_delivered : state.delivered ≡ true → marked rows uid ≡ rows
+  marked_delivered old = by_row (λ rs. marked rs uid ≡ rs) uid state
       (λ rs none. rw (same, or-true, unmarked uid rs none, old) refl) (λ row rs test more. rw (test, or-false, more) refl) rows is found
 
   -- what holds of some row of an id holds of its state
@@ -215,9 +215,11 @@ module _ (uid : List ℕ) (rows : List Row) (state : State) (is : IsRecord rows)
   mark_is_written (Some intent) why = filter-marked
 
   -- what a mark answers
-  pub mark_changes : (new : List Row) → new ≡ marked rows uid → OnTrue (not state.delivered) (new ≢ rows)
-  mark_changes new new_is = OnTrue_from (not state.delivered) (new ≢ rows) (λ new' same'.
-      let e : now_delivered uid state ∷ [] ≡ [] = sym (changed-marked (not-true _ new')) ∙ ap (changed rows) (sym new_is ∙ same') ∙ changed-same rows in cc)
+  pub mark_changes : state.delivered ≡ false → marked rows uid ≢ rows
+  mark_changes new = λ same'. let e : now_delivered uid state ∷ [] ≡ [] = sym (changed-marked new) ∙ ap (changed rows) same' ∙ changed_same rows in cc
+
+  pub is_delivered_some : is_delivered rows uid ≡ state.delivered
+  is_delivered_some = any_of (λ s. s.delivered)
 
   -- what a mark writes is a group, and the rows after it are the marked ones
   pub IsGroup-mark : IsGroup rows (now_delivered uid state ∷ []) × (taken_all rows (now_delivered uid state ∷ []) ≡ marked rows uid)
@@ -229,7 +231,7 @@ module _ (uid : List ℕ) (rows : List Row) (state : State) (is : IsRecord rows)
       )
 
 pub none_written : (intent : Option Intent) (uid : List ℕ) (rows : List Row) → intent ≡ None → written (marking intent uid rows rows) ≡ []
-none_written intent uid rows none = rw (none, changed-same rows) refl
+none_written intent uid rows none = rw (none, changed_same rows) refl
 
 -- a row says of its id whether it was delivered
 pub is_delivered-at : (rows : List Row) (i : ℕ) (d : Row) → IsRecord rows → i < length rows → is_delivered rows (get_or rows i d).uid ≡ (get_or rows i d).delivered
@@ -272,7 +274,7 @@ place_found uid (e ∷ es) (Some i) is =
 
 pub no_place : (uid : List ℕ) (es : List (String Global × State)) (place : Option ℕ) → is_some place ≡ is_some (lookup (λ key. bytes_eq uid (string_bytes key)) es) → IfNone place (has_row (rows_of es) uid ≡ false)
 no_place uid es (Some i) is = tt
-no_place uid es None is = sym (is ∙ ap is_some (lookup_state uid es) ∙ is_some-state_in uid (rows_of es))
+no_place uid es None is = sym (is ∙ ap is_some (lookup_state uid es) ∙ is_some_state_in uid (rows_of es))
 
 -- ---- a row that is added or replaced
 
@@ -320,7 +322,7 @@ module _ {uid : List ℕ} {state : State} {es fs : List (String Global × State)
       ∙ ap₂ marked puts.rows_are puts.key_is
 
   pub put_is_record : (found : Option State) → IsRecord rows → IsRow (row_from uid state) → found ≡ state_in rows uid → IsRecord (rows_of fs)
-  put_is_record None is row_is found_is = rw (put_added None found_is) (IsRecord-push rows (row_from uid state) is row_is (has_row-none uid rows (sym found_is)))
+  put_is_record None is row_is found_is = rw (put_added None found_is) (IsRecord-push rows (row_from uid state) is row_is (has_row_none uid rows (sym found_is)))
   put_is_record (Some old) is row_is found_is =
       let before = subst IsRecord (sym puts.rows_are) is in
       subst (λ (entries : List (String Global × State)). IsRecord (rows_of entries)) (sym (puts.fs_is ∙ insert_is_set puts.key old state es (known_at ∙ sym found_is))) (record {

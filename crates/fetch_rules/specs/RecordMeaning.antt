@@ -43,14 +43,10 @@ pub data Judged : Type 0 where
   Stands : (progress : Progress) → Judged
   Fails : (fault : SeenFault) → Judged
 
--- the greatest number of a line, which has 32 bits
-abbrev pub greatest_line : ℕ
-greatest_line = 4294967295
-
 -- the number of the line after the header and n lines: lines are counted from 1, and all from the
--- greatest number on have that number
+-- greatest number of 32 bits on have that number
 abbrev pub line_after : ℕ → ℕ
-line_after n = min (n + 2) greatest_line
+line_after n = min (n + 2) 4294967295
 
 -- an intent's line is allowed only in version 2, if no intent is open, and if its id has a row
 abbrev pub after_intent : Version → ℕ → List Row → Option Intent → Intent → Judged

@@ -1,12 +1,25 @@
 //! Sets of unique-ids. Ids are compared and never hashed: a server chooses them.
 
-ghost use Rattle.std.specs.Prelude.{◌≡◌, ◌||◌, not, ℕ, List, Bool, bytes_eq, false, OnOk, IfOk};
+ghost use Rattle.std.specs.Prelude.{◌≡◌, ◌||◌, not, ℕ, List, map, Bool, bytes_eq, false, OnOk, IfOk, IfSome, IfNone};
 ghost use Rattle.mail_terms.specs.UniqueId.{IsLegalId, has_id};
 
-use crate::id_text::text_of;
 use std::alloc::{AllocError, Global};
 use std::collections::BTreeSet;
 use std::marker::Model;
+use std::str;
+
+/// The id as a text, or None if it isn't UTF-8, which every legal id is. std compares and hashes a
+/// text many octets at a time.
+#[tactic(auto, using(crate::proofs::RowLemmas::utf8_id))]
+pub(crate) fn text_of(uid: &[u8]) -> Option<&str>
+    ensures text { IfSome result (λ text. text.now ≡ uid.now) }
+    ensures none { IfNone result (IsLegalId uid.now → ⊥) }
+{
+    match str::from_utf8(uid) {
+        Ok(text) => Some(text),
+        Err(_) => None,
+    }
+}
 
 /// Ids from a listing.
 #[derive(Drop)]
@@ -15,8 +28,6 @@ pub(crate) struct IdSet<'a> {
 }
 
 impl<'a> Model for IdSet<'a> {
-    ghost use Rattle.std.specs.Prelude.{List, ℕ, map};
-
     ghost Value = { List (List ℕ) };
 
     ghost view = { λ set. map (λ id. id.now) set.ids.keys };

@@ -1,13 +1,15 @@
 //! Laws of listings, the record and plans, for the crates above: a function here does nothing, and its
 //! contract is the law.
+#![tactic(auto, using(crate::proofs::PlanLemmas::plan_laws, crate::proofs::MergeLemmas::merge_laws, crate::proofs::MeaningLemmas::file_laws))]
 
 ghost use Rattle.std.specs.Prelude.{◌≡◌, ℕ, ◌&&◌, ◌||◌, Bool, true, List, [], All, bytes_eq};
 ghost use Rattle.mail_terms.specs.Listing.{Item, Joins, has_item, is_flagged};
 ghost use Rattle.fetch_rules.specs.Laws.{FetchesFirsts};
 ghost use Rattle.fetch_rules.specs.Plan.{planned, retrieved};
 ghost use Rattle.fetch_rules.specs.Record.{Row, IsRecord, has_row, is_delivered, marked, merged};
+ghost use Rattle.fetch_rules.specs.RecordGrowth.{AppendedCounts, BytesStand, CutIsIgnored, OneIsRead, OneMeaning, OneRecord, OpenHasRow};
 ghost use Rattle.fetch_rules.specs.RecordTorn.{TornIsIgnoredOrSeen};
-ghost use Rattle.fetch_rules.specs.Wanted.{wanted};
+ghost use Rattle.fetch_rules.specs.Wanted.{DistinctAreFiltered, wanted};
 
 use mail_terms::{ScanRow, UidRow};
 use rc_file::Settings;
@@ -69,4 +71,46 @@ pub fn rows_join_in_one_way()
 /// isn't all of it, counts for nothing; but if a line ends behind a zero in it, the file is refused.
 pub fn torn_is_ignored_or_seen()
     ensures { TornIsIgnoredOrSeen }
+{}
+
+/// Bytes stand for one record at most, or have one first fault.
+pub fn bytes_have_one_meaning()
+    ensures { OneMeaning }
+{}
+
+/// A file stands for one record at most; a missing file stands for the empty record.
+pub fn files_stand_for_one_record()
+    ensures { OneRecord }
+{}
+
+/// What `bytes` writes stands for its record, and isn't torn.
+pub fn bytes_stand()
+    ensures { BytesStand }
+{}
+
+/// What `merge_rows`, `mark_rows` or `intend` gave, appended whole to a file of version 2
+/// that is neither empty nor torn, makes it stand for the new record.
+pub fn appended_counts()
+    ensures { AppendedCounts }
+{}
+
+/// Appended there only in part, it counts for nothing and is a torn end.
+pub fn cut_is_ignored()
+    ensures { CutIsIgnored }
+{}
+
+/// A file of version 1 is read as one of version 2 with the same rows, and no intent is open.
+pub fn older_files_are_read()
+    ensures { OneIsRead }
+{}
+
+/// The id of an open intent has a row.
+pub fn open_intents_have_rows()
+    ensures { OpenHasRow }
+{}
+
+/// If no id occurs twice in a listing, what may be fetched is a plain filter of it, by each
+/// message's size and what is recorded of its id.
+pub fn distinct_messages_are_filtered()
+    ensures { DistinctAreFiltered }
 {}

@@ -5,15 +5,16 @@
 #![tactic(auto)]
 
 mod id_set;
-mod id_text;
 mod laws;
 mod occurrence;
 mod seen;
 mod steps;
 
 pub use laws::{
-    delivered_has_row, firsts_are_fetched, held_is_delivered, known_listings_change_nothing,
-    listed_has_row, marked_is_delivered, marked_keeps_rows, plans_fetch_wanted,
+    appended_counts, bytes_have_one_meaning, bytes_stand, cut_is_ignored, delivered_has_row,
+    distinct_messages_are_filtered, files_stand_for_one_record, firsts_are_fetched,
+    held_is_delivered, known_listings_change_nothing, listed_has_row, marked_is_delivered,
+    marked_keeps_rows, older_files_are_read, open_intents_have_rows, plans_fetch_wanted,
     rows_join_in_one_way, torn_is_ignored_or_seen,
 };
 pub use mail_terms::{
@@ -23,10 +24,5 @@ pub use rc_file::{
     Dest, Flags, Key, RcFault, Section, Settings, Warning, full_path, override_with, rc_text,
     read_rc, warning_text,
 };
-pub use seen::{
-    Intent, Seen, SeenFault, appended_counts, bytes_have_one_meaning, bytes_stand, cut_is_ignored,
-    files_stand_for_one_record, older_files_are_read, open_intents_have_rows,
-};
-pub use steps::{
-    SECONDS_PER_DAY, Step, ask_nothing, distinct_messages_are_filtered, plan, plan_of_known,
-};
+pub use seen::{Intent, Seen, SeenFault};
+pub use steps::{SECONDS_PER_DAY, Step, ask_nothing, plan, plan_of_known};

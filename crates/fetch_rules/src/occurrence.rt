@@ -8,8 +8,7 @@ ghost use Rattle.std.specs.Ordering.{nat_cmp};
 ghost use Rattle.std.specs.declared.cmp.Ordering.TheVariants.{Less};
 ghost use Rattle.mail_terms.specs.Listing.{HasDistinctIds, numbered, is_first, is_last};
 
-use crate::id_set::IdSet;
-use crate::id_text::text_of;
+use crate::id_set::{IdSet, text_of};
 use mail_terms::Listing;
 use std::alloc::{AllocError, Global};
 use std::cmp::Ordering;

@@ -2,18 +2,16 @@
 
 ghost use Rattle.std.specs.Prelude.{◌≡◌, ◌≢◌, ◌&&◌, ◌||◌, ◌↔◌, not, true, All, IsTrue, Some, None, length, OnErr, OnOk, IfOk, IfErr};
 ghost use Rattle.std.specs.Bool.{OnTrue, OnFalse};
-ghost use Rattle.fetch_rules.specs.Record.{IsRecord, empty, has_row, is_delivered, first_seen_of, marked, merged};
+ghost use Rattle.fetch_rules.specs.Record.{IsRecord, IntentHasRow, Loaded, empty, has_row, is_delivered, first_seen_of, marked, merged};
 ghost use Rattle.fetch_rules.specs.Intents.{ReadAs, IsNoneOrOf, intent_of, intent_in, has_intent, is_older, closed_rows};
 ghost use Rattle.fetch_rules.specs.Lines.{open_seen, intent_seen, version_of};
 ghost use Rattle.fetch_rules.specs.RecordFile.{changed, marking, written, file_of, intent_line};
 ghost use Rattle.fetch_rules.specs.RecordMeaning.{Means, Fault};
-ghost use Rattle.fetch_rules.specs.RecordGrowth.{Updates, OneMeaning, OneRecord, BytesStand};
-ghost use Rattle.fetch_rules.specs.RecordGrowth.{AppendedCounts, CutIsIgnored, OneIsRead, OpenHasRow};
+ghost use Rattle.fetch_rules.specs.RecordGrowth.{Updates};
 
 mod change;
 mod field;
 mod line;
-mod outgrown;
 mod reading;
 mod row_map;
 
@@ -115,9 +113,6 @@ fn copied(alloc: Global, found: Option<Intent<'_>>) -> Result<Option<OwnedIntent
 }
 
 impl<H: BuildHasher> Model for Seen<H> {
-    ghost use Rattle.fetch_rules.specs.Record.{Loaded, IsRecord, IntentHasRow};
-    ghost use Rattle.fetch_rules.specs.Intents.{intent_in};
-
     ghost Value = { Loaded };
 
     ghost view = { λ seen. record { rows = seen.rows; intent = intent_in seen.intent; stale = seen.stale } };
@@ -305,6 +300,7 @@ impl<H: BuildHasher> Seen<H> {
     /// appended to the record's file: empty if none changed. An open intent, which must be this
     /// id's, is ended, and the group then always has the id's row. If memory runs out nothing has
     /// changed.
+    #[tactic(auto, using(crate::proofs::RowLemmas::unmarked_none, crate::proofs::RowLemmas::marked_delivered, crate::proofs::RowLemmas::has_row_none, crate::proofs::RowLemmas::none_written, crate::proofs::MeaningLemmas::none_without_row))]
     pub fn mark_rows(&mut self, uid: &[u8]) -> Result<Vec<u8>, AllocError>
         requires { IsNoneOrOf uid.now self.old.intent }
         ensures after { OnOk result (self.new ≡ record self.old { rows = marked self.old.rows uid.now; intent = None }) }
@@ -332,6 +328,7 @@ impl<H: BuildHasher> Seen<H> {
     /// Takes in a listing: sets delivered for each id that the flags, one for each item, call held,
     /// and adds a row, first seen at `now` seconds since 1970, for each id that has none. Returns
     /// whether a row was added or changed. If memory runs out nothing has changed.
+    #[tactic(auto, using(crate::proofs::MergeLemmas::merged_steps))]
     pub fn merge(&mut self, listing: &Listing, held: &[bool], now: u64) -> Result<bool, AllocError>
         requires lengths { length held.now ≡ length listing.now }
         requires closed { self.old.intent ≡ None }
@@ -352,6 +349,7 @@ impl<H: BuildHasher> Seen<H> {
     /// As `merge`, but gives the group of the rows that were added or changed, in the record's
     /// order, to be appended to the record's file: empty if there are none. If memory runs out
     /// nothing has changed.
+    #[tactic(auto, using(crate::proofs::MergeLemmas::merged_steps))]
     pub fn merge_rows(
         &mut self,
         listing: &Listing,
@@ -380,39 +378,3 @@ impl<H: BuildHasher> Seen<H> {
         }
     }
 }
-
-/// A law: bytes stand for one record at most, or have one first fault.
-pub fn bytes_have_one_meaning()
-    ensures { OneMeaning }
-{}
-
-/// A law: a file stands for one record at most; a missing file stands for the empty record.
-pub fn files_stand_for_one_record()
-    ensures { OneRecord }
-{}
-
-/// A law: what `bytes` writes stands for its record, and isn't torn.
-pub fn bytes_stand()
-    ensures { BytesStand }
-{}
-
-/// A law: what `merge_rows`, `mark_rows` or `intend` gave, appended whole to a file of version 2
-/// that is neither empty nor torn, makes it stand for the new record.
-pub fn appended_counts()
-    ensures { AppendedCounts }
-{}
-
-/// A law: appended there only in part, it counts for nothing and is a torn end.
-pub fn cut_is_ignored()
-    ensures { CutIsIgnored }
-{}
-
-/// A law: a file of version 1 is read as one of version 2 with the same rows, and no intent is open.
-pub fn older_files_are_read()
-    ensures { OneIsRead }
-{}
-
-/// A law: the id of an open intent has a row.
-pub fn open_intents_have_rows()
-    ensures { OpenHasRow }
-{}

@@ -3,7 +3,7 @@
 ghost use Rattle.std.specs.Prelude.{◌≡◌, ◌==◌, false, nat_lt, ◌+◌, ◌<◌, ◌&&◌, ◌||◌, ◌↔◌, true, length, map, All, IsTrue, HoldsAt, IfOk};
 ghost use Rattle.mail_terms.specs.Listing.{numbered, is_last};
 ghost use Rattle.fetch_rules.specs.Record.{is_delivered};
-ghost use Rattle.fetch_rules.specs.Wanted.{is_asked_for, wanted, DistinctAreFiltered};
+ghost use Rattle.fetch_rules.specs.Wanted.{is_asked_for, wanted};
 ghost use Rattle.fetch_rules.specs.Due.{is_due, may_delete};
 ghost use Rattle.fetch_rules.specs.Plan.{IsQuiet, seen_since, planned, retrieved};
 
@@ -46,6 +46,7 @@ fn may_delete(settings: &Settings) -> bool
 
 /// For each message, whether no later one has its id. If nothing may be deleted the flags aren't
 /// used, and mean nothing.
+#[tactic(auto, using(crate::proofs::PlanLemmas::flags_count))]
 fn lasts_where_asked(
     alloc: Global,
     settings: &Settings,
@@ -61,44 +62,49 @@ fn lasts_where_asked(
     Ok(flags)
 }
 
-/// Whether the message of number `i + 1` is to be fetched, unless an earlier one has its id.
-fn is_asked_for<H: BuildHasher>(
+/// Whether the message of number `i + 1` may be fetched; `first` says whether it is the first with
+/// its id.
+fn is_candidate<H: BuildHasher>(
     settings: &Settings,
     seen: &Seen<H>,
     listing: &Listing,
+    first: bool,
     i: u32,
 ) -> bool
     requires { i < length listing.now }
-    ensures { HoldsAt (λ item. result ≡ is_asked_for settings.now seen.now.rows (i + 1, item)) listing.now i }
+    ensures { HoldsAt (λ item. result ≡ (first && is_asked_for settings.now seen.now.rows (i + 1, item))) listing.now i }
 {
-    (settings.max_size == 0 || listing.size(i) <= settings.max_size)
+    first
+        && (settings.max_size == 0 || listing.size(i) <= settings.max_size)
         && (settings.read_all || !seen.is_delivered(listing.uid(i)))
 }
 
-/// Whether the message of number `i + 1` is to be deleted, unless another one has its id; `fetched`
-/// says whether it is fetched.
+/// Whether the message of number `i + 1` is to be deleted; `alone` says whether no other message has
+/// its id, and `fetched` whether it is fetched.
 fn is_done_with<H: BuildHasher>(
     settings: &Settings,
     seen: &Seen<H>,
     listing: &Listing,
     now: u64,
+    alone: bool,
     fetched: bool,
     i: u32,
 ) -> bool
     requires { i < length listing.now }
     ensures { HoldsAt (λ item. result ≡ (is_due settings.now now (seen_since seen.now.rows item.uid now)
-        && (is_delivered seen.now.rows item.uid || fetched))) listing.now i }
+        && (is_delivered seen.now.rows item.uid || fetched) && alone)) listing.now i }
 {
     let uid = listing.uid(i);
-    let since = seen.first_seen(uid).unwrap_or(now);
-    is_due(settings, now, since) && (seen.is_delivered(uid) || fetched)
+    alone
+        && is_due(settings, now, seen.first_seen(uid).unwrap_or(now))
+        && (seen.is_delivered(uid) || fetched)
 }
 
-/// Whether one more message may be fetched after this many.
-fn is_below_limit(settings: &Settings, count: u64) -> bool
-    ensures { result ≡ (settings.now.max_count == 0 || nat_lt count settings.now.max_count) }
+/// Whether a candidate may be fetched after this many.
+fn is_below_limit(settings: &Settings, candidate: bool, count: u64) -> bool
+    ensures { result ≡ (candidate && (settings.now.max_count == 0 || nat_lt count settings.now.max_count)) }
 {
-    settings.max_count == 0 || count < settings.max_count
+    candidate && (settings.max_count == 0 || count < settings.max_count)
 }
 
 /// One step for each message of the listing, in order.
@@ -129,9 +135,9 @@ pub fn plan<H: BuildHasher>(
         let first = firsts[i as usize];
         // Both are known: `&&` would only be a branch more to prove.
         let alone = first & lasts[i as usize];
-        let candidate = first && is_asked_for(settings, seen, listing, i);
-        let retrieve = candidate && is_below_limit(settings, candidates);
-        let delete = alone && is_done_with(settings, seen, listing, now, retrieve, i);
+        let candidate = is_candidate(settings, seen, listing, first, i);
+        let retrieve = is_below_limit(settings, candidate, candidates);
+        let delete = is_done_with(settings, seen, listing, now, alone, retrieve, i);
         steps.push(Step {
             number: i + 1,
             retrieve,
@@ -182,9 +188,3 @@ pub fn plan_of_known<H: BuildHasher>(
     }
     Ok(steps)
 }
-
-/// A law: if no id occurs twice in a listing, what may be fetched is a plain filter of it, by each
-/// message's size and what is recorded of its id.
-pub fn distinct_messages_are_filtered()
-    ensures { DistinctAreFiltered }
-{}

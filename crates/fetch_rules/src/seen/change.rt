@@ -33,6 +33,7 @@ fn is_as_before(place: usize, count: usize, old: bool, new: bool) -> bool
 
 impl<H: BuildHasher> RowMap<H> {
     /// Sets delivered for the id, if it has a row. Returns whether this changed the row.
+    #[tactic(auto, using(crate::proofs::RowLemmas::unmarked_none, crate::proofs::RowLemmas::marked_delivered, crate::proofs::RowLemmas::mark_changes))]
     pub(crate) fn mark(&mut self, uid: &[u8]) -> bool
         ensures rows { self.new ≡ marked self.old uid.now }
         ensures changed { OnTrue result (self.new ≢ self.old) }
@@ -67,7 +68,7 @@ impl<H: BuildHasher> RowMap<H> {
                 first_seen: now,
                 delivered: false,
             };
-            self.add(uid, state)?;
+            self.put(uid, state)?;
         }
         Ok(())
     }
@@ -101,6 +102,7 @@ impl<H: BuildHasher> RowMap<H> {
     }
 
     /// Sets delivered for the held items' ids. Returns whether this changed a row.
+    #[tactic(auto, using(crate::proofs::RowLemmas::with_held_same))]
     pub(crate) fn mark_held(&mut self, listing: &Listing, held: &[bool]) -> bool
         requires { length held.now ≡ length listing.now }
         ensures rows { self.new ≡ with_held listing.now held.now self.old }

@@ -1,10 +1,10 @@
 //! Reads the record's file, line by line.
 
-ghost use Rattle.std.specs.Prelude.{◌≡◌, ◌≢◌, ◌≤◌, ◌-◌, ◌++◌, ◌==◌, ◌&&◌, not, true, false, ℕ, List, [], IfOk, IfErr, IfSome, IfNone, OnOk};
-ghost use Rattle.fetch_rules.specs.Record.{IsRow, IsIntent, IsRecord, has_row};
-ghost use Rattle.fetch_rules.specs.RecordFile.{Version, One, Two, header};
+ghost use Rattle.std.specs.Prelude.{◌≡◌, ◌≢◌, ◌≤◌, ◌-◌, ◌++◌, ◌==◌, ◌&&◌, not, true, false, ℕ, List, [], length, IfOk, IfErr, IfSome, IfNone, OnOk};
+ghost use Rattle.fetch_rules.specs.Record.{Row, IsRow, IsRecord};
+ghost use Rattle.fetch_rules.specs.RecordFile.{Version, header};
 ghost use Rattle.fetch_rules.specs.RecordMeaning.{Means, Rows, Fault, has_bytes};
-ghost use Rattle.fetch_rules.specs.Outgrown.{IsOutgrown};
+ghost use Rattle.fetch_rules.specs.Outgrown.{RowsThen, IsOutgrown};
 ghost use Rattle.fetch_rules.specs.Rows.{row_from};
 ghost use Rattle.fetch_rules.specs.Lines.{version_of, intent_seen, open_seen, open_behind};
 ghost use Rattle.fetch_rules.specs.Lines.{behind_base, IsPlaced, is_within, after_row, TakesRow};
@@ -12,10 +12,12 @@ ghost use Rattle.fetch_rules.specs.Lines.{RefusesRow, TakesIntent, RefusesIntent
 
 use crate::seen::SeenFault;
 use crate::seen::line::{HEADER, Intent, Line, OLDER_HEADER, ReadRow, read_line};
-use crate::seen::outgrown::is_outgrown;
 use crate::seen::row_map::{RowMap, State};
 use mail_terms::MESSAGE_LIMIT;
 use std::hash::BuildHasher;
+
+/// A file of at most this many octets is never written anew for what was appended to it.
+const SMALL: usize = 65_536;
 
 /// The part of the file that the next line is in.
 #[derive(Clone, Copy)]
@@ -138,6 +140,20 @@ fn delivers(older: bool, old: State, new: State) -> bool
     ensures { result ≡ (new.delivered && (not (older && old.delivered) && (old.first_seen == new.first_seen))) }
 {
     new.delivered && !(older && old.delivered) && old.first_seen == new.first_seen
+}
+
+/// Whether a file of these lines has more than 65,536 octets, and more of them appended than in the
+/// rows after its header.
+fn is_outgrown(bytes: &[u8], lines: &[u8], appended: &[u8]) -> bool
+    requires whole { (version : Version) × (bytes.now ≡ header version ++ lines.now) }
+    requires parts { (rows : List Row) × RowsThen lines.now rows appended.now }
+    requires fits { length appended.now ≤ length lines.now }
+    ensures { IsOutgrown bytes.now result }
+{
+    if bytes.len() <= SMALL {
+        return false;
+    }
+    lines.len() - appended.len() < appended.len()
 }
 
 /// About how many rows a file has, by the length of its first one: at most as many as a listing may have

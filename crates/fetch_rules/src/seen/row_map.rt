@@ -1,14 +1,14 @@
 //! The rows of a record as a map from id to what is known of its message, in order of first
 //! appearance.
 
-ghost use Rattle.std.specs.Prelude.{◌≡◌, ◌<◌, ◌++◌, [], ◌∷◌, true, false, length, take, OnOk, OnErr, IfOk, IsTrue, HoldsAt, IfSome, IfNone};
-ghost use Rattle.std.specs.Prelude.{flat_map};
+ghost use Rattle.std.specs.Prelude.{◌≡◌, ◌<◌, ◌++◌, [], ◌∷◌, true, false, length, take, OnErr, IfOk, IsTrue, HoldsAt, IfSome, IfNone};
+ghost use Rattle.std.specs.Prelude.{flat_map, List};
 ghost use Rattle.mail_terms.specs.UniqueId.{IsLegalId};
-ghost use Rattle.fetch_rules.specs.Record.{IsRecord, has_row, is_delivered, marked};
+ghost use Rattle.fetch_rules.specs.Record.{Row, IsRecord, has_row, is_delivered, marked};
 ghost use Rattle.fetch_rules.specs.RecordFile.{Two, header, line_of};
-ghost use Rattle.fetch_rules.specs.Rows.{row_from, state_in};
+ghost use Rattle.fetch_rules.specs.Rows.{row_from, rows_of, state_in};
 
-use crate::id_text::{owned_id, text_of};
+use crate::id_set::text_of;
 use crate::seen::line::{HEADER, write_line};
 use indexmap::IndexMap;
 use std::alloc::{AllocError, Global};
@@ -32,10 +32,6 @@ pub(crate) struct RowMap<H: BuildHasher> {
 }
 
 impl<H: BuildHasher> Model for RowMap<H> {
-    ghost use Rattle.std.specs.Prelude.{List};
-    ghost use Rattle.fetch_rules.specs.Record.{Row, IsRecord};
-    ghost use Rattle.fetch_rules.specs.Rows.{rows_of};
-
     ghost Value = { List Row };
 
     ghost view = { λ rows. rows_of rows.states.entries };
@@ -77,6 +73,7 @@ impl<H: BuildHasher> RowMap<H> {
     }
 
     /// Whether an id has a row.
+    #[tactic(auto, using(crate::proofs::RowLemmas::is_some_state_in))]
     pub(crate) fn has(&self, uid: &[u8]) -> bool
         ensures { result ≡ has_row self.now uid.now }
     {
@@ -84,6 +81,7 @@ impl<H: BuildHasher> RowMap<H> {
     }
 
     /// What is known of an id's message, if it has a row.
+    #[tactic(auto, using(crate::proofs::RowLemmas::state_in_none, crate::proofs::RowLemmas::illegal))]
     pub(crate) fn state(&self, uid: &[u8]) -> Option<State>
         ensures value { result ≡ state_in self.now uid.now }
         ensures is_record { IsRecord self.now }
@@ -91,28 +89,22 @@ impl<H: BuildHasher> RowMap<H> {
         self.states.get(text_of(uid)?).copied()
     }
 
-    /// Whether the row at a place is an id's.
-    fn is_at(&self, uid: &[u8], place: usize) -> bool
-        ensures there { IsTrue result → (place < length self.now) × HoldsAt (λ row. row.uid ≡ uid.now) self.now place }
-        ensures is_record { IsRecord self.now }
-    {
-        place < self.len() && self.at(place).0 == uid
-    }
-
     /// The place of an id's row, if it has one. The row at the place `likely` is compared first, and the
     /// id is hashed only if it is another's.
+    #[tactic(auto, using(crate::proofs::RowLemmas::illegal, crate::proofs::RowLemmas::no_place))]
     pub(crate) fn place_of(&self, uid: &[u8], likely: usize) -> Option<usize>
         ensures found { IfSome result (λ place. (place < length self.now) × HoldsAt (λ row. row.uid ≡ uid.now) self.now place) }
         ensures none { IfNone result (has_row self.now uid.now ≡ false) }
         ensures is_record { IsRecord self.now }
     {
-        if self.is_at(uid, likely) {
+        if likely < self.len() && self.at(likely).0 == uid {
             return Some(likely);
         }
         self.states.get_index_of(text_of(uid)?)
     }
 
     /// Whether an id is recorded as delivered.
+    #[tactic(auto, using(crate::proofs::RowLemmas::is_delivered_none, crate::proofs::RowLemmas::is_delivered_some))]
     pub(crate) fn is_delivered(&self, uid: &[u8]) -> bool
         ensures { result ≡ is_delivered self.now uid.now }
     {
@@ -123,6 +115,7 @@ impl<H: BuildHasher> RowMap<H> {
     }
 
     /// Sets delivered for the id, if it has a row.
+    #[tactic(auto, using(crate::proofs::RowLemmas::illegal, crate::proofs::RowLemmas::unmarked))]
     pub(crate) fn set_delivered(&mut self, uid: &[u8])
         ensures rows { self.new ≡ marked self.old uid.now }
         ensures is_record { IsRecord self.new }
@@ -150,20 +143,11 @@ impl<H: BuildHasher> RowMap<H> {
         ensures err { OnErr result (self.new ≡ self.old) }
         ensures is_record { IsRecord self.new }
     {
-        let id = owned_id(self.alloc, uid)?;
+        let Some(text) = text_of(uid) else {
+            unreachable!()
+        };
+        let id = String::from_str(self.alloc, text)?;
         Ok(self.states.insert(id, state)?)
-    }
-
-    /// Adds a row for an id that has none.
-    pub(crate) fn add(&mut self, uid: &[u8], state: State) -> Result<(), AllocError>
-        requires legal { IsLegalId uid.now }
-        requires new { has_row self.old uid.now ≡ false }
-        ensures ok { OnOk result (self.new ≡ self.old ++ row_from uid.now state ∷ []) }
-        ensures err { OnErr result (self.new ≡ self.old) }
-        ensures is_record { IsRecord self.new }
-    {
-        self.put(uid, state)?;
-        Ok(())
     }
 
     /// The rows as a file of version 2.

@@ -1,15 +1,12 @@
-use Rattle.std.proofs.Common.{◌≡◌, ℕ, ◌+◌, Bool, true, false, ◌&&◌, ◌||◌, ◌∙◌, ap, inl, inr, arith, refl, cond, get_or, ◌==◌, nat_lt}
+use Rattle.std.proofs.Common.{◌≡◌, ℕ, ◌+◌, Bool, true, false, ◌&&◌, ◌∙◌, ap, inl, inr, arith, refl, cond, get_or}
 use mir.Val.{bool_byte}
 use Rattle.std.proofs.lemmas.Bool.{cases_Bool}
-use Rattle.std.proofs.Math.Bool.{and_comm, and-false}
 use Rattle.mail_terms.specs.Listing.{Item, is_first, is_last}
-use Rattle.fetch_rules.specs.Record.{is_delivered}
-use Rattle.fetch_rules.specs.Wanted.{is_candidate}
-use Rattle.fetch_rules.specs.Due.{is_due, may_delete}
+use Rattle.fetch_rules.specs.Wanted.{is_asked_for, is_candidate}
+use Rattle.fetch_rules.specs.Due.{may_delete}
 use Rattle.fetch_rules.specs.Plan.{seen_since, is_deleted}
 use Rattle.fetch_rules.proofs.PlanLemmas.{never_due, HasPlanned-more, HasPlanned-all, retrieved-planned, flags_count, flag_at}
 use Rattle.fetch_rules.proofs.steps.plan.Goals as goal
-use Rattle.fetch_rules.proofs.steps.plan.Goals.{then-first, else-first, then-candidate, else-candidate, then-alone, else-alone}
 
 byte_of : (b : Bool) → bool_byte b ≡ cond b 1 0
 byte_of true = refl
@@ -29,40 +26,21 @@ alone : (g : _) (c : goal.After-from-candidates g) (item : Item) → may_delete 
 alone g c item asked = rw (first g c item, flag_at (is_last c.args.listing.now) c.args.listing.now c.in_ok-lasts.lasts.items c.loop-i.i c.index.result.now (c.in_ok-lasts.ensures.flags asked) (omega arith) c.index.ensures item) refl
 
 candidate : (g : _) (c : goal.After-from-candidates g) (item : Item)
-    → c.if-first.candidate ≡ is_candidate c.args.settings.now c.args.seen.now.rows c.args.listing.now (c.loop-i.i + 1, get_or c.args.listing.now c.loop-i.i item)
-candidate g c item = rw (← first g c item) (elim c.if-first.branch [
-  | then-first w ↦ rw w.if-first.true (w.candidate-is ∙ w.is_asked_for-candidate.ensures item)
-  | else-first w ↦ rw w.if-first.false (w.candidate-is ∙ w.if-first.false)
-])
-
-fetched : (g : _) (c : goal.After-from-candidates g) → c.if-candidate.retrieve ≡ c.if-first.candidate && (c.args.settings.now.max_count == 0 || nat_lt c.loop-i.candidates c.args.settings.now.max_count)
-fetched g c = elim c.if-candidate.branch [
-  | then-candidate w ↦ rw w.if-candidate.true (w.retrieve-is ∙ w.is_below_limit-retrieve.ensures)
-  | else-candidate w ↦ rw w.if-candidate.false (w.retrieve-is ∙ w.if-candidate.false)
-]
+    → c.is_candidate-candidate.result ≡ is_candidate c.args.settings.now c.args.seen.now.rows c.args.listing.now (c.loop-i.i + 1, get_or c.args.listing.now c.loop-i.i item)
+candidate g c item = c.is_candidate-candidate.ensures item ∙ ap (λ (b : Bool). b && is_asked_for c.args.settings.now c.args.seen.now.rows (c.loop-i.i + 1, get_or c.args.listing.now c.loop-i.i item)) (first g c item)
 
 deleted : (g : _) (c : goal.After-from-candidates g) (item : Item)
-    → c.if-alone.delete ≡ is_deleted c.args.settings.now c.args.seen.now.rows c.args.listing.now c.args.now c.if-candidate.retrieve (c.loop-i.i + 1, get_or c.args.listing.now c.loop-i.i item)
-deleted g c item = done_is ∙ elim (cases_Bool (may_delete c.args.settings.now)) [
-  | inl asked ↦ rw (← alone g c item asked) (and_comm (c.index-first.result.now && c.index.result.now) done)
-  | inr never ↦ rw (never_due c.args.settings.now c.args.now (seen_since c.args.seen.now.rows (get_or c.args.listing.now c.loop-i.i item).uid c.args.now) never, and-false) refl
+    → c.is_done_with-delete.result ≡ is_deleted c.args.settings.now c.args.seen.now.rows c.args.listing.now c.args.now c.is_below_limit-retrieve.result (c.loop-i.i + 1, get_or c.args.listing.now c.loop-i.i item)
+deleted g c item = c.is_done_with-delete.ensures item ∙ elim (cases_Bool (may_delete c.args.settings.now)) [
+  | inl asked ↦ rw (alone g c item asked) refl
+  | inr never ↦ rw (never_due c.args.settings.now c.args.now (seen_since c.args.seen.now.rows (get_or c.args.listing.now c.loop-i.i item).uid c.args.now) never) refl
 ]
-  where
-    done : Bool
-    done = is_due c.args.settings.now c.args.now (seen_since c.args.seen.now.rows (get_or c.args.listing.now c.loop-i.i item).uid c.args.now)
-        && (is_delivered c.args.seen.now.rows (get_or c.args.listing.now c.loop-i.i item).uid || c.if-candidate.retrieve)
-
-    done_is : c.if-alone.delete ≡ ((c.index-first.result.now && c.index.result.now) && done)
-    done_is = elim c.if-alone.branch [
-      | then-alone w ↦ rw w.if-alone.true (w.delete-is ∙ w.is_done_with-delete.ensures item)
-      | else-alone w ↦ rw w.if-alone.false (w.delete-is ∙ w.if-alone.false)
-    ]
 
 pub loop-i-preserved : goal.loop-i-preserved
 loop-i-preserved g c =
     rw c.in_ok-push.ensures.items
-    (HasPlanned-more _ _ _ _ _ _ _ c.if-first.candidate c.if-candidate.retrieve c.if-alone.delete _ c.loop-i.invariant (omega arith)
-    (candidate g c) (fetched g c) (deleted g c) (ap (λ (k : ℕ). c.loop-i.candidates + k) (c.from-candidates.ensures ∙ byte_of c.if-first.candidate)))
+    (HasPlanned-more _ _ _ _ _ _ _ c.is_candidate-candidate.result c.is_below_limit-retrieve.result c.is_done_with-delete.result _ c.loop-i.invariant (omega arith)
+    (candidate g c) c.is_below_limit-retrieve.ensures (deleted g c) (ap (λ (k : ℕ). c.loop-i.candidates + k) (c.from-candidates.ensures ∙ byte_of c.is_candidate-candidate.result)))
 
 pub returns-clause-steps : goal.returns-clause-steps
 returns-clause-steps g c = HasPlanned-all _ _ _ _ _ _ _ c.loop-i.invariant (omega arith)

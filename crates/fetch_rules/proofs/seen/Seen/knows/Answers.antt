@@ -5,7 +5,7 @@ use Rattle.mail_terms.specs.Listing.{Item}
 use Rattle.fetch_rules.specs.Record.{Row, is_delivered}
 use Rattle.fetch_rules.specs.Rows.{row_from}
 use Rattle.fetch_rules.proofs.PlanLemmas.{nobody}
-use Rattle.fetch_rules.proofs.RowLemmas.{is_delivered-none, state_in-none, is_delivered-at}
+use Rattle.fetch_rules.proofs.RowLemmas.{is_delivered_none, state_in_none, is_delivered-at}
 use Rattle.fetch_rules.proofs.seen.Seen.knows.Goals as goal
 use Rattle.fetch_rules.proofs.seen.Seen.knows.Goals.{After-at}
 
@@ -20,7 +20,7 @@ at_place g c d =
 
 pub returns-in_default-clause-known : goal.returns-in_default-clause-known
 returns-in_default-clause-known g c = one_unknown c.args.self.now.rows c.args.listing.now c.loop-i.i (omega (arith, c.loop-i-test.true, c.len-i-end.ensures.count))
-    (rw (← c.uid.ensures.value nobody, ← c.self.view_is) (is_delivered-none c.uid.result.now c.self.inside.rows (state_in-none c.uid.result.now c.self.inside.rows c.in_default.ensures.none)))
+    (rw (← c.uid.ensures.value nobody, ← c.self.view_is) (is_delivered_none c.uid.result.now c.self.inside.rows (state_in_none c.uid.result.now c.self.inside.rows c.in_default.ensures.none)))
 
 pub returns-then-not-state-clause-known : goal.returns-then-not-state-clause-known
 returns-then-not-state-clause-known g c = one_unknown c.args.self.now.rows c.args.listing.now c.loop-i.i (omega (arith, c.loop-i-test.true, c.len-i-end.ensures.count))

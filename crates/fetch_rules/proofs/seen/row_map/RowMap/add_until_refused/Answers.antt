@@ -2,6 +2,7 @@ use Rattle.std.proofs.Common.{◌∙◌, sym, arith}
 use Rattle.std.proofs.Math.Seq.{take-append_seam}
 use Rattle.std.proofs.lemmas.Bool.{cond-true, cond-false}
 use Rattle.fetch_rules.proofs.MergeLemmas.{added_next}
+use Rattle.fetch_rules.proofs.RowLemmas.{state_in_none}
 use Rattle.fetch_rules.proofs.seen.row_map.RowMap.add_until_refused.Goals as goal
 
 pub loop-i-preserved-then-has : goal.loop-i-preserved-then-has
@@ -11,10 +12,12 @@ loop-i-preserved-then-has g c = (
 )
 
 pub loop-i-preserved : goal.loop-i-preserved
-loop-i-preserved g c = (
-  c.in_ok-add.ensures.ok ∙ sym (added_next c.args.self.now c.args.listing.now c.args.now c.loop-i.i c.loop-i.self c.uid-uid.result.now c.loop-i.invariant.0 c.uid-uid.ensures.value (omega arith) ∙ cond-false _ _ _ (sym c.has.ensures ∙ c.if-has.false)),
-  c.in_ok-add.ensures.is_record,
-)
+loop-i-preserved g c =
+    let none = sym c.has.ensures ∙ c.if-has.false in
+    let added = rw (c.in_ok-put.ensures.old ∙ state_in_none c.uid-uid.result.now c.loop-i.self none) at c.in_ok-put.ensures.added in (
+      added ∙ sym (added_next c.args.self.now c.args.listing.now c.args.now c.loop-i.i c.loop-i.self c.uid-uid.result.now c.loop-i.invariant.0 c.uid-uid.ensures.value (omega arith) ∙ cond-false _ _ _ none),
+      c.in_ok-put.ensures.is_record,
+    )
 
-pub returns-in_err-add-clause-front : goal.returns-in_err-add-clause-front
-returns-in_err-add-clause-front g c = rw (c.in_err-add.ensures.err, c.loop-i.invariant.0) (take-append_seam c.args.self.now _)
+pub returns-in_err-put-clause-front : goal.returns-in_err-put-clause-front
+returns-in_err-put-clause-front g c = rw (c.in_err-put.ensures.err, c.loop-i.invariant.0) (take-append_seam c.args.self.now _)

@@ -4,7 +4,7 @@ use Rattle.mail_terms.specs.Listing.{is_flagged}
 use Rattle.fetch_rules.specs.Record.{Row}
 use Rattle.fetch_rules.specs.Rows.{row_from}
 use Rattle.fetch_rules.specs.RecordFile.{line_of}
-use Rattle.fetch_rules.proofs.RowLemmas.{with_held-same, changed-same, is_delivered-at}
+use Rattle.fetch_rules.proofs.RowLemmas.{with_held_same, changed_same, is_delivered-at}
 use Rattle.fetch_rules.proofs.MergeLemmas.{HasWritten-skips, HasWritten-adds}
 use Rattle.fetch_rules.proofs.seen.row_map.RowMap.group_of_changes.Goals as goal
 use Rattle.fetch_rules.proofs.seen.row_map.RowMap.group_of_changes.Goals.{After-is_marked-delivered}
@@ -44,5 +44,5 @@ returns g c =
 
 pub returns-then-are_delivered : goal.returns-then-are_delivered
 returns-then-are_delivered g c =
-    let all = with_held-same c.args.listing.now c.args.held.now c.args.self.now (OnTrue_at c.if-are_delivered.true c.are_delivered.ensures) in
-    rw (c.new.ensures.items, take_all c.args.count c.args.self.now (omega (arith, c.if-count-len.true, c.len.ensures.count)), all, changed-same c.args.self.now) refl
+    let all = with_held_same c.args.listing.now c.args.held.now c.args.self.now (OnTrue_at c.if-are_delivered.true c.are_delivered.ensures) in
+    rw (c.new.ensures.items, take_all c.args.count c.args.self.now (omega (arith, c.if-count-len.true, c.len.ensures.count)), all, changed_same c.args.self.now) refl

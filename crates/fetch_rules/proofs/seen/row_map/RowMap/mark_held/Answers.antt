@@ -1,6 +1,4 @@
-use Rattle.std.proofs.Common.{sym, arith}
-use Rattle.std.proofs.lemmas.Bool.{OnTrue_at}
-use Rattle.fetch_rules.proofs.RowLemmas.{with_held-same}
+use Rattle.std.proofs.Common.{arith}
 use Rattle.fetch_rules.proofs.MergeLemmas.{HasMarked-none, HasMarked-held, HasMarked-free, HasMarked-all}
 use Rattle.fetch_rules.proofs.seen.row_map.RowMap.mark_held.Goals as goal
 use Rattle.fetch_rules.proofs.seen.row_map.RowMap.mark_held.Goals.{then-held-i, else-held-i}
@@ -19,8 +17,3 @@ loop-i-preserved g c = elim c.if-held-i.branch [
 
 pub returns-clause-rows : goal.returns-clause-rows
 returns-clause-rows g c = HasMarked-all _ _ _ _ _ _ (omega arith) c.loop-i.invariant
-
-pub returns-then-are_delivered-clause-rows : goal.returns-then-are_delivered-clause-rows
-returns-then-are_delivered-clause-rows g c =
-    sym (with_held-same c.args.listing.now c.args.held.now c.args.self.now
-    (OnTrue_at c.if-are_delivered.true c.are_delivered.ensures))

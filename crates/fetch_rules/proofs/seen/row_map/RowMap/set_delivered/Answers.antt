@@ -1,12 +1,9 @@
 use Rattle.std.proofs.Common.{◌∙◌, sym, ap, subst, refl}
 use Rattle.fetch_rules.specs.Record.{IsRecord}
-use Rattle.fetch_rules.proofs.RowLemmas.{IsRecord-marked, set_here, unmarked_none, lookup_state, illegal, unmarked}
+use Rattle.fetch_rules.proofs.RowLemmas.{IsRecord-marked, set_here, unmarked_none, lookup_state}
 use Rattle.fetch_rules.specs.Rows.{rows_of}
 use Rattle.fetch_rules.proofs.seen.row_map.RowMap.set_delivered.Goals as goal
 use Rattle.fetch_rules.proofs.seen.row_map.RowMap.set_delivered.Goals.{in-Some-get_mut, in-None}
-
-pub returns-in_default-clause-rows : goal.returns-in_default-clause-rows
-returns-in_default-clause-rows g c = sym (unmarked c.args.uid.now c.args.self.now (illegal c.args.uid.now c.args.self.now c.len.ensures.is_record c.in_default.ensures.none))
 
 pub returns-clause-rows : goal.returns-clause-rows
 returns-clause-rows g c = elim c.match-get_mut.branch [
