@@ -1,10 +1,10 @@
 -- Names of files and what they hold; files that a Maildir in memory keeps in two folders; which stems are flushed.
-use Rattle.std.proofs.Common.{◌≡◌, ℕ, zero, suc, ◌/◌, ◌%◌, ◌==◌, ◌<◌, Bool, true, false, List, [], ◌∷◌, ◌++◌, length, get_or, slice_index, refl, sym, ap, ◌∙◌, arith, Ok, inl, inr, All, not, codes, subst, ◌+◌, ◌≤◌, take, drop, map, Option, Some, None, String, Vec, string_bytes, remove, insert, set, ◌⊎◌, HoldsAt, Contains, ◌≢◌, ◌↔◌, IsTrue, is_some, IfSome, IfNone, IsPermutation, ◌||◌, ◌&&◌, bytes_eq, Result, Err, below_more}
+use Rattle.std.proofs.Common.{◌≡◌, ℕ, zero, suc, ◌/◌, ◌%◌, ◌==◌, ◌<◌, Bool, true, false, List, [], ◌∷◌, ◌++◌, length, get_or, slice_index, refl, sym, ap, ◌∙◌, arith, Ok, inl, inr, All, not, codes, subst, ◌+◌, ◌≤◌, take, drop, map, String, Vec, string_bytes, remove, insert, set, HoldsAt, Contains, ◌≢◌, IsPermutation, ◌||◌, ◌&&◌, bytes_eq, Result, Err, below_more}
 use Rattle.std.specs.List.{AllPass, before_first, position_or_len, list_any}
 use Rattle.std.specs.Fmt.{decimal, digits, digits_onto, digit_glyph}
 use Rattle.std.proofs.lemmas.Bool.{cases_lt, cond_both, both_ways}
 use Rattle.std.proofs.lemmas.List.{append_cancel_left, take_all, take-append-le, get_or-take, get_or_past, length-take, append_assoc, map-append, length-map, length-append, get_or-map, length-take-le, take_more, take-append-drop}
-use Rattle.std.proofs.lemmas.List.Elements.{All-nil, All-cons, All-append, All-from_recursion, All-map, Contains-append_left, Contains-append_right, Contains-append_cases, Contains-get_or}
+use Rattle.std.proofs.lemmas.List.Elements.{All-nil, All-cons, All-append, All-from_recursion, All-map, Contains-append_left, Contains-append_right, Contains-get_or}
 use Rattle.std.proofs.lemmas.List.Sums.{AllPass-from_list_all, fails_before_first, position_or_len_is, prefix_len-le-length}
 use Rattle.std.proofs.lemmas.List.Folds.{prefix_len-append, list_any-append, list_any_at, Any-from_list_any}
 use Rattle.std.proofs.lemmas.Bool.Decides.{nat_tests}
@@ -14,16 +14,19 @@ use Rattle.std.proofs.lemmas.Cmp.{nat_list_eq_equiv}
 use Rattle.std.proofs.Math.Bool.{or-false, or-true}
 use Rattle.std.proofs.lemmas.Slice.Eq.{bytes_eq-Decides}
 use Rattle.hex.specs.Hex.{encode_lower, encode_with, lower_digits, IsBytes, decode_of}
-use Rattle.hex.proofs.HexLemmas.{decode_of-encode_lower}
+use Rattle.hex.proofs.HexLemmas.{decode_of-encode_lower, length-encode_with}
+use Rattle.sha2.specs.Sha256.{sha256, digest_bytes, final_hash, initial_hash_256}
+use Rattle.sha2.proofs.Facts256.{length-sha256}
+use Rattle.std.specs.Int.{w32, to_be_bytes}
 use Rattle.mail_terms.specs.UniqueId.{IsLegalId, HasIdRanges}
 use Rattle.mail_terms.specs.MaildirName.{base, is_colon}
 use Rattle.mail_terms.specs.Listing.{Item, has_item, is_flagged}
-use Rattle.mail_store.specs.FileName.{is_comma, is_lower_hex_digit, name_of, stem, stem_of, IsAccountText, mail_file, names_id, is_held}
+use Rattle.mail_store.specs.FileName.{account_text, is_comma, is_lower_hex_digit, name_of, stem, stem_of, IsAccountText, mail_file, names_id, is_held}
 use Rattle.mail_store.specs.Maildir.{File, file_of, name_in, names_of, bases_told, AreTheirs, IsPart, Maildir, IsThere, with_file, file}
 use Rattle.mail_store.specs.declared.maildir.disk.Folder.{Folder}
 use Rattle.mail_store.specs.declared.maildir.disk.Folder.TheVariants.{New, Cur}
 use Rattle.mail_store.specs.MemoryMaildir.{TwoFolders, count, files_of_folder, merged, shown}
-use Rattle.mail_store.specs.Held.{any_name, flags_of, FoundOutlive, HasLasting, HasStems}
+use Rattle.mail_store.specs.Held.{any_name, flags_of, FoundOutlive, HasLasting, HasStem, HasStems}
 use Rattle.mail_store.specs.declared.fault.StoreFault.{StoreFault}
 use Rattle.mail_store.specs.Power.{AllStay, FlushedOutlive, is_among}
 
@@ -44,9 +47,26 @@ hex_all P (b ∷ rest) h =
     (All-cons P (slice_index lower_digits (b % 16)) (encode_lower rest) (h 0).1 (hex_all P rest (λ k. h (suc k))))
 
 -- the hexadecimal text of bytes has only lower-case digits
-pub digits_pass : (bytes : List ℕ) → IsBytes bytes → AllPass is_lower_hex_digit (encode_lower bytes)
+digits_pass : (bytes : List ℕ) → IsBytes bytes → AllPass is_lower_hex_digit (encode_lower bytes)
 digits_pass bytes h = hex_all (λ x. is_lower_hex_digit x ≡ true) bytes
     (λ k. (digit_passes (slice_index bytes k / 16) (omega (arith, h k)), digit_passes (slice_index bytes k % 16) (omega arith)))
+
+-- the bytes of words are bytes
+words_are_bytes : (h : List ℕ) (n : ℕ) → All (λ x. x < 256) (digest_bytes h n)
+unfolding digest_bytes
+words_are_bytes h zero = All-nil (λ x. x < 256)
+words_are_bytes h (suc n) = All-append (λ x. x < 256) (digest_bytes h n) (to_be_bytes w32 (slice_index h n)) (words_are_bytes h n)
+    (All-from_recursion (λ x. x < 256) (to_be_bytes w32 (slice_index h n)) (omega arith, (omega arith, (omega arith, (omega arith, tt)))))
+
+IsBytes-from_all : (xs : List ℕ) → All (λ x. x < 256) xs → IsBytes xs
+IsBytes-from_all xs all k = grind (arith, all k 0, get_or_past xs k 0)
+
+pub account_digits : (server : List ℕ) (port : ℕ) (username : List ℕ) → IsAccountText (account_text server port username)
+unfolding sha256
+account_digits server port username =
+    let text = server ++ 0 ∷ [] ++ decimal port ++ 0 ∷ [] ++ username in
+    let are = IsBytes-from_all (sha256 text) (words_are_bytes (final_hash initial_hash_256 text) 8) in
+    (omega (arith, length-encode_with lower_digits (sha256 text), length-sha256 text), digits_pass (sha256 text) are)
 
 -- ---- no colons and no commas
 
@@ -77,8 +97,8 @@ stem_is_plain account uid h =
     (All-cons IsPlain 46 (encode_lower uid) (refl, refl)
     (hex_all IsPlain uid (λ k. (table_is_plain (slice_index uid k / 16), table_is_plain (slice_index uid k % 16)))))
 
-pub stem-stem_of : (account uid : List ℕ) → IsAccountText account → stem (stem_of account uid) ≡ stem_of account uid
-stem-stem_of account uid h =
+pub stem_stem_of : (account uid : List ℕ) → IsAccountText account → stem (stem_of account uid) ≡ stem_of account uid
+stem_stem_of account uid h =
     ap (before_first is_comma) (all_before is_colon (stem_of account uid) (λ k d lt. (stem_is_plain account uid h k d lt).0))
     ∙ all_before is_comma (stem_of account uid) (λ k d lt. (stem_is_plain account uid h k d lt).1)
 
@@ -97,8 +117,8 @@ decimal_has_no_colon : (n : ℕ) → All (λ byte. is_colon byte ≡ false) (dec
 unfolding digits
 decimal_has_no_colon n = onto_has_no_colon 64 n [] (All-nil (λ byte. is_colon byte ≡ false))
 
-pub base-name_of : (account uid : List ℕ) (size : ℕ) → IsAccountText account → base (name_of account uid size) ≡ name_of account uid size
-base-name_of account uid size h =
+pub base_name_of : (account uid : List ℕ) (size : ℕ) → IsAccountText account → base (name_of account uid size) ≡ name_of account uid size
+base_name_of account uid size h =
     all_before is_colon (name_of account uid size)
     (All-append (λ byte. is_colon byte ≡ false) (stem_of account uid ++ codes ",S=") (decimal size)
     (All-append (λ byte. is_colon byte ≡ false) (stem_of account uid) (codes ",S=")
@@ -107,21 +127,24 @@ base-name_of account uid size h =
     (decimal_has_no_colon size))
 
 -- what follows a byte that passes doesn't matter
-pub before_first-cut : (p : ℕ → Bool) (front rest : List ℕ) (mark : ℕ) → p mark ≡ true → before_first p (front ++ mark ∷ rest) ≡ before_first p front
+before_first-cut : (p : ℕ → Bool) (front rest : List ℕ) (mark : ℕ) → p mark ≡ true → before_first p (front ++ mark ∷ rest) ≡ before_first p front
 before_first-cut p front rest mark passes =
     let same : position_or_len p (front ++ mark ∷ rest) ≡ position_or_len p front = grind (arith, prefix_len-append (λ x. not (p x)) front (mark ∷ rest), nat_tests) in
     rw same (take-append-le (position_or_len p front) front (mark ∷ rest) (prefix_len-le-length (λ x. not (p x)) front))
 
-pub stem-name_of : (account uid : List ℕ) (size : ℕ) → IsAccountText account → stem (name_of account uid size) ≡ stem_of account uid
-stem-name_of account uid size h =
-    ap (before_first is_comma) (base-name_of account uid size h ∙ append_assoc (stem_of account uid) (codes ",S=") (decimal size))
+pub stem_name_of : (account uid : List ℕ) (size : ℕ) → IsAccountText account → stem (name_of account uid size) ≡ stem_of account uid
+stem_name_of account uid size h =
+    ap (before_first is_comma) (base_name_of account uid size h ∙ append_assoc (stem_of account uid) (codes ",S=") (decimal size))
     ∙ before_first-cut is_comma (stem_of account uid) (83 ∷ 61 ∷ decimal size) 44 refl
     ∙ all_before is_comma (stem_of account uid) (λ k d lt. (stem_is_plain account uid h k d lt).1)
 
--- a suffix that begins with a colon is no part of the base
+-- a colon and what follows it are no part of the base
+pub base_marked : (name marks : List ℕ) → base (name ++ 58 ∷ marks) ≡ base name
+base_marked name marks = before_first-cut is_colon name marks 58 refl
+
 pub base-suffixed : (name suffix : List ℕ) → slice_index suffix 0 ≡ 58 → base (name ++ suffix) ≡ base name
 base-suffixed name [] first = absurd (omega (arith, first))
-base-suffixed name (colon ∷ marks) first = rw first (before_first-cut is_colon name marks 58 refl)
+base-suffixed name (colon ∷ marks) first = rw first (base_marked name marks)
 
 -- a base has no more to cut off
 pub base_base : (name : List ℕ) → base (base name) ≡ base name
@@ -130,8 +153,8 @@ base_base name = all_before is_colon (base name) (λ k d inside.
     rw (get_or-take (position_or_len is_colon name) name k d below) (fails_before_first is_colon name k d below))
 
 -- a base has the stem of the name
-pub stem-base : (name : List ℕ) → stem (base name) ≡ stem name
-stem-base name = ap (before_first is_comma) (base_base name)
+pub stem_base : (name : List ℕ) → stem (base name) ≡ stem name
+stem_base name = ap (before_first is_comma) (base_base name)
 
 -- ---- different names
 
@@ -139,17 +162,14 @@ stem-base name = ap (before_first is_comma) (base_base name)
 abbrev pub HaveRanges : Type 0
 HaveRanges = (id : List ℕ) → IsLegalId id → HasIdRanges id
 
-pub IsBytes-from_all : (xs : List ℕ) → All (λ x. x < 256) xs → IsBytes xs
-IsBytes-from_all xs all k = grind (arith, all k 0, get_or_past xs k 0)
-
 -- the text of a legal id reads as that id
-pub decode_of-legal : HaveRanges → (uid digits : List ℕ) → IsLegalId uid → encode_lower uid ≡ digits → decode_of digits ≡ Ok uid
-decode_of-legal ranges uid digits legal same = ap decode_of (sym same)
+pub decode_of_legal : HaveRanges → (uid digits : List ℕ) → IsLegalId uid → encode_lower uid ≡ digits → decode_of digits ≡ Ok uid
+decode_of_legal ranges uid digits legal same = ap decode_of (sym same)
     ∙ decode_of-encode_lower uid (IsBytes-from_all uid (λ k d inside. omega (arith, ((ranges uid legal).characters k d inside).1)))
 
-pub stem_of-injective : HaveRanges → (account a b : List ℕ) → IsLegalId a → IsLegalId b → stem_of account a ≡ stem_of account b → a ≡ b
-stem_of-injective ranges account a b la lb same =
-    grind (arith, append_cancel_left {A = ℕ}, decode_of-legal ranges a (encode_lower a) la refl, decode_of-legal ranges b (encode_lower b) lb refl)
+pub stem_of_injective : HaveRanges → (account a b : List ℕ) → IsLegalId a → IsLegalId b → stem_of account a ≡ stem_of account b → a ≡ b
+stem_of_injective ranges account a b la lb same =
+    grind (arith, append_cancel_left {A = ℕ}, decode_of_legal ranges a (encode_lower a) la refl, decode_of_legal ranges b (encode_lower b) lb refl)
 
 -- ---- names that are looked up
 
@@ -160,16 +180,12 @@ not_read read xs text none c = All-map (λ t. t ≢ text) read xs none c.0 text 
 pub Contains-map : {A B : Type 0} (f : A → B) (xs : List A) (x : A) → Contains xs x → Contains (map f xs) (f x)
 Contains-map f xs x c = (c.0, omega (arith, c.1, length-map xs f), get_or-map f xs c.0 x (f x) c.1 ∙ ap f c.2)
 
--- a look-up finds a place exactly if a file has the name
-pub found_iff : {Z Y : Type 0} (pairs : List (String Z × Vec ℕ Y)) (name : List ℕ) (place : Option ℕ) (b : Bool) → b ≡ is_some place
-    → IfSome place (λ i. (i < length pairs) × HoldsAt (λ p. string_bytes p.0 ≡ name) pairs i)
-    → IfNone place (Contains (names_of (map file_of pairs)) name → ⊥)
-    → IsTrue b ↔ Contains (names_of (map file_of pairs)) name
-found_iff [] name (Some i) b e some none = absurd (omega (arith, some.0))
-found_iff (p ∷ pairs) name (Some i) b e some none =
-    let there = Contains-map (λ q. string_bytes q.0) (p ∷ pairs) (get_or (p ∷ pairs) i p) (Contains-get_or (p ∷ pairs) i p some.0) in
-    (λ _. subst (λ (names : List (List ℕ)). Contains names name) (sym (map-map name_in file_of (p ∷ pairs))) (rw (some.1 p) at there), λ _. e)
-found_iff pairs name None b e some none = (λ t. absurd (both_ways b e t), λ h. absurd (none h))
+-- the name of a file that was found is among the names
+pub named_there : {Z Y : Type 0} (pairs : List (String Z × Vec ℕ Y)) (name : List ℕ) (k : ℕ) (p : String Z × Vec ℕ Y) → k < length pairs
+    → p ≡ get_or pairs k p → string_bytes p.0 ≡ name → Contains (names_of (map file_of pairs)) name
+named_there pairs name k p below is named =
+    subst (λ (names : List (List ℕ)). Contains names name) (sym (map-map name_in file_of pairs))
+    (rw named at (Contains-map (λ q. string_bytes q.0) pairs p (k, below, sym is)))
 
 -- ---- flags and folders
 
@@ -271,19 +287,18 @@ module _ {Z Y : Type 0} where
 bases_shown : {Z : Type 0} (names : List (String Z)) (files : List File) → map string_bytes names ≡ names_of files → bases_told names ≡ names_of (map shown files)
 bases_shown names files told = sym (map-map base string_bytes names) ∙ ap (map base) told ∙ map-map base name_in files ∙ sym (map-map name_in shown files)
 
--- what is shown under a name is in one of the folders
-pub shown_iff : (files in_new in_cur : List File) (front : List ℕ) → IsPermutation files (map shown (in_new ++ in_cur))
-    → (Contains (names_of (map shown in_new)) front ⊎ Contains (names_of (map shown in_cur)) front) ↔ Contains (names_of files) front
-shown_iff files in_new in_cur front both = (
-  elim [
-    | inl c ↦ Contains-permutation _ (names_of files) front (IsPermutation-sym _ _ all) (Contains-append_left _ _ front c)
-    | inr c ↦ Contains-permutation _ (names_of files) front (IsPermutation-sym _ _ all) (Contains-append_right _ _ front c)
-  ],
-  λ there. Contains-append_cases _ _ front (Contains-permutation (names_of files) _ front all there),
-)
+-- what a folder shows is among the files
+shown_there : (two : TwoFolders) (folder : Folder) (front : List ℕ) → IsPermutation two.maildir.files (map shown (two.in_new ++ two.in_cur))
+    → Contains (names_of (map shown (files_of_folder two folder))) front → Contains (names_of two.maildir.files) front
+shown_there two folder front both there =
+    Contains-permutation (names_of (map shown two.in_new) ++ names_of (map shown two.in_cur)) (names_of two.maildir.files) front
+    (IsPermutation-sym _ _ (simp map-append at (IsPermutation-map name_in two.maildir.files (map shown (two.in_new ++ two.in_cur)) both)))
+    (in_both folder there)
   where
-    all : IsPermutation (names_of files) (names_of (map shown in_new) ++ names_of (map shown in_cur))
-    all = simp map-append at (IsPermutation-map name_in files (map shown (in_new ++ in_cur)) both)
+    in_both : (folder : Folder) → Contains (names_of (map shown (files_of_folder two folder))) front
+        → Contains (names_of (map shown two.in_new) ++ names_of (map shown two.in_cur)) front
+    in_both New c = Contains-append_left _ _ front c
+    in_both Cur c = Contains-append_right _ _ front c
 
 -- names of a folder are those of files that are shown
 pub theirs_of : {Z : Type 0} (two : TwoFolders) (folder : Folder) (names : List (String Z))
@@ -292,13 +307,8 @@ pub theirs_of : {Z : Type 0} (two : TwoFolders) (folder : Folder) (names : List 
 unfolding AreTheirs
 theirs_of two folder names both told = λ k d inside.
     let name = get_or names k d in
-    let shown_there = rw (bases_shown names (files_of_folder two folder) told) at (Contains-map (λ n. base (string_bytes n)) names name (Contains-get_or names k d inside)) in
-    (shown_iff two.maildir.files two.in_new two.in_cur (base (string_bytes name)) both).0 (in_both folder shown_there)
-  where
-    in_both : (folder : Folder) {front : List ℕ} → Contains (names_of (map shown (files_of_folder two folder))) front
-        → Contains (names_of (map shown two.in_new)) front ⊎ Contains (names_of (map shown two.in_cur)) front
-    in_both New c = inl c
-    in_both Cur c = inr c
+    shown_there two folder (base (string_bytes name)) both (rw (bases_shown names (files_of_folder two folder) told) at
+    (Contains-map (λ n. base (string_bytes n)) names name (Contains-get_or names k d inside)))
 
 -- the names of both folders tell all that is shown
 pub names_tell_both : {Z : Type 0} (files in_new in_cur : List File) (names : List (String Z)) → IsPermutation files (map shown (in_new ++ in_cur))
@@ -330,7 +340,7 @@ flags_found account maildir items found names texts told = simp held
     held : (uid : List ℕ) → found (encode_lower uid) ≡ is_held account maildir uid
     held uid =
         let any = list_any-IsPermutation (names_id account uid) (names_of maildir.files) (bases_told names) told in
-        texts (encode_lower uid) ∙ sym (simp (list_any-map, stem-base) at any)
+        texts (encode_lower uid) ∙ sym (simp (list_any-map, stem_base) at any)
 
 -- ---- names that are there
 
@@ -338,7 +348,7 @@ flags_found account maildir items found names texts told = simp held
 pub held_where_there : (account uid : List ℕ) (size : ℕ) (maildir : Maildir) → IsAccountText account → IsThere maildir (name_of account uid size)
     → is_held account maildir uid ≡ true
 held_where_there account uid size maildir a c =
-    let same = (bytes_eq-Decides (stem_of account uid) _).1 (sym (stem-base (name_of account uid size) ∙ stem-name_of account uid size a)) in
+    let same = (bytes_eq-Decides (stem_of account uid) _).1 (sym (stem_base (name_of account uid size) ∙ stem_name_of account uid size a)) in
     rw list_any-map at (list_any_at (names_id account uid) (names_of maildir.files) c.0 _ c.1 (ap (names_id account uid) c.2 ∙ same))
 
 -- a file that came under an id's name makes that id held, and no other
@@ -347,8 +357,8 @@ pub held_with_file : HaveRanges → (account a b content : List ℕ) (maildir : 
 held_with_file ranges account a b content maildir h la lb =
     let f = mail_file account a content in
     let one : names_id account b f.name ≡ bytes_eq b a =
-    ap (bytes_eq (stem_of account b)) (stem-base (name_of account a (length content)) ∙ stem-name_of account a (length content) h)
-    ∙ grind (arith, bytes_eq-Decides (stem_of account b) (stem_of account a), bytes_eq-Decides b a, stem_of-injective ranges account b a lb la) in
+    ap (bytes_eq (stem_of account b)) (stem_base (name_of account a (length content)) ∙ stem_name_of account a (length content) h)
+    ∙ grind (arith, bytes_eq-Decides (stem_of account b) (stem_of account a), bytes_eq-Decides b a, stem_of_injective ranges account b a lb la) in
     rw (list_any-append (λ (f : File). names_id account b f.name) maildir.files (f ∷ []), one, or-false (bytes_eq b a))
 
 -- ---- flags of a listing
@@ -367,23 +377,12 @@ flagged_where_held account maildir (item ∷ items) uid =
 
 -- ---- the stems
 
--- this place's item has its stem among these, if both of its flags are set
-abbrev StemAt : {A : Type 0} → List ℕ → List Item → List Bool → List Bool → List (String A) → ℕ → Type 0
-StemAt account items held flags stems k = (item : Item) → HoldsAt (λ (y : Item). y ≡ item) items k → HoldsAt (λ (y : Bool). y ≡ true) held k
-    → HoldsAt (λ (y : Bool). y ≡ true) flags k → is_among stems (stem_of account item.uid) ≡ true
-
--- one item more
-pub stems_step : {A : Type 0} (account : List ℕ) (items : List Item) (held flags : List Bool) (i : ℕ) (stems : List (String A))
-    → HasStems account items held flags i stems → StemAt account items held flags stems i → HasStems account items held flags (i + 1) stems
-stems_step account items held flags i stems has here = λ k item below.
-    below_more (StemAt account items held flags stems) i (λ j before y. has j y before) here k below item
-
--- its stem was added
+-- the stem of one item more was added
 pub stems_more : {A : Type 0} (account : List ℕ) (items : List Item) (held flags : List Bool) (i : ℕ) (stems : List (String A)) (x : String A) (uid : List ℕ)
     → HasStems account items held flags i stems → HoldsAt (λ (item : Item). uid ≡ item.uid) items i → string_bytes x ≡ stem_of account uid
     → HasStems account items held flags (i + 1) (stems ++ x ∷ [])
-stems_more account items held flags i stems x uid has at is = stems_step account items held flags i (stems ++ x ∷ [])
-    (λ k item below here h f. rw (pushed item.uid, has k item below here h f) refl)
+stems_more account items held flags i stems x uid has at is = below_more (HasStem account items held flags (stems ++ x ∷ [])) i
+    (λ k below item here h f. rw (pushed item.uid, has k below item here h f) refl)
     (λ item here h f.
     let same = (bytes_eq-Decides (stem_of account item.uid) (string_bytes x)).1 (ap (λ (y : Item). stem_of account y.uid) (sym (here item)) ∙ ap (stem_of account) (sym (at item)) ∙ sym is) in
     rw (pushed item.uid, same) (or-true _))
@@ -409,16 +408,16 @@ pub found_outlive : {A : Type 0} (account : List ℕ) (maildir : Maildir) (stems
     → (items : List Item) (flags : List Bool) → HasStems account items (flags_of account maildir items) flags (length items) stems
     → FoundOutlive account maildir outlives items flags
 found_outlive account maildir stems outlives lasts (item ∷ items) (flag ∷ flags) has = (
-  λ is held. lasts item.uid (has 0 item (omega arith) (λ d. refl) (λ d. held) (λ d. is)) held,
-  found_outlive account maildir stems outlives lasts items flags (λ k i below at h f. has (suc k) i (omega (arith, below)) at h f),
+  λ is held. lasts item.uid (has 0 (omega arith) item (λ d. refl) (λ d. held) (λ d. is)) held,
+  found_outlive account maildir stems outlives lasts items flags (λ k below. has (suc k) (omega (arith, below))),
 )
 found_outlive account maildir stems outlives lasts items flags has = tt
 
 -- all files of a device in memory outlive a loss of power
-pub all_outlive : {A T : Type 0} (maildir : Maildir) (stems : List (String A)) (r : Result T StoreFault) (stays : List ℕ → Type 0) (outlives : File → Type 0)
-    → ((f : File) → outlives f) → FlushedOutlive maildir stems r stays outlives
-all_outlive maildir stems (Ok done) stays outlives all = λ name there among here.
+pub all_outlive : {A T : Type 0} (maildir : Maildir) (stems : List (String A)) (r : Result T StoreFault)
+    → FlushedOutlive maildir stems r (λ _. Unit {0}) (λ _. Unit {0})
+all_outlive maildir stems (Ok done) = λ name there among here.
     let none = file [] [] in
     let inside : there.0 < length maildir.files = omega (arith, there.1, length-map maildir.files name_in) in
-    (get_or maildir.files there.0 none, Contains-get_or maildir.files there.0 none inside, sym (get_or-map name_in maildir.files there.0 none name inside) ∙ there.2, all _)
-all_outlive maildir stems (Err fault) stays outlives all = tt
+    (get_or maildir.files there.0 none, Contains-get_or maildir.files there.0 none inside, sym (get_or-map name_in maildir.files there.0 none name inside) ∙ there.2, tt)
+all_outlive maildir stems (Err fault) = tt

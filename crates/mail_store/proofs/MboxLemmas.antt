@@ -1,18 +1,16 @@
 -- Lines, quoting, entries and groups of lines of an mboxrd file.
-use Rattle.std.proofs.Common.{◌≡◌, ◌≢◌, ◌⊎◌, inl, inr, ℕ, ◌+◌, ◌<◌, ◌≤◌, List, [], ◌∷◌, ◌++◌, length, take, drop, refl, sym, ap, ◌∙◌, arith, append_assoc, ◌-◌, ◌*◌, true, false, map, get_or, slice_index, ◌==◌, cond, codes, one-add}
-use Rattle.std.specs.List.{flat_map, onto_first, AllByRecursion, prefix_len}
+use Rattle.std.proofs.Common.{◌≡◌, ◌≢◌, inl, inr, ℕ, ◌+◌, ◌<◌, ◌≤◌, List, [], ◌∷◌, ◌++◌, length, take, drop, refl, sym, ap, ◌∙◌, arith, append_assoc, ◌-◌, ◌*◌, true, false, map, get_or, slice_index, ◌==◌, cond, codes}
+use Rattle.std.specs.List.{flat_map, onto_first, AllByRecursion}
 use Rattle.std.proofs.lemmas.Bool.{ne_eqb, cond_both, true≢false}
 use Rattle.std.proofs.lemmas.Bool.Decides.{eqb_tells, Decides-eqb}
-use Rattle.std.proofs.lemmas.Grind.{common_steps}
-use Rattle.std.proofs.lemmas.List.{drop-append-le, get_or-drop, get_or-take, get_or_default, length-take, length-drop, take-append-drop, take_more, append-nil, drop_at, length-append, take_at, append_cancel_right, flat_map_more, map-append, get_or_append_left}
+use Rattle.std.proofs.lemmas.List.{drop-append-le, get_or-drop, get_or-take, get_or_default, length-take, length-drop, take-append-drop, take_more, append-nil, drop_at, length-append, take_at, append_cancel_right, flat_map_more, map-append}
 use Rattle.std.proofs.lemmas.List.Elements.{recursion_from_All, All-from_recursion, All-map}
 use Rattle.std.proofs.lemmas.List.Sums.{sum_by-append}
 use Rattle.std.proofs.lemmas.List.Concat.{flat_map-append}
 use Rattle.std.proofs.lemmas.Slice.Eq.{starts_is}
 use Rattle.std.proofs.lemmas.List.Folds.{flat_map-map}
 use Rattle.mail_terms.specs.Text.{IsWhole, HasNoLf}
-use Rattle.mail_store.specs.Mboxrd.{lines_of, IsLine, from_words, begins_entry, is_greater, is_marked, quoted, unquoted, quoted_text, unquoted_text, wire_size, UnquotesQuoted, separator, entry_of, Group, IsInner, IsGroup, group_bytes, group_text, MboxFile, MayGoOn, OneReading}
-use Rattle.mail_store.specs.MboxScan.{IsApart, OpensEntry, CutsGroup, HoldsText}
+use Rattle.mail_store.specs.Mboxrd.{lines_of, IsLine, from_words, begins_entry, is_marked, quoted, unquoted, quoted_text, unquoted_text, wire_size, UnquotesQuoted, separator, entry_of, Group, IsInner, IsGroup, group_bytes, group_text, MboxFile, MayGoOn, EntryAddsText, OneReading, IsApart, OpensEntry, CutsGroup, CutsLine, HoldsText}
 
 -- ---- lists of lines
 
@@ -35,18 +33,8 @@ onto_parts byte (part ∷ parts) = (refl, refl, refl)
 
 -- ---- the first line
 
-plain_all : (text : List ℕ) → ((k : ℕ) → k < length text → slice_index text k ≢ 10) → HasNoLf text
+pub plain_all : (text : List ℕ) → ((k : ℕ) → k < length text → slice_index text k ≢ 10) → HasNoLf text
 plain_all text none = recursion_from_All (λ byte. byte ≢ 10) text (λ k d inside. rw (get_or_default text k d 0 inside) (none k inside))
-
--- the bytes up to the first LF are a line
-pub line_front : (text : List ℕ) (n : ℕ) → n < length text → ((k : ℕ) → k < n → slice_index text k ≢ 10) → slice_index text n ≡ 10 → IsLine (take (n + 1) text)
-line_front text n inside none at = record {
-  words = take n text;
-  plain = plain_all (take n text) (λ k below.
-      let early : k < n = omega (arith, below, length-take n text) in
-      rw (get_or-take n text k 0 early) (none k early));
-  ended = rw (take_more text n 0 inside, at) refl;
-}
 
 words_first : (words rest : List ℕ) → HasNoLf words → lines_of ((words ++ 10 ∷ []) ++ rest) ≡ (words ++ 10 ∷ []) ∷ lines_of rest
 words_first [] rest plain = refl
@@ -63,19 +51,23 @@ piece_alone [] plain some = absurd (omega arith)
 piece_alone (byte ∷ []) plain some = rw (ne_eqb byte 10 plain.0) refl
 piece_alone (byte ∷ next ∷ rest) plain some = rw (ne_eqb byte 10 plain.0, piece_alone (next ∷ rest) plain.1 (omega arith)) refl
 
--- what `line_len` finds is the first line
-pub cut_off : (rest line after : List ℕ) (n : ℕ) → 0 < length rest → IsLine (take n rest) ⊎ ((n ≡ length rest) × HasNoLf rest)
-    → line ≡ take n rest → after ≡ drop n rest → (lines_of rest ≡ line ∷ lines_of after) × (rest ≡ line ++ after)
-cut_off rest line after n some found front back = rw (front, back) (
-  elim found [
-    | inl is ↦ ap lines_of (sym (take-append-drop n rest)) ∙ line_first (take n rest) (drop n rest) is
-    | inr p ↦
-        let all : take n rest ≡ rest = grind (arith, common_steps, p.0) in
-        let none : drop n rest ≡ [] = grind (arith, common_steps, p.0) in
-        rw (all, none) (piece_alone rest p.1 some)
-  ],
-  sym (take-append-drop n rest),
-)
+-- the bytes up to the first LF are the first line
+pub cut_at : (text : List ℕ) (n : ℕ) → n < length text → ((k : ℕ) → k < n → slice_index text k ≢ 10) → slice_index text n ≡ 10
+    → CutsLine text (take (n + 1) text) (drop (n + 1) text)
+cut_at text n inside none at = record {
+  lines = ap lines_of (sym (take-append-drop (n + 1) text)) ∙ line_first (take (n + 1) text) (drop (n + 1) text) is;
+  whole = sym (take-append-drop (n + 1) text);
+  ended = inl is;
+}
+  where
+    is : IsLine (take (n + 1) text)
+    is = record {
+      words = take n text;
+      plain = plain_all (take n text) (λ k below.
+          let early : k < n = omega (arith, below, length-take n text) in
+          rw (get_or-take n text k 0 early) (none k early));
+      ended = rw (take_more text n 0 inside, at) refl;
+    }
 
 -- what follows the last LF but the one at the end is a line
 pub line_back : (front : List ℕ) (n : ℕ) → n ≤ length front → ((k : ℕ) → n ≤ k → k < length front → slice_index front k ≢ 10) → IsLine (drop n (front ++ 10 ∷ []))
@@ -122,14 +114,6 @@ whole_lines text whole = elim whole [
 ]
 
 -- ---- marked lines
-
--- a line is marked exactly if what follows its leading `>`s begins with `From `
-pub marked_behind : (line : List ℕ) → begins_entry (drop (prefix_len is_greater line) line) ≡ is_marked line
-marked_behind [] = refl
-marked_behind (byte ∷ rest) = elim (eqb_tells byte 62) [
-  | inl p ↦ rw (p.0, one-add (prefix_len is_greater rest)) (marked_behind rest)
-  | inr p ↦ rw p.0 refl
-]
 
 -- a line that begins with `From ` has these bytes
 pub begins_with : (line : List ℕ) → begins_entry line ≡ true → line ≡ from_words ++ drop 5 line
@@ -186,11 +170,12 @@ unquotes_quoted text whole =
 
 -- ---- copying a text in runs
 
--- `out` is what was there and then the lines of the text as `shows` gives them, up to `rest`, without the front of `run`
-pub record Copies (shows : List ℕ → List ℕ) (old out run rest text : List ℕ) : Type 0 where
+-- `out` is the lines of the text as `shows` gives them, up to `rest`, without the front of `run`
+pub record Copies (shows : List ℕ → List ℕ) (out run rest text : List ℕ) : Type 0 where
   pub front : List ℕ
   pub split : run ≡ front ++ rest
-  pub shown : out ++ (front ++ flat_map shows (lines_of rest)) ≡ old ++ flat_map shows (lines_of text)
+  pub fits : length rest ≤ length run
+  pub shown : out ++ (front ++ flat_map shows (lines_of rest)) ≡ flat_map shows (lines_of text)
 
 pub front_taken : (run front rest : List ℕ) → run ≡ front ++ rest → (take (length run - length rest) run ≡ front) × (drop (length run - length rest) run ≡ rest)
 front_taken run front rest e =
@@ -198,22 +183,24 @@ front_taken run front rest e =
     rw e (take_at front rest _ size, drop_at front rest _ size)
 
 -- a line that is shown as it is
-pub copies_plain : (shows : List ℕ → List ℕ) (old out run rest text line after : List ℕ) → Copies shows old out run rest text
-    → lines_of rest ≡ line ∷ lines_of after → rest ≡ line ++ after → shows line ≡ line → Copies shows old out run after text
-copies_plain shows old out run rest text line after was lines cut same = record {
+pub copies_plain : (shows : List ℕ → List ℕ) (out run rest text line after : List ℕ) → Copies shows out run rest text
+    → CutsLine rest line after → shows line ≡ line → Copies shows out run after text
+copies_plain shows out run rest text line after was cut same = record {
   front = was.front ++ line;
   split = cc (append_assoc was.front line after);
-  shown = rw (append_assoc was.front line (flat_map shows (lines_of after))) (rw (lines, same) at was.shown);
+  fits = omega (arith, was.fits, ap length cut.whole, length-append line after);
+  shown = rw (append_assoc was.front line (flat_map shows (lines_of after))) (rw (cut.lines, same) at was.shown);
 }
 
 -- a line that is shown with other bytes at its front: the run ends before it
-pub copies_changed : (shows : List ℕ → List ℕ) (old out run rest text line after extra kept new later : List ℕ) → Copies shows old out run rest text
-    → lines_of rest ≡ line ∷ lines_of after → shows line ≡ extra ++ kept → new ≡ (out ++ take (length run - length rest) run) ++ extra → later ≡ kept ++ after
-    → Copies shows old new later after text
-copies_changed shows old out run rest text line after extra kept new later was lines changed is split = record {
+pub copies_changed : (shows : List ℕ → List ℕ) (out run rest text line after extra kept new later : List ℕ) → Copies shows out run rest text
+    → CutsLine rest line after → shows line ≡ extra ++ kept → new ≡ (out ++ take (length run - length rest) run) ++ extra
+    → later ≡ kept ++ after → Copies shows new later after text
+copies_changed shows out run rest text line after extra kept new later was cut changed is split = record {
   front = kept;
   split = split;
-  shown = rw (is, (front_taken run was.front rest was.split).0) (simp append_assoc (simp append_assoc at (rw (lines, changed) at was.shown)));
+  fits = omega (arith, ap length split, length-append kept after);
+  shown = rw (is, (front_taken run was.front rest was.split).0) (simp append_assoc (simp append_assoc at (rw (cut.lines, changed) at was.shown)));
 }
 
 longer_lines : (lines : List (List ℕ)) → length (joined lines) ≤ length (flat_map quoted lines)
@@ -252,11 +239,11 @@ pub record Counts (text rest : List ℕ) (marked : ℕ) : Type 0 where
   pub few : 5 * marked + length rest ≤ length text
 
 -- one more line, of which so many are marked
-pub counts_line : (text rest line after : List ℕ) (marked more : ℕ) → Counts text rest marked → (lines_of rest ≡ line ∷ lines_of after) × (rest ≡ line ++ after)
+pub counts_line : (text rest line after : List ℕ) (marked more : ℕ) → Counts text rest marked → CutsLine rest line after
     → length (quoted line) ≡ more + length line → 5 * more ≤ length line → Counts text after (marked + more)
 counts_line text rest line after marked more was cut one five =
-    let shown = ap (λ (ls : List (List ℕ)). length (flat_map quoted ls)) cut.0 ∙ length-append (quoted line) (quoted_text after) in
-    let whole = ap length cut.1 ∙ length-append line after in
+    let shown = ap (λ (ls : List (List ℕ)). length (flat_map quoted ls)) cut.lines ∙ length-append (quoted line) (quoted_text after) in
+    let whole = ap length cut.whole ∙ length-append line after in
     record { total = omega (arith, was.total, shown, one, whole); few = omega (arith, was.few, whole, five) }
 
 -- ---- the size of an unquoted text
@@ -266,8 +253,15 @@ pub record Sizes (text rest : List ℕ) (size : ℕ) : Type 0 where
   pub total : size + wire_size (unquoted_text rest) ≡ wire_size (unquoted_text text)
   pub few : size + 2 * length rest ≤ 2 * length text
 
-pub wire_size-append : (xs ys : List ℕ) → wire_size (xs ++ ys) ≡ wire_size xs + wire_size ys
-wire_size-append xs ys = omega (arith, length-append xs ys, sum_by-append (λ (byte : ℕ). cond (byte == 10) 1 0) xs ys)
+-- one more line
+pub sizes_line : (text rest line after : List ℕ) (size more : ℕ) → Sizes text rest size → CutsLine rest line after → more ≡ wire_size (unquoted line)
+    → more ≤ 2 * length line → Sizes text after (size + more)
+sizes_line text rest line after size more was cut is bound =
+    let show = unquoted line in
+    let shown = ap (λ (ls : List (List ℕ)). wire_size (flat_map unquoted ls)) cut.lines in
+    let parts = sum_by-append (λ (byte : ℕ). cond (byte == 10) 1 0) show (unquoted_text after) in
+    let whole = ap length cut.whole ∙ length-append line after in
+    record { total = omega (arith, was.total, shown, parts, length-append show (unquoted_text after), is); few = omega (arith, was.few, whole, bound) }
 
 -- ---- groups as lists of lines
 
@@ -354,6 +348,11 @@ entry_lines text whole =
     ap lines_of (sym (entry_bytes text) ∙ sym (append-nil (group_bytes (entry_group text)))) ∙ groups_lines (entry_group text ∷ []) (entry_is_group text whole, tt)
     ∙ append-nil (group_lines (entry_group text))
 
+pub adds_entry : EntryAddsText
+adds_entry file text texts was whole =
+    rw (entry_bytes text, lines_read (lines_of text), lines_joined text) at
+    (adds_group file texts (entry_group text) was (entry_is_group text whole))
+
 -- ---- an entry may follow texts
 
 lines_end : (line : List ℕ) (lines : List (List ℕ)) → IsLine line → AllByRecursion IsLine lines → (front : List ℕ) × (joined (line ∷ lines) ≡ front ++ 10 ∷ [])
@@ -384,17 +383,6 @@ groups_go_on (group ∷ groups) are = inr (
   ],
 )
 
--- ---- one group cut off
-
--- the first line of the bytes, and lines that don't begin with `From `, come before the rest
-pub record Passes (bytes rest : List ℕ) : Type 0 where
-  pub head : List ℕ
-  pub inner : List (List ℕ)
-  pub front : List ℕ
-  pub lines : lines_of bytes ≡ head ∷ (inner ++ lines_of rest)
-  pub whole : bytes ≡ front ++ rest
-  pub apart : AllByRecursion IsApart inner
-
 -- ---- the whole file
 
 -- the front of the bytes stands for these texts; if the bytes stand for texts, the rest does too
@@ -416,17 +404,17 @@ pub agrees : (rest group after : List ℕ) (groups : List Group) → CutsGroup r
     → rest ≡ flat_map group_bytes groups → Agrees group after
 agrees rest group after [] cut some are whole = absurd (omega (arith, ap length whole))
 agrees rest group after (first ∷ groups) cut some are whole =
-    let lines : cut.head ∷ (cut.inner ++ lines_of after) ≡ first.head ∷ ((first.lines ++ (10 ∷ []) ∷ []) ++ flat_map group_lines groups) =
-    sym cut.lines ∙ ap lines_of whole ∙ groups_lines (first ∷ groups) are in
-    let span = same_span cut.inner (first.lines ++ (10 ∷ []) ∷ []) (lines_of after) (flat_map group_lines groups)
-    cut.apart (inner_apart first.lines are.0.1) cut.opens (opens_groups groups are.1) (cc) in
+    let lines : cut.0.head ∷ (cut.0.inner ++ lines_of after) ≡ first.head ∷ ((first.lines ++ (10 ∷ []) ∷ []) ++ flat_map group_lines groups) =
+    sym cut.0.lines ∙ ap lines_of whole ∙ groups_lines (first ∷ groups) are in
+    let span = same_span cut.0.inner (first.lines ++ (10 ∷ []) ∷ []) (lines_of after) (flat_map group_lines groups)
+    cut.0.apart (inner_apart first.lines are.0.1) cut.1 (opens_groups groups are.1) (cc) in
     let rest-is : after ≡ flat_map group_bytes groups =
     sym (lines_joined after) ∙ ap joined (span.1 ∙ sym (groups_lines groups are.1)) ∙ lines_joined (flat_map group_bytes groups) in
     record {
       first = first;
       groups = groups;
       are = are;
-      bytes = append_cancel_right group (group_bytes first) after (sym cut.whole ∙ whole ∙ ap (λ (l : List ℕ). group_bytes first ++ l) (sym rest-is));
+      bytes = append_cancel_right group (group_bytes first) after (sym cut.0.whole ∙ whole ∙ ap (λ (l : List ℕ). group_bytes first ++ l) (sym rest-is));
       whole = rest-is;
     }
 
@@ -437,17 +425,16 @@ group_of head text = record { head = head; lines = lines_of text }
 pub group_of_bytes : (head text : List ℕ) → group_bytes (group_of head text) ≡ head ++ (text ++ 10 ∷ [])
 group_of_bytes head text = ap (λ (l : List ℕ). head ++ (l ++ 10 ∷ [])) (lines_joined text)
 
+inner_from : (lines : List (List ℕ)) → AllByRecursion IsLine lines → AllByRecursion IsApart (lines ++ (10 ∷ []) ∷ [])
+    → AllByRecursion IsInner lines
+inner_from [] all apart = tt
+inner_from (line ∷ lines) all apart = ((all.0, apart.0), inner_from lines all.1 apart.1)
+
 pub holds_group : (rest group after text : List ℕ) → CutsGroup rest group after → (held : HoldsText group text) → IsGroup (group_of held.head text)
 holds_group rest group after text cut held =
     let all = whole_lines text held.whole in
     let same : group ≡ group_bytes (group_of held.head text) = held.split ∙ sym (group_of_bytes held.head text) in
-    let lines : cut.head ∷ (cut.inner ++ lines_of after) ≡ held.head ∷ ((lines_of text ++ (10 ∷ []) ∷ []) ++ lines_of after) =
-    sym cut.lines ∙ ap lines_of (cut.whole ∙ ap (λ (l : List ℕ). l ++ after) same) ∙ group_first (group_of held.head text) after held.begins.0 all in
-    let inner = append_cancel_right cut.inner (lines_of text ++ (10 ∷ []) ∷ []) (lines_of after) (cc) in
-    let apart = All-from_recursion IsApart (lines_of text ++ (10 ∷ []) ∷ []) (rw inner at cut.apart) in (
-      held.begins,
-      recursion_from_All IsInner (lines_of text) (λ k d inside. (
-        All-from_recursion IsLine (lines_of text) all k d inside,
-        rw (get_or_append_left (lines_of text) ((10 ∷ []) ∷ []) d k inside) at (apart k d (omega (arith, inside, length-append (lines_of text) ((10 ∷ []) ∷ [])))),
-      )),
-    )
+    let lines : cut.0.head ∷ (cut.0.inner ++ lines_of after) ≡ held.head ∷ ((lines_of text ++ (10 ∷ []) ∷ []) ++ lines_of after) =
+    sym cut.0.lines ∙ ap lines_of (cut.0.whole ∙ ap (λ (l : List ℕ). l ++ after) same) ∙ group_first (group_of held.head text) after held.begins.0 all in
+    let inner = append_cancel_right cut.0.inner (lines_of text ++ (10 ∷ []) ∷ []) (lines_of after) (cc) in
+    (held.begins, inner_from (lines_of text) all (rw inner at cut.0.apart))

@@ -1,5 +1,5 @@
 -- What a loss of power may leave of a file and of an entry in it, and what settling does to that file.
-use Rattle.std.proofs.Common.{◌≡◌, inl, inr, ℕ, ◌+◌, List, [], ◌∷◌, ◌++◌, length, take, Option, Some, option_map, refl, sym, ap, ◌∙◌, append_assoc, append-nil, Bool, false, ◌&&◌, drop, arith, length-append, ◌⊎◌, suc, ◌-◌, ◌≤◌, ◌%◌, true, subst, not, nat_eq, ◌==◌}
+use Rattle.std.proofs.Common.{◌≡◌, inl, inr, ℕ, ◌+◌, List, [], ◌∷◌, ◌++◌, length, take, Option, Some, None, is_some, take-append-drop, option_map, refl, sym, ap, ◌∙◌, append_assoc, append-nil, Bool, false, ◌&&◌, drop, arith, length-append, ◌⊎◌, suc, ◌-◌, ◌≤◌, ◌%◌, true, subst, not, nat_eq, ◌==◌}
 use Rattle.std.proofs.lemmas.Option.{same_Some}
 use Rattle.std.proofs.Math.Seq.{take-append_seam, drop-append_seam}
 use Rattle.std.specs.List.{list_all, starts_with, AllByRecursion}
@@ -11,14 +11,13 @@ use Rattle.std.proofs.lemmas.List.{nil_from_length, same_from_push}
 use Rattle.std.proofs.lemmas.List.Elements.{All-from_recursion}
 use Rattle.std.proofs.lemmas.List.Sums.{list_all-from_AllPass}
 use Rattle.std.proofs.lemmas.Slice.Eq.{ends_is}
-use Rattle.memchr.specs.Find.{OccursAt}
-use Rattle.memchr.proofs.lemmas.MatchLemmas.{OccursAt-from_part}
+use Rattle.memchr.specs.Find.{FindsNeedle, OccursAt}
+use Rattle.memchr.proofs.lemmas.MatchLemmas.{OccursAt-from_part, OccursAt-split}
 use Rattle.mail_terms.specs.Text.{HasNoLf, IsWhole}
 use Rattle.mail_store.specs.Power.{IsLonger, LeavesFronts, LeavesLonger, Outlives, KeepsBytes}
 use Rattle.mail_store.specs.Settling.{MayBeLeft, is_one_entry, block_size, is_lost, is_torn, begin_with, ends_empty, is_ours, is_entry, has_size, stands_whole, settled_file, LeftoversAreSettled, FrontsAreSettled, WholeEntriesCount}
-use Rattle.mail_store.specs.Mboxrd.{lines_of, from_words, begins_entry, separator, quoted_text, entry_of, text_in}
+use Rattle.mail_store.specs.Mboxrd.{lines_of, from_words, begins_entry, separator, quoted_text, entry_of, text_in, IsApart}
 use Rattle.mail_store.proofs.MboxLemmas.{first_of, onto_parts, begins_with, unquotes_quoted, inner_apart, entry_bytes, entry_group, entry_lines, entry_is_group, group_ends}
-use Rattle.mail_store.specs.MboxScan.{IsApart}
 
 -- what begins with these bytes
 abbrev pub Begins : List ℕ → Option (List ℕ) → Type 0
@@ -80,7 +79,7 @@ one_entry_step byte rest = elim (eqb_tells byte 10) [
 ]
 
 -- if such a line follows, the needle is somewhere
-pub needle_split : (bytes : List ℕ) → is_one_entry bytes ≡ false → (front : List ℕ) × (back : List ℕ) × (bytes ≡ front ++ (needle ++ back))
+needle_split : (bytes : List ℕ) → is_one_entry bytes ≡ false → (front : List ℕ) × (back : List ℕ) × (bytes ≡ front ++ (needle ++ back))
 needle_split [] e = absurd (true≢false e)
 needle_split (byte ∷ rest) e = elim (and_cases (not (byte == 10 && begins_entry rest)) (is_one_entry rest) (sym (one_entry_step byte rest) ∙ e)) [
   | inl here ↦
@@ -92,13 +91,22 @@ needle_split (byte ∷ rest) e = elim (and_cases (not (byte == 10 && begins_entr
 ]
 
 -- and the other way round
-pub needle_there : (front back : List ℕ) → is_one_entry (front ++ (needle ++ back)) ≡ false
+needle_there : (front back : List ℕ) → is_one_entry (front ++ (needle ++ back)) ≡ false
 needle_there [] back = one_entry_step 10 (from_words ++ back)
 needle_there (byte ∷ front) back = one_entry_step byte (front ++ (needle ++ back)) ∙ and_right _ _ (needle_there front back)
 
-pub needle_occurs : (front back : List ℕ) → OccursAt (front ++ (needle ++ back)) needle (length front)
+needle_occurs : (front back : List ℕ) → OccursAt (front ++ (needle ++ back)) needle (length front)
 needle_occurs front back = OccursAt-from_part (front ++ (needle ++ back)) needle (length front) (omega (arith, length-append front (needle ++ back)))
     (ap (take 6) (drop-append_seam front (needle ++ back)))
+
+-- a search for the needle finds such a line
+pub found_entry : (bytes : List ℕ) (found : Option ℕ) → FindsNeedle bytes needle 0 found → is_some found ≡ not (is_one_entry bytes)
+found_entry bytes (Some place) first = sym (ap not (rw (← OccursAt-split bytes needle place first.1, take-append-drop place bytes) at
+    (needle_there (take place bytes) (drop (place + 6) bytes))))
+found_entry bytes None none = sym (ap not (true_from_ne_false (is_one_entry bytes) (λ fails.
+    let s = needle_split bytes fails in
+    let occurs = subst (λ (l : List ℕ). OccursAt l needle (length s.0)) (sym s.2) (needle_occurs s.0 s.1) in
+    none (length s.0) (omega arith) (omega (arith, occurs.fits)) occurs)))
 
 -- ---- blocks
 

@@ -1,14 +1,12 @@
 -- The faults that a device may answer, and which of them is a refusal.
 use Rattle.std.specs.Prelude.{◌≡◌, Bool, true, false, ◌⊎◌}
 use Rattle.mail_store.specs.declared.fault.StoreFault.{StoreFault}
-use Rattle.mail_store.specs.declared.fault.StoreFault.TheVariants.{Missing, Refused, NotMbox, NoMemory}
+use Rattle.mail_store.specs.declared.fault.StoreFault.TheVariants.{Missing, Refused}
 
 -- whether the device refused the call; refusals are counted
 abbrev pub is_refusal : StoreFault → Bool
-is_refusal Missing = false
 is_refusal Refused = true
-is_refusal NotMbox = false
-is_refusal NoMemory = false
+is_refusal fault = false
 
 -- the fault of a call that needs a folder or a file to be there
 abbrev pub IsDeviceFault : StoreFault → Type 0

@@ -3,7 +3,7 @@
 use Rattle.std.specs.Prelude.{◌≡◌, ℕ, ◌+◌, ◌≤◌, List, [], ◌∷◌, ◌++◌, length, take, drop}
 use Rattle.std.specs.Prelude.{slice_index, Option, Some, None, Result, Ok, Err, ◌⊎◌, Vec}
 use Rattle.mail_store.specs.declared.fault.StoreFault.{StoreFault}
-use Rattle.mail_store.specs.declared.fault.StoreFault.TheVariants.{Missing, Refused, NotMbox, NoMemory}
+use Rattle.mail_store.specs.declared.fault.StoreFault.TheVariants.{Missing, Refused}
 use Rattle.mail_store.specs.declared.file.flat_file.Edges.{Edges}
 
 -- what is known of a file: its bytes, None if there is no file, and how many calls were refused
@@ -32,8 +32,7 @@ edges_of bytes = record {
 abbrev pub Denies : Stored → StoreFault → Stored → Type 0
 Denies old Missing new = (old.content ≡ None) × (new ≡ old)
 Denies old Refused new = new ≡ counted old
-Denies old NotMbox new = ⊥
-Denies old NoMemory new = ⊥
+Denies old fault new = ⊥
 
 -- `load` and `peek`: the file's bytes
 abbrev pub Loads : {B : Type 0} → Stored → Result (Vec ℕ B) StoreFault → Stored → Type 0

@@ -46,7 +46,11 @@ has_text texts q = contains_by (λ text. slice_cmp nat_cmp q text.now) texts
 abbrev pub any_name : {A : Type 0} → List ℕ → List ℕ → List (String A) → Bool
 any_name account q names = list_any (λ name. bytes_eq (account ++ 46 ∷ q) (stem (string_bytes name))) names
 
--- each of the first n items for which both flags are set has its stem among these
-abbrev pub HasStems : {A : Type 0} → List ℕ → List Item → List Bool → List Bool → ℕ → List (String A) → Type 0
-HasStems account items held flags n stems = (k : ℕ) (item : Item) → k < n → HoldsAt (λ i. i ≡ item) items k → HoldsAt (λ h. h ≡ true) held k
+-- the item at this place has its stem among these, if both of its flags are set
+abbrev pub HasStem : {A : Type 0} → List ℕ → List Item → List Bool → List Bool → List (String A) → ℕ → Type 0
+HasStem account items held flags stems k = (item : Item) → HoldsAt (λ i. i ≡ item) items k → HoldsAt (λ h. h ≡ true) held k
     → HoldsAt (λ f. f ≡ true) flags k → is_among stems (stem_of account item.uid) ≡ true
+
+-- so does each of the first n items
+abbrev pub HasStems : {A : Type 0} → List ℕ → List Item → List Bool → List Bool → ℕ → List (String A) → Type 0
+HasStems account items held flags n stems = (k : ℕ) → k < n → HasStem account items held flags stems k

@@ -1,5 +1,6 @@
 pub mod Fault
 pub mod Maildir
+pub mod Devices
 pub mod FlatFile
 pub mod Fuse
 pub mod FileName
@@ -7,7 +8,6 @@ pub mod Held
 pub mod Loss
 pub mod Mboxrd
 pub mod MboxCalls
-pub mod MboxScan
 pub mod MemoryMaildir
 pub mod Power
 pub mod Settling

@@ -101,8 +101,7 @@ Lists old folder (Ok names) new =
     (is_there old.there folder ≡ true) × AreTheirs old.files names.items × (new ≡ old)
 Lists old folder (Err Missing) new = (is_there old.there folder ≡ false) × (new ≡ old)
 Lists old folder (Err Refused) new = new ≡ counted old
-Lists old folder (Err NotMbox) new = ⊥
-Lists old folder (Err NoMemory) new = ⊥
+Lists old folder (Err fault) new = ⊥
 
 -- `all_names`: the name of each file of `new` and `cur`, in any order
 abbrev pub ListsAll : {A B : Type 0} → Maildir → Result (Vec (String A) B) StoreFault → Maildir → Type 0
@@ -110,16 +109,14 @@ ListsAll old (Ok names) new =
     (old.there.new ≡ true) × (old.there.cur ≡ true) × IsPermutation (names_of old.files) (bases_told names.items) × (new ≡ old)
 ListsAll old (Err Missing) new = ((old.there.new ≡ false) ⊎ (old.there.cur ≡ false)) × (new ≡ old)
 ListsAll old (Err Refused) new = new ≡ counted old
-ListsAll old (Err NotMbox) new = ⊥
-ListsAll old (Err NoMemory) new = ⊥
+ListsAll old (Err fault) new = ⊥
 
 -- `check`: the folder is there
 abbrev pub Checks : {T : Type 0} → Maildir → Folder → Result T StoreFault → Maildir → Type 0
 Checks old folder (Ok done) new = (is_there old.there folder ≡ true) × (new ≡ old)
 Checks old folder (Err Missing) new = (is_there old.there folder ≡ false) × (new ≡ old)
 Checks old folder (Err Refused) new = new ≡ counted old
-Checks old folder (Err NotMbox) new = ⊥
-Checks old folder (Err NoMemory) new = ⊥
+Checks old folder (Err fault) new = ⊥
 
 -- `flush`: nothing that calls see changes
 abbrev pub Flushes : {T : Type 0} → Maildir → Result T StoreFault → Maildir → Type 0
@@ -131,8 +128,7 @@ abbrev pub Begins : {T : Type 0} → Maildir → List ℕ → Result T StoreFaul
 Begins old name (Ok done) new = (old.there.tmp ≡ true) × (new ≡ record old { begun = Some (file name []) })
 Begins old name (Err Missing) new = (old.there.tmp ≡ false) × (new ≡ old)
 Begins old name (Err Refused) new = new ≡ counted old
-Begins old name (Err NotMbox) new = ⊥
-Begins old name (Err NoMemory) new = ⊥
+Begins old name (Err fault) new = ⊥
 
 -- `add`: the bytes follow those of the file that is being written; a refused call leaves that file
 -- begun, with any bytes

@@ -7,7 +7,7 @@ use Rattle.mail_store.specs.Fault.{is_refusal}
 use Rattle.mail_store.specs.declared.fault.StoreFault.{StoreFault}
 use Rattle.mail_store.specs.declared.fault.StoreFault.TheVariants.{Missing, Refused, NotMbox, NoMemory}
 use Rattle.mail_store.specs.declared.file.flat_file.Edges.{Edges}
-use Rattle.mail_store.specs.FlatFile.{Stored, holding, counted, edges_of}
+use Rattle.mail_store.specs.FlatFile.{Stored, Denies, holding, counted, edges_of}
 use Rattle.mail_store.specs.Mboxrd.{MayGoOn, MboxFile, HasNoTexts, entry_of}
 
 -- the file has these bytes, and an entry may follow them
@@ -20,10 +20,8 @@ IsOther stored = (was : List ℕ) × (stored.content ≡ Some was) × (MayGoOn w
 
 -- a file that was only looked at: there is none; the call was refused; or no entry may follow its bytes
 abbrev pub RefusesLook : Stored → StoreFault → Stored → Type 0
-RefusesLook old Missing new = (old.content ≡ None) × (new ≡ old)
-RefusesLook old Refused new = new ≡ counted old
 RefusesLook old NotMbox new = IsOther old × (new ≡ old)
-RefusesLook old NoMemory new = ⊥
+RefusesLook old fault new = Denies old fault new
 
 -- `peek_ends`: the size and the ends of a file that an entry may follow
 abbrev pub Looks : Stored → Result Edges StoreFault → Stored → Type 0
@@ -59,7 +57,6 @@ texts_of texts = map (λ text. text.items) texts.items
 -- `read_mbox`: the texts that the bytes stand for; they stand for none; or memory ran out
 abbrev pub ReadsMbox : {A B : Type 0} → List ℕ → Result (Vec (Vec ℕ A) B) StoreFault → Type 0
 ReadsMbox bytes (Ok texts) = MboxFile bytes (texts_of texts)
-ReadsMbox bytes (Err Missing) = ⊥
-ReadsMbox bytes (Err Refused) = ⊥
 ReadsMbox bytes (Err NotMbox) = HasNoTexts bytes
 ReadsMbox bytes (Err NoMemory) = Unit {0}
+ReadsMbox bytes (Err fault) = ⊥

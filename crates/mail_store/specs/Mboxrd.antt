@@ -124,3 +124,38 @@ OneReading = (file : List ℕ) (texts others : List (List ℕ)) → MboxFile fil
 -- a law: an entry may follow each file that stands for texts
 abbrev pub TextsMayGoOn : Type 0
 TextsMayGoOn = (file : List ℕ) (texts : List (List ℕ)) → MboxFile file texts → MayGoOn file
+
+-- ---- a file that is read group by group
+
+abbrev pub IsApart : List ℕ → Type 0
+IsApart line = begins_entry line ≡ false
+
+-- there are no lines, or the first one begins with `From `
+abbrev pub OpensEntry : List (List ℕ) → Type 0
+OpensEntry [] = Unit {0}
+OpensEntry (line ∷ lines) = begins_entry line ≡ true
+
+-- the first line of some bytes is cut off; it may lack its LF only if nothing follows
+pub record CutsLine (bytes line rest : List ℕ) : Type 0 where
+  pub lines : lines_of bytes ≡ line ∷ lines_of rest
+  pub whole : bytes ≡ line ++ rest
+  pub ended : IsLine line ⊎ (rest ≡ [])
+
+-- a front of some bytes is their first line and lines that don't begin with `From `
+pub record StartsGroup (bytes front rest : List ℕ) : Type 0 where
+  pub head : List ℕ
+  pub inner : List (List ℕ)
+  pub lines : lines_of bytes ≡ head ∷ (inner ++ lines_of rest)
+  pub apart : AllByRecursion IsApart inner
+  pub whole : bytes ≡ front ++ rest
+
+-- the first line of some bytes and the lines after it, up to the next that begins with `From `, are cut off
+abbrev pub CutsGroup : List ℕ → List ℕ → List ℕ → Type 0
+CutsGroup bytes group rest = StartsGroup bytes group rest × OpensEntry (lines_of rest)
+
+-- lines that stand for a text: one that begins with `From `, those of a quoted text, and an empty one
+pub record HoldsText (group quoted : List ℕ) : Type 0 where
+  pub head : List ℕ
+  pub begins : IsHead head
+  pub whole : IsWhole quoted
+  pub split : group ≡ head ++ (quoted ++ 10 ∷ [])

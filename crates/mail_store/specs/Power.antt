@@ -3,7 +3,7 @@ use Rattle.std.specs.Prelude.{◌≡◌, ◌⊎◌, ◌<◌, ℕ, List, ◌++◌
 use Rattle.std.specs.Prelude.{Some, option_map, Result, Ok, Err, Vec, String, string_bytes, Contains, filter}
 use Rattle.std.specs.List.{list_any}
 use Rattle.mail_store.specs.declared.fault.StoreFault.{StoreFault}
-use Rattle.mail_store.specs.declared.fault.StoreFault.TheVariants.{Missing, Refused, NotMbox, NoMemory}
+use Rattle.mail_store.specs.declared.fault.StoreFault.TheVariants.{Refused}
 use Rattle.mail_store.specs.Maildir.{Maildir, File, mail, names_of, bases_told}
 use Rattle.mail_store.specs.FileName.{stem}
 use Rattle.mail_store.specs.Settling.{MayBeLeft}
@@ -101,8 +101,5 @@ KeepsWhole content may_leave may_leave' =
 
 -- the call was refused, or this holds
 abbrev pub UnlessRefused : {T : Type 0} → Result T StoreFault → Type 0 → Type 0
-UnlessRefused (Ok done) P = P
-UnlessRefused (Err Missing) P = P
 UnlessRefused (Err Refused) P = Unit {0}
-UnlessRefused (Err NotMbox) P = P
-UnlessRefused (Err NoMemory) P = P
+UnlessRefused result P = P

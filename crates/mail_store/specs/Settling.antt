@@ -1,6 +1,6 @@
 -- What a file has from the place on where an entry was about to be appended when a session was cut, and what becomes of it.
 use Rattle.std.specs.Prelude.{◌≡◌, ◌⊎◌, ◌≤◌, ◌==◌, ◌&&◌, ◌||◌, ◌+◌, ◌-◌, ◌%◌, not, ℕ, Bool, true, false, List, [], ◌∷◌, ◌++◌}
-use Rattle.std.specs.Prelude.{length, take, drop, Option, Some, None, Result, Ok, Err, Vec, nat_eq, nat_lt, nat_le}
+use Rattle.std.specs.Prelude.{length, take, drop, Option, Some, None, Result, Ok, Err, nat_eq, nat_lt, nat_le}
 use Rattle.std.specs.Prelude.{bytes_eq, if◌then◌else◌}
 use Rattle.std.specs.List.{ends_with, list_all}
 use Rattle.mail_terms.specs.Listing.{Item}
@@ -9,7 +9,7 @@ use Rattle.mail_store.specs.declared.fault.StoreFault.{StoreFault}
 use Rattle.mail_store.specs.declared.fault.StoreFault.TheVariants.{Missing, Refused, NotMbox, NoMemory}
 use Rattle.mail_store.specs.declared.mboxrd.settling.Behind.{Behind}
 use Rattle.mail_store.specs.declared.mboxrd.settling.Behind.TheVariants.{Others, Whole, Torn}
-use Rattle.mail_store.specs.FlatFile.{Stored, holding, counted, piece_at}
+use Rattle.mail_store.specs.FlatFile.{Stored, Denies, holding, counted}
 use Rattle.mail_store.specs.Mboxrd.{lines_of, begins_entry, separator, entry_of, text_in, wire_size}
 
 -- ---- what a loss of power leaves
@@ -120,15 +120,6 @@ WholeEntriesCount = (file text : List ℕ) (listed : Option ℕ) → IsWhole tex
 
 -- ---- what the calls do
 
--- the bytes from `start` on were read, at most this many; memory ran out; or the call failed
-abbrev pub ReadsBehind : {A : Type 0} → Stored → ℕ → ℕ → Result (Vec ℕ A) StoreFault → Stored → Type 0
-ReadsBehind old start behind (Ok bytes) new =
-    ((was : List ℕ) × (old.content ≡ Some was) × (bytes.items ≡ piece_at start behind was)) × (new ≡ old)
-ReadsBehind old start behind (Err Missing) new = (old.content ≡ None) × (new ≡ old)
-ReadsBehind old start behind (Err Refused) new = new ≡ counted old
-ReadsBehind old start behind (Err NotMbox) new = ⊥
-ReadsBehind old start behind (Err NoMemory) new = new ≡ old
-
 -- at `start` of this file is nothing that settling touches, the whole entry, or what it cuts off
 abbrev pub IsBehind : Behind → ℕ → ℕ → Option ℕ → List ℕ → Type 0
 IsBehind Others start len listed was = (stands_whole start len listed was ≡ false) × (settled_file start len listed was ≡ was)
@@ -140,10 +131,8 @@ IsBehind Torn start len listed was = (stands_whole start len listed was ≡ fals
 abbrev pub LooksBehind : Stored → ℕ → ℕ → Option ℕ → Result Behind StoreFault → Stored → Type 0
 LooksBehind old start len listed (Ok behind) new =
     ((was : List ℕ) × (old.content ≡ Some was) × IsBehind behind start len listed was) × (new ≡ old)
-LooksBehind old start len listed (Err Missing) new = (old.content ≡ None) × (new ≡ old)
-LooksBehind old start len listed (Err Refused) new = new ≡ counted old
-LooksBehind old start len listed (Err NotMbox) new = ⊥
 LooksBehind old start len listed (Err NoMemory) new = new ≡ old
+LooksBehind old start len listed (Err fault) new = Denies old fault new
 
 -- `settle_file`: the file is settled, and the answer is whether the entry is there whole; there is no file; a call was
 -- refused, and the file is as it was, or settled; or memory ran out, and the file is as it was

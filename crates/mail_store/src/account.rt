@@ -1,10 +1,9 @@
 //! What tells accounts apart in the names of their files.
 
 ghost use Rattle.std.specs.Prelude.{◌≡◌, ℕ, List, [], ◌∷◌, ◌++◌, length, decimal};
-ghost use Rattle.std.specs.List.{AllPass};
 ghost use Rattle.hex.specs.Hex.{encode_lower};
 ghost use Rattle.sha2.specs.Sha256.{sha256};
-ghost use Rattle.mail_store.specs.FileName.{account_text, is_lower_hex_digit, IsAccountText};
+ghost use Rattle.mail_store.specs.FileName.{account_text, IsAccountText};
 
 use itoa::Buffer;
 use sha2::{Digest, Sha256};
@@ -56,8 +55,7 @@ fn digest_of(server: &str, port: u16, username: &str) -> [u8; 32]
 /// The bytes of a digest in lower-case hexadecimal.
 fn lower_hex(digest: &[u8]) -> [u8; 64]
     requires { length digest.now ≡ 32 }
-    ensures text { result ≡ encode_lower digest.now }
-    ensures digits { AllPass is_lower_hex_digit result }
+    ensures { result ≡ encode_lower digest.now }
 {
     let mut text = [0u8; 64];
     hex::encode_to_slice(digest, &mut text).unwrap();
@@ -70,6 +68,7 @@ pub fn account_id(server: &str, port: u16, username: &str) -> AccountId
     ensures text { result ≡ account_text server.now port username.now }
     ensures digits { IsAccountText result }
 {
+    account_texts_are_digits();
     let digest = digest_of(server, port, username);
     AccountId {
         text: lower_hex(&digest),
@@ -77,6 +76,7 @@ pub fn account_id(server: &str, port: u16, username: &str) -> AccountId
 }
 
 /// The text of every account is 64 hexadecimal digits in lower case.
+#[tactic(auto, using(crate::proofs::MaildirLemmas::account_digits))]
 pub fn account_texts_are_digits()
     ensures { (server : List ℕ) (port : ℕ) (username : List ℕ) → IsAccountText (account_text server port username) }
 {}

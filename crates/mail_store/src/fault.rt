@@ -1,5 +1,7 @@
 //! Why a store refused a call.
 
+ghost use Rattle.std.specs.Prelude.{◌≡◌};
+
 use std::alloc::{AllocError, AllocFailed};
 use thiserror::Error;
 
@@ -21,7 +23,6 @@ pub enum StoreFault {
 }
 
 impl From<AllocError> for StoreFault {
-    ghost use Rattle.std.specs.Prelude.{◌≡◌};
     ghost use Rattle.mail_store.specs.declared.fault.StoreFault.TheVariants.{NoMemory};
 
     ghost from_gives = { λ _ e. e ≡ NoMemory };
@@ -32,7 +33,6 @@ impl From<AllocError> for StoreFault {
 }
 
 impl<T: Drop> From<AllocFailed<T>> for StoreFault {
-    ghost use Rattle.std.specs.Prelude.{◌≡◌};
     ghost use Rattle.mail_store.specs.declared.fault.StoreFault.TheVariants.{NoMemory};
 
     ghost from_gives = { λ _ e. e ≡ NoMemory };
@@ -54,24 +54,11 @@ pub enum EntryFault {
 }
 
 impl From<StoreFault> for EntryFault {
-    ghost use Rattle.std.specs.Prelude.{◌≡◌};
     ghost use Rattle.mail_store.specs.declared.fault.EntryFault.TheVariants.{Nothing};
 
     ghost from_gives = { λ fault e. e ≡ Nothing fault };
 
     fn from(fault: StoreFault) -> EntryFault {
         EntryFault::Nothing(fault)
-    }
-}
-
-impl From<AllocError> for EntryFault {
-    ghost use Rattle.std.specs.Prelude.{◌≡◌};
-    ghost use Rattle.mail_store.specs.declared.fault.EntryFault.TheVariants.{Nothing};
-    ghost use Rattle.mail_store.specs.declared.fault.StoreFault.TheVariants.{NoMemory};
-
-    ghost from_gives = { λ _ e. e ≡ Nothing NoMemory };
-
-    fn from(_fault: AllocError) -> EntryFault {
-        EntryFault::Nothing(StoreFault::NoMemory)
     }
 }

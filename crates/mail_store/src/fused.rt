@@ -52,13 +52,7 @@ impl<D> Fused<D> {
     pub fn into_inner(self) -> D
         ensures { result ≡ device_of self }
     {
-        let Fused {
-            device,
-            passes_left: _,
-            takes_effect: _,
-            failures: _,
-        } = self;
-        device
+        self.device
     }
 
     // Whether a call that the fuse refuses now takes effect.
@@ -118,6 +112,7 @@ impl<D: MaildirDisk> MaildirDisk for Fused<D> {
     ghost use Rattle.mail_store.specs.Fault.{IsDeviceFault};
     ghost use Rattle.mail_store.specs.Maildir.{AfterTaking, IsThere, Lists, ListsAll, Checks, Flushes, Begins, Adds, Settles};
     ghost use Rattle.mail_store.specs.Maildir.{dropped, name_begun};
+    ghost use Rattle.mail_store.specs.Devices.{DiskDoes, DiskKeeps};
     ghost use Rattle.mail_store.specs.Power.{FlushedOutlive, KeepsLeft, KeepsMail, SettledOutlives, ToldStay};
     ghost use Rattle.mail_store.specs.Fuse.{device_of, passes_left, effect_is_due, refusals, fused_maildir};
     ghost use Rattle.mail_store.specs.Fuse.{FusedIsSound, Burns, Fuses, SettlesBehind};
@@ -131,8 +126,8 @@ impl<D: MaildirDisk> MaildirDisk for Fused<D> {
     ghost sound = { λ f. FusedIsSound D.sound f };
 
     fn names(&mut self, folder: Folder) -> Result<Vec<String>, StoreFault>
-        ensures lists { FusedIsSound D.sound self.new → FusedIsSound D.sound self.old
-            × AfterTaking (fused_maildir D.maildir self.old) (λ left. Lists left folder result (fused_maildir D.maildir self.new)) }
+        ensures lists { DiskDoes ⟦<Fused<D> as MaildirDisk>⟧ (λ old new.
+            AfterTaking old (λ left. Lists left folder result new)) self.old self.new }
         ensures fault { IfErr result IsDeviceFault }
         ensures lasts { FusedIsSound D.sound self.new → KeepsLeft (D.maildir (device_of self.old)).files
             (D.maildir (device_of self.new)).files (D.stays (device_of self.old)) (D.outlives (device_of self.old))
@@ -146,8 +141,8 @@ impl<D: MaildirDisk> MaildirDisk for Fused<D> {
     }
 
     fn all_names(&mut self) -> Result<Vec<String>, StoreFault>
-        ensures lists { FusedIsSound D.sound self.new → FusedIsSound D.sound self.old
-            × AfterTaking (fused_maildir D.maildir self.old) (λ left. ListsAll left result (fused_maildir D.maildir self.new)) }
+        ensures lists { DiskDoes ⟦<Fused<D> as MaildirDisk>⟧ (λ old new.
+            AfterTaking old (λ left. ListsAll left result new)) self.old self.new }
         ensures fault { IfErr result IsDeviceFault }
         ensures lasts { FusedIsSound D.sound self.new → KeepsLeft (D.maildir (device_of self.old)).files
             (D.maildir (device_of self.new)).files (D.stays (device_of self.old)) (D.outlives (device_of self.old))
@@ -162,12 +157,9 @@ impl<D: MaildirDisk> MaildirDisk for Fused<D> {
     }
 
     fn check(&mut self, folder: Folder) -> Result<(), StoreFault>
-        ensures checks { FusedIsSound D.sound self.new → FusedIsSound D.sound self.old
-            × Checks (fused_maildir D.maildir self.old) folder result (fused_maildir D.maildir self.new) }
+        ensures checks { DiskDoes ⟦<Fused<D> as MaildirDisk>⟧ (λ old new. Checks old folder result new) self.old self.new }
         ensures fault { IfErr result IsDeviceFault }
-        ensures lasts { FusedIsSound D.sound self.new → KeepsMail (D.stays (device_of self.old)) (D.outlives (device_of self.old))
-            (D.stays (device_of self.new)) (D.outlives (device_of self.new)) }
-        ensures count { Tallies (refuses is_refusal result) (refusals self.old) (refusals self.new) }
+        ensures keeps { DiskKeeps ⟦<Fused<D> as MaildirDisk>⟧ self.old result self.new }
         ensures fuse { Fuses (λ d. (D.maildir d).failures) self.old result self.new }
     {
         self.pass()?;
@@ -176,14 +168,11 @@ impl<D: MaildirDisk> MaildirDisk for Fused<D> {
     }
 
     fn flush(&mut self, stems: &[String]) -> Result<(), StoreFault>
-        ensures flushes { FusedIsSound D.sound self.new → FusedIsSound D.sound self.old
-            × Flushes (fused_maildir D.maildir self.old) result (fused_maildir D.maildir self.new) }
+        ensures flushes { DiskDoes ⟦<Fused<D> as MaildirDisk>⟧ (λ old new. Flushes old result new) self.old self.new }
         ensures fault { IfErr result (λ e. e ≡ StoreFault.Refused) }
-        ensures lasts { FusedIsSound D.sound self.new → KeepsMail (D.stays (device_of self.old)) (D.outlives (device_of self.old))
-            (D.stays (device_of self.new)) (D.outlives (device_of self.new))
-            × FlushedOutlive (fused_maildir D.maildir self.old) stems.now result (D.stays (device_of self.old))
-            (D.outlives (device_of self.new)) }
-        ensures count { Tallies (refuses is_refusal result) (refusals self.old) (refusals self.new) }
+        ensures keeps { DiskKeeps ⟦<Fused<D> as MaildirDisk>⟧ self.old result self.new }
+        ensures lasts { FusedIsSound D.sound self.new → FlushedOutlive (fused_maildir D.maildir self.old) stems.now result
+            (D.stays (device_of self.old)) (D.outlives (device_of self.new)) }
         ensures fuse { Fuses (λ d. (D.maildir d).failures) self.old result self.new }
     {
         self.pass()?;
@@ -193,14 +182,11 @@ impl<D: MaildirDisk> MaildirDisk for Fused<D> {
 
     fn begin(&mut self, name: &str) -> Result<(), StoreFault>
         requires { FusedIsSound D.sound self.old → (D.maildir (device_of self.old)).begun ≡ None }
-        ensures begins { FusedIsSound D.sound self.new → FusedIsSound D.sound self.old
-            × Begins (fused_maildir D.maildir self.old) name.now result (fused_maildir D.maildir self.new) }
+        ensures begins { DiskDoes ⟦<Fused<D> as MaildirDisk>⟧ (λ old new. Begins old name.now result new) self.old self.new }
         ensures begun { OnOk result (name_begun (D.maildir (device_of self.new)) ≡ Some name.now)
             × OnErr result ((D.maildir (device_of self.new)).begun ≡ (D.maildir (device_of self.old)).begun) }
         ensures fault { IfErr result IsDeviceFault }
-        ensures lasts { FusedIsSound D.sound self.new → KeepsMail (D.stays (device_of self.old)) (D.outlives (device_of self.old))
-            (D.stays (device_of self.new)) (D.outlives (device_of self.new)) }
-        ensures count { Tallies (refuses is_refusal result) (refusals self.old) (refusals self.new) }
+        ensures keeps { DiskKeeps ⟦<Fused<D> as MaildirDisk>⟧ self.old result self.new }
         ensures fuse { Fuses (λ d. (D.maildir d).failures) self.old result self.new }
     {
         self.pass()?;
@@ -210,13 +196,10 @@ impl<D: MaildirDisk> MaildirDisk for Fused<D> {
 
     fn add(&mut self, bytes: &[u8]) -> Result<(), StoreFault>
         requires { FusedIsSound D.sound self.old → IsSome (D.maildir (device_of self.old)).begun }
-        ensures adds { FusedIsSound D.sound self.new → FusedIsSound D.sound self.old
-            × Adds (fused_maildir D.maildir self.old) bytes.now result (fused_maildir D.maildir self.new) }
+        ensures adds { DiskDoes ⟦<Fused<D> as MaildirDisk>⟧ (λ old new. Adds old bytes.now result new) self.old self.new }
         ensures begun { name_begun (D.maildir (device_of self.new)) ≡ name_begun (D.maildir (device_of self.old)) }
         ensures fault { IfErr result (λ e. e ≡ StoreFault.Refused) }
-        ensures lasts { FusedIsSound D.sound self.new → KeepsMail (D.stays (device_of self.old)) (D.outlives (device_of self.old))
-            (D.stays (device_of self.new)) (D.outlives (device_of self.new)) }
-        ensures count { Tallies (refuses is_refusal result) (refusals self.old) (refusals self.new) }
+        ensures keeps { DiskKeeps ⟦<Fused<D> as MaildirDisk>⟧ self.old result self.new }
         ensures fuse { Fuses (λ d. (D.maildir d).failures) self.old result self.new }
     {
         self.pass()?;
@@ -227,14 +210,12 @@ impl<D: MaildirDisk> MaildirDisk for Fused<D> {
     fn settle(&mut self, name: &str) -> Result<(), StoreFault>
         requires begun { FusedIsSound D.sound self.old → IsSome (D.maildir (device_of self.old)).begun }
         requires not_there { FusedIsSound D.sound self.old → IsThere (D.maildir (device_of self.old)) name.now → ⊥ }
-        ensures settles { FusedIsSound D.sound self.new → FusedIsSound D.sound self.old
-            × Settles (fused_maildir D.maildir self.old) name.now result (fused_maildir D.maildir self.new) }
+        ensures settles { DiskDoes ⟦<Fused<D> as MaildirDisk>⟧ (λ old new. Settles old name.now result new) self.old self.new }
         ensures none_begun { (D.maildir (device_of self.new)).begun ≡ None }
         ensures fault { IfErr result (λ e. e ≡ StoreFault.Refused) }
-        ensures lasts { FusedIsSound D.sound self.new → KeepsMail (D.stays (device_of self.old)) (D.outlives (device_of self.old))
-            (D.stays (device_of self.new)) (D.outlives (device_of self.new))
-            × SettledOutlives (fused_maildir D.maildir self.old) name.now result (D.outlives (device_of self.new)) }
-        ensures count { Tallies (refuses is_refusal result) (refusals self.old) (refusals self.new) }
+        ensures keeps { DiskKeeps ⟦<Fused<D> as MaildirDisk>⟧ self.old result self.new }
+        ensures lasts { FusedIsSound D.sound self.new
+            → SettledOutlives (fused_maildir D.maildir self.old) name.now result (D.outlives (device_of self.new)) }
         ensures fuse { (refusals self.old < greatest_count → Burns (λ d. (D.maildir d).failures) self.old result self.new)
             × (passes_left self.old ≡ 0 → FusedIsSound D.sound self.new
             → SettlesBehind (effect_is_due self.old) (D.maildir (device_of self.old)) name.now (D.maildir (device_of self.new))) }
@@ -252,8 +233,7 @@ impl<D: MaildirDisk> MaildirDisk for Fused<D> {
     }
 
     fn abandon(&mut self)
-        ensures drops { FusedIsSound D.sound self.new → FusedIsSound D.sound self.old
-            × (fused_maildir D.maildir self.new ≡ dropped (fused_maildir D.maildir self.old)) }
+        ensures drops { DiskDoes ⟦<Fused<D> as MaildirDisk>⟧ (λ old new. new ≡ dropped old) self.old self.new }
         ensures none_begun { (D.maildir (device_of self.new)).begun ≡ None }
         ensures lasts { FusedIsSound D.sound self.new → KeepsMail (D.stays (device_of self.old)) (D.outlives (device_of self.old))
             (D.stays (device_of self.new)) (D.outlives (device_of self.new)) }
@@ -271,9 +251,9 @@ impl<D: MaildirDisk> MaildirDisk for Fused<D> {
 impl<D: FlatFile> FlatFile for Fused<D> {
     ghost use Rattle.std.specs.Prelude.{◌≡◌, ◌≤◌, ◌<◌, length, IfErr, IfOk, IsSome, OnOk};
     ghost use Rattle.mail_terms.specs.FailureCount.{Tallies, refuses, greatest_count};
-    ghost use Rattle.mail_store.specs.Fault.{IsDeviceFault};
     ghost use Rattle.mail_store.specs.FlatFile.{Loads, Measures, ReadsAt, Appends, Cuts, Replaces, HasBytes};
-    ghost use Rattle.mail_store.specs.Power.{LastsWhole, LeavesEither, LeavesFronts, LeavesLonger, LeavesNoMore, LeavesPart, UnlessRefused};
+    ghost use Rattle.mail_store.specs.Devices.{FileDoes, FileFlushes, FileReads, FileWrites};
+    ghost use Rattle.mail_store.specs.Power.{LastsWhole, LeavesEither, LeavesFronts, LeavesLonger, LeavesPart};
     ghost use Rattle.mail_store.specs.Fuse.{device_of, passes_left, effect_is_due, refusals, fused_file};
     ghost use Rattle.mail_store.specs.Fuse.{FusedIsSound, Burns, Fuses, AppendsBehind, ReplacesBehind};
 
@@ -288,14 +268,8 @@ impl<D: FlatFile> FlatFile for Fused<D> {
     ghost sound = { λ f. FusedIsSound D.sound f };
 
     fn load(&mut self) -> Result<Vec<u8>, StoreFault>
-        ensures loads { FusedIsSound D.sound self.new → FusedIsSound D.sound self.old
-            × Loads (fused_file D.stored self.old) result (fused_file D.stored self.new) }
-        ensures fault { IfErr result IsDeviceFault }
-        ensures keeps { FusedIsSound D.sound self.new → LeavesNoMore (D.may_leave (device_of self.old)) (D.may_leave (device_of self.new)) }
-        ensures lasts { FusedIsSound D.sound self.new → D.is_sure (device_of self.old)
-            → UnlessRefused result (D.is_sure (device_of self.new)
-            × LastsWhole (fused_file D.stored self.new).content (D.is_on_disk (device_of self.new)) (D.may_leave (device_of self.new))) }
-        ensures count { Tallies (refuses is_refusal result) (refusals self.old) (refusals self.new) }
+        ensures loads { FileDoes ⟦<Fused<D> as FlatFile>⟧ (λ old new. Loads old result new) self.old self.new }
+        ensures keeps { FileFlushes ⟦<Fused<D> as FlatFile>⟧ self.old result self.new }
         ensures fuse { Fuses (λ d. (D.stored d).failures) self.old result self.new }
     {
         self.pass()?;
@@ -304,12 +278,9 @@ impl<D: FlatFile> FlatFile for Fused<D> {
     }
 
     fn peek(&mut self) -> Result<Vec<u8>, StoreFault>
-        ensures loads { FusedIsSound D.sound self.new → FusedIsSound D.sound self.old
-            × Loads (fused_file D.stored self.old) result (fused_file D.stored self.new) }
-        ensures fault { IfErr result IsDeviceFault }
-        ensures keeps { FusedIsSound D.sound self.new → LeavesNoMore (D.may_leave (device_of self.old)) (D.may_leave (device_of self.new)) }
+        ensures loads { FileDoes ⟦<Fused<D> as FlatFile>⟧ (λ old new. Loads old result new) self.old self.new }
+        ensures keeps { FileReads ⟦<Fused<D> as FlatFile>⟧ self.old result self.new }
         ensures sure { FusedIsSound D.sound self.new → D.is_sure (device_of self.old) → D.is_sure (device_of self.new) }
-        ensures count { Tallies (refuses is_refusal result) (refusals self.old) (refusals self.new) }
         ensures fuse { Fuses (λ d. (D.stored d).failures) self.old result self.new }
     {
         self.pass()?;
@@ -318,14 +289,8 @@ impl<D: FlatFile> FlatFile for Fused<D> {
     }
 
     fn edges(&mut self) -> Result<Edges, StoreFault>
-        ensures measures { FusedIsSound D.sound self.new → FusedIsSound D.sound self.old
-            × Measures (fused_file D.stored self.old) result (fused_file D.stored self.new) }
-        ensures fault { IfErr result IsDeviceFault }
-        ensures keeps { FusedIsSound D.sound self.new → LeavesNoMore (D.may_leave (device_of self.old)) (D.may_leave (device_of self.new)) }
-        ensures lasts { FusedIsSound D.sound self.new → D.is_sure (device_of self.old)
-            → UnlessRefused result (D.is_sure (device_of self.new)
-            × LastsWhole (fused_file D.stored self.new).content (D.is_on_disk (device_of self.new)) (D.may_leave (device_of self.new))) }
-        ensures count { Tallies (refuses is_refusal result) (refusals self.old) (refusals self.new) }
+        ensures measures { FileDoes ⟦<Fused<D> as FlatFile>⟧ (λ old new. Measures old result new) self.old self.new }
+        ensures keeps { FileFlushes ⟦<Fused<D> as FlatFile>⟧ self.old result self.new }
         ensures fuse { Fuses (λ d. (D.stored d).failures) self.old result self.new }
     {
         self.pass()?;
@@ -334,12 +299,9 @@ impl<D: FlatFile> FlatFile for Fused<D> {
     }
 
     fn peek_edges(&mut self) -> Result<Edges, StoreFault>
-        ensures measures { FusedIsSound D.sound self.new → FusedIsSound D.sound self.old
-            × Measures (fused_file D.stored self.old) result (fused_file D.stored self.new) }
-        ensures fault { IfErr result IsDeviceFault }
-        ensures keeps { FusedIsSound D.sound self.new → LeavesNoMore (D.may_leave (device_of self.old)) (D.may_leave (device_of self.new)) }
+        ensures measures { FileDoes ⟦<Fused<D> as FlatFile>⟧ (λ old new. Measures old result new) self.old self.new }
+        ensures keeps { FileReads ⟦<Fused<D> as FlatFile>⟧ self.old result self.new }
         ensures sure { FusedIsSound D.sound self.new → D.is_sure (device_of self.old) → D.is_sure (device_of self.new) }
-        ensures count { Tallies (refuses is_refusal result) (refusals self.old) (refusals self.new) }
         ensures fuse { Fuses (λ d. (D.stored d).failures) self.old result self.new }
     {
         self.pass()?;
@@ -348,14 +310,9 @@ impl<D: FlatFile> FlatFile for Fused<D> {
     }
 
     fn read_at(&mut self, start: u64, buf: &mut [u8]) -> Result<usize, StoreFault>
-        ensures reads { IfOk result (λ count. count ≤ length buf.new) × (FusedIsSound D.sound self.new → FusedIsSound D.sound self.old
-            × ReadsAt (fused_file D.stored self.old) start result buf.new (fused_file D.stored self.new)) }
-        ensures fault { IfErr result IsDeviceFault }
-        ensures keeps { FusedIsSound D.sound self.new → LeavesNoMore (D.may_leave (device_of self.old)) (D.may_leave (device_of self.new)) }
-        ensures lasts { FusedIsSound D.sound self.new → D.is_sure (device_of self.old)
-            → UnlessRefused result (D.is_sure (device_of self.new)
-            × LastsWhole (fused_file D.stored self.new).content (D.is_on_disk (device_of self.new)) (D.may_leave (device_of self.new))) }
-        ensures count { Tallies (refuses is_refusal result) (refusals self.old) (refusals self.new) }
+        ensures within { IfOk result (λ count. count ≤ length buf.new) }
+        ensures reads { FileDoes ⟦<Fused<D> as FlatFile>⟧ (λ old new. ReadsAt old start result buf.new new) self.old self.new }
+        ensures keeps { FileFlushes ⟦<Fused<D> as FlatFile>⟧ self.old result self.new }
         ensures fuse { Fuses (λ d. (D.stored d).failures) self.old result self.new }
     {
         self.pass()?;
@@ -365,16 +322,11 @@ impl<D: FlatFile> FlatFile for Fused<D> {
 
     fn append(&mut self, bytes: &[u8]) -> Result<(), StoreFault>
         requires { FusedIsSound D.sound self.old → IsSome (D.stored (device_of self.old)).content }
-        ensures appends { FusedIsSound D.sound self.new → FusedIsSound D.sound self.old
-            × Appends (fused_file D.stored self.old) bytes.now result (fused_file D.stored self.new) }
-        ensures fault { IfErr result (λ e. e ≡ StoreFault.Refused) }
+        ensures appends { FileDoes ⟦<Fused<D> as FlatFile>⟧ (λ old new. Appends old bytes.now result new) self.old self.new }
         ensures keeps { FusedIsSound D.sound self.new → LeavesLonger (D.may_leave (device_of self.old)) (D.may_leave (device_of self.new))
             × (LastsWhole (D.stored (device_of self.old)).content (D.is_on_disk (device_of self.old)) (D.may_leave (device_of self.old))
             → LeavesPart (fused_file D.stored self.old).content bytes.now (D.may_leave (device_of self.new))) }
-        ensures lasts { FusedIsSound D.sound self.new → D.is_sure (device_of self.old) → D.is_on_disk (device_of self.old)
-            → OnOk result (D.is_sure (device_of self.new)
-            × LastsWhole (fused_file D.stored self.new).content (D.is_on_disk (device_of self.new)) (D.may_leave (device_of self.new))) }
-        ensures count { Tallies (refuses is_refusal result) (refusals self.old) (refusals self.new) }
+        ensures lasts { FileWrites ⟦<Fused<D> as FlatFile>⟧ self.old result self.new }
         ensures fuse { (refusals self.old < greatest_count → Burns (λ d. (D.stored d).failures) self.old result self.new)
             × (passes_left self.old ≡ 0 → FusedIsSound D.sound self.new
             → AppendsBehind (effect_is_due self.old) (D.stored (device_of self.old)) bytes.now (D.stored (device_of self.new))) }
@@ -390,15 +342,10 @@ impl<D: FlatFile> FlatFile for Fused<D> {
 
     fn cut_to(&mut self, len: u64) -> Result<(), StoreFault>
         requires { FusedIsSound D.sound self.old → HasBytes (D.stored (device_of self.old)) len }
-        ensures cuts { FusedIsSound D.sound self.new → FusedIsSound D.sound self.old
-            × Cuts (fused_file D.stored self.old) len result (fused_file D.stored self.new) }
-        ensures fault { IfErr result (λ e. e ≡ StoreFault.Refused) }
+        ensures cuts { FileDoes ⟦<Fused<D> as FlatFile>⟧ (λ old new. Cuts old len result new) self.old self.new }
         ensures keeps { FusedIsSound D.sound self.new → LeavesFronts len (D.may_leave (device_of self.old))
             (D.may_leave (device_of self.new)) }
-        ensures lasts { FusedIsSound D.sound self.new → D.is_sure (device_of self.old) → D.is_on_disk (device_of self.old)
-            → OnOk result (D.is_sure (device_of self.new)
-            × LastsWhole (fused_file D.stored self.new).content (D.is_on_disk (device_of self.new)) (D.may_leave (device_of self.new))) }
-        ensures count { Tallies (refuses is_refusal result) (refusals self.old) (refusals self.new) }
+        ensures lasts { FileWrites ⟦<Fused<D> as FlatFile>⟧ self.old result self.new }
         ensures fuse { Fuses (λ d. (D.stored d).failures) self.old result self.new }
     {
         self.pass()?;
@@ -407,8 +354,7 @@ impl<D: FlatFile> FlatFile for Fused<D> {
     }
 
     fn replace(&mut self, bytes: &[u8]) -> Result<(), StoreFault>
-        ensures replaces { FusedIsSound D.sound self.new → FusedIsSound D.sound self.old
-            × Replaces (fused_file D.stored self.old) bytes.now result (fused_file D.stored self.new) }
+        ensures replaces { FileDoes ⟦<Fused<D> as FlatFile>⟧ (λ old new. Replaces old bytes.now result new) self.old self.new }
         ensures fault { IfErr result (λ e. e ≡ StoreFault.Refused) }
         ensures leaves { FusedIsSound D.sound self.new → LeavesEither (D.may_leave (device_of self.old)) bytes.now
             (D.may_leave (device_of self.new)) }

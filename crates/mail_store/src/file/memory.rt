@@ -57,19 +57,16 @@ impl MemoryFile {
     pub fn content(&self) -> Option<&[u8]>
         ensures { option_map (λ bytes. bytes.now) result ≡ self.now.content }
     {
-        match &self.content {
-            Some(bytes) => Some(bytes.as_slice()),
-            None => None,
-        }
+        self.content.as_deref()
     }
 }
 
 impl FlatFile for MemoryFile {
-    ghost use Rattle.std.specs.Prelude.{◌≡◌, ◌≢◌, ◌≤◌, ◌<◌, length, IfErr, IfOk, IsOk, OnOk};
-    ghost use Rattle.mail_terms.specs.FailureCount.{Tallies, refuses, greatest_count};
-    ghost use Rattle.mail_store.specs.Fault.{is_refusal, IsDeviceFault};
+    ghost use Rattle.std.specs.Prelude.{◌≡◌, ◌≢◌, ◌≤◌, ◌<◌, length, IfOk, IsOk};
+    ghost use Rattle.mail_terms.specs.FailureCount.{greatest_count};
+    ghost use Rattle.mail_store.specs.Devices.{FileDoes, FileFlushes, FileWrites};
     ghost use Rattle.mail_store.specs.FlatFile.{Measures, ReadsAt, Cuts, HasBytes};
-    ghost use Rattle.mail_store.specs.Power.{LastsWhole, LeavesFronts, LeavesNoMore, UnlessRefused};
+    ghost use Rattle.mail_store.specs.Power.{LeavesFronts};
 
     ghost stored = { λ f. f };
 
@@ -99,16 +96,8 @@ impl FlatFile for MemoryFile {
 
     // It takes no memory, so below the greatest count it isn't refused.
     fn edges(&mut self) -> Result<Edges, StoreFault>
-        ensures measures { self.new.failures < greatest_count → (self.old.failures < greatest_count)
-            × Measures self.old result self.new }
-        ensures fault { IfErr result IsDeviceFault }
-        ensures keeps { self.new.failures < greatest_count → LeavesNoMore (⟦<MemoryFile as FlatFile>⟧.may_leave self.old)
-            (⟦<MemoryFile as FlatFile>⟧.may_leave self.new) }
-        ensures lasts { self.new.failures < greatest_count → ⟦<MemoryFile as FlatFile>⟧.is_sure self.old
-            → UnlessRefused result (⟦<MemoryFile as FlatFile>⟧.is_sure self.new
-            × LastsWhole self.new.content (⟦<MemoryFile as FlatFile>⟧.is_on_disk self.new)
-            (⟦<MemoryFile as FlatFile>⟧.may_leave self.new)) }
-        ensures count { Tallies (refuses is_refusal result) self.old.failures self.new.failures }
+        ensures measures { FileDoes ⟦<MemoryFile as FlatFile>⟧ (λ old new. Measures old result new) self.old self.new }
+        ensures keeps { FileFlushes ⟦<MemoryFile as FlatFile>⟧ self.old result self.new }
         ensures answers { self.old.failures < greatest_count → result ≢ Err StoreFault.Refused }
     {
         admit(&self.failures)?;
@@ -124,17 +113,9 @@ impl FlatFile for MemoryFile {
 
     // It takes no memory, so below the greatest count it isn't refused.
     fn read_at(&mut self, start: u64, buf: &mut [u8]) -> Result<usize, StoreFault>
-        ensures reads { IfOk result (λ count. count ≤ length buf.new)
-            × (self.new.failures < greatest_count → (self.old.failures < greatest_count)
-            × ReadsAt self.old start result buf.new self.new) }
-        ensures fault { IfErr result IsDeviceFault }
-        ensures keeps { self.new.failures < greatest_count → LeavesNoMore (⟦<MemoryFile as FlatFile>⟧.may_leave self.old)
-            (⟦<MemoryFile as FlatFile>⟧.may_leave self.new) }
-        ensures lasts { self.new.failures < greatest_count → ⟦<MemoryFile as FlatFile>⟧.is_sure self.old
-            → UnlessRefused result (⟦<MemoryFile as FlatFile>⟧.is_sure self.new
-            × LastsWhole self.new.content (⟦<MemoryFile as FlatFile>⟧.is_on_disk self.new)
-            (⟦<MemoryFile as FlatFile>⟧.may_leave self.new)) }
-        ensures count { Tallies (refuses is_refusal result) self.old.failures self.new.failures }
+        ensures within { IfOk result (λ count. count ≤ length buf.new) }
+        ensures reads { FileDoes ⟦<MemoryFile as FlatFile>⟧ (λ old new. ReadsAt old start result buf.new new) self.old self.new }
+        ensures keeps { FileFlushes ⟦<MemoryFile as FlatFile>⟧ self.old result self.new }
         ensures answers { self.old.failures < greatest_count → result ≢ Err StoreFault.Refused }
     {
         admit(&self.failures)?;
@@ -158,17 +139,10 @@ impl FlatFile for MemoryFile {
     // It takes no memory, so below the greatest count it isn't refused.
     fn cut_to(&mut self, len: u64) -> Result<(), StoreFault>
         requires { self.old.failures < greatest_count → HasBytes self.old len }
-        ensures cuts { self.new.failures < greatest_count → (self.old.failures < greatest_count)
-            × Cuts self.old len result self.new }
-        ensures fault { IfErr result (λ e. e ≡ StoreFault.Refused) }
+        ensures cuts { FileDoes ⟦<MemoryFile as FlatFile>⟧ (λ old new. Cuts old len result new) self.old self.new }
         ensures keeps { self.new.failures < greatest_count → LeavesFronts len (⟦<MemoryFile as FlatFile>⟧.may_leave self.old)
             (⟦<MemoryFile as FlatFile>⟧.may_leave self.new) }
-        ensures lasts { self.new.failures < greatest_count → ⟦<MemoryFile as FlatFile>⟧.is_sure self.old
-            → ⟦<MemoryFile as FlatFile>⟧.is_on_disk self.old
-            → OnOk result (⟦<MemoryFile as FlatFile>⟧.is_sure self.new
-            × LastsWhole self.new.content (⟦<MemoryFile as FlatFile>⟧.is_on_disk self.new)
-            (⟦<MemoryFile as FlatFile>⟧.may_leave self.new)) }
-        ensures count { Tallies (refuses is_refusal result) self.old.failures self.new.failures }
+        ensures lasts { FileWrites ⟦<MemoryFile as FlatFile>⟧ self.old result self.new }
         ensures answers { self.old.failures < greatest_count → IsOk result }
     {
         admit(&self.failures)?;

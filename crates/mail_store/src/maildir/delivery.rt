@@ -1,6 +1,6 @@
 //! Delivery of one text to a Maildir.
 
-ghost use Rattle.std.specs.Prelude.{◌≡◌, ◌≢◌, None, length, IfOk, string_bytes};
+ghost use Rattle.std.specs.Prelude.{◌≡◌, ◌≢◌, None, length};
 ghost use Rattle.mail_terms.specs.FailureCount.{Tallies, refuses};
 ghost use Rattle.mail_store.specs.Fault.{is_refusal};
 ghost use Rattle.mail_store.specs.Maildir.{IsThere, Delivers};
@@ -9,17 +9,7 @@ ghost use Rattle.mail_store.specs.FileName.{sized, sized_file};
 use crate::fault::StoreFault;
 use crate::maildir::disk::MaildirDisk;
 use crate::maildir::names::{SIZE_ROOM, add_size};
-use std::alloc::{AllocError, Global};
-
-/// A stem and the size behind it.
-fn sized_name(alloc: Global, stem: &str, size: u64) -> Result<String, AllocError>
-    ensures { IfOk result (λ name. string_bytes name ≡ sized stem.now size) }
-{
-    let mut name = String::from_str(alloc, stem)?;
-    name.reserve(SIZE_ROOM)?;
-    add_size(&mut name, size);
-    Ok(name)
-}
+use std::alloc::Global;
 
 /// Puts a text into `new`, under a name made of this stem and the text's length. NoMemory, with
 /// nothing changed, if there is none for the name; Missing if `tmp` isn't there, else Refused: the
@@ -42,7 +32,9 @@ pub fn deliver<D: MaildirDisk>(
     ensures fault { result ≢ Err StoreFault.NotMbox }
     ensures count { Tallies (refuses is_refusal result) (D.maildir disk.old).failures (D.maildir disk.new).failures }
 {
-    let name = sized_name(alloc, stem, text.len() as u64)?;
+    let mut name = String::from_str(alloc, stem)?;
+    name.reserve(SIZE_ROOM)?;
+    add_size(&mut name, text.len() as u64);
     disk.begin(stem)?;
     if text.is_empty() {
         return disk.settle(name.as_str());

@@ -1,12 +1,12 @@
 //! Which messages of a listing a Maildir holds already.
 
-ghost use Rattle.std.specs.Prelude.{◌≡◌, List, ℕ, ◌∷◌, ◌++◌, ◌||◌, ◌&&◌, map, length, vec_len, bytes_eq, IfOk, OnOk, ◌≢◌, IsPermutation};
+ghost use Rattle.std.specs.Prelude.{◌≡◌, List, ℕ, ◌∷◌, ◌++◌, ◌||◌, ◌&&◌, map, length, vec_len, bytes_eq, IfOk, OnOk, ◌≢◌};
 ghost use Rattle.hex.specs.Hex.{encode_lower};
 ghost use Rattle.mail_terms.specs.FailureCount.{Tallies, refuses};
 ghost use Rattle.mail_store.specs.Fault.{is_refusal};
 ghost use Rattle.mail_store.specs.FileName.{stem, is_held};
 ghost use Rattle.mail_terms.specs.Listing.{Item, has_item, is_flagged};
-ghost use Rattle.mail_store.specs.Maildir.{AfterTaking, Maildir, names_of, bases_told};
+ghost use Rattle.mail_store.specs.Maildir.{AfterTaking, Maildir};
 ghost use Rattle.mail_store.specs.Held.{Finds, FoundOutlive, HasStems, any_name, flags_of, has_text};
 ghost use Rattle.mail_store.specs.Power.{AllStay, KeepsLeft};
 
@@ -66,23 +66,6 @@ fn flags_of(
     Ok(flags)
 }
 
-/// Whether each item's id is held by a Maildir whose files have these names, in order.
-fn held_in(
-    alloc: Global,
-    account: &AccountId,
-    names: &[String],
-    listing: &Listing,
-) -> Result<Vec<bool>, AllocError>
-    ensures flags { (maildir : Maildir) → IsPermutation (names_of maildir.files) (bases_told names.now)
-        → IfOk result (λ flags. flags.items ≡ flags_of account.now maildir listing.now) }
-    ensures length { IfOk result (λ flags. vec_len flags ≡ length listing.now) }
-{
-    // All of the account's names begin alike, so only what follows is compared.
-    let mut found = BTreeSet::new(alloc);
-    add_digits(&mut found, account.as_str(), names)?;
-    flags_of(alloc, &found, listing)
-}
-
 /// The stems of the files of the items for which both flags are set, the flags in the listing's order.
 fn stems_of(
     alloc: Global,
@@ -109,6 +92,7 @@ fn stems_of(
 }
 
 /// Of the flags that `held` returns, one of an id is set exactly if the id is listed and held.
+#[tactic(auto, using(crate::proofs::MaildirLemmas::flagged_where_held))]
 pub fn flags_tell_what_is_held()
     ensures { (account : List ℕ) (maildir : Maildir) (items : List Item) (uid : List ℕ)
         → is_flagged items (flags_of account maildir items) uid ≡ (has_item items uid && is_held account maildir uid) }
@@ -137,7 +121,10 @@ pub fn held<D: MaildirDisk>(
     ensures fault { result ≢ Err StoreFault.NotMbox }
 {
     let names = disk.all_names()?;
-    Ok(held_in(alloc, account, &names, listing)?)
+    // All of the account's names begin alike, so only what follows is compared.
+    let mut found = BTreeSet::new(alloc);
+    add_digits(&mut found, account.as_str(), &names)?;
+    Ok(flags_of(alloc, &found, listing)?)
 }
 
 /// As `held`, and flushes the file of each item that is held and for which a flag is set, one for each

@@ -1,6 +1,6 @@
 //! A Maildir in memory.
 
-ghost use Rattle.std.specs.Prelude.{map, take, length, ◌<◌, ◌↔◌, ◌++◌, Contains, HoldsAt, IsTrue, IfOk, OnOk, IfSome, IfNone, ◌≡◌};
+ghost use Rattle.std.specs.Prelude.{map, take, length, ◌<◌, ◌↔◌, ◌++◌, Contains, HoldsAt, IfOk, IsSome, OnOk, IfSome, ◌≡◌};
 ghost use Rattle.std.specs.String.{string_bytes};
 ghost use Rattle.mail_store.specs.Maildir.{names_of, file_of};
 ghost use Rattle.mail_store.specs.MemoryMaildir.{count};
@@ -72,6 +72,7 @@ impl MemoryMaildir {
     }
 
     /// The files of a folder, each with its name and its bytes, in the order in which they came.
+    #[tactic(auto, using(crate::proofs::MaildirLemmas::shown_all))]
     pub fn files(&self, folder: Folder) -> &[(String, Vec<u8>)]
         ensures files { map file_of result.now ≡ files_of_folder self.now folder }
         ensures both { IsPermutation self.now.maildir.files (map shown (self.now.in_new ++ self.now.in_cur)) }
@@ -111,8 +112,9 @@ impl MemoryMaildir {
         ensures same { self.new.maildir ≡ self.old.maildir }
         ensures moves { Moves self.old.in_new self.old.in_cur name.now (name.now ++ suffix.now) result self.new.in_new self.new.in_cur }
     {
-        let moved = with_suffix(self.alloc, name, suffix)?;
-        if has_name(&self.in_cur, moved.as_str()) {
+        let mut moved = String::from_str(self.alloc, name)?;
+        moved.push_str(suffix)?;
+        if place_of(&self.in_cur, moved.as_str()).is_some() {
             return Ok(false);
         }
         let Some(at) = place_of(&self.in_new, name) else {
@@ -127,19 +129,10 @@ impl MemoryMaildir {
     }
 }
 
-/// A name and a suffix behind it.
-fn with_suffix(alloc: Global, name: &str, suffix: &str) -> Result<String, AllocError>
-    ensures { IfOk result (λ text. string_bytes text ≡ name.now ++ suffix.now) }
-{
-    let mut text = String::from_str(alloc, name)?;
-    text.push_str(suffix)?;
-    Ok(text)
-}
-
 /// The place of a file of this name, if there is one.
 fn place_of(files: &[(String, Vec<u8>)], name: &str) -> Option<usize>
     ensures some { IfSome result (λ place. (place < length files.now) × HoldsAt (λ file. string_bytes file.0 ≡ name.now) files.now place) }
-    ensures none { IfNone result (Contains (names_of (map file_of files.now)) name.now → ⊥) }
+    ensures there { IsSome result ↔ Contains (names_of (map file_of files.now)) name.now }
 {
     for (place, file) in files.iter().enumerate() {
         if file.0.as_str() == name {
@@ -149,14 +142,8 @@ fn place_of(files: &[(String, Vec<u8>)], name: &str) -> Option<usize>
     None
 }
 
-/// Whether one of the files has this name.
-fn has_name(files: &[(String, Vec<u8>)], name: &str) -> bool
-    ensures { IsTrue result ↔ Contains (names_of (map file_of files.now)) name.now }
-{
-    place_of(files, name).is_some()
-}
-
 /// Where the file that has this place in its own folder comes among all.
+#[tactic(auto, using(crate::proofs::MaildirLemmas::counted_more))]
 fn place_in_order(are_new: &[bool], folder_is_new: bool, at: usize) -> usize
     requires { at < count folder_is_new are_new.now }
     ensures found { (result < length are_new.now) × HoldsAt (λ is_new. is_new ≡ folder_is_new) are_new.now result }
@@ -184,24 +171,16 @@ fn add_names(names: &mut Vec<String>, files: &[(String, Vec<u8>)]) -> Result<(),
     Ok(())
 }
 
-/// The names of some files.
-fn names_of(alloc: Global, files: &[(String, Vec<u8>)]) -> Result<Vec<String>, AllocError>
-    ensures { IfOk result (λ names. map string_bytes names.items ≡ names_of (map file_of files.now)) }
-{
-    let mut names = Vec::new(alloc);
-    add_names(&mut names, files)?;
-    Ok(names)
-}
-
 /// The names of the files of two folders.
-fn names_of_both(
+fn names_of(
     alloc: Global,
     new: &[(String, Vec<u8>)],
     cur: &[(String, Vec<u8>)],
 ) -> Result<Vec<String>, AllocError>
     ensures { IfOk result (λ names. map string_bytes names.items ≡ names_of (map file_of new.now) ++ names_of (map file_of cur.now)) }
 {
-    let mut names = names_of(alloc, new)?;
+    let mut names = Vec::new(alloc);
+    add_names(&mut names, new)?;
     add_names(&mut names, cur)?;
     Ok(names)
 }
@@ -221,7 +200,7 @@ impl MaildirDisk for MemoryMaildir {
 
     fn names(&mut self, folder: Folder) -> Result<Vec<String>, StoreFault> {
         admit(&self.failures)?;
-        match names_of(self.alloc, self.files(folder)) {
+        match names_of(self.alloc, self.files(folder), &[]) {
             Ok(names) => Ok(names),
             Err(_) => Err(refuse(&mut self.failures)),
         }
@@ -229,7 +208,7 @@ impl MaildirDisk for MemoryMaildir {
 
     fn all_names(&mut self) -> Result<Vec<String>, StoreFault> {
         admit(&self.failures)?;
-        match names_of_both(self.alloc, &self.in_new, &self.in_cur) {
+        match names_of(self.alloc, &self.in_new, &self.in_cur) {
             Ok(names) => Ok(names),
             Err(_) => Err(refuse(&mut self.failures)),
         }
@@ -239,6 +218,7 @@ impl MaildirDisk for MemoryMaildir {
         admit(&self.failures)
     }
 
+    #[tactic(auto, using(crate::proofs::MaildirLemmas::all_outlive))]
     fn flush(&mut self, _stems: &[String]) -> Result<(), StoreFault> {
         admit(&self.failures)
     }

@@ -82,6 +82,7 @@ pub fn file_name(
 }
 
 /// Two ids of one account have different stems.
+#[tactic(auto, using(crate::proofs::MaildirLemmas::stem_of_injective))]
 pub fn stems_differ()
     ensures { StemsDiffer }
 {
@@ -89,22 +90,26 @@ pub fn stems_differ()
 }
 
 /// An id's stem holds no comma and no colon.
+#[tactic(auto, using(crate::proofs::MaildirLemmas::stem_stem_of))]
 pub fn stems_are_stems()
     ensures { StemsAreStems }
 {}
 
 /// The stem of an id's name is the id's.
+#[tactic(auto, using(crate::proofs::MaildirLemmas::stem_name_of))]
 pub fn names_have_stems()
     ensures { NamesHaveStems }
 {}
 
 /// The base of an id's name is the name: it holds no colon.
+#[tactic(auto, using(crate::proofs::MaildirLemmas::base_name_of))]
 pub fn names_are_bases()
     ensures { NamesAreBases }
 {}
 
 /// Marks after a name, from a colon on, don't change its base; a base is its own base, and has the
 /// stem of the name.
+#[tactic(auto, using(crate::proofs::MaildirLemmas::base_marked, crate::proofs::MaildirLemmas::base_base))]
 pub fn marks_keep_the_base()
     ensures kept { (name marks : List ℕ) → base (name ++ 58 ∷ marks) ≡ base name }
     ensures own { (name : List ℕ) → base (base name) ≡ base name }
@@ -112,6 +117,7 @@ pub fn marks_keep_the_base()
 {}
 
 /// A file that comes under an id's name makes that id held, and no other.
+#[tactic(auto, using(crate::proofs::MaildirLemmas::held_with_file))]
 pub fn one_more_is_held()
     ensures { (account a b content : List ℕ) (maildir : Maildir) → IsAccountText account → IsLegalId a → IsLegalId b
         → is_held account (with_file maildir (mail_file account a content)) b ≡ (is_held account maildir b || bytes_eq b a) }
@@ -125,22 +131,17 @@ pub fn unheld_ids_are_not_there()
         → IsThere maildir (name_of account uid size) → ⊥ }
 {}
 
-/// What follows `front` in a text that begins with it.
-fn text_after<'a>(front: &str, text: &'a str) -> Option<&'a str>
-    ensures { MatchOption result ((rest : List ℕ) → text.now ≢ front.now ++ rest) (λ rest. text.now ≡ front.now ++ rest.now) }
-{
-    text.strip_prefix(front)
-}
-
 /// What follows an account's digits and a full stop in a stem, if it begins with them.
+#[tactic(auto, using(std::proofs::lemmas::List::append_cancel_left))]
 pub fn id_digits<'a>(account: &str, stem: &'a str) -> Option<&'a str>
     ensures { MatchOption result ((digits : List ℕ) → stem.now ≢ account.now ++ 46 ∷ digits)
         (λ digits. stem.now ≡ account.now ++ 46 ∷ digits.now) }
 {
-    text_after(".", text_after(account, stem)?)
+    stem.strip_prefix(account)?.strip_prefix(".")
 }
 
 /// The legal id whose lower-case hexadecimal text is this, else None.
+#[tactic(auto, using(crate::proofs::MaildirLemmas::decode_of_legal))]
 fn decode_id(alloc: Global, digits: &[u8]) -> Result<Option<Vec<u8>>, AllocError>
     ensures some { IfOk result (λ id. IfSome id (λ uid. IsLegalId uid.items × (encode_lower uid.items ≡ digits.now))) }
     ensures none { IfOk result (λ id. IfNone id ((uid : List ℕ) → IsLegalId uid → encode_lower uid ≢ digits.now)) }
@@ -167,6 +168,7 @@ fn decode_id(alloc: Global, digits: &[u8]) -> Result<Option<Vec<u8>>, AllocError
 }
 
 /// The legal id whose stem is that of `name`, else None.
+#[tactic(auto, using(std::proofs::lemmas::List::append_cancel_left))]
 pub fn uid_of(alloc: Global, account: &AccountId, name: &str) -> Result<Option<Vec<u8>>, AllocError>
     ensures some { IfOk result (λ id. IfSome id (λ uid. IsLegalId uid.items × (stem_of account.now uid.items ≡ stem name.now))) }
     ensures none { IfOk result (λ id. IfNone id ((uid : List ℕ) → IsLegalId uid → stem_of account.now uid ≢ stem name.now)) }

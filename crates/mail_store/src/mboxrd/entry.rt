@@ -12,7 +12,6 @@ ghost use Rattle.mail_store.specs.MboxCalls.{Looks, Checks, AppendsEntry, Tallie
 use crate::fault::{EntryFault, StoreFault};
 use crate::file::flat_file::{Edges, FlatFile};
 use crate::mboxrd::quoting::{quote_within, quoted_len};
-use std::alloc::AllocError;
 
 pub const SEPARATOR: &[u8] = b"From MAILER-DAEMON Thu Jan  1 00:00:00 1970\n";
 
@@ -103,9 +102,10 @@ fn put_front(bytes: &mut [u8], front: &[u8])
 }
 
 /// Makes a text its entry, within its own memory. If memory runs out, it is as it was.
-fn make_entry(text: &mut Vec<u8>) -> Result<(), AllocError>
+fn make_entry(text: &mut Vec<u8>) -> Result<(), StoreFault>
     requires { IsWhole text.old.items }
-    ensures { OnOk result (text.new.items ≡ entry_of text.old.items) }
+    ensures entry { OnOk result (text.new.items ≡ entry_of text.old.items) }
+    ensures fault { IfErr result (λ e. e ≡ StoreFault.NoMemory) }
 {
     let count = text.len();
     let size = entry_size(text);
@@ -163,6 +163,7 @@ pub fn append_entry<F: FlatFile>(file: &mut F, text: Vec<u8>) -> Result<(), Entr
 
 /// A file that stands for texts, followed by the entry of one more, stands for the texts and then
 /// for that one.
+#[tactic(auto, using(crate::proofs::MboxLemmas::adds_entry))]
 pub fn entries_add_texts()
     ensures { EntryAddsText }
 {}

@@ -1,12 +1,11 @@
 //! Quoting of texts for an mboxrd file, in which `From ` at the start of a line begins an entry: a
 //! line that is `>` any number of times and then `From ` gets one more `>` (mboxrd).
 
-ghost use Rattle.std.specs.Prelude.{◌≡◌, ◌⊎◌, ◌↔◌, ◌<◌, ◌≤◌, ◌*◌, ◌+◌, ◌++◌, ◌∷◌, [], length};
+ghost use Rattle.std.specs.Prelude.{◌≡◌, ◌↔◌, ◌<◌, ◌≤◌, ◌*◌, ◌+◌, ◌++◌, length};
 ghost use Rattle.std.specs.Prelude.{take, drop, slice_range, IfOk, IsTrue, OnOk, false};
-ghost use Rattle.std.specs.List.{prefix_len};
-ghost use Rattle.mail_terms.specs.Text.{IsWhole, HasNoLf};
-ghost use Rattle.mail_store.specs.Mboxrd.{IsLine, begins_entry, is_greater, is_marked, quoted, quoted_text, unquoted};
-ghost use Rattle.mail_store.specs.Mboxrd.{unquoted_text, wire_size, UnquotesQuoted};
+ghost use Rattle.mail_terms.specs.Text.{IsWhole};
+ghost use Rattle.mail_store.specs.Mboxrd.{IsLine, begins_entry, is_marked, quoted, quoted_text, unquoted};
+ghost use Rattle.mail_store.specs.Mboxrd.{unquoted_text, wire_size, UnquotesQuoted, CutsLine};
 
 use memchr::{memchr, memrchr};
 use std::alloc::{AllocError, Global};
@@ -18,16 +17,16 @@ pub fn is_whole(text: &[u8]) -> bool
     text.is_empty() || text.ends_with(b"\n")
 }
 
-/// How many bytes the first line of a text takes, its LF included. Without an LF that is all of them.
-pub fn line_len(text: &[u8]) -> usize
+/// Cuts off the first line of a text, its LF included. Without an LF that is all of it.
+pub fn cut_line(text: &[u8]) -> (&[u8], &[u8])
     requires { 0 < length text.now }
-    ensures some { 0 < result }
-    ensures fits { result ≤ length text.now }
-    ensures line { IsLine (take result text.now) ⊎ ((result ≡ length text.now) × HasNoLf text.now) }
+    ensures some { 0 < length result.0.now }
+    ensures shorter { length result.1.now < length text.now }
+    ensures cuts { CutsLine text.now result.0.now result.1.now }
 {
     match memchr(b'\n', text) {
-        Some(place) => place + 1,
-        None => text.len(),
+        Some(place) => text.split_at(place + 1),
+        None => (text, b""),
     }
 }
 
@@ -38,19 +37,15 @@ pub fn begins_entry(line: &[u8]) -> bool
     line.starts_with(b"From ")
 }
 
-/// How many `>` a line begins with.
-fn depth(line: &[u8]) -> usize
-    ensures value { result ≡ prefix_len is_greater line.now }
-    ensures fits { result ≤ length line.now }
-{
-    line.iter().take_while(|byte| **byte == b'>').count()
-}
-
 /// Whether a line is `>` any number of times and then `From `.
 fn is_marked(line: &[u8]) -> bool
     ensures { result ≡ is_marked line.now }
 {
-    begins_entry(&line[depth(line)..])
+    let mut rest = line;
+    while let [b'>', after @ ..] = rest {
+        rest = after;
+    }
+    begins_entry(rest)
 }
 
 /// Whether a line is `>` at least once and then `From `.
@@ -72,7 +67,7 @@ pub fn quoted_len(text: &[u8]) -> usize
     let mut marked = 0;
     let mut rest = text;
     while !rest.is_empty() {
-        let (line, after) = rest.split_at(line_len(rest));
+        let (line, after) = cut_line(rest);
         if is_marked(line) {
             marked += 1;
         }
@@ -102,36 +97,18 @@ fn line_size(line: &[u8]) -> usize
 
 /// How many octets the text that a quoted one stands for takes on the wire, without stuffing: each
 /// LF is sent as CR LF.
+#[tactic(auto, using(crate::proofs::MboxLemmas::sizes_line))]
 pub fn text_size(quoted: &[u8]) -> u64
     ensures { result ≡ wire_size (unquoted_text quoted.now) }
 {
     let mut size = 0;
     let mut rest = quoted;
     while !rest.is_empty() {
-        let (line, after) = rest.split_at(line_len(rest));
+        let (line, after) = cut_line(rest);
         size += line_size(line) as u64;
         rest = after;
     }
     size
-}
-
-/// Appends the quoted text to `out`, in runs of lines. If memory runs out, a part of it may have
-/// been appended.
-pub fn put_quoted(out: &mut Vec<u8>, text: &[u8]) -> Result<(), AllocError>
-    ensures { OnOk result (out.new.items ≡ out.old.items ++ quoted_text text.now) }
-{
-    let mut run = text;
-    let mut rest = text;
-    while !rest.is_empty() {
-        let (line, after) = rest.split_at(line_len(rest));
-        if is_marked(line) {
-            out.extend_from_slice(&run[..run.len() - rest.len()])?;
-            out.push(b'>')?;
-            run = rest;
-        }
-        rest = after;
-    }
-    out.extend_from_slice(run)
 }
 
 /// Where the last line of a whole text begins.
@@ -190,17 +167,30 @@ pub fn quote_within(bytes: &mut Vec<u8>, count: usize, end: usize) -> usize
 
 /// A text as it is in an entry: each line that is `>` any number of times and then `From ` gets one
 /// more `>`. The text must be whole (see `is_whole`). Allocates once.
+#[tactic(auto, using(crate::proofs::MboxLemmas::copies_plain))]
 pub fn quote(alloc: Global, text: &[u8]) -> Result<Vec<u8>, AllocError>
     requires { IsWhole text.now }
     ensures { IfOk result (λ quoted. quoted.items ≡ quoted_text text.now) }
 {
     let mut quoted = Vec::with_capacity(alloc, quoted_len(text))?;
-    put_quoted(&mut quoted, text)?;
+    let mut run = text;
+    let mut rest = text;
+    while !rest.is_empty() {
+        let (line, after) = cut_line(rest);
+        if is_marked(line) {
+            quoted.extend_from_slice(&run[..run.len() - rest.len()])?;
+            quoted.push(b'>')?;
+            run = rest;
+        }
+        rest = after;
+    }
+    quoted.extend_from_slice(run)?;
     Ok(quoted)
 }
 
 /// The text that a quoted one stands for: each line that is `>` at least once and then `From ` loses
 /// one `>`. Allocates once.
+#[tactic(auto, using(crate::proofs::MboxLemmas::copies_plain))]
 pub fn unquote(alloc: Global, text: &[u8]) -> Result<Vec<u8>, AllocError>
     ensures { IfOk result (λ unquoted. unquoted.items ≡ unquoted_text text.now) }
 {
@@ -208,7 +198,7 @@ pub fn unquote(alloc: Global, text: &[u8]) -> Result<Vec<u8>, AllocError>
     let mut run = text;
     let mut rest = text;
     while !rest.is_empty() {
-        let (line, after) = rest.split_at(line_len(rest));
+        let (line, after) = cut_line(rest);
         if is_quoted(line) {
             unquoted.extend_from_slice(&run[..run.len() - rest.len()])?;
             run = &rest[1..];
@@ -220,6 +210,7 @@ pub fn unquote(alloc: Global, text: &[u8]) -> Result<Vec<u8>, AllocError>
 }
 
 /// Unquoting a quoted text gives the text.
+#[tactic(auto, using(crate::proofs::MboxLemmas::unquotes_quoted))]
 pub fn unquoting_undoes_quoting()
     ensures { UnquotesQuoted }
 {}

@@ -2,10 +2,10 @@
 
 ghost use Rattle.std.specs.Prelude.{◌<◌, List, ℕ, length, IfNone, IfSome};
 ghost use Rattle.mail_store.specs.MboxCalls.{ReadsMbox};
-ghost use Rattle.mail_store.specs.MboxScan.{CutsGroup, HoldsText};
+ghost use Rattle.mail_store.specs.Mboxrd.{CutsGroup, HoldsText};
 
 use crate::fault::StoreFault;
-use crate::mboxrd::quoting::{begins_entry, is_whole, line_len, unquote};
+use crate::mboxrd::quoting::{begins_entry, cut_line, is_whole, unquote};
 use std::alloc::Global;
 
 /// Cuts off the first line and the lines after it, up to the next that begins with `From `.
@@ -15,9 +15,9 @@ fn cut_group(bytes: &[u8]) -> (&[u8], &[u8])
     ensures some { 0 < length result.0.now }
     ensures shorter { length result.1.now < length bytes.now }
 {
-    let mut rest = &bytes[line_len(bytes)..];
+    let (_, mut rest) = cut_line(bytes);
     while !rest.is_empty() {
-        let (line, after) = rest.split_at(line_len(rest));
+        let (line, after) = cut_line(rest);
         if begins_entry(line) {
             return bytes.split_at(bytes.len() - rest.len());
         }
@@ -33,7 +33,7 @@ fn quoted_part(group: &[u8]) -> Option<&[u8]>
     ensures found { IfSome result (λ text. HoldsText group.now text.now) }
     ensures none { IfNone result ((text : List ℕ) → HoldsText group.now text → ⊥) }
 {
-    let (head, rest) = group.split_at(line_len(group));
+    let (head, rest) = cut_line(group);
     let quoted = rest.strip_suffix(b"\n")?;
     if !begins_entry(head) {
         return None;

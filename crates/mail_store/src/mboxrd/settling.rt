@@ -1,15 +1,14 @@
 //! What is left of an entry that was about to be appended when a session was cut.
 
-ghost use Rattle.std.specs.Prelude.{◌≡◌, ◌≢◌, ◌↔◌, ◌==◌, ◌&&◌, ◌+◌, ◌%◌, ◌≤◌, ◌<◌, ◌^◌, ◌∷◌, ℕ, List, true, length};
-ghost use Rattle.std.specs.Prelude.{IfErr, IfOk, IsTrue, OnOk, drop};
+ghost use Rattle.std.specs.Prelude.{◌≡◌, ◌≢◌, ◌==◌, ◌&&◌, ◌+◌, ◌%◌, ◌≤◌, ◌<◌, ◌^◌, ◌∷◌, ℕ, List, true, length};
+ghost use Rattle.std.specs.Prelude.{IfErr, OnOk, drop};
 ghost use Rattle.mail_terms.specs.FailureCount.{Tallies, refuses};
 ghost use Rattle.mail_store.specs.Fault.{is_refusal};
 ghost use Rattle.mail_store.specs.Mboxrd.{text_in};
 ghost use Rattle.mail_store.specs.Power.{LastsWhole, LeavesFronts, LeavesNoMore};
-ghost use Rattle.mail_store.specs.Settling.{block_size, begin_with, ends_empty, has_size, is_entry, is_lost, is_one_entry};
-ghost use Rattle.mail_store.specs.Settling.{is_ours, is_torn, is_whole, listed_size};
+ghost use Rattle.mail_store.specs.Settling.{block_size, begin_with, has_size, is_lost, is_one_entry, is_ours, is_torn, is_whole};
 ghost use Rattle.mail_store.specs.Settling.{FrontsAreSettled, IsBehind, LeftoversAreSettled, LooksBehind};
-ghost use Rattle.mail_store.specs.Settling.{ReadsBehind, SettlesFile, WholeEntriesCount};
+ghost use Rattle.mail_store.specs.Settling.{SettlesFile, WholeEntriesCount, listed_size};
 
 use crate::fault::StoreFault;
 use crate::file::flat_file::FlatFile;
@@ -71,20 +70,11 @@ fn begin_with(place: u64, words: &[u8], bytes: &[u8]) -> bool
 }
 
 /// Whether no line after the first begins with `From `.
+#[tactic(auto, using(crate::proofs::SettlingLemmas::found_entry))]
 fn is_one_entry(bytes: &[u8]) -> bool
     ensures { result ≡ is_one_entry bytes.now }
 {
-    match memmem::find(bytes, b"\nFrom ") {
-        Some(_place) => false,
-        None => true,
-    }
-}
-
-/// Whether the last line is empty.
-fn ends_empty(bytes: &[u8]) -> bool
-    ensures { result ≡ ends_empty bytes.now }
-{
-    bytes.ends_with(b"\n\n")
+    memmem::find(bytes, b"\nFrom ").is_none()
 }
 
 /// Whether octets may be what is left of an entry that was appended at `place`, and nothing more.
@@ -93,14 +83,6 @@ fn is_ours(place: u64, bytes: &[u8]) -> bool
     ensures { result ≡ is_ours place bytes.now }
 {
     begin_with(place, SEPARATOR, bytes) && is_one_entry(bytes)
-}
-
-/// Whether octets have the form of one entry, and no block of them is torn.
-fn is_entry(place: u64, bytes: &[u8]) -> bool
-    requires { place + length bytes.now < 2 ^ 64 }
-    ensures { result ≡ is_entry place bytes.now }
-{
-    is_ours(place, bytes) && !is_torn(place, bytes) && ends_empty(bytes)
 }
 
 /// The size that is listed for the message with this id, None if it isn't listed.
@@ -130,36 +112,11 @@ fn is_whole(place: u64, len: u64, listed: Option<u64>, bytes: &[u8]) -> bool
     requires { place + length bytes.now < 2 ^ 64 }
     ensures { result ≡ is_whole place len listed bytes.now }
 {
-    bytes.len() as u64 == len && is_entry(place, bytes) && has_size(listed, bytes)
-}
-
-/// Whether `behind` octets may be a part of an entry of this length, or all of it.
-fn may_be_part(behind: u64, len: u64) -> bool
-    ensures { IsTrue result ↔ ((0 < behind) × (behind ≤ len)) }
-{
-    0 < behind && behind <= len
-}
-
-/// The octets of a file from `start` on, at most `behind` of them.
-fn read_behind<F: FlatFile>(
-    alloc: Global,
-    file: &mut F,
-    start: u64,
-    behind: u64,
-) -> Result<Vec<u8>, StoreFault>
-    ensures reads { F.sound file.new → F.sound file.old
-        × ReadsBehind (F.stored file.old) start behind result (F.stored file.new) }
-    ensures within { IfOk result (λ bytes. length bytes.items ≤ behind) }
-    ensures fault { IfErr result (λ e. e ≢ StoreFault.NotMbox) }
-    ensures keeps { F.sound file.new → LeavesNoMore (F.may_leave file.old) (F.may_leave file.new) }
-    ensures lasts { F.sound file.new → F.is_sure file.old
-        → OnOk result (F.is_sure file.new × LastsWhole (F.stored file.new).content (F.is_on_disk file.new) (F.may_leave file.new)) }
-    ensures count { Tallies (refuses is_refusal result) (F.stored file.old).failures (F.stored file.new).failures }
-{
-    let mut bytes = vec![in alloc; 0; behind as usize]?;
-    let count = file.read_at(start, &mut bytes)?;
-    bytes.truncate(count);
-    Ok(bytes)
+    bytes.len() as u64 == len
+        && is_ours(place, bytes)
+        && !is_torn(place, bytes)
+        && bytes.ends_with(b"\n\n")
+        && has_size(listed, bytes)
 }
 
 /// What stands at the place where an entry was about to be appended.
@@ -205,10 +162,12 @@ fn look_behind<F: FlatFile>(
 {
     let edges = file.edges()?;
     let behind = edges.size.saturating_sub(start);
-    if !may_be_part(behind, len) {
+    if behind == 0 || behind > len {
         return Ok(Behind::Others);
     }
-    let bytes = read_behind(alloc, file, start, behind)?;
+    let mut bytes = vec![in alloc; 0; behind as usize]?;
+    let count = file.read_at(start, &mut bytes)?;
+    bytes.truncate(count);
     Ok(judge(start, behind, len, listed, bytes.as_slice()))
 }
 

@@ -3,6 +3,4 @@ use Rattle.mail_store.proofs.MaildirLemmas.{part_same}
 use Rattle.mail_store.proofs.fused.FusedMaildirDisk.names.Goals as goal
 
 pub returns-in_err-pass-clause-lists : goal.returns-in_err-pass-clause-lists
-returns-in_err-pass-clause-lists g c = λ s.
-    let files = (g.D.MaildirDisk.maildir c.args.self.now.device).files in
-    (search rules, (files, part_same files, search rules))
+returns-in_err-pass-clause-lists g c = λ s. (search rules, (_, part_same _, search rules))

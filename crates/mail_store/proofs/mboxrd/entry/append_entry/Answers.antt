@@ -21,7 +21,7 @@ returns-in-Ok-clause-appends g c = λ sound.
     let appends = c.in-Ok.ensures.appends sound in
     let looks = c.in_ok-edges.ensures.looks appends.0 in
     let added = (rw looks.1.1 at appends.1) looks.1.0.0 looks.1.0.1.0 in
-    (looks.0, (looks.1.0.0, looks.1.0.1, rw (c.deref.ensures.value, c.in_ok-make_entry.ensures) at added))
+    (looks.0, (looks.1.0.0, looks.1.0.1, rw (c.deref.ensures.value, c.in_ok-make_entry.ensures.entry) at added))
 
 pub returns-in-Ok-cut_to-clause-appends : goal.returns-in-Ok-cut_to-clause-appends
 returns-in-Ok-cut_to-clause-appends g c = λ sound.
@@ -39,7 +39,7 @@ returns-clause-appends g c = λ sound.
     let looks = c.in_ok-edges.ensures.looks appends.0 in
     let left = (rw looks.1.1 at appends.1) looks.1.0.0 looks.1.0.1.0 in
     let kept = take_at looks.1.0.0 left.0 c.in_ok-edges.edges.size (sym (ap (λ (e : Edges). e.size) looks.1.0.2)) in
-    let entry = c.deref.ensures.value ∙ c.in_ok-make_entry.ensures in (
+    let entry = c.deref.ensures.value ∙ c.in_ok-make_entry.ensures.entry in (
       looks.0,
       elim ((rw left.3 at cuts.1) (looks.1.0.0 ++ left.0) refl) [
         | inl same ↦ (looks.1.0.0, left.0, left.1, looks.1.0.1, sym entry ∙ left.2, same)

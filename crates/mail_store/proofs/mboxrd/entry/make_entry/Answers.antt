@@ -45,9 +45,9 @@ quote_within-requires c =
       room = omega (arith, made.shown, ap (λ (l : List ℕ). length (quoted_text l)) made.front);
     }
 
-pub returns : goal.returns
-returns c =
-    let made = room (goal.at.returns c).In_ok-resize in
+pub returns-clause-entry : goal.returns-clause-entry
+returns-clause-entry c =
+    let made = room (goal.at.returns-clause-entry c).In_ok-resize in
     let bytes = c.quote_within.new.bytes.items in
     let at : c.quote_within.result ≡ length separator = omega (arith, made.shown, ap (λ (l : List ℕ). length (quoted_text l)) made.front, c.quote_within.ensures.place) in
     let given = c.put_front.ensures ∙ ap (λ (l : List ℕ). separator ++ drop (length separator) l) c.deref_mut.ensures.value

@@ -1,6 +1,6 @@
-use Rattle.std.proofs.Common.{◌≡◌, ◌∙◌, ◌-◌, ℕ, List, ◌++◌, false, get_or, length, map, refl, ap, inl, arith, rules, set, insert, remove, take, String, Vec, Global}
+use Rattle.std.proofs.Common.{◌≡◌, ◌∙◌, ◌-◌, ℕ, List, ◌++◌, false, get_or, length, map, refl, ap, inl, arith, rules, set, insert, remove, take, String, string_bytes, Vec, Global}
 use Rattle.std.specs.List.{drop-map, take-map}
-use Rattle.std.proofs.lemmas.Bool.{both_ways}
+use Rattle.std.proofs.lemmas.Bool.{both_ways, false≢true}
 use Rattle.std.proofs.lemmas.List.{get_or-map, length-map, map-append}
 use Rattle.std.proofs.lemmas.List.Edits.{length-insert, length-remove}
 use Rattle.mail_store.specs.Maildir.{File, file, file_of}
@@ -9,7 +9,8 @@ use Rattle.mail_store.proofs.MaildirLemmas.{Fit, base-suffixed, before_place, co
 use Rattle.mail_store.proofs.maildir.memory.MemoryMaildir.move_to_cur.Goals as goal
 
 pub returns-in_default-clause-moves : goal.returns-in_default-clause-moves
-returns-in_default-clause-moves c = (refl, refl, inl (rw (← c.self.view_is) (rw c.deref-2.ensures.value at c.in_default.ensures.none)))
+returns-in_default-clause-moves c =
+    (refl, refl, inl (rw (← c.self.view_is) (λ there. false≢true ((rw c.deref-2.ensures.value at c.in_default.ensures.there).1 there))))
 
 pub overflow_sub-place : goal.overflow_sub-place
 overflow_sub-place c =
@@ -38,7 +39,8 @@ moves_of c =
     let place = c.place_in_order-place.result in
     let found = c.remove-content.result in
     let moved = c.args.name.now ++ c.args.suffix.now in
-    let made : String Global × Vec ℕ Global = (c.in_ok-moved.moved, found.1) in
+    let named : string_bytes c.push_str.new.self ≡ moved = search rules in
+    let made : String Global × Vec ℕ Global = (c.push_str.new.self, found.1) in
     let inserted : c.insert.new.self.items ≡ insert cur (place - c.in-Some.at) made = search rules in
     let titled = rw c.deref-2.ensures.value at c.in-Some.ensures.some in
     let at = rw c.deref-3.ensures.value at c.place_in_order-place.ensures.found in
@@ -47,7 +49,7 @@ moves_of c =
     let was : (d : File) → get_or (map file_of new) c.in-Some.at d ≡ file c.args.name.now found.1.items =
     λ d. cc (get_or-map file_of new c.in-Some.at found d titled.0, titled.1 found, c.remove-content.ensures.value) in
     let left : map file_of (remove new c.in-Some.at) ≡ remove (map file_of new) c.in-Some.at = simp (map-append, take-map, drop-map) in
-    let made_is : file_of made ≡ file moved found.1.items = ap (λ (n : List ℕ). file n found.1.items) c.in_ok-moved.ensures in
+    let made_is : file_of made ≡ file moved found.1.items = ap (λ (n : List ℕ). file n found.1.items) named in
     let came : map file_of (insert cur (place - c.in-Some.at) made) ≡ insert (map file_of cur) (place - c.in-Some.at) (file moved found.1.items) = simp (map-append, take-map, drop-map, made_is) in
     rw (c.remove-content.ensures.items, inserted) (
       rw (left, came, others, ← counted)
@@ -62,7 +64,7 @@ moves_of c =
         was = was;
         left = left;
         came = came;
-        free = λ h. both_ways c.has_name.result c.if-has_name.false (c.has_name.ensures.1 (rw (c.deref.ensures.value, c.as_str.ensures.value, c.in_ok-moved.ensures) h));
+        free = λ h. both_ways c.is_some.result c.if-is_some.false (c.is_some.ensures ∙ c.place_of.ensures.there.1 (rw (c.deref.ensures.value, c.as_str.ensures.value, named) h));
       },
       omega (
         arith,

@@ -1,10 +1,10 @@
-use Rattle.std.proofs.Common.{◌≤◌, length}
+use Rattle.std.proofs.Common.{length}
 use Rattle.mail_store.specs.Mboxrd.{quoted}
 use Rattle.mail_store.proofs.MboxLemmas.{Copies}
-use Rattle.mail_store.proofs.mboxrd.quoting.put_quoted.Given as goal
+use Rattle.mail_store.proofs.mboxrd.quoting.quote.Given as goal
 
 abbrev pub invariant-loop-rest : goal.invariant-loop-rest
-invariant-loop-rest l = (length l.rest ≤ length l.run) × Copies quoted l.fn.out.items l.out.items l.run l.rest l.text
+invariant-loop-rest l = Copies quoted l.quoted.items l.run l.rest l.text
 
 abbrev pub decreases-loop-rest : goal.decreases-loop-rest
 decreases-loop-rest l = length l.rest

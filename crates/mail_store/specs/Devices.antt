@@ -1,0 +1,41 @@
+-- What a call of a device owes by its trait, for devices whose calls promise more than that.
+use Rattle.std.specs.Prelude.{◌≡◌, Result, IfErr, OnOk}
+use Rattle.mail_terms.specs.FailureCount.{Tallies, refuses}
+use Rattle.mail_store.specs.declared.fault.StoreFault.{StoreFault}
+use Rattle.mail_store.specs.declared.fault.StoreFault.TheVariants.{Refused}
+use Rattle.mail_store.specs.declared.file.flat_file.FlatFile.{Ghosts as FileGhosts}
+use Rattle.mail_store.specs.declared.maildir.disk.MaildirDisk.{Ghosts as DiskGhosts}
+use Rattle.mail_store.specs.Fault.{is_refusal, IsDeviceFault}
+use Rattle.mail_store.specs.FlatFile.{Stored}
+use Rattle.mail_store.specs.Maildir.{Maildir}
+use Rattle.mail_store.specs.Power.{KeepsMail, LastsWhole, LeavesNoMore, UnlessRefused}
+
+-- a call did this to the file
+abbrev pub FileDoes : {F : Type 0} → FileGhosts F → (Stored → Stored → Type 0) → F → F → Type 0
+FileDoes file Does old new = file.sound new → file.sound old × Does (file.stored old) (file.stored new)
+
+-- a call that only reads
+abbrev pub FileReads : {F T : Type 0} → FileGhosts F → F → Result T StoreFault → F → Type 0
+FileReads file old result new = IfErr result IsDeviceFault × (file.sound new → LeavesNoMore (file.may_leave old) (file.may_leave new))
+    × Tallies (refuses is_refusal result) (file.stored old).failures (file.stored new).failures
+
+-- a call that reads, and flushes what it reads
+abbrev pub FileFlushes : {F T : Type 0} → FileGhosts F → F → Result T StoreFault → F → Type 0
+FileFlushes file old result new = FileReads file old result new × (file.sound new → file.is_sure old
+    → UnlessRefused result (file.is_sure new × LastsWhole (file.stored new).content (file.is_on_disk new) (file.may_leave new)))
+
+-- a call that writes to a file which is there
+abbrev pub FileWrites : {F T : Type 0} → FileGhosts F → F → Result T StoreFault → F → Type 0
+FileWrites file old result new = IfErr result (λ e. e ≡ Refused)
+    × (file.sound new → file.is_sure old → file.is_on_disk old
+    → OnOk result (file.is_sure new × LastsWhole (file.stored new).content (file.is_on_disk new) (file.may_leave new)))
+    × Tallies (refuses is_refusal result) (file.stored old).failures (file.stored new).failures
+
+-- a call did this to the Maildir
+abbrev pub DiskDoes : {D : Type 0} → DiskGhosts D → (Maildir → Maildir → Type 0) → D → D → Type 0
+DiskDoes disk Does old new = disk.sound new → disk.sound old × Does (disk.maildir old) (disk.maildir new)
+
+-- a call after which a loss of power leaves what it would have left before
+abbrev pub DiskKeeps : {D T : Type 0} → DiskGhosts D → D → Result T StoreFault → D → Type 0
+DiskKeeps disk old result new = (disk.sound new → KeepsMail (disk.stays old) (disk.outlives old) (disk.stays new) (disk.outlives new))
+    × Tallies (refuses is_refusal result) (disk.maildir old).failures (disk.maildir new).failures
