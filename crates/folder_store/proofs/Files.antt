@@ -1,17 +1,21 @@
--- A file in a folder: what the calls of the folder leave of it.
-use Rattle.std.proofs.Common.{◌≡◌, ℕ, ◌+◌, ◌<◌, zero, suc, length, get_or, refl, arith, List, [], ◌∷◌, ◌++◌, take, drop, cond, sym, ap, subst, ◌∙◌, Bool, true, false, Option, Some, None, Contains, option_map, bytes_eq, if◌then◌else◌, IsErr, Result, Ok, Err, inl, inr, ⊎_elim, append_assoc, append-nil, take-append-drop, true≢false, ◌⊎◌, ◌-◌, ◌≤◌, min, length-append, slice_index}
+-- A file in a folder: what the calls of the folder leave of it, and what a loss of power leaves of it after each call.
+use Rattle.std.proofs.Common.{◌≡◌, ℕ, ◌+◌, ◌<◌, zero, suc, length, get_or, refl, arith, List, [], ◌∷◌, ◌++◌, take, drop, cond, sym, ap, subst, ◌∙◌, Bool, true, false, Option, Some, None, Contains, option_map, bytes_eq, if◌then◌else◌, Result, Ok, Err, inl, inr, ⊎_elim, append_assoc, append-nil, take-append-drop, true≢false, ◌⊎◌, ◌-◌, ◌≤◌, min, length-append, slice_index, ◌==◌, ◌%◌, ◌/◌, OnOk, is_err}
 use Rattle.std.proofs.lemmas.Slice.Eq.{bytes_eq-Decides}
 use Rattle.std.proofs.lemmas.Option.{none-some, same_Some}
-use Rattle.std.proofs.lemmas.Bool.{cases_Bool, cond-true, cond-false, cond_both, false_from_ne_true, cases_lt}
+use Rattle.std.proofs.lemmas.Bool.{cases_Bool, cond-true, cond-false, cond_both, false_from_ne_true, cases_lt, eq-eqb}
 use Rattle.mail_terms.specs.FailureCount.{is_refused}
 use Rattle.mail_store.specs.declared.fault.StoreFault.{StoreFault}
 use Rattle.mail_store.specs.FlatFile.{Appends, Cuts, Replaces}
-use Rattle.folder_store.specs.FileFolder.{Directory, Entry, Blob, Older, entry, names_in, find, placed, making, changed, appended, cut, doubted, flushed, secured, empty_blob, content_in, content_at, Makes, Writes, AppendsTo, CutsTo, FlushesFile, FlushesNames}
-use Rattle.folder_store.specs.HostFile.{stored_in, Holds, Keeps, Becomes, MayBeFlushed, IsAppended, IsSoFar, IsPartAppended, AppendsPiece, AppendsFlushed, CutsFlushed, PutsFlushed, ReplacesFlushed, Flushes}
-use Rattle.std.proofs.lemmas.List.{take-append-drop, take-append-le, take-take, length-take, get_or-take, get_or_append_left}
+use Rattle.folder_store.specs.FileFolder.{Directory, Entry, Blob, Older, entry, names_in, find, placed, making, changed, appended, cut, doubted, flushed, secured, empty_blob, content_in, content_at, Makes, Writes, Alters, FlushesFile, FlushesNames}
+use Rattle.folder_store.specs.HostFile.{stored_in, Holds, Keeps, Becomes, BecomesInPart, MayBeFlushed, IsAppended, IsSoFar, IsPartAppended, AppendsFlushed, IsFrontAppended, CutsFlushed, PutsFlushed, ReplacesFlushed, Flushes, AppendsLast, CutsLast, ReplacesLast}
+use Rattle.std.proofs.lemmas.List.{take-append-drop, take-append-le, take-take, length-take, get_or-take, get_or_append_left, get_or-append-add}
 use Rattle.std.proofs.Math.Seq.{take-append-add, take-append_seam, take-length}
-use Rattle.mail_store.specs.Power.{IsLonger, LeavesNoMore}
-use Rattle.folder_store.specs.PowerLoss.{IsTorn, IsByteLeft, IsLeft, IsLeftOf, WasOnce, MayBe}
+use Rattle.mail_store.specs.Power.{IsLonger, LeavesNoMore, LastsWhole}
+use Rattle.folder_store.specs.PowerLoss.{IsTorn, IsByteLeft, IsLeft, IsLeftOf, WasOnce, MayBe, IsFlushed, IsSure, IsOnDisk, IsKnown, DiskIsLeft, DiskIsKnown, PowerLeaves}
+use Rattle.std.specs.List.{list_all}
+use Rattle.std.proofs.lemmas.Grind.{same_number_lists}
+use Rattle.mail_store.specs.Settling.{block_size, MayBeLeft}
+use Rattle.folder_store.specs.MemoryFolder.{left_under}
 
 pub differ : (one two : List ℕ) → (one ≡ two → ⊥) → bytes_eq one two ≡ false
 differ one two apart = false_from_ne_true (bytes_eq one two) (λ same. apart ((bytes_eq-Decides one two).0 same))
@@ -61,33 +65,29 @@ keeps_same old new name e = rw e (record { leads_to = refl; named = refl })
 holds_on : (mid new : Directory) (name : List ℕ) (o p : Option Blob) (older : List Older) → Holds mid name o older → Holds new name p mid.older → Holds new name p older
 holds_on mid new name o p older h k = record { leads_to = k.leads_to; named = k.named ∙ h.named }
 
-module _ (old mid new : Directory) (name : List ℕ) (f : Blob → Blob) (b : Blob) (at : find name old.entries ≡ Some b) (changing : mid ≡ changed old name (f b)) where
-  of_mid : (x : Blob) (g : Blob → Blob) → find name mid.entries ≡ Some x → new ≡ changed mid name (g x) → Holds new name (Some (g (f b))) old.older
-  of_mid x g found flush =
-      let h = holds_changed old mid name (f b) changing in
-      holds_on mid new name (Some (f b)) _ old.older h (holds_changed mid new name _ (rw (same_Some x (f b) (sym found ∙ h.leads_to)) at flush))
+-- `append_flushed` and `cut_flushed`: the first call was refused, or the file was changed and then flushed
+pub refused_becomes : {Part Will : Blob → Blob → Type 0} → ((b c : Blob) → Part b c → Will b c) → (old new : Directory) (name : List ℕ)
+    → (new ≡ old) ⊎ Alters Part old name new → Keeps old name new ⊎ Becomes Will old name new
+refused_becomes will old new name (inl same) = inl (keeps_same old new name same)
+refused_becomes will old new name (inr (b, c, at, is, k)) = inr (b, c, at, will b c is, holds_changed old new name c k)
 
-  pub flush_done : FlushesFile {T = Unit {0}} mid name (Ok tt) new → Becomes (λ x y. y ≡ flushed (f x)) old name new
-  flush_done (x, found, flush) = (b, flushed (f b), at, refl, of_mid x flushed found flush)
+pub flushed_becomes : (f : Blob → Blob) (Will : Blob → Blob → Type 0) → ((b c : Blob) → MayBeFlushed (f b) c → Will b c)
+    → (old mid new : Directory) (name : List ℕ)
+    → (r : Result (Unit {0}) StoreFault) → Alters (λ b c. c ≡ f b) old name mid → FlushesFile mid name r new
+    → BecomesInPart (λ b c. c ≡ flushed (f b)) Will old name r new
+flushed_becomes f Will will old mid new name r (b, c, at, is, e) flush = by r flush
+  where
+    mid_is : (x : Blob) → find name mid.entries ≡ Some x → x ≡ f b
+    mid_is x found = same_Some x c (sym found ∙ (holds_changed old mid name c e).leads_to) ∙ is
 
-  pub flush_refused : (fault : StoreFault) → FlushesFile {T = Unit {0}} mid name (Err fault) new → Becomes (λ x y. MayBeFlushed (f x) y) old name new
-  flush_refused fault (inl same) = (b, f b, at, inl refl, holds_changed old new name (f b) (same ∙ changing))
-  flush_refused fault (inr (x, found, inl flush)) = (b, flushed (f b), at, inr (inl refl), of_mid x flushed found flush)
-  flush_refused fault (inr (x, found, inr flush)) = (b, doubted (f b), at, inr (inr refl), of_mid x doubted found flush)
+    later : (y : Blob) → new ≡ changed mid name y → Holds new name (Some y) old.older
+    later y k = holds_on mid new name (Some c) (Some y) old.older (holds_changed old mid name c e) (holds_changed mid new name y k)
 
--- `append_flushed`
-pub piece_refused : (old new : Directory) (name bytes : List ℕ) (fault : StoreFault) (r : Result (Unit {0}) StoreFault) → IsErr r
-    → AppendsTo {T = Unit {0}} old name bytes (Err fault) new → AppendsPiece old name bytes r new
-piece_refused old new name bytes fault (Ok done) err t = absurd (true≢false (sym err))
-piece_refused old new name bytes fault (Err e) err (inl same) = inl (keeps_same old new name same)
-piece_refused old new name bytes fault (Err e) err (inr (b, front, rest, at, parts, is)) =
-    inr (front, rest, parts, (b, appended b front, at, inl refl, holds_changed old new name (appended b front) is))
-
-pub piece_done : (old mid new : Directory) (name bytes : List ℕ) (r : Result (Unit {0}) StoreFault) → AppendsTo {T = Unit {0}} old name bytes (Ok tt) mid
-    → FlushesFile mid name r new → AppendsPiece old name bytes r new
-piece_done old mid new name bytes (Ok done) (b, at, e) flush = flush_done old mid new name (λ x. appended x bytes) b at e flush
-piece_done old mid new name bytes (Err fault) (b, at, e) flush =
-    inr (bytes, [], sym (append-nil bytes), flush_refused old mid new name (λ x. appended x bytes) b at e fault flush)
+    by : (r : Result (Unit {0}) StoreFault) → FlushesFile mid name r new → BecomesInPart (λ b c. c ≡ flushed (f b)) Will old name r new
+    by (Ok done) (x, y, found, flush, k) = (b, y, at, flush ∙ ap flushed (mid_is x found), later y k)
+    by (Err fault) (inl same) = inr (b, c, at, will b c (inl is), holds_changed old new name c (same ∙ e))
+    by (Err fault) (inr (x, y, found, flush, k)) =
+        inr (b, y, at, will b y (inr (subst (λ (z : Blob). (y ≡ flushed z) ⊎ (y ≡ doubted z)) (mid_is x found) flush)), later y k)
 
 -- `append_blocks`: the pieces one after another
 appended_twice : (b : Blob) (xs ys : List ℕ) → flushed (appended (flushed (appended b xs)) ys) ≡ flushed (appended b (xs ++ ys))
@@ -96,41 +96,41 @@ appended_twice b xs ys = grind (arith, append_assoc b.content xs ys)
 appended_nothing : (b : Blob) → appended b [] ≡ b
 appended_nothing b = ap (λ (zs : List ℕ). record b { content = zs }) (append-nil b.content)
 
+pub one_piece : (bytes front rest : List ℕ) (b c : Blob) → bytes ≡ front ++ rest → MayBeFlushed (appended b front) c
+    → IsFrontAppended bytes b c
+one_piece bytes front rest b c parts is = ([], front, rest, parts, record { so_far = b; is_flushed = inl (refl, refl); is = is })
+
 -- a piece was refused, and the file has a front of it
 pub first_refused : (old new : Directory) (name bytes piece more : List ℕ) (fault : StoreFault) → bytes ≡ piece ++ more
-    → AppendsPiece {T = Unit {0}} old name piece (Err fault) new → AppendsFlushed {T = Unit {0}} old name bytes (Err fault) new
+    → AppendsFlushed {T = Unit {0}} old name piece (Err fault) new → AppendsFlushed {T = Unit {0}} old name bytes (Err fault) new
 first_refused old new name bytes piece more fault parts (inl same) = inl same
-first_refused old new name bytes piece more fault parts (inr (front, rest, is, (b, c, at, may, h))) =
-    inr ([], front, rest ++ more, rw (parts, is) (append_assoc front rest more), (b, c, at, record { so_far = b; is_flushed = inl (refl, refl); is = may }, h))
+first_refused old new name bytes piece more fault parts (inr (b, c, at, (first, front, rest, is, part), h)) =
+    inr (b, c, at, (first, front, rest ++ more, rw (parts, is) (simp append_assoc), part), h)
 
 pub later_refused : (old mid new : Directory) (name bytes done piece more : List ℕ) (fault : StoreFault) (all : List ℕ) → bytes ≡ done ++ all → all ≡ piece ++ more
-    → Becomes (IsAppended done) old name mid → AppendsPiece {T = Unit {0}} mid name piece (Err fault) new
+    → Becomes (IsAppended done) old name mid → AppendsFlushed {T = Unit {0}} mid name piece (Err fault) new
     → AppendsFlushed {T = Unit {0}} old name bytes (Err fault) new
 later_refused old mid new name bytes done piece more fault all parts split (b, c, at, is, h) (inl same) =
-    let so_far : IsPartAppended done [] b c = record { so_far = c; is_flushed = inr is; is = inl (sym (appended_nothing c)) } in
-    inr (done, [], all, parts, (b, c, at, so_far, rw h.leads_to at (holds_on mid new name (Some c) (find name mid.entries) old.older h same)))
-later_refused old mid new name bytes done piece more fault all parts split (b, c, at, is, h) (inr (front, rest, which, (x, y, found, may, k))) =
-    let may_c = subst (λ (z : Blob). MayBeFlushed (appended z front) y) (same_Some x c (sym found ∙ h.leads_to)) may in
-    let so_far : IsPartAppended done front b y = record { so_far = c; is_flushed = inr is; is = may_c } in
-    inr (done, front, rest ++ more, rw (parts, split, which, append_assoc front rest more) refl, (b, y, at, so_far, holds_on mid new name (Some c) (Some y) old.older h k))
+    let part : IsPartAppended done [] b c = record { so_far = c; is_flushed = inr is; is = inl (sym (appended_nothing c)) } in
+    inr (b, c, at, (done, [], all, parts, part), rw h.leads_to at (holds_on mid new name (Some c) (find name mid.entries) old.older h same))
+later_refused old mid new name bytes done piece more fault all parts split (b, c, at, is, h) (inr (x, y, found, (first, front, rest, which, part), k)) =
+    let same : x ≡ flushed (appended b done) = same_Some x c (sym found ∙ h.leads_to) ∙ is in
+    let so_far : part.so_far ≡ flushed (appended b (done ++ first)) = ⊎_elim (λ none. none.1 ∙ same ∙ rw (none.0, append-nil done) refl)
+    (λ e. e ∙ rw same (appended_twice b done first)) part.is_flushed in
+    let all_so_far : IsPartAppended (done ++ first) front b y = record { so_far = part.so_far; is_flushed = inr so_far; is = part.is } in
+    inr (
+      b,
+      y,
+      at,
+      (done ++ first, front, rest ++ more, rw (parts, split, which) (simp append_assoc), all_so_far),
+      holds_on mid new name (Some c) (Some y) old.older h k,
+    )
 
 pub later_done : (old mid new : Directory) (name done piece : List ℕ) → Becomes (IsAppended done) old name mid
-    → AppendsPiece {T = Unit {0}} mid name piece (Ok tt) new → Becomes (IsAppended (done ++ piece)) old name new
+    → AppendsFlushed {T = Unit {0}} mid name piece (Ok tt) new → Becomes (IsAppended (done ++ piece)) old name new
 later_done old mid new name done piece (b, c, at, is, h) (x, y, found, flush, k) =
     let same : x ≡ flushed (appended b done) = same_Some x c (sym found ∙ h.leads_to) ∙ is in
     (b, y, at, rw (flush, same) (appended_twice b done piece), holds_on mid new name (Some c) (Some y) old.older h k)
-
--- `cut_flushed`
-pub cut_refused : (old new : Directory) (name : List ℕ) (len : ℕ) (fault : StoreFault) (r : Result (Unit {0}) StoreFault) → IsErr r
-    → CutsTo {T = Unit {0}} old name len (Err fault) new → CutsFlushed old name len r new
-cut_refused old new name len fault (Ok done) err t = absurd (true≢false (sym err))
-cut_refused old new name len fault (Err e) err (inl same) = inl (keeps_same old new name same)
-cut_refused old new name len fault (Err e) err (inr (b, at, is)) = inr (b, cut b len, at, inl refl, holds_changed old new name (cut b len) is)
-
-pub cut_done : (old mid new : Directory) (name : List ℕ) (len : ℕ) (r : Result (Unit {0}) StoreFault) → CutsTo {T = Unit {0}} old name len (Ok tt) mid
-    → FlushesFile mid name r new → CutsFlushed old name len r new
-cut_done old mid new name len (Ok done) (b, at, e) flush = flush_done old mid new name (λ x. cut x len) b at e flush
-cut_done old mid new name len (Err fault) (b, at, e) flush = inr (flush_refused old mid new name (λ x. cut x len) b at e fault flush)
 
 -- the file made has these bytes
 made_is : (old one two : Directory) (bytes : List ℕ) → Makes {T = Unit {0}} old (Ok tt) one → Writes {T = Unit {0}} one bytes (Ok tt) two
@@ -176,7 +176,7 @@ pub appends : (old new : Directory) (name bytes : List ℕ) (n m : ℕ) (r : Res
     → m ≡ (if is_refused r then n + 1 else n) → Appends (stored_in old name n) bytes r (stored_in new name m)
 appends old new name bytes n m (Ok done) (b, c, at, is, h) up = λ was here. rw (up, h.leads_to, is, content_is old name was b at here) refl
 appends old new name bytes n m (Err e) (inl h) up = λ was is. ([], bytes, refl, rw (up, h.leads_to, is, append-nil was) refl)
-appends old new name bytes n m (Err e) (inr (first, front, rest, parts, (b, c, at, is, h))) up = λ was here. (
+appends old new name bytes n m (Err e) (inr (b, c, at, (first, front, rest, parts, is), h)) up = λ was here. (
   first ++ front,
   rest,
   parts ∙ sym (append_assoc first front rest),
@@ -352,9 +352,11 @@ may_held d name o older h left (inl now) = inl (subst (λ (x : Option Blob). IsL
 may_held d name o older h left (inr was) = inr (subst (λ (xs : List Older). WasOnce xs name left) h.named was)
 
 pub leaves_become : (R : Option (List ℕ) → Option (List ℕ) → Type 0) {S : Blob → Blob → Type 0} (old new : Directory) (name : List ℕ) → ((left : Option (List ℕ)) → R left left)
-    → ((b c : Blob) → S b c → Leaves R b c) → Becomes S old name new
+    → ((b c : Blob) → S b c → Leaves R b c) → Keeps old name new ⊎ Becomes S old name new
     → (left : Option (List ℕ)) → MayBe new name left → (was : Option (List ℕ)) × MayBe old name was × R was left
-leaves_become R old new name same leaves (b, c, at, is, h) left may =
+leaves_become R old new name same leaves (inl h) left may =
+    (left, may_held new name (find name old.entries) old.older h left may, same left)
+leaves_become R old new name same leaves (inr (b, c, at, is, h)) left may =
     ⊎_elim (λ now. let w = leaves b c is left now in (w.0, inl (subst (λ (o : Option Blob). IsLeftOf o w.0) (sym at) w.1), w.2)) (λ was. (left, inr was, same left))
     (may_held new name (Some c) old.older h left may)
 
@@ -368,12 +370,304 @@ may_no_more old new name b c is at e =
     (rw (h.leads_to, at, may_content b c is) refl, λ left may. ⊎_elim (λ now. inl (rw at (no_more b c is left now))) inr (may_held new name (Some c) old.older h left may))
 
 pub flush_keeps : (old new : Directory) (name : List ℕ) (r : Result (Unit {0}) StoreFault) → FlushesFile old name r new → Stands old name new
-flush_keeps old new name (Ok done) (b, at, e) = may_no_more old new name b (flushed b) (inr (inl refl)) at e
+flush_keeps old new name (Ok done) (b, c, at, is, e) = may_no_more old new name b c (inr (inl is)) at e
 flush_keeps old new name (Err fault) (inl e) = rw e (refl, λ left may. may)
-flush_keeps old new name (Err fault) (inr (b, at, inl e)) = may_no_more old new name b (flushed b) (inr (inl refl)) at e
-flush_keeps old new name (Err fault) (inr (b, at, inr e)) = may_no_more old new name b (doubted b) (inr (inr refl)) at e
+flush_keeps old new name (Err fault) (inr (b, c, at, is, e)) = may_no_more old new name b c (inr is) at e
 
 pub flush_names_keeps : (old new : Directory) (name : List ℕ) (r : Result (Unit {0}) StoreFault) → FlushesNames old r new → Stands old name new
 flush_names_keeps old new name (Ok done) e = rw e (refl, λ left. ⊎_elim inl (λ was. absurd was))
 flush_names_keeps old new name (Err fault) (inl e) = rw e (refl, λ left may. may)
 flush_names_keeps old new name (Err fault) (inr e) = rw e (refl, λ left. ⊎_elim inl (λ was. absurd was))
+
+-- ---- what is left of a file
+
+left_flushed : (o : Option Blob) (left : Option (List ℕ)) → IsFlushed o → IsLeftOf o left → left ≡ option_map content_in o
+left_flushed None None is h = refl
+left_flushed None (Some left) is h = absurd h
+left_flushed (Some b) None is h = absurd h
+left_flushed (Some b) (Some left) is h = ap Some (left_of b.content left (rw is at h))
+
+-- what is left of the file of a name, if the names are on the disk
+left_held : (old new : Directory) (name : List ℕ) (left : Option (List ℕ)) (o : Option Blob) → IsOnDisk old name
+    → Holds new name o old.older → MayBe new name left → IsLeftOf o left
+left_held old new name left o is h may = ⊎_elim (λ now. now) (λ was. absurd (rw is.named at was)) (may_held new name o old.older h left may)
+
+-- the file that was on the disk was flushed
+was_secured : (old : Directory) (name : List ℕ) (b : Blob) → find name old.entries ≡ Some b → IsOnDisk old name → b ≡ secured b.content
+was_secured old name b at is = subst (λ (o : Option Blob). IsFlushed o) at is.flushed
+
+-- what is left of a file that was on the disk and became another
+left_become : {R : Blob → Blob → Type 0} (old new : Directory) (name was : List ℕ) (left : Option (List ℕ)) → Becomes R old name new → IsOnDisk old name
+    → content_at old name ≡ Some was → MayBe new name left → (c : Blob) × R (secured was) c × IsLeftOf (Some c) left
+left_become {R} old new name was left (b, c, at, is, h) on has may = (
+  c,
+  subst (λ (x : Blob). R x c) (was_secured old name b at on ∙ ap (λ (xs : List ℕ). secured xs) (content_is old name was b at has)) is,
+  left_held old new name left (Some c) on h may,
+)
+
+-- the file didn't change, so what was on the disk is left
+left_kept : (old new : Directory) (name : List ℕ) (left : Option (List ℕ)) → IsOnDisk old name
+    → Holds new name (find name old.entries) old.older → MayBe new name left → left ≡ content_at old name
+left_kept old new name left is h may = left_flushed (find name old.entries) left is.flushed (left_held old new name left _ is h may)
+
+-- a file that became one whose bytes are on the disk
+now_on_disk : (f : Blob → Blob) → ((was : List ℕ) → IsFlushed (Some (f (secured was))))
+    → (Part : Blob → Blob → Type 0) (old new : Directory) (name : List ℕ)
+    → (r : Result (Unit {0}) StoreFault) → BecomesInPart (λ b c. c ≡ f b) Part old name r new
+    → OnOk r (IsOnDisk old name → IsOnDisk new name)
+now_on_disk f each Part old new name (Ok done) (b, c, at, is, h) = λ on. record {
+  named = h.named ∙ on.named;
+  flushed = subst (λ (o : Option Blob). IsFlushed o) (sym (h.leads_to ∙ ap Some (is ∙ ap f (was_secured old name b at on)))) (each b.content);
+}
+now_on_disk f each Part old new name (Err fault) t = tt
+
+-- what a call did, whatever it answered
+in_part : {Done Part : Blob → Blob → Type 0} → ((b c : Blob) → Done b c → Part b c)
+    → (old new : Directory) (name : List ℕ) (r : Result (Unit {0}) StoreFault)
+    → BecomesInPart Done Part old name r new → Keeps old name new ⊎ Becomes Part old name new
+in_part also old new name (Ok done) (b, c, at, is, h) = inr (b, c, at, also b c is, h)
+in_part also old new name (Err fault) t = t
+
+-- ---- `append`
+
+-- what may be left of bytes that were appended at a place, and of more of them, is a part
+part_more : (place : ℕ) (front rest left : List ℕ) → MayBeLeft place front left → MayBeLeft place (front ++ rest) left
+part_more place front rest [] is = tt
+part_more place [] rest (byte ∷ left) is = absurd is
+part_more place (word ∷ front) rest (byte ∷ left) is = (is.0, part_more (place + 1) front rest left is.1)
+
+part_later : (place : ℕ) (first more left : List ℕ) → MayBeLeft (place + length first) more left → MayBeLeft place (first ++ more) (first ++ left)
+part_later place [] more left is = subst (λ (n : ℕ). MayBeLeft n more left) (omega arith) is
+part_later place (byte ∷ first) more left is =
+    (inl refl, part_later (place + 1) first more left (subst (λ (n : ℕ). MayBeLeft n more left) (omega arith) is))
+
+-- zeros up to the end of a block, by their places and by recursion
+are_zeros : (n : ℕ) (bytes : List ℕ) → ((j : ℕ) → j < n → j < length bytes → slice_index bytes j ≡ 0) → list_all (λ byte. byte == 0) (take n bytes) ≡ true
+are_zeros zero bytes zeros = refl
+are_zeros (suc n) [] zeros = refl
+are_zeros (suc n) (byte ∷ bytes) zeros =
+    rw (eq-eqb byte 0 (zeros 0 (omega arith) (omega arith)))
+    (are_zeros n bytes (λ j below within. zeros (suc j) (omega (arith, below)) (omega (arith, within))))
+
+abbrev IsZeroBehind : ℕ → List ℕ → ℕ → Type 0
+IsZeroBehind place left i = (j : ℕ) → i ≤ j → j < length left → (place + j) / block_size ≡ (place + i) / block_size → slice_index left j ≡ 0
+
+each_part : (place : ℕ) (bytes left : List ℕ) → length left ≤ length bytes
+    → ((i : ℕ) → i < length left → (slice_index left i ≡ slice_index bytes i) ⊎ IsZeroBehind place left i) → MayBeLeft place bytes left
+each_part place bytes [] le each = tt
+each_part place [] (byte ∷ left) le each = absurd (omega (arith, le))
+each_part place (word ∷ bytes) (byte ∷ left) le each = (
+  ⊎_elim inl (λ zeros. inr (are_zeros (block_size - place % block_size) (byte ∷ left) (λ j below within. zeros j (omega arith) within (omega (arith, below))))) (each 0 (omega arith)),
+  each_part (place + 1) bytes left (omega (arith, le)) (λ i below. ⊎_elim inl
+      (λ zeros. inr (λ j from within block. zeros (suc j) (omega (arith, from)) (omega (arith, within)) (omega (arith, block)))) (each (suc i) (omega (arith, below)))),
+)
+
+-- of a file that was on the disk the old bytes are left, and a part of those that were appended
+abbrev LeavesBehind : List ℕ → List ℕ → Option (List ℕ) → Type 0
+LeavesBehind was bytes left = (behind : List ℕ) × (left ≡ Some (was ++ behind)) × MayBeLeft (length was) bytes behind
+
+some_behind : (was bytes left : List ℕ) → IsTorn (was ++ bytes) was (length was) left → LeavesBehind was bytes (Some left)
+some_behind was bytes left t = (
+  t.behind,
+  ap Some parts,
+  each_part (length was) bytes t.behind
+      (⊎_elim (λ le. omega (arith, le, size, length-append was bytes)) (λ same. omega (arith, same, size)) t.most)
+      (λ i below. byte i (t.each (length was + i) (omega arith) (omega (arith, below, size)))),
+)
+  where
+    parts : left ≡ was ++ t.behind
+    parts = t.kept ∙ ap (λ (xs : List ℕ). xs ++ t.behind) (take-append_seam was bytes)
+
+    size : length left ≡ length was + length t.behind
+    size = ap length parts ∙ length-append was t.behind
+
+    at : (i : ℕ) → slice_index left (length was + i) ≡ slice_index t.behind i
+    at i = ap (λ (xs : List ℕ). slice_index xs (length was + i)) parts ∙ get_or-append-add was t.behind i 0
+
+    byte : (i : ℕ) → IsByteLeft (was ++ bytes) was left (length was + i)
+        → (slice_index t.behind i ≡ slice_index bytes i) ⊎ IsZeroBehind (length was) t.behind i
+    byte i (inl (in_content, e)) = inl (sym (at i) ∙ e ∙ get_or-append-add was bytes i 0)
+    byte i (inr (inl (in_flushed, e))) = absurd (omega (arith, in_flushed))
+    byte i (inr (inr (in_content, zeros))) =
+        inr (λ j from within block. sym (at j) ∙ zeros (length was + j) (omega (arith, from)) (omega (arith, within, size)) block)
+
+loose_behind : (was bytes : List ℕ) (left : Option (List ℕ)) → IsLeftOf (Some (appended (secured was) bytes)) left → LeavesBehind was bytes left
+loose_behind was bytes None h = absurd h
+loose_behind was bytes (Some left) (inl e) = ([], ap Some (e ∙ sym (append-nil was)), tt)
+loose_behind was bytes (Some left) (inr (inl e)) = (bytes, ap Some e, rw (append-nil bytes) at (part_later (length was) bytes [] [] tt))
+loose_behind was bytes (Some left) (inr (inr t)) = some_behind was bytes left t
+
+pieces_behind : (was bytes first front rest : List ℕ) (c : Blob) (left : Option (List ℕ)) → bytes ≡ first ++ (front ++ rest)
+    → IsPartAppended first front (secured was) c → IsLeftOf (Some c) left → LeavesBehind was bytes left
+pieces_behind was bytes first front rest c left parts is h =
+    let so_far : is.so_far ≡ secured (was ++ first) = ⊎_elim (λ none. none.1 ∙ rw (none.0, append-nil was) refl) (λ e. e) is.is_flushed in
+    let t = loose_behind (was ++ first) front left
+    (subst (λ (x : Blob). IsLeftOf (Some (appended x front)) left) so_far (no_more (appended is.so_far front) c is.is left h)) in (
+      first ++ t.0,
+      t.1 ∙ ap Some (append_assoc was first t.0),
+      rw parts (part_later (length was) first (front ++ rest) t.0
+          (part_more (length was + length first) front rest t.0 (subst (λ (n : ℕ). MayBeLeft n front t.0) (length-append was first) t.2))),
+    )
+
+pub appends_for_good : AppendsLast
+appends_for_good old new name bytes r t =
+    let part = in_part (λ b c is. one_piece bytes bytes [] b c (sym (append-nil bytes)) (inr (inl is))) old new name r t in
+    record {
+      longer = leaves_become IsLonger old new name (λ left. inl refl) (λ b c is. part_longer b c is.0 is.1 is.4) part;
+      leaves = λ on was has left may. ⊎_elim (λ h. ([], left_kept old new name left on h may ∙ has ∙ ap Some (sym (append-nil was)), tt))
+          (λ t. let k = left_become old new name was left t on has may in
+          pieces_behind was bytes k.1.0 k.1.1 k.1.2 k.0 left k.1.3 k.1.4 k.2) part;
+      outlives = now_on_disk (λ b. flushed (appended b bytes)) (λ was. refl) (IsFrontAppended bytes) old new name r t;
+    }
+
+-- ---- `cut_to`
+
+loose_cut : (was left : List ℕ) (len : ℕ) → IsTorn (take len was) was (min len (length was)) left → (left ≡ was) ⊎ (left ≡ take len was)
+loose_cut was left len t =
+    let size : length (take len was) ≡ min len (length was) = length-take len was in
+    let front : take (min len (length was)) (take len was) ≡ take len was =
+    subst (λ (n : ℕ). take n (take len was) ≡ take len was) size (take-length (take len was)) in
+    let parts : left ≡ take len was ++ t.behind = t.kept ∙ ap (λ (xs : List ℕ). xs ++ t.behind) front in
+    ⊎_elim
+    (λ le. inr (parts ∙ no_rest (take len was) t.behind (subst (λ (xs : List ℕ). length xs ≤ length (take len was)) parts le)))
+    (λ same. inl (same_number_lists left was same (λ i below. ⊎_elim
+    (λ before. ap (λ (xs : List ℕ). slice_index xs i) parts ∙ get_or_append_left (take len was) t.behind 0 i before
+    ∙ get_or-take len was i 0 (omega (arith, before, length-take len was)))
+    (λ after. ⊎_elim (λ p. absurd (omega (arith, after, p.0))) (⊎_elim (λ p. p.1) (λ p. absurd (omega (arith, after, p.0))))
+    (t.each i (subst (λ (n : ℕ). n ≤ i) size after) below)) (cases_lt i (length (take len was)))))) t.most
+
+left_cut : (was : List ℕ) (len : ℕ) (left : Option (List ℕ)) → IsLeftOf (Some (cut (secured was) len)) left → (left ≡ Some was) ⊎ (left ≡ Some (take len was))
+left_cut was len None h = absurd h
+left_cut was len (Some left) (inl e) = inl (ap Some e)
+left_cut was len (Some left) (inr (inl e)) = inr (ap Some e)
+left_cut was len (Some left) (inr (inr t)) = ⊎_elim (λ e. inl (ap Some e)) (λ e. inr (ap Some e)) (loose_cut was left len t)
+
+pub cuts_for_good : CutsLast
+cuts_for_good old new name len r t =
+    let part = in_part (λ b c is. inr (inl is)) old new name r t in
+    record {
+      fronts = leaves_become (IsFrontOf len) old new name (λ left. inl (inl refl)) (λ b c is. may_front b c len is) part;
+      leaves = λ was left on has may. ⊎_elim (λ h. inl (left_kept old new name left on h may ∙ has))
+          (λ t. let k = left_become old new name was left t on has may in
+          left_cut was len left (no_more (cut (secured was) len) k.0 k.1 left k.2)) part;
+      outlives = now_on_disk (λ b. flushed (cut b len)) (λ was. refl) (λ b c. MayBeFlushed (cut b len) c) old new name r t;
+    }
+
+-- ---- `replace`
+
+of_new : {P : Type 0} (new : Directory) (name bytes : List ℕ) (older : List Older) → Holds new name (Some (secured bytes)) older
+    → (left : Option (List ℕ)) → (WasOnce older name left → P) → MayBe new name left → P ⊎ (left ≡ Some bytes)
+of_new new name bytes older h left was may =
+    ⊎_elim (λ now. inr (left_flushed (Some (secured bytes)) left refl now)) (λ once. inl (was once)) (may_held new name (Some (secured bytes)) older h left may)
+
+pub replaces_for_good : ReplacesLast
+replaces_for_good old new name bytes (Ok done) h = record {
+  leaves = λ left. of_new new name bytes [] h left (λ was. absurd was);
+  outlives = record { named = h.named; flushed = rw h.leads_to refl };
+}
+replaces_for_good old new name bytes (Err e) (inl h) =
+    record { leaves = λ left may. inl (may_held new name (find name old.entries) old.older h left may); outlives = tt }
+replaces_for_good old new name bytes (Err e) (inr (inl h)) =
+    record { leaves = λ left. of_new new name bytes _ h left (⊎_elim (λ last. inl last.1) inr); outlives = tt }
+replaces_for_good old new name bytes (Err e) (inr (inr h)) =
+    record { leaves = λ left. of_new new name bytes [] h left (λ was. absurd was); outlives = tt }
+
+-- ---- `load`, `edges`, `read_at`
+
+-- a file of which no flush was refused, and its name, are on the disk once the file and then the names are flushed
+pub both_on_disk : (old mid new : Directory) (name : List ℕ) (r : Result (Unit {0}) StoreFault) → IsSure (find name old.entries)
+    → FlushesFile {T = Unit {0}} old name (Ok tt) mid → FlushesNames mid r new → OnOk r (IsOnDisk new name)
+both_on_disk old mid new name (Ok done) sure (b, c, at, is, e) names =
+    let h = holds_changed old mid name c e in
+    let s : b.is_doubted ≡ false = rw at at sure in
+    rw names (record { named = refl; flushed = rw (h.leads_to, is, s) refl })
+both_on_disk old mid new name (Err fault) sure flush names = tt
+
+-- what `OnOk` says of an answer that isn't an error
+asked : {T E : Type 0} (r : Result T E) (P : Type 0) → is_err r ≡ false → OnOk r P → P
+asked (Ok done) P well h = h
+asked (Err e) P well h = absurd (true≢false well)
+
+flushed_is_sure : (o : Option Blob) → IsFlushed o → IsSure o
+flushed_is_sure None is = tt
+flushed_is_sure (Some b) is = ap (λ (x : Blob). x.is_doubted) is
+
+pub disk_is_known : DiskIsKnown
+disk_is_known is_flushed d name is = record { sure = flushed_is_sure (find name d.entries) is.flushed; on_disk = λ _. is }
+
+-- ---- the laws
+
+pub disk_is_left : DiskIsLeft
+disk_is_left d name h = λ left may. left_kept d d name left h (record { leads_to = refl; named = refl }) may
+
+-- what is on the disk is known to be there, and a loss of power leaves exactly that
+pub told_lasts : (is_flushed : Bool) (d : Directory) (name : List ℕ) → IsOnDisk d name
+    → IsKnown is_flushed d name × LastsWhole (content_at d name) (IsOnDisk d name) (MayBe d name)
+told_lasts is_flushed d name is = (disk_is_known is_flushed d name is, λ bytes has. (is, λ left may. disk_is_left d name is left may ∙ has))
+
+-- a call that only reads answered, once the file was flushed
+pub told_again : {T : Type 0} (r : Result T StoreFault) (is_flushed flag : Bool) (old mid new : Directory) (name name' : List ℕ) → is_err r ≡ false
+    → mid ≡ old → name' ≡ name → (IsKnown is_flushed mid name → OnOk r (IsOnDisk new name)) → IsKnown is_flushed old name
+    → IsKnown flag new name' × LastsWhole (content_at new name') (IsOnDisk new name') (MayBe new name')
+told_again r is_flushed flag old mid new name name' well same named on_disk known =
+    told_lasts flag new name' (subst (λ (n : List ℕ). IsOnDisk new n) (sym named)
+    (asked r (IsOnDisk new name) well (on_disk (subst (λ (d : Directory). IsKnown is_flushed d name) (sym same) known))))
+
+-- the folder once everything is on the disk, and under one name is what is to be left there
+abbrev others : List ℕ → List Entry → List Entry
+others name [] = []
+others name (e ∷ es) = if bytes_eq name e.name then others name es else entry e.name (secured e.blob.content) ∷ others name es
+
+abbrev entries_left : List ℕ → Option (List ℕ) → List Entry → List Entry
+entries_left name left es = left_under name left ++ others name es
+
+-- what is left under each name
+abbrev left_at : List ℕ → Option (List ℕ) → List Entry → List ℕ → Option (List ℕ)
+left_at name left es other = if bytes_eq other name then left else option_map content_in (find other es)
+
+find_others : (name other : List ℕ) (es : List Entry) → find other (others name es) ≡ option_map secured (left_at name None es other)
+find_others name other [] = grind arith
+find_others name other (e ∷ es) =
+    let rest = find_others name other es in
+    let one = (bytes_eq-Decides name e.name).0 in
+    let two = (bytes_eq-Decides other e.name).0 in
+    let three = bytes_eq-Decides other name in
+    grind (arith, rest, one, two, three)
+
+find_left : (name other : List ℕ) (left : Option (List ℕ)) (es : List Entry)
+    → find other (entries_left name left es) ≡ option_map secured (left_at name left es other)
+find_left name other None es = find_others name other es
+find_left name other (Some bytes) es = let rest = find_others name other es in grind (arith, rest)
+
+may_arrive : (o : Option Blob) → IsLeftOf o (option_map content_in o)
+may_arrive None = tt
+may_arrive (Some b) = inr (inl refl)
+
+pub left_is_flushed : (left : Option (List ℕ)) → IsFlushed (option_map secured left)
+left_is_flushed None = tt
+left_is_flushed (Some bytes) = refl
+
+pub left_content : (left : Option (List ℕ)) → option_map content_in (option_map secured left) ≡ left
+left_content None = refl
+left_content (Some bytes) = refl
+
+pub power_leaves : PowerLeaves
+power_leaves old name left = (
+  λ may. (
+    record old { entries = entries_left name left old.entries; older = []; made = None },
+    record {
+      can_make = refl;
+      each = λ n. rw (find_left name n left old.entries, left_content (left_at name left old.entries n))
+          (cond_both (bytes_eq n name) left (content_at old n) (λ (o : Option (List ℕ)). MayBe old n o)
+          (λ same. rw ((bytes_eq-Decides n name).0 same) may) (λ _. inl (may_arrive (find n old.entries))));
+      on_disk = λ n. record {
+        named = refl;
+        flushed = rw (find_left name n left old.entries) (left_is_flushed (left_at name left old.entries n));
+      };
+      made = refl;
+    },
+    ap (option_map content_in) (find_left name name left old.entries) ∙ left_content (left_at name left old.entries name)
+        ∙ cond-true (bytes_eq name name) left (content_at old name) ((bytes_eq-Decides name name).1 refl),
+  ),
+  λ after. subst (λ (o : Option (List ℕ)). MayBe old name o) after.2 (after.1.each name),
+)

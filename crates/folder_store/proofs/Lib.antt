@@ -1,7 +1,5 @@
 mod Files
 mod MemoryFiles
-mod PowerLoss
 mod MailMoves
-mod MailTelling
-mod MailWriting
+mod MailCalls
 mod MemoryMail

@@ -1,19 +1,19 @@
 -- What others' moves and flushes of names leave as it was.
-use Rattle.std.proofs.Common.{◌≡◌, ◌||◌, Contains, inl, inr, ℕ, zero, suc, Bool, true, false, not, List, [], ◌∷◌, ◌++◌, map, Option, refl, sym, ap, subst, ◌∙◌, arith, append-nil, true≢false}
+use Rattle.std.proofs.Common.{◌≡◌, ◌||◌, Contains, inl, inr, ⊎_elim, ℕ, zero, suc, Bool, true, false, not, List, [], ◌∷◌, ◌++◌, map, None, Option, refl, sym, ap, subst, ◌∙◌, arith, true≢false}
 use Rattle.std.specs.List.{AllByRecursion}
 use Rattle.std.proofs.lemmas.Bool.{false_from_ne_true, or_left}
 use Rattle.std.proofs.lemmas.Simd.{map-map}
 use Rattle.mail_terms.specs.MaildirName.{base}
 use Rattle.mail_store.specs.declared.maildir.disk.Folder.{Folder}
 use Rattle.mail_store.specs.declared.maildir.disk.Folder.TheVariants.{New, Cur}
-use Rattle.mail_store.specs.Maildir.{File, IsPart, file, names_of}
+use Rattle.mail_store.specs.Maildir.{File, IsPart, names_of}
 use Rattle.mail_store.specs.Power.{KeepsMail}
 use Rattle.folder_store.specs.MailFolders.{MailFile, Directories, KeepsFile, MovesFile, RestsFile, Each, Moved, mail_at, files_at, name_at, entries_in, touches_new, touches_cur, maildir_in, OneMoves, is_in}
-use Rattle.folder_store.specs.MailPower.{AreLeftAs, IsLeftAs, SomeIs, StaysIn, OutlivesIn, AllFlushed, AllNamed, AllOnDisk, StayingMailIsLeft, OutlivingMailIsLeft}
+use Rattle.folder_store.specs.MailPower.{AreLeftAs, IsLeftAs, SomeIs, StaysIn, OutlivesIn, AllFlushed, AllNamed, AllOnDisk, StayingMailIsLeft, OutlivingMailIsLeft, MailOnDiskIsLeft, MailCanLosePower}
 use Rattle.folder_store.specs.MailCalls.{Leads, named_by}
 
 -- what holds of two lists of files that are so related one by one
-each_by : (Does : MailFile → MailFile → Type 0) (P : List MailFile → List MailFile → Type 0) → P [] []
+pub each_by : (Does : MailFile → MailFile → Type 0) (P : List MailFile → List MailFile → Type 0) → P [] []
     → ((s t : MailFile) (ss ts : List MailFile) → Does s t → P ss ts → P (s ∷ ss) (t ∷ ts)) → (a b : List MailFile) → Each Does a b → P a b
 each_by Does P none more [] [] h = none
 each_by Does P none more [] (t ∷ ts) h = absurd h
@@ -23,10 +23,9 @@ each_by Does P none more (s ∷ ss) (t ∷ ts) h = more s t ss ts h.0 (each_by D
 -- what holds of one of the files, then holds of one of the others
 pub some_kept : {Does : MailFile → MailFile → Type 0} {Is Will : MailFile → Type 0} → (a b : List MailFile) → Each Does a b → SomeIs Is a
     → ((s t : MailFile) → Does s t → Is s → Will t) → SomeIs Will b
-some_kept [] b h is each = absurd is
-some_kept (s ∷ ss) [] h is each = absurd h
-some_kept (s ∷ ss) (t ∷ ts) h (inl is) each = inl (each s t h.0 is)
-some_kept (s ∷ ss) (t ∷ ts) h (inr is) each = inr (some_kept ss ts h.1 is each)
+some_kept {Does} {Is} {Will} a b h is each =
+    each_by Does (λ a b. SomeIs Is a → SomeIs Will b) (λ is. is)
+    (λ s t ss ts d rest. ⊎_elim (λ is. inl (each s t d is)) (λ is. inr (rest is))) a b h is
 
 pub some_map : {Is : MailFile → Type 0} (Will : MailFile → Type 0) (f : MailFile → MailFile) (ss : List MailFile) → SomeIs Is ss → ((s : MailFile) → Is s → Will (f s)) → SomeIs Will (map f ss)
 some_map Will f [] is each = absurd is
@@ -84,10 +83,10 @@ not_named : (s t : MailFile) → KeepsFile s t → t.is_named ≡ false → s.is
 not_named s t k gone = false_from_ne_true s.is_named (λ named. let is = k.named named in cc)
 
 -- what a loss of power leaves of files could be left of them before
-abbrev WereLeft : List MailFile → List MailFile → Type 0
+abbrev pub WereLeft : List MailFile → List MailFile → Type 0
 WereLeft ss left = (before : List MailFile) × AreLeftAs ss before × (files_at left ≡ files_at before)
 
-were_left : (a b : List MailFile) → Each KeepsFile a b → (left : List MailFile) → AreLeftAs b left → WereLeft a left
+pub were_left : (a b : List MailFile) → Each KeepsFile a b → (left : List MailFile) → AreLeftAs b left → WereLeft a left
 were_left [] [] h left e = ([], refl, ap files_at e)
 were_left [] (t ∷ ts) h left l = absurd h
 were_left (s ∷ ss) [] h left l = absurd h
@@ -96,23 +95,9 @@ were_left (s ∷ ss) (t ∷ ts) h left (inr (u, rest, e, is, l)) =
     let r = were_left ss ts h.1 rest l in
     (where_it_was s u ∷ r.0, inr (where_it_was s u, r.0, refl, left_before s t u h.0 is, r.1), rw e (ap (λ (fs : List File). mail_at u ∷ fs) r.2))
 
-pub keeps_leads : (a b : Directories) → b.there ≡ a.there → b.made ≡ a.made → Each KeepsFile a.entries b.entries → Leads a b
-keeps_leads a b there made keeps = record {
-  there = there;
-  made = made;
-  files = files_kept a.entries b.entries keeps;
-  keeps = mail_kept a.entries b.entries keeps;
-  leaves = λ left loses.
-      let r = were_left a.entries b.entries keeps left.entries loses.each in
-      record {
-        before = record left { there = a.there; entries = r.0 };
-        part = [];
-        loses = record { there = refl; each = r.1; made = loses.made };
-        is_part = refl;
-        files = r.2 ∙ sym (append-nil (files_at r.0));
-      };
-  flushed = flushed_kept a.entries b.entries keeps;
-}
+pub leads_keep : (a b : Directories) → Leads a b
+    → KeepsMail (StaysIn a.entries) (OutlivesIn a.entries) (StaysIn b.entries) (OutlivesIn b.entries)
+leads_keep a b l = mail_kept a.entries b.entries l.keeps
 
 -- ---- others' moves, and flushes of names
 
@@ -120,7 +105,11 @@ pub each_keeps : (a b : List MailFile) → Each MovesFile a b → Each KeepsFile
 each_keeps a b = each_by MovesFile (Each KeepsFile) tt (λ s t ss ts m rest. (m.keeps, rest)) a b
 
 pub moved_leads : (a b : Directories) → Moved a b → Leads a b
-moved_leads a b m = keeps_leads a b m.there m.made (each_keeps a.entries b.entries m.moves)
+moved_leads a b m = record { there = m.there; made = m.made; keeps = each_keeps a.entries b.entries m.moves }
+
+-- others moved files, and a call changed nothing
+pub moved_same : (a m b : Directories) → Moved a m → b ≡ m → Leads a b
+moved_same a m b v e = rw e (moved_leads a m v)
 
 pub flush_keeps : (folder : Folder) (s : MailFile) → KeepsFile s (named_by folder s)
 flush_keeps New s = record { title = refl; content = refl; flushed = λ h. h; named = or_left s.is_named (touches_new s) }
@@ -134,7 +123,7 @@ each_same Does same [] = tt
 each_same Does same (s ∷ ss) = (same s, each_same Does same ss)
 
 pub leads_same : (a : Directories) → Leads a a
-leads_same a = keeps_leads a a refl refl (each_same KeepsFile same_keeps a.entries)
+leads_same a = record { there = refl; made = refl; keeps = each_same KeepsFile same_keeps a.entries }
 
 -- ---- one after another
 
@@ -144,7 +133,7 @@ part_on (x ∷ xs) ys p q (inl first) then = inl (part_on xs ys p q first then)
 part_on (x ∷ xs) ys p q (inr (rest, e, first)) then =
     inr (rest ++ q, ap (λ (z : List File). z ++ q) e, part_on xs ys rest q first then)
 
-keeps_on : (s t u : MailFile) → KeepsFile s t → KeepsFile t u → KeepsFile s u
+pub keeps_on : (s t u : MailFile) → KeepsFile s t → KeepsFile t u → KeepsFile s u
 keeps_on s t u a b = record {
   title = b.title ∙ a.title;
   content = b.content ∙ a.content;
@@ -154,12 +143,16 @@ keeps_on s t u a b = record {
 
 -- others moved files, and then something was done to each that keeps it
 pub mapped_leads : (f : MailFile → MailFile) → ((s : MailFile) → KeepsFile s (f s)) → (a m : Directories) → Moved a m → Leads a (record m { entries = map f m.entries })
-mapped_leads f keeps a m v = keeps_leads a (record m { entries = map f m.entries }) v.there v.made (each_by MovesFile (λ a b. Each KeepsFile a (map f b)) tt
-    (λ s t ss ts m rest. (keeps_on s t (f t) m.keeps (keeps t), rest)) a.entries m.entries v.moves)
+mapped_leads f keeps a m v = record {
+  there = v.there;
+  made = v.made;
+  keeps = each_by MovesFile (λ a b. Each KeepsFile a (map f b)) tt
+      (λ s t ss ts m rest. (keeps_on s t (f t) m.keeps (keeps t), rest)) a.entries m.entries v.moves;
+}
 
 -- the Maildir is as it was
 pub leads_maildir : (a b : Directories) (begun : Option (List ℕ)) (n : ℕ) → Leads a b → maildir_in b begun n ≡ maildir_in a begun n
-leads_maildir a b begun n l = rw (l.there, l.made, l.files) refl
+leads_maildir a b begun n l = rw (l.there, l.made, files_kept a.entries b.entries l.keeps) refl
 
 -- ---- names on the disk
 
@@ -279,16 +272,20 @@ outliving_mail_is_left old new f is loses =
     some_there mail_at f (λ s h. h) new.entries
     (some_left (λ s h. h.1) (λ s t la h. same_mail s t la.title (la.content h.2) ∙ h.0) old.entries new.entries is loses.each)
 
-pub all_left : (ss left : List MailFile) → AllOnDisk ss → AreLeftAs ss left → files_at left ≡ files_at ss
+all_left : (ss left : List MailFile) → AllOnDisk ss → AreLeftAs ss left → files_at left ≡ files_at ss
 all_left [] left on l = ap files_at l
 all_left (s ∷ ss) left on (inl (gone, l)) = absurd (true≢false (sym on.0.0 ∙ gone))
 all_left (s ∷ ss) left on (inr (t, rest, e, la, l)) =
-    ap files_at e ∙ ap (λ (f : File). f ∷ files_at rest) (same_mail s t la.title (la.content on.0.1)) ∙ ap (λ (fs : List File). mail_at s ∷ fs) (all_left ss rest on.1 l)
+    ap files_at e ∙ ap (λ (f : File). f ∷ files_at rest) (same_mail s t la.title (la.content on.1.0))
+    ∙ ap (λ (fs : List File). mail_at s ∷ fs) (all_left ss rest (on.0.1, on.1.1) l)
+
+pub mail_on_disk_is_left : MailOnDiskIsLeft
+mail_on_disk_is_left old new on loses = all_left old.entries new.entries on loses.each
 
 pub on_disk : (ss left : List MailFile) → AreLeftAs ss left → AllOnDisk left
-on_disk [] left l = rw l tt
+on_disk [] left l = rw l (tt, tt)
 on_disk (s ∷ ss) left (inl (gone, l)) = on_disk ss left l
-on_disk (s ∷ ss) left (inr (t, rest, e, la, l)) = rw e ((la.named, la.flushed), on_disk ss rest l)
+on_disk (s ∷ ss) left (inr (t, rest, e, la, l)) = let r = on_disk ss rest l in rw e ((la.named, r.0), (la.flushed, r.1))
 
 -- each file stays where it is, with its bytes
 abbrev pub staying : MailFile → MailFile
@@ -306,6 +303,11 @@ staying_left s = record {
   gone = λ here. here;
 }
 
-pub all_staying : (ss : List MailFile) → (left : List MailFile) × AreLeftAs ss left
-all_staying [] = ([], refl)
-all_staying (s ∷ ss) = let r = all_staying ss in (staying s ∷ r.0, inr (staying s, r.0, refl, staying_left s, r.1))
+pub mail_can_lose_power : MailCanLosePower
+mail_can_lose_power old =
+    let r = all_staying old.entries in
+    (record old { entries = r.0; made = None }, record { there = refl; each = r.1; made = refl })
+  where
+    all_staying : (ss : List MailFile) → (left : List MailFile) × AreLeftAs ss left
+    all_staying [] = ([], refl)
+    all_staying (s ∷ ss) = let r = all_staying ss in (staying s ∷ r.0, inr (staying s, r.0, refl, staying_left s, r.1))

@@ -8,13 +8,12 @@ use Rattle.std.proofs.lemmas.List.Recursion.{found_at as found_first}
 use Rattle.mail_terms.specs.Distinct.{AreDistinct}
 use Rattle.folder_store.specs.declared.memory.MemoryBlob.{MemoryBlob}
 use Rattle.mail_store.specs.declared.fault.StoreFault.{StoreFault}
-use Rattle.folder_store.specs.FileFolder.{Blob, Directory, Entry, names_in, find, placed, appended, cut, flushed, changed, AppendsTo, CutsTo, FlushesFile, Older, entry, secured}
+use Rattle.folder_store.specs.FileFolder.{Blob, Directory, Entry, names_in, find, placed, AltersInPart, changed, Older, entry, secured}
 use Rattle.folder_store.specs.MemoryFolder.{blob_of, entry_of, entries_of, older_of, left_under, IsZeroed, MayBeOf, Survive}
 use Rattle.std.proofs.lemmas.List.Elements.{Contains-get_or}
 use Rattle.std.proofs.lemmas.List.Kept.{AllPairs-cons}
 use Rattle.folder_store.specs.PowerLoss.{IsLeft, IsLeftOf, WasOnce, Loses}
-use Rattle.folder_store.proofs.Files.{differ, find_later, not_ahead, placed_new, find_here, none_of, not_here}
-use Rattle.folder_store.proofs.PowerLoss.{left_content, left_is_flushed}
+use Rattle.folder_store.proofs.Files.{differ, find_later, not_ahead, placed_new, find_here, none_of, not_here, left_content, left_is_flushed}
 
 abbrev pub Pair : Type 0
 Pair = String Global × MemoryBlob
@@ -81,21 +80,11 @@ found_in name o seen files was now found e view same =
     ap (λ (d : Directory). find name d.entries) (sym view) ∙ ap (find name) (same ∙ ap entries_of (sym e)) ∙ sym found
 
 -- what `change` did is what the calls promise
-module _ (old new : Directory) (name : List ℕ) (b file : Blob) where
-  pub change_appends : (bytes : List ℕ) (r : Result (Unit {0}) StoreFault) → find name old.entries ≡ Some b → file ≡ appended b bytes
-      → OnOk r (new ≡ changed old name file) → OnErr r (new ≡ old) → AppendsTo old name bytes r new
-  change_appends bytes (Ok done) at is ok err = (b, at, ok ∙ ap (λ (x : Blob). changed old name x) is)
-  change_appends bytes (Err e) at is ok err = inl err
-
-  pub change_cuts : (len : ℕ) (r : Result (Unit {0}) StoreFault) → find name old.entries ≡ Some b → file ≡ cut b len
-      → OnOk r (new ≡ changed old name file) → OnErr r (new ≡ old) → CutsTo old name len r new
-  change_cuts len (Ok done) at is ok err = (b, at, ok ∙ ap (λ (x : Blob). changed old name x) is)
-  change_cuts len (Err e) at is ok err = inl err
-
-  pub change_flushes : (r : Result (Unit {0}) StoreFault) → find name old.entries ≡ Some b → file ≡ flushed b
-      → OnOk r (new ≡ changed old name file) → OnErr r (new ≡ old) → FlushesFile old name r new
-  change_flushes (Ok done) at is ok err = (b, at, ok ∙ ap (λ (x : Blob). changed old name x) is)
-  change_flushes (Err e) at is ok err = inl err
+pub change_alters : (Done Part : Blob → Blob → Type 0) (old new : Directory) (name : List ℕ) (b file : Blob)
+    (r : Result (Unit {0}) StoreFault) → find name old.entries ≡ Some b
+    → Done b file → OnOk r (new ≡ changed old name file) → OnErr r (new ≡ old) → AltersInPart Done Part old name r new
+change_alters Done Part old new name b file (Ok done) at is ok err = (b, file, at, is, ok)
+change_alters Done Part old new name b file (Err e) at is ok err = inl err
 
 -- ---- what is left of a folder in memory after a loss of power
 

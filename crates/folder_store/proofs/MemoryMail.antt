@@ -1,47 +1,36 @@
 -- The folders of a Maildir in memory.
-use Rattle.std.proofs.Common.{◌≡◌, ◌&&◌, inl, inr, ℕ, zero, suc, ◌+◌, ◌<◌, Bool, true, false, not, List, [], ◌∷◌, ◌++◌, length, take, map, get_or, set, Contains, Option, Some, None, if◌then◌else◌, refl, sym, ap, subst, ◌∙◌, arith, String, Global, string_bytes, append-nil, true≢false, filter}
+use Rattle.std.proofs.Common.{◌≡◌, ◌↔◌, ◌&&◌, ◌||◌, IsTrue, bytes_eq, inl, inr, ℕ, zero, suc, ◌<◌, Bool, true, false, not, List, [], ◌∷◌, ◌++◌, length, map, get_or, set, Contains, Option, Some, None, if◌then◌else◌, refl, sym, ap, subst, ◌∙◌, arith, String, Global, string_bytes, append-nil, true≢false, filter}
 use Rattle.std.proofs.lemmas.Bool.{not-false}
-use Rattle.std.proofs.lemmas.List.{map_more, get_or-map, length-map}
+use Rattle.std.specs.List.{list_any}
+use Rattle.std.proofs.lemmas.List.Folds.{list_any_at}
+use Rattle.std.proofs.lemmas.Map.Views.{Contains-from_any}
+use Rattle.std.proofs.lemmas.Slice.Eq.{bytes_eq-Decides}
+use Rattle.mail_store.specs.Power.{is_among}
 use Rattle.mail_store.specs.declared.maildir.disk.Folder.{Folder}
 use Rattle.mail_store.specs.declared.maildir.disk.Folder.TheVariants.{New, Cur}
 use Rattle.mail_store.specs.Maildir.{all_there}
 use Rattle.folder_store.specs.declared.memory_folders.StoredMail.{StoredMail}
-use Rattle.folder_store.specs.MailFolders.{Draft, MailFile, Directories, MovesFile, RestsFile, Each, Moved, entries_in, is_in, is_in_new, is_in_cur, is_left, is_told, name_at, rests_in}
+use Rattle.folder_store.specs.MailFolders.{Draft, MailFile, Directories, MovesFile, RestsFile, Each, Moved, is_in, is_left, name_at, rests_in}
 use Rattle.folder_store.specs.MailPower.{AreLeftAs}
 use Rattle.folder_store.specs.MemoryFolders.{MayBeLeftAs, list_of, mail_file}
 use Rattle.folder_store.proofs.MailMoves.{each_same, same_moves, same_rests}
 
-pub is_one : (names : List (String Global)) (name : List ℕ) (i : ℕ) (x : String Global) → i < length names → x ≡ get_or names i x → string_bytes x ≡ name
-    → Contains (map string_bytes names) name
-is_one names name i x below is same = (
-  i,
-  omega (arith, below, length-map names string_bytes),
-  get_or-map string_bytes names i x name below ∙ ap string_bytes (sym is) ∙ same,
+any_of_bytes : (names : List (String Global)) (name : List ℕ) → list_any (bytes_eq name) (map string_bytes names) ≡ is_among names name
+any_of_bytes [] name = refl
+any_of_bytes (x ∷ names) name = ap (λ (b : Bool). bytes_eq name (string_bytes x) || b) (any_of_bytes names name)
+
+pub among_has : (names : List (String Global)) (name : List ℕ) → IsTrue (is_among names name) ↔ Contains (map string_bytes names) name
+among_has names name = (
+  λ is. Contains-from_any (λ x y. (bytes_eq-Decides x y).0) name (map string_bytes names) (any_of_bytes names name ∙ is),
+  λ c. sym (any_of_bytes names name)
+      ∙ list_any_at (bytes_eq name) (map string_bytes names) c.0 name c.1 ((bytes_eq-Decides name _).1 (sym c.2)),
 )
 
-pub is_none : (names : List (String Global)) (name : List ℕ) → ((k : ℕ) (d : String Global) → k < length names → string_bytes (get_or names k d) ≡ name → ⊥)
-    → Contains (map string_bytes names) name → ⊥
-is_none [] name none c = absurd (omega (arith, c.1))
-is_none (x ∷ names) name none c = none c.0 x (omega (arith, c.1, length-map (x ∷ names) string_bytes))
-    (sym (get_or-map string_bytes (x ∷ names) c.0 x name (omega (arith, c.1, length-map (x ∷ names) string_bytes))) ∙ c.2)
-
 -- one more file came after others
-told_on : (f : MailFile → Bool) (ss : List MailFile) (s : MailFile)
+pub told_on : (f : MailFile → Bool) (ss : List MailFile) (s : MailFile)
     → map name_at (filter f (filter is_left (ss ++ s ∷ []))) ≡ map name_at (filter f (filter is_left ss)) ++ (if is_left s && f s then s.name ∷ [] else [])
 told_on f [] s = grind arith
 told_on f (x ∷ ss) s = let rest = told_on f ss s in grind (arith, rest)
-
-names_in_on : (folder : Folder) (ss : List MailFile) (s : MailFile)
-    → map name_at (entries_in folder (ss ++ s ∷ [])) ≡ map name_at (entries_in folder ss) ++ (if is_told folder s then s.name ∷ [] else [])
-names_in_on New ss s = told_on is_in_new ss s
-names_in_on Cur ss s = told_on is_in_cur ss s
-
-pub names_next : (folder : Folder) (files : List StoredMail) (i : ℕ) (x : StoredMail) (before now : List (String Global)) → i < length files → x ≡ get_or files i x
-    → map string_bytes before ≡ map name_at (entries_in folder (map mail_file (take i files)))
-    → map string_bytes now ≡ map string_bytes before ++ (if is_told folder (mail_file x) then string_bytes x.name ∷ [] else [])
-    → map string_bytes now ≡ map name_at (entries_in folder (map mail_file (take (i + 1) files)))
-names_next folder files i x before now below is h more =
-    rw (more, h, map_more mail_file files i x below, ← is) (sym (names_in_on folder (map mail_file (take i files)) (mail_file x)))
 
 -- ---- a loss of power
 

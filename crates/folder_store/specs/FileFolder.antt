@@ -4,7 +4,7 @@ use Rattle.std.specs.Prelude.{◌≡◌, ℕ, min, List, [], ◌∷◌, ◌++◌
 use Rattle.std.specs.Prelude.{Option, Some, None, option_map, Result, Ok, Err, ◌⊎◌, Vec}
 use Rattle.std.specs.Prelude.{bytes_eq, if◌then◌else◌}
 use Rattle.mail_store.specs.declared.fault.StoreFault.{StoreFault}
-use Rattle.mail_store.specs.declared.fault.StoreFault.TheVariants.{Missing, Refused, NotMbox, NoMemory}
+use Rattle.mail_store.specs.declared.fault.StoreFault.TheVariants.{Missing}
 use Rattle.mail_store.specs.declared.file.flat_file.Edges.{Edges}
 use Rattle.mail_store.specs.FlatFile.{edges_of, piece_at}
 
@@ -38,15 +38,12 @@ pub record Directory : Type 0 where
 abbrev pub entry : List ℕ → Blob → Entry
 entry name blob = record { name = name; blob = blob }
 
-abbrev pub name_at : Entry → List ℕ
-name_at e = e.name
-
 abbrev pub content_in : Blob → List ℕ
 content_in b = b.content
 
 -- the names of some files
 abbrev pub names_in : List Entry → List (List ℕ)
-names_in entries = map name_at entries
+names_in entries = map (λ (e : Entry). e.name) entries
 
 -- the file that a name leads to
 abbrev pub find : List ℕ → List Entry → Option Blob
@@ -117,10 +114,7 @@ ChangesMade old new = (m : Option Blob) × (new ≡ making old m)
 -- `make`: a file without bytes and without a name here; Missing if none can be made
 abbrev pub Makes : {T : Type 0} → Directory → Result T StoreFault → Directory → Type 0
 Makes old (Ok done) new = (old.can_make ≡ true) × (new ≡ making old (Some empty_blob))
-Makes old (Err Missing) new = (old.can_make ≡ false) × (new ≡ old)
-Makes old (Err Refused) new = ChangesMade old new
-Makes old (Err NotMbox) new = ⊥
-Makes old (Err NoMemory) new = ⊥
+Makes old (Err fault) new = ChangesMade old new × (fault ≡ Missing → (old.can_make ≡ false) × (new ≡ old))
 
 -- `write`: the bytes are appended to the file made
 abbrev pub Writes : {T : Type 0} → Directory → List ℕ → Result T StoreFault → Directory → Type 0
@@ -143,10 +137,7 @@ Puts old name (Err fault) new = ChangesMade old new ⊎ PutsIn old name new
 
 -- a call that only reads a file answered a fault: there is no such file, or the call was refused
 abbrev pub LacksFile : Directory → List ℕ → StoreFault → Directory → Type 0
-LacksFile old name Missing new = (content_at old name ≡ None) × (new ≡ old)
-LacksFile old name Refused new = new ≡ old
-LacksFile old name NotMbox new = ⊥
-LacksFile old name NoMemory new = ⊥
+LacksFile old name fault new = (new ≡ old) × (fault ≡ Missing → content_at old name ≡ None)
 
 -- `read`: the bytes of the file of this name
 abbrev pub Reads : {B : Type 0} → Directory → List ℕ → Result (Vec ℕ B) StoreFault → Directory → Type 0
@@ -172,29 +163,29 @@ abbrev pub TellsSize : Directory → List ℕ → Result ℕ StoreFault → Dire
 TellsSize old name (Ok size) new = ((was : List ℕ) × (content_at old name ≡ Some was) × (size ≡ length was)) × (new ≡ old)
 TellsSize old name (Err fault) new = new ≡ old
 
+-- the file of this name became one to which it has the relation
+abbrev pub Alters : (Blob → Blob → Type 0) → Directory → List ℕ → Directory → Type 0
+Alters R old name new = (b c : Blob) × (find name old.entries ≡ Some b) × R b c × (new ≡ changed old name c)
+
+-- the file of this name became another; a refused call did a part of this, or nothing
+abbrev pub AltersInPart : {T : Type 0} → (Blob → Blob → Type 0) → (Blob → Blob → Type 0) → Directory → List ℕ → Result T StoreFault
+    → Directory → Type 0
+AltersInPart Done Part old name (Ok done) new = Alters Done old name new
+AltersInPart Done Part old name (Err fault) new = (new ≡ old) ⊎ Alters Part old name new
+
 -- `append`: the bytes are appended to the file of this name; a refused call appended a front of them, or nothing
 abbrev pub AppendsTo : {T : Type 0} → Directory → List ℕ → List ℕ → Result T StoreFault → Directory → Type 0
-AppendsTo old name bytes (Ok done) new =
-    (b : Blob) × (find name old.entries ≡ Some b) × (new ≡ changed old name (appended b bytes))
-AppendsTo old name bytes (Err fault) new =
-    (new ≡ old)
-    ⊎ ((b : Blob) × (front : List ℕ) × (rest : List ℕ) × (find name old.entries ≡ Some b) × (bytes ≡ front ++ rest)
-    × (new ≡ changed old name (appended b front)))
+AppendsTo old name bytes r new = AltersInPart (λ b c. c ≡ appended b bytes)
+    (λ b c. (front rest : List ℕ) × (bytes ≡ front ++ rest) × (c ≡ appended b front)) old name r new
 
 -- `cut_to`: the first bytes of the file are kept; a refused call did it, or nothing
 abbrev pub CutsTo : {T : Type 0} → Directory → List ℕ → ℕ → Result T StoreFault → Directory → Type 0
-CutsTo old name len (Ok done) new = (b : Blob) × (find name old.entries ≡ Some b) × (new ≡ changed old name (cut b len))
-CutsTo old name len (Err fault) new =
-    (new ≡ old) ⊎ ((b : Blob) × (find name old.entries ≡ Some b) × (new ≡ changed old name (cut b len)))
+CutsTo old name len r new = AltersInPart (λ b c. c ≡ cut b len) (λ b c. c ≡ cut b len) old name r new
 
 -- `flush`: the bytes of the file of this name are on the disk; after a refused call they may be, or nothing
 -- was done, or nothing more of the file is known to reach the disk
 abbrev pub FlushesFile : {T : Type 0} → Directory → List ℕ → Result T StoreFault → Directory → Type 0
-FlushesFile old name (Ok done) new = (b : Blob) × (find name old.entries ≡ Some b) × (new ≡ changed old name (flushed b))
-FlushesFile old name (Err fault) new =
-    (new ≡ old)
-    ⊎ ((b : Blob) × (find name old.entries ≡ Some b)
-    × ((new ≡ changed old name (flushed b)) ⊎ (new ≡ changed old name (doubted b))))
+FlushesFile old name r new = AltersInPart (λ b c. c ≡ flushed b) (λ b c. (c ≡ flushed b) ⊎ (c ≡ doubted b)) old name r new
 
 -- `flush_names`: the names are on the disk; a refused call did it, or nothing
 abbrev pub FlushesNames : {T : Type 0} → Directory → Result T StoreFault → Directory → Type 0

@@ -46,25 +46,23 @@ pub record IsPartAppended (first front : List ℕ) (b c : Blob) : Type 0 where
   pub is_flushed : IsSoFar first b so_far
   pub is : MayBeFlushed (appended so_far front) c
 
--- bytes were appended to a file, and flushed
-abbrev pub AppendsPiece : {T : Type 0} → Directory → List ℕ → List ℕ → Result T StoreFault → Directory → Type 0
-AppendsPiece old name bytes (Ok done) new = Becomes (IsAppended bytes) old name new
-AppendsPiece old name bytes (Err fault) new =
-    Keeps old name new
-    ⊎ ((front : List ℕ) × (rest : List ℕ) × (bytes ≡ front ++ rest) × Becomes (λ b c. MayBeFlushed (appended b front) c) old name new)
+-- the file became another; a refused call did a part of this, or nothing
+abbrev pub BecomesInPart : {T : Type 0} → (Blob → Blob → Type 0) → (Blob → Blob → Type 0) → Directory → List ℕ → Result T StoreFault
+    → Directory → Type 0
+BecomesInPart Done Part old name (Ok done) new = Becomes Done old name new
+BecomesInPart Done Part old name (Err fault) new = Keeps old name new ⊎ Becomes Part old name new
 
--- the same, in several pieces, each flushed before the next
+-- some of these bytes were appended to the file, in this way
+abbrev pub IsFrontAppended : List ℕ → Blob → Blob → Type 0
+IsFrontAppended bytes b c = (first front rest : List ℕ) × (bytes ≡ first ++ (front ++ rest)) × IsPartAppended first front b c
+
+-- bytes were appended to a file, in one or several pieces, each flushed before the next
 abbrev pub AppendsFlushed : {T : Type 0} → Directory → List ℕ → List ℕ → Result T StoreFault → Directory → Type 0
-AppendsFlushed old name bytes (Ok done) new = Becomes (IsAppended bytes) old name new
-AppendsFlushed old name bytes (Err fault) new =
-    Keeps old name new
-    ⊎ ((first : List ℕ) × (front : List ℕ) × (rest : List ℕ) × (bytes ≡ first ++ (front ++ rest))
-    × Becomes (IsPartAppended first front) old name new)
+AppendsFlushed old name bytes r new = BecomesInPart (IsAppended bytes) (IsFrontAppended bytes) old name r new
 
 -- a file was cut, and flushed
 abbrev pub CutsFlushed : {T : Type 0} → Directory → List ℕ → ℕ → Result T StoreFault → Directory → Type 0
-CutsFlushed old name len (Ok done) new = Becomes (λ b c. c ≡ flushed (cut b len)) old name new
-CutsFlushed old name len (Err fault) new = Keeps old name new ⊎ Becomes (λ b c. MayBeFlushed (cut b len) c) old name new
+CutsFlushed old name len r new = BecomesInPart (λ b c. c ≡ flushed (cut b len)) (λ b c. MayBeFlushed (cut b len) c) old name r new
 
 -- the file made was flushed and put under the name, which may be on the disk or not
 abbrev pub StandsIn : Directory → List ℕ → Directory → Type 0

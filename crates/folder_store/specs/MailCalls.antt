@@ -1,19 +1,19 @@
 -- What each call does to the folders of a Maildir, once others have moved files.
 use Rattle.std.specs.Prelude.{◌≡◌, ◌≢◌, ◌⊎◌, ◌||◌, ◌↔◌, ℕ, Bool, true, false, IsTrue, List, [], ◌∷◌, ◌++◌, map, Option}
-use Rattle.std.specs.Prelude.{Some, None, Result, Ok, Err, Vec, String, string_bytes, IsPermutation, Contains}
+use Rattle.std.specs.Prelude.{Some, None, Result, Ok, Err, IfErr, IfOk, IfSome, OnOk, Vec, String, string_bytes, IsPermutation, Contains}
 use Rattle.std.specs.Global.{Global}
 use Rattle.std.specs.List.{AllByRecursion, filter}
 use Rattle.mail_terms.specs.MaildirName.{base}
 use Rattle.mail_store.specs.declared.fault.StoreFault.{StoreFault}
-use Rattle.mail_store.specs.declared.fault.StoreFault.TheVariants.{Missing, Refused, NotMbox, NoMemory}
+use Rattle.mail_store.specs.declared.fault.StoreFault.TheVariants.{Missing, Refused}
 use Rattle.mail_store.specs.declared.maildir.disk.Folder.{Folder}
 use Rattle.mail_store.specs.declared.maildir.disk.Folder.TheVariants.{New, Cur}
-use Rattle.mail_store.specs.Maildir.{File, IsPart, mail, bases_told, names_of, is_there, AreTheirs}
+use Rattle.mail_store.specs.Maildir.{File, mail, bases_told, names_of, is_there, AreTheirs}
 use Rattle.mail_store.specs.FileName.{stem}
-use Rattle.mail_store.specs.Power.{KeepsLeft, KeepsMail, ToldStay, is_among}
-use Rattle.folder_store.specs.MailFolders.{Directories, MailFile, Draft, Moved, files_at, is_left}
+use Rattle.mail_store.specs.Power.{KeepsMail, ToldStay, is_among}
+use Rattle.folder_store.specs.MailFolders.{Directories, MailFile, Draft, Each, KeepsFile, Moved, files_at, is_left}
 use Rattle.folder_store.specs.MailFolders.{name_at, entries_in, rests_in, touches_new, touches_cur}
-use Rattle.folder_store.specs.MailPower.{AllFlushed, AllNamed, StaysIn, OutlivesIn, LeavesMail, LeavesSome}
+use Rattle.folder_store.specs.MailPower.{AllFlushed, AllNamed, StaysIn, OutlivesIn, LeavesMail}
 
 -- others moved files, and then the call did this
 abbrev pub Then : (Directories → Directories → Type 0) → Directories → Directories → Type 0
@@ -25,10 +25,11 @@ ChangesMade old new = (m : Option Draft) × (new ≡ record old { made = m })
 
 -- a call that needs a folder answered a fault, and nothing changed
 abbrev pub Lacks : Directories → Folder → StoreFault → Directories → Type 0
-Lacks old folder Missing new = (is_there old.there folder ≡ false) × (new ≡ old)
-Lacks old folder Refused new = new ≡ old
-Lacks old folder NotMbox new = ⊥
-Lacks old folder NoMemory new = ⊥
+Lacks old folder fault new = (new ≡ old) × (fault ≡ Missing → is_there old.there folder ≡ false)
+
+-- this holds if the answer is Missing
+abbrev pub IfMissing : {T : Type 0} → Result T StoreFault → Type 0 → Type 0
+IfMissing r P = IfErr r (λ fault. fault ≡ Missing → P)
 
 -- a folder was listed, and has rested since; files that readers took away are known no longer
 abbrev pub listed : Folder → Directories → Directories
@@ -37,8 +38,8 @@ listed Cur d = record d { entries = filter is_left d.entries; cur_rests = true }
 
 -- `check`: the folder is there
 abbrev pub ChecksIn : {T : Type 0} → Folder → Result T StoreFault → Directories → Directories → Type 0
-ChecksIn folder (Ok done) old new = (is_there old.there folder ≡ true) × (new ≡ old)
-ChecksIn folder (Err fault) old new = Lacks old folder fault new
+ChecksIn folder r old new =
+    (new ≡ old) × OnOk r (is_there old.there folder ≡ true) × IfMissing r (is_there old.there folder ≡ false)
 
 -- `list`: the names of the files of a folder, in any order
 abbrev pub ListsIn : {A B : Type 0} → Folder → Result (Vec (String A) B) StoreFault → Directories → Directories → Type 0
@@ -48,21 +49,18 @@ ListsIn folder (Err fault) old new = Lacks old folder fault new
 
 -- `rests`: if the answer is true, the folder has rested since it was last listed
 abbrev pub TellsRest : Folder → Result Bool StoreFault → Directories → Directories → Type 0
-TellsRest folder (Ok rests) old new = (IsTrue rests → rests_in folder old ≡ true) × (new ≡ old)
-TellsRest folder (Err fault) old new = Lacks old folder fault new
+TellsRest folder r old new =
+    (new ≡ old) × IfOk r (λ rests. IsTrue rests → rests_in folder old ≡ true) × IfMissing r (is_there old.there folder ≡ false)
 
 -- `has`: whether a file of `new` has the name
 abbrev pub LooksUpNew : List ℕ → Result Bool StoreFault → Directories → Directories → Type 0
-LooksUpNew name (Ok found) old new = (IsTrue found ↔ Contains (map name_at (entries_in New old.entries)) name) × (new ≡ old)
-LooksUpNew name (Err fault) old new = new ≡ old
+LooksUpNew name r old new =
+    (new ≡ old) × IfOk r (λ found. IsTrue found ↔ Contains (map name_at (entries_in New old.entries)) name)
 
 -- `make`: a file without bytes and without a name
 abbrev pub MakesDraft : {T : Type 0} → Result T StoreFault → Directories → Directories → Type 0
 MakesDraft (Ok done) old new = (old.there.tmp ≡ true) × (new ≡ record old { made = Some (record { content = []; is_flushed = false }) })
-MakesDraft (Err Missing) old new = (old.there.tmp ≡ false) × (new ≡ old)
-MakesDraft (Err Refused) old new = ChangesMade old new
-MakesDraft (Err NotMbox) old new = ⊥
-MakesDraft (Err NoMemory) old new = ⊥
+MakesDraft (Err fault) old new = ChangesMade old new × (fault ≡ Missing → (old.there.tmp ≡ false) × (new ≡ old))
 
 -- `write`: the bytes are appended to the file made
 abbrev pub WritesDraft : {T : Type 0} → List ℕ → Result T StoreFault → Directories → Directories → Type 0
@@ -119,10 +117,7 @@ names_flushed_in folder d = record d { entries = map (named_by folder) d.entries
 -- `flush_names`: the names of a folder are on the disk; a refused call did it, or nothing
 abbrev pub FlushesNamesIn : {T : Type 0} → Folder → Result T StoreFault → Directories → Directories → Type 0
 FlushesNamesIn folder (Ok done) old new = new ≡ names_flushed_in folder old
-FlushesNamesIn folder (Err Missing) old new = (is_there old.there folder ≡ false) × (new ≡ old)
-FlushesNamesIn folder (Err Refused) old new = (new ≡ old) ⊎ (new ≡ names_flushed_in folder old)
-FlushesNamesIn folder (Err NotMbox) old new = ⊥
-FlushesNamesIn folder (Err NoMemory) old new = ⊥
+FlushesNamesIn folder (Err fault) old new = Lacks old folder fault new ⊎ ((fault ≡ Refused) × (new ≡ names_flushed_in folder old))
 
 -- a file once those whose names have one of these stems were flushed
 abbrev pub flushed_by : {A : Type 0} → List (String A) → MailFile → MailFile
@@ -147,24 +142,24 @@ pub record Brings (old : Directories) (added : List File) (new : Directories) : 
   pub leaves : LeavesMail old added new
   pub flushed : AllFlushed old.entries → AllFlushed new.entries
 
--- all that calls see of the folders is as it was, and so is what a loss of power leaves at most
+-- all that calls see of the folders is as it was
 pub record Leads (old new : Directories) : Type 0 where
   pub there : new.there ≡ old.there
   pub made : new.made ≡ old.made
-  pub files : files_at new.entries ≡ files_at old.entries
-  pub keeps : KeepsMail (StaysIn old.entries) (OutlivesIn old.entries) (StaysIn new.entries) (OutlivesIn new.entries)
-  pub leaves : LeavesMail old [] new
-  pub flushed : AllFlushed old.entries → AllFlushed new.entries
+  pub keeps : Each KeepsFile old.entries new.entries
+
+-- each file is kept, or known no longer, in order
+abbrev pub AreKnown : List MailFile → List MailFile → Type 0
+AreKnown [] known = known ≡ []
+AreKnown (s ∷ entries) known =
+    AreKnown entries known
+    ⊎ ((t : MailFile) × (rest : List MailFile) × (known ≡ t ∷ rest) × KeepsFile s t × AreKnown entries rest)
 
 -- the same, but files that readers took away may be known no longer
 pub record Learns (old new : Directories) : Type 0 where
   pub there : new.there ≡ old.there
   pub made : new.made ≡ old.made
-  pub files : IsPart (files_at old.entries) (files_at new.entries)
-  pub keeps : KeepsLeft (files_at old.entries) (files_at new.entries) (StaysIn old.entries) (OutlivesIn old.entries)
-      (StaysIn new.entries) (OutlivesIn new.entries)
-  pub leaves : LeavesSome old new
-  pub flushed : AllFlushed old.entries → AllFlushed new.entries
+  pub known : AreKnown old.entries new.entries
 
 -- the names of both folders at one moment, each of a file that has a name on the disk
 pub record ToldBoth {A : Type 0} (names : List (String A)) (d : Directories) : Type 0 where
@@ -173,33 +168,24 @@ pub record ToldBoth {A : Type 0} (names : List (String A)) (d : Directories) : T
   pub lists : IsPermutation (names_of (files_at d.entries)) (bases_told names)
   pub named : AllNamed d.entries
 
+-- one of the folders isn't there
+abbrev pub LacksOne : Directories → Type 0
+LacksOne d = (folder : Folder) × (is_there d.there folder ≡ false)
+
 -- a look at both folders: None if `new` changed meanwhile
 abbrev pub LooksAtBoth : {A B : Type 0} → Directories → Result (Option (Vec (String A) B)) StoreFault → Directories → Type 0
-LooksAtBoth old (Ok None) new = Learns old new
-LooksAtBoth old (Ok (Some names)) new = Learns old new × ToldBoth names.items new
-LooksAtBoth old (Err Missing) new = Learns old new × ((new.there.new ≡ false) ⊎ (new.there.cur ≡ false))
-LooksAtBoth old (Err Refused) new = Learns old new
-LooksAtBoth old (Err NotMbox) new = ⊥
-LooksAtBoth old (Err NoMemory) new = ⊥
+LooksAtBoth old r new = Learns old new × IfOk r (λ o. IfSome o (λ names. ToldBoth names.items new)) × IfMissing r (LacksOne new)
 
 -- the names of both folders were told
 abbrev pub TellsBoth : {A B : Type 0} → Directories → Result (Vec (String A) B) StoreFault → Directories → Type 0
-TellsBoth old (Ok names) new = Learns old new × ToldBoth names.items new
-TellsBoth old (Err Missing) new = Learns old new × ((new.there.new ≡ false) ⊎ (new.there.cur ≡ false))
-TellsBoth old (Err Refused) new = Learns old new
-TellsBoth old (Err NotMbox) new = ⊥
-TellsBoth old (Err NoMemory) new = ⊥
+TellsBoth old r new = Learns old new × IfOk r (λ names. ToldBoth names.items new) × IfMissing r (LacksOne new)
 
 -- the names of one folder were told: each is that of a file that is there, in this folder or already in the other
 -- one, and stays
 abbrev pub TellsOne : {A B : Type 0} → Directories → Folder → Result (Vec (String A) B) StoreFault → Directories → Type 0
-TellsOne old folder (Ok names) new =
-    Learns old new × (is_there new.there folder ≡ true) × AreTheirs (files_at new.entries) names.items
-    × ToldStay (Ok names) (StaysIn new.entries)
-TellsOne old folder (Err Missing) new = Learns old new × (is_there new.there folder ≡ false)
-TellsOne old folder (Err Refused) new = Learns old new
-TellsOne old folder (Err NotMbox) new = ⊥
-TellsOne old folder (Err NoMemory) new = ⊥
+TellsOne old folder r new =
+    Learns old new × IfOk r (λ names. (is_there new.there folder ≡ true) × AreTheirs (files_at new.entries) names.items)
+    × ToldStay r (StaysIn new.entries) × IfMissing r (is_there new.there folder ≡ false)
 
 -- ---- settling
 

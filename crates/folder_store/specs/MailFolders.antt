@@ -51,12 +51,6 @@ touches Cur s = touches_cur s
 abbrev pub name_at : MailFile → List ℕ
 name_at s = s.name
 
-abbrev pub is_in_new : MailFile → Bool
-is_in_new s = s.is_new
-
-abbrev pub is_in_cur : MailFile → Bool
-is_in_cur s = not s.is_new
-
 abbrev pub is_in : Folder → MailFile → Bool
 is_in New s = s.is_new
 is_in Cur s = not s.is_new
@@ -70,8 +64,7 @@ abbrev pub is_told : Folder → MailFile → Bool
 is_told folder s = is_left s && is_in folder s
 
 abbrev pub entries_in : Folder → List MailFile → List MailFile
-entries_in New entries = filter is_in_new (filter is_left entries)
-entries_in Cur entries = filter is_in_cur (filter is_left entries)
+entries_in folder entries = filter (is_in folder) (filter is_left entries)
 
 -- whether a folder has rested since it was last listed
 abbrev pub rests_in : Folder → Directories → Bool

@@ -56,7 +56,7 @@ AllFlushed entries = AllByRecursion (λ (s : MailFile). s.is_flushed ≡ true) e
 
 -- each file is on the disk whole
 abbrev pub AllOnDisk : List MailFile → Type 0
-AllOnDisk entries = AllByRecursion (λ (s : MailFile). (s.is_named ≡ true) × (s.is_flushed ≡ true)) entries
+AllOnDisk entries = AllNamed entries × AllFlushed entries
 
 -- what stays is there after a loss of power
 abbrev pub StayingMailIsLeft : Type 0
@@ -91,8 +91,3 @@ pub record CouldBeLeft (old : Directories) (added : List File) (left : Directori
 
 abbrev pub LeavesMail : Directories → List File → Directories → Type 0
 LeavesMail old added new = (left : Directories) → LosesMail new left → CouldBeLeft old added left
-
--- after this loss of power the files are some of those that one before the call could have left
-abbrev pub LeavesSome : Directories → Directories → Type 0
-LeavesSome old new = (left : Directories) → LosesMail new left
-    → (before : Directories) × LosesMail old before × IsPart (files_at before.entries) (files_at left.entries)

@@ -5,7 +5,6 @@ ghost use Rattle.std.specs.Duration.{as_nanos};
 ghost use Rattle.folder_store.specs.ExactListing.{IsListing, left_of};
 
 use crate::system::entry_in;
-use std::alloc::{AllocError, Global};
 use std::fs::Metadata;
 use std::os::unix::fs::MetadataExt;
 use std::rt::Files;
@@ -143,14 +142,6 @@ fn listing_of(before: ChangeTime, after: ChangeTime, passed: Duration) -> Listin
     }
 }
 
-/// Appends a name, unless it begins with a full stop.
-fn add_name(names: &mut Vec<String>, name: &str, alloc: Global) -> Result<(), AllocError> {
-    if !name.starts_with('.') {
-        names.push(String::from_str(alloc, name)?)?;
-    }
-    Ok(())
-}
-
 /// The names that one pass through a folder finds. If names change meanwhile, the system may leave
 /// out a file that is there all the time; and on tmpfs it finds a renamed file again, so a pass
 /// ends early once the folder isn't as it was seen.
@@ -171,7 +162,9 @@ fn pass_through<R: Files + Clock + AllocGlobal + Clone + Drop>(
             until_look = LOOK_EACH;
         }
         if let Some(entry) = entry_in(system.refusals, path, entry)? {
-            add_name(&mut names, entry.file_name(), system.alloc())?;
+            if !entry.file_name().starts_with('.') {
+                names.push(String::from_str(system.alloc(), entry.file_name())?)?;
+            }
         }
     }
     Ok(names)

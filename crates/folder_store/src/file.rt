@@ -2,7 +2,11 @@
 
 ghost use Rattle.std.specs.Prelude.{◌≡◌, ◌<◌, ◌+◌, false, OnErr, OnOk};
 ghost use Rattle.mail_terms.specs.FailureCount.{greatest_count};
+ghost use Rattle.mail_store.specs.Power.{LeavesNoMore};
+ghost use Rattle.folder_store.specs.FileFolder.{find};
+ghost use Rattle.folder_store.specs.HostFile.{Flushes, stored_in, unknown_file};
 ghost use Rattle.folder_store.specs.NewDevices.{LeftFilesStand, NewFilesLeaveNoMore};
+ghost use Rattle.folder_store.specs.PowerLoss.{IsKnown, IsOnDisk, IsSure, MayBe};
 
 use crate::device::FileFolder;
 use crate::host::HostFolder;
@@ -36,32 +40,6 @@ pub struct HostFile<'a, F> {
 }
 
 impl<'a, F> HostFile<'a, F> {
-    // The file of a name in a folder, and the file that keeps what is cut off from it.
-    fn made(
-        folder: F,
-        name: &'a str,
-        appending: Appending,
-        rests: Option<Rests<'a, F>>,
-    ) -> HostFile<'a, F>
-        ensures { result ≡ record {
-          folder = folder;
-          name = name.entry;
-          appending = appending;
-          is_flushed = false;
-          rests = rests.entry;
-          failures = 0;
-        } }
-    {
-        HostFile {
-            folder,
-            name,
-            appending,
-            is_flushed: false,
-            rests,
-            failures: FailureCount::new(),
-        }
-    }
-
     /// Whether this run kept what it cut off, and appended nothing since that begins with it.
     pub fn keeps_others(&self) -> bool {
         match &self.rests {
@@ -69,28 +47,22 @@ impl<'a, F> HostFile<'a, F> {
             None => false,
         }
     }
-
-    // The file that keeps what was cut off, if bytes that were appended since begin with all of it.
-    fn ours(&self) -> Option<(&F, &str)> {
-        match &self.rests {
-            Some(rests) => rests.ours(),
-            None => None,
-        }
-    }
 }
 
 impl<'a, F: FileFolder + Drop> HostFile<'a, F> {
-    ghost use Rattle.folder_store.specs.HostFile.{Flushes, stored_in};
-    ghost use Rattle.folder_store.specs.FileFolder.{find};
-    ghost use Rattle.folder_store.specs.PowerLoss.{IsKnown, IsOnDisk, IsSure, MayBe};
-    ghost use Rattle.mail_store.specs.Power.{LeavesNoMore};
-
     /// The file of a name in a folder. There need be none.
     pub fn over(folder: F, name: &'a str, appending: Appending) -> HostFile<'a, F>
         ensures stored { ⟦<HostFile<'a, F> as FlatFile>⟧.stored result ≡ stored_in (F.directory folder) name.now 0 }
         ensures sure { IsSure (find name.now (F.directory folder).entries) → ⟦<HostFile<'a, F> as FlatFile>⟧.is_sure result }
     {
-        HostFile::made(folder, name, appending, None)
+        HostFile {
+            folder,
+            name,
+            appending,
+            is_flushed: false,
+            rests: None,
+            failures: FailureCount::new(),
+        }
     }
 
     /// Gives the folder back.
@@ -139,8 +111,6 @@ impl<'a, F: FileFolder + Drop> HostFile<'a, F> {
 }
 
 impl<'a, R: Files + AllocGlobal> HostFile<'a, HostFolder<'a, R>> {
-    ghost use Rattle.folder_store.specs.HostFile.{unknown_file};
-
     /// The file at a path, absolute or taken from the working folder. There need be none. What is
     /// appended is flushed once, which suits long texts whose writer finds and cuts off what a loss of
     /// power left of one.
@@ -154,12 +124,8 @@ impl<'a, R: Files + AllocGlobal> HostFile<'a, HostFolder<'a, R>> {
     ) -> HostFile<'a, HostFolder<'a, R>>
         ensures { ⟦<HostFile<'a, HostFolder<'a, R>> as FlatFile>⟧.stored result ≡ unknown_file }
     {
-        HostFile::made(
-            HostFolder::around(system, path, mark, false),
-            name_in(path),
-            Appending::AtOnce,
-            None,
-        )
+        let folder = HostFolder::around(system, path, mark, false);
+        HostFile::over(folder, name_in(path), Appending::AtOnce)
     }
 
     /// The file at a path, likewise. What is appended is flushed at each border of 512 octets of the
@@ -172,12 +138,8 @@ impl<'a, R: Files + AllocGlobal> HostFile<'a, HostFolder<'a, R>> {
     ) -> HostFile<'a, HostFolder<'a, R>>
         ensures { ⟦<HostFile<'a, HostFolder<'a, R>> as FlatFile>⟧.stored result ≡ unknown_file }
     {
-        HostFile::made(
-            HostFolder::around(system, path, mark, true),
-            name_in(path),
-            Appending::ByBlocks,
-            None,
-        )
+        let folder = HostFolder::around(system, path, mark, true);
+        HostFile::over(folder, name_in(path), Appending::ByBlocks)
     }
 
     /// The file at a path, as `at` has it. What is cut off is first kept in the file at another path,
@@ -191,19 +153,18 @@ impl<'a, R: Files + AllocGlobal> HostFile<'a, HostFolder<'a, R>> {
         ensures { ⟦<HostFile<'a, HostFolder<'a, R>> as FlatFile>⟧.stored result ≡ unknown_file }
     {
         let kept = HostFolder::around(system, rests, mark, false);
-        HostFile::made(
-            HostFolder::around(system, path, mark, false),
-            name_in(path),
-            Appending::AtOnce,
-            Some(Rests::over(kept, name_in(rests))),
-        )
+        let mut file = HostFile::at(system, path, mark);
+        file.rests = Some(Rests::over(kept, name_in(rests)));
+        file
     }
 
     /// Removes the file that keeps what was cut off, if bytes that were appended since begin
     /// with all of it.
     pub fn drop_ours(&self) {
-        if let Some((folder, name)) = self.ours() {
-            folder.remove(name);
+        if let Some(rests) = &self.rests {
+            if let Some((folder, name)) = rests.ours() {
+                folder.remove(name);
+            }
         }
     }
 }
@@ -220,11 +181,6 @@ impl<'a, R: Files + Clock + AllocGlobal + Clone + Drop> HostFile<'a, HostFolder<
 }
 
 impl<'a, F: FileFolder + Drop> FlatFile for HostFile<'a, F> {
-    ghost use Rattle.std.specs.Prelude.{◌<◌};
-    ghost use Rattle.mail_terms.specs.FailureCount.{greatest_count};
-    ghost use Rattle.folder_store.specs.HostFile.{stored_in};
-    ghost use Rattle.folder_store.specs.PowerLoss.{IsKnown, IsOnDisk, MayBe};
-
     ghost stored = { λ f. stored_in (F.directory f.folder) f.name.now f.failures };
 
     ghost may_leave = { λ f left. MayBe (F.directory f.folder) f.name.now left };

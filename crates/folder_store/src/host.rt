@@ -187,13 +187,9 @@ impl<'a, R: Files + AllocGlobal> HostFolder<'a, R> {
 
     // The handle kept from the file's last change, or a new one.
     fn handle_of(&mut self, name: &str) -> io::Result<Changed<Noted<'a, R::File>>> {
-        match self.handles.take_kept(name) {
-            Some(changed) => Ok(changed),
-            None => self.open_changed(name),
+        if let Some(changed) = self.handles.take_kept(name) {
+            return Ok(changed);
         }
-    }
-
-    fn open_changed(&self, name: &str) -> io::Result<Changed<Noted<'a, R::File>>> {
         let title = String::from_str(self.system.alloc(), name)?;
         let path = self.regular_path(name)?;
         let file = self
@@ -231,15 +227,7 @@ impl<'a, R: Files + AllocGlobal> HostFolder<'a, R> {
 
     // Flushes a file's bytes, and says whether there was such a file.
     pub(crate) fn sync_if_there(&self, name: &str) -> io::Result<bool> {
-        match self.regular_path(name) {
-            Ok(path) => self.sync_at(path.as_str()),
-            Err(fault) if fault.kind() == ErrorKind::NotFound => Ok(false),
-            Err(fault) => Err(fault),
-        }
-    }
-
-    fn sync_at(&self, path: &str) -> io::Result<bool> {
-        match self.system.open(path) {
+        match self.open_regular(name) {
             Ok(file) => {
                 file.sync_all()?;
                 Ok(true)
@@ -317,8 +305,6 @@ pub(crate) fn answer_of<T>(refusals: &Refusals, answer: io::Result<T>) -> Result
 }
 
 impl<'a, R: Files + AllocGlobal> FileFolder for HostFolder<'a, R> {
-    ghost use Rattle.folder_store.specs.FileFolder.{unknown_directory};
-
     ghost directory = { λ _. unknown_directory };
 
     // Of the file system nothing is known.

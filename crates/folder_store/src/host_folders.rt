@@ -120,8 +120,6 @@ impl<'a, R: Files + Clock + AllocGlobal + Clone + Drop> HostFolders<'a, R> {
 }
 
 impl<'a, R: Files + Clock + AllocGlobal + Clone + Drop> MailFolders for HostFolders<'a, R> {
-    ghost use Rattle.folder_store.specs.MailFolders.{unknown_directories};
-
     ghost directories = { λ _. unknown_directories };
 
     // Of the file system nothing is known.

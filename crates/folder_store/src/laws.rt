@@ -12,6 +12,7 @@ ghost use Rattle.folder_store.specs.MailPower.{LeftMailIsOnDisk, MailCanLosePowe
 ghost use Rattle.folder_store.specs.MailPower.{OutlivingMailIsLeft, StayingMailIsLeft};
 
 /// A loss of power leaves what calls see under a name whose file is on the disk.
+#[tactic(auto, using(crate::proofs::Files::disk_is_left))]
 pub fn disk_is_left()
     ensures { DiskIsLeft }
 {}
@@ -22,11 +23,13 @@ pub fn power_leaves()
 {}
 
 /// What is on the disk is known to be there, whether or not a device knows it.
+#[tactic(auto, using(crate::proofs::Files::disk_is_known))]
 pub fn disk_is_known()
     ensures { DiskIsKnown }
 {}
 
 /// What a loss of power leaves of a file that was appended to, cut or replaced, whatever the call answered.
+#[tactic(auto, using(crate::proofs::Files::appends_for_good, crate::proofs::Files::cuts_for_good, crate::proofs::Files::replaces_for_good))]
 pub fn writes_outlive_power()
     ensures appends { AppendsLast }
     ensures cuts { CutsLast }
@@ -56,6 +59,7 @@ pub fn readers_move()
 {}
 
 /// Power can be lost in each state of the folders of a Maildir.
+#[tactic(auto, using(crate::proofs::MailMoves::mail_can_lose_power))]
 pub fn mail_can_lose_power()
     ensures { MailCanLosePower }
 {}
@@ -69,6 +73,7 @@ pub fn mail_outlives_power()
 {}
 
 /// After a loss of power all that is left of a Maildir is on the disk.
+#[tactic(auto, using(crate::proofs::MailMoves::on_disk))]
 pub fn left_mail_is_on_disk()
     ensures { LeftMailIsOnDisk }
 {}

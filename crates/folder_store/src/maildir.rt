@@ -1,7 +1,9 @@
 //! A Maildir in folders of a file system.
 
-ghost use Rattle.std.specs.Prelude.{◌≡◌, ◌<◌, ◌+◌};
+ghost use Rattle.std.specs.Prelude.{◌≡◌, ◌<◌, ◌+◌, option_map, string_bytes};
 ghost use Rattle.mail_terms.specs.FailureCount.{greatest_count};
+ghost use Rattle.folder_store.specs.MailFolders.{maildir_in, unknown_maildir};
+ghost use Rattle.folder_store.specs.MailPower.{OutlivesIn, StaysIn};
 ghost use Rattle.folder_store.specs.NewDevices.{LeftMaildirsStay, LossesMayLeave, NewMaildirsKeepMail};
 
 use crate::host_folders::HostFolders;
@@ -30,13 +32,10 @@ pub struct FolderMaildir<F> {
     failures: FailureCount,
 }
 
-impl<F> FolderMaildir<F> {
-    ghost use Rattle.std.specs.Prelude.{None};
-
-    fn made(alloc: Global, folders: F) -> FolderMaildir<F>
-        ensures folders { result.folders ≡ folders }
-        ensures begun { result.begun ≡ None }
-        ensures failures { result.failures ≡ 0 }
+impl<F: MailFolders + Drop> FolderMaildir<F> {
+    /// The Maildir of these folders.
+    pub fn over(alloc: Global, folders: F) -> FolderMaildir<F>
+        ensures { ⟦<FolderMaildir<F> as MaildirDisk>⟧.maildir result ≡ maildir_in (F.directories folders) None 0 }
     {
         FolderMaildir {
             alloc,
@@ -44,18 +43,6 @@ impl<F> FolderMaildir<F> {
             begun: None,
             failures: FailureCount::new(),
         }
-    }
-}
-
-impl<F: MailFolders + Drop> FolderMaildir<F> {
-    ghost use Rattle.std.specs.Prelude.{None};
-    ghost use Rattle.folder_store.specs.MailFolders.{maildir_in};
-
-    /// The Maildir of these folders.
-    pub fn over(alloc: Global, folders: F) -> FolderMaildir<F>
-        ensures { ⟦<FolderMaildir<F> as MaildirDisk>⟧.maildir result ≡ maildir_in (F.directories folders) None 0 }
-    {
-        FolderMaildir::made(alloc, folders)
     }
 
     /// Gives the folders back.
@@ -73,8 +60,6 @@ impl<F: MailFolders + Drop> FolderMaildir<F> {
 }
 
 impl<'a, R: Files + Clock + AllocGlobal + Clone + Drop> FolderMaildir<HostFolders<'a, R>> {
-    ghost use Rattle.folder_store.specs.MailFolders.{unknown_maildir};
-
     /// The Maildir at a path, absolute or taken from the working folder. It must hold the folders
     /// `tmp`, `new` and `cur`; none of them is made.
     pub fn at(
@@ -84,7 +69,7 @@ impl<'a, R: Files + Clock + AllocGlobal + Clone + Drop> FolderMaildir<HostFolder
     ) -> FolderMaildir<HostFolders<'a, R>>
         ensures { ⟦<FolderMaildir<HostFolders<'a, R>> as MaildirDisk>⟧.maildir result ≡ unknown_maildir }
     {
-        FolderMaildir::made(system.alloc(), HostFolders::of_maildir(system, path, mark))
+        FolderMaildir::over(system.alloc(), HostFolders::of_maildir(system, path, mark))
     }
 
     /// Removes from `tmp` the files of an account that killed runs left behind: those that weren't
@@ -104,11 +89,6 @@ fn is_file_name(name: &str) -> bool {
 }
 
 impl<F: MailFolders + Drop> MaildirDisk for FolderMaildir<F> {
-    ghost use Rattle.std.specs.Prelude.{◌<◌, option_map, string_bytes};
-    ghost use Rattle.mail_terms.specs.FailureCount.{greatest_count};
-    ghost use Rattle.folder_store.specs.MailFolders.{maildir_in};
-    ghost use Rattle.folder_store.specs.MailPower.{OutlivesIn, StaysIn};
-
     ghost maildir = { λ d. maildir_in (F.directories d.folders) (option_map string_bytes d.begun) d.failures };
 
     ghost stays = { λ d name. StaysIn (F.directories d.folders).entries name };

@@ -1,8 +1,11 @@
 //! A folder in memory.
 
-ghost use Rattle.std.specs.Prelude.{◌≡◌, ◌≢◌, ◌<◌, ◌++◌, ℕ, [], None, map, length, slice_index_or, string_bytes};
-ghost use Rattle.std.specs.Prelude.{HoldsAt, IfNone, IfOk, IfSome, OnErr, OnOk, option_map};
-ghost use Rattle.folder_store.specs.FileFolder.{find, names_in, placed};
+ghost use Rattle.std.specs.Prelude.{◌≡◌, ◌≢◌, ◌<◌, ◌≤◌, ◌++◌, ℕ, [], ◌∷◌, length, map, slice_index_or, string_bytes, take, true};
+ghost use Rattle.std.specs.Prelude.{HoldsAt, IfErr, IfNone, IfOk, IfSome, OnErr, OnOk, option_map};
+ghost use Rattle.mail_store.specs.Fault.{IsDeviceFault};
+ghost use Rattle.folder_store.specs.FileFolder.{appended, changed, cut, find, flushed, placed, put_in, secured};
+ghost use Rattle.folder_store.specs.FileFolder.{FlushesNames, Makes, MeasuresFile, ReadsPiece, TellsSize};
+ghost use Rattle.folder_store.specs.PowerLoss.{IsLeft, Loses};
 ghost use Rattle.folder_store.specs.MemoryFolder.{MayBeOf, Survive, blob_of, entries_of, entry_of, left_under, older_of};
 
 use crate::device::FileFolder;
@@ -65,15 +68,15 @@ impl Model for MemoryFolder {
     ghost invariant = { λ m. AreDistinct (names_in (entries_of m.files.items)) };
 }
 
-/// The place of the file of this name, if there is one.
-fn place_of(files: &[(String, MemoryBlob)], name: &str) -> Option<usize>
-    ensures inside { IfSome result (λ i. i < length files.now) }
-    ensures named { IfSome result (λ i. HoldsAt (λ f. string_bytes f.0 ≡ name.now) files.now i) }
-    ensures first { IfSome result (λ i. (k : ℕ) (d : _) → k < i → string_bytes (slice_index_or files.now k d).0 ≢ name.now) }
-    ensures none { IfNone result (find name.now (entries_of files.now) ≡ None) }
+/// The place at which this name is first, if it is among the names.
+fn place_of<T>(named: &[(String, T)], name: &str) -> Option<usize>
+    ensures inside { IfSome result (λ i. i < length named.now) }
+    ensures named { IfSome result (λ i. HoldsAt (λ f. string_bytes f.0 ≡ name.now) named.now i) }
+    ensures first { IfSome result (λ i. (k : ℕ) (d : _) → k < i → string_bytes (slice_index_or named.now k d).0 ≢ name.now) }
+    ensures none { IfNone result ((k : ℕ) (d : _) → k < length named.now → string_bytes (slice_index_or named.now k d).0 ≢ name.now) }
 {
-    for (i, file) in files.iter().enumerate() {
-        if file.0.as_str() == name {
+    for (i, pair) in named.iter().enumerate() {
+        if pair.0.as_str() == name {
             return Some(i);
         }
     }
@@ -109,19 +112,6 @@ fn place(
     }
 }
 
-/// The place in `older` of what a name led to before it was changed last, if it was changed.
-fn place_before(older: &[(String, Option<MemoryBlob>)], name: &str) -> Option<usize>
-    ensures inside { IfSome result (λ i. i < length older.now) }
-    ensures named { IfSome result (λ i. HoldsAt (λ o. string_bytes o.0 ≡ name.now) older.now i) }
-{
-    for (i, change) in older.iter().enumerate() {
-        if change.0.as_str() == name {
-            return Some(i);
-        }
-    }
-    None
-}
-
 /// What is left under the name of a file, as the choice says: its bytes, or no file.
 fn bytes_left(
     file: &(String, MemoryBlob),
@@ -131,7 +121,7 @@ fn bytes_left(
     ensures { IfOk result (λ text. MayBeOf (map older_of older.now) (entry_of file.now) (option_map (λ bytes. bytes.items) text)) }
 {
     if let Left::Older = left {
-        if let Some(i) = place_before(older, file.0.as_str()) {
+        if let Some(i) = place_of(older, file.0.as_str()) {
             return match &older[i].1 {
                 Some(was) => Ok(Some(was.left(Left::Flushed)?)),
                 None => Ok(None),
@@ -178,20 +168,7 @@ fn survivors(
 }
 
 impl MemoryBlob {
-    ghost use Rattle.std.specs.Prelude.{IfOk, OnErr, OnOk, ◌≡◌, [], ◌++◌, length, take};
-    ghost use Rattle.folder_store.specs.FileFolder.{appended, cut, empty_blob, flushed, secured};
-    ghost use Rattle.folder_store.specs.PowerLoss.{IsLeft};
     ghost use Rattle.folder_store.specs.MemoryFolder.{IsZeroed, blob_of};
-
-    fn empty(alloc: Global) -> MemoryBlob
-        ensures { blob_of result ≡ empty_blob }
-    {
-        MemoryBlob {
-            content: Vec::new(alloc),
-            flushed: Vec::new(alloc),
-            uncut: 0,
-        }
-    }
 
     fn whole(bytes: Vec<u8>) -> Result<MemoryBlob, AllocError>
         ensures { IfOk result (λ blob. blob_of blob ≡ secured bytes.items) }
@@ -203,12 +180,6 @@ impl MemoryBlob {
             flushed,
             uncut,
         })
-    }
-
-    fn all(&self) -> Result<Vec<u8>, AllocError>
-        ensures { IfOk result (λ bytes. bytes.items ≡ self.now.content.items) }
-    {
-        self.content.clone()
     }
 
     fn front(&self, len: usize) -> Result<Vec<u8>, AllocError>
@@ -239,7 +210,7 @@ impl MemoryBlob {
             Left::Flushed => self.flushed.clone(),
             Left::Front(len) if len >= self.uncut => self.front(len),
             Left::Zeros(len) if len >= self.uncut => self.zeroed(len),
-            _ => self.all(),
+            _ => self.content.clone(),
         }
     }
 
@@ -273,20 +244,11 @@ impl MemoryBlob {
     fn flushed(&self) -> Result<MemoryBlob, AllocError>
         ensures { IfOk result (λ blob. blob_of blob ≡ flushed (blob_of self.now)) }
     {
-        Ok(MemoryBlob {
-            content: self.content.clone()?,
-            flushed: self.content.clone()?,
-            uncut: self.content.len(),
-        })
+        MemoryBlob::whole(self.content.clone()?)
     }
 }
 
 impl MemoryFolder {
-    ghost use Rattle.std.specs.Prelude.{[], ◌∷◌, None, true, OnErr, OnOk, IfOk, option_map};
-    ghost use Rattle.folder_store.specs.FileFolder.{changed, find, put_in};
-    ghost use Rattle.folder_store.specs.MemoryFolder.{blob_of};
-    ghost use Rattle.folder_store.specs.PowerLoss.{Loses};
-
     /// A folder without files.
     pub fn new(alloc: Global) -> MemoryFolder
         ensures { result ≡ record { can_make = true; entries = []; older = []; made = None } }
@@ -347,10 +309,6 @@ impl MemoryFolder {
 }
 
 impl FileFolder for MemoryFolder {
-    ghost use Rattle.std.specs.Prelude.{◌≡◌, ◌≢◌, ◌≤◌, length, IfErr, IfOk, Ok, Err};
-    ghost use Rattle.mail_store.specs.Fault.{IsDeviceFault};
-    ghost use Rattle.folder_store.specs.FileFolder.{Makes, MeasuresFile, ReadsPiece, TellsSize, FlushesNames};
-
     ghost directory = { λ m. m };
 
     ghost sound = { λ _. Unit {0} };
@@ -361,7 +319,11 @@ impl FileFolder for MemoryFolder {
         ensures fault { IfErr result IsDeviceFault }
         ensures answers { result ≡ Ok tt }
     {
-        self.made = Some(MemoryBlob::empty(self.alloc));
+        self.made = Some(MemoryBlob {
+            content: Vec::new(self.alloc),
+            flushed: Vec::new(self.alloc),
+            uncut: 0,
+        });
         Ok(())
     }
 

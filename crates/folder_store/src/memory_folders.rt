@@ -1,12 +1,14 @@
 //! The folders of a Maildir in memory.
 
-ghost use Rattle.std.specs.Prelude.{◌≡◌, ◌↔◌, ◌++◌, [], ◌∷◌, Contains, IfOk, IsTrue, OnOk};
-ghost use Rattle.std.specs.Prelude.{false, if◌then◌else◌, true, map, option_map, string_bytes};
+ghost use Rattle.std.specs.Prelude.{◌≡◌, ◌↔◌, ◌≤◌, ◌||◌, ◌++◌, [], ◌∷◌, Contains, HoldsAt, IfNone, IfOk, IfSome, IsTrue, OnErr, OnOk};
+ghost use Rattle.std.specs.Prelude.{false, if◌then◌else◌, length, true, map, option_map, string_bytes};
+ghost use Rattle.std.specs.List.{filter};
 ghost use Rattle.mail_terms.specs.MaildirName.{base};
+ghost use Rattle.mail_store.specs.Maildir.{all_there};
 ghost use Rattle.mail_store.specs.Power.{is_among};
 ghost use Rattle.folder_store.specs.MailCalls.{flushed_by, named_by};
-ghost use Rattle.folder_store.specs.MailFolders.{entries_in, is_told, name_at};
-ghost use Rattle.folder_store.specs.MailPower.{AreLeftAs};
+ghost use Rattle.folder_store.specs.MailFolders.{Moved, MovesFile, entries_in, is_in, is_left, is_told, name_at, touches};
+ghost use Rattle.folder_store.specs.MailPower.{AreLeftAs, LosesMail};
 ghost use Rattle.folder_store.specs.MemoryFolders.{list_of, mail_file};
 
 use crate::mail_folders::MailFolders;
@@ -106,18 +108,6 @@ fn names_in(alloc: Global, files: &[StoredMail], folder: Folder) -> Result<Vec<S
     Ok(names)
 }
 
-/// Whether one of some names is this one.
-fn is_among(names: &[String], name: &str) -> bool
-    ensures { IsTrue result ↔ Contains (map string_bytes names.now) name.now }
-{
-    for other in names {
-        if other.as_str() == name {
-            return true;
-        }
-    }
-    false
-}
-
 /// The files with what a flush of the names of a folder makes last.
 fn named_files(
     alloc: Global,
@@ -135,7 +125,8 @@ fn named_files(
 
 /// Whether one of some texts is this one.
 fn is_one_of(texts: &[String], text: &str) -> bool
-    ensures { result ≡ is_among texts.now text.now }
+    ensures is { result ≡ is_among texts.now text.now }
+    ensures has { IsTrue result ↔ Contains (map string_bytes texts.now) text.now }
 {
     texts.iter().any(|other| other.as_str() == text)
 }
@@ -206,9 +197,6 @@ fn name_for(alloc: Global, name: &str, is_new: bool) -> Result<String, AllocErro
 }
 
 impl StoredMail {
-    ghost use Rattle.std.specs.Prelude.{◌≡◌, ◌||◌, IfOk, if◌then◌else◌, option_map};
-    ghost use Rattle.folder_store.specs.MailCalls.{flushed_by, named_by};
-    ghost use Rattle.folder_store.specs.MailFolders.{MovesFile, is_in, is_told, touches};
     ghost use Rattle.folder_store.specs.MemoryFolders.{MayBeLeftAs, left_with, mail_file};
 
     fn is_in(&self, folder: Folder) -> bool
@@ -334,12 +322,6 @@ impl StoredMail {
         }
     }
 
-    fn front(&self, len: usize) -> Result<Vec<u8>, AllocError> {
-        let mut bytes = self.content.clone()?;
-        bytes.truncate(len);
-        Ok(bytes)
-    }
-
     // What is left of the file, as the choice says.
     fn left(&self, choice: MailLeft) -> Result<Option<StoredMail>, AllocError>
         ensures { IfOk result (λ left. MayBeLeftAs (mail_file self.now) (option_map mail_file left)) }
@@ -350,7 +332,9 @@ impl StoredMail {
                 Ok(Some(self.left_with(!self.is_new, self.content.clone()?)?))
             }
             MailLeft::Front(len) if !self.is_flushed => {
-                Ok(Some(self.left_with(self.is_new, self.front(len)?)?))
+                let mut bytes = self.content.clone()?;
+                bytes.truncate(len);
+                Ok(Some(self.left_with(self.is_new, bytes)?))
             }
             _ => Ok(Some(self.left_with(self.is_new, self.content.clone()?)?)),
         }
@@ -358,12 +342,6 @@ impl StoredMail {
 }
 
 impl MemoryFolders {
-    ghost use Rattle.std.specs.Prelude.{◌≡◌, ◌≤◌, [], HoldsAt, IfNone, IfSome, None, OnErr, OnOk, false, length};
-    ghost use Rattle.std.specs.List.{filter};
-    ghost use Rattle.mail_store.specs.Maildir.{all_there};
-    ghost use Rattle.folder_store.specs.MailFolders.{Moved, is_left};
-    ghost use Rattle.folder_store.specs.MailPower.{LosesMail};
-
     /// Folders without files, and what a reader does before each of the calls that follow.
     pub fn new(alloc: Global, steps: Vec<ReaderStep>) -> MemoryFolders
         ensures { result ≡ record { there = all_there; entries = []; new_rests = false; cur_rests = false; made = None } }
@@ -503,10 +481,10 @@ impl MailFolders for MemoryFolders {
 
     fn has(&mut self, name: &str) -> Result<bool, StoreFault> {
         self.let_reader_move();
-        match names_in(self.alloc, &self.files, Folder::New) {
-            Ok(names) => Ok(is_among(&names, name)),
-            Err(_) => Err(StoreFault::Refused),
-        }
+        let Ok(names) = names_in(self.alloc, &self.files, Folder::New) else {
+            return Err(StoreFault::Refused);
+        };
+        Ok(is_one_of(&names, name))
     }
 
     fn flush_files(&mut self, stems: &[String]) -> Result<(), StoreFault> {

@@ -2,7 +2,7 @@
 
 ghost use Rattle.std.specs.Prelude.{◌≡◌, None, OnErr, OnOk};
 ghost use Rattle.folder_store.specs.FileFolder.{find};
-ghost use Rattle.folder_store.specs.HostFile.{AppendsPiece, AppendsFlushed, CutsFlushed, Flushes, PutsFlushed, ReplacesFlushed};
+ghost use Rattle.folder_store.specs.HostFile.{AppendsFlushed, CutsFlushed, Flushes, PutsFlushed, ReplacesFlushed};
 ghost use Rattle.folder_store.specs.PowerLoss.{IsOnDisk, IsSure, MayBe};
 ghost use Rattle.mail_store.specs.Power.{LeavesNoMore};
 
@@ -35,7 +35,7 @@ fn put_flushed<F: FileFolder>(folder: &mut F, name: &str) -> Result<(), StoreFau
 /// Appends bytes to a file, and flushes them.
 fn append_flushed<F: FileFolder>(folder: &mut F, name: &str, bytes: &[u8]) -> Result<(), StoreFault>
     ensures { F.sound folder.new → F.sound folder.old
-        × AppendsPiece (F.directory folder.old) name.now bytes.now result (F.directory folder.new) }
+        × AppendsFlushed (F.directory folder.old) name.now bytes.now result (F.directory folder.new) }
 {
     folder.append(name, bytes)?;
     folder.flush(name)

@@ -1,4 +1,4 @@
-use Rattle.folder_store.proofs.PowerLoss.{disk_is_known, disk_is_left}
+use Rattle.folder_store.proofs.Files.{disk_is_known, disk_is_left}
 use Rattle.folder_store.proofs.file.new_files_leave_no_more.Goals as goal
 
 pub returns-clause-left : goal.returns-clause-left

@@ -1,4 +1,4 @@
-use Rattle.folder_store.proofs.MailWriting.{brings_on, changes_bring}
+use Rattle.folder_store.proofs.MailCalls.{brings_on, changes_bring}
 use Rattle.folder_store.proofs.laws.calls_bring_mail.Goals as goal
 
 pub returns : goal.returns

@@ -5,5 +5,5 @@ pub returns : goal.returns
 returns c = record {
   stays = loss.staying_mail_is_left;
   outlives = loss.outliving_mail_is_left;
-  all = λ old new on loses. loss.all_left old.entries new.entries on loses.each;
+  all = loss.mail_on_disk_is_left;
 }

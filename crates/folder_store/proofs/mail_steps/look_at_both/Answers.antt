@@ -2,7 +2,8 @@ use Rattle.std.proofs.Common.{List, String, Global, Ok, rules, subst, sym}
 use Rattle.mail_store.specs.declared.maildir.disk.Folder.TheVariants.{New, Cur}
 use Rattle.folder_store.specs.MailFolders.{Directories}
 use Rattle.folder_store.specs.MailCalls.{Learns, ToldBoth}
-use Rattle.folder_store.proofs.MailTelling.{leads_learns, learned, learns_same, flushes_leads, lists_learns, rests_leads, lacked, unflushed, looked}
+use Rattle.folder_store.proofs.MailCalls.{leads_learns, learned, learns_same, flushes_leads, lists_learns, lacked, unflushed, looked}
+use Rattle.folder_store.proofs.MailMoves.{moved_same}
 use Rattle.folder_store.proofs.mail_steps.look_at_both.Given.{Over}
 use Rattle.folder_store.proofs.mail_steps.look_at_both.Goals.{In_ok-flush_names, In_ok-flush_names-2, In_ok-names, In_ok-in_cur, In_ok-rests}
 use Rattle.folder_store.proofs.mail_steps.look_at_both.Goals as goal
@@ -26,7 +27,7 @@ by_lists g c = learned _ _ _ (by_list g c.before.before.before.before) c.in_ok-i
 
 by_all : (g : Over) (c : In_ok-rests g) → Learned g.F.MailFolders.sound g.F.MailFolders.directories c.args.folders.now c.rests.new.self
 by_all g c = learned _ _ _ (by_lists g c.before.before.before.before) c.in_ok-rests.ensures.tells
-    (λ t. leads_learns _ _ (rests_leads New _ _ (Ok c.in_ok-rests.field-0) t))
+    (λ t. leads_learns _ _ (moved_same _ t.0 _ t.1 t.2.0))
 
 pub returns-in_err-flush_names-clause-looks : goal.returns-in_err-flush_names-clause-looks
 returns-in_err-flush_names-clause-looks g c = unflushed _ _ _ New c.in_err-flush_names.field-0.0 c.from_residual.result c.from_residual.ensures.1
@@ -50,13 +51,18 @@ returns-in_err-in_cur-clause-looks g c =
 pub returns-in_err-rests-clause-looks : goal.returns-in_err-rests-clause-looks
 returns-in_err-rests-clause-looks g c =
     lacked _ _ _ New c.in_err-rests.field-0.0 c.from_residual-in_err-rests.result c.from_residual-in_err-rests.ensures.1
-    (by_lists g (goal.at.returns-in_err-rests-clause-looks g c).In_ok-in_cur) c.in_err-rests.ensures.tells
+    (by_lists g (goal.at.returns-in_err-rests-clause-looks g c).In_ok-in_cur)
+    (λ s. let t = c.in_err-rests.ensures.tells s in (t.0, (t.1.0, t.1.1, (t.1.2.0, t.1.2.2))))
 
 pub returns-then-not-branch-clause-looks : goal.returns-then-not-branch-clause-looks
-returns-then-not-branch-clause-looks g c = by_all g (goal.at.returns-then-not-branch-clause-looks g c).In_ok-rests
+returns-then-not-branch-clause-looks g c = λ s.
+    let t = by_all g (goal.at.returns-then-not-branch-clause-looks g c).In_ok-rests s in
+    (t.0, (t.1, tt, tt))
 
 pub returns-in-Err-clause-looks : goal.returns-in-Err-clause-looks
-returns-in-Err-clause-looks g c = by_all g (goal.at.returns-in-Err-clause-looks g c).In_ok-rests
+returns-in-Err-clause-looks g c = λ s.
+    let t = by_all g (goal.at.returns-in-Err-clause-looks g c).In_ok-rests s in
+    (t.0, (t.1, tt, λ missing. absurd cc))
 
 pub returns-in-Ok-clause-looks : goal.returns-in-Ok-clause-looks
 returns-in-Ok-clause-looks g c = λ s.
@@ -68,4 +74,5 @@ returns-in-Ok-clause-looks g c = λ s.
     let told = looked _ _ _ _ _ _ c.in_ok-names.names c.in_ok-in_cur.in_cur c.in_ok-flush_names.field-0 c.in_ok-flush_names-2.field-0
     c.in_ok-rests.field-0 t1.1 t2.1 t3.1 t4.1 t5.1 (search rules) in
     let all = by_all g (goal.at.returns-in-Ok-clause-looks g c).In_ok-rests s in
-    (all.0, (all.1, subst (λ (names : List (String Global)). ToldBoth names (g.F.MailFolders.directories c.rests.new.self)) (sym c.in-Ok.ensures.items) told))
+    let now = g.F.MailFolders.directories c.rests.new.self in
+    (all.0, (all.1, subst (λ (names : List (String Global)). ToldBoth names now) (sym c.in-Ok.ensures.items) told, tt))

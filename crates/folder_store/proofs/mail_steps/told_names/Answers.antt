@@ -1,6 +1,6 @@
 use Rattle.std.proofs.Common.{◌∙◌, Err, ap}
 use Rattle.std.proofs.lemmas.Result.{err_from_is_err_and}
-use Rattle.folder_store.proofs.MailTelling.{learns_on, learns_same, looked_on, told_none}
+use Rattle.folder_store.proofs.MailCalls.{learns_on, learns_same}
 use Rattle.folder_store.proofs.mail_steps.told_names.Goals as goal
 
 pub loop-times-init : goal.loop-times-init
@@ -12,10 +12,8 @@ returns-in_err-names-clause-tells g c =
     rw (p.1 ∙ ap Err p.2) (λ s.
     let look = c.in_err-names.ensures.looks s in
     let may = c.may_list_again.ensures look.0 in
-    let so_far = c.loop-times.invariant may.0 in (
-      so_far.0,
-      told_none _ _ _ c.in_err-names.field-0.0 (rw (← may.1) at so_far.1) look.1,
-    ))
+    let so_far = c.loop-times.invariant may.0 in
+    (so_far.0, (learns_on _ _ _ (rw (← may.1) at so_far.1) look.1.0, tt, look.1.2)))
 
 pub returns-in-Some-clause-tells : goal.returns-in-Some-clause-tells
 returns-in-Some-clause-tells g c = λ s.
@@ -23,11 +21,11 @@ returns-in-Some-clause-tells g c = λ s.
     let may = c.may_list_again.ensures look.0 in
     let so_far = c.loop-times.invariant may.0 in
     let told = rw c.in-Some.is at look.1 in
-    (so_far.0, (learns_on _ _ _ (rw (← may.1) at so_far.1) told.0, told.1))
+    (so_far.0, (learns_on _ _ _ (rw (← may.1) at so_far.1) told.0, told.1, tt))
 
 pub loop-times-preserved : goal.loop-times-preserved
 loop-times-preserved g c = λ s.
     let look = c.in_ok-names.ensures.looks s in
     let may = c.may_list_again.ensures look.0 in
     let so_far = c.loop-times.invariant may.0 in
-    (so_far.0, learns_on _ _ _ (rw (← may.1) at so_far.1) (looked_on _ _ c.in_ok-names.field-0 look.1))
+    (so_far.0, learns_on _ _ _ (rw (← may.1) at so_far.1) look.1.0)

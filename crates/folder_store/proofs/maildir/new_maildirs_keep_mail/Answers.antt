@@ -1,5 +1,5 @@
 use Rattle.folder_store.proofs.MailMoves.{on_disk, outliving_mail_is_left, staying_mail_is_left, each_keeps, files_kept, flushed_kept, mail_kept, named_moved, named_stays}
-use Rattle.folder_store.proofs.MailWriting.{flushed_part, weaker}
+use Rattle.folder_store.proofs.MailCalls.{flushed_part}
 use Rattle.folder_store.proofs.maildir.new_maildirs_keep_mail.Goals as goal
 
 pub returns-clause-losses : goal.returns-clause-losses
@@ -22,6 +22,6 @@ pub returns-clause-stays : goal.returns-clause-stays
 returns-clause-stays g c = λ old left device loses found.
     let d = g.F.MailFolders.directories device.folders in
     let on = on_disk old.entries left.entries loses.each in (
-      λ name there. named_stays d.entries name (named_moved left.entries d.entries found.moves (weaker (λ s is. is.0) left.entries on)) there,
-      flushed_kept left.entries d.entries (each_keeps left.entries d.entries found.moves) (weaker (λ s is. is.1) left.entries on),
+      λ name there. named_stays d.entries name (named_moved left.entries d.entries found.moves on.0) there,
+      flushed_kept left.entries d.entries (each_keeps left.entries d.entries found.moves) on.1,
     )

@@ -1,6 +1,6 @@
 use Rattle.std.proofs.Common.{List, Some, ap, sym, string_bytes, ◌∙◌}
 use Rattle.folder_store.specs.MemoryFolder.{blob_of, entries_of}
-use Rattle.folder_store.proofs.MemoryFiles.{Pair, found_at, push_placed, set_placed}
+use Rattle.folder_store.proofs.MemoryFiles.{Pair, found_at, not_found, push_placed, set_placed}
 use Rattle.folder_store.proofs.memory.place.Goals as goal
 
 pub returns-in-Some-clause-placed : goal.returns-in-Some-clause-placed
@@ -18,5 +18,9 @@ returns-in-Some-clause-was c =
 
 pub returns-in_ok-push-in-None-clause-placed : goal.returns-in_ok-push-in-None-clause-placed
 returns-in_ok-push-in-None-clause-placed c =
-    ap (λ (fs : List Pair). entries_of fs) c.in_ok-push-in-None.ensures.items
-    ∙ push_placed _ (c.args.name, c.args.file) (rw (c.deref.ensures.value, c.as_str.ensures.value) at c.in-None.ensures.none)
+    let none = rw (c.deref.ensures.value, c.as_str.ensures.value) at (not_found _ _ c.in-None.ensures.none) in
+    ap (λ (fs : List Pair). entries_of fs) c.in_ok-push-in-None.ensures.items ∙ push_placed _ (c.args.name, c.args.file) none
+
+pub returns-in_ok-push-in-None-clause-was : goal.returns-in_ok-push-in-None-clause-was
+returns-in_ok-push-in-None-clause-was c =
+    sym (rw (c.deref.ensures.value, c.as_str.ensures.value) at (not_found _ _ c.in-None.ensures.none))

@@ -1,6 +1,5 @@
 use Rattle.std.proofs.Common.{rules, Err, ◌∙◌}
-use Rattle.folder_store.proofs.Files.{flush_keeps, flush_names_keeps}
-use Rattle.folder_store.proofs.PowerLoss.{both_on_disk}
+use Rattle.folder_store.proofs.Files.{flush_keeps, flush_names_keeps, both_on_disk}
 use Rattle.folder_store.proofs.steps.flush_both.Goals as goal
 
 pub returns-in_err-flush : goal.returns-in_err-flush

@@ -1,6 +1,5 @@
 use Rattle.std.proofs.Common.{refl, Ok, Err}
-use Rattle.folder_store.proofs.Files.{appends}
-use Rattle.folder_store.proofs.PowerLoss.{appends_for_good, told_lasts}
+use Rattle.folder_store.proofs.Files.{appends, appends_for_good, told_lasts}
 use Rattle.folder_store.proofs.file.HostFileFlatFile.append.Goals as goal
 
 pub returns-in-Err-clause-appends : goal.returns-in-Err-clause-appends

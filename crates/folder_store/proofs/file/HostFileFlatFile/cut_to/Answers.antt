@@ -1,6 +1,5 @@
 use Rattle.std.proofs.Common.{refl, Ok, Err}
-use Rattle.folder_store.proofs.Files.{cuts}
-use Rattle.folder_store.proofs.PowerLoss.{cuts_for_good, told_lasts}
+use Rattle.folder_store.proofs.Files.{cuts, cuts_for_good, told_lasts}
 use Rattle.folder_store.proofs.file.HostFileFlatFile.cut_to.Goals as goal
 
 pub returns-in-Err-clause-cuts : goal.returns-in-Err-clause-cuts

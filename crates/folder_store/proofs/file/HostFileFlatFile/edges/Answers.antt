@@ -1,5 +1,5 @@
 use Rattle.std.proofs.Common.{rules, ◌≡◌, sym, ◌∙◌}
-use Rattle.folder_store.proofs.PowerLoss.{told_again}
+use Rattle.folder_store.proofs.Files.{told_again}
 use Rattle.folder_store.proofs.file.HostFileFlatFile.edges.Goals as goal
 
 pub returns-else-is_err-clause-lasts : goal.returns-else-is_err-clause-lasts

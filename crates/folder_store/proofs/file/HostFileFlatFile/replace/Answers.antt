@@ -1,6 +1,5 @@
 use Rattle.std.proofs.Common.{refl, true, Ok, Err}
-use Rattle.folder_store.proofs.Files.{replaces}
-use Rattle.folder_store.proofs.PowerLoss.{replaces_for_good, told_lasts}
+use Rattle.folder_store.proofs.Files.{replaces, replaces_for_good, told_lasts}
 use Rattle.folder_store.proofs.file.HostFileFlatFile.replace.Goals as goal
 
 pub returns-in-Err-clause-replaces : goal.returns-in-Err-clause-replaces

@@ -1,5 +1,5 @@
 use Rattle.std.proofs.Common.{string_bytes, option_map}
-use Rattle.folder_store.proofs.MailWriting.{gives_up, maildir_dropped}
+use Rattle.folder_store.proofs.MailCalls.{gives_up, maildir_dropped}
 use Rattle.folder_store.proofs.maildir.FolderMaildirMaildirDisk.abandon.Goals as goal
 
 pub returns-then-is_some-clause-drops : goal.returns-then-is_some-clause-drops

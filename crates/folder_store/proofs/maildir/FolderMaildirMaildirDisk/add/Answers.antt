@@ -1,5 +1,5 @@
 use Rattle.std.proofs.Common.{Ok, Err}
-use Rattle.folder_store.proofs.MailWriting.{added, not_added, writes_bring}
+use Rattle.folder_store.proofs.MailCalls.{added, not_added, writes_bring}
 use Rattle.folder_store.proofs.maildir.FolderMaildirMaildirDisk.add.Goals as goal
 
 pub returns-in-Ok-clause-adds : goal.returns-in-Ok-clause-adds

@@ -1,5 +1,5 @@
 use Rattle.std.proofs.Common.{option_map, string_bytes, Ok, Err}
-use Rattle.folder_store.proofs.MailWriting.{begun_anew, begin_missing, begin_refused, makes_bring}
+use Rattle.folder_store.proofs.MailCalls.{begun_anew, begin_missing, begin_refused, makes_bring}
 use Rattle.folder_store.proofs.maildir.FolderMaildirMaildirDisk.begin.Goals as goal
 
 pub returns-in-Ok-make-clause-begins : goal.returns-in-Ok-make-clause-begins

@@ -1,6 +1,6 @@
 use Rattle.std.proofs.Common.{Ok, Err, string_bytes, option_map}
-use Rattle.folder_store.proofs.MailWriting.{flushed_outlive, files_lead}
-use Rattle.folder_store.proofs.MailMoves.{leads_maildir}
+use Rattle.folder_store.proofs.MailCalls.{flushed_outlive, files_lead}
+use Rattle.folder_store.proofs.MailMoves.{leads_keep, leads_maildir}
 use Rattle.folder_store.proofs.maildir.FolderMaildirMaildirDisk.flush.Goals as goal
 
 pub returns-in-Ok-clause-flushes : goal.returns-in-Ok-clause-flushes
@@ -11,7 +11,7 @@ returns-in-Ok-clause-flushes g c = λ s.
 pub returns-in-Ok-clause-lasts : goal.returns-in-Ok-clause-lasts
 returns-in-Ok-clause-lasts g c = λ s.
     let t = c.in-Ok.ensures s.0 in (
-      (files_lead c.args.stems.now {T = Unit {0}} _ _ (Ok tt) t.1).keeps,
+      leads_keep _ _ (files_lead c.args.stems.now {T = Unit {0}} _ _ (Ok tt) t.1),
       flushed_outlive c.args.stems.now {T = Unit {0}} _ _ (option_map string_bytes c.args.self.now.begun) c.args.self.now.failures (Ok tt)
           c.marks_keep_the_base.ensures.stems t.1,
     )
@@ -26,4 +26,4 @@ returns-in-Err-clause-flushes g c = λ s.
 
 pub returns-in-Err-clause-lasts : goal.returns-in-Err-clause-lasts
 returns-in-Err-clause-lasts g c = λ s.
-    ((files_lead c.args.stems.now {T = Unit {0}} _ _ (Err c.in-Err.field-0) (c.in-Err.ensures s.0).1).keeps, tt)
+    (leads_keep _ _ (files_lead c.args.stems.now {T = Unit {0}} _ _ (Err c.in-Err.field-0) (c.in-Err.ensures s.0).1), tt)

@@ -1,12 +1,14 @@
-use Rattle.std.proofs.Common.{None, refl, string_bytes, option_map}
-use Rattle.folder_store.proofs.MailTelling.{told_those}
+use Rattle.std.proofs.Common.{string_bytes, option_map}
+use Rattle.folder_store.proofs.MailCalls.{learns_keeps, told_those}
 use Rattle.folder_store.proofs.maildir.FolderMaildirMaildirDisk.names.Goals as goal
 
 pub returns-clause-lists : goal.returns-clause-lists
 returns-clause-lists g c = rw c.tally.ensures.same (λ s.
     let begun = option_map string_bytes c.args.self.now.begun in
-    let t = c.told_names_of.ensures.tells s.0 in
-    ((t.0, c.in_ok-admit.ensures.admitted), (told_those _ _ _ begun _ c.tally.new.failures c.told_names_of.result t.1 c.tally.ensures.counted).0))
+    let t = c.told_names_of.ensures.tells s.0 in (
+      (t.0, c.in_ok-admit.ensures.admitted),
+      told_those _ _ _ begun _ c.tally.new.failures c.told_names_of.result t.1 c.told_names_of.ensures.fault c.tally.ensures.counted,
+    ))
 
 pub returns-clause-lasts : goal.returns-clause-lasts
-returns-clause-lasts g c = λ s. (told_those _ _ c.args.folder None 0 _ c.told_names_of.result (c.told_names_of.ensures.tells s.0).1 refl).1.keeps
+returns-clause-lasts g c = λ s. learns_keeps _ _ (c.told_names_of.ensures.tells s.0).1.0

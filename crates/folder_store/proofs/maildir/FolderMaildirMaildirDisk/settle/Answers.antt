@@ -1,5 +1,5 @@
 use Rattle.std.proofs.Common.{inl, None, refl, string_bytes, option_map}
-use Rattle.folder_store.proofs.MailWriting.{gives_up, maildir_dropped, not_settled, settled}
+use Rattle.folder_store.proofs.MailCalls.{gives_up, maildir_dropped, not_settled, settled}
 use Rattle.folder_store.proofs.maildir.FolderMaildirMaildirDisk.settle.Goals as goal
 
 pub returns-in-Ok-clause-settles : goal.returns-in-Ok-clause-settles

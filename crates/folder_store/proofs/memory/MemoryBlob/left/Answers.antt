@@ -1,4 +1,4 @@
-use Rattle.std.proofs.Common.{arith, inl, inr}
+use Rattle.std.proofs.Common.{arith}
 use Rattle.std.proofs.lemmas.Result.{IfOk-weaker}
 use Rattle.folder_store.specs.MemoryFolder.{blob_of}
 use Rattle.folder_store.proofs.MemoryFiles.{front_left, zeroed_left}
@@ -11,6 +11,3 @@ returns-in-Front c =
 pub returns-in-Zeros : goal.returns-in-Zeros
 returns-in-Zeros c =
     IfOk-weaker c.zeroed.result _ _ (λ bytes. zeroed_left (blob_of c.args.self.now) c.in-Zeros.len bytes.items (omega (arith, c.if-len-self-2.true))) c.zeroed.ensures
-
-pub returns-in_default : goal.returns-in_default
-returns-in_default c = IfOk-weaker c.all.result _ _ (λ bytes e. inr (inl e)) c.all.ensures

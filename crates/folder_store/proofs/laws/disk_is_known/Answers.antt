@@ -1,5 +1,0 @@
-use Rattle.folder_store.proofs.PowerLoss.{disk_is_known}
-use Rattle.folder_store.proofs.laws.disk_is_known.Goals as goal
-
-pub returns : goal.returns
-returns c = disk_is_known
