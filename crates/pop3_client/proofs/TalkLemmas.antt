@@ -1,13 +1,14 @@
 -- How the parts of a turn make a turn, and turns make a conversation, and what holds of every conversation.
 use Rattle.pop3_wire.specs.declared.wire.Wire.{Ghosts}
 use Rattle.pop3_wire.specs.Link.{WhereSound, Link}
-use Rattle.std.proofs.Common.{IsErrAnd, Some, Option, ◌≡◌, inl, inr, ◌<◌, ◌≤◌, ◌+◌, ◌*◌, ℕ, false, List, [], ◌∷◌, ◌++◌, length, take, drop, None, Result, Ok, Err, refl, sym, ap, subst, ◌∙◌, arith, append_assoc, length-append, codes, append-nil, take_all, length-take, ◌≢◌, ◌⊎◌, IfOk, IfErr, rules}
+use Rattle.std.proofs.Common.{IsErrAnd, Some, Option, true, ◌≡◌, inl, inr, ◌<◌, ◌≤◌, ◌+◌, ◌*◌, ℕ, false, List, [], ◌∷◌, ◌++◌, length, take, drop, None, Result, Ok, Err, refl, sym, ap, subst, ◌∙◌, arith, append_assoc, length-append, codes, append-nil, take_all, length-take, ◌≢◌, ◌⊎◌, IfOk, IfErr, rules}
 use Rattle.std.specs.List.{flat_map, AllZip, AllByRecursion}
 use Rattle.pop3_wire.specs.Line.{crlf, IsLine, ended}
 use Rattle.pop3_wire.specs.Reply.{IsFirstLine}
 use Rattle.pop3_wire.specs.Reading.{WholeReply, reply_bytes, body_bytes, gives_body, IsUidLine, IsScanLine}
 use Rattle.pop3_wire.specs.Bodies.{Drew, Rest, LeavesRest}
 use Rattle.pop3_wire.specs.declared.reply.Status.{Status}
+use Rattle.std.proofs.lemmas.Bool.{false≢true}
 use Rattle.std.proofs.lemmas.Result.{err_from_is_err_and}
 use Rattle.std.proofs.lemmas.Grind.{flat_map-append}
 use Rattle.pop3_wire.specs.declared.reply.Status.TheVariants.{Positive, Negative}
@@ -17,7 +18,7 @@ use Rattle.pop3_client.specs.declared.fault.Asked.{Asked}
 use Rattle.pop3_client.specs.declared.fault.ClientFault.{ClientFault}
 use Rattle.pop3_client.specs.declared.fault.ClientFault.TheVariants.{ConnectionEnded, ReplyTooLong, ReadFailed, BadReply, Refused, TooMany, BadListing, ListingsDisagree, NoMemory}
 use Rattle.pop3_client.specs.Turns.{Turn, turn_bytes, Names, stat, Fits, IsBody, IsGood, line_limit, IsShort, most, asking, uidl, list, IsRow, IsListing, LinesFit, text_limit, retr}
-use Rattle.pop3_client.specs.Causes.{Cause, BeginsPositive, FirstLine, IsPartOfListing, IsPartOfBody, HasRows, NextLine}
+use Rattle.pop3_client.specs.Causes.{Cause, BeginsPositive, FirstLine, IsPartOfListing, IsPartOfBody, HasRows, RowBehind}
 use Rattle.pop3_client.specs.Conversation.{NoLineCause, Opened, Talked, TakesRefusal, Heard, Broke, NotAnswered, Stopped, Sent, GivesFew, AsksTurn, Completes, Talks, most_of, IsFrontOfNext, Paced, ConversationsArePaced}
 use Rattle.pop3_wire.specs.declared.command.Command.TheVariants.{UidlAll, ListAll, Retr}
 use Rattle.std.proofs.lemmas.List.Elements.{All-push, All-from_recursion, recursion_from_All}
@@ -26,7 +27,7 @@ use Rattle.mail_terms.specs.Listing.{Item, Agree, Joins, message_limit}
 use Rattle.mail_terms.specs.declared.listing.UidRow.{UidRow}
 use Rattle.mail_terms.specs.declared.listing.ScanRow.{ScanRow}
 use Rattle.pop3_wire.specs.Body.{dot, IsContent, Body}
-use Rattle.pop3_client.specs.Listing.{Listed, GetsListing, ListsRows, RowBehind, RowCause, RowsCause, NotTaken, TakesRows}
+use Rattle.pop3_client.specs.Listing.{Listed, GetsListing, ListsRows, RowsCause, NotTaken, TakesRows}
 use Rattle.std.proofs.lemmas.List.{append_cancel_left}
 use Rattle.pop3_wire.specs.declared.unstuffer.Spot.TheVariants.{Done}
 use Rattle.pop3_client.specs.Texts.{Fetched, Fetching}
@@ -344,6 +345,10 @@ pub by_listing : (P : Turn → Type 0) → P uidl → P list → (turn : Turn) �
 by_listing P first second turn (inl is) = rw is first
 by_listing P first second turn (inr is) = rw is second
 
+-- a line that waits isn't the end mark
+pub not_end : {bytes waiting : List ℕ} (n : ℕ) → bytes ≡ waiting → (take n bytes ≡ dot → false ≡ true) → take n waiting ≢ dot
+not_end n same ends e = false≢true (ends (ap (take n) same ∙ e))
+
 -- some rows were taken: these lines, which stand for these rows, and the rest waits
 pub record TookRows {R : Type 0} (turn : Turn) (StandsFor : List ℕ → R → Type 0) (old new : Place) (rows : List R) : Type 0 where
   pub lines : List (List ℕ)
@@ -391,6 +396,10 @@ module _ {R : Type 0} {turn : Turn} {StandsFor : List ℕ → R → Type 0} {old
     goes_on = goes_further now.goes_on onward;
   }
 
+  -- the rows stop at one that waits
+  pub rows_stop : (fault : ClientFault) → RowsCause fault turn old.link here.link (old.waiting ++ now.gained) → NotTaken turn old here fault
+  rows_stop fault cause = record { gained = now.gained; used = now.lines; drew = now.drew; cause = cause; has = now.has }
+
   -- a row waits
   module _ {n : ℕ} (has : HasLine line_limit here.waiting n) (other : take n here.waiting ≢ dot) where
     -- it was taken
@@ -423,14 +432,15 @@ module _ {R : Type 0} {turn : Turn} {StandsFor : List ℕ → R → Type 0} {old
       short = (line_at has).0;
     }
 
-  -- the rows stop at one that waits
-  pub rows_stop : (fault : ClientFault) → RowsCause fault turn old.link here.link (old.waiting ++ now.gained) → NotTaken turn old here fault
-  rows_stop fault cause = record { gained = now.gained; used = now.lines; drew = now.drew; cause = cause; has = now.has }
+    -- there are too many
+    pub rows_full : message_limit ≤ length rows → NotTaken turn old here TooMany
+    rows_full full =
+        let count : length rows ≡ message_limit = omega (arith, full, now.has.few, AllZip-long StandsFor now.lines rows now.read) in
+        rows_stop TooMany (take n here.waiting, subst (RowBehind turn (old.waiting ++ now.gained) (take n here.waiting)) count row_behind)
 
-  -- neither a row nor the end mark came
-  pub rows_cause : {new : Place} {more : List ℕ} (fault : ClientFault) (n : ℕ) → n ≡ length rows → Gains here new more → RowCause fault n here.link new.link new.waiting
-      → NotTaken turn old new fault
-  rows_cause {new} {more} fault n count gains why = record {
+  -- no line came
+  pub rows_cause : {new : Place} {more : List ℕ} (fault : ClientFault) → Gains here new more → NoLineCause fault here.link new.link new.waiting → NotTaken turn old new fault
+  rows_cause {new} {more} fault gains why = record {
     gained = now.gained ++ more;
     used = now.lines;
     drew = drew_on now.drew (drew_of gains);
@@ -438,54 +448,30 @@ module _ {R : Type 0} {turn : Turn} {StandsFor : List ℕ → R → Type 0} {old
     has = more_waits gains;
   }
     where
-      by : (f : ClientFault) → RowCause f n here.link new.link new.waiting → RowsCause f turn old.link new.link (old.waiting ++ (now.gained ++ more))
+      by : (f : ClientFault) → NoLineCause f here.link new.link new.waiting → RowsCause f turn old.link new.link (old.waiting ++ (now.gained ++ more))
       by ConnectionEnded w = (w.0, (new.waiting, now.lines, more_waits gains, w.1))
       by ReadFailed w = (subst (λ (k : ℕ). k < new.link.failures) now.goes_on.failures w.0, (new.waiting, now.lines, more_waits gains, w.1))
       by ReplyTooLong w = (new.waiting, now.lines, more_waits gains, w)
-      by TooMany w = (
-        w.0,
-        record {
-          behind = w.1;
-          lines = now.lines;
-          has = rw w.5 at (more_waits gains);
-          count = omega (arith, w.2, now.has.few, AllZip-long StandsFor now.lines rows now.read);
-          content = w.3;
-          short = w.4;
-        },
-      )
       by _ w = absurd w
 
-  -- the end mark was taken
-  pub rows_end : (new : Place) (more : List ℕ) → Drew here.link new.link more → GoesOn here.link new.link → here.waiting ++ more ≡ ended dot ++ new.waiting
-      → TakesRows turn StandsFor old (Ok rows) new
-  rows_end new more drew onward heard = (
-    now.lines,
-    record {
-      gained = now.gained ++ more;
-      drew = drew_on now.drew drew;
-      goes_on = goes_further now.goes_on onward;
-      content = now.has.content;
-      fit = by_listing (λ t. AllByRecursion (IsRow t) now.lines → LinesFit t now.lines) (λ rows. (now.has.few, now.has.short, rows)) (λ rows. (now.has.few, now.has.short, rows)) turn now.has.listing now.has.rows;
-      heard = append_on old.waiting now.gained (flat_map ended now.lines) here.waiting more now.has.whole ∙ simp (heard, append_assoc);
-    },
-    now.read,
-  )
+  -- the end mark waits: it is taken
+  pub rows_end : {n : ℕ} → HasLine line_limit here.waiting n → take n here.waiting ≡ dot → TakesRows turn StandsFor old (Ok rows) (at here.link (drop (n + 2) here.waiting))
+  rows_end {n} has is =
+      let waits : here.waiting ≡ ended dot ++ drop (n + 2) here.waiting = (line_at has).1 ∙ ap (λ (l : List ℕ). ended l ++ drop (n + 2) here.waiting) is in (
+        now.lines,
+        record {
+          gained = now.gained;
+          drew = now.drew;
+          goes_on = now.goes_on;
+          content = now.has.content;
+          fit = by_listing (λ t. AllByRecursion (IsRow t) now.lines → LinesFit t now.lines) (λ rows. (now.has.few, now.has.short, rows)) (λ rows. (now.has.few, now.has.short, rows)) turn now.has.listing now.has.rows;
+          heard = now.has.whole ∙ ap (λ (l : List ℕ). flat_map ended now.lines ++ l) waits ∙ simp append_assoc;
+        },
+        now.read,
+      )
 
 part_of_body : (bytes : List ℕ) (turn : Turn) → IsListing turn → IsPartOfListing turn bytes → IsPartOfBody turn bytes
 part_of_body bytes = by_listing (λ (turn : Turn). IsPartOfListing turn bytes → IsPartOfBody turn bytes) (λ part. part) (λ part. part)
-
--- the next row of a listing is the next line of its reply
-next_line_of : (turn : Turn) (bytes after row : List ℕ) (rows : ℕ) → BeginsPositive bytes after → RowBehind turn after row rows → NextLine turn bytes row rows
-next_line_of turn bytes after row rows begins there = record {
-  after = after;
-  behind = there.behind;
-  lines = there.lines;
-  begins = begins;
-  has = there.has;
-  count = there.count;
-  content = there.content;
-  short = there.short;
-}
 
 -- why a listing isn't good, as a cause of its whole reply
 cause_of_rows : (fault : ClientFault) (turn : Turn) (old new : Link) (bytes after used : List ℕ) → BeginsPositive bytes after → IsListing turn
@@ -493,9 +479,9 @@ cause_of_rows : (fault : ClientFault) (turn : Turn) (old new : Link) (bytes afte
 cause_of_rows ConnectionEnded turn old new bytes after used begins listing why = ((why.0, inr (after, begins, part_of_body after turn listing why.1)), tt)
 cause_of_rows ReadFailed turn old new bytes after used begins listing why = ((why.0, inr (after, begins, part_of_body after turn listing why.1)), tt)
 cause_of_rows ReplyTooLong turn old new bytes after used begins listing why = (inr (after, why.0, why.1, begins, why.2, why.3), tt)
-cause_of_rows BadListing turn old new bytes after used begins listing why = ((why.0, why.1, next_line_of turn bytes after why.0 why.1 begins why.2, why.3, why.4), tt)
-cause_of_rows TooMany turn old new bytes after used begins listing why = (inr (why.0, next_line_of turn bytes after why.0 message_limit begins why.1), tt)
-cause_of_rows NoMemory turn old new bytes after used begins listing why = ((why.0, why.1, next_line_of turn bytes after why.0 why.1 begins why.2, why.3, why.4), tt)
+cause_of_rows BadListing turn old new bytes after used begins listing why = ((why.0, why.1, (after, begins, why.2), why.3, why.4), tt)
+cause_of_rows TooMany turn old new bytes after used begins listing why = (inr (why.0, (after, begins, why.1)), tt)
+cause_of_rows NoMemory turn old new bytes after used begins listing why = ((why.0, why.1, (after, begins, why.2), why.3, why.4), tt)
 cause_of_rows _ turn old new bytes after used begins listing why = absurd why
 
 -- a listing was asked for, and its rows taken or not

@@ -57,15 +57,17 @@ abbrev pub IsOverlong : List ℕ → Type 0
 IsOverlong bytes = HasNoLine line_limit bytes × (line_limit ≤ length bytes)
 
 -- a line after this many good rows of a listing
-pub record NextLine (turn : Turn) (bytes row : List ℕ) (rows : ℕ) : Type 0 where
-  pub after : List ℕ
+pub record RowBehind (turn : Turn) (after row : List ℕ) (rows : ℕ) : Type 0 where
   pub behind : List ℕ
   pub lines : List (List ℕ)
-  pub begins : BeginsPositive bytes after
   pub has : HasRows turn after (ended row ++ behind) lines
   pub count : length lines ≡ rows
   pub content : IsContent row
   pub short : IsShort row
+
+-- the same behind a positive first line
+abbrev pub NextLine : Turn → List ℕ → List ℕ → ℕ → Type 0
+NextLine turn bytes row rows = (after : List ℕ) × BeginsPositive bytes after × RowBehind turn after row rows
 
 -- the first line, if it is whole
 pub record FirstLine (bytes line : List ℕ) : Type 0 where

@@ -1,11 +1,10 @@
 -- The rows of listings, and how two listings are joined with STAT's count (RFC 1939, sections 5 and 7).
-use Rattle.std.specs.Prelude.{◌≡◌, ◌≢◌, ◌⊎◌, ◌<◌, ◌≤◌, ℕ, true, List, [], ◌∷◌, ◌++◌, length, take, Option, None, Some, Result, Ok, Err}
+use Rattle.std.specs.Prelude.{◌≡◌, ◌⊎◌, ◌<◌, ℕ, true, List, [], ◌∷◌, ◌++◌, Result, Ok, Err}
 use Rattle.std.specs.List.{AllByRecursion, AllZip}
-use Rattle.pop3_wire.specs.Line.{ended}
-use Rattle.pop3_wire.specs.Body.{IsContent, body_of, dot}
+use Rattle.pop3_wire.specs.Body.{IsContent, body_of}
 use Rattle.pop3_wire.specs.Reading.{WholeReply, IsUidLine, IsScanLine, HasListing}
 use Rattle.pop3_wire.specs.Link.{Link}
-use Rattle.pop3_wire.specs.Place.{Place, GoesOn, Gains, HasLine}
+use Rattle.pop3_wire.specs.Place.{Place, GoesOn}
 use Rattle.pop3_wire.specs.Bodies.{Drew}
 use Rattle.mail_terms.specs.Listing.{Item, Agree, Joins, message_limit}
 use Rattle.mail_terms.specs.declared.listing.UidRow.{UidRow}
@@ -13,9 +12,9 @@ use Rattle.mail_terms.specs.declared.listing.ScanRow.{ScanRow}
 use Rattle.pop3_client.specs.declared.fault.ClientFault.{ClientFault}
 use Rattle.pop3_client.specs.declared.fault.ClientFault.TheVariants.{ConnectionEnded, ReadFailed, ReplyTooLong}
 use Rattle.pop3_client.specs.declared.fault.ClientFault.TheVariants.{BadListing, ListingsDisagree, TooMany, NoMemory}
-use Rattle.pop3_client.specs.Turns.{Turn, uidl, list, line_limit, IsShort, IsRow, LinesFit}
-use Rattle.pop3_client.specs.Causes.{IsPartOfListing, HasRows, IsOverlong}
-use Rattle.pop3_client.specs.Conversation.{NoLineCause, Talked, Stopped, Broke}
+use Rattle.pop3_client.specs.Turns.{Turn, uidl, list, IsRow, LinesFit}
+use Rattle.pop3_client.specs.Causes.{IsPartOfListing, HasRows, IsOverlong, RowBehind}
+use Rattle.pop3_client.specs.Conversation.{Talked, Stopped, Broke}
 
 -- both listings were asked for and taken, whole
 pub record Listed (old new : Place) (uids : List UidRow) (sizes : List ScanRow) : Type 0 where
@@ -36,32 +35,6 @@ GetsListing count old (Err fault) new = Stopped (uidl ∷ list ∷ []) old new f
     ⊎ ((fault ≡ NoMemory) × ((uids : List UidRow) × (sizes : List ScanRow) × Listed old new uids sizes))
 
 -- ---- the parts of a listing
-
--- why neither a row nor the end mark waits, after this many rows were taken
-abbrev pub RowCause : ClientFault → ℕ → Link → Link → List ℕ → Type 0
-RowCause ConnectionEnded rows old new bytes = NoLineCause ConnectionEnded old new bytes
-RowCause ReadFailed rows old new bytes = NoLineCause ReadFailed old new bytes
-RowCause ReplyTooLong rows old new bytes = IsOverlong bytes
-RowCause TooMany rows old new bytes = (row behind : List ℕ) × (message_limit ≤ rows) × IsContent row × IsShort row
-    × (bytes ≡ ended row ++ behind)
-RowCause _ rows old new bytes = ⊥
-
--- a row waits, or the end mark was taken, or why neither
-abbrev pub NextRow : ℕ → Place → Result (Option ℕ) ClientFault → Place → Type 0
-NextRow rows old (Ok None) new = (gained : List ℕ) × Drew old.link new.link gained × GoesOn old.link new.link
-    × (old.waiting ++ gained ≡ ended dot ++ new.waiting)
-NextRow rows old (Ok (Some n)) new = (gained : List ℕ) × Gains old new gained × GoesOn old.link new.link
-    × HasLine line_limit new.waiting n × (take n new.waiting ≢ dot)
-NextRow rows old (Err fault) new = (gained : List ℕ) × Gains old new gained × RowCause fault rows old.link new.link new.waiting
-
--- a row after this many others
-pub record RowBehind (turn : Turn) (after row : List ℕ) (rows : ℕ) : Type 0 where
-  pub behind : List ℕ
-  pub lines : List (List ℕ)
-  pub has : HasRows turn after (ended row ++ behind) lines
-  pub count : length lines ≡ rows
-  pub content : IsContent row
-  pub short : IsShort row
 
 -- why a listing isn't good, given the octets after its first line
 abbrev pub RowsCause : ClientFault → Turn → Link → Link → List ℕ → Type 0

@@ -1,4 +1,7 @@
 //! What a client asks for, and what can go wrong in a conversation.
+ghost use Rattle.std.specs.Prelude.{◌≡◌};
+ghost use Rattle.pop3_client.specs.declared.fault.ClientFault.TheVariants.{NoMemory};
+
 use std::alloc::{AllocError, AllocFailed};
 
 /// What a reply answers.
@@ -54,9 +57,6 @@ pub enum ClientFault {
 }
 
 impl From<AllocError> for ClientFault {
-    ghost use Rattle.std.specs.Prelude.{◌≡◌};
-    ghost use Rattle.pop3_client.specs.declared.fault.ClientFault.TheVariants.{NoMemory};
-
     ghost from_gives = { λ _ e. e ≡ NoMemory };
 
     fn from(_error: AllocError) -> ClientFault {
@@ -65,9 +65,6 @@ impl From<AllocError> for ClientFault {
 }
 
 impl<T: Drop> From<AllocFailed<T>> for ClientFault {
-    ghost use Rattle.std.specs.Prelude.{◌≡◌};
-    ghost use Rattle.pop3_client.specs.declared.fault.ClientFault.TheVariants.{NoMemory};
-
     ghost from_gives = { λ _ e. e ≡ NoMemory };
 
     fn from(_error: AllocFailed<T>) -> ClientFault {

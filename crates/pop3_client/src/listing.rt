@@ -1,13 +1,11 @@
 //! The listings of unique-ids and of sizes (RFC 1939, sections 5 and 7).
-ghost use Rattle.std.specs.Prelude.{◌≡◌, ◌≤◌, ◌<◌, ◌⊎◌, ℕ, List, All, IfOk, IfErr, IfSome};
+ghost use Rattle.std.specs.Prelude.{◌≡◌, ◌≤◌, ◌⊎◌, ℕ, List, All, IfOk, IfErr};
 ghost use Rattle.mail_terms.specs.Listing.{Agree, Joins, message_limit};
 ghost use Rattle.mail_terms.specs.UniqueId.{IsLegalId};
 ghost use Rattle.pop3_wire.specs.Bodies.{items_of};
-ghost use Rattle.pop3_wire.specs.Place.{HasLine};
 ghost use Rattle.pop3_wire.specs.Reading.{IsUidLine, IsScanLine};
 ghost use Rattle.pop3_client.specs.Client.{HasSameLink, CountsRefusals, WhereLinkSound};
-ghost use Rattle.pop3_client.specs.Turns.{line_limit};
-ghost use Rattle.pop3_client.specs.Listing.{NextRow, TakesRows, ListsRows, GetsListing};
+ghost use Rattle.pop3_client.specs.Listing.{TakesRows, ListsRows, GetsListing};
 
 use crate::client::Client;
 use crate::fault::ClientFault;
@@ -40,28 +38,8 @@ fn joined(
 }
 
 impl<'a, W: Wire> Client<'a, W> {
-    /// Waits for the next line of a listing of which `rows` rows were taken, and returns its
-    /// length; the line isn't taken yet. None at the end mark, which is taken. TooMany for a row
-    /// after the 100,000th.
-    fn next_row(&mut self, rows: usize) -> Result<Option<usize>, ClientFault>
-        ensures link { HasSameLink self.old self.new }
-        ensures counted { CountsRefusals W.Wire self.old result self.new }
-        ensures line { IfOk result (λ found. IfSome found (HasLine line_limit self.new.reader)) }
-        ensures few { IfOk result (λ found. IfSome found (λ n. rows < message_limit)) }
-        ensures next { WhereLinkSound W.Wire self.old self.new (λ old new. NextRow rows old result new) }
-    {
-        let length = self.next_line(false)?;
-        if is_end_mark(&self.reader.waiting()[..length]) {
-            self.reader.skip(length + 2);
-            return Ok(None);
-        }
-        if rows >= MESSAGE_LIMIT as usize {
-            return Err(ClientFault::TooMany);
-        }
-        Ok(Some(length))
-    }
-
-    /// Takes the rows of a listing, and checks each when it is whole.
+    /// Takes the rows of a listing and its end mark, and checks each row when it is whole. TooMany for
+    /// a row after the 100,000th.
     fn rows<R: ListedRow>(&mut self, alloc: Global) -> Result<Vec<R>, ClientFault>
         ensures link { HasSameLink self.old self.new }
         ensures counted { CountsRefusals W.Wire self.old result self.new }
@@ -71,9 +49,14 @@ impl<'a, W: Wire> Client<'a, W> {
     {
         let mut rows = Vec::new(alloc);
         'rows: loop {
-            let Some(length) = self.next_row(rows.len())? else {
+            let length = self.next_line(false)?;
+            if is_end_mark(&self.reader.waiting()[..length]) {
+                self.reader.skip(length + 2);
                 return Ok(rows);
-            };
+            }
+            if rows.len() >= MESSAGE_LIMIT as usize {
+                return Err(ClientFault::TooMany);
+            }
             let row = R::read(alloc, &self.reader.waiting()[..length])?;
             rows.push(row)?;
             self.reader.skip(length + 2);
@@ -94,6 +77,7 @@ impl<'a, W: Wire> Client<'a, W> {
 
     /// Asks for the unique-ids and the sizes (UIDL, LIST) of `count` messages. Each row is
     /// checked when it is whole; both listings have to agree with the count and with each other.
+    #[tactic(auto, using(crate::proofs::TalkLemmas::stopped_first))]
     pub fn list(&mut self, alloc: Global, count: u32) -> Result<Listing, ClientFault>
         requires { count ≤ message_limit }
         ensures link { HasSameLink self.old self.new }

@@ -1,6 +1,9 @@
 //! A row of a listing: UIDL's gives a unique-id, LIST's a size (RFC 1939, sections 5 and 7).
 ghost use Rattle.std.specs.Prelude.{◌≡◌, ◌⊎◌, ℕ, List, IfOk, IfErr};
-ghost use Rattle.pop3_client.specs.Turns.{Turn, IsListing, IsRow, Names, turn_bytes};
+ghost use Rattle.std.proofs.Common.{inl, inr, refl, ap, is_ok};
+ghost use Rattle.mail_terms.specs.UniqueId.{IsLegalId};
+ghost use Rattle.pop3_wire.specs.Reading.{IsScanLine, IsUidLine};
+ghost use Rattle.pop3_client.specs.Turns.{Turn, IsListing, IsRow, Names, list, turn_bytes, uidl};
 
 use crate::fault::{Asked, ClientFault};
 use mail_terms::{ScanRow, UidRow};
@@ -41,11 +44,6 @@ pub(crate) trait ListedRow: Drop {
 }
 
 impl ListedRow for UidRow {
-    ghost use Rattle.std.proofs.Common.{inl, refl, ap, is_ok};
-    ghost use Rattle.mail_terms.specs.UniqueId.{IsLegalId};
-    ghost use Rattle.pop3_wire.specs.Reading.{IsUidLine};
-    ghost use Rattle.pop3_client.specs.Turns.{uidl};
-
     ghost turn = { uidl };
 
     ghost stands_for = { IsUidLine };
@@ -77,10 +75,6 @@ impl ListedRow for UidRow {
 }
 
 impl ListedRow for ScanRow {
-    ghost use Rattle.std.proofs.Common.{inr, refl, ap, is_ok};
-    ghost use Rattle.pop3_wire.specs.Reading.{IsScanLine};
-    ghost use Rattle.pop3_client.specs.Turns.{list};
-
     ghost turn = { list };
 
     ghost stands_for = { IsScanLine };

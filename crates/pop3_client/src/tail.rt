@@ -9,6 +9,7 @@ use pop3_wire::Wire;
 
 impl<'a, W: Wire> Client<'a, W> {
     /// Unmarks what was marked as deleted (RSET).
+    #[tactic(auto, using(crate::proofs::TalkLemmas::asks_completes), unfolding(pop3_wire::specs::Commands::line_of))]
     fn reset(&mut self) -> Result<(), ClientFault>
         ensures link { HasSameLink self.old self.new }
         ensures counted { CountsRefusals W.Wire self.old result self.new }
@@ -19,6 +20,7 @@ impl<'a, W: Wire> Client<'a, W> {
 
     /// Leaves after a fault that isn't the conversation's own: sends RSET, so that no marked message is
     /// removed, and after a positive reply QUIT. It reads both replies, and allocates nothing.
+    #[tactic(auto, using(crate::proofs::TalkLemmas::stopped_first))]
     pub fn reset_and_quit(&mut self) -> Result<(), ClientFault>
         ensures link { HasSameLink self.old self.new }
         ensures counted { CountsRefusals W.Wire self.old result self.new }

@@ -1,6 +1,7 @@
 //! One turn of a conversation: a command is sent, and the first line of its reply is read
 //! (RFC 1939, section 3).
-ghost use Rattle.std.specs.Prelude.{◌≡◌, ◌≤◌, false, ℕ, List, take, IfOk};
+ghost use Rattle.std.specs.Prelude.{◌≡◌, ◌≤◌, true, false, ℕ, List, take, Some, IfOk, IfErr};
+ghost use Rattle.pop3_wire.specs.Commands.{can_be_sent};
 ghost use Rattle.pop3_wire.specs.Place.{Gains, HasLine};
 ghost use Rattle.pop3_wire.specs.Reply.{IsFirstLine};
 ghost use Rattle.pop3_client.specs.Client.{HasSameLink, CountsRefusals, WhereLinkSound, link_of};
@@ -15,9 +16,22 @@ use pop3_wire::{
     Command, LineFault, Note, Status, Wire, command_bytes, is_end_mark, read_stat, read_status,
 };
 use std::alloc::Global;
+use std::vec::Vec;
 
 /// The longest line of a reply in octets, its CR LF included.
 const LINE_LIMIT: usize = 2_048;
+
+/// The line of a command that can be sent, its CR LF included.
+pub(crate) fn command_line(alloc: Global, command: &Command) -> Result<Vec<u8>, ClientFault>
+    requires { can_be_sent command.now ≡ true }
+    ensures ok { IfOk result (λ line. line.items ≡ turn_bytes (Some command.now)) }
+    ensures err { IfErr result (λ fault. fault ≡ ClientFault.NoMemory) }
+{
+    match command_bytes(alloc, command) {
+        Ok(line) => Ok(line),
+        Err(_) => Err(ClientFault::NoMemory),
+    }
+}
 
 /// The number of messages that a positive first line gives. BadReply if it gives none, TooMany if
 /// it is above 100,000.
@@ -25,13 +39,11 @@ fn count_of(line: &[u8]) -> Result<u32, ClientFault>
     requires { (rest : List ℕ) × IsFirstLine line.now Status.Positive rest }
     ensures { GivesFew line.now result }
 {
-    let rest = match read_status(line) {
-        Ok((_, rest)) => rest,
-        Err(_) => return Err(ClientFault::BadReply),
+    let Ok((_, rest)) = read_status(line) else {
+        return Err(ClientFault::BadReply);
     };
-    let count = match read_stat(rest) {
-        Ok((count, _)) => count,
-        Err(_) => return Err(ClientFault::BadReply),
+    let Ok((count, _)) = read_stat(rest) else {
+        return Err(ClientFault::BadReply);
     };
     if count > MESSAGE_LIMIT {
         return Err(ClientFault::TooMany);
@@ -136,6 +148,7 @@ impl<'a, W: Wire> Client<'a, W> {
     }
 
     /// Takes the greeting.
+    #[tactic(auto, using(crate::proofs::TalkLemmas::nothing_said, crate::proofs::TalkLemmas::broke_there))]
     pub(crate) fn greet(&mut self) -> Result<(), ClientFault>
         ensures link { HasSameLink self.old self.new }
         ensures counted { CountsRefusals W.Wire self.old result self.new }
@@ -148,6 +161,7 @@ impl<'a, W: Wire> Client<'a, W> {
 
     /// Sends a command, and takes the first line of its reply. If the command is refused, the fault
     /// names it as `asked`. STAT isn't sent this way, since its first line has to give a count.
+    #[tactic(auto, using(crate::proofs::TalkLemmas::sent_for, crate::proofs::TalkLemmas::broke_there))]
     pub(crate) fn ask(&mut self, asked: Asked, bytes: &[u8]) -> Result<(), ClientFault>
         ensures link { HasSameLink self.old self.new }
         ensures counted { CountsRefusals W.Wire self.old result self.new }
@@ -170,29 +184,25 @@ impl<'a, W: Wire> Client<'a, W> {
     {
         self.say(b"STAT\r\n")?;
         let length = self.hear(Asked::Stat)?;
-        match count_of(&self.reader.waiting()[..length]) {
-            Ok(count) => {
-                self.reader.skip(length + 2);
-                Ok(count)
-            }
-            Err(fault) => Err(fault),
-        }
+        let count = count_of(&self.reader.waiting()[..length])?;
+        self.reader.skip(length + 2);
+        Ok(count)
     }
 
     /// Asks to mark a message as deleted (DELE). The line is made first, so that nothing has
     /// changed if memory runs out.
+    #[tactic(auto, using(crate::proofs::TalkLemmas::asks_completes))]
     pub fn delete(&mut self, alloc: Global, number: u32) -> Result<(), ClientFault>
         ensures link { HasSameLink self.old self.new }
         ensures counted { CountsRefusals W.Wire self.old result self.new }
         ensures completes { WhereLinkSound W.Wire self.old self.new (λ old new. Completes (dele number) old result new) }
     {
-        let Ok(line) = command_bytes(alloc, &Command::Dele(number)) else {
-            return Err(ClientFault::NoMemory);
-        };
+        let line = command_line(alloc, &Command::Dele(number))?;
         self.ask(Asked::Dele(number), &line)
     }
 
     /// Ends the session (QUIT). It allocates nothing.
+    #[tactic(auto, using(crate::proofs::TalkLemmas::asks_completes), unfolding(pop3_wire::specs::Commands::line_of))]
     pub fn quit(&mut self) -> Result<(), ClientFault>
         ensures link { HasSameLink self.old self.new }
         ensures counted { CountsRefusals W.Wire self.old result self.new }

@@ -3,31 +3,19 @@ ghost use Rattle.std.specs.Prelude.{◌≡◌, ◌≢◌, ◌≤◌, ℕ, List, 
 ghost use Rattle.pop3_wire.specs.declared.unstuffer.Spot.TheVariants.{Done};
 ghost use Rattle.pop3_wire.specs.Place.{Place};
 ghost use Rattle.pop3_client.specs.Client.{HasSameLink, CountsRefusals, WhereLinkSound, place_of};
-ghost use Rattle.pop3_client.specs.Turns.{turn_bytes, retr, text_limit};
+ghost use Rattle.pop3_client.specs.Turns.{retr, text_limit};
 ghost use Rattle.pop3_client.specs.Texts.{Fetching, Opens, TookPiece, FetchesPiece, TakesRest};
 
 use crate::client::Client;
 use crate::fault::{Asked, ClientFault};
-use pop3_wire::{BodyFault, BodyReader, Command, Note, PIECE_ROOM, Piece, Wire, command_bytes};
+use crate::talk::command_line;
+use pop3_wire::{BodyFault, BodyReader, Command, Note, PIECE_ROOM, Piece, Wire};
 use std::alloc::Global;
 
 /// The greatest body of RETR in octets, end mark included.
 const TEXT_LIMIT: usize = 268_435_456;
 
 impl<'a, W: Wire> Client<'a, W> {
-    /// Sends a line, and takes the first line of the reply.
-    fn open_by(&mut self, number: u32, line: &[u8]) -> Result<BodyReader, ClientFault>
-        ensures link { HasSameLink self.old self.new }
-        ensures counted { CountsRefusals W.Wire self.old result self.new }
-        ensures open { IfOk result (λ body. body.spot ≢ Done) }
-        ensures within { IfOk result (λ body. body.left ≤ text_limit) }
-        ensures opens { WhereLinkSound W.Wire self.old self.new
-            (λ old new. line.now ≡ turn_bytes (retr number) → Opens (retr number) old result new) }
-    {
-        self.ask(Asked::Retr(number), line)?;
-        Ok(BodyReader::new(TEXT_LIMIT))
-    }
-
     /// Asks for the text of a message (RETR), and takes the first line of the reply; `next_piece`
     /// takes the text. The line is made first, so that nothing has changed if memory runs out.
     pub fn open(&mut self, alloc: Global, number: u32) -> Result<BodyReader, ClientFault>
@@ -37,10 +25,9 @@ impl<'a, W: Wire> Client<'a, W> {
         ensures within { IfOk result (λ body. body.left ≤ text_limit) }
         ensures opens { WhereLinkSound W.Wire self.old self.new (λ old new. Opens (retr number) old result new) }
     {
-        let Ok(line) = command_bytes(alloc, &Command::Retr(number)) else {
-            return Err(ClientFault::NoMemory);
-        };
-        self.open_by(number, &line)
+        let line = command_line(alloc, &Command::Retr(number))?;
+        self.ask(Asked::Retr(number), &line)?;
+        Ok(BodyReader::new(TEXT_LIMIT))
     }
 
     /// Takes one more piece of a text, and puts what it adds to the text into the buffer. It

@@ -1,11 +1,8 @@
-use Rattle.std.proofs.Common.{rules, take, sym, ◌∙◌}
+use Rattle.std.proofs.Common.{take, sym, ◌∙◌}
 use Rattle.std.proofs.lemmas.Bool.{false≢true}
 use Rattle.pop3_client.specs.Client.{place_of}
-use Rattle.pop3_client.proofs.TalkLemmas.{and_then, sent_for, opened, broke_there}
+use Rattle.pop3_client.proofs.TalkLemmas.{and_then, opened}
 use Rattle.pop3_client.proofs.client.Client.ask.Goals as goal
-
-pub returns-in_err-length-clause-asks : goal.returns-in_err-length-clause-asks
-returns-in_err-length-clause-asks g c = search (rules, sent_for, broke_there)
 
 pub returns-clause-asks : goal.returns-clause-asks
 returns-clause-asks g c =

@@ -3,7 +3,7 @@ use Rattle.pop3_wire.specs.Place.{at}
 use Rattle.pop3_client.specs.Client.{place_of}
 use Rattle.pop3_client.specs.Turns.{stat}
 use Rattle.pop3_client.specs.Conversation.{GivesFew}
-use Rattle.pop3_client.proofs.TalkLemmas.{and_then, stat_bytes, sent_for, opened, broke_saying, broke_there, few_heard, talked_line}
+use Rattle.pop3_client.proofs.TalkLemmas.{is_err, and_then, stat_bytes, sent_for, opened, broke_saying, broke_there, few_heard, talked_line}
 use Rattle.pop3_client.proofs.client.Client.count.Goals as goal
 
 pub returns-in_err-say-clause-counts : goal.returns-in_err-say-clause-counts
@@ -12,23 +12,24 @@ returns-in_err-say-clause-counts g c = search (rules, stat_bytes, broke_saying)
 pub returns-in_err-length-clause-counts : goal.returns-in_err-length-clause-counts
 returns-in_err-length-clause-counts g c = search (rules, stat_bytes, sent_for, broke_there)
 
-pub returns-in-Ok-clause-counts : goal.returns-in-Ok-clause-counts
-returns-in-Ok-clause-counts g c =
+pub returns-clause-counts : goal.returns-clause-counts
+returns-clause-counts g c =
     let old = place_of g.W.Wire c.args.self.now in
     let here = place_of g.W.Wire c.hear.new.self in
-    let gives = rw c.waiting.ensures.value at c.in-Ok.ensures in
+    let gives = rw c.waiting.ensures.value at c.in_ok-count.ensures in
     and_then g.W.Wire g.met.W.Wire.leads_on c.in_ok-say.ensures.sent c.in_ok-length.ensures.heard (λ said hears.
     let heard = rw c.in_ok-say.ensures.silent at (hears stat refl) in
-    let begun = opened {old = old} stat said stat_bytes (heard.0, heard.1, heard.2, heard.3, (gives.0, gives.2)) (λ is. (c.in-Ok.count, gives.1, gives.3, gives.4)) in (
+    let begun = opened {old = old} stat said stat_bytes (heard.0, heard.1, heard.2, heard.3, (gives.0, gives.2)) (λ is. (c.in_ok-count.count, gives.1, gives.3, gives.4)) in (
       record { first = take c.in_ok-length.length here.waiting; body = None },
       talked_line stat _ old (at here.link c.skip.new.self) (rw (← c.skip.ensures) at begun) refl,
       (gives.0, gives.1, gives.2, gives.3),
     ))
 
-pub returns-in-Err-clause-counts : goal.returns-in-Err-clause-counts
-returns-in-Err-clause-counts g c =
+pub returns-in_err-count-clause-counts : goal.returns-in_err-count-clause-counts
+returns-in_err-count-clause-counts g c =
     let old = place_of g.W.Wire c.args.self.now in
-    and_then g.W.Wire g.met.W.Wire.leads_on c.in_ok-say.ensures.sent c.in_ok-length.ensures.heard (λ said hears.
+    let fault = c.in_err-count.field-0.0 in
+    rw (is_err c.from_residual-in_err-count.result c.from_residual-in_err-count.ensures.1) (and_then g.W.Wire g.met.W.Wire.leads_on c.in_ok-say.ensures.sent c.in_ok-length.ensures.heard (λ said hears.
     let heard = rw c.in_ok-say.ensures.silent at (hears stat refl) in
-    broke_there stat old _ (place_of g.W.Wire c.hear.new.self) c.in-Err.fault (sent_for stat old.link _ _ said stat_bytes)
-    (few_heard heard.1 heard.2 c.in-Err.fault (subst (λ (l : List ℕ). GivesFew (take c.in_ok-length.length l) (Err c.in-Err.fault)) c.waiting.ensures.value c.in-Err.ensures)))
+    broke_there stat old _ (place_of g.W.Wire c.hear.new.self) fault (sent_for stat old.link _ _ said stat_bytes)
+    (few_heard heard.1 heard.2 fault (subst (λ (l : List ℕ). GivesFew (take c.in_ok-length.length l) (Err fault)) c.waiting.ensures.value c.in_err-count.ensures))))

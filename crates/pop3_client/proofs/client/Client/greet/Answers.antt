@@ -1,12 +1,9 @@
-use Rattle.std.proofs.Common.{rules, take, refl}
+use Rattle.std.proofs.Common.{take, refl}
 use Rattle.std.proofs.lemmas.Bool.{false≢true}
 use Rattle.pop3_client.specs.Client.{place_of}
 use Rattle.pop3_client.specs.Turns.{greeting}
-use Rattle.pop3_client.proofs.TalkLemmas.{in_words, opened, broke_there, nothing_said}
+use Rattle.pop3_client.proofs.TalkLemmas.{in_words, opened, nothing_said}
 use Rattle.pop3_client.proofs.client.Client.greet.Goals as goal
-
-pub returns-in_err-length-clause-asks : goal.returns-in_err-length-clause-asks
-returns-in_err-length-clause-asks g c = search (rules, broke_there, nothing_said)
 
 pub returns-clause-asks : goal.returns-clause-asks
 returns-clause-asks g c =

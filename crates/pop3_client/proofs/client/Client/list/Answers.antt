@@ -1,10 +1,6 @@
-use Rattle.std.proofs.Common.{rules}
 use Rattle.pop3_client.specs.Client.{place_of}
-use Rattle.pop3_client.proofs.TalkLemmas.{and_then, stopped_first, listed, lists_joined}
+use Rattle.pop3_client.proofs.TalkLemmas.{and_then, listed, lists_joined}
 use Rattle.pop3_client.proofs.client.Client.list.Goals as goal
-
-pub returns-in_err-uids-clause-lists : goal.returns-in_err-uids-clause-lists
-returns-in_err-uids-clause-lists g c = search (rules, stopped_first)
 
 pub returns-clause-lists : goal.returns-clause-lists
 returns-clause-lists g c =

@@ -1,11 +1,8 @@
-use Rattle.std.proofs.Common.{rules, ◌∷◌, []}
+use Rattle.std.proofs.Common.{◌∷◌, []}
 use Rattle.pop3_client.specs.Client.{place_of}
 use Rattle.pop3_client.specs.Turns.{rset, quit}
-use Rattle.pop3_client.proofs.TalkLemmas.{and_then, stopped_first, completes_talks, completes_then}
+use Rattle.pop3_client.proofs.TalkLemmas.{and_then, completes_talks, completes_then}
 use Rattle.pop3_client.proofs.client.Client.reset_and_quit.Goals as goal
-
-pub returns-in_err-reset-clause-talks : goal.returns-in_err-reset-clause-talks
-returns-in_err-reset-clause-talks g c = search (rules, stopped_first)
 
 pub returns-clause-talks : goal.returns-clause-talks
 returns-clause-talks g c = and_then g.W.Wire g.met.W.Wire.leads_on c.in_ok-reset.ensures.completes c.quit.ensures.completes (λ first second.

@@ -1,12 +1,12 @@
-use Rattle.std.proofs.Common.{refl}
+use Rattle.std.proofs.Common.{refl, ◌∙◌}
 use Rattle.pop3_client.specs.Client.{place_of}
 use Rattle.pop3_client.specs.Turns.{retr}
 use Rattle.pop3_client.proofs.TalkLemmas.{in_words}
-use Rattle.pop3_client.proofs.client.Client.open_by.Goals as goal
+use Rattle.pop3_client.proofs.client.Client.open.Goals as goal
 
 pub returns-clause-opens : goal.returns-clause-opens
 returns-clause-opens g c =
     let mid = place_of g.W.Wire c.ask.new.self in
-    in_words g.W.Wire c.in_ok-ask.ensures.asks (λ asks is.
-    let begun = asks (retr c.args.number) refl refl is in
+    in_words g.W.Wire c.in_ok-ask.ensures.asks (λ asks.
+    let begun = asks (retr c.args.number) refl refl (c.deref.ensures.value ∙ c.in_ok-line.ensures.ok) in
     record { line = begun.0; mid = mid; opened = begun.1; under = c.new.ensures.starts mid })
