@@ -32,16 +32,10 @@ impl ListedFile {
     pub fn of(found: MailFile, size: u64) -> ListedFile
         ensures { result ≡ record { folder = found.folder; name = found.name; stamp = found.stamp; size = size } }
     {
-        let MailFile {
-            folder,
-            name,
-            stamp,
-            ..
-        } = found;
         ListedFile {
-            folder,
-            name,
-            stamp,
+            folder: found.folder,
+            name: found.name,
+            stamp: found.stamp,
             size,
         }
     }

@@ -5,7 +5,7 @@ ghost use Rattle.std.specs.String.{string_bytes};
 ghost use Rattle.mail_terms.specs.Distinct.{AreDistinct};
 ghost use Rattle.mail_terms.specs.FailureCount.{Tallies, counted_up, refuses};
 ghost use Rattle.pop3_server.specs.Maildrop.{is_refusal};
-ghost use Rattle.folder_drop.specs.RealMaildir.{mail_of, uid_of, ListsNames};
+ghost use Rattle.folder_drop.specs.RealMaildir.{RealMaildir, mail_of, names_of, uid_of, ListsNames};
 
 mod listing;
 mod texts;
@@ -52,9 +52,6 @@ pub(crate) struct OpenText<F: Drop> {
 }
 
 impl<'a, R: Files + AllocGlobal + Clone + Drop> Model for MaildirDrop<'a, R> {
-    ghost use Rattle.std.specs.String.{string_bytes};
-    ghost use Rattle.folder_drop.specs.RealMaildir.{RealMaildir, names_of};
-
     ghost Value = { RealMaildir };
 
     ghost view = { λ d. record {
@@ -108,10 +105,7 @@ impl<'a, R: Files + Clock + RandomSource + AllocGlobal + Clone + Drop> MaildirDr
 
     /// The path of the file or folder that couldn't be read, if that made a listing fail.
     pub fn unread(&self) -> Option<&str> {
-        match &self.unread {
-            Some(path) => Some(path.as_str()),
-            None => None,
-        }
+        self.unread.as_deref()
     }
 
     /// The path of what was refused last, unless memory ran out.

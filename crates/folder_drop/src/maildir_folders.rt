@@ -1,6 +1,6 @@
 //! The two folders of a Maildir whose files are messages, and where such a file is now: mail software
 //! moves files from `new` to `cur` and changes their flags while they are served.
-ghost use Rattle.std.specs.Prelude.{◌≡◌};
+ghost use Rattle.std.specs.Prelude.{◌≡◌, ℕ, List};
 ghost use Rattle.std.specs.String.{string_bytes};
 
 use crate::folders_look::FoldersLook;
@@ -35,9 +35,6 @@ pub struct MaildirFolders<'a, R: Files + AllocGlobal + Clone + Drop> {
 }
 
 impl<'a, R: Files + AllocGlobal + Clone + Drop> Model for MaildirFolders<'a, R> {
-    ghost use Rattle.std.specs.Prelude.{ℕ, List};
-    ghost use Rattle.std.specs.String.{string_bytes};
-
     ghost Value = { List ℕ };
 
     ghost view = { λ f. string_bytes f.path };
@@ -55,8 +52,7 @@ impl<'a, R: Files + Clock + AllocGlobal + Clone + Drop> MaildirFolders<'a, R> {
     pub fn into_path(self) -> String
         ensures { string_bytes result ≡ self.entry }
     {
-        let MaildirFolders { path, .. } = self;
-        path
+        self.path
     }
 
     /// The path of a folder.

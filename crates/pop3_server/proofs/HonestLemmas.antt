@@ -16,7 +16,7 @@ use Rattle.pop3_wire.specs.Body.{dot, IsContent, unstuffed}
 use Rattle.pop3_wire.specs.Fields.{number_and_size, number_and_id}
 use Rattle.pop3_wire.specs.World.{Message, IsMessage}
 use Rattle.pop3_wire.specs.Honest.{SaysAnything, FirstLinesAreRead, IsUnmarked, unmarked_from, IsScanRow, IsUidRow, ListsAll, Reply, no_marks, Honest, Grants, Replies}
-use Rattle.pop3_wire.specs.Rows.{NumbersAreRead, ScanRowsAreRead, UidRowsAreRead, scan_row}
+use Rattle.pop3_wire.specs.Rows.{ScanRowsAreRead, UidRowsAreRead, scan_row}
 use Rattle.pop3_server.specs.declared.rows.MessageRow.{MessageRow}
 use Rattle.pop3_server.proofs.RemovalLemmas.{none_gone, left_by_quit}
 use Rattle.pop3_server.proofs.RowLemmas.{row_with, rows_with}
@@ -34,9 +34,13 @@ use Rattle.pop3_server.specs.AnswersLines.{AnswersLines}
 use Rattle.pop3_server.proofs.SlotLemmas.{there_map}
 use Rattle.pop3_server.specs.HonestLoop.{GivesHonest}
 
--- the laws of the wire on what a server writes
-abbrev pub Written : Type 0
-Written = record { first : FirstLinesAreRead; numbers : NumbersAreRead; scan : ScanRowsAreRead; uid : UidRowsAreRead }
+-- the laws of the wire on what is written
+pub record Laws : Type 0 where
+  pub first : FirstLinesAreRead
+  pub scan : ScanRowsAreRead
+  pub uid : UidRowsAreRead
+  pub stuffed : StuffedIsBody
+  pub read : ReadAsWritten
 
 -- ---- messages that PASS listed
 
@@ -119,11 +123,11 @@ no_lf_decimal = decimal_by_steps (λ _ digits. HoldsNoLf digits) (λ n small. di
     digit : (n : ℕ) → n < 10 → HoldsNoLf ((48 + n) ∷ [])
     digit n small = grind (arith, nat_tests)
 
-pub refused : Written → (ms : List Message) (bs : List Bool) (c : Command) (answer after : List ℕ) → answer ≡ said (codes "-ERR" ++ after) → HoldsNoLf after → Reply ms bs c answer bs
-refused written ms bs c answer after is none = inl (rw is (_, written.first Negative after none), refl)
+pub refused : Laws → (ms : List Message) (bs : List Bool) (c : Command) (answer after : List ℕ) → answer ≡ said (codes "-ERR" ++ after) → HoldsNoLf after → Reply ms bs c answer bs
+refused laws ms bs c answer after is none = inl (rw is (_, laws.first Negative after none), refl)
 
-pub granted : Written → (answer after : List ℕ) → answer ≡ said (codes "+OK" ++ after) → HoldsNoLf after → SaysAnything Positive answer
-granted written answer after is none = rw is (_, written.first Positive after none)
+pub granted : Laws → (answer after : List ℕ) → answer ≡ said (codes "+OK" ++ after) → HoldsNoLf after → SaysAnything Positive answer
+granted laws answer after is none = rw is (_, laws.first Positive after none)
 
 -- ---- listings
 
@@ -142,25 +146,25 @@ rows_content line IsRow good k (m ∷ ms) (false ∷ bs) few all =
     let more = rows_content line IsRow good (k + 1) ms bs (omega arith) all.1 in
     (line k (row_with m false) ∷ more.0, ap (λ (l : List ℕ). said (line k (row_with m false)) ++ l) more.1, (one.0, more.2), (one.1, more.3))
 
-pub scan_rows : Written → GoodRows scan_line IsScanRow
-scan_rows written k m few served =
-    let row = written.scan k m.size few (omega (arith, served.within)) in
+pub scan_rows : Laws → GoodRows scan_line IsScanRow
+scan_rows laws k m few served =
+    let row = laws.scan k m.size few (omega (arith, served.within)) in
     (row.0.0, ap number_and_size row.0.1 ∙ row.1)
 
-pub uid_rows : Written → GoodRows uid_line IsUidRow
-uid_rows written k m few served =
-    let row = written.uid k m.uid few served.is_message.legal in
+pub uid_rows : Laws → GoodRows uid_line IsUidRow
+uid_rows laws k m few served =
+    let row = laws.uid k m.uid few served.is_message.legal in
     (row.0.0, ap number_and_id row.0.1 ∙ row.1)
 
-pub lists_all : Written → (line : ℕ → MessageRow → List ℕ) (IsRow : ℕ × Message → List ℕ → Type 0) → GoodRows line IsRow → (ms : List Message) (bs : List Bool) (answer : List ℕ) → AreServed ms → answer ≡ listed line (rows_with ms bs)
+pub lists_all : Laws → (line : ℕ → MessageRow → List ℕ) (IsRow : ℕ × Message → List ℕ → Type 0) → GoodRows line IsRow → (ms : List Message) (bs : List Bool) (answer : List ℕ) → AreServed ms → answer ≡ listed line (rows_with ms bs)
     → (first body : List ℕ) × (answer ≡ first ++ body) × SaysAnything Positive first × ListsAll IsRow ms bs body × (bs ≡ bs)
-lists_all written line IsRow good ms bs answer served is =
+lists_all laws line IsRow good ms bs answer served is =
     let few : length ms ≤ 100000 = served.few in
     let rows = rows_content line IsRow good 1 ms bs (omega arith) served.served in (
       said (codes "+OK"),
       lines_from line 1 (rows_with ms bs) ++ ended dot,
       is ∙ append_assoc (codes "+OK" ++ crlf) (lines_from line 1 (rows_with ms bs)) (ended dot),
-      granted written (said (codes "+OK")) [] refl refl,
+      granted laws (said (codes "+OK")) [] refl refl,
       record {
         lines = rows.0;
         content = rows.2;
@@ -173,12 +177,6 @@ lists_all written line IsRow good ms bs answer served is =
     )
 
 -- ---- each answer of the server to a command of a session is an honest reply, and so are all of them in order
-
--- the laws of the wire on what is written
-pub record Laws : Type 0 where
-  pub written : Written
-  pub stuffed : StuffedIsBody
-  pub read : ReadAsWritten
 
 -- the server's state with these messages, if these are marked
 abbrev pub IsStateWith : List Message → State → Mail → List Bool → Type 0
@@ -219,14 +217,14 @@ module _ (laws : Laws) {D : Type 0} (sound : D → Type 0) (mail : D → Mail) (
   says_no : {marks : List Bool} {c : Command} {state : State} (after : List ℕ) → (answer ≡ said (codes "-ERR" ++ after)) × (next ≡ state) × (new ≡ old)
       → HoldsNoLf after → IsStateWith ms state (mail old) marks → is_open state ≡ true → Replied ms marks c answer next (mail new)
   says_no {marks} {c} after does none stands opened =
-      replies marks does.1 (ap mail does.2) (refused laws.written ms marks c answer after does.0 none) stands (inl opened)
+      replies marks does.1 (ap mail does.2) (refused laws ms marks c answer after does.0 none) stands (inl opened)
 
   -- a line that says yes, if no more is asked for
   says_yes : {marks : List Bool} {c : Command} {state : State} (after_marks : List Bool) (after : List ℕ) → (answer ≡ said (codes "+OK" ++ after)) × (next ≡ state) × (new ≡ old)
       → HoldsNoLf after → (SaysAnything Positive answer → Grants ms marks c answer after_marks) → IsStateWith ms state (mail old) after_marks
       → (is_open state ≡ true) ⊎ (c ≡ Quit) → Replied ms marks c answer next (mail new)
   says_yes after_marks after does none grants stands closes =
-      replies after_marks does.1 (ap mail does.2) (inr (grants (granted laws.written answer after does.0 none))) stands closes
+      replies after_marks does.1 (ap mail does.2) (inr (grants (granted laws answer after does.0 none))) stands closes
 
   -- ---- AUTHORIZATION
 
@@ -234,13 +232,13 @@ module _ (laws : Laws) {D : Type 0} (sound : D → Type 0) (mail : D → Mail) (
       → Does sound mail (cond right Open (Say (said (codes "-ERR refused")) (Authorization None))) old answer next new → Replied ms (no_marks ms) (Pass word) answer next (mail new)
   passed word false same does = says_no (codes " refused") does refl (same, refl) refl
   passed word true same (inl (is, state, known)) =
-      replies (no_marks ms) state (known s).1 (refused laws.written ms (no_marks ms) (Pass word) answer (codes " maildrop unavailable") is refl) (same, refl) (inl refl)
+      replies (no_marks ms) state (known s).1 (refused laws ms (no_marks ms) (Pass word) answer (codes " maildrop unavailable") is refl) (same, refl) (inl refl)
   passed word true same (inr (rows, limits, is, state, known)) =
       let drop = (known s).1 in
       let same_rows : rows ≡ map row_of ms = drop.1 ∙ ap (map row_of) same in
       let few : length rows ≤ 100000 = limits.few in
       let none : HoldsNoLf (32 ∷ (decimal (length rows) ++ codes " messages")) = simp (list_all-append, no_lf_decimal (length rows) (omega arith)) in
-      replies (no_marks ms) state drop.0 (inr (granted laws.written answer (32 ∷ (decimal (length rows) ++ codes " messages")) is none, refl))
+      replies (no_marks ms) state drop.0 (inr (granted laws answer (32 ∷ (decimal (length rows) ++ codes " messages")) is none, refl))
       (ap (map Some) same, length-map ms _, same_rows ∙ fresh_rows ms, are_served ms rows messages limits same_rows) (inl refl)
 
   in_auth : (user pass : List ℕ) (kept : Option (List ℕ)) (c : Command) → there (mail old).slots ≡ ms → Does sound mail (in_authorization user pass kept c) old answer next new
@@ -259,7 +257,7 @@ module _ (laws : Laws) {D : Type 0} (sound : D → Type 0) (mail : D → Mail) (
     gave : (k : ℕ) (m : Message) → IsUnmarked ms marks k m → slice_get (map Some ms) (k - 1) ≡ Some (Some m) → IsServed m
         → Does sound mail (Give (rows_with ms marks) (k - 1) (said (octets_line (row_with m false))) None) old answer next new → Replied ms marks (Retr k) answer next (mail new)
     gave k m at slot served (state, inl (is, known)) =
-        replies marks state (known s).1 (refused laws.written ms marks (Retr k) answer (codes " message unavailable") is refl) stands (inl refl)
+        replies marks state (known s).1 (refused laws ms marks (Retr k) answer (codes " message unavailable") is refl) stands (inl refl)
     gave k m at slot served (state, inr (text, is, known)) =
         let drop = (known s).1 in
         let found = rw stands.0 at drop.1.1 in
@@ -271,7 +269,7 @@ module _ (laws : Laws) {D : Type 0} (sound : D → Type 0) (mail : D → Mail) (
           stuffed_lines (lines_of_text text),
           m,
           is,
-          granted laws.written (said (octets_line (row_with m false))) (32 ∷ (decimal m.size ++ codes " octets")) refl none,
+          granted laws (said (octets_line (row_with m false))) (32 ∷ (decimal m.size ++ codes " octets")) refl none,
           at,
           rw words (rw (whole_stays m.text served.is_message.whole) at (laws.stuffed m.text)),
           refl,
@@ -290,8 +288,8 @@ module _ (laws : Laws) {D : Type 0} (sound : D → Type 0) (mail : D → Mail) (
         replies marks does.1 (ap mail does.2) (inr (
           scan_row count total,
           total,
-          rw does.0 (laws.written.first Positive (32 ∷ scan_row count total) none),
-          (laws.written.scan count total small (omega arith)).1 ∙ ap (λ n. Ok (n, total)) left.0,
+          rw does.0 (laws.first Positive (32 ∷ scan_row count total) none),
+          (laws.scan count total small (omega arith)).1 ∙ ap (λ n. Ok (n, total)) left.0,
           refl,
         )) stands (inl refl)
 
@@ -300,9 +298,9 @@ module _ (laws : Laws) {D : Type 0} (sound : D → Type 0) (mail : D → Mail) (
     in_trans (Pass word) asked does = says_no (codes " not now") does refl stands refl
     in_trans Stat asked does = stated does
     in_trans UidlAll asked does =
-        replies marks does.1 (ap mail does.2) (inr (lists_all laws.written uid_line IsUidRow (uid_rows laws.written) ms marks answer stands.3 does.0)) stands (inl refl)
+        replies marks does.1 (ap mail does.2) (inr (lists_all laws uid_line IsUidRow (uid_rows laws) ms marks answer stands.3 does.0)) stands (inl refl)
     in_trans ListAll asked does =
-        replies marks does.1 (ap mail does.2) (inr (lists_all laws.written scan_line IsScanRow (scan_rows laws.written) ms marks answer stands.3 does.0)) stands (inl refl)
+        replies marks does.1 (ap mail does.2) (inr (lists_all laws scan_line IsScanRow (scan_rows laws) ms marks answer stands.3 does.0)) stands (inl refl)
     in_trans (Retr k) asked does = elim (found ms marks k stands.3.served) [
       | inl none ↦ says_no (codes " no such message") (rw none at does) refl stands refl
       | inr some ↦ gave k some.0 some.2 some.3 some.4 (rw some.1 at does)
@@ -316,9 +314,9 @@ module _ (laws : Laws) {D : Type 0} (sound : D → Type 0) (mail : D → Mail) (
         says_yes (map (λ _. false) marks) [] does refl (λ says. (says, refl)) (stands.0, length-map marks _ ∙ stands.1, cleared_rows ms marks, stands.3) (inl refl)
     in_trans Noop asked does = says_yes marks [] does refl (λ says. (says, refl)) stands (inl refl)
     in_trans Quit asked (state, (true, is, known)) =
-        replies marks state refl (inr (granted laws.written answer (codes " bye") is refl, refl)) (left_by_quit ms marks (mail old) (mail new) true stands.1 stands.0 (known s).1) (inr refl)
+        replies marks state refl (inr (granted laws answer (codes " bye") is refl, refl)) (left_by_quit ms marks (mail old) (mail new) true stands.1 stands.0 (known s).1) (inr refl)
     in_trans Quit asked (state, (false, is, known)) =
-        replies marks state refl (refused laws.written ms marks Quit answer (codes " some messages not removed") is refl) (left_by_quit ms marks (mail old) (mail new) false stands.1 stands.0 (known s).1) (inr refl)
+        replies marks state refl (refused laws ms marks Quit answer (codes " some messages not removed") is refl) (left_by_quit ms marks (mail old) (mail new) false stands.1 stands.0 (known s).1) (inr refl)
     in_trans other asked does = absurd asked
 
   replied : (marks : List Bool) (user pass : List ℕ) (state : State) (c : Command) → is_open state ≡ true → IsStateWith ms state (mail old) marks → IsOfSession c
@@ -385,7 +383,7 @@ module _ (laws : Laws) {D : Type 0} (sound : D → Type 0) (mail : D → Mail) w
   honest_from ms marks commands part replies got later sent asked line is replied begins = record {
     status = Positive;
     hello = greeting;
-    greets = granted laws.written greeting (codes " popd ready") refl refl;
+    greets = granted laws greeting (codes " popd ready") refl refl;
     commands = commands;
     asked = (let all = all_asked commands asked in record { sendable = all.0; numbers = all.1; part = part; no_line = line; whole = is ∙ ap (λ (l : List ℕ). l ++ part) (flat_map-map ended line_of commands) });
     replies = replies;
@@ -433,9 +431,9 @@ abbrev nos : List Command → List ℕ
 nos [] = []
 nos (c ∷ commands) = said (codes "-ERR") ++ nos commands
 
-refused_all : Written → (ms : List Message) (marks : List Bool) (commands : List Command) → Replies ms marks commands (nos commands) marks
-refused_all written ms marks [] = (refl, refl)
-refused_all written ms marks (c ∷ commands) = (said (codes "-ERR"), nos commands, marks, refl, refused written ms marks c (said (codes "-ERR")) [] refl refl, refused_all written ms marks commands)
+refused_all : Laws → (ms : List Message) (marks : List Bool) (commands : List Command) → Replies ms marks commands (nos commands) marks
+refused_all laws ms marks [] = (refl, refl)
+refused_all laws ms marks (c ∷ commands) = (said (codes "-ERR"), nos commands, marks, refl, refused laws ms marks c (said (codes "-ERR")) [] refl refl, refused_all laws ms marks commands)
 
 replies_on : (ms : List Message) (marks mid last : List Bool) (a b : List Command) (x y : List ℕ) → Replies ms marks a x mid → Replies ms mid b y last → Replies ms marks (a ++ b) (x ++ y) last
 replies_on ms marks mid last [] b x y first second = rw first.0 (rw first.1 at second)
@@ -462,7 +460,7 @@ gives_honest laws one are_lines sound mail old new commands part fresh serves as
       replied.0,
       honest_from laws sound mail ms replied.0 (cut.first ++ cut.later) part ((serves.more ++ serves.lost) ++ nos cut.later) new.link.got (new.left ++ (serves.lost ++ nos cut.later)) new.link.sent
           asked_all line (rw cut.all at sent)
-          (replies_on ms (no_marks ms) replied.0 replied.0 cut.first cut.later (serves.more ++ serves.lost) (nos cut.later) replied.1 (refused_all laws.written ms replied.0 cut.later))
+          (replies_on ms (no_marks ms) replied.0 replied.0 cut.first cut.later (serves.more ++ serves.lost) (nos cut.later) replied.1 (refused_all laws ms replied.0 cut.later))
           (shuffle greeting serves.more serves.lost (nos cut.later) new.link.got new.left told),
       rw (serves.same.state, same.1) replied.2,
       closed_later new.machine.state cut.first cut.later (rw serves.same.state replied.3),

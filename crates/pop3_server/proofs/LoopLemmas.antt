@@ -10,7 +10,7 @@ use Rattle.mail_terms.specs.FailureCount.{greatest_count, counted_up}
 use Rattle.pop3_wire.specs.Place.{HasLine}
 use Rattle.pop3_server.specs.Maildrop.{Mail}
 use Rattle.pop3_server.specs.ServerMachine.{Machine, greeting}
-use Rattle.pop3_server.specs.AnswersLines.{AnswersLine, SameServer}
+use Rattle.pop3_server.specs.AnswersLines.{AnswersLine}
 use Rattle.pop3_server.specs.LoopLink.{Loop, Serves, IsAnswered}
 use Rattle.pop3_server.proofs.ServeLemmas.{run_one}
 
@@ -24,27 +24,6 @@ kept machine sent used answers given over down failures = record {
   left = drop given (greeting ++ answers);
   waiting = drop used sent;
   down = down;
-}
-
--- no line was answered: the server is the same, if the link is still up, and some of what is left may have been given
-pub serves_none : {D : Type 0} {sound : D → Type 0} {mail : D → Mail} {m n : Machine D} {sent answers : List ℕ} {over later down then_down : Bool} {failures : ℕ} (used given more : ℕ)
-    → SameServer sound mail m n → (then_down ≡ false → n ≡ m) → (down ≡ true → then_down ≡ true)
-    → Serves sound mail (kept m sent used answers given over down failures) (kept n sent used answers more later then_down failures)
-serves_none {m = m} {sent = sent} {answers = answers} used given more same stays goes = record {
-  lines = [];
-  more = [];
-  lost = [];
-  gained = [];
-  last = m;
-  each = tt;
-  run = (refl, refl);
-  same = same;
-  answers = sym (append-nil answers);
-  told = λ h. take-append-drop more (greeting ++ answers);
-  sent = sym (append-nil sent);
-  heard = append-nil (drop used sent);
-  whole = λ e. (refl, stays e, λ is. rw (stays e) is);
-  over = λ e. (refl, refl, refl, goes e);
 }
 
 -- a line was answered; if the answer couldn't be kept, the link is down

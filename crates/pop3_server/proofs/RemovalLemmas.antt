@@ -1,5 +1,5 @@
 -- Removals, and what is left.
-use Rattle.std.proofs.Common.{◌≡◌, ◌⊎◌, ℕ, zero, suc, ◌+◌, ◌<◌, ◌≤◌, Bool, true, false, List, [], ◌∷◌, ◌++◌, map, Option, Some, None, slice_get, slice_set, refl, sym, ◌∙◌, ap, inl, inr, arith, if◌then◌else◌, length, drop, get_or, add-one, drop-cons, append_assoc, length-append}
+use Rattle.std.proofs.Common.{◌≡◌, ◌⊎◌, ℕ, zero, suc, ◌+◌, ◌<◌, ◌≤◌, Bool, true, false, List, [], ◌∷◌, ◌++◌, map, Option, Some, None, slice_get, slice_set, refl, sym, ◌∙◌, ap, inl, inr, arith, if◌then◌else◌, length, append_assoc, length-append}
 use Rattle.std.proofs.lemmas.Bool.{false≢true}
 use Rattle.std.proofs.lemmas.List.{set_at}
 use Rattle.pop3_wire.specs.World.{Message}
@@ -67,12 +67,6 @@ others_stay (goes i first rows old mid done all new marked tries rest) zero j ro
     let same : first ≡ row = cc in absurd (false≢true (sym unmarked ∙ ap (λ (r : MessageRow). r.marked) (sym same) ∙ marked))
 others_stay (goes i first rows old mid done all new marked tries rest) (suc k) j row h unmarked at =
     others_stay rest k j row h unmarked (omega (arith, at)) ∙ tries_other old mid i j done tries (λ same. omega (arith, at, same))
-
--- ---- one after another
-
--- the rows from a place on begin with the row there
-pub drop_row : (rows : List MessageRow) (i : ℕ) (row : MessageRow) → row ≡ get_or rows i row → i < length rows → drop i rows ≡ row ∷ drop (i + 1) rows
-drop_row rows i row is fits = rw add-one (drop-cons rows i row fits ∙ ap (λ r. r ∷ drop (suc i) rows) (sym is))
 
 -- a removal leaves the other places
 pub later_place : (old new : Mail) (i k : ℕ) (done : Bool) → Tries old i done new → i < k → HasPlace old k → HasPlace new k

@@ -1,7 +1,7 @@
 -- How far a server that serves a link has come, and why it ends.
 use Rattle.pop3_wire.specs.declared.wire.Wire.{Ghosts}
 use Rattle.pop3_wire.specs.Link.{WhereSound, Link}
-use Rattle.std.proofs.Common.{IsErrAnd, true, ◌⊎◌, Ok, ◌≡◌, ◌<◌, ◌≤◌, ◌+◌, ℕ, zero, suc, List, [], ◌∷◌, ◌++◌, length, take, drop, refl, sym, ap, subst, ◌∙◌, arith, append_assoc, length-append, length-take-le, take-append-drop, take_all, append-nil, length-drop, inl, inr, false, Option, Some, Result, Err, codes}
+use Rattle.std.proofs.Common.{IsErrAnd, Bool, true, ◌⊎◌, Ok, ◌≡◌, ◌<◌, ◌≤◌, ◌+◌, ℕ, zero, suc, List, [], ◌∷◌, ◌++◌, length, take, drop, refl, sym, ap, subst, ◌∙◌, arith, append_assoc, length-append, length-take-le, take-append-drop, take_all, append-nil, length-drop, inl, inr, false, Option, Some, Result, Err, codes}
 use Rattle.std.proofs.lemmas.List.{nil_from_length, take-append-le}
 use Rattle.std.proofs.Math.Seq.{take-add}
 use Rattle.pop3_wire.specs.Line.{crlf, IsLine, ended}
@@ -32,10 +32,6 @@ module _ {W : Type 0} (link : Ghosts W) where
   -- what follows from what a call did
   pub in_words : {a b : W} {P Q : Type 0} → WhereSound link.sound link.leads_to a b P → (P → Q) → WhereSound link.sound link.leads_to a b Q
   in_words did words sound = let all = did sound in (all.0, all.1, words all.2)
-
-  -- two things that a call did
-  pub both_words : {a b : W} {P Q : Type 0} → (link.sound b → link.sound a × link.leads_to a b × P × Q) → WhereSound link.sound link.leads_to a b (P × Q)
-  both_words did sound = let all = did sound in (all.0, all.1, (all.2, all.3))
 
   -- a call and then another
   pub and_then : {a b c : W} {P Q R : Type 0} → ((u v w : W) → link.leads_to u v → link.leads_to v w → link.leads_to u w)
@@ -104,14 +100,14 @@ pub record Dropping (before : Waiting) (from : Link) (now : Waiting) (to : Link)
   pub some : 0 < length now.octets
   pub long : 510 < length part
 
-pub drops_first : {before : Waiting} {link : Link} → HasNoLine 512 before.octets → 512 ≤ length before.octets
-    → Dropping before link (record { octets = drop 511 before.octets; left = before.left }) link
-drops_first {before} {link} none long = record {
-  part = take 511 before.octets;
-  waits = ([], record { got = sym (append-nil link.got); sent = refl }, record { octets = append-nil before.octets ∙ sym (take-append-drop 511 before.octets); left = omega arith });
-  line = rw (take-add 511 1 before.octets) at none.none;
-  some = omega (arith, length-drop 511 before.octets);
-  long = omega (arith, length-take-le 511 before.octets (omega arith));
+pub drops_first : {before now : Waiting} {from to : Link} → Waits before from [] now to → HasNoLine 512 now.octets → 512 ≤ length now.octets
+    → Dropping before from (record { octets = drop 511 now.octets; left = now.left }) to
+drops_first {now = now} waits none long = record {
+  part = take 511 now.octets;
+  waits = (waits.0, waits.1, record { octets = waits.2.octets ∙ sym (take-append-drop 511 now.octets); left = waits.2.left });
+  line = rw (take-add 511 1 now.octets) at none.none;
+  some = omega (arith, length-drop 511 now.octets);
+  long = omega (arith, length-take-le 511 now.octets (omega arith));
 }
 
 pub drops_more : {before now : Waiting} {from to : Link} → Dropping before from now to → HasNoLine 512 now.octets → 512 ≤ length now.octets
@@ -146,9 +142,33 @@ dropped_line {now = now} {n = n} d has = (
   omega (arith, length-append d.part (take n now.octets), d.long),
 )
 
--- nothing more came
-pub dropped_end : {before now : Waiting} {from to : Link} (d : Dropping before from now to) → HasNoLine 512 now.octets → length now.octets < 512 → IsLine (d.part ++ now.octets)
-dropped_end {now = now} d none short = rw (take_all 512 now.octets (omega arith)) at (spliced d.part now.octets 512 d.line none.none)
+-- what waits, or the octets so far of a line that is too long
+abbrev pub Reading : Bool → Waiting → Link → Waiting → Link → Type 0
+Reading false before from now to = Waits before from [] now to
+Reading true before from now to = Dropping before from now to
+
+module _ (before now : Waiting) (from to : Link) where
+  pub reads_long : (is_long : Bool) → Reading is_long before from now to → HasNoLine 512 now.octets → 512 ≤ length now.octets
+      → Dropping before from (record { octets = drop 511 now.octets; left = now.left }) to
+  reads_long false waits none long = drops_first waits none long
+  reads_long true d none long = drops_more d none long
+
+  module _ (after : Waiting) {next : Link} {piece : List ℕ} (more : Drew to next piece) (octets : after.octets ≡ now.octets ++ piece) (left : length piece + after.left ≡ now.left) where
+    pub reads_more : (is_long : Bool) → Reading is_long before from now to → Reading is_long before from after next
+    reads_more false waits = waits_more waits more octets left
+    reads_more true d = drops_on d more octets left
+
+    -- nothing more came
+    pub reads_end : (is_long : Bool) → Reading is_long before from now to → HasNoLine 512 now.octets → length now.octets < 512
+        → length piece ≡ 0 → (next.ended ≡ true) ⊎ (after.left ≡ 0) → Hears from before (Ok End) next after
+    reads_end false waits none short = waits_end {part = []} waits (rw (take_all 512 now.octets (omega arith)) at none.none) more octets left
+    reads_end true d none short =
+        waits_end d.waits (rw (take_all 512 now.octets (omega arith)) at (spliced d.part now.octets 512 d.line none.none)) more octets left
+
+    -- the link refused to read
+    pub reads_cut : (is_long : Bool) → Reading is_long before from now to → (gained dropped : List ℕ) × Drew from next gained × Queues before dropped after gained
+    reads_cut false waits = let all = waits_more waits more octets left in (all.0, [], all.1, all.2)
+    reads_cut true d = let all = waits_more d.waits more octets left in (all.0, d.part, all.1, all.2)
 
 -- ---- how far a server that serves a link has come, and why it ends
 

@@ -1,5 +1,5 @@
 -- The size of a text by what its bytes add.
-use Rattle.std.proofs.Common.{◌≡◌, ◌==◌, ℕ, ◌+◌, Bool, true, false, not, List, [], ◌∷◌, ◌++◌, length, refl, sym, ◌∙◌, ap, arith, if◌then◌else◌}
+use Rattle.std.proofs.Common.{◌≡◌, ◌==◌, ◌||◌, ℕ, ◌+◌, Bool, true, false, not, List, [], ◌∷◌, ◌++◌, length, refl, sym, ◌∙◌, ap, arith, if◌then◌else◌}
 use Rattle.std.specs.List.{flat_map, sum_by, onto_first}
 use Rattle.std.proofs.lemmas.List.Sums.{sum_by-cons, sum_by-append}
 use Rattle.pop3_wire.specs.Line.{ended}
@@ -7,7 +7,7 @@ use Rattle.mail_terms.specs.Text.{lines_of_text, HasNoLf}
 use Rattle.pop3_server.specs.declared.size.SizeCount.{SizeCount}
 use Rattle.std.proofs.lemmas.Bool.Decides.{eqb_tells}
 use Rattle.pop3_server.specs.TextPiece.{is_open_after}
-use Rattle.pop3_server.proofs.TextPieceLemmas.{open_append}
+use Rattle.pop3_server.proofs.TextPieceLemmas.{open_append, open_rest}
 use Rattle.pop3_server.specs.Size.{size_of, weight, ends_open, capped, CountsText}
 
 -- a byte before some lines adds one octet, and an end of a line two
@@ -43,10 +43,10 @@ line_weights piece line after none is =
 -- a piece was counted: what was counted before it, its lines, and the rest of it
 pub CountsText-more : (count next : SizeCount) (text piece rest : List ℕ) (octets : ℕ) (in_line : Bool) → HasNoLf rest → CountsText count text
     → capped (octets + sum_by weight rest) ≡ capped (count.octets + sum_by weight piece) → is_open_after in_line rest ≡ is_open_after count.in_line piece
-    → next.octets ≡ capped (octets + length rest) → next.in_line ≡ is_open_after in_line rest → CountsText next (text ++ piece)
+    → next.octets ≡ capped (octets + length rest) → next.in_line ≡ (not (length rest == 0) || in_line) → CountsText next (text ++ piece)
 CountsText-more count next text piece rest octets in_line none h counted open_now more last = record {
   octets = omega (arith, more, h.octets, counted, weights rest none, sum_by-append weight text piece);
-  in_line = last ∙ open_now ∙ ap (λ b. is_open_after b piece) h.in_line ∙ sym (open_append false text piece);
+  in_line = last ∙ sym (open_rest in_line rest none) ∙ open_now ∙ ap (λ b. is_open_after b piece) h.in_line ∙ sym (open_append false text piece);
 }
 
 -- the size of what was counted, if the last line is open and if it isn't

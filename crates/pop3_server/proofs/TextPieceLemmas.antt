@@ -1,7 +1,7 @@
 -- Pieces of a text, split at their first LF.
-use Rattle.std.proofs.Common.{◌≡◌, ◌≢◌, ◌==◌, ◌≤◌, ℕ, Bool, true, false, not, List, [], ◌∷◌, ◌++◌, length, refl, append_assoc, arith, if◌then◌else◌}
+use Rattle.std.proofs.Common.{◌≡◌, ◌==◌, ◌≤◌, ◌||◌, ℕ, Bool, true, false, not, List, [], ◌∷◌, ◌++◌, length, refl, append_assoc, arith, if◌then◌else◌}
 use Rattle.std.specs.List.{flat_map, onto_first}
-use Rattle.std.proofs.lemmas.Bool.Decides.{eqb_tells}
+use Rattle.std.proofs.lemmas.Bool.Decides.{eqb_tells, nat_tests}
 use Rattle.mail_terms.specs.Text.{lines_of_text, HasNoLf}
 use Rattle.pop3_wire.specs.Line.{crlf, ended}
 use Rattle.pop3_wire.specs.Stuffed.{sent_line, stuffed_lines}
@@ -18,9 +18,9 @@ on_rest [] none = (refl, refl)
 on_rest (byte ∷ rest) none = grind (arith, eqb_tells byte 10, none.0, on_rest rest none.1)
 
 -- after some octets without LF a line is open
-pub open_some : (in_line : Bool) (rest : List ℕ) → HasNoLf rest → rest ≢ [] → is_open_after in_line rest ≡ true
-open_some in_line [] none some = absurd (some refl)
-open_some in_line (byte ∷ rest) none some = (on_rest (byte ∷ rest) none).0
+pub open_rest : (in_line : Bool) (rest : List ℕ) → HasNoLf rest → is_open_after in_line rest ≡ (not (length rest == 0) || in_line)
+open_rest in_line [] none = refl
+open_rest in_line (byte ∷ rest) none = grind (arith, nat_tests, on_rest (byte ∷ rest) none)
 
 -- ---- what pieces add to a body
 

@@ -1,6 +1,7 @@
 -- The top of a text, by its octets.
 use Rattle.std.proofs.Common.{◌≡◌, ◌==◌, ◌<◌, ◌-◌, ◌||◌, ℕ, zero, suc, Bool, true, false, not, List, [], ◌∷◌, ◌++◌, length, IsTrue, ◌↔◌, refl, sym, ap, ◌∙◌, arith, true≢false}
 use Rattle.std.specs.List.{onto_first}
+use Rattle.std.proofs.lemmas.Bool.{or_right}
 use Rattle.std.proofs.lemmas.Bool.Decides.{eqb_tells, nat_tests}
 use Rattle.mail_terms.specs.Text.{lines_of_text, HasNoLf}
 use Rattle.pop3_server.specs.ServerMachine.{top_from}
@@ -55,29 +56,25 @@ one_octet true in_line n byte rest other more = rw other refl
 one_octet false in_line zero byte rest other more = absurd (omega (arith, more refl))
 one_octet false in_line (suc n) byte rest other more = rw other refl
 
-opens : (in_line : Bool) (k : ℕ) → (in_line || not (suc k == 0)) ≡ true
-opens true k = refl
-opens false k = ap not (some_octets k)
-
 -- octets without LF
-pub takes_rest : (in_head in_line opened : Bool) (n : ℕ) (piece rest : List ℕ) → HasNoLf piece → (in_head ≡ false → 0 < n) → opened ≡ (in_line || not (length piece == 0))
-    → top_octets in_head in_line n (piece ++ rest) ≡ piece ++ top_octets in_head opened n rest
-takes_rest in_head true opened n [] rest none more is = ap (λ b. top_octets in_head b n rest) (sym is)
-takes_rest in_head false opened n [] rest none more is = ap (λ b. top_octets in_head b n rest) (sym is)
-takes_rest in_head in_line opened n (byte ∷ piece) rest none more is =
+pub takes_rest : (in_head in_line : Bool) (n : ℕ) (piece rest : List ℕ) → HasNoLf piece → (in_head ≡ false → 0 < n)
+    → top_octets in_head in_line n (piece ++ rest) ≡ piece ++ top_octets in_head (not (length piece == 0) || in_line) n rest
+takes_rest in_head in_line n [] rest none more = refl
+takes_rest in_head in_line n (byte ∷ piece) rest none more =
     let other : (byte == 10) ≡ false = grind (arith, eqb_tells byte 10, none.0) in
-    one_octet in_head in_line n byte (piece ++ rest) other more ∙ ap (λ (l : List ℕ). byte ∷ l) (takes_rest in_head true opened n piece rest none.1 more (is ∙ opens in_line (length piece)))
+    let later = rw (or_right (not (length piece == 0)) true refl) at (takes_rest in_head true n piece rest none.1 more) in
+    rw some_octets (one_octet in_head in_line n byte (piece ++ rest) other more ∙ ap (λ (l : List ℕ). byte ∷ l) later)
 
 -- a line ends; it was one of the head, or came after it
-pub ends_head : (in_head in_line opened : Bool) (n left : ℕ) (line rest : List ℕ) → HasNoLf line → in_head ≡ true → opened ≡ (in_line || not (length line == 0)) → left ≡ n
+pub ends_head : (in_head in_line opened : Bool) (n left : ℕ) (line rest : List ℕ) → HasNoLf line → in_head ≡ true → opened ≡ (not (length line == 0) || in_line) → left ≡ n
     → top_octets in_head in_line n (line ++ 10 ∷ rest) ≡ line ++ 10 ∷ top_octets opened false left rest
-ends_head in_head in_line opened n left line rest none head is same = rw (head, same) (takes_rest true in_line opened n line (10 ∷ rest) none (λ later. absurd (true≢false later)) is)
+ends_head in_head in_line opened n left line rest none head is same = rw (head, same, is) (takes_rest true in_line n line (10 ∷ rest) none (λ later. absurd (true≢false later)))
 
 pub ends_later : (in_head in_line opened : Bool) (n left : ℕ) (line rest : List ℕ) → HasNoLf line → in_head ≡ false → opened ≡ in_head → 0 < n → left ≡ n - 1
     → top_octets in_head in_line n (line ++ 10 ∷ rest) ≡ line ++ 10 ∷ top_octets opened false left rest
 ends_later in_head in_line opened n left line rest none later is some less =
     let one : n ≡ suc left = omega arith in
-    rw (is, later, one) (takes_rest false in_line (in_line || not (length line == 0)) (suc left) line (10 ∷ rest) none (λ _. omega arith) refl)
+    rw (is, later, one) (takes_rest false in_line (suc left) line (10 ∷ rest) none (λ _. omega arith))
 
 -- it takes none if there are none, and none after all has come
 pub none_taken : (in_head in_line : Bool) (n : ℕ) → top_octets in_head in_line n [] ≡ []

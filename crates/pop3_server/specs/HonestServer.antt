@@ -2,8 +2,7 @@
 use Rattle.std.specs.Prelude.{◌≡◌, ◌⊎◌, ℕ, Bool, true, List, [], ◌∷◌, ◌++◌, map, None}
 use Rattle.std.specs.List.{flat_map, AllByRecursion}
 use Rattle.pop3_wire.specs.declared.command.Command.{Command}
-use Rattle.pop3_wire.specs.declared.command.Command.TheVariants.{User, Pass, Stat, UidlAll, UidlOne, ListAll}
-use Rattle.pop3_wire.specs.declared.command.Command.TheVariants.{ListOne, Retr, Dele, Rset, Noop, Top, Quit}
+use Rattle.pop3_wire.specs.declared.command.Command.TheVariants.{UidlOne, ListOne, Top, Quit}
 use Rattle.pop3_wire.specs.Line.{ended}
 use Rattle.pop3_wire.specs.Commands.{line_of, can_be_sent}
 use Rattle.pop3_wire.specs.CommandLine.{HasNumbers}
@@ -17,19 +16,10 @@ use Rattle.pop3_server.specs.AnswersLines.{AnswersLines}
 
 -- what a session sends: the commands of its plan, and RSET
 abbrev pub IsOfSession : Command → Type 0
-IsOfSession (User name) = Unit {0}
-IsOfSession (Pass password) = Unit {0}
-IsOfSession Stat = Unit {0}
-IsOfSession UidlAll = Unit {0}
 IsOfSession (UidlOne number) = ⊥
-IsOfSession ListAll = Unit {0}
 IsOfSession (ListOne number) = ⊥
-IsOfSession (Retr number) = Unit {0}
-IsOfSession (Dele number) = Unit {0}
-IsOfSession Rset = Unit {0}
-IsOfSession Noop = Unit {0}
 IsOfSession (Top number lines) = ⊥
-IsOfSession Quit = Unit {0}
+IsOfSession command = Unit {0}
 
 -- a command of a session that can be sent
 pub record IsAsked (command : Command) : Type 0 where

@@ -1,5 +1,5 @@
 -- What QUIT leaves of the marked messages.
-use Rattle.std.specs.Prelude.{◌≡◌, ℕ, ◌+◌, ◌<◌, ◌≤◌, Bool, true, false, ◌&&◌, List, [], ◌∷◌, Option, Some, None, slice_get, if◌then◌else◌}
+use Rattle.std.specs.Prelude.{◌≡◌, ℕ, ◌+◌, ◌<◌, ◌≤◌, Bool, true, false, ◌&&◌, List, [], ◌∷◌, Option, Some, slice_get, if◌then◌else◌}
 use Rattle.pop3_wire.specs.World.{Message}
 use Rattle.pop3_server.specs.declared.rows.MessageRow.{MessageRow}
 use Rattle.pop3_server.specs.Maildrop.{Mail}
@@ -7,9 +7,8 @@ use Rattle.pop3_server.specs.ServerMachine.{Empties}
 
 -- whether a place holds a message
 abbrev pub holds : Option (Option Message) → Bool
-holds None = false
-holds (Some None) = false
 holds (Some (Some message)) = true
+holds other = false
 
 -- how many of the rows from place i on are marked and still there
 abbrev pub left_marked : ℕ → List MessageRow → Mail → ℕ

@@ -103,13 +103,10 @@ top_from true n (line ∷ lines) = line ∷ top_from (not (length line == 0)) n 
 top_from false zero (line ∷ lines) = []
 top_from false (suc n) (line ∷ lines) = line ∷ top_from false n lines
 
-abbrev pub top_lines : ℕ → List (List ℕ) → List (List ℕ)
-top_lines n lines = top_from true n lines
-
 -- the body of a text, or of its top
 abbrev pub text_body : Option ℕ → List ℕ → List ℕ
 text_body None text = stuffed_lines (lines_of_text text)
-text_body (Some n) text = stuffed_lines (top_lines n (lines_of_text text))
+text_body (Some n) text = stuffed_lines (top_from true n (lines_of_text text))
 
 -- ---- the table: what a state and a command ask for
 
@@ -143,8 +140,6 @@ dele rows k None = Say (said (codes "-ERR no such message")) (Transaction rows)
 dele rows k (Some row) = Say (said (codes "+OK marked")) (Transaction (mark_at rows (k - 1)))
 
 abbrev pub in_transaction : List MessageRow → Command → Action
-in_transaction rows (User name) = Say (said (codes "-ERR not now")) (Transaction rows)
-in_transaction rows (Pass word) = Say (said (codes "-ERR not now")) (Transaction rows)
 in_transaction rows Stat =
     Say (said (codes "+OK " ++ decimal (left_count rows) ++ codes " " ++ decimal (left_total rows))) (Transaction rows)
 in_transaction rows ListAll = Say (listed scan_line rows) (Transaction rows)
@@ -159,6 +154,7 @@ in_transaction rows (Dele k) = dele rows k (row_at rows k)
 in_transaction rows Rset = Say (said (codes "+OK")) (Transaction (map unmarked rows))
 in_transaction rows Noop = Say (said (codes "+OK")) (Transaction rows)
 in_transaction rows Quit = Leave rows
+in_transaction rows command = Say (said (codes "-ERR not now")) (Transaction rows)
 
 -- whether the rows alone give the answer to a command
 abbrev pub is_about_rows : Command → Bool
@@ -201,10 +197,8 @@ with_marked (row ∷ rows) count = with_marked rows (if row.marked then counted_
 
 -- removals are asked for only at QUIT, one for each marked message; this holds of every maildrop
 abbrev pub AsksRemovals : Mail → Action → Mail → Type 0
-AsksRemovals old (Say bytes state) new = new.removals ≡ old.removals
-AsksRemovals old Open new = new.removals ≡ old.removals
-AsksRemovals old (Give rows i line top) new = new.removals ≡ old.removals
 AsksRemovals old (Leave rows) new = new.removals ≡ with_marked rows old.removals
+AsksRemovals old other new = new.removals ≡ old.removals
 
 -- the maildrop refused its listing; or there are as many rows as messages, none marked, and whatever the maildrop
 -- does, they keep to the limits
@@ -254,15 +248,13 @@ pub record Unanswered {D : Type 0} (sound : D → Type 0) (mail : D → Mail) (o
 -- ---- a whole server
 
 abbrev pub is_open : State → Bool
-is_open (Authorization given) = true
-is_open (Transaction rows) = true
 is_open Closed = false
+is_open state = true
 
 -- each row has its message, while there are rows
 abbrev pub Tied : Type 0 → Mail → State → Type 0
-Tied sound mail (Authorization given) = Unit {0}
 Tied sound mail (Transaction rows) = sound → (i : ℕ) (row : MessageRow) → slice_get rows i ≡ Some row → HasPlace mail i
-Tied sound mail Closed = Unit {0}
+Tied sound mail state = Unit {0}
 
 -- each place that has a row now had one before
 abbrev pub SamePlaces : List MessageRow → List MessageRow → Type 0

@@ -44,15 +44,13 @@ Hears old before (Err fault) new after =
 
 -- nothing more came because the link has ended, or because no more may be taken
 abbrev pub TakesMore : Result Bool ServerFault → ℕ → Link → Type 0
-TakesMore (Ok true) left link = Unit {0}
 TakesMore (Ok false) left link = (link.ended ≡ true) ⊎ (left ≡ 0)
-TakesMore (Err fault) left link = Unit {0}
+TakesMore result left link = Unit {0}
 
 -- if a line waits, it does so whatever is known of the link
 abbrev pub Found : NextLine → Waiting → Type 0
 Found (Line n) waiting = HasLine max_line waiting.octets n
-Found LongLine waiting = Unit {0}
-Found End waiting = Unit {0}
+Found other waiting = Unit {0}
 
 -- ---- what is sent
 

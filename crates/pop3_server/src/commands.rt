@@ -1,18 +1,16 @@
 //! What a server does for each command: the table of states and commands (RFC 1939, sections 4 to 7).
-ghost use Rattle.std.specs.Prelude.{◌≡◌, ◌<◌, ◌-◌, ℕ, Bool, List, Option, map, slice_get, Some};
+ghost use Rattle.std.specs.Prelude.{◌≡◌, ◌<◌, ◌-◌, ℕ, Option, slice_get, Some};
 ghost use Rattle.std.specs.Prelude.{true, None, IfOk, IfErr, IfSome, MatchResult, bytes_eq, codes, ◌++◌};
-ghost use Rattle.pop3_wire.specs.declared.command.Command.TheVariants.{Pass, Retr, Top, Dele, Rset};
 ghost use Rattle.pop3_server.specs.declared.rows.MessageRow.{MessageRow};
 ghost use Rattle.pop3_server.specs.declared.state.State.{State};
 ghost use Rattle.pop3_server.specs.declared.state.State.TheVariants.{Authorization, Transaction, Closed};
 ghost use Rattle.mail_terms.specs.FailureCount.{counted_up};
 ghost use Rattle.pop3_server.specs.Maildrop.{HasPlace};
-ghost use Rattle.pop3_server.specs.ServerMachine.{Say, Open, Give, Leave, Answers, SamePlaces, Unanswered, Tied};
+ghost use Rattle.pop3_server.specs.ServerMachine.{Say, Open, SamePlaces, Unanswered, Tied};
 ghost use Rattle.pop3_server.specs.ServerMachine.{Tries, Empties, with_marked, in_authorization, in_transaction};
-ghost use Rattle.pop3_server.specs.ServerMachine.{give, is_about_rows, next_of, said, of_row, row_at, text_body};
+ghost use Rattle.pop3_server.specs.ServerMachine.{give, is_about_rows, next_of, said, of_row, row_at};
 ghost use Rattle.pop3_server.specs.ReplyLines.{row_line, text_line};
 ghost use Rattle.pop3_server.specs.TextAnswer.{AnswersOrBegins, Follows};
-ghost use Rattle.pop3_server.specs.TextBody.{still};
 
 use crate::fault::ServerFault;
 use crate::maildrop::{DropFault, Maildrop};
@@ -77,37 +75,6 @@ fn open<D: Maildrop>(alloc: Global, drop: &mut D) -> Result<Outcome, ServerFault
     Ok(Outcome::go(reply, State::Transaction(rows)))
 }
 
-/// The reply with the text of the message at a place after its first line: all of the text, or
-/// its head and some lines after it. It is made until it ends or has more than `limit` octets.
-fn give<D: Maildrop>(
-    alloc: Global,
-    drop: &mut D,
-    mut reply: Vec<u8>,
-    text: TextBody,
-    limit: usize,
-) -> Result<Outcome, ServerFault>
-    requires place { D.sound drop.old → HasPlace (D.mail drop.old) text.place }
-    requires start { text.start ≡ 0 }
-    ensures ok { IfOk result (λ outcome. (rows : List MessageRow) (top : Option ℕ)
-        → ((octets : List ℕ) → still text octets ≡ text_body top octets)
-        → AnswersOrBegins D.sound D.mail (Give rows text.place reply.items top)
-        drop.old outcome.bytes.items outcome.rest (Transaction rows) drop.new) }
-    ensures stays { IfOk result (λ outcome. (outcome.next ≡ None) × IfSome outcome.rest (Follows limit)) }
-    ensures same_places { D.sound drop.new → D.sound drop.old × ((D.mail drop.new).slots ≡ (D.mail drop.old).slots) }
-    ensures err { IfErr result (λ e. (e ≡ ServerFault.NoMemory) × Unanswered D.sound D.mail drop.old drop.new) }
-{
-    let unavailable = say(alloc, b"-ERR message unavailable")?;
-    match text.put(drop, &mut reply, limit) {
-        Ok(rest) => Ok(Outcome {
-            bytes: reply,
-            next: None,
-            rest,
-        }),
-        Err(DropFault::NoMemory) => Err(ServerFault::NoMemory),
-        Err(DropFault::Refused) => Ok(Outcome::stay(unavailable)),
-    }
-}
-
 /// The first line of the reply with the text of a message, or with its top if a count of lines is given.
 fn first_line(
     alloc: Global,
@@ -124,7 +91,8 @@ fn first_line(
     }
 }
 
-/// RETR: the text of a message; and TOP: its head, and `count` lines after it.
+/// RETR: the text of a message; and TOP: its head, and `count` lines after it. The reply is made until it
+/// ends or has more than `limit` octets.
 fn text<D: Maildrop>(
     alloc: Global,
     drop: &mut D,
@@ -144,8 +112,17 @@ fn text<D: Maildrop>(
     let Some(i) = rows.place(number) else {
         return Ok(Outcome::stay(say(alloc, b"-ERR no such message")?));
     };
-    let reply = first_line(alloc, rows.row(i), count, limit)?;
-    give(alloc, drop, reply, TextBody::new(i, count), limit)
+    let mut reply = first_line(alloc, rows.row(i), count, limit)?;
+    let unavailable = say(alloc, b"-ERR message unavailable")?;
+    match TextBody::new(i, count).put(drop, &mut reply, limit) {
+        Ok(rest) => Ok(Outcome {
+            bytes: reply,
+            next: None,
+            rest,
+        }),
+        Err(DropFault::NoMemory) => Err(ServerFault::NoMemory),
+        Err(DropFault::Refused) => Ok(Outcome::stay(unavailable)),
+    }
 }
 
 /// Removes one message, and returns whether it was removed.
@@ -192,32 +169,6 @@ fn are_same(one: &[u8], other: &[u8]) -> bool
     same
 }
 
-/// PASS after USER: lists the maildrop if both words are right.
-fn log_in<D: Maildrop>(
-    alloc: Global,
-    drop: &mut D,
-    user: &[u8],
-    pass: &[u8],
-    name: &Bytes,
-    word: &Bytes,
-) -> Result<Outcome, ServerFault>
-    ensures ok { IfOk result (λ outcome. (state : State) → AnswersOrBegins D.sound D.mail
-        (in_authorization user.now pass.now (Some name.now) (Pass word.now))
-        drop.old outcome.bytes.items outcome.rest (next_of state outcome.next) drop.new) }
-    ensures whole { IfOk result (λ outcome. outcome.rest ≡ None) }
-    ensures tied { IfOk result (λ outcome. (state : State) → Tied (D.sound drop.new) (D.mail drop.new) (next_of state outcome.next)) }
-    ensures err { IfErr result (λ e. (e ≡ ServerFault.NoMemory) × Unanswered D.sound D.mail drop.old drop.new) }
-{
-    // Both are compared, so that the time doesn't tell which of them differs.
-    let right_name = are_same(name.as_slice(), user);
-    let right_word = are_same(word.as_slice(), pass);
-    if right_name & right_word {
-        open(alloc, drop)
-    } else {
-        Ok(Outcome::go(say(alloc, b"-ERR refused")?, State::Authorization(None)))
-    }
-}
-
 /// A command in the AUTHORIZATION state.
 pub fn authorize<D: Maildrop>(
     alloc: Global,
@@ -239,21 +190,21 @@ pub fn authorize<D: Maildrop>(
             say(alloc, b"+OK send PASS")?,
             State::Authorization(Some(name)),
         )),
-        Command::Pass(word) => match given {
-            None => Ok(Outcome::stay(say(alloc, b"-ERR USER first")?)),
-            Some(name) => log_in(alloc, drop, user, pass, name, &word),
-        },
+        Command::Pass(word) => {
+            let Some(name) = given else {
+                return Ok(Outcome::stay(say(alloc, b"-ERR USER first")?));
+            };
+            // Both are compared, so that the time doesn't tell which of them differs.
+            let right_name = are_same(name.as_slice(), user);
+            let right_word = are_same(word.as_slice(), pass);
+            if right_name & right_word {
+                open(alloc, drop)
+            } else {
+                Ok(Outcome::go(say(alloc, b"-ERR refused")?, State::Authorization(None)))
+            }
+        }
         Command::Quit => Ok(Outcome::go(say(alloc, b"+OK bye")?, State::Closed)),
-        Command::Stat
-        | Command::UidlAll
-        | Command::UidlOne(_)
-        | Command::ListAll
-        | Command::ListOne(_)
-        | Command::Retr(_)
-        | Command::Dele(_)
-        | Command::Rset
-        | Command::Noop
-        | Command::Top(_, _) => Ok(Outcome::stay(say(alloc, b"-ERR not now")?)),
+        _ => Ok(Outcome::stay(say(alloc, b"-ERR not now")?)),
     }
 }
 
@@ -269,52 +220,8 @@ fn list_one(alloc: Global, column: Column, rows: &Rows, number: u32) -> Result<V
     }
 }
 
-/// DELE: marks a message.
-#[tactic(auto, using(crate::proofs::RowLemmas::row_of_mark))]
-fn dele(alloc: Global, rows: &mut Rows, number: u32) -> Result<Vec<u8>, ServerFault>
-    ensures ok { IfOk result (λ reply. in_transaction rows.old (Dele number) ≡ Say reply.items (Transaction rows.new)) }
-    ensures same_places { SamePlaces rows.old rows.new }
-    ensures err { IfErr result (λ e. (e ≡ ServerFault.NoMemory) × (rows.new ≡ rows.old)) }
-{
-    match rows.place(number) {
-        None => say(alloc, b"-ERR no such message"),
-        Some(i) => {
-            let reply = say(alloc, b"+OK marked")?;
-            rows.mark(i);
-            Ok(reply)
-        }
-    }
-}
-
-/// RSET: unmarks all messages.
-#[tactic(auto, using(crate::proofs::RowLemmas::row_of_unmark))]
-fn rset(alloc: Global, rows: &mut Rows) -> Result<Vec<u8>, ServerFault>
-    ensures ok { IfOk result (λ reply. in_transaction rows.old Rset ≡ Say reply.items (Transaction rows.new)) }
-    ensures same_places { SamePlaces rows.old rows.new }
-    ensures err { IfErr result (λ e. (e ≡ ServerFault.NoMemory) × (rows.new ≡ rows.old)) }
-{
-    let reply = say(alloc, b"+OK")?;
-    rows.unmark();
-    Ok(reply)
-}
-
-/// QUIT: removes the marked messages. Both replies are made before a message is removed.
-fn quit<D: Maildrop>(
-    alloc: Global,
-    drop: &mut D,
-    rows: &[MessageRow],
-) -> Result<Vec<u8>, ServerFault>
-    requires { Tied (D.sound drop.old) (D.mail drop.old) (Transaction rows.now) }
-    ensures ok { IfOk result (λ reply. Answers D.sound D.mail (Leave rows.now) drop.old reply.items Closed drop.new) }
-    ensures err { IfErr result (λ e. (e ≡ ServerFault.NoMemory) × (drop.new ≡ drop.old)) }
-{
-    let all = say(alloc, b"+OK bye")?;
-    let some = say(alloc, b"-ERR some messages not removed")?;
-    if leave(drop, rows) { Ok(all) } else { Ok(some) }
-}
-
 /// A command in the TRANSACTION state that is answered by the rows alone.
-#[tactic(auto, using(crate::proofs::RowLemmas::same_rows))]
+#[tactic(auto, using(crate::proofs::RowLemmas::same_rows, crate::proofs::RowLemmas::row_of_mark, crate::proofs::RowLemmas::row_of_unmark))]
 fn answer_by_rows(alloc: Global, rows: &mut Rows, command: &Command) -> Result<Vec<u8>, ServerFault>
     requires { is_about_rows command.now ≡ true }
     ensures ok { IfOk result (λ reply. in_transaction rows.old command.now ≡ Say reply.items (Transaction rows.new)) }
@@ -328,8 +235,19 @@ fn answer_by_rows(alloc: Global, rows: &mut Rows, command: &Command) -> Result<V
         Command::UidlAll => say_rows(alloc, Column::Uid, rows.as_slice()),
         Command::ListOne(number) => list_one(alloc, Column::Size, rows, *number),
         Command::UidlOne(number) => list_one(alloc, Column::Uid, rows, *number),
-        Command::Dele(number) => dele(alloc, rows, *number),
-        Command::Rset => rset(alloc, rows),
+        Command::Dele(number) => match rows.place(*number) {
+            None => say(alloc, b"-ERR no such message"),
+            Some(i) => {
+                let reply = say(alloc, b"+OK marked")?;
+                rows.mark(i);
+                Ok(reply)
+            }
+        },
+        Command::Rset => {
+            let reply = say(alloc, b"+OK")?;
+            rows.unmark();
+            Ok(reply)
+        }
         Command::Noop => say(alloc, b"+OK"),
         Command::Retr(_) | Command::Top(_, _) | Command::Quit => unreachable!(),
     }
@@ -358,16 +276,16 @@ pub fn transact<D: Maildrop>(
     match command {
         Command::Retr(number) => text(alloc, drop, rows, *number, None, limit),
         Command::Top(number, count) => text(alloc, drop, rows, *number, Some(*count), limit),
-        Command::Quit => Ok(Outcome::go(quit(alloc, drop, rows.as_slice())?, State::Closed)),
-        Command::User(_)
-        | Command::Pass(_)
-        | Command::Stat
-        | Command::ListAll
-        | Command::UidlAll
-        | Command::ListOne(_)
-        | Command::UidlOne(_)
-        | Command::Dele(_)
-        | Command::Rset
-        | Command::Noop => Ok(Outcome::stay(answer_by_rows(alloc, rows, command)?)),
+        Command::Quit => {
+            // Both replies are made before a message is removed.
+            let all = say(alloc, b"+OK bye")?;
+            let some = say(alloc, b"-ERR some messages not removed")?;
+            if leave(drop, rows.as_slice()) {
+                Ok(Outcome::go(all, State::Closed))
+            } else {
+                Ok(Outcome::go(some, State::Closed))
+            }
+        }
+        _ => Ok(Outcome::stay(answer_by_rows(alloc, rows, command)?)),
     }
 }

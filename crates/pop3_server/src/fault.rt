@@ -1,5 +1,8 @@
 //! Why a server stops.
-use std::alloc::{AllocError, AllocFailed};
+ghost use Rattle.std.specs.Prelude.{◌≡◌};
+ghost use Rattle.pop3_server.specs.declared.fault.ServerFault.TheVariants.{NoMemory};
+
+use std::alloc::AllocError;
 use thiserror::Error;
 
 /// Why a server stops.
@@ -20,23 +23,9 @@ pub enum ServerFault {
 }
 
 impl From<AllocError> for ServerFault {
-    ghost use Rattle.std.specs.Prelude.{◌≡◌};
-    ghost use Rattle.pop3_server.specs.declared.fault.ServerFault.TheVariants.{NoMemory};
-
     ghost from_gives = { λ _ e. e ≡ NoMemory };
 
     fn from(_error: AllocError) -> ServerFault {
-        ServerFault::NoMemory
-    }
-}
-
-impl<T: Drop> From<AllocFailed<T>> for ServerFault {
-    ghost use Rattle.std.specs.Prelude.{◌≡◌};
-    ghost use Rattle.pop3_server.specs.declared.fault.ServerFault.TheVariants.{NoMemory};
-
-    ghost from_gives = { λ _ e. e ≡ NoMemory };
-
-    fn from(_error: AllocFailed<T>) -> ServerFault {
         ServerFault::NoMemory
     }
 }

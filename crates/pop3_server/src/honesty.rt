@@ -11,6 +11,7 @@ use pop3_wire::{
 /// A new server's greeting and its answers to any commands that a session sends, one after another,
 /// are an honest conversation over the messages of its maildrop; while the server is open all of
 /// these are there, and after QUIT only marked ones may be gone, the others in their order.
+#[tactic(auto, using(crate::proofs::HonestLemmas::is_honest))]
 pub fn conversations_are_honest<D: Maildrop>()
     ensures { IsHonest D.sound D.mail }
 {

@@ -1,5 +1,5 @@
 //! Reads the lines that a server gets, within its limits.
-ghost use Rattle.std.specs.Prelude.{◌≡◌, ◌≤◌, ◌<◌, ◌+◌, ◌-◌, ◌*◌, ◌++◌, ℕ, List, [], length, take};
+ghost use Rattle.std.specs.Prelude.{◌≡◌, ◌≤◌, ◌<◌, ◌+◌, ◌-◌, ◌*◌, ◌++◌, ℕ, List, [], length};
 ghost use Rattle.std.specs.Prelude.{drop, true, false, IfOk, IfErr, IfSome, IfNone, Ok, Err};
 ghost use Rattle.pop3_wire.specs.Link.{CountsFailure, WhereSound};
 ghost use Rattle.pop3_wire.specs.Place.{HasLine, HasNoLine};
@@ -38,7 +38,6 @@ pub struct Intake {
 }
 
 impl Model for Intake {
-    ghost use Rattle.pop3_server.specs.declared.intake.NextLine.TheVariants.{LongLine};
     ghost use Rattle.pop3_server.specs.Got.{Waiting};
 
     ghost Value = { Waiting };
@@ -89,7 +88,7 @@ impl Intake {
         ensures takes { (piece : List ℕ) × (length piece + self.new.left ≡ self.old.left) × (self.new.octets ≡ self.old.octets ++ piece)
             × (result ≡ Ok true → 0 < length piece)
             × (result ≡ Ok false → length piece ≡ 0)
-            × (W.sound wire.new → W.sound wire.old × W.leads_to wire.old wire.new × Drew (W.history wire.old) (W.history wire.new) piece
+            × WhereSound W.sound W.leads_to wire.old wire.new (Drew (W.history wire.old) (W.history wire.new) piece
             × TakesMore result self.new.left (W.history wire.new)) }
     {
         if self.left == 0 {
@@ -104,51 +103,8 @@ impl Intake {
         }
     }
 
-    /// Drops a line that is too long, and its CR LF. The link is told of its front.
-    fn long_line<W: Wire>(&mut self, wire: &mut W) -> Result<NextLine, ServerFault>
-        requires none { HasNoLine MAX_LINE self.old.octets }
-        requires long { MAX_LINE ≤ length self.old.octets }
-        ensures counted { CountsFailure (W.history wire.old) result (W.history wire.new) }
-        ensures err { IfErr result (λ e. e ≡ ServerFault.ReadFailed) }
-        ensures found { IfOk result (λ heard. Found heard self.new) }
-        ensures fewer { length self.new.octets + 2 * self.new.left < length self.old.octets + 2 * self.old.left }
-        ensures hears { WhereSound W.sound W.leads_to wire.old wire.new
-            (Hears (W.history wire.old) self.old result (W.history wire.new) self.new) }
-    {
-        let waiting = self.waiting();
-        wire.note(Note::Command(&waiting[..MAX_LINE.min(waiting.len())]));
-        self.drop_line(wire)
-    }
-
-    /// Drops a line that is too long, and its CR LF.
-    fn drop_line<W: Wire>(&mut self, wire: &mut W) -> Result<NextLine, ServerFault>
-        requires none { HasNoLine MAX_LINE self.old.octets }
-        requires long { MAX_LINE ≤ length self.old.octets }
-        ensures counted { CountsFailure (W.history wire.old) result (W.history wire.new) }
-        ensures err { IfErr result (λ e. e ≡ ServerFault.ReadFailed) }
-        ensures found { IfOk result (λ heard. Found heard self.new) }
-        ensures fewer { length self.new.octets + 2 * self.new.left < length self.old.octets + 2 * self.old.left }
-        ensures hears { WhereSound W.sound W.leads_to wire.old wire.new
-            (Hears (W.history wire.old) self.old result (W.history wire.new) self.new) }
-    {
-        self.skip(MAX_LINE - 1);
-        loop {
-            if let Some(length) = self.line_end() {
-                self.skip(length + 2);
-                return Ok(NextLine::LongLine);
-            }
-            if self.waiting().len() >= MAX_LINE {
-                self.skip(MAX_LINE - 1);
-                continue;
-            }
-            if !self.more(wire)? {
-                return Ok(NextLine::End);
-            }
-        }
-    }
-
-    /// Waits for the next line. A line longer than [`MAX_LINE`] is read to its CR LF and dropped.
-    /// No `recv` is made while a whole line waits. The only fault is ReadFailed.
+    /// Waits for the next line. A line longer than [`MAX_LINE`] is read to its CR LF and dropped; the link is
+    /// told of its front. No `recv` is made while a whole line waits. The only fault is ReadFailed.
     pub fn next<W: Wire>(&mut self, wire: &mut W) -> Result<NextLine, ServerFault>
         ensures counted { CountsFailure (W.history wire.old) result (W.history wire.new) }
         ensures err { IfErr result (λ e. e ≡ ServerFault.ReadFailed) }
@@ -158,16 +114,27 @@ impl Intake {
         ensures hears { WhereSound W.sound W.leads_to wire.old wire.new
             (Hears (W.history wire.old) self.old result (W.history wire.new) self.new) }
     {
+        let mut is_long = false;
         loop {
             if let Some(length) = self.line_end() {
+                if is_long {
+                    self.skip(length + 2);
+                    return Ok(NextLine::LongLine);
+                }
                 return Ok(NextLine::Line(length));
             }
-            if self.waiting().len() >= MAX_LINE {
-                return self.long_line(wire);
+            if self.waiting().len() < MAX_LINE {
+                if !self.more(wire)? {
+                    return Ok(NextLine::End);
+                }
+                continue;
             }
-            if !self.more(wire)? {
-                return Ok(NextLine::End);
+            if !is_long {
+                let waiting = self.waiting();
+                wire.note(Note::Command(&waiting[..MAX_LINE.min(waiting.len())]));
             }
+            is_long = true;
+            self.skip(MAX_LINE - 1);
         }
     }
 }

@@ -1,7 +1,7 @@
 //! A link to a server in memory.
 ghost use Rattle.std.specs.Prelude.{◌≡◌, ◌≤◌, ◌<◌, ◌+◌, ◌++◌, ◌-◌, ◌^◌, ℕ, List, [], length};
 ghost use Rattle.std.specs.Prelude.{take, drop, true, false, IfOk, IfErr, IfSome, IfNone, MatchResult};
-ghost use Rattle.pop3_wire.specs.Link.{Link, with_failures, CountsFailure, Sends, Receives, WhereSound};
+ghost use Rattle.pop3_wire.specs.Link.{with_failures, CountsFailure, Sends, Receives, WhereSound};
 ghost use Rattle.mail_terms.specs.FailureCount.{greatest_count, counted_up};
 ghost use Rattle.pop3_wire.specs.Place.{HasLine};
 ghost use Rattle.pop3_server.specs.ServerMachine.{greeting, is_open};
@@ -88,8 +88,7 @@ impl<D: Maildrop> LoopWire<D> {
     pub fn into_inner(self) -> Server<D>
         ensures { result ≡ self.machine }
     {
-        let LoopWire { server, .. } = self;
-        server
+        self.server
     }
 
     /// The length of the first whole line that waits, without its CR LF, while the server is open.
@@ -116,22 +115,14 @@ impl<D: Maildrop> LoopWire<D> {
         ensures fewer { IfOk result (λ _. length self.new.waiting < length self.old.waiting) }
         ensures serves { Serves D.sound D.mail self.old self.new }
     {
-        let answer = match self
-            .server
-            .answer(&self.sent[self.used..self.used + octets])
-        {
-            Ok(answer) => answer,
-            Err(_) => {
-                self.down = true;
-                return Err(WireDown);
-            }
+        let line = &self.sent[self.used..self.used + octets];
+        let Ok(answer) = self.server.answer(line) else {
+            self.down = true;
+            return Err(WireDown);
         };
         self.used += octets + 2;
-        if self
-            .answers
-            .extend_from_slice(answer.bytes.as_slice())
-            .is_err()
-        {
+        let kept = self.answers.extend_from_slice(answer.bytes.as_slice());
+        if kept.is_err() {
             self.down = true;
             return Err(WireDown);
         }
@@ -224,7 +215,7 @@ impl<D: Maildrop> Wire for LoopWire<D> {
         let n = piece.len().min(buf.len());
         buf[..n].copy_from_slice(&piece[..n]);
         self.given += n;
-        self.ended = self.ended || n == 0;
+        self.ended = self.ended | (n == 0);
         Ok(n)
     }
 

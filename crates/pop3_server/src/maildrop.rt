@@ -1,12 +1,13 @@
 //! Maildrops: messages that a server lists, gives and removes (RFC 1939, section 4).
-ghost use Rattle.std.specs.Prelude.{◌≡◌, ℕ, ◌≤◌, ◌<◌, ◌+◌, ◌^◌, length, IsTrue, IfOk, IfErr, map, vec_len};
+ghost use Rattle.std.specs.Prelude.{◌≡◌, ◌≤◌, ◌<◌, ◌+◌, ◌^◌, length, IsTrue, IfOk, IfErr, map, vec_len};
 ghost use Rattle.mail_terms.specs.UniqueId.{is_legal_id};
 ghost use Rattle.mail_terms.specs.Distinct.{AreDistinct};
 ghost use Rattle.mail_terms.specs.FailureCount.{Tallies, counted_up, refuses};
-ghost use Rattle.pop3_server.specs.Maildrop.{Mail, Listed, HasPlace, ListsMessages, Gives, GivesPart, Removes, is_refusal};
+ghost use Rattle.pop3_server.specs.declared.maildrop.DropFault.TheVariants.{NoMemory};
+ghost use Rattle.pop3_server.specs.Maildrop.{Mail, Listed, HasPlace, ListsMessages, Gives, GivesPart, Removes, is_refusal, max_size};
 
 use pop3_wire::Bytes;
-use std::alloc::{AllocError, AllocFailed};
+use std::alloc::AllocError;
 use std::marker::Model;
 use thiserror::Error;
 
@@ -28,23 +29,9 @@ pub enum DropFault {
 }
 
 impl From<AllocError> for DropFault {
-    ghost use Rattle.std.specs.Prelude.{◌≡◌};
-    ghost use Rattle.pop3_server.specs.declared.maildrop.DropFault.TheVariants.{NoMemory};
-
     ghost from_gives = { λ _ e. e ≡ NoMemory };
 
     fn from(_error: AllocError) -> DropFault {
-        DropFault::NoMemory
-    }
-}
-
-impl<T: Drop> From<AllocFailed<T>> for DropFault {
-    ghost use Rattle.std.specs.Prelude.{◌≡◌};
-    ghost use Rattle.pop3_server.specs.declared.maildrop.DropFault.TheVariants.{NoMemory};
-
-    ghost from_gives = { λ _ e. e ≡ NoMemory };
-
-    fn from(_error: AllocFailed<T>) -> DropFault {
         DropFault::NoMemory
     }
 }
@@ -58,10 +45,6 @@ pub struct Entry {
 }
 
 impl Model for Entry {
-    ghost use Rattle.std.specs.Prelude.{◌≤◌, IsTrue};
-    ghost use Rattle.mail_terms.specs.UniqueId.{is_legal_id};
-    ghost use Rattle.pop3_server.specs.Maildrop.{Listed, max_size};
-
     ghost Value = { Listed };
 
     ghost view = { λ e. record { uid = e.uid; size = e.size } };

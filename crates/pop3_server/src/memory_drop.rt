@@ -1,13 +1,12 @@
 //! A maildrop in memory.
 ghost use Rattle.std.specs.Prelude.{◌≡◌, ◌≤◌, ◌<◌, ◌+◌, ◌^◌, ◌∷◌, [], ◌++◌, ◌↔◌, ◌==◌, IsTrue, IfOk};
-ghost use Rattle.std.specs.Prelude.{IfErr, OnErr, IsOk, map, length, take, drop, slice_get, vec_len, Some};
+ghost use Rattle.std.specs.Prelude.{OnErr, map, length, take, drop, slice_get, Some};
 ghost use Rattle.std.specs.List.{Contains};
 ghost use Rattle.mail_terms.specs.UniqueId.{is_legal_id};
 ghost use Rattle.pop3_wire.specs.World.{Message};
 ghost use Rattle.pop3_server.specs.Size.{size_of};
 ghost use Rattle.mail_terms.specs.Distinct.{AreDistinct};
-ghost use Rattle.mail_terms.specs.FailureCount.{Tallies, counted_up, refuses};
-ghost use Rattle.pop3_server.specs.Maildrop.{Mail, Listed, there, ids, entry_of, HasPlace, ListsMessages, Gives, Removes, is_refusal};
+ghost use Rattle.pop3_server.specs.Maildrop.{Mail, there, ids, entry_of, HasPlace, max_count};
 
 use crate::maildrop::{DropFault, Entry, MAX_COUNT, MAX_SIZE, Maildrop};
 use crate::size::size_of;
@@ -23,10 +22,6 @@ struct StoredMessage {
 }
 
 impl Model for StoredMessage {
-    ghost use Rattle.std.specs.Prelude.{◌≡◌};
-    ghost use Rattle.pop3_wire.specs.World.{Message};
-    ghost use Rattle.pop3_server.specs.Size.{size_of};
-
     ghost Value = { Message };
 
     ghost view = { λ k. record { uid = k.entry.uid; size = k.entry.size; text = k.text.items } };
@@ -82,13 +77,6 @@ impl StoredMessage {
         let n = rest.len().min(piece.len());
         piece[..n].copy_from_slice(&rest[..n]);
         n
-    }
-
-    /// A copy of its text.
-    fn copied(&self, alloc: Global) -> Result<Vec<u8>, AllocError>
-        ensures { IfOk result (λ text. text.items ≡ self.now.text) }
-    {
-        Vec::from_slice(alloc, self.text.as_slice())
     }
 }
 
@@ -147,10 +135,6 @@ pub struct MemoryDrop {
 }
 
 impl Model for MemoryDrop {
-    ghost use Rattle.std.specs.Prelude.{◌≤◌, length};
-    ghost use Rattle.mail_terms.specs.Distinct.{AreDistinct};
-    ghost use Rattle.pop3_server.specs.Maildrop.{Mail, there, ids, max_count};
-
     ghost Value = { Mail };
 
     ghost view = { λ d. record { slots = d.slots.items; failures = 0; removals = d.removals } };
@@ -198,8 +182,7 @@ impl MemoryDrop {
     {
         match self.slots.get(i) {
             Some(Some(_)) => true,
-            Some(None) => false,
-            None => false,
+            _ => false,
         }
     }
 
@@ -246,7 +229,7 @@ impl Maildrop for MemoryDrop {
     }
 
     fn text(&mut self, i: usize) -> Result<Vec<u8>, DropFault> {
-        Ok(self.stored_at(i).copied(self.alloc)?)
+        Ok(Vec::from_slice(self.alloc, self.stored_at(i).text.as_slice())?)
     }
 
     fn part(&mut self, i: usize, start: usize, piece: &mut [u8]) -> Result<usize, DropFault> {

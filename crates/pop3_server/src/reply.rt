@@ -1,7 +1,7 @@
 //! The replies of a server, each whole, with its CR LF (RFC 1939, sections 5 to 7).
-ghost use Rattle.std.specs.Prelude.{◌≡◌, ◌≤◌, ◌<◌, ◌++◌, length, IfOk, IfErr, codes, vec_len};
+ghost use Rattle.std.specs.Prelude.{◌≡◌, ◌≤◌, ◌<◌, ◌++◌, length, IfOk, IfErr, codes};
 ghost use Rattle.std.specs.Fmt.{decimal};
-ghost use Rattle.pop3_server.specs.ServerMachine.{said, scan_line, uid_line, listed, lines_from};
+ghost use Rattle.pop3_server.specs.ServerMachine.{said, listed};
 ghost use Rattle.pop3_server.specs.ReplyLines.{row_line};
 ghost use Rattle.pop3_server.specs.ServerMachine.{left_count, left_total, octets_line};
 
@@ -49,39 +49,6 @@ pub enum Column {
     Uid,
 }
 
-/// Appends a message's line of LIST.
-fn put_size(
-    reply: &mut Vec<u8>,
-    alloc: Global,
-    number: usize,
-    row: &MessageRow,
-) -> Result<(), ServerFault>
-    ensures ok { IfOk result (λ _. reply.new.items ≡ reply.old.items ++ said (scan_line number row.now)) }
-    ensures err { IfErr result (λ e. e ≡ ServerFault.NoMemory) }
-{
-    let size = row.entry.size();
-    let line = format!(in alloc; "{number} {size}\r\n")?;
-    reply.extend_from_slice(line.as_bytes())?;
-    Ok(())
-}
-
-/// Appends a message's line of UIDL.
-fn put_uid(
-    reply: &mut Vec<u8>,
-    alloc: Global,
-    number: usize,
-    row: &MessageRow,
-) -> Result<(), ServerFault>
-    ensures ok { IfOk result (λ _. reply.new.items ≡ reply.old.items ++ said (uid_line number row.now)) }
-    ensures err { IfErr result (λ e. e ≡ ServerFault.NoMemory) }
-{
-    let front = format!(in alloc; "{number} ")?;
-    reply.extend_from_slice(front.as_bytes())?;
-    reply.extend_from_slice(row.entry.uid())?;
-    reply.extend_from_slice(b"\r\n")?;
-    Ok(())
-}
-
 /// Appends a message's line of a listing.
 fn put_row(
     reply: &mut Vec<u8>,
@@ -94,8 +61,17 @@ fn put_row(
     ensures err { IfErr result (λ e. e ≡ ServerFault.NoMemory) }
 {
     match column {
-        Column::Size => put_size(reply, alloc, number, row),
-        Column::Uid => put_uid(reply, alloc, number, row),
+        Column::Size => {
+            let size = row.entry.size();
+            let line = format!(in alloc; "{number} {size}\r\n")?;
+            Ok(reply.extend_from_slice(line.as_bytes())?)
+        }
+        Column::Uid => {
+            let front = format!(in alloc; "{number} ")?;
+            reply.extend_from_slice(front.as_bytes())?;
+            reply.extend_from_slice(row.entry.uid())?;
+            Ok(reply.extend_from_slice(b"\r\n")?)
+        }
     }
 }
 

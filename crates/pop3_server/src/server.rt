@@ -5,8 +5,8 @@ ghost use Rattle.pop3_server.specs.declared.state.State.TheVariants.{Authorizati
 ghost use Rattle.pop3_server.specs.AnswersLines.{AnswersLine, MakesAnswer, RefusesPart, SameServer};
 ghost use Rattle.pop3_server.specs.Events.{event_of};
 ghost use Rattle.pop3_server.specs.Maildrop.{HasPlace};
-ghost use Rattle.pop3_server.specs.ServerMachine.{Machine, action_of, greeting, is_open, next_of};
-ghost use Rattle.pop3_server.specs.TextAnswer.{AnswersOrBegins, Follows, IsFurther};
+ghost use Rattle.pop3_server.specs.ServerMachine.{Machine, greeting, is_open, next_of};
+ghost use Rattle.pop3_server.specs.TextAnswer.{Follows, IsFurther};
 
 use crate::commands::{Outcome, authorize, transact};
 use crate::fault::ServerFault;
@@ -66,8 +66,7 @@ fn is_closed(state: &State) -> bool
 {
     match state {
         State::Closed => true,
-        State::Authorization(_) => false,
-        State::Transaction(_) => false,
+        _ => false,
     }
 }
 
@@ -127,11 +126,9 @@ impl<D: Maildrop> Server<D> {
         ensures event { IfOk result (λ answer. answer.event ≡ None) }
         ensures err { IfErr result (λ e. e ≡ ServerFault.NoMemory) }
     {
-        let bytes = say(self.alloc, b"+OK popd ready")?;
-        let closing = is_closed(&self.state);
         Ok(Answer {
-            bytes,
-            closing,
+            bytes: say(self.alloc, b"+OK popd ready")?,
+            closing: is_closed(&self.state),
             event: None,
         })
     }
@@ -167,30 +164,14 @@ impl<D: Maildrop> Server<D> {
             ((D.mail self.new.drop).failures - (D.mail self.old.drop).failures)) }
         ensures err { IfErr result (λ e. (e ≡ ServerFault.NoMemory) × SameServer D.sound D.mail self.old self.new) }
     {
-        match read_command(self.alloc, line) {
-            Ok(command) => self.obey(command, limit),
-            Err(WireFault::NoMemory) => Err(ServerFault::NoMemory),
+        let command = match read_command(self.alloc, line) {
+            Ok(command) => command,
+            Err(WireFault::NoMemory) => return Err(ServerFault::NoMemory),
             Err(_) => {
                 let outcome = Outcome::stay(say(self.alloc, b"-ERR bad command")?);
-                Ok(take(&mut self.state, outcome, 0))
+                return Ok(take(&mut self.state, outcome, 0));
             }
-        }
-    }
-
-    /// Begins the answer to a command, in the state that the server is in.
-    fn obey(&mut self, command: Command, limit: usize) -> Result<Begun, ServerFault>
-        requires { is_open self.old.state ≡ true }
-        ensures who { (self.new.user ≡ self.old.user) × (self.new.pass ≡ self.old.pass) }
-        ensures ok { IfOk result (λ begun. AnswersOrBegins D.sound D.mail
-            (action_of self.old.user self.old.pass self.old.state (Ok command))
-            self.old.drop begun.answer.bytes.items begun.rest self.new.state self.new.drop) }
-        ensures follows { IfOk result (λ begun. IfSome begun.rest
-            (λ text. Follows limit text × (self.new.state ≡ self.old.state))) }
-        ensures closing { IfOk result (λ begun. begun.answer.closing ≡ not (is_open self.new.state)) }
-        ensures event { IfOk result (λ begun. begun.answer.event ≡ event_of self.old.state self.new.state
-            ((D.mail self.new.drop).failures - (D.mail self.old.drop).failures)) }
-        ensures err { IfErr result (λ e. (e ≡ ServerFault.NoMemory) × SameServer D.sound D.mail self.old self.new) }
-    {
+        };
         let failures = self.drop.failures();
         let outcome = match &mut self.state {
             State::Authorization(given) => authorize(
@@ -248,7 +229,6 @@ impl<D: Maildrop> Server<D> {
     pub fn into_drop(self) -> D
         ensures { result ≡ self.drop }
     {
-        let Server { drop, .. } = self;
-        drop
+        self.drop
     }
 }

@@ -6,7 +6,7 @@ ghost use Rattle.pop3_server.specs.Serving.{SendsAnswer, Served, is_refusal};
 
 use crate::fault::ServerFault;
 use crate::intake::{Intake, NextLine};
-use crate::journal::{Event, Journal, NoJournal};
+use crate::journal::{Journal, NoJournal};
 use crate::maildrop::Maildrop;
 use crate::server::{Begun, Server};
 use crate::text_part::{ROOM, TextBody};
@@ -60,13 +60,6 @@ fn send<W: Wire>(
     }
 }
 
-/// Passes an event to a journal, if there is one.
-fn tell<J: Journal>(journal: &mut J, event: Option<Event>) {
-    if let Some(event) = event {
-        journal.note(event);
-    }
-}
-
 /// Reserves room in a buffer for what follows of a text, if one follows.
 fn make_room(buffer: &mut Vec<u8>, rest: &Option<TextBody>) -> Result<(), ServerFault>
     ensures same { buffer.new.items ≡ buffer.old.items }
@@ -77,10 +70,7 @@ fn make_room(buffer: &mut Vec<u8>, rest: &Option<TextBody>) -> Result<(), Server
         return Ok(());
     }
     let room = (CHUNK + ROOM).saturating_sub(buffer.len());
-    match buffer.reserve(room) {
-        Ok(()) => Ok(()),
-        Err(_) => Err(ServerFault::NoMemory),
-    }
+    Ok(buffer.reserve(room)?)
 }
 
 /// Answers a line, and returns whether the session is over. A long text is sent as it is read, one
@@ -101,7 +91,9 @@ fn answer_line<D: Maildrop, W: Wire, J: Journal>(
 {
     wire.note(Note::Command(line));
     let Begun { answer, mut rest } = server.begin(line, CHUNK)?;
-    tell(journal, answer.event);
+    if let Some(event) = answer.event {
+        journal.note(event);
+    }
     let closing = answer.closing;
     let mut bytes = answer.bytes;
     let mut is_first = true;

@@ -1,12 +1,12 @@
 //! Sizes of texts, in octets on the wire without stuffing: each line's end counts as two, and a last
 //! piece without LF is a line (RFC 1939, section 11).
-ghost use Rattle.std.specs.Prelude.{◌≡◌, ◌++◌, ℕ, List, [], Bool, true, false, ◌+◌, if◌then◌else◌};
-ghost use Rattle.pop3_server.specs.Size.{CountsText, weight, size_of, capped};
+ghost use Rattle.std.specs.Prelude.{◌≡◌, ◌++◌, ℕ, List, [], false, ◌+◌};
+ghost use Rattle.pop3_server.specs.Size.{CountsText, size_of, capped};
 
 use crate::text_line::cut_line;
 
 /// How many octets the end of a line counts for.
-const LINE_END: usize = 2;
+const LINE_END: u64 = 2;
 
 /// Counts the size of a text that is read piece by piece.
 #[derive(Clone, Copy)]
@@ -32,22 +32,13 @@ impl SizeCount {
     {
         let mut rest = piece;
         while let Some((line, after)) = cut_line(rest) {
-            self.count(line.len());
-            self.count(LINE_END);
+            self.octets = self.octets.saturating_add(line.len() as u64);
+            self.octets = self.octets.saturating_add(LINE_END);
             self.in_line = false;
             rest = after;
         }
-        self.count(rest.len());
-        if !rest.is_empty() {
-            self.in_line = true;
-        }
-    }
-
-    /// Counts `octets` more, up to the greatest number.
-    fn count(&mut self, octets: usize)
-        ensures { self.new ≡ record self.old { octets = capped (self.old.octets + octets) } }
-    {
-        self.octets = self.octets.saturating_add(octets as u64);
+        self.octets = self.octets.saturating_add(rest.len() as u64);
+        self.in_line = !rest.is_empty() | self.in_line;
     }
 
     /// The size so far.
@@ -56,7 +47,7 @@ impl SizeCount {
         ensures { (text : List ℕ) → CountsText self.now text → result ≡ capped (size_of text) }
     {
         if self.in_line {
-            self.octets.saturating_add(2)
+            self.octets.saturating_add(LINE_END)
         } else {
             self.octets
         }

@@ -36,7 +36,7 @@ impl Stuffer {
     }
 
     /// Appends what a piece of the text adds to its body.
-    #[tactic(auto, using(crate::proofs::TextPieceLemmas::open_some))]
+    #[tactic(auto, using(crate::proofs::TextPieceLemmas::open_rest))]
     pub fn put(&mut self, body: &mut Vec<u8>, piece: &[u8]) -> Result<(), AllocError>
         ensures body { IfOk result (λ _. body.new.items ≡ body.old.items ++ sent_piece self.old.in_line piece.now) }
         ensures in_line { IfOk result (λ _. self.new.in_line ≡ is_open_after self.old.in_line piece.now) }

@@ -38,20 +38,11 @@ impl TextBody {
         ensures start { result.start ≡ 0 }
         ensures whole { (text : List ℕ) → still result text ≡ text_body count text }
     {
-        let stuffer = Stuffer::new();
-        match count {
-            None => TextBody {
-                place,
-                start: 0,
-                top: None,
-                stuffer,
-            },
-            Some(count) => TextBody {
-                place,
-                start: 0,
-                top: Some(Top::new(count)),
-                stuffer,
-            },
+        TextBody {
+            place,
+            start: 0,
+            top: count.map(|count| Top::new(count)),
+            stuffer: Stuffer::new(),
         }
     }
 

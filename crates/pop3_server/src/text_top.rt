@@ -1,5 +1,5 @@
 //! The top of a text that comes piece by piece (RFC 1939, section 7).
-ghost use Rattle.std.specs.Prelude.{◌≡◌, ◌==◌, ◌<◌, ◌≤◌, ◌↔◌, ◌||◌, length, not, ◌++◌, ◌∷◌, ℕ, List, IsTrue, true, false};
+ghost use Rattle.std.specs.Prelude.{◌≡◌, ◌<◌, ◌≤◌, ◌↔◌, length, ◌++◌, ◌∷◌, ℕ, List, IsTrue, true, false};
 ghost use Rattle.mail_terms.specs.Text.{HasNoLf};
 ghost use Rattle.pop3_server.specs.TextPiece.{taken, top_begun};
 
@@ -36,13 +36,6 @@ impl Top {
         !self.in_head && self.left == 0
     }
 
-    /// Whether a line is open after some octets of it.
-    fn is_open_behind(&self, octets: &[u8]) -> bool
-        ensures { result ≡ (self.now.in_line || not (length octets.now == 0)) }
-    {
-        self.in_line || !octets.is_empty()
-    }
-
     /// Ends a line of it, after some octets of that line.
     #[tactic(auto, using(crate::proofs::TextTopLemmas::ends_head, crate::proofs::TextTopLemmas::ends_later))]
     fn end_line(&mut self, octets: &[u8])
@@ -51,7 +44,7 @@ impl Top {
             → taken self.old (octets.now ++ 10 ∷ rest) ≡ octets.now ++ 10 ∷ taken self.new rest }
     {
         if self.in_head {
-            self.in_head = self.is_open_behind(octets);
+            self.in_head = !octets.is_empty() | self.in_line;
         } else {
             self.left -= 1;
         }
@@ -71,7 +64,7 @@ impl Top {
                     rest = after;
                 }
                 None => {
-                    self.in_line = self.is_open_behind(rest);
+                    self.in_line = !rest.is_empty() | self.in_line;
                     return piece;
                 }
             }

@@ -1,12 +1,11 @@
 //! The listing of a Maildir: the files that are found, and the messages that they are.
-ghost use Rattle.std.specs.Prelude.{◌≡◌, ◌≤◌, false, map, vec_len, IfOk, IfSome};
-ghost use Rattle.std.specs.HashSet.{IsEmpty, contains};
+ghost use Rattle.std.specs.Prelude.{◌≡◌, ◌≤◌, ◌+◌, false, map, vec_len, IfOk, IfSome, OnOk};
+ghost use Rattle.std.specs.HashSet.{contains};
 ghost use Rattle.std.specs.String.{string_bytes};
 ghost use Rattle.mail_terms.specs.Distinct.{AreDistinct};
-ghost use Rattle.folder_drop.specs.ListedIds.{same_key};
+ghost use Rattle.folder_drop.specs.ListedIds.{same_key, AreListed, IsNew};
 ghost use Rattle.folder_drop.specs.RealMaildir.{id_of_name, names_of, uid_of, HaveIds};
 
-use crate::folders_look::FoldersLook;
 use crate::listed_file::{CountedSizes, FoundFiles, ListedFile, Listing, PIECE};
 use crate::maildir_drop::MaildirDrop;
 use crate::maildir_names::{MailFile, unique_id};
@@ -40,9 +39,6 @@ struct Messages {
 }
 
 impl Messages {
-    ghost use Rattle.std.specs.Prelude.{◌+◌, OnOk};
-    ghost use Rattle.folder_drop.specs.ListedIds.{AreListed, IsNew};
-
     /// Lists one more message: the file's, with a copy of its id.
     fn add(&mut self, key: Vec<u8>, entry: Entry, file: MailFile) -> Result<(), AllocError>
         ensures one_more { OnOk result (vec_len self.new.entries ≡ vec_len self.old.entries + 1) }
@@ -54,22 +50,6 @@ impl Messages {
         self.files.push(ListedFile::of(file, entry.size()))?;
         self.entries.push(entry)?;
         Ok(())
-    }
-
-    /// The messages, found after this look at the folders.
-    fn after(self, look: FoldersLook) -> ListedMessages
-        ensures entries { result.entries ≡ self.entries }
-        ensures files { result.listing.files ≡ self.files }
-    {
-        let Messages {
-            ids: _,
-            entries,
-            files,
-        } = self;
-        ListedMessages {
-            entries,
-            listing: Listing { look, files },
-        }
     }
 }
 
@@ -90,24 +70,8 @@ impl<'a, R: Files + Clock + RandomSource + AllocGlobal + Clone + Drop> MaildirDr
         Ok(FoundFiles { look, files })
     }
 
-    /// The size of a file: the one that is known, or else the file is read. None if it is gone.
-    fn size_of(
-        &self,
-        last_seen: &mut SeenFiles,
-        file: &MailFile,
-        known: Option<u64>,
-        piece: &mut [u8],
-    ) -> io::Result<Option<u64>> {
-        match known {
-            Some(size) => Ok(Some(size)),
-            None => self
-                .folders
-                .size(last_seen, file.folder, file.name.as_str(), piece),
-        }
-    }
-
-    /// A file's message, and a copy of its id for the set of listed ids. None if the set has its id
-    /// already, if it is above the limit of sizes, or if the file is gone.
+    /// A file's message, and a copy of its id for the set of listed ids. The file is read if its size isn't
+    /// known. None if the set has its id already, if it is above the limit of sizes, or if the file is gone.
     fn message(
         &self,
         last_seen: &mut SeenFiles,
@@ -127,32 +91,30 @@ impl<'a, R: Files + Clock + RandomSource + AllocGlobal + Clone + Drop> MaildirDr
         if listed.contains(&key) || file.stamp.length > MAX_SIZE {
             return Ok(None);
         }
-        match self.size_of(last_seen, file, known, piece)? {
+        let name = file.name.as_str();
+        let size = match known {
+            Some(size) => Some(size),
+            None => self.folders.size(last_seen, file.folder, name, piece)?,
+        };
+        match size {
             Some(size) if size <= MAX_SIZE => Ok(Some((key, Entry::new(uid, size)))),
             _ => Ok(None),
         }
     }
 
-    /// An empty set with room for `count` ids. Its hash keys are random, since the names of files
-    /// may come from ids that a server chose.
-    fn no_ids(&self, count: usize) -> io::Result<Ids>
-        ensures { IfOk result (λ ids. IsEmpty ids) }
-    {
-        let hasher = RandomState::new(self.system.rt)?;
-        Ok(HashSet::with_capacity_and_hasher(self.system.alloc(), count, hasher)?)
-    }
-
-    /// The messages of these files: only the first of several with the same id, none above the
+    /// The messages of the Maildir as it is now: only the first of several with the same id, none above the
     /// limits, and none whose file is gone.
-    fn list(&self, last_seen: &mut SeenFiles, found: FoundFiles) -> io::Result<ListedMessages>
+    pub(crate) fn look(&self, last_seen: &mut SeenFiles) -> io::Result<ListedMessages>
         ensures within { IfOk result (λ listed. vec_len listed.entries ≤ MAX_COUNT) }
         ensures distinct { IfOk result (λ listed. AreDistinct (map uid_of listed.entries.items)) }
         ensures names { IfOk result (λ listed. HaveIds listed.entries.items (names_of listed.listing.files.items)) }
     {
         let alloc = self.system.alloc();
-        let FoundFiles { look, files: found } = found;
+        let FoundFiles { look, files: found } = self.find(last_seen)?;
+        // Random, since the names of files may come from ids that a server chose.
+        let hasher = RandomState::new(self.system.rt)?;
         let mut listed = Messages {
-            ids: self.no_ids(found.len())?,
+            ids: HashSet::with_capacity_and_hasher(alloc, found.len(), hasher)?,
             entries: Vec::with_capacity(alloc, found.len())?,
             files: Vec::with_capacity(alloc, found.len())?,
         };
@@ -169,16 +131,12 @@ impl<'a, R: Files + Clock + RandomSource + AllocGlobal + Clone + Drop> MaildirDr
             };
             listed.add(key, entry, file)?;
         }
-        Ok(listed.after(look))
-    }
-
-    /// The messages of the Maildir as it is now.
-    pub(crate) fn look(&self, last_seen: &mut SeenFiles) -> io::Result<ListedMessages>
-        ensures within { IfOk result (λ listed. vec_len listed.entries ≤ MAX_COUNT) }
-        ensures distinct { IfOk result (λ listed. AreDistinct (map uid_of listed.entries.items)) }
-        ensures names { IfOk result (λ listed. HaveIds listed.entries.items (names_of listed.listing.files.items)) }
-    {
-        let found = self.find(last_seen)?;
-        self.list(last_seen, found)
+        Ok(ListedMessages {
+            entries: listed.entries,
+            listing: Listing {
+                look,
+                files: listed.files,
+            },
+        })
     }
 }

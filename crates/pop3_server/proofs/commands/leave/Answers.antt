@@ -1,9 +1,10 @@
 use Rattle.std.proofs.Common.{◌≡◌, refl, ◌+◌, ◌&&◌, drop, arith, true, []}
 use Rattle.std.proofs.Math.Bool.{and_assoc, and-true}
 use Rattle.std.proofs.lemmas.Grind.{common_steps}
+use Rattle.std.proofs.lemmas.List.{drop_more}
 use Rattle.std.proofs.lemmas.Option.{slice_get_read}
 use Rattle.pop3_server.specs.ServerMachine.{none, stays, goes}
-use Rattle.pop3_server.proofs.RemovalLemmas.{drop_row, later_place}
+use Rattle.pop3_server.proofs.RemovalLemmas.{later_place}
 use Rattle.pop3_server.proofs.commands.leave.Goals as goal
 
 pub remove_at-done-requires : goal.remove_at-done-requires
@@ -15,7 +16,7 @@ loop-i-preserved-then-not-row g c =
     let rows = c.args.rows.now in
     let i = c.loop-i.i in
     let row = c.index-rows-i.result in
-    let cut = drop_row rows i row c.index-rows-i.is c.loop-i-test.true in
+    let cut = rw (← c.index-rows-i.is) at (drop_more rows i row c.loop-i-test.true) in
     let mail = g.D.Maildrop.mail c.loop-i.drop in (
       rw (cut, c.if-not-row.true) at c.loop-i.invariant.0,
       λ s. let inv = c.loop-i.invariant.1 s in
@@ -27,7 +28,7 @@ loop-i-preserved g c =
     let rows = c.args.rows.now in
     let i = c.loop-i.i in
     let row = c.index-rows-i.result in
-    let cut = drop_row rows i row c.index-rows-i.is c.loop-i-test.true in
+    let cut = rw (← c.index-rows-i.is) at (drop_more rows i row c.loop-i-test.true) in
     let mail = g.D.Maildrop.mail c.loop-i.drop in
     let next = g.D.Maildrop.mail c.remove_at-done.new.drop in
     let done = c.remove_at-done.result in (

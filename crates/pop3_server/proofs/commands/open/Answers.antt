@@ -5,8 +5,8 @@ use Rattle.pop3_server.specs.declared.rows.MessageRow.{MessageRow}
 use Rattle.pop3_server.specs.declared.state.State.TheVariants.{Transaction}
 use Rattle.pop3_server.specs.Maildrop.{Listed, Mail, there, entry_of, ListsMessages}
 use Rattle.pop3_server.specs.ServerMachine.{row_of, row_of_entry, Unanswered, Tied}
+use Rattle.pop3_server.proofs.ServeLemmas.{is_err}
 use Rattle.pop3_server.proofs.SlotLemmas.{there_map}
-use Rattle.std.proofs.lemmas.Result.{err_from_is_err_and}
 use Rattle.pop3_server.proofs.commands.open.Goals as goal
 
 -- a row of a listing has its message
@@ -33,13 +33,11 @@ module _ {D Z : Type 0} (sound : D → Type 0) (mail : D → Mail) (old new : D)
 
 pub returns-in_err-rows-clause-err : goal.returns-in_err-rows-clause-err
 returns-in_err-rows-clause-err g c =
-    let p = err_from_is_err_and c.from_residual-in_err-rows.result c.from_residual-in_err-rows.ensures.1 in
-    rw p.1 (p.2, unanswered_listing _ _ _ _ c.in-Ok.entries c.in-Ok.ensures.lists c.in-Ok.ensures.tally c.in-Ok.ensures.removes_none)
+    rw (is_err c.from_residual-in_err-rows.result c.from_residual-in_err-rows.ensures.1) (refl, unanswered_listing _ _ _ _ c.in-Ok.entries c.in-Ok.ensures.lists c.in-Ok.ensures.tally c.in-Ok.ensures.removes_none)
 
 pub returns-in_err-reply-clause-err : goal.returns-in_err-reply-clause-err
 returns-in_err-reply-clause-err g c =
-    let p = err_from_is_err_and c.from_residual-in_err-reply.result c.from_residual-in_err-reply.ensures.1 in
-    rw p.1 (p.2 ∙ c.in_err-reply.ensures.err, unanswered_listing _ _ _ _ c.in-Ok.entries c.in-Ok.ensures.lists c.in-Ok.ensures.tally c.in-Ok.ensures.removes_none)
+    rw (is_err c.from_residual-in_err-reply.result c.from_residual-in_err-reply.ensures.1) (c.in_err-reply.ensures.err, unanswered_listing _ _ _ _ c.in-Ok.entries c.in-Ok.ensures.lists c.in-Ok.ensures.tally c.in-Ok.ensures.removes_none)
 
 pub returns-clause-ok : goal.returns-clause-ok
 returns-clause-ok g c = λ state. rw c.go-2.ensures (record {

@@ -19,9 +19,9 @@ returns-in_err-rest-clause-answers g c =
     let fault = c.in_err-rest.ensures.err in
     rw (is_err c.from_residual-in_err-rest.result c.from_residual-in_err-rest.ensures.1) (and_then g.W.Wire g.met.W.Wire.leads_on before.2 c.in_ok-send.ensures.sends (λ link sent. rw fault.0 (
       before.0 ++ c.loop-bytes.bytes.items,
-      c.in-Some.text,
+      c.in-Some-rest.text,
       c.loop-bytes.server,
-      rw c.in-Some.is at before.1,
+      rw c.in-Some-rest.is at before.1,
       fault.1,
       rw (link, append_assoc, c.as_slice.ensures.value) at sent,
     )))

@@ -1,8 +1,8 @@
-use Rattle.std.proofs.Common.{◌≡◌, ◌≤◌, ◌+◌, ◌++◌, ◌==◌, ◌||◌, [], length, drop, refl, arith}
+use Rattle.std.proofs.Common.{◌≤◌, ◌+◌, ◌++◌, [], length, drop, refl, arith, take-append-drop}
 use Rattle.pop3_server.specs.ServerMachine.{greeting}
-use Rattle.pop3_server.specs.LoopLaws.{same_refl}
-use Rattle.pop3_server.proofs.LoopLemmas.{serves_none, nothing_sent, Gives, gives, refused}
-use Rattle.pop3_server.proofs.loop_wire.LoopWireWire.recv.Goals.{After-copy_from_slice, then-self-2, else-self-2}
+use Rattle.pop3_server.specs.LoopLaws.{same_refl, serves_none}
+use Rattle.pop3_server.proofs.LoopLemmas.{nothing_sent, Gives, gives, refused}
+use Rattle.pop3_server.proofs.loop_wire.LoopWireWire.recv.Goals.{After-copy_from_slice}
 use Rattle.pop3_server.proofs.loop_wire.LoopWireWire.recv.Goals as goal
 
 pub returns-then-self-clause-got : goal.returns-then-self-clause-got
@@ -20,14 +20,10 @@ invariant_of-self g c = (c.self.invariant.0, (given g (goal.at.invariant_of-self
 pub returns-clause-got : goal.returns-clause-got
 returns-clause-got g c =
     let r = c.self.inside in
-    let over : c.if-self-2.self ≡ r.ended || c.min-n.result == 0 = elim c.if-self-2.branch [
-      | then-self-2 w ↦ rw (w.self-is, w.if-self-2.true)
-      | else-self-2 w ↦ rw (w.self-is, w.if-self-2.false)
-    ] in
     rw (← c.self.view_is) (λ below. (
       below,
-      serves_none r.used r.given (r.given + c.min-n.result) (same_refl _ _ _) (λ _. refl) (λ e. e),
-      rw ((given g (goal.at.returns-clause-got g c).After-copy_from_slice).1, over),
+      serves_none _ _ _ _ (same_refl _ _ _) refl refl refl (λ _. take-append-drop (r.given + c.min-n.result) (greeting ++ r.answers.items)) (λ _. refl) (λ e. e),
+      rw ((given g (goal.at.returns-clause-got g c).After-copy_from_slice).1),
     ))
 
 pub returns-clause-gives : goal.returns-clause-gives

@@ -18,7 +18,7 @@ returns-in-None-clause-taken c = λ rest.
     let so_far = c.loop-rest.invariant in
     let self = c.loop-rest.self in
     let more = not_done c.is_done.result self.in_head self.left c.is_done.ensures c.loop-rest-test.true in
-    so_far.2 rest ∙ rw (takes_rest self.in_head self.in_line c.is_open_behind-self.result self.left c.loop-rest.rest.now rest c.in-None.ensures.cut more c.is_open_behind-self.ensures, so_far.1) (simp append_assoc)
+    so_far.2 rest ∙ rw (takes_rest self.in_head self.in_line self.left c.loop-rest.rest.now rest c.in-None.ensures.cut more, c.is_empty.ensures, so_far.1) (simp append_assoc)
 
 pub returns-clause-taken : goal.returns-clause-taken
 returns-clause-taken c = λ rest.

@@ -1,7 +1,7 @@
 use Rattle.std.proofs.Common.{◌≡◌, arith, false}
 use Rattle.std.specs.HashSet.{contains}
 use Rattle.folder_drop.specs.ListedIds.{same_key}
-use Rattle.folder_drop.proofs.maildir_drop.MaildirDrop.list.Goals as goal
+use Rattle.folder_drop.proofs.maildir_drop.MaildirDrop.look.Goals as goal
 
 pub loop-file-preserved : goal.loop-file-preserved
 loop-file-preserved g c =

@@ -1,7 +1,7 @@
 use Rattle.std.proofs.Common.{◌≤◌, vec_len}
 use Rattle.folder_drop.specs.ListedIds.{AreListed}
 use Rattle.folder_drop.specs.RealMaildir.{names_of}
-use Rattle.folder_drop.proofs.maildir_drop.MaildirDrop.list.Given as goal
+use Rattle.folder_drop.proofs.maildir_drop.MaildirDrop.look.Given as goal
 
 abbrev pub invariant-loop-file : goal.invariant-loop-file
 invariant-loop-file g l =
