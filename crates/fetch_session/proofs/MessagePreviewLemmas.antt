@@ -26,12 +26,6 @@ plus_fate : (left : LeftOut) (fate : Fate) → with_fate left fate
 plus_fate left TooLarge = grind arith
 plus_fate left _ = grind arith
 
--- a count grows by one at most
-with_at_most : (left : LeftOut) (fate : Fate) → ((with_fate left fate).too_large ≤ left.too_large + 1) × ((with_fate left fate).past_limit ≤ left.past_limit + 1)
-    × ((with_fate left fate).repeated ≤ left.repeated + 1)
-with_at_most left TooLarge = (omega arith, omega arith, omega arith)
-with_at_most left _ = (omega arith, omega arith, omega arith)
-
 count_one : (test : Fate → Bool) (told : List MessagePreview) (p : MessagePreview) → count_fates test (told ++ p ∷ []) ≡ count_fates test told + cond (test p.fate) 1 0
 count_one test told p = sum_by-append (λ (q : MessagePreview). cond (test q.fate) 1 0) told (p ∷ []) ∙ ap (λ n. count_fates test told + n) (zero-add (cond (test p.fate) 1 0))
 
@@ -79,11 +73,12 @@ module _ (settings : Settings) (rows : List Row) (now : ℕ) where
       → new ≡ with_fate left fate → more ≡ bool_byte (step_at steps i).retrieve → IsCounted steps items (i + 1) new (fetched + more)
   counted_more steps items i left new fetched more fate was within all_steps fate_is new_is more_is = record {
     told = was.told ++ p ∷ [];
-    is_told = is_told;
+    is_told = told_more steps items (none_held items) i was.told fetched more known p was.is_told within all_steps (length-map items (λ (item : Item). false))
+        (ap (λ held. known_of rows now held (get_or items i no_item)) (sym (get_or-map (λ (item : Item). false) items i no_item false within))) refl more_is;
     counts = new_is ∙ ap₂ with_fate was.counts fate_is ∙ rw (count_one is_for_size was.told p, count_one is_for_limit was.told p, count_one is_for_id was.told p) (plus_fate (left_out_of was.told) p.fate);
-    size = rw new_is (omega (arith, was.size, (with_at_most left fate).0));
-    limit = rw new_is (omega (arith, was.limit, (with_at_most left fate).1));
-    id = rw new_is (omega (arith, was.id, (with_at_most left fate).2));
+    size = rw (new_is, plus_fate left fate) (omega (arith, was.size, (byte_of (is_for_size fate)).1));
+    limit = rw (new_is, plus_fate left fate) (omega (arith, was.limit, (byte_of (is_for_limit fate)).1));
+    id = rw (new_is, plus_fate left fate) (omega (arith, was.id, (byte_of (is_for_id fate)).1));
   }
     where
       known : Known
@@ -91,12 +86,6 @@ module _ (settings : Settings) (rows : List Row) (now : ℕ) where
 
       p : MessagePreview
       p = message_preview_of settings now fetched (step_at steps i) known
-
-      unheld : known ≡ known_of rows now (get_or (none_held items) i false) (get_or items i no_item)
-      unheld = ap (λ held. known_of rows now held (get_or items i no_item)) (sym (get_or-map (λ (item : Item). false) items i no_item false within))
-
-      is_told : IsTold steps items (none_held items) (i + 1) (was.told ++ p ∷ []) (fetched + more)
-      is_told = told_more steps items (none_held items) i was.told fetched more known p was.is_told within all_steps (length-map items (λ (item : Item). false)) unheld refl more_is
 
 -- what is known is counted nowhere
 uncounted : (told : List MessagePreview) (p : MessagePreview) (retrieve delete : Bool)

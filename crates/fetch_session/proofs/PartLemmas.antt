@@ -1,5 +1,5 @@
 -- What parts of a session keep and do, one after the other, and QUIT at their end.
-use Rattle.std.proofs.Common.{◌≡◌, ◌≤◌, ◌+◌, ◌*◌, ℕ, Bool, true, false, List, [], ◌∷◌, ◌++◌, length, None, Result, Ok, Err, IfErr, OnOk, refl, sym, ap, subst, ◌∙◌, inl, arith, append_assoc, length-append, Vec, Global, Option, inr}
+use Rattle.std.proofs.Common.{rules, ◌≡◌, ◌≤◌, ◌+◌, ◌*◌, ℕ, Bool, true, false, List, [], ◌∷◌, ◌++◌, length, None, Result, Ok, Err, IfErr, OnOk, refl, sym, ap, subst, ◌∙◌, inl, arith, append_assoc, length-append, Vec, Global, Option, inr}
 use Rattle.std.proofs.lemmas.Grind.{flat_map-append}
 use Rattle.std.proofs.lemmas.Result.{on_ok_weaker}
 use Rattle.std.specs.List.{AllByRecursion}
@@ -25,9 +25,9 @@ use Rattle.fetch_session.specs.declared.report.ReportLine.{ReportLine}
 use Rattle.fetch_session.specs.declared.work.Ledger.{Ledger}
 use Rattle.fetch_session.specs.declared.work.Work.{Work}
 use Rattle.fetch_session.specs.Fault.{cut_of, fault_of}
-use Rattle.fetch_session.specs.Intake.{Took, TookTillCut, TookWithTail, step_limit, tail_limit}
+use Rattle.fetch_session.specs.Refusal.{Took, TookTillCut, TookWithTail, step_limit, tail_limit}
 use Rattle.fetch_session.specs.Lasting.{AreLeft, CutLasts, DoesAndLasts, IsSafe, IsSafeWork, KeepsMailIn, KeepsWork, Leaves, NewOutlive, IsSafeStore, KeepsMboxIn}
-use Rattle.fetch_session.specs.Parts.{DoesTasks, IsReadyFor, KeepsLedger, KeepsLink, KeepsSession, KeepsStore}
+use Rattle.fetch_session.specs.Parts.{DoesTasks, RunsTasks, IsReadyFor, KeepsLedger, KeepsLink, KeepsStore, IsReady, IsWritten, WhereWorkSound, scene_of}
 use Rattle.fetch_session.specs.Record.{Steady}
 use Rattle.fetch_session.specs.Report.{Adds}
 use Rattle.fetch_session.specs.Scene.{TakesTask, scene, Stops}
@@ -35,7 +35,6 @@ use Rattle.fetch_session.specs.Store.{MayGain}
 use Rattle.fetch_session.specs.Tail.{tail}
 use Rattle.fetch_session.specs.Target.{Target, is_sound, kind_of, stores_of, target_of, Kind, Files, Entries, Stores, target}
 use Rattle.fetch_session.specs.Task.{Task, stores, ids_in, ids_ahead, turns_in, turns_ahead, AreFresh, fetching, deleting, tasks_in, tasks_planned, says}
-use Rattle.fetch_session.specs.Work.{IsReady, IsWritten}
 use Rattle.fetch_session.proofs.ReadyLemmas.{fetched_all, OneMore, ahead, fresh_grows}
 use Rattle.fetch_session.proofs.TalkLemmas.{most_tail, takes_on, took_broke, took_less, took_nothing, with_tail_on, cut_by, till_cut}
 use Rattle.fetch_session.proofs.SessionLemmas.{good_before, good_more, if_err, in_kind, keeps_mail_on, keeps_same, none_came, none_lasts, nothing_cut, rows_last, same_left, scene_at, texts_ok}
@@ -43,7 +42,7 @@ use Rattle.fetch_session.proofs.SceneLemmas.{did_then, all_append, all_sound, al
 use Rattle.mail_store.specs.FlatFile.{Stored}
 use Rattle.mail_store.specs.declared.file.flat_file.Edges.{Edges}
 use Rattle.fetch_session.specs.declared.account.Store.{Store}
-use Rattle.fetch_session.specs.Ending.{IsTold, LooksAgain}
+use Rattle.fetch_session.specs.Mbox.{IsTold, LooksAgain}
 
 -- ---- parts
 
@@ -197,14 +196,10 @@ none_both : (xs ys : List (List ℕ)) → xs ++ ys ≡ [] → (xs ≡ []) × (ys
 none_both [] ys none = (refl, none)
 none_both (x ∷ xs) ys none = absurd cc
 
--- these tasks were done, or as far as went well, and what is kept of it
-abbrev pub Goes : {W D F H Z : Type 0} → WireGhosts W → DiskGhosts D → FileGhosts F → List ℕ → List Task → Client W → Work D F H Z → Result (Unit {0}) Cut → Client W → Work D F H Z → Type 0
-Goes link disk file account tasks c w r c' w' = KeepsSession link disk file account tasks c w r c' w' × DoesTasks link disk file account tasks c w r c' w'
-
 module _ {W D F H Z : Type 0} {link : WireGhosts W} {disk : DiskGhosts D} {file : FileGhosts F} {account : List ℕ} where
-  pub goes_nothing : ((w : W) → link.leads_to w w) → {c : Client W} {w : Work D F H Z} → IsReady disk file w → Goes link disk file account [] c w (Ok tt) c w
+  pub runs_nothing : ((w : W) → link.leads_to w w) → {c : Client W} {w : Work D F H Z} → IsReady disk file w → RunsTasks link disk file account [] c w (Ok tt) c w
   unfolding all_none
-  goes_nothing same {c} {w} ready = (
+  runs_nothing same {c} {w} ready = (
     record {
       talk = link_still;
       store = record { lines = (omega arith, omega arith); kind = refl; none_begun = λ d. (d, ready.none_begun d) };
@@ -225,7 +220,7 @@ module _ {W D F H Z : Type 0} {link : WireGhosts W} {disk : DiskGhosts D} {file 
   )
 
   pub goes_on : TurnsJoin → ((u v w : W) → link.leads_to u v → link.leads_to v w → link.leads_to u w) → (xs ys : List Task) {c c' c'' : Client W} {w w' w'' : Work D F H Z} (r : Result (Unit {0}) Cut)
-      → Goes link disk file account xs c w (Ok tt) c' w' → Goes link disk file account ys c' w' r c'' w'' → Goes link disk file account (xs ++ ys) c w r c'' w''
+      → RunsTasks link disk file account xs c w (Ok tt) c' w' → RunsTasks link disk file account ys c' w' r c'' w'' → RunsTasks link disk file account (xs ++ ys) c w r c'' w''
   goes_on joining on xs ys {w = w} {w'} r (first, did) (then, does) = (
     record {
       talk = link_on (most_of (turns_ahead (xs ++ ys))) (omega (arith, most_ahead xs ys)) first.talk then.talk;
@@ -249,8 +244,8 @@ module _ {W D F H Z : Type 0} {link : WireGhosts W} {disk : DiskGhosts D} {file 
         ),
   )
 
-  pub goes_before : (xs ys : List Task) {c c' : Client W} {w w' : Work D F H Z} {cut : Cut} → Goes link disk file account xs c w (Err cut) c' w' → Goes link disk file account (xs ++ ys) c w (Err cut) c' w'
-  goes_before xs ys (kept, did) = (
+  pub runs_before : (xs ys : List Task) {c c' : Client W} {w w' : Work D F H Z} {cut : Cut} → RunsTasks link disk file account xs c w (Err cut) c' w' → RunsTasks link disk file account (xs ++ ys) c w (Err cut) c' w'
+  runs_before xs ys (kept, did) = (
     record {
       talk = link_on (most_of (turns_ahead (xs ++ ys))) (omega (arith, most_ahead xs ys)) link_still kept.talk;
       store = store_less (omega (arith, length-append xs ys)) kept.store;
@@ -261,32 +256,7 @@ module _ {W D F H Z : Type 0} {link : WireGhosts W} {disk : DiskGhosts D} {file 
     λ s d f. did_then (did s d f) (good_before ys),
   )
 
-  -- ---- one task
-
-  -- a text that is stored
-  pub kept_taking : OneMore → (number : ℕ) (uid : List ℕ) {c c' : Client W} {w w' : Work D F H Z} (r : Result (Unit {0}) Cut)
-      → KeepsLink link (TookTillCut (line_limit + text_limit)) c r c' → KeepsLedger file uid w.ledger r w'.ledger → kind_of w'.store ≡ kind_of w.store
-      → (is_sound disk file w'.store → is_sound disk file w.store × MayGain (stem_of account uid) (stores_of disk file w.store).maildir (stores_of disk file w'.store).maildir)
-      → (is_sound disk file w'.store → file.sound w'.ledger.file → KeepsMailIn disk w.store w'.store)
-      → (is_sound disk file w'.store → file.sound w'.ledger.file → IsSafeWork file w → OnOk r (IsSafeWork file w'))
-      → KeepsSession link disk file account (stores number uid ∷ []) c w r c' w'
-  kept_taking law number uid {c} {c'} {w} {w'} r talk ledger kind grows mail safe = record {
-    talk = talk;
-    store = record { lines = ledger.lines; kind = kind; none_begun = λ d. ((grows d).0, (grows d).1.none_begun) };
-    lasts = λ d f. (ledger.sound f, mail d f, safe d f);
-    idle = λ none. absurd cc;
-    next = on_both r (λ written rows later before. record {
-      digits = before.digits;
-      room = omega (arith, before.room, ledger.lines.0, ledger.lines.1);
-      ready = record { none_begun = λ d. (grows d).1.none_begun; written = written };
-      legal = before.legal.1;
-      rows = all_weaker (λ (id : List ℕ). has_row w.ledger.seen.rows id ≡ true) (λ (id : List ℕ). has_row w'.ledger.seen.rows id ≡ true) (ids_ahead later) rows before.rows.1;
-      free = λ d.
-          let grew = grows d in
-          let fresh = before.free grew.0 in
-          fresh_grows law account uid (ids_ahead later) (stores_of disk file w.store).maildir (stores_of disk file w'.store).maildir before.digits fresh.0 fresh.2 grew.1 fresh.3;
-    }) ledger.written ledger.rows;
-  }
+-- ---- one task
 
 module _ {D F H Z : Type 0} {disk : DiskGhosts D} {file : FileGhosts F} where
   -- what a task did, and what of it outlives a loss of power
@@ -311,7 +281,37 @@ module _ {D F H Z : Type 0} {disk : DiskGhosts D} {file : FileGhosts F} where
     lasts = λ safe. (none_lasts disk file target a old new (ids_in task) safe keeps steady (left safe), next safe);
   }
 
-  -- the same for a task that stores nothing
+  -- a text that is stored
+  pub runs_taking : {W : Type 0} {link : WireGhosts W} {account : List ℕ} → OneMore → (number : ℕ) (uid : List ℕ) {c c' : Client W} {w w' : Work D F H Z} (r : Result (Unit {0}) Cut)
+      → IsWritten file w.ledger → KeepsLink link (TookTillCut (line_limit + text_limit)) c r c' → KeepsLedger file uid w.ledger r w'.ledger → kind_of w'.store ≡ kind_of w.store
+      → (is_sound disk file w'.store → is_sound disk file w.store × MayGain (stem_of account uid) (stores_of disk file w.store).maildir (stores_of disk file w'.store).maildir)
+      → WhereWorkSound link disk file c w c' w' (λ old new. TakesTask (target_of w.store account) (stores number uid) old r new)
+      → (is_sound disk file w'.store → file.sound w'.ledger.file → KeepsWork disk file w w' × (IsSafeWork file w → OnOk r (IsSafeWork file w' × NewOutlive disk file w.store w'.store)
+      × IfErr r (λ cut. CutLasts disk file (target_of w.store account) cut (scene_of link disk file c w) (scene_of link disk file c' w') w'.store w'.ledger.file)))
+      → RunsTasks link disk file account (stores number uid ∷ []) c w r c' w'
+  runs_taking {link = link} {account} law number uid {c} {c'} {w} {w'} r written talk ledger kind grows takes lasts = (
+    record {
+      talk = talk;
+      store = record { lines = ledger.lines; kind = kind; none_begun = λ d. ((grows d).0, (grows d).1.none_begun) };
+      lasts = λ d f. (ledger.sound f, (lasts d f).0.0, λ safe. on_ok_weaker r (λ all. all.0) ((lasts d f).1 safe).0);
+      idle = λ none. absurd cc;
+      next = on_both r (λ written rows later before. record {
+        digits = before.digits;
+        room = omega (arith, before.room, ledger.lines.0, ledger.lines.1);
+        ready = record { none_begun = λ d. (grows d).1.none_begun; written = written };
+        legal = before.legal.1;
+        rows = all_weaker (λ (id : List ℕ). has_row w.ledger.seen.rows id ≡ true) (λ (id : List ℕ). has_row w'.ledger.seen.rows id ≡ true) (ids_ahead later) rows before.rows.1;
+        free = λ d.
+            let grew = grows d in
+            let fresh = before.free grew.0 in
+            fresh_grows law account uid (ids_ahead later) (stores_of disk file w.store).maildir (stores_of disk file w'.store).maildir before.digits fresh.0 fresh.2 grew.1 fresh.3;
+      }) ledger.written ledger.rows;
+    },
+    λ s d f. did_then (takes s d f) (λ took. good_task (target_of w.store account) (stores number uid) (place_of link c) (place_of link c') w w' r took (lasts d f).0
+        (written.steady (ledger.sound f)) (on_ok_weaker r (λ is. is.steady f) ledger.written) (λ safe. ((lasts d f).1 safe).0) (λ safe. ledger.left f safe.0) (λ safe. ((lasts d f).1 safe).1)),
+  )
+
+  -- a task that stores nothing
   pub does_talking : {W : Type 0} (link : WireGhosts W) (account : List ℕ) (task : Task) (client client' : Client W) (work : Work D F H Z) (lines : Vec ReportLine Global) (r : Result (Unit {0}) Cut)
       → WhereSound link.sound link.leads_to client.wire.now client'.wire.now
       (TakesTask (target_of work.store account) task (scene_at disk file (place_of link client) work) r (scene_at disk file (place_of link client') (record work { ledger = record work.ledger { lines = lines } })))
@@ -341,16 +341,7 @@ pub not_left : (kind : Kind) (account : List ℕ) {a : Place} {old new : Stores}
     → Stops (target kind account) (says quit) (scene a old file rows lines) (cut_of fault None) (scene a new file rows lines)
 not_left Files account fault same never = absurd never
 not_left Entries account fault same (deleted, refuses, maildir) =
-    inr (inl (inr (inr (record {
-      none = refl;
-      is = refl;
-      deleted = rw same at deleted;
-      refuses = refuses;
-      place = refl;
-      file = refl;
-      rows = refl;
-      lines = refl;
-    }))))
+    inr (inl (inr (inr (search (rules, rw same at deleted)))))
 
 -- ---- what QUIT keeps and does
 
@@ -372,29 +363,36 @@ module _ {D F H Z : Type 0} {disk : DiskGhosts D} {file : FileGhosts F} {work : 
     none_begun = λ d. ((is.same d).0, ap (λ (m : Maildir). m.begun) (is.same d).1 ∙ is.ready.none_begun (is.same d).0);
   }
 
-  pub kept_quitting : {W : Type 0} {link : WireGhosts W} {account : List ℕ} {c c' : Client W} {r : Result (Unit {0}) Cut} → KeepsLink link (TookTillCut line_limit) c r c'
-      → (is_sound disk file store → IsSafeStore file work.store → OnOk r (IsSafeStore file store)) → KeepsSession link disk file account (says quit ∷ []) c work r c' left
-  kept_quitting {account = account} {r = r} talk safe = record {
-    talk = talk;
-    store = store_less (omega arith) quitting_store;
-    lasts = λ d f. (f, (is.keeps d).0, λ sure. on_ok_weaker r (λ s. (sure.0, s)) (safe d sure.1));
-    idle = λ none. refl;
-    next = on_any r (λ later before. record {
-      digits = before.digits;
-      room = omega (arith, before.room);
-      ready = record { none_begun = λ d. (quitting_store.none_begun d).1; written = is.ready.written };
-      legal = before.legal;
-      rows = before.rows;
-      free = λ d. rw (is.same d).1 (before.free (is.same d).0);
-    });
-  }
-
-  pub does_quitting : (account : List ℕ) (a b : Place) (r : Result (Unit {0}) Cut) → TakesTask (target_of work.store account) (says quit) (scene_at disk file a work) r (scene_at disk file b left)
-      → (is_sound disk file store → IsSafeStore file work.store → OnOk r (IsSafeStore file store)) → is_sound disk file store → file.sound work.ledger.file
-      → DoesAndLasts disk file (IsSafeWork file work) (target_of work.store account) (says quit ∷ []) (scene_at disk file a work) r (scene_at disk file b left) store work.ledger.file
-  does_quitting account a b r took safe d f =
-      let steady = is.ready.written.steady f in
-      good_task (target_of work.store account) (says quit) a b work left r took ((is.keeps d).0, (is.keeps d).1, λ last. last) steady (on_any r steady)
-      (λ sure. on_ok_weaker r (λ s. ((sure.0, s), none_came disk file work.store store (is.same d).1)) (safe d sure.1))
-      (λ sure. same_left file work.ledger.file sure.0 steady)
-      (λ sure. if_err r (λ cut. nothing_cut disk file (target_of work.store account) cut _ _ store work.ledger.file (same_left file work.ledger.file sure.0 steady) (ap (λ (m : Maildir). m.files) (is.same d).1)))
+  pub runs_quitting : {W : Type 0} {link : WireGhosts W} {c c' : Client W} {r : Result (Unit {0}) Cut} (account : List ℕ) → KeepsLink link (TookTillCut line_limit) c r c'
+      → (is_sound disk file store → IsSafeStore file work.store → OnOk r (IsSafeStore file store))
+      → (is_sound disk file store → WhereSound link.sound link.leads_to c.wire.now c'.wire.now
+      (TakesTask (target_of work.store account) (says quit) (scene_at disk file (place_of link c) work) r (scene_at disk file (place_of link c') left)))
+      → RunsTasks link disk file account (says quit ∷ []) c work r c' left
+  runs_quitting {r = r} account talk safe took = (
+    record {
+      talk = talk;
+      store = store_less (omega arith) quitting_store;
+      lasts = λ d f. (f, (is.keeps d).0, λ sure. on_ok_weaker r (λ s. (sure.0, s)) (safe d sure.1));
+      idle = λ none. refl;
+      next = on_any r (λ later before. record {
+        digits = before.digits;
+        room = omega (arith, before.room);
+        ready = record { none_begun = λ d. (quitting_store.none_begun d).1; written = is.ready.written };
+        legal = before.legal;
+        rows = before.rows;
+        free = λ d. rw (is.same d).1 (before.free (is.same d).0);
+      });
+    },
+    λ s d f.
+        let steady = is.ready.written.steady f in
+        let all = took d s in (
+          all.0,
+          (is.same d).0,
+          f,
+          all.1,
+          good_task (target_of work.store account) (says quit) _ _ work left r all.2 ((is.keeps d).0, (is.keeps d).1, λ last. last) steady (on_any r steady)
+              (λ sure. on_ok_weaker r (λ s. ((sure.0, s), none_came disk file work.store store (is.same d).1)) (safe d sure.1))
+              (λ sure. same_left file work.ledger.file sure.0 steady)
+              (λ sure. if_err r (λ cut. nothing_cut disk file (target_of work.store account) cut _ _ store work.ledger.file (same_left file work.ledger.file sure.0 steady) (ap (λ (m : Maildir). m.files) (is.same d).1))),
+        ),
+  )

@@ -9,7 +9,7 @@ use Rattle.mail_terms.specs.Listing.{Item, has_item, numbered}
 use Rattle.fetch_rules.specs.declared.steps.Step.{Step}
 use Rattle.mail_store.specs.Maildir.{Maildir, with_file, File, IsPart}
 use Rattle.mail_store.specs.FileName.{mail_file, stem_of, is_held, IsAccountText}
-use Rattle.fetch_session.specs.Task.{Task, ids_in, ids_ahead, AreFresh, fetching, deleting, tasks_in, tasks_planned}
+use Rattle.fetch_session.specs.Task.{Task, ids_ahead, AreFresh, fetching, deleting, tasks_in, tasks_planned}
 use Rattle.fetch_session.specs.Store.{MayGain}
 use Rattle.std.proofs.lemmas.List.Folds.{list_any-append, list_any_at}
 use Rattle.mail_store.specs.declared.maildir.disk.MaildirDisk.{Ghosts as DiskGhosts}
@@ -72,12 +72,7 @@ no_ids_deleting false number = refl
 
 pub ahead : (step : Step) (item : Item) (held : Bool) (later : List Task)
     → ids_ahead (tasks_in step item held ++ later) ≡ ids_ahead (fetching step.retrieve held step.number item.uid item.size) ++ ids_ahead later
-ahead step item held later =
-    let front = fetching step.retrieve held step.number item.uid item.size in
-    flat_map-append ids_in (tasks_in step item held) later
-    ∙ ap (λ (l : List (List ℕ)). l ++ ids_ahead later) (flat_map-append ids_in front (deleting step.delete step.number))
-    ∙ append_assoc (ids_ahead front) (ids_ahead (deleting step.delete step.number)) (ids_ahead later)
-    ∙ ap (λ (l : List (List ℕ)). ids_ahead front ++ (l ++ ids_ahead later)) (no_ids_deleting step.delete step.number)
+ahead step item held later = simp (flat_map-append, no_ids_deleting, append_assoc)
 
 pub no_item : Item
 no_item = record { uid = []; size = 0 }
@@ -463,38 +458,38 @@ module _ {D F : Type 0} (disk : DiskGhosts D) (files : FileGhosts F) (account : 
 
   pub rested : {settings : Settings} {items : List Item} {now : ℕ} (store : Store D F) (new : Stores) (file read : Stored) (loaded : Loaded) (r : Result Ready Fault) (steps : List Step)
       → ((rows : List Row) (listing : List Item) (held : List Bool) (now : ℕ) → IsRecord rows → All (λ (item : Item). is_delivered rows item.uid ≡ true) listing → merged rows listing held now ≡ rows)
-      → loaded.intent ≡ None → Rests (kind_of store) (stores_of disk files store) items r new → ReadAs file.content loaded → read ≡ file → loaded.stale ≡ false
-      → IsIdle settings loaded.rows items now steps → IfOk r (λ ready. ready.steps.items ≡ steps) → IfOk r (λ ready. length ready.held.items ≡ length items)
+      → Rests (kind_of store) (stores_of disk files store) items r new → ReadAs file.content loaded → read ≡ file
+      → IsIdle settings loaded items now steps → IfOk r (λ ready. ready.steps.items ≡ steps) → IfOk r (λ ready. length ready.held.items ≡ length items)
       → Readies settings (target_of store account) items now (stores_of disk files store) file r loaded.rows new read
-  rested {settings} {items} {now} store new file read loaded (Ok ready) steps law closed rests stood same fresh idle are counted =
+  rested {settings} {items} {now} store new file read loaded (Ok ready) steps law rests stood same idle are counted =
       let flags = flags_in (target_of store account) (stores_of disk files store) items in
       record {
         was = record_state_in loaded;
         stood = read_keeps file.content loaded stood;
         held = quiet_same ready.steps.items items ready.held.items flags (rw are idle.quiet) counted (flags_length (target_of store account) (stores_of disk files store) items);
-        rows = sym (law loaded.rows items flags now idle.is_record idle.known) ∙ ap (λ (rows : List Row). merged rows items flags now) (sym (rows_same store (record_state_in loaded) items closed));
+        rows = sym (law loaded.rows items flags now idle.is_record idle.known) ∙ ap (λ (rows : List Row). merged rows items flags now) (sym (rows_same store (record_state_in loaded) items idle.closed));
         steps = are ∙ idle.planned;
-        saved = rw same (read_steady file.content loaded stood fresh).0;
+        saved = rw same (read_steady file.content loaded stood idle.fresh).0;
         file_count = rw same;
-        settles = settles_same store (record_state_in loaded) items new closed rests;
+        settles = settles_same store (record_state_in loaded) items new idle.closed rests;
       }
-  rested {settings} {items} {now} (InMaildir device) new file read loaded (Err fault) steps law closed finds stood same fresh idle are counted =
+  rested {settings} {items} {now} (InMaildir device) new file read loaded (Err fault) steps law finds stood same idle are counted =
       not_found (AsFiles account) items now (in_maildir (disk.maildir device)) new file read loaded fault stood same finds
-  rested {settings} {items} {now} (InMbox device) new file read loaded (Err fault) steps law closed finds stood same fresh idle are counted =
-      not_found AsEntries items now (in_mbox (files.stored device)) new file read loaded fault stood same (subst (λ (intent : Option Intent). AsksMbox intent (files.stored device) items (Err fault) new.mbox) (sym closed) finds.0)
+  rested {settings} {items} {now} (InMbox device) new file read loaded (Err fault) steps law finds stood same idle are counted =
+      not_found AsEntries items now (in_mbox (files.stored device)) new file read loaded fault stood same (subst (λ (intent : Option Intent). AsksMbox intent (files.stored device) items (Err fault) new.mbox) (sym idle.closed) finds.0)
 
 -- ---- whatever came of it
 
 pub rest_has_plan : (settings : Settings) (items : List Item) (now : ℕ) (seen : Loaded) (r : Result Ready Fault) (steps : List Step)
-    → ((rows : List Row) (uid : List ℕ) → is_delivered rows uid ≡ true → has_row rows uid ≡ true) → IsIdle settings seen.rows items now steps → seen.intent ≡ None
+    → ((rows : List Row) (uid : List ℕ) → is_delivered rows uid ≡ true → has_row rows uid ≡ true) → IsIdle settings seen items now steps
     → IfOk r (λ ready. ready.steps.items ≡ steps) → IfOk r (λ ready. length ready.held.items ≡ length items) → IfOk r (λ ready. HasPlan settings items now ready seen)
-rest_has_plan settings items now seen (Ok ready) steps law idle closed same held = record {
+rest_has_plan settings items now seen (Ok ready) steps law idle same held = record {
   steps = same ∙ idle.planned;
   lengths = (ap length (same ∙ idle.planned) ∙ planned_length settings seen.rows items now, held);
   rows = recursion_from_All (λ (item : Item). has_row seen.rows item.uid ≡ true) items (λ k d inside. law seen.rows _ (idle.known k d inside));
-  closed = closed;
+  closed = idle.closed;
 }
-rest_has_plan settings items now seen (Err fault) steps law idle closed same held = tt
+rest_has_plan settings items now seen (Err fault) steps law idle same held = tt
 
 pub rest_held : (r : Result Ready Fault) (target : Target) (steps : List Step) (items : List Item) (new : Stores) → All IsQuiet steps
     → IfOk r (λ ready. ready.steps.items ≡ steps) → IfOk r (λ ready. length ready.held.items ≡ length items)

@@ -369,15 +369,12 @@ module _ (account : List ℕ) (tasks : List Task) (old new : Scene) (cut : Cut) 
   short_not_saved : TurnsJoin → FileNotSaved account fell.next fell.mid new cut → CutShort account tasks old cut.fault new
   short_not_saved joining refused =
       elim (unsaved_keeps fell.mid.file (none_open fell.mid.rows) (none_open (marked fell.mid.rows refused.uid)) cut.fault new.file refused.saves (fell.went.saved stood)) [
-        | inl was ↦ with_marks (ids_of fell.dones) (inr (why, (refused.uid, flat_map-append (λ (d : Done). ids_in d.task) fell.dones (last ∷ [])))) (rw fell.went.rows at was)
+        | inl was ↦ with_marks (ids_of fell.dones) (inr (unsaved_why fell.mid.file (none_open fell.mid.rows) (none_open (marked fell.mid.rows refused.uid)) cut.fault new.file refused.saves, (refused.uid, flat_map-append (λ (d : Done). ids_in d.task) fell.dones (last ∷ [])))) (rw fell.went.rows at was)
         | inr is ↦ with_marks (ids_of (fell.dones ++ last ∷ [])) (inl refl) (simp (flat_map-append, marked_on) (rw fell.went.rows at is))
       ]
     where
       last : Done
       last = record { task = stores refused.number refused.uid; replies = refused.reply ∷ [] }
-
-      why : (cut.fault ≡ SeenRefused) ⊎ (cut.fault ≡ NoMemory)
-      why = unsaved_why fell.mid.file (none_open fell.mid.rows) (none_open (marked fell.mid.rows refused.uid)) cut.fault new.file refused.saves
 
       talked : Talked (turns_of (fell.dones ++ last ∷ [])) (replies_of (fell.dones ++ last ∷ [])) old.place new.place
       talked = simp flat_map-append (joining.on (turns_of fell.dones) (retr refused.number ∷ []) (replies_of fell.dones) (refused.reply ∷ []) old.place fell.mid.place new.place fell.went.talked refused.talked)

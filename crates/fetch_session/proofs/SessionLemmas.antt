@@ -129,8 +129,7 @@ dones_on : {D F : Type 0} (disk : DiskGhosts D) (file : FileGhosts F) (target : 
     (f : F) → Went target xs a b → TextsLast disk file target xs a.store mid → KeepsMailIn disk mid new → DonesLast disk file target ys next b new f
     → DonesLast disk file target (xs ++ ys) next a new f
 dones_on disk file target xs ys next a b mid new f went first keeps then =
-    let same : marked_all b.rows (ids_of ys) ≡ marked_all a.rows (ids_of (xs ++ ys)) = ap (λ (rows : List Row). marked_all rows (ids_of ys)) went.rows
-    ∙ sym (marked_on a.rows (ids_of xs) (ids_of ys)) ∙ ap (marked_all a.rows) (sym (flat_map-append (λ (d : Done). ids_in d.task) xs ys)) in
+    let same : marked_all b.rows (ids_of ys) ≡ marked_all a.rows (ids_of (xs ++ ys)) = simp (went.rows, flat_map-append, marked_on) in
     record {
       texts = texts_on disk file target xs ys a.store b.store mid new went.stored first keeps then.texts;
       rows = subst (λ (rows : List Row). RowsLast file f rows) same then.rows;

@@ -26,14 +26,13 @@ use Rattle.fetch_session.specs.declared.report.Outcome.{Outcome}
 use Rattle.fetch_session.specs.declared.report.Outcome.TheVariants.{Cut as WasCut}
 use Rattle.fetch_session.specs.declared.tail.Tail.TheVariants.{Nothing}
 use Rattle.fetch_session.specs.Fault.{cut_of, fault_of}
-use Rattle.fetch_session.specs.Refusal.{RefusesNone, RefusesAtMostOne, RefusesBefore, RefusesTillCut, RefusesByOutcome}
+use Rattle.fetch_session.specs.Refusal.{RefusesNone, RefusesAtMostOne, RefusesBefore, RefusesTillCut, RefusesByOutcome, session_limit, step_limit, opening_limit, tail_limit, GotAtMost, Took, TookBefore, TookTillCut, TookWithTail}
 use Rattle.pop3_client.specs.declared.fault.Asked.{Asked}
 use Rattle.pop3_client.specs.declared.fault.Asked.TheVariants.{User as ByUser, Pass as ByPass, Quit as ByQuit}
 use Rattle.fetch_session.specs.Mbox.{HoldsText}
 use Rattle.fetch_session.specs.declared.fault.Fault.TheVariants.{Refused}
 use Rattle.fetch_session.specs.declared.tail.Tail.{Tail}
 use Rattle.fetch_session.specs.Store.{StopsReading}
-use Rattle.fetch_session.specs.Intake.{session_limit, step_limit, opening_limit, tail_limit, GotAtMost, Took, TookBefore, TookTillCut, TookWithTail}
 
 -- what the exit of a `?` returns, where one error is made of another in one way
 pub err_is : {T E : Type 0} {r : Result T E} {e : E} → IsErrAnd r (λ fault. fault ≡ e) → r ≡ Err e

@@ -1,5 +1,5 @@
 -- How one text is taken: stored in a Maildir, or appended to an mboxrd file.
-use Rattle.std.proofs.Common.{◌≡◌, inl, inr, ◌≤◌, ◌+◌, ℕ, List, [], ◌∷◌, ◌++◌, length, take, Option, None, Some, Result, Ok, Err, refl, sym, ap, subst, ◌∙◌, arith, length-append, ◌⊎◌, Bool, append_assoc, append-nil}
+use Rattle.std.proofs.Common.{rules, ◌≡◌, inl, inr, ◌≤◌, ◌+◌, ℕ, List, [], ◌∷◌, ◌++◌, length, take, Option, None, Some, Result, Ok, Err, refl, sym, ap, subst, ◌∙◌, arith, length-append, ◌⊎◌, Bool, append_assoc, append-nil}
 use Rattle.std.proofs.lemmas.List.{length-take-le}
 use Rattle.mail_store.specs.Maildir.{Maildir, File, file, with_file, dropped}
 use Rattle.mail_store.specs.FileName.{sized, sized_file, stem_of}
@@ -82,20 +82,7 @@ pub text_stops : {account : List ℕ} {n : ℕ} {uid : List ℕ} {a b : Place} {
 text_stops {n = n} text stem fault None named same broke =
     inl (record { none = refl; turn = retr n; takes = refl; broke = broke; store = ap in_maildir same; file = refl; rows = refl; lines = refl })
 text_stops {n = n} {uid} text stem fault (Some rest) named refuses reads =
-    inr (inl (record {
-      number = n;
-      uid = uid;
-      rest = rest;
-      text = text;
-      is = refl;
-      under_way = refl;
-      fetching = reads.0;
-      whole = reads.1;
-      refuses = rw named at refuses;
-      file = refl;
-      rows = refl;
-      lines = refl;
-    }))
+    inr (inl (search (rules, rw named at refuses)))
 
 -- it was stored, and marked
 module _ {account : List ℕ} {n : ℕ} {uid : List ℕ} {a b : Place} {maildir maildir' : Maildir} {file file' : Stored} {rows rows' : List Row} {lines lines' : List ReportLine} where
@@ -282,17 +269,7 @@ module _ {n : ℕ} {uid : List ℕ} {a b : Place} {mbox mbox' file file' : Store
   pub text_refused : {rows rows' : List Row} (text : List ℕ) (fault : Fault) → Fetched (retr n) a text b → RefusesEntry mbox file rows uid text fault mbox' file'
       → rows' ≡ rows → lines' ≡ lines → Stops AsEntries (stores n uid) (scene a (in_mbox mbox) file rows lines) (cut_of fault None) (scene b (in_mbox mbox') file' rows' lines')
   text_refused text fault (reply, talked, is) refuses rows_are told =
-      inr (inl (inr (inl (record {
-        none = refl;
-        number = n;
-        uid = uid;
-        reply = reply;
-        is = refl;
-        talked = talked;
-        refuses = rw is at refuses;
-        rows = rows_are;
-        lines = told;
-      }))))
+      inr (inl (inr (inl (search (rules, rw is at refuses)))))
 
   -- its entry was appended, and the mark wasn't saved
   pub entry_not_saved : {rows' : List Row} (octets : ℕ) (text : List ℕ) (mid : Stored) (seen seen' : Loaded) (fault : Fault) → Fetched (retr n) a text b → octets ≡ length text

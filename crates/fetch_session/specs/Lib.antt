@@ -2,7 +2,6 @@ pub mod Fault
 pub mod Task
 pub mod Store
 pub mod Record
-pub mod Ending
 pub mod Scene
 pub mod Lasting
 pub mod Laws
@@ -16,9 +15,7 @@ pub mod Target
 pub mod Mbox
 pub mod Readiness
 pub mod Text
-pub mod Intake
 pub mod Refusal
-pub mod Work
 pub mod Parts
 pub mod MessagePreview
 pub mod Pretend

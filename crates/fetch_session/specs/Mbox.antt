@@ -1,10 +1,10 @@
 -- What is done to an mboxrd file and to its record.
-use Rattle.std.specs.Prelude.{◌≡◌, ◌⊎◌, ◌+◌, ℕ, Bool, false, List, ◌++◌, length, Option, None, Some, Result, Ok, Err}
+use Rattle.std.specs.Prelude.{◌≡◌, ◌⊎◌, ◌+◌, ℕ, Bool, false, List, ◌++◌, length, Option, None, Some, Result, Ok, Err, true}
 use Rattle.mail_terms.specs.Listing.{Item}
 use Rattle.fetch_rules.specs.Record.{Row, Intent, Loaded, none_open, marked}
-use Rattle.mail_store.specs.FlatFile.{Stored, holding, counted}
+use Rattle.mail_store.specs.FlatFile.{Stored, holding, counted, edges_of}
 use Rattle.mail_store.specs.Mboxrd.{MayGoOn, entry_of}
-use Rattle.mail_store.specs.MboxCalls.{EntryMayFollow, IsOther}
+use Rattle.mail_store.specs.MboxCalls.{EntryMayFollow, IsOther, RefusesLook}
 use Rattle.mail_store.specs.declared.fault.StoreFault.{StoreFault}
 use Rattle.mail_store.specs.declared.fault.StoreFault.TheVariants as refused
 use Rattle.pop3_wire.specs.Bodies.{Rest}
@@ -18,7 +18,10 @@ use Rattle.fetch_session.specs.declared.fault.Fault.TheVariants.{StoreRefused, S
 use Rattle.fetch_session.specs.declared.fault.Why.TheVariants.{Missing, Refused, NotMbox}
 use Rattle.fetch_session.specs.declared.readiness.Found.{Found}
 use Rattle.fetch_session.specs.Record.{Saves, TakesBack, intent_at, with_open}
-use Rattle.fetch_session.specs.Target.{is_stored, closed_file, none_held}
+use Rattle.fetch_session.specs.Target.{is_stored, closed_file, none_held, Kind, Files, Entries, Stores}
+use Rattle.mail_store.specs.declared.file.flat_file.Edges.{Edges}
+use Rattle.fetch_session.specs.declared.report.ReportLine.{ReportLine}
+use Rattle.fetch_session.specs.Report.{has_deletions}
 
 -- the fault of a session for a fault of its store
 abbrev pub IsStoreFault : StoreFault → Fault → Type 0
@@ -111,3 +114,26 @@ abbrev pub MarksEntry : Stored → Stored → List Row → List ℕ → List ℕ
 MarksEntry mbox file rows uid text fault file' = (was : List ℕ) × (mbox.content ≡ Some was) × (mid : Stored)
     × Saves file (none_open rows) (with_open rows (intent_of was uid text)) (Ok tt) mid
     × Saves mid (with_open rows (intent_of was uid text)) (none_open (marked rows uid)) (Err fault) file'
+
+-- ---- before QUIT
+
+-- an mboxrd file was looked at, and refused: this is the session's fault
+abbrev pub RefusesAgain : Stores → Fault → Stores → Type 0
+RefusesAgain old fault new = (why : StoreFault) × IsStoreFault why fault × RefusesLook old.mbox why new.mbox
+
+-- if a message was deleted, the device told the size and the ends of an mboxrd file, and an entry may follow it
+abbrev pub IsTold : Kind → List ReportLine → Stores → Option Edges → Type 0
+IsTold Files lines store told = Unit {0}
+IsTold Entries lines store told = has_deletions lines ≡ true → (was : List ℕ) × EntryMayFollow store.mbox was × (told ≡ Some (edges_of was))
+
+-- it was looked at once more; or it was refused
+abbrev pub LooksAgain : Kind → List ReportLine → Stores → Result (Option Edges) Fault → Stores → Type 0
+LooksAgain Files lines old (Ok told) new = new ≡ old
+LooksAgain Files lines old (Err fault) new = ⊥
+LooksAgain Entries lines old (Ok told) new = IsTold Entries lines old told × (new ≡ old)
+LooksAgain Entries lines old (Err fault) new = (has_deletions lines ≡ true) × RefusesAgain old fault new × (new.maildir ≡ old.maildir)
+
+-- whether all went well, whatever was told
+abbrev pub went : {A E : Type 0} → Result A E → Result (Unit {0}) E
+went (Ok told) = Ok tt
+went (Err fault) = Err fault

@@ -24,17 +24,13 @@ known_of rows now held item = record {
   since = seen_since rows item.uid now;
 }
 
--- whether a session that fetched this many messages fetches no more
-abbrev pub is_past_limit : Settings → ℕ → Bool
-is_past_limit settings fetched = not (settings.max_count == 0) && nat_le settings.max_count fetched
-
 -- why a message is neither fetched nor deleted, if `fetched` before it are fetched
 abbrev pub reason : Settings → Known → ℕ → Fate
 reason settings known fetched =
     if not settings.read_all && known.held then Held
     else if not settings.read_all && known.delivered then DeliveredBefore
     else if not (is_within settings.max_size known.size) then TooLarge
-    else if is_past_limit settings fetched then PastLimit
+    else if not (settings.max_count == 0) && nat_le settings.max_count fetched then PastLimit
     else SameId
 
 -- what is done with a message by its step, or why nothing
@@ -49,13 +45,9 @@ fate_of settings step known fetched =
 abbrev pub waits : Settings → Step → Known → Bool
 waits settings step known = not settings.delete && (not (settings.delete_after == 0) && (known.delivered || step.retrieve))
 
--- the last second of 64 bits: the greatest size
-abbrev pub greatest_second : ℕ
-greatest_second = greatest_size
-
--- from when on a message first seen at `since` is deleted, as far as 64 bits go
+-- from when on a message first seen at `since` is deleted, as far as 64 bits go: the last second is the greatest size
 abbrev pub due_second : Settings → ℕ → ℕ
-due_second settings since = min (since + min (seconds_per_day * settings.delete_after) greatest_second) greatest_second
+due_second settings since = min (since + min (seconds_per_day * settings.delete_after) greatest_size) greatest_size
 
 -- when a message is old enough to be deleted, if it isn't yet
 abbrev pub due_of : Settings → Step → Known → ℕ → Option ℕ

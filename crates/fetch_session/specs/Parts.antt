@@ -6,7 +6,7 @@ use Rattle.mail_store.specs.declared.file.flat_file.FlatFile.{Ghosts as FileGhos
 use Rattle.mail_store.specs.declared.maildir.disk.MaildirDisk.{Ghosts as DiskGhosts}
 use Rattle.mail_store.specs.FileName.{IsAccountText}
 use Rattle.fetch_rules.specs.Intents.{IsNoneOrOf}
-use Rattle.fetch_rules.specs.Record.{Row, has_row, marked}
+use Rattle.fetch_rules.specs.Record.{Row, has_row, marked, none_open}
 use Rattle.pop3_client.specs.Client.{HasSameLink, link_of, place_of}
 use Rattle.pop3_client.specs.Conversation.{most_of}
 use Rattle.pop3_client.specs.declared.client.Client.{Client}
@@ -18,14 +18,36 @@ use Rattle.fetch_session.specs.declared.step.Task.{Task as Planned}
 use Rattle.fetch_session.specs.declared.step.Task.TheVariants.{Store, Reread, Skip, Delete}
 use Rattle.fetch_session.specs.declared.work.Ledger.{Ledger}
 use Rattle.fetch_session.specs.declared.work.Work.{Work}
-use Rattle.fetch_session.specs.Intake.{TookTillCut}
 use Rattle.fetch_session.specs.Lasting.{AreLeft, DoesAndLasts, IsSafe, IsSafeWork, KeepsMailIn, Leaves}
 use Rattle.fetch_session.specs.Record.{Steady, record_state_in}
-use Rattle.fetch_session.specs.Refusal.{RefusesTillCut}
+use Rattle.fetch_session.specs.Refusal.{RefusesTillCut, TookTillCut}
 use Rattle.fetch_session.specs.Report.{Adds, HasRoom}
-use Rattle.fetch_session.specs.Target.{is_sound, kind_of, stores_of, target_of}
+use Rattle.fetch_session.specs.Target.{is_sound, kind_of, stores_of, target_of, NoneBegun}
 use Rattle.fetch_session.specs.Task.{Task, skips, stores, rereads, deletes, ids_ahead, turns_ahead, AreFresh}
-use Rattle.fetch_session.specs.Work.{IsReady, IsWritten, KeepsIds, WhereWorkSound}
+use Rattle.fetch_session.specs.Scene.{Scene, scene, WhereAllSound}
+
+-- the state of a session: where its client is, and what it works on
+abbrev pub scene_of : {W D F H Z : Type 0} → WireGhosts W → DiskGhosts D → FileGhosts F → Client W → Work D F H Z → Scene
+scene_of link disk file client work = scene (place_of link client) (stores_of disk file work.store)
+    (file.stored work.ledger.file) work.ledger.seen.rows work.ledger.lines.items
+
+-- no intent is open, and the record's file stands for the rows, with no torn end
+pub record IsWritten {F H Z : Type 0} (file : FileGhosts F) (ledger : Ledger F H Z) : Type 0 where
+  pub closed : ledger.seen.intent ≡ None
+  pub steady : file.sound ledger.file → Steady (file.stored ledger.file).content (none_open ledger.seen.rows)
+
+-- ready for the next task: no file is begun, and all is written down
+pub record IsReady {D F H Z : Type 0} (disk : DiskGhosts D) (file : FileGhosts F) (work : Work D F H Z) : Type 0 where
+  pub none_begun : NoneBegun disk file work.store
+  pub written : IsWritten file work.ledger
+
+-- what is known of a call if the link, the store and the record's file are sound after it
+abbrev pub WhereWorkSound : {W D F H Z : Type 0} → WireGhosts W → DiskGhosts D → FileGhosts F → Client W → Work D F H Z
+    → Client W → Work D F H Z → (Scene → Scene → Type 0) → Type 0
+WhereWorkSound link disk file client work client' work' did =
+    WhereAllSound link.sound link.leads_to (is_sound disk file) file.sound client.wire.now client'.wire.now
+    work.store work'.store work.ledger.file work'.ledger.file
+    (did (scene_of link disk file client work) (scene_of link disk file client' work'))
 
 -- the task that is meant
 abbrev pub task_of : Planned → Task
@@ -61,7 +83,7 @@ pub record KeepsLedger {F H Z : Type 0} (file : FileGhosts F) (uid : List ℕ) (
   pub lines : Adds old.lines 1 new.lines
   pub sound : file.sound new.file → file.sound old.file
   pub written : OnOk result (IsWritten file new)
-  pub rows : OnOk result (KeepsIds old.seen.rows new.seen.rows)
+  pub rows : OnOk result ((uid : List ℕ) → has_row old.seen.rows uid ≡ true → has_row new.seen.rows uid ≡ true)
   pub left : file.sound new.file → IsSafe file old.file → Leaves file new.file (AreLeft old.seen.rows (marked old.seen.rows uid))
 
 -- nothing was noted, and the rows are the same, also those that may be left; and if all went well, at most the intent of this id is
@@ -110,3 +132,10 @@ abbrev pub DoesTasks : {W D F H Z : Type 0} → WireGhosts W → DiskGhosts D �
 DoesTasks link disk file account tasks client work result client' work' = WhereWorkSound link disk file client work client' work'
     (λ old new. DoesAndLasts disk file (IsSafeWork file work) (target_of work.store account) tasks old result new
     work'.store work'.ledger.file)
+
+-- the same, and what is kept of it
+abbrev pub RunsTasks : {W D F H Z : Type 0} → WireGhosts W → DiskGhosts D → FileGhosts F → List ℕ → List Task → Client W → Work D F H Z
+    → Result (Unit {0}) Cut → Client W → Work D F H Z → Type 0
+RunsTasks link disk file account tasks client work result client' work' =
+    KeepsSession link disk file account tasks client work result client' work'
+    × DoesTasks link disk file account tasks client work result client' work'

@@ -1,5 +1,5 @@
 -- A session that tells what a run would do, and changes nothing.
-use Rattle.std.specs.Prelude.{◌≡◌, ◌⊎◌, ℕ, Bool, true, false, List, [], ◌∷◌, length, Option, None, Some, Result, Ok, Err}
+use Rattle.std.specs.Prelude.{◌≡◌, ◌⊎◌, ℕ, Bool, false, List, [], ◌∷◌, length, Option, None, is_some, Result, Ok, Err}
 use Rattle.mail_terms.specs.Listing.{Item}
 use Rattle.pop3_wire.specs.Link.{Link}
 use Rattle.pop3_wire.specs.Place.{Place, at}
@@ -44,14 +44,9 @@ IsUntouched target old new = HoldsTheSame target old.store new.store × (new.fil
 
 -- ---- what the store holds
 
--- whether a run would first settle the mboxrd file: an intent is open
-abbrev pub is_open : Option Intent → Bool
-is_open None = false
-is_open (Some intent) = true
-
 -- an mboxrd file was looked at, unless a run would settle it first
 abbrev pub LooksAtMbox : Option Intent → Stored → List Item → Result Looked Fault → Stored → Type 0
-LooksAtMbox intent old items (Ok looked) new = (looked.held.items ≡ none_held items) × (looked.unsettled ≡ is_open intent)
+LooksAtMbox intent old items (Ok looked) new = (looked.held.items ≡ none_held items) × (looked.unsettled ≡ is_some intent)
     × (intent ≡ None → (was : List ℕ) × EntryMayFollow old was) × (new ≡ old)
 LooksAtMbox intent old items (Err fault) new = AsksMbox intent old items (Err fault) new × (new.content ≡ old.content)
 
@@ -67,10 +62,10 @@ LooksIn AsEntries intent old items result new = LooksAtMbox intent old.mbox item
 abbrev pub previews_of : Settings → List Row → List Item → List Bool → ℕ → List MessagePreview
 previews_of settings rows items flags now = message_previews settings rows now 0 (planned settings rows items now) items flags
 
--- whether a run would first settle its store
+-- whether a run would first settle its store: an mboxrd file, if an intent is open
 abbrev pub is_unsettled : Target → Option Intent → Bool
 is_unsettled (AsFiles account) intent = false
-is_unsettled AsEntries intent = is_open intent
+is_unsettled AsEntries intent = is_some intent
 
 -- an entry may follow the mboxrd file, unless a run would settle it first
 abbrev pub MayBeFollowed : Target → Option Intent → Stores → Type 0

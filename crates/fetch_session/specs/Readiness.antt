@@ -52,13 +52,15 @@ Settles AsEntries was items old new = (bytes : List ℕ) × (old.mbox.content �
 abbrev pub merged_in : Target → Stores → RecordState → List Item → ℕ → List Row
 merged_in target store was items now = merged (rows_in target store was items) items (flags_in target store items) now
 
--- what the store holds can change neither the record nor what is done: each listed id is recorded as delivered, and the steps that are
--- planned neither fetch nor delete anything
-pub record IsIdle (settings : Settings) (rows : List Row) (items : List Item) (now : ℕ) (steps : List Step) : Type 0 where
-  pub is_record : IsRecord rows
-  pub known : All (λ (item : Item). is_delivered rows item.uid ≡ true) items
-  pub planned : steps ≡ planned settings rows items now
+-- what the store holds can change neither the record, nor its file, nor what is done: each listed id is recorded as delivered, the steps
+-- that are planned neither fetch nor delete anything, no intent is open, and the file needs no change
+pub record IsIdle (settings : Settings) (seen : Loaded) (items : List Item) (now : ℕ) (steps : List Step) : Type 0 where
+  pub is_record : IsRecord seen.rows
+  pub known : All (λ (item : Item). is_delivered seen.rows item.uid ≡ true) items
+  pub planned : steps ≡ planned settings seen.rows items now
   pub quiet : All IsQuiet steps
+  pub closed : seen.intent ≡ None
+  pub fresh : seen.stale ≡ false
 
 -- both folders of a Maildir are there; or one isn't, or a call was refused
 abbrev pub ChecksBoth : {T : Type 0} → Maildir → Result T StoreFault → Maildir → Type 0

@@ -1,7 +1,7 @@
 -- What a report says about a session.
 use Rattle.std.specs.Prelude.{◌≡◌, ◌+◌, ◌*◌, ◌≤◌, ℕ, Bool, true, false, not, List, [], min, if◌then◌else◌, Vec}
 use Rattle.std.specs.Vec.{vec_len, vec_capacity}
-use Rattle.std.specs.List.{filter, count_by, sum_by}
+use Rattle.std.specs.List.{filter, count_by, list_any, sum_by}
 use Rattle.mail_terms.specs.Numeral.{greatest_size}
 use Rattle.mail_terms.specs.Listing.{Item, message_limit}
 use Rattle.rc_file.specs.declared.settings.Settings.{Settings}
@@ -46,6 +46,10 @@ length_in _ = 0
 abbrev pub is_deletion : ReportLine → Bool
 is_deletion (Deleted number) = true
 is_deletion _ = false
+
+-- whether one of these lines reports a message that was deleted
+abbrev pub has_deletions : List ReportLine → Bool
+has_deletions lines = list_any is_deletion lines
 
 abbrev pub retrieved_in : List ReportLine → ℕ
 retrieved_in lines = count_by is_taken lines

@@ -18,9 +18,9 @@ use Rattle.fetch_session.specs.Task.{Task, says, stores, Done, IsAnswered, turns
 use Rattle.fetch_session.specs.Task.{file_from, delivered, lines_of}
 use Rattle.fetch_session.specs.Store.{RefusesText, Gained, Appended, Brings}
 use Rattle.fetch_session.specs.Target.{Target, AsFiles, AsEntries, Stores}
-use Rattle.fetch_session.specs.Mbox.{RefusesEntry, MarksEntry}
+use Rattle.fetch_session.specs.Mbox.{RefusesEntry, MarksEntry, RefusesAgain}
 use Rattle.fetch_session.specs.declared.fault.Fault.TheVariants.{NoMemory}
-use Rattle.fetch_session.specs.Ending.{RefusesAgain, has_deletions}
+use Rattle.fetch_session.specs.Report.{has_deletions}
 use Rattle.fetch_session.specs.Record.{Steady, Saves}
 
 -- the link and what waits, what the store holds, the record's file, the record, and the lines noted so far

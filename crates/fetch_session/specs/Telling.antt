@@ -15,13 +15,9 @@ use Rattle.fetch_session.specs.Text.{heading, message_text}
 
 -- ---- dates
 
--- 9999-12-31, in days since 1970
-abbrev pub last_day : ℕ
-last_day = 2932896
-
--- the days from 1 March of year 0 to a second since 1970, at most to 9999-12-31
+-- the days from 1 March of year 0 to a second since 1970, at most to 9999-12-31, which is day 2,932,896 since 1970
 abbrev pub days_of : ℕ → ℕ
-days_of second = min (second / seconds_per_day) last_day + 719468
+days_of second = min (second / seconds_per_day) 2932896 + 719468
 
 -- the whole years, each from 1 March, in this many days of a 400-year cycle, by the days without leap days: one less for each 1,460 days,
 -- one more for each 36,524, one less for 146,096

@@ -1,13 +1,12 @@
 //! The end of a session whose planned steps were done.
 ghost use Rattle.std.specs.Prelude.{◌≡◌, ◌∷◌, ℕ, List, [], IfOk, OnOk};
 ghost use Rattle.pop3_client.specs.Turns.{quit};
-ghost use Rattle.fetch_session.specs.Ending.{IsTold, LooksAgain, went};
-ghost use Rattle.fetch_session.specs.Intake.{TookWithTail, tail_limit};
+ghost use Rattle.fetch_session.specs.Mbox.{IsTold, LooksAgain, went};
+ghost use Rattle.fetch_session.specs.Refusal.{TookWithTail, tail_limit};
 ghost use Rattle.fetch_session.specs.Lasting.{IsSafeStore, KeepsMailIn, KeepsMboxIn};
-ghost use Rattle.fetch_session.specs.Parts.{DoesTasks, KeepsLink, KeepsSession, KeepsStore};
+ghost use Rattle.fetch_session.specs.Parts.{RunsTasks, KeepsLink, KeepsStore, IsReady};
 ghost use Rattle.fetch_session.specs.Target.{is_sound, kind_of, stores_of};
 ghost use Rattle.fetch_session.specs.Task.{says};
-ghost use Rattle.fetch_session.specs.Work.{IsReady};
 
 use crate::account::Store;
 use crate::fault::{Cut, Fault};
@@ -54,9 +53,7 @@ pub fn end<W: Wire, D: MaildirDisk, F: FlatFile, H: BuildHasher>(
         → IsTold (kind_of work.old.store) work.old.ledger.lines.items (stores_of D.MaildirDisk F.FlatFile work.old.store) told) }
     ensures link { KeepsLink W.Wire (TookWithTail tail_limit) client.old (went result) client.new }
     ensures store { KeepsStore D.MaildirDisk F.FlatFile 0 work.old work.new }
-    ensures keeps { (account : List ℕ) → KeepsSession W.Wire D.MaildirDisk F.FlatFile account (says quit ∷ [])
-        client.old work.old (went result) client.new work.new }
-    ensures does { (account : List ℕ) → DoesTasks W.Wire D.MaildirDisk F.FlatFile account (says quit ∷ [])
+    ensures runs { (account : List ℕ) → RunsTasks W.Wire D.MaildirDisk F.FlatFile account (says quit ∷ [])
         client.old work.old (went result) client.new work.new }
 {
     conversations_are_paced();

@@ -1,4 +1,6 @@
 //! A session's fault, and how a session is cut.
+ghost use Rattle.std.specs.Prelude.{◌≡◌, None};
+
 use mail_store::StoreFault;
 use pop3_client::{Asked, ClientFault};
 use pop3_wire::BodyReader;
@@ -49,7 +51,6 @@ pub enum Fault {
 }
 
 impl From<ClientFault> for Fault {
-    ghost use Rattle.std.specs.Prelude.{◌≡◌};
     ghost use Rattle.fetch_session.specs.Fault.{fault_of};
 
     ghost from_gives = { λ fault e. e ≡ fault_of fault };
@@ -87,7 +88,6 @@ impl From<StoreFault> for Fault {
 }
 
 impl From<AllocError> for Fault {
-    ghost use Rattle.std.specs.Prelude.{◌≡◌};
     ghost use Rattle.fetch_session.specs.declared.fault.Fault.TheVariants.{NoMemory};
 
     ghost from_gives = { λ _ fault. fault ≡ NoMemory };
@@ -109,7 +109,6 @@ pub struct Cut {
 
 /// A cut with no reply under way.
 impl From<Fault> for Cut {
-    ghost use Rattle.std.specs.Prelude.{◌≡◌, None};
     ghost use Rattle.fetch_session.specs.Fault.{cut_of};
 
     ghost from_gives = { λ fault cut. cut ≡ cut_of fault None };
@@ -121,7 +120,6 @@ impl From<Fault> for Cut {
 
 /// A cut because the conversation went wrong.
 impl From<ClientFault> for Cut {
-    ghost use Rattle.std.specs.Prelude.{◌≡◌, None};
     ghost use Rattle.fetch_session.specs.Fault.{cut_of, fault_of};
 
     ghost from_gives = { λ fault cut. cut ≡ cut_of (fault_of fault) None };
@@ -132,7 +130,6 @@ impl From<ClientFault> for Cut {
 }
 
 impl From<AllocError> for Cut {
-    ghost use Rattle.std.specs.Prelude.{◌≡◌, None};
     ghost use Rattle.fetch_session.specs.Fault.{cut_of};
     ghost use Rattle.fetch_session.specs.declared.fault.Fault.TheVariants.{NoMemory};
 

@@ -1,9 +1,7 @@
 //! What a run would do with each message of a listing, and why it would do nothing with some.
-ghost use Rattle.std.specs.Prelude.{◌≡◌, ◌<◌, ◌≤◌, ◌&&◌, ◌||◌, ◌==◌, false, not, nat_le, length, HoldsAt, IfOk};
+ghost use Rattle.std.specs.Prelude.{◌≡◌, ◌<◌, ◌≤◌, length, HoldsAt, IfOk};
 ghost use Rattle.mail_terms.specs.Listing.{message_limit};
-ghost use Rattle.fetch_rules.specs.Wanted.{is_within};
-ghost use Rattle.fetch_session.specs.MessagePreview.{due_of, due_second, fate_of, is_past_limit};
-ghost use Rattle.fetch_session.specs.MessagePreview.{known_of, message_preview_of, message_previews, reason, waits};
+ghost use Rattle.fetch_session.specs.MessagePreview.{due_of, fate_of, known_of, message_previews};
 ghost use Rattle.fetch_session.specs.Report.{left_out_of, skips_of, with_fate};
 ghost use Rattle.fetch_session.specs.Target.{none_held};
 
@@ -81,40 +79,7 @@ fn known_of<H: BuildHasher>(
     }
 }
 
-/// Whether a size is within the limit; 0 sets none.
-fn is_within(limit: u64, size: u64) -> bool
-    ensures { result ≡ is_within limit size }
-{
-    limit == 0 || size <= limit
-}
-
-/// Whether a session that fetched this many messages fetches no more.
-fn is_past_limit(settings: &Settings, fetched: u64) -> bool
-    ensures { result ≡ is_past_limit settings.now fetched }
-{
-    settings.max_count != 0 && settings.max_count <= fetched
-}
-
-/// Why a message is neither fetched nor deleted, if `fetched` before it are fetched.
-fn reason(settings: &Settings, known: Known, fetched: u64) -> Fate
-    ensures { result ≡ reason settings.now known fetched }
-{
-    if !settings.read_all && known.held {
-        return Fate::Held;
-    }
-    if !settings.read_all && known.delivered {
-        return Fate::DeliveredBefore;
-    }
-    if !is_within(settings.max_size, known.size) {
-        return Fate::TooLarge;
-    }
-    if is_past_limit(settings, fetched) {
-        return Fate::PastLimit;
-    }
-    Fate::SameId
-}
-
-/// What is done with a message, or why nothing.
+/// What is done with a message, or why nothing, if `fetched` before it are fetched.
 fn fate_of(settings: &Settings, step: Step, known: Known, fetched: u64) -> Fate
     ensures { result ≡ fate_of settings.now step known fetched }
 {
@@ -127,44 +92,32 @@ fn fate_of(settings: &Settings, step: Step, known: Known, fetched: u64) -> Fate
     if step.delete {
         return Fate::Deleted;
     }
-    reason(settings, known, fetched)
-}
-
-/// Whether the age of a message decides if it is deleted.
-fn waits(settings: &Settings, step: Step, known: Known) -> bool
-    ensures { result ≡ waits settings.now step known }
-{
-    !settings.delete && settings.delete_after != 0 && (known.delivered || step.retrieve)
-}
-
-/// From when on a message first seen at `since` is deleted, as far as 64 bits go.
-fn due_second(settings: &Settings, since: u64) -> u64
-    ensures { result ≡ due_second settings.now since }
-{
-    since.saturating_add(SECONDS_PER_DAY.saturating_mul(settings.delete_after))
+    if !settings.read_all && known.held {
+        return Fate::Held;
+    }
+    if !settings.read_all && known.delivered {
+        return Fate::DeliveredBefore;
+    }
+    if settings.max_size != 0 && settings.max_size < known.size {
+        return Fate::TooLarge;
+    }
+    if settings.max_count != 0 && settings.max_count <= fetched {
+        return Fate::PastLimit;
+    }
+    Fate::SameId
 }
 
 /// When a message is old enough to be deleted, if it isn't yet.
 fn due_of(settings: &Settings, step: Step, known: Known, now: u64) -> Option<u64>
     ensures { result ≡ due_of settings.now step known now }
 {
-    if !waits(settings, step, known) {
+    if settings.delete || settings.delete_after == 0 || !(known.delivered || step.retrieve) {
         return None;
     }
-    let due = due_second(settings, known.since);
+    let due = known
+        .since
+        .saturating_add(SECONDS_PER_DAY.saturating_mul(settings.delete_after));
     if now < due { Some(due) } else { None }
-}
-
-/// What a preview says of one message, if `fetched` before it are fetched.
-fn message_preview_of(terms: Terms<'_>, step: Step, known: Known, fetched: u64) -> MessagePreview
-    ensures { result ≡ message_preview_of terms.entry.settings.now terms.entry.now fetched step known }
-{
-    MessagePreview {
-        number: step.number,
-        size: known.size,
-        fate: fate_of(terms.settings, step, known, fetched),
-        due: due_of(terms.settings, step, known, terms.now),
-    }
 }
 
 /// What a preview says of each message of a listing, by its step.
@@ -186,7 +139,12 @@ pub(crate) fn message_previews<H: BuildHasher>(
     for i in 0..listing.len() {
         let step = steps[i as usize];
         let known = known_of(seen, listing, held[i as usize], terms.now, i);
-        told.push(message_preview_of(terms, step, known, fetched))?;
+        told.push(MessagePreview {
+            number: step.number,
+            size: known.size,
+            fate: fate_of(terms.settings, step, known, fetched),
+            due: due_of(terms.settings, step, known, terms.now),
+        })?;
         fetched += u64::from(step.retrieve);
     }
     Ok(told)
@@ -207,50 +165,6 @@ impl LeftOut {
     }
 }
 
-/// What is done with message `i + 1`, or why nothing, if `fetched` before it are fetched. What the store
-/// holds isn't asked: the record has it as delivered.
-fn recorded_fate<H: BuildHasher>(
-    terms: Terms<'_>,
-    seen: &Seen<H>,
-    listing: &Listing,
-    step: Step,
-    fetched: u64,
-    i: u32,
-) -> Fate
-    requires { i < length listing.now }
-    ensures { HoldsAt (λ item. result ≡ fate_of terms.entry.settings.now step
-        (known_of seen.now.rows terms.entry.now false item) fetched) listing.now i }
-{
-    let known = Known {
-        size: listing.size(i),
-        held: false,
-        delivered: seen.is_delivered(listing.uid(i)),
-        since: terms.now,
-    };
-    fate_of(terms.settings, step, known, fetched)
-}
-
-/// How many messages that aren't known these steps leave out, by their reasons.
-fn count_left_out<H: BuildHasher>(
-    terms: Terms<'_>,
-    seen: &Seen<H>,
-    listing: &Listing,
-    steps: &[Step],
-) -> LeftOut
-    requires { length steps.now ≡ length listing.now }
-    ensures { result ≡ left_out_of (message_previews terms.entry.settings.now seen.now.rows terms.entry.now 0 steps.now listing.now
-        (none_held listing.now)) }
-{
-    let mut left = none_skipped().left_out;
-    let mut fetched: u64 = 0;
-    for i in 0..listing.len() {
-        let step = steps[i as usize];
-        left.count(recorded_fate(terms, seen, listing, step, fetched, i));
-        fetched += u64::from(step.retrieve);
-    }
-    left
-}
-
 /// How many messages that aren't known these steps leave out, by their reasons. If all are known, they
 /// aren't looked up one by one.
 fn left_out<H: BuildHasher>(
@@ -263,10 +177,24 @@ fn left_out<H: BuildHasher>(
     ensures { result ≡ left_out_of (message_previews terms.entry.settings.now seen.now.rows terms.entry.now 0 steps.now listing.now
         (none_held listing.now)) }
 {
-    if terms.settings.read_all || !seen.knows(listing) {
-        return count_left_out(terms, seen, listing, steps);
+    let mut left = none_skipped().left_out;
+    if !terms.settings.read_all && seen.knows(listing) {
+        return left;
     }
-    none_skipped().left_out
+    let mut fetched: u64 = 0;
+    for i in 0..listing.len() {
+        let step = steps[i as usize];
+        // What the store holds isn't asked: the record has it as delivered.
+        let known = Known {
+            size: listing.size(i),
+            held: false,
+            delivered: seen.is_delivered(listing.uid(i)),
+            since: terms.now,
+        };
+        left.count(fate_of(terms.settings, step, known, fetched));
+        fetched += u64::from(step.retrieve);
+    }
+    left
 }
 
 /// What these steps pass over, by the record once the listing is merged into it.
@@ -281,7 +209,7 @@ pub(crate) fn skips_of<H: BuildHasher>(
     ensures { result ≡ skips_of terms.entry.settings.now seen.now.rows listing.now terms.entry.now steps.now }
 {
     Skips {
-        all: skipped_in(steps),
+        all: skipped_in(steps) as u32,
         left_out: left_out(terms, seen, listing, steps),
     }
 }

@@ -4,13 +4,11 @@ ghost use Rattle.pop3_client.specs.Client.{HasSameLink, link_of};
 ghost use Rattle.std.specs.Vec.{vec_len};
 ghost use Rattle.rc_file.specs.Settings.{IsValid};
 ghost use Rattle.mail_store.specs.FileName.{IsAccountText};
-ghost use Rattle.fetch_session.specs.Work.{WhereWorkSound};
 ghost use Rattle.fetch_session.specs.Account.{IsSameAccount};
-ghost use Rattle.fetch_session.specs.Intake.{GotAtMost, session_limit, TookWithTail, opening_limit, step_limit, tail_limit};
-ghost use Rattle.fetch_session.specs.Refusal.{IsWithinLimits, RefusesByOutcome};
+ghost use Rattle.fetch_session.specs.Refusal.{IsWithinLimits, RefusesByOutcome, GotAtMost, session_limit, TookWithTail, opening_limit, step_limit, tail_limit};
 ghost use Rattle.fetch_session.specs.Lasting.{ProceedsLast, RunsSession};
-ghost use Rattle.fetch_session.specs.Parts.{KeepsLink, KeepsStore};
-ghost use Rattle.fetch_session.specs.Report.{Reports, most_lines, none_skipped};
+ghost use Rattle.fetch_session.specs.Parts.{KeepsLink, KeepsStore, WhereWorkSound};
+ghost use Rattle.fetch_session.specs.Report.{most_lines, none_skipped};
 ghost use Rattle.fetch_session.specs.Session.{Proceeds, keeping, noted};
 ghost use Rattle.fetch_session.specs.Target.{AfterTakingIn, NoneBegun, target_of};
 
@@ -19,7 +17,7 @@ use crate::fault::Cut;
 use crate::listener::{Listener, Silent};
 use crate::opening::enter;
 use crate::plan::carry_out;
-use crate::report::{Outcome, Report, ReportLine, Skips, none_skipped, report_of};
+use crate::report::{Outcome, Report, Skips, none_skipped, report_of};
 use crate::tail::leave;
 use crate::terms::Terms;
 use crate::work::Work;
@@ -35,15 +33,6 @@ use std::vec::Vec;
 struct Counts {
     total: u32,
     skipped: Skips,
-}
-
-/// The report of a session with this outcome.
-fn reported(outcome: Outcome, counts: Counts, lines: Vec<ReportLine>) -> Report
-    requires { vec_len lines ≤ most_lines }
-    ensures { Reports outcome counts.total counts.skipped lines.items result }
-{
-    let Counts { total, skipped } = counts;
-    report_of(outcome, total, skipped, lines)
 }
 
 /// Logs in, deals with the listed messages, and quits, up to the first fault.
@@ -99,7 +88,8 @@ fn session_over<W: Wire, D: MaildirDisk, F: FlatFile, H: BuildHasher, L: Listene
         total: 0,
         skipped: none_skipped(),
     };
-    account.work.ledger.lines = Vec::new(account.work.ledger.alloc);
+    let alloc = account.work.ledger.alloc;
+    account.work.ledger.lines = Vec::new(alloc);
     let terms = Terms {
         settings: &account.settings,
         account: &account.id,
@@ -109,18 +99,12 @@ fn session_over<W: Wire, D: MaildirDisk, F: FlatFile, H: BuildHasher, L: Listene
         let outcome = Outcome::Cut(cut.fault);
         leave(client, cut);
         prove!(client.waiting().len() < PIECE_ROOM);
-        let lines = mem::replace(
-            &mut account.work.ledger.lines,
-            Vec::new(account.work.ledger.alloc),
-        );
-        return reported(outcome, counts, lines);
+        let lines = mem::replace(&mut account.work.ledger.lines, Vec::new(alloc));
+        return report_of(outcome, counts.total, counts.skipped, lines);
     }
     prove!(client.waiting().len() < PIECE_ROOM);
-    let lines = mem::replace(
-        &mut account.work.ledger.lines,
-        Vec::new(account.work.ledger.alloc),
-    );
-    reported(Outcome::Ended, counts, lines)
+    let lines = mem::replace(&mut account.work.ledger.lines, Vec::new(alloc));
+    report_of(Outcome::Ended, counts.total, counts.skipped, lines)
 }
 
 /// Runs one session of an account over a link: it logs in, lists, stores what is wanted and isn't

@@ -5,10 +5,9 @@ ghost use Rattle.mail_terms.specs.Listing.{message_limit};
 ghost use Rattle.mail_terms.specs.UniqueId.{IsLegalId};
 ghost use Rattle.mail_store.specs.FileName.{IsAccountText};
 ghost use Rattle.fetch_session.specs.Target.{AfterTakingIn, NoneBegun, target_of};
-ghost use Rattle.fetch_session.specs.Work.{WhereWorkSound};
-ghost use Rattle.fetch_session.specs.Intake.{TookWithTail, step_limit, tail_limit};
+ghost use Rattle.fetch_session.specs.Refusal.{TookWithTail, step_limit, tail_limit};
 ghost use Rattle.fetch_session.specs.Lasting.{CarriesLast};
-ghost use Rattle.fetch_session.specs.Parts.{KeepsLink, KeepsStore};
+ghost use Rattle.fetch_session.specs.Parts.{KeepsLink, KeepsStore, WhereWorkSound};
 ghost use Rattle.fetch_session.specs.Plan.{Carries};
 ghost use Rattle.fetch_session.specs.Report.{HasRoom, none_skipped};
 

@@ -5,6 +5,7 @@ ghost use Rattle.rc_file.specs.Settings.{IsValid};
 ghost use Rattle.mail_store.specs.FileName.{IsAccountText};
 ghost use Rattle.fetch_rules.specs.Record.{merged};
 ghost use Rattle.fetch_session.specs.Account.{digits_of};
+ghost use Rattle.fetch_session.specs.Parts.{KeepsBegun};
 ghost use Rattle.fetch_session.specs.Pretend.{PreviewsWork, LooksAtMbox, LooksIn, Pretends};
 ghost use Rattle.fetch_session.specs.Pretend.{PreviewsSession, previews_of, told_in, told_nothing};
 ghost use Rattle.fetch_session.specs.Scene.{WhereAllSound};
@@ -15,13 +16,13 @@ use crate::account::{Account, Store};
 use crate::fault::{Cut, Fault};
 use crate::message_preview::{MessagePreview, message_previews};
 use crate::opening::enter;
-use crate::readiness::{ask_held, read};
+use crate::readiness::read;
 use crate::report::Outcome;
 use crate::tail::leave;
 use crate::terms::Terms;
-use crate::work::Work;
+use crate::work::{Ledger, Work};
 use fetch_rules::{Listing, Seen, plan};
-use mail_store::{AccountId, FlatFile, MaildirDisk, peek_mbox};
+use mail_store::{AccountId, FlatFile, MaildirDisk, held, peek_mbox};
 use pop3_client::Client;
 use pop3_wire::Wire;
 use std::alloc::{AllocError, Global};
@@ -100,7 +101,7 @@ fn look<D: MaildirDisk, F: FlatFile, H: BuildHasher>(
 {
     match store {
         Store::Maildir(disk) => Ok(Looked {
-            held: ask_held(alloc, disk, account, listing)?,
+            held: held(alloc, disk, account, listing)?,
             unsettled: false,
         }),
         Store::Mboxrd(mbox) => look_at_mbox(alloc, mbox, seen, listing),
@@ -137,24 +138,22 @@ struct WorkPreview {
 /// Reads the record, asks what the store holds of the listing, and tells what would be done. Nothing
 /// is saved.
 fn preview_work<D: MaildirDisk, F: FlatFile, H: BuildHasher>(
-    alloc: Global,
+    work: &mut Work<D, F, H>,
     terms: Terms<'_>,
-    store: &mut Store<D, F>,
-    file: &mut F,
-    seen: &mut Seen<H>,
     listing: &Listing,
 ) -> Result<WorkPreview, Fault>
-    ensures kind { kind_of store.new ≡ kind_of store.old }
-    ensures stays { is_sound D.MaildirDisk F.FlatFile store.new → is_sound D.MaildirDisk F.FlatFile store.old
-        × ((stores_of D.MaildirDisk F.FlatFile store.new).maildir.begun ≡ (stores_of D.MaildirDisk F.FlatFile store.old).maildir.begun) }
-    ensures previews { is_sound D.MaildirDisk F.FlatFile store.new → F.sound file.new
-        → is_sound D.MaildirDisk F.FlatFile store.old × F.sound file.old
-        × AfterTakingIn (stores_of D.MaildirDisk F.FlatFile store.old) (λ left. PreviewsWork terms.entry.settings.now
-        (target_of store.old terms.entry.account.now) listing.now terms.entry.now (keeping left (F.stored file.old)) result
-        (keeping (stores_of D.MaildirDisk F.FlatFile store.new) (F.stored file.new))) }
+    ensures store { KeepsBegun D.MaildirDisk F.FlatFile work.old work.new }
+    ensures previews { is_sound D.MaildirDisk F.FlatFile work.new.store → F.sound work.new.ledger.file
+        → is_sound D.MaildirDisk F.FlatFile work.old.store × F.sound work.old.ledger.file
+        × AfterTakingIn (stores_of D.MaildirDisk F.FlatFile work.old.store) (λ left. PreviewsWork terms.entry.settings.now
+        (target_of work.old.store terms.entry.account.now) listing.now terms.entry.now
+        (keeping left (F.stored work.old.ledger.file)) result
+        (keeping (stores_of D.MaildirDisk F.FlatFile work.new.store) (F.stored work.new.ledger.file))) }
 {
+    let alloc = work.ledger.alloc;
+    let Ledger { file, seen, .. } = &mut work.ledger;
     read(alloc, file, seen)?;
-    let looked = look(alloc, store, seen, terms.account, listing)?;
+    let looked = look(alloc, &mut work.store, seen, terms.account, listing)?;
     let message_previews = preview_merged(alloc, terms, seen, listing, &looked.held)?;
     Ok(WorkPreview {
         unsettled: looked.unsettled,
@@ -186,19 +185,9 @@ fn preview_session<W: Wire, D: MaildirDisk, F: FlatFile, H: BuildHasher>(
 {
     let listing = enter(work.ledger.alloc, terms.settings, client)?;
     preview.total = listing.len();
-    let WorkPreview {
-        unsettled,
-        message_previews,
-    } = preview_work(
-        work.ledger.alloc,
-        terms,
-        &mut work.store,
-        &mut work.ledger.file,
-        &mut work.ledger.seen,
-        &listing,
-    )?;
-    preview.unsettled = unsettled;
-    preview.message_previews = message_previews;
+    let ahead = preview_work(work, terms, &listing)?;
+    preview.unsettled = ahead.unsettled;
+    preview.message_previews = ahead.message_previews;
     client.quit()?;
     Ok(())
 }

@@ -1,21 +1,20 @@
 //! What a session knows before its plan is carried out: the record, and what the store holds.
 ghost use Rattle.std.specs.Prelude.{◌≡◌, ◌≢◌, ◌⊎◌, ℕ, Bool, List, [], false, true};
-ghost use Rattle.std.specs.Prelude.{not, map, All, None, Some, length, OnOk, IfOk, IfErr, IfSome};
+ghost use Rattle.std.specs.Prelude.{not, map, All, None, Some, length, OnOk, IfOk, IfSome};
 ghost use Rattle.std.specs.List.{AllByRecursion};
 ghost use Rattle.fetch_rules.specs.Intents.{closed_rows};
 ghost use Rattle.fetch_rules.specs.Record.{Loaded, has_row, is_delivered, none_open, merged};
 ghost use Rattle.fetch_rules.specs.RecordFile.{file_of};
 ghost use Rattle.fetch_rules.specs.Plan.{IsQuiet, planned};
-ghost use Rattle.mail_store.specs.Fault.{IsDeviceFault};
 ghost use Rattle.fetch_session.specs.Mbox.{AsksMbox, SettlesIntent};
 ghost use Rattle.mail_store.specs.Maildir.{AfterTaking};
-ghost use Rattle.mail_store.specs.Power.{AllStay, KeepsLeft, KeepsMail, LeavesNoMore};
+ghost use Rattle.mail_store.specs.Power.{AllStay, KeepsLeft, LeavesNoMore};
 ghost use Rattle.fetch_session.specs.Lasting.{AllStayIn, AreSure, FoundLast, FoundLastIn};
 ghost use Rattle.fetch_session.specs.Lasting.{IsSafe, IsSafeStore, KeepsLeftIn, KeepsMailIn, LeavesMerged};
 ghost use Rattle.fetch_session.specs.Lasting.{ReadiesAndLasts, is_sure};
 ghost use Rattle.fetch_session.specs.Parts.{KeepsBegun};
 ghost use Rattle.fetch_session.specs.Target.{AfterTakingIn, flags_in, is_sound, kind_of, stores_of, target_of};
-ghost use Rattle.fetch_session.specs.Readiness.{AreAsHeld, ChecksBoth, ChecksStore, FindsHeld, FindsIn, HasPlan, IsIdle, Rests};
+ghost use Rattle.fetch_session.specs.Readiness.{AreAsHeld, ChecksStore, FindsHeld, FindsIn, HasPlan, IsIdle, Rests};
 ghost use Rattle.fetch_session.specs.Record.{Gets, Reads, ReadAs, Merges, IsLineFault, IsSecured, Steady, bytes_in, record_state_in};
 
 use crate::account::Store;
@@ -28,8 +27,8 @@ use fetch_rules::{
     known_listings_change_nothing, listed_has_row, plan, plan_of_known,
 };
 use mail_store::{
-    AccountId, FlatFile, Folder, MaildirDisk, StoreFault, check_mbox, flush_held, held,
-    listed_size, peek_mbox, settle_file,
+    AccountId, FlatFile, Folder, MaildirDisk, StoreFault, check_mbox, flush_held, listed_size,
+    peek_mbox, settle_file,
 };
 use std::alloc::{AllocError, Global};
 use std::hash::BuildHasher;
@@ -110,23 +109,6 @@ fn secure<F: FlatFile>(file: &mut F) -> Result<(), Fault>
     }
 }
 
-/// Asks which messages a Maildir holds.
-pub(crate) fn ask_held<D: MaildirDisk>(
-    alloc: Global,
-    disk: &mut D,
-    account: &AccountId,
-    listing: &Listing,
-) -> Result<Vec<bool>, Fault>
-    ensures length { IfOk result (λ flags. length flags.items ≡ length listing.now) }
-    ensures finds { D.sound disk.new → D.sound disk.old
-        × AfterTaking (D.maildir disk.old) (λ left. FindsHeld account.now left listing.now result (D.maildir disk.new)) }
-    ensures lasts { D.sound disk.new → KeepsLeft (D.maildir disk.old).files (D.maildir disk.new).files
-        (D.stays disk.old) (D.outlives disk.old) (D.stays disk.new) (D.outlives disk.new)
-        × OnOk result (AllStay (D.maildir disk.new) (D.stays disk.new)) }
-{
-    Ok(held(alloc, disk, account, listing)?)
-}
-
 /// For each message, whether the record doesn't show it as delivered.
 fn undelivered<H: BuildHasher>(
     alloc: Global,
@@ -142,8 +124,8 @@ fn undelivered<H: BuildHasher>(
     Ok(flags)
 }
 
-/// As `ask_held`, and flushes the files of the messages that are held and that the record doesn't show
-/// as delivered yet.
+/// Asks which messages a Maildir holds, and flushes the files of those that are held and that the record
+/// doesn't show as delivered yet.
 fn find_held<D: MaildirDisk, H: BuildHasher>(
     alloc: Global,
     disk: &mut D,
@@ -264,10 +246,7 @@ fn take_in<F: FlatFile, H: BuildHasher>(
 {
     seen.close(found.stored);
     let group = seen.merge_rows(listing, &found.held, now)?;
-    if seen.needs_rewrite() {
-        return save(file, seen);
-    }
-    if is_new && !group.is_empty() {
+    if seen.needs_rewrite() || (is_new && !group.is_empty()) {
         return save(file, seen);
     }
     grow(file, &group)
@@ -282,10 +261,8 @@ fn idle_steps<H: BuildHasher>(
     seen: &Seen<H>,
     listing: &Listing,
 ) -> Result<Option<Vec<Step>>, AllocError>
-    ensures idle { IfOk result (λ found. IfSome found (λ steps.
-        IsIdle terms.entry.settings.now seen.now.rows listing.now terms.entry.now steps.items)) }
-    ensures fresh { IfOk result (λ found. IfSome found (λ steps. seen.now.stale ≡ false)) }
-    ensures closed { IfOk result (λ found. IfSome found (λ steps. seen.now.intent ≡ None)) }
+    ensures { IfOk result (λ found. IfSome found (λ steps.
+        IsIdle terms.entry.settings.now seen.now listing.now terms.entry.now steps.items)) }
 {
     if terms.settings.read_all || seen.needs_rewrite() || seen.intent().is_some() {
         return Ok(None);
@@ -300,17 +277,6 @@ fn idle_steps<H: BuildHasher>(
     Ok(Some(steps))
 }
 
-/// Whether both folders of a Maildir are there.
-fn check_folders<D: MaildirDisk>(disk: &mut D) -> Result<(), StoreFault>
-    ensures checks { D.sound disk.new → D.sound disk.old
-        × ChecksBoth (D.maildir disk.old) result (D.maildir disk.new) }
-    ensures keeps { D.sound disk.new → KeepsMail (D.stays disk.old) (D.outlives disk.old) (D.stays disk.new) (D.outlives disk.new) }
-    ensures fault { IfErr result IsDeviceFault }
-{
-    disk.check(Folder::New)?;
-    disk.check(Folder::Cur)
-}
-
 /// Whether both folders of a Maildir are there, or an entry may follow an mboxrd file. Nothing is
 /// flushed.
 fn check_store<D: MaildirDisk, F: FlatFile>(store: &mut Store<D, F>) -> Result<(), StoreFault>
@@ -321,7 +287,10 @@ fn check_store<D: MaildirDisk, F: FlatFile>(store: &mut Store<D, F>) -> Result<(
     ensures keeps { is_sound D.MaildirDisk F.FlatFile store.new → KeepsMailIn D.MaildirDisk store.old store.new }
 {
     match store {
-        Store::Maildir(disk) => check_folders(disk),
+        Store::Maildir(disk) => {
+            disk.check(Folder::New)?;
+            disk.check(Folder::Cur)
+        }
         Store::Mboxrd(mbox) => peek_mbox(mbox),
     }
 }

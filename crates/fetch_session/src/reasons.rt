@@ -42,10 +42,8 @@ pub(crate) fn tell_plan<H: BuildHasher, L: Listener>(
 fn fate_at(plan: &[MessagePreview], number: u32) -> Option<Fate>
     ensures { result ≡ fate_at plan.now number }
 {
-    match plan.get(number.saturating_sub(1) as usize) {
-        Some(message_preview) => Some(message_preview.fate),
-        None => None,
-    }
+    plan.get(number.saturating_sub(1) as usize)
+        .map(|message_preview| message_preview.fate)
 }
 
 /// Why a message was passed over for which this was planned. One that is only deleted was delivered before.

@@ -26,10 +26,7 @@ pub(crate) fn save<F: FlatFile, H: BuildHasher>(file: &mut F, seen: &Seen<H>) ->
 {
     bytes_stand();
     let bytes = seen.bytes()?;
-    match file.replace(&bytes) {
-        Ok(()) => Ok(()),
-        Err(_) => Err(Fault::SeenRefused),
-    }
+    file.replace(&bytes).map_err(|_| Fault::SeenRefused)
 }
 
 /// Appends to the file the lines that changed the record, if there are any.

@@ -1,11 +1,9 @@
 //! What a session reports.
 ghost use Rattle.std.specs.Prelude.{◌≡◌, ◌≤◌, ◌+◌, ◌++◌, ◌∷◌, [], vec_len, length, filter, not};
 ghost use Rattle.std.specs.Vec.{vec_capacity};
-ghost use Rattle.mail_terms.specs.Listing.{message_limit};
-ghost use Rattle.fetch_session.specs.Report.{HasRoom, is_deletion, is_taken, length_in, takes_back, kept_lines};
+ghost use Rattle.fetch_session.specs.Report.{HasRoom, is_deletion, length_in, takes_back, kept_lines, has_deletions};
 ghost use Rattle.fetch_session.specs.Report.{retrieved_in, length_of, deleted_in, skipped_in, most_bytes, most_lines};
 ghost use Rattle.fetch_session.specs.Report.{Reports, none_skipped};
-ghost use Rattle.fetch_session.specs.Ending.{has_deletions};
 
 use crate::fault::Fault;
 use fetch_rules::Step;
@@ -99,22 +97,13 @@ pub(crate) fn note(lines: &mut Vec<ReportLine>, line: ReportLine)
 }
 
 impl ReportLine {
-    /// Whether it reports a text that was fetched to its end.
-    fn is_taken(&self) -> bool
-        ensures { result ≡ is_taken self.now }
-    {
-        matches!(self, ReportLine::Delivered { .. } | ReportLine::Held { .. })
-    }
-
     /// The length of the text that it reports, in bytes; 0 if it reports none.
     fn length(&self) -> u64
         ensures { result ≡ length_in self.now }
     {
         match self {
-            ReportLine::Delivered { length, .. } => *length,
-            ReportLine::Held { length, .. } => *length,
-            ReportLine::Skipped { .. } => 0,
-            ReportLine::Deleted { .. } => 0,
+            ReportLine::Delivered { length, .. } | ReportLine::Held { length, .. } => *length,
+            ReportLine::Skipped { .. } | ReportLine::Deleted { .. } => 0,
         }
     }
 
@@ -137,40 +126,29 @@ pub(crate) fn has_deletions(lines: &[ReportLine]) -> bool
 fn takes_back(outcome: &Outcome) -> bool
     ensures { result ≡ takes_back outcome.now }
 {
-    match outcome {
-        Outcome::Cut(Fault::StoreRefused(_)) => true,
-        Outcome::Cut(Fault::SeenRefused) => true,
-        Outcome::Cut(Fault::BadSeen(_)) => true,
-        _ => false,
-    }
+    matches!(
+        outcome,
+        Outcome::Cut(Fault::StoreRefused(_) | Fault::SeenRefused | Fault::BadSeen(_))
+    )
 }
 
 /// How many texts were fetched to their end.
-fn retrieved_in(lines: &[ReportLine]) -> u32
-    requires { length lines.now ≤ most_lines }
-    ensures { result ≡ retrieved_in lines.now }
+fn retrieved_in(lines: &[ReportLine]) -> usize
+    ensures value { result ≡ retrieved_in lines.now }
+    ensures few { result ≤ length lines.now }
 {
-    let mut count = 0u32;
-    for line in lines {
-        if line.is_taken() {
-            count += 1;
-        }
-    }
-    count
+    lines
+        .iter()
+        .filter(|line| matches!(line, ReportLine::Delivered { .. } | ReportLine::Held { .. }))
+        .count()
 }
 
 /// How many messages were deleted.
-fn deleted_in(lines: &[ReportLine]) -> u32
-    requires { length lines.now ≤ most_lines }
-    ensures { result ≡ deleted_in lines.now }
+fn deleted_in(lines: &[ReportLine]) -> usize
+    ensures value { result ≡ deleted_in lines.now }
+    ensures few { result ≤ length lines.now }
 {
-    let mut count = 0u32;
-    for line in lines {
-        if line.is_deletion() {
-            count += 1;
-        }
-    }
-    count
+    lines.iter().filter(|line| line.is_deletion()).count()
 }
 
 /// The total length of the texts that were fetched, as far as 64 bits go.
@@ -185,17 +163,11 @@ fn length_of(lines: &[ReportLine]) -> u64
 }
 
 /// How many steps fetch nothing.
-pub(crate) fn skipped_in(steps: &[Step]) -> u32
-    requires { length steps.now ≤ message_limit }
-    ensures { result ≡ skipped_in steps.now }
+pub(crate) fn skipped_in(steps: &[Step]) -> usize
+    ensures value { result ≡ skipped_in steps.now }
+    ensures few { result ≤ length steps.now }
 {
-    let mut count = 0u32;
-    for step in steps {
-        if !step.retrieve {
-            count += 1;
-        }
-    }
-    count
+    steps.iter().filter(|step| !step.retrieve).count()
 }
 
 /// The lines that a report keeps: all, or all but those of deletions, if the server is asked to
@@ -222,10 +194,10 @@ pub(crate) fn report_of(
     requires { length lines.items ≤ most_lines }
     ensures { Reports outcome total skipped lines.items result }
 {
-    let retrieved = retrieved_in(&lines);
+    let retrieved = retrieved_in(&lines) as u32;
     let bytes = length_of(&lines);
     let lines = kept_lines(&outcome, lines);
-    let deleted = deleted_in(&lines);
+    let deleted = deleted_in(&lines) as u32;
     Report {
         outcome,
         total,

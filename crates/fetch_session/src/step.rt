@@ -1,8 +1,8 @@
 //! What is done with each message.
 ghost use Rattle.std.specs.Prelude.{◌≡◌, ◌∷◌, [], List, length};
 ghost use Rattle.fetch_rules.specs.Record.{Row};
-ghost use Rattle.fetch_session.specs.Intake.{TookTillCut};
-ghost use Rattle.fetch_session.specs.Parts.{DoesTasks, IsReadyFor, KeepsLink, KeepsSession, task_of};
+ghost use Rattle.fetch_session.specs.Refusal.{TookTillCut};
+ghost use Rattle.fetch_session.specs.Parts.{DoesTasks, RunsTasks, IsReadyFor, KeepsLink, KeepsSession, task_of};
 ghost use Rattle.fetch_session.specs.Report.{Adds, HasRoom};
 ghost use Rattle.fetch_session.specs.Scene.{scene, TakesTask};
 ghost use Rattle.fetch_session.specs.Target.{Stores, Target};
@@ -64,9 +64,7 @@ fn take<W: Wire, D: MaildirDisk, F: FlatFile, H: BuildHasher>(
     uid: &[u8],
 ) -> Result<(), Cut>
     requires { IsReadyFor D.MaildirDisk F.FlatFile account.now (stores number uid.now ∷ []) work.old }
-    ensures keeps { KeepsSession W.Wire D.MaildirDisk F.FlatFile account.now (stores number uid.now ∷ [])
-        client.old work.old result client.new work.new }
-    ensures does { DoesTasks W.Wire D.MaildirDisk F.FlatFile account.now (stores number uid.now ∷ [])
+    ensures { RunsTasks W.Wire D.MaildirDisk F.FlatFile account.now (stores number uid.now ∷ [])
         client.old work.old result client.new work.new }
 {
     one_more_is_held();
@@ -137,9 +135,7 @@ fn do_step<W: Wire, D: MaildirDisk, F: FlatFile, H: BuildHasher>(
     first: Task<'_>,
 ) -> Result<(), Cut>
     requires { IsReadyFor D.MaildirDisk F.FlatFile account.now (task_of first ∷ deleting step.delete step.number) work.old }
-    ensures keeps { KeepsSession W.Wire D.MaildirDisk F.FlatFile account.now (task_of first.entry ∷ deleting step.delete step.number)
-        client.old work.old result client.new work.new }
-    ensures does { DoesTasks W.Wire D.MaildirDisk F.FlatFile account.now (task_of first.entry ∷ deleting step.delete step.number)
+    ensures { RunsTasks W.Wire D.MaildirDisk F.FlatFile account.now (task_of first.entry ∷ deleting step.delete step.number)
         client.old work.old result client.new work.new }
 {
     turns_join();
@@ -147,8 +143,14 @@ fn do_step<W: Wire, D: MaildirDisk, F: FlatFile, H: BuildHasher>(
     if !step.delete {
         return Ok(());
     }
-    let number = step.number;
-    do_task(client, work, account, Task::Delete { number })
+    do_task(
+        client,
+        work,
+        account,
+        Task::Delete {
+            number: step.number,
+        },
+    )
 }
 
 /// What is planned for a listing: a step for each message, and whether the store holds it.
@@ -171,22 +173,16 @@ pub fn do_steps<W: Wire, D: MaildirDisk, F: FlatFile, H: BuildHasher, L: Listene
     requires all_flags { length plan.held.now ≡ length plan.listing.now }
     requires ready { IsReadyFor D.MaildirDisk F.FlatFile account.now
         (tasks_planned plan.steps.now plan.listing.now plan.held.now) work.old }
-    ensures keeps { KeepsSession W.Wire D.MaildirDisk F.FlatFile account.now
-        (tasks_planned plan.entry.steps.now plan.entry.listing.now plan.entry.held.now) client.old work.old result client.new work.new }
-    ensures does { DoesTasks W.Wire D.MaildirDisk F.FlatFile account.now
+    ensures runs { RunsTasks W.Wire D.MaildirDisk F.FlatFile account.now
         (tasks_planned plan.entry.steps.now plan.entry.listing.now plan.entry.held.now) client.old work.old result client.new work.new }
     ensures heard { L.goes_on listener.old listener.new }
 {
     turns_join();
-    let Planned {
-        listing,
-        steps,
-        held,
-    } = plan;
+    let listing = plan.listing;
     for i in 0..listing.len() {
         let place = i as usize;
-        let step = steps[place];
-        let first = first_task(step, listing.uid(i), listing.size(i), held[place]);
+        let step = plan.steps[place];
+        let first = first_task(step, listing.uid(i), listing.size(i), plan.held[place]);
         do_step(client, work, account, step, first)?;
         listener.hear(listing.len(), &work.ledger.lines);
     }

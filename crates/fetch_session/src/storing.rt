@@ -13,16 +13,14 @@ ghost use Rattle.mail_store.specs.FlatFile.{Stored};
 ghost use Rattle.mail_store.specs.FileName.{HasRoomForSize, IsAccountText, is_held, sized, sized_file, stem_of};
 ghost use Rattle.mail_store.specs.Maildir.{File, IsThere, file, mail, with_file};
 ghost use Rattle.mail_store.specs.Power.{KeepsMail};
-ghost use Rattle.fetch_session.specs.Intake.{TookTillCut};
 ghost use Rattle.fetch_session.specs.Lasting.{AreLeft, IsSafe, RowsStillLast, Leaves, OneOutlives};
-ghost use Rattle.fetch_session.specs.Parts.{KeepsLedger, KeepsLink};
-ghost use Rattle.fetch_session.specs.Refusal.{RefusesTillCut};
+ghost use Rattle.fetch_session.specs.Parts.{KeepsLedger, KeepsLink, IsWritten};
+ghost use Rattle.fetch_session.specs.Refusal.{RefusesTillCut, TookTillCut};
 ghost use Rattle.fetch_session.specs.Report.{Adds, HasRoom};
 ghost use Rattle.fetch_session.specs.Scene.{scene, TakesTask, WhereAllSound};
 ghost use Rattle.fetch_session.specs.Store.{Ends, MayGain, PassesText, Puts, ReadsText, Starts, StoresText};
 ghost use Rattle.fetch_session.specs.Target.{AsFiles, Stores, Target, in_maildir};
 ghost use Rattle.fetch_session.specs.Task.{rereads, stores};
-ghost use Rattle.fetch_session.specs.Work.{IsWritten};
 
 use crate::fault::{Cut, Fault, Why};
 use crate::record::remember;

@@ -2,8 +2,7 @@
 ghost use Rattle.std.specs.Prelude.{◌≡◌, ◌++◌, IfOk, codes, if◌then◌else◌};
 ghost use Rattle.std.specs.String.{string_bytes};
 ghost use Rattle.fetch_session.specs.Telling.{counts, date_of, date_text, due_text, deleted_in, fate_text};
-ghost use Rattle.fetch_session.specs.Telling.{fetched_in, is_deletion, is_fetch, notice, preview_text};
-ghost use Rattle.fetch_session.specs.Telling.{message_preview_text};
+ghost use Rattle.fetch_session.specs.Telling.{fetched_in, message_preview_text, notice, preview_text};
 
 use crate::message_preview::{Fate, MessagePreview};
 use crate::preview::Preview;
@@ -84,18 +83,6 @@ impl Fate {
             Fate::SameId => "same id as an earlier message",
         }
     }
-
-    fn is_fetch(self) -> bool
-        ensures { result ≡ is_fetch self }
-    {
-        matches!(self, Fate::Fetched | Fate::FetchedAndDeleted)
-    }
-
-    fn is_deletion(self) -> bool
-        ensures { result ≡ is_deletion self }
-    {
-        matches!(self, Fate::Deleted | Fate::FetchedAndDeleted)
-    }
 }
 
 /// The line of one message.
@@ -106,14 +93,9 @@ fn message_preview_text(
 ) -> Result<String, AllocError>
     ensures { IfOk result (λ text. string_bytes text ≡ message_preview_text total message_preview.now) }
 {
-    let MessagePreview {
-        number,
-        size,
-        fate,
-        due,
-    } = *message_preview;
-    let what = fate.text();
-    let when = due_text(alloc, due)?;
+    let (number, size) = (message_preview.number, message_preview.size);
+    let what = message_preview.fate.text();
+    let when = due_text(alloc, message_preview.due)?;
     format!(in alloc; "msg {number}/{total} ({size} octets) {what}{when}\n")
 }
 
@@ -121,26 +103,20 @@ fn message_preview_text(
 fn fetched_in(message_previews: &[MessagePreview]) -> usize
     ensures { result ≡ fetched_in message_previews.now }
 {
-    let mut count = 0usize;
-    for message_preview in message_previews {
-        if message_preview.fate.is_fetch() {
-            count += 1;
-        }
-    }
-    count
+    message_previews
+        .iter()
+        .filter(|told| matches!(told.fate, Fate::Fetched | Fate::FetchedAndDeleted))
+        .count()
 }
 
 /// How many messages would be deleted.
 fn deleted_in(message_previews: &[MessagePreview]) -> usize
     ensures { result ≡ deleted_in message_previews.now }
 {
-    let mut count = 0usize;
-    for message_preview in message_previews {
-        if message_preview.fate.is_deletion() {
-            count += 1;
-        }
-    }
-    count
+    message_previews
+        .iter()
+        .filter(|told| matches!(told.fate, Fate::Deleted | Fate::FetchedAndDeleted))
+        .count()
 }
 
 /// The last line.

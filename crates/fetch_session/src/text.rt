@@ -1,33 +1,13 @@
 //! The texts of faults and reports. They contain nothing of a password.
-ghost use Rattle.std.specs.Prelude.{◌≡◌, ◌++◌, IfOk, codes};
+ghost use Rattle.std.specs.Prelude.{◌≡◌, IfOk};
 ghost use Rattle.std.specs.String.{string_bytes};
-ghost use Rattle.fetch_session.specs.Fault.{number_of};
-ghost use Rattle.fetch_session.specs.Text.{asked_text, fault_text, heading, line_text, message_text};
-ghost use Rattle.fetch_session.specs.Text.{outcome_number, report_text, summary};
+ghost use Rattle.fetch_session.specs.Text.{fault_text, heading, line_text, outcome_number, report_text, summary};
 
 use crate::fault::{Fault, Why};
 use crate::report::{Outcome, Report, ReportLine};
 use fetch_rules::Settings;
 use pop3_client::Asked;
 use std::alloc::{AllocError, Global};
-
-/// What a refused reply was asked for, after `server refused `.
-fn refused_text(alloc: Global, asked: Asked) -> Result<String, AllocError>
-    ensures { IfOk result (λ text. string_bytes text ≡ codes "server refused " ++ asked_text asked) }
-{
-    match asked {
-        Asked::Greeting => String::from_str(alloc, "server refused greeting"),
-        Asked::User => String::from_str(alloc, "server refused USER"),
-        Asked::Pass => String::from_str(alloc, "server refused PASS"),
-        Asked::Stat => String::from_str(alloc, "server refused STAT"),
-        Asked::Uidl => String::from_str(alloc, "server refused UIDL"),
-        Asked::List => String::from_str(alloc, "server refused LIST"),
-        Asked::Retr(number) => format!(in alloc; "server refused RETR {number}"),
-        Asked::Dele(number) => format!(in alloc; "server refused DELE {number}"),
-        Asked::Rset => String::from_str(alloc, "server refused RSET"),
-        Asked::Quit => String::from_str(alloc, "server refused QUIT"),
-    }
-}
 
 /// The text of a fault, without a line end.
 pub fn fault_text(alloc: Global, fault: &Fault) -> Result<String, AllocError>
@@ -39,7 +19,16 @@ pub fn fault_text(alloc: Global, fault: &Fault) -> Result<String, AllocError>
         Fault::WriteFailed => String::from_str(alloc, "writing to the server failed"),
         Fault::ReplyTooLong => String::from_str(alloc, "reply line too long"),
         Fault::BadReply => String::from_str(alloc, "reply not understood"),
-        Fault::Refused(asked) => refused_text(alloc, asked),
+        Fault::Refused(Asked::Greeting) => String::from_str(alloc, "server refused greeting"),
+        Fault::Refused(Asked::User) => String::from_str(alloc, "server refused USER"),
+        Fault::Refused(Asked::Pass) => String::from_str(alloc, "server refused PASS"),
+        Fault::Refused(Asked::Stat) => String::from_str(alloc, "server refused STAT"),
+        Fault::Refused(Asked::Uidl) => String::from_str(alloc, "server refused UIDL"),
+        Fault::Refused(Asked::List) => String::from_str(alloc, "server refused LIST"),
+        Fault::Refused(Asked::Retr(number)) => format!(in alloc; "server refused RETR {number}"),
+        Fault::Refused(Asked::Dele(number)) => format!(in alloc; "server refused DELE {number}"),
+        Fault::Refused(Asked::Rset) => String::from_str(alloc, "server refused RSET"),
+        Fault::Refused(Asked::Quit) => String::from_str(alloc, "server refused QUIT"),
         Fault::BadListing => String::from_str(alloc, "listing not understood"),
         Fault::ListingsDisagree => String::from_str(alloc, "listings disagree"),
         Fault::TooMany => String::from_str(alloc, "too many messages"),
@@ -53,35 +42,26 @@ pub fn fault_text(alloc: Global, fault: &Fault) -> Result<String, AllocError>
     }
 }
 
-/// The number of a fault, as `cut N` shows it.
-fn number_of(fault: Fault) -> u8
-    ensures { result ≡ number_of fault }
-{
-    match fault {
-        Fault::ConnectionEnded => 1,
-        Fault::ReadFailed => 2,
-        Fault::WriteFailed => 3,
-        Fault::ReplyTooLong => 4,
-        Fault::BadReply => 5,
-        Fault::Refused(_) => 6,
-        Fault::BadListing => 7,
-        Fault::ListingsDisagree => 8,
-        Fault::TooMany => 9,
-        Fault::TextTooLong => 10,
-        Fault::StoreRefused(_) => 11,
-        Fault::SeenRefused => 12,
-        Fault::NoMemory => 13,
-        Fault::BadSeen(_) => 14,
-    }
-}
-
 /// The number of an outcome: 0 if the session ended, else its fault's.
 pub fn fault_number(outcome: &Outcome) -> u8
     ensures { result ≡ outcome_number outcome.now }
 {
     match outcome {
         Outcome::Ended => 0,
-        Outcome::Cut(fault) => number_of(*fault),
+        Outcome::Cut(Fault::ConnectionEnded) => 1,
+        Outcome::Cut(Fault::ReadFailed) => 2,
+        Outcome::Cut(Fault::WriteFailed) => 3,
+        Outcome::Cut(Fault::ReplyTooLong) => 4,
+        Outcome::Cut(Fault::BadReply) => 5,
+        Outcome::Cut(Fault::Refused(_)) => 6,
+        Outcome::Cut(Fault::BadListing) => 7,
+        Outcome::Cut(Fault::ListingsDisagree) => 8,
+        Outcome::Cut(Fault::TooMany) => 9,
+        Outcome::Cut(Fault::TextTooLong) => 10,
+        Outcome::Cut(Fault::StoreRefused(_)) => 11,
+        Outcome::Cut(Fault::SeenRefused) => 12,
+        Outcome::Cut(Fault::NoMemory) => 13,
+        Outcome::Cut(Fault::BadSeen(_)) => 14,
     }
 }
 
@@ -111,12 +91,10 @@ pub fn line_text(
         ReportLine::Held { number, length } => {
             format!(in alloc; "msg {number}/{total} ({length} bytes) already held\n")
         }
-        ReportLine::Skipped { number, size } => {
-            if verbose != 2 {
-                return Ok(String::new(alloc));
-            }
+        ReportLine::Skipped { number, size } if verbose == 2 => {
             format!(in alloc; "msg {number}/{total} ({size} octets) skipped\n")
         }
+        ReportLine::Skipped { .. } => Ok(String::new(alloc)),
         ReportLine::Deleted { number } => format!(in alloc; "msg {number}/{total} deleted\n"),
     }
 }

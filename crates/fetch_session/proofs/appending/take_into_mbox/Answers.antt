@@ -5,7 +5,7 @@ use Rattle.pop3_client.specs.Client.{link_of, place_of}
 use Rattle.pop3_client.specs.Texts.{Fetched}
 use Rattle.pop3_client.specs.Turns.{most, retr}
 use Rattle.fetch_session.specs.Target.{AsEntries}
-use Rattle.fetch_session.specs.Intake.{TookTillCut}
+use Rattle.fetch_session.specs.Refusal.{TookTillCut}
 use Rattle.fetch_session.specs.declared.report.ReportLine.{ReportLine}
 use Rattle.fetch_session.specs.declared.report.ReportLine.TheVariants.{Delivered}
 use Rattle.fetch_session.proofs.TextLemmas.{text_broken, body_whole, entry_not_saved, entry_stored, not_held, text_refused}

@@ -1,11 +1,10 @@
-use Rattle.std.proofs.Common.{[], ◌∷◌, Ok, Err, refl, sym, append-nil, arith}
+use Rattle.std.proofs.Common.{[], ◌∷◌, Ok, refl, sym, append-nil, arith}
 use Rattle.pop3_client.specs.Client.{link_of}
 use Rattle.pop3_client.specs.Turns.{quit}
-use Rattle.fetch_session.proofs.TalkLemmas.{err_is, did_so, quit_broke, took_completing, took_less, cut_by}
+use Rattle.fetch_session.proofs.TalkLemmas.{err_is, did_so, in_words, quit_broke, took_completing, took_less, cut_by}
 use Rattle.fetch_session.specs.Task.{says}
 use Rattle.fetch_session.specs.Target.{kind_of, target_of}
-use Rattle.fetch_session.proofs.PartLemmas.{Looked, does_quitting, kept_quitting, look_maildir, look_told, not_left, quitting_store, link_broke, link_idle, link_on_tail, link_still, link_with_tail}
-use Rattle.fetch_session.proofs.SceneLemmas.{all_sound}
+use Rattle.fetch_session.proofs.PartLemmas.{Looked, runs_quitting, look_maildir, look_told, not_left, quitting_store, link_broke, link_idle, link_on_tail, link_still, link_with_tail}
 use Rattle.fetch_session.proofs.TextLemmas.{taken_idle, text_broken}
 use Rattle.fetch_session.proofs.ending.end.Goals.{After-look_again}
 use Rattle.fetch_session.proofs.ending.end.Goals as goal
@@ -21,15 +20,16 @@ looked g c = record {
 -- the look was refused
 pub returns-in_err-told : goal.returns-in_err-told
 returns-in_err-told g c =
-    let work = c.args.work.now in
     let is = looked g (goal.at.returns-in_err-told g c).After-look_again in
     rw (err_is c.from_residual.ensures.1) (record {
       told = tt;
       link = link_with_tail (link_idle {limit = 0});
       store = quitting_store is;
-      keeps = λ account. kept_quitting is (link_idle) (λ d safe. tt);
-      does = λ account. all_sound (λ w. (w, g.met.W.Wire.leads_same c.args.client.now.wire.now, tt {0})) (λ d. ((c.in_err-told.ensures.looks d).0, d)) (λ f. (f, f)) (λ _ d.
-          does_quitting is account _ _ (Err _) (not_left (kind_of work.store) account c.in_err-told.field-0.0 c.deref.ensures.value (c.in_err-told.ensures.looks d).1) (λ d safe. tt) d);
+      runs = λ account. runs_quitting is account link_idle (λ d safe. tt) (λ d w. (
+        w,
+        g.met.W.Wire.leads_same c.args.client.now.wire.now,
+        not_left (kind_of c.args.work.now.store) account c.in_err-told.field-0.0 c.deref.ensures.value (c.in_err-told.ensures.looks d).1,
+      ));
     })
 
 -- QUIT was answered well
@@ -42,9 +42,9 @@ returns g c =
       told = λ d. rw c.deref.ensures.value at (look_told (kind_of work.store) _ _ _ c.in_ok-told.told (c.in_ok-told.ensures.looks d).1).0;
       link = record { same = c.quit.ensures.link; counted = c.in_ok-quit.ensures.counted; took = λ w. ((took w).0, took_less (took w).1 (omega arith)) };
       store = quitting_store is;
-      keeps = λ account. kept_quitting is (record { same = c.quit.ensures.link; counted = c.in_ok-quit.ensures.counted; took = took }) c.in_ok-told.ensures.safe;
-      does = λ account. all_sound c.in_ok-quit.ensures.completes (λ d. ((c.in_ok-told.ensures.looks d).0, d)) (λ f. (f, f)) (λ said d.
-          does_quitting is account _ _ (Ok tt) (rw (look_told (kind_of work.store) _ _ _ c.in_ok-told.told (c.in_ok-told.ensures.looks d).1).1 (taken_idle (target_of work.store account) (record { task = says quit; replies = said.0 ∷ [] }) (λ account. refl) refl refl said.1.good said.1 (sym (append-nil _)))) c.in_ok-told.ensures.safe d);
+      runs = λ account. runs_quitting is account (record { same = c.quit.ensures.link; counted = c.in_ok-quit.ensures.counted; took = took }) c.in_ok-told.ensures.safe
+          (λ d. in_words g.W.Wire c.in_ok-quit.ensures.completes (λ said. rw (look_told (kind_of work.store) _ _ _ c.in_ok-told.told (c.in_ok-told.ensures.looks d).1).1
+          (taken_idle (target_of work.store account) (record { task = says quit; replies = said.0 ∷ [] }) (λ account. refl) refl refl said.1.good said.1 (sym (append-nil _)))));
     }
 
 -- it wasn't
@@ -61,7 +61,6 @@ returns-in_err-quit g c =
         took = did_so g.W.Wire broken (quit_broke c.conversations_are_paced.ensures _ _ c.in_err-quit.field-0.0);
       });
       store = quitting_store is;
-      keeps = λ account. kept_quitting is (link_broke c.conversations_are_paced.ensures quit c.in_err-quit.field-0.0 c.quit.ensures.link c.in_err-quit.ensures.counted broken) (λ d safe. tt);
-      does = λ account. all_sound broken (λ d. ((c.in_ok-told.ensures.looks d).0, d)) (λ f. (f, f)) (λ broke d.
-          does_quitting is account _ _ (Err _) (rw (look_told (kind_of work.store) _ _ _ c.in_ok-told.told (c.in_ok-told.ensures.looks d).1).1 (text_broken (target_of work.store account) c.in_err-quit.field-0.0 refl broke)) (λ d safe. tt) d);
+      runs = λ account. runs_quitting is account (link_broke c.conversations_are_paced.ensures quit c.in_err-quit.field-0.0 c.quit.ensures.link c.in_err-quit.ensures.counted broken) (λ d safe. tt)
+          (λ d. in_words g.W.Wire broken (λ broke. rw (look_told (kind_of work.store) _ _ _ c.in_ok-told.told (c.in_ok-told.ensures.looks d).1).1 (text_broken (target_of work.store account) c.in_err-quit.field-0.0 refl broke)));
     })

@@ -1,5 +1,5 @@
 use Rattle.std.proofs.Common.{refl, rules, Ok, Err, arith, ◌∙◌, inl, inr}
-use Rattle.fetch_session.specs.Intake.{TookTillCut, opening_limit}
+use Rattle.fetch_session.specs.Refusal.{TookTillCut, opening_limit}
 use Rattle.fetch_session.specs.Parts.{KeepsLink}
 use Rattle.fetch_session.proofs.TalkLemmas.{err_is, did_so, in_words, took_entering}
 use Rattle.fetch_session.proofs.SceneLemmas.{link_alone}

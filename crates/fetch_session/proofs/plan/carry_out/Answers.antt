@@ -1,11 +1,10 @@
-use Rattle.std.proofs.Common.{rules, refl, ◌≡◌, ◌*◌, ℕ, List, [], ◌∷◌, ◌++◌, true, inl, arith, length, Result, Ok, Err, sym, ap, subst, ◌∙◌, append-nil}
+use Rattle.std.proofs.Common.{refl, ◌≡◌, ◌*◌, ℕ, List, [], ◌∷◌, ◌++◌, true, inl, arith, length, Result, Ok, Err, sym, ap, subst, ◌∙◌, append-nil}
 use Rattle.mail_terms.specs.UniqueId.{IsLegalId}
 use Rattle.fetch_rules.specs.Plan.{planned}
 use Rattle.fetch_rules.specs.Record.{has_row}
 use Rattle.pop3_client.specs.Turns.{quit}
 use Rattle.fetch_session.proofs.TalkLemmas.{err_is}
 use Rattle.fetch_session.specs.Target.{AfterTakingIn, stores_of, target_of}
-use Rattle.fetch_session.specs.Work.{WhereWorkSound}
 use Rattle.fetch_session.specs.Lasting.{CarriesLast}
 use Rattle.fetch_session.specs.Plan.{Carries}
 use Rattle.fetch_session.specs.declared.fault.Cut.{Cut}
@@ -13,11 +12,11 @@ use Rattle.fetch_session.specs.declared.work.Work.{Work}
 use Rattle.pop3_client.specs.declared.client.Client.{Client}
 use Rattle.fetch_session.specs.Task.{Task, says, tasks_planned}
 use Rattle.fetch_session.specs.Report.{Adds, HasRoom, skips_of}
-use Rattle.fetch_session.specs.Intake.{TookTillCut, step_limit}
-use Rattle.fetch_session.specs.Parts.{IsReadyFor, KeepsLink, KeepsStore}
+use Rattle.fetch_session.specs.Refusal.{TookTillCut, step_limit}
+use Rattle.fetch_session.specs.Parts.{RunsTasks, IsReadyFor, KeepsLink, KeepsStore, WhereWorkSound}
 use Rattle.fetch_session.proofs.ReadyLemmas.{flags_same, fresh_firsts, followed}
 use Rattle.fetch_session.proofs.SessionLemmas.{carried, in_kind}
-use Rattle.fetch_session.proofs.PartLemmas.{Goes, goes_before, goes_on, link_idle, link_less, link_on_tail, link_with_tail, most_planned, planned_all, store_less, store_on}
+use Rattle.fetch_session.proofs.PartLemmas.{runs_before, goes_on, link_idle, link_less, link_on_tail, link_with_tail, most_planned, planned_all, store_less, store_on}
 use Rattle.fetch_session.proofs.plan.carry_out.Goals.{After-deref-3, After-do_steps, In_ok-do_steps}
 use Rattle.fetch_session.proofs.plan.carry_out.Goals as goal
 
@@ -58,7 +57,7 @@ do_steps-requires-clause-ready g c = ready_to_do g (goal.at.do_steps-requires-cl
 pub end-requires : goal.end-requires
 end-requires g c =
     let ready = ready_to_do g (goal.at.end-requires g c).After-deref-3 in
-    (c.in_ok-do_steps.ensures.keeps.next [] (rw (append-nil (tasks_planned c.deref-2.result.now c.args.listing.now c.deref-3.result.now)) ready)).ready
+    (c.in_ok-do_steps.ensures.runs.0.next [] (rw (append-nil (tasks_planned c.deref-2.result.now c.args.listing.now c.deref-3.result.now)) ready)).ready
 
 -- the planned tasks, and QUIT
 abbrev tasks_on : (g : _) (c : After-deref-3 g) → List Task
@@ -67,7 +66,7 @@ tasks_on g c = tasks_planned c.deref-2.result.now c.args.listing.now c.deref-3.r
 -- what was done once all was ready, up to a fault or QUIT's reply
 carries : (g : _) (c : After-deref-3 g) (r : Result (Unit {0}) Cut) {client : Client g.row.W.Denot}
     {work : Work g.row.D.Denot g.row.F.Denot _ _}
-    → Goes g.W.Wire g.D.MaildirDisk g.F.FlatFile c.args.terms.account.now (tasks_on g c) c.args.client.now c.prepare.new.work r client work
+    → RunsTasks g.W.Wire g.D.MaildirDisk g.F.FlatFile c.args.terms.account.now (tasks_on g c) c.args.client.now c.prepare.new.work r client work
     → WhereWorkSound g.W.Wire g.D.MaildirDisk g.F.FlatFile c.args.client.now c.args.work.now client work
     (λ old new. AfterTakingIn old.store (λ left.
     (is : Carries c.args.terms.settings.now (target_of c.args.work.now.store c.args.terms.account.now) c.args.listing.now c.args.terms.now
@@ -89,12 +88,12 @@ carries g c r (keeps, does) = λ w d f.
 
 -- all steps were done
 did : (g : _) (c : In_ok-do_steps g) → KeepsLink g.W.Wire (TookTillCut (length c.args.listing.now * step_limit)) c.args.client.now (Ok tt) c.do_steps.new.client
-did g c = link_less (length c.args.listing.now * step_limit) (most_planned c.deref-2.result.now c.args.listing.now c.deref-3.result.now).0 c.in_ok-do_steps.ensures.keeps.talk
+did g c = link_less (length c.args.listing.now * step_limit) (most_planned c.deref-2.result.now c.args.listing.now c.deref-3.result.now).0 c.in_ok-do_steps.ensures.runs.0.talk
 
 -- the store was prepared, and then used
 stood : (g : _) (c : After-do_steps g) → KeepsStore g.D.MaildirDisk g.F.FlatFile (2 * length c.args.listing.now) c.args.work.now c.do_steps.new.work
 stood g c =
-    let kept = store_less (most_planned c.deref-2.result.now c.args.listing.now c.deref-3.result.now).1 c.do_steps.ensures.keeps.store in
+    let kept = store_less (most_planned c.deref-2.result.now c.args.listing.now c.deref-3.result.now).1 c.do_steps.ensures.runs.0.store in
     record {
       lines = subst (λ lines. Adds lines (2 * length c.args.listing.now) c.do_steps.new.work.ledger.lines) c.prepare.ensures.store.lines kept.lines;
       kind = kept.kind ∙ c.prepare.ensures.store.kind;
@@ -106,10 +105,10 @@ returns-in_err-do_steps g c =
     let here = goal.at.returns-in_err-do_steps g c in
     let done = c.in_err-do_steps.ensures in
     rw (err_is c.from_residual-in_err-do_steps.ensures.1) (record {
-      link = link_with_tail (link_less (length c.args.listing.now * step_limit) (most_planned c.deref-2.result.now c.args.listing.now c.deref-3.result.now).0 done.keeps.talk);
+      link = link_with_tail (link_less (length c.args.listing.now * step_limit) (most_planned c.deref-2.result.now c.args.listing.now c.deref-3.result.now).0 done.runs.0.talk);
       store = stood g here.After-do_steps;
-      carries = carries g here.After-deref-3 (Err c.in_err-do_steps.field-0.0) (goes_before _ _ (done.keeps, done.does));
-      heard = search rules;
+      carries = carries g here.After-deref-3 (Err c.in_err-do_steps.field-0.0) (runs_before _ _ done.runs);
+      heard = g.met.L.Listener.goes_further _ _ _ c.tell_plan.ensures c.do_steps.ensures.heard;
     })
 
 pub returns : goal.returns
@@ -120,8 +119,8 @@ returns g c =
     record {
       link = link_on_tail (omega arith) (did g here.In_ok-do_steps) last.link;
       store = store_on (omega arith) (stood g here.After-do_steps) c.end.ensures.store;
-      carries = carries g here.After-deref-3 (Ok tt) (goes_on c.turns_join.ensures g.met.W.Wire.leads_on _ _ (Ok tt) (first.keeps, first.does) (last.keeps _, last.does _));
-      heard = search rules;
+      carries = carries g here.After-deref-3 (Ok tt) (goes_on c.turns_join.ensures g.met.W.Wire.leads_on _ _ (Ok tt) first.runs (last.runs _));
+      heard = g.met.L.Listener.goes_further _ _ _ c.tell_plan.ensures c.do_steps.ensures.heard;
     }
 
 pub returns-in_err-end : goal.returns-in_err-end
@@ -132,8 +131,8 @@ returns-in_err-end g c =
     rw (err_is c.from_residual-in_err-end.ensures.1) (record {
       link = link_on_tail (omega arith) (did g here.In_ok-do_steps) last.link;
       store = store_on (omega arith) (stood g here.After-do_steps) c.end.ensures.store;
-      carries = carries g here.After-deref-3 (Err c.in_err-end.field-0.0) (goes_on c.turns_join.ensures g.met.W.Wire.leads_on _ _ (Err c.in_err-end.field-0.0) (first.keeps, first.does) (last.keeps _, last.does _));
-      heard = search rules;
+      carries = carries g here.After-deref-3 (Err c.in_err-end.field-0.0) (goes_on c.turns_join.ensures g.met.W.Wire.leads_on _ _ (Err c.in_err-end.field-0.0) first.runs (last.runs _));
+      heard = g.met.L.Listener.goes_further _ _ _ c.tell_plan.ensures c.do_steps.ensures.heard;
     })
 
 pub returns-in_err-ready-clause-link : goal.returns-in_err-ready-clause-link

@@ -13,7 +13,7 @@ returns-clause-previews g c = λ d f.
     let items = c.args.listing.now in
     let now = c.args.terms.now in
     asked (c.in_ok-looked.ensures.looks d) reads.0 (λ left is.
-    work_preview _ (target_of c.args.store.now c.args.terms.account.now) items now _ _ _ c.read.new.seen _ c.in_ok-looked.looked _ reads.1.0 reads.1.2 is
+    work_preview _ (target_of c.args.work.now.store c.args.terms.account.now) items now _ _ _ c.read.new.seen _ c.in_ok-looked.looked _ reads.1.0 reads.1.2 is
     (c.in_ok-message_previews.ensures ∙ ap (λ (flags : List Bool). previews_of c.args.terms.settings.now (merged c.read.new.seen.rows items flags now) items flags now) c.deref.ensures.value))
 
 pub returns-in_err-read-clause-previews : goal.returns-in_err-read-clause-previews

@@ -59,11 +59,3 @@ returns-then-needs_rewrite-clause-lasts g c = λ kept safe. (
       (rw (c.in_ok-group.ensures.after, c.deref.ensures.value, c.close.ensures.after) at (c.save.ensures.leaves kept)),
   c.save.ensures.lasts kept,
 )
-
-pub returns-then-not-is_empty-clause-lasts : goal.returns-then-not-is_empty-clause-lasts
-returns-then-not-is_empty-clause-lasts g c = λ kept safe.
-    let save = c.save-then-not-is_empty in (
-      written_merged g.F.FlatFile c.args.seen.now.rows _ c.args.file.now save.new.file _ (rw (c.in_ok-group.ensures.after, c.deref.ensures.value, c.close.ensures.after) at save.ensures.stands)
-          (rw (c.in_ok-group.ensures.after, c.deref.ensures.value, c.close.ensures.after) at (save.ensures.leaves kept)),
-      save.ensures.lasts kept,
-    )

@@ -5,12 +5,12 @@ use Rattle.fetch_session.proofs.TalkLemmas.{err_is}
 use Rattle.fetch_session.specs.Parts.{task_of}
 use Rattle.fetch_session.specs.Task.{Task, deleting, tasks_planned}
 use Rattle.fetch_session.proofs.ReadyLemmas.{later_at, no_item, step_at, tasks_left}
-use Rattle.fetch_session.proofs.PartLemmas.{goes_before, goes_nothing, goes_on, ready_front}
+use Rattle.fetch_session.proofs.PartLemmas.{runs_before, runs_nothing, goes_on, ready_front}
 use Rattle.fetch_session.proofs.step.do_steps.Goals.{After-first_task-first, After-loop-i}
 use Rattle.fetch_session.proofs.step.do_steps.Goals as goal
 
 pub loop-i-init : goal.loop-i-init
-loop-i-init g c = ([], refl, goes_nothing g.met.W.Wire.leads_same c.requires.ready.ready, g.met.L.Listener.goes_same c.args.listener.now)
+loop-i-init g c = ([], refl, runs_nothing g.met.W.Wire.leads_same c.requires.ready.ready, g.met.L.Listener.goes_same c.args.listener.now)
 
 -- what is done for the i-th message, and after it
 abbrev now : (g : _) → After-first_task-first g → List Task
@@ -36,15 +36,16 @@ pub loop-i-preserved : goal.loop-i-preserved
 loop-i-preserved g c =
     let d = (goal.at.loop-i-preserved g c).After-first_task-first in
     let inv = c.loop-i.invariant in
-    (inv.0 ++ now g d, split g d, goes_on c.turns_join.ensures g.met.W.Wire.leads_on inv.0 (now g d) (Ok tt) inv.2 (c.in_ok-do_step.ensures.keeps, c.in_ok-do_step.ensures.does), g.met.L.Listener.goes_further _ _ _ inv.3 c.hear.ensures)
+    (inv.0 ++ now g d, split g d, goes_on c.turns_join.ensures g.met.W.Wire.leads_on inv.0 (now g d) (Ok tt) inv.2 c.in_ok-do_step.ensures, g.met.L.Listener.goes_further _ _ _ inv.3 c.hear.ensures)
 
 pub returns-in_err-do_step : goal.returns-in_err-do_step
 returns-in_err-do_step g c =
     let d = (goal.at.returns-in_err-do_step g c).After-first_task-first in
     let inv = c.loop-i.invariant in
-    let goes = goes_before (inv.0 ++ now g d) (later g d) (goes_on c.turns_join.ensures g.met.W.Wire.leads_on inv.0 (now g d) (Err c.in_err-do_step.field-0.0) inv.2
-    (c.in_err-do_step.ensures.keeps, c.in_err-do_step.ensures.does)) in
-    record { keeps = rw (err_is c.from_residual.ensures.1, split g d) goes.0; does = rw (err_is c.from_residual.ensures.1, split g d) goes.1; heard = inv.3 }
+    rw (err_is c.from_residual.ensures.1, split g d) (record {
+      runs = runs_before (inv.0 ++ now g d) (later g d) (goes_on c.turns_join.ensures g.met.W.Wire.leads_on inv.0 (now g d) (Err c.in_err-do_step.field-0.0) inv.2 c.in_err-do_step.ensures);
+      heard = inv.3;
+    })
 
 -- none is left
 all_done : (g : _) (c : After-loop-i g) → tasks_planned c.args.plan.steps.now c.args.plan.listing.now c.args.plan.held.now ≡ c.loop-i.invariant.0
@@ -53,8 +54,5 @@ all_done g c =
     inv.1 ∙ ap (λ (ss : List Step). inv.0 ++ tasks_planned ss (drop c.loop-i.i c.args.plan.listing.now) (drop c.loop-i.i c.args.plan.held.now))
     (drop_all c.loop-i.i c.args.plan.steps.now (omega (arith, c.loop-i-test.false, c.len-i-end.ensures.count, c.requires.all_steps))) ∙ append-nil inv.0
 
-pub returns-clause-keeps : goal.returns-clause-keeps
-returns-clause-keeps g c = rw (all_done g (goal.at.returns-clause-keeps g c).After-loop-i) c.loop-i.invariant.2.0
-
-pub returns-clause-does : goal.returns-clause-does
-returns-clause-does g c = rw (all_done g (goal.at.returns-clause-does g c).After-loop-i) c.loop-i.invariant.2.1
+pub returns-clause-runs : goal.returns-clause-runs
+returns-clause-runs g c = rw (all_done g (goal.at.returns-clause-runs g c).After-loop-i) c.loop-i.invariant.2

@@ -14,7 +14,7 @@ use Rattle.std.proofs.lemmas.List.{append_cancel_left}
 use Rattle.fetch_session.proofs.TextLemmas.{stores_grows, text_broken, text_stops, text_stored, text_not_saved}
 use Rattle.fetch_session.proofs.TalkLemmas.{took_talked, takes_stopped, before_cut, err_is, and_then, did_both, in_words}
 use Rattle.fetch_session.proofs.PartLemmas.{link_broke, link_idle, link_then_cut, marked_ledger, same_ledger}
-use Rattle.fetch_session.specs.Intake.{TookTillCut}
+use Rattle.fetch_session.specs.Refusal.{TookTillCut}
 use Rattle.fetch_session.specs.Parts.{KeepsLink}
 use Rattle.fetch_session.specs.Report.{Adds}
 use Rattle.fetch_session.proofs.storing.take_into_maildir.Goals.{After-note, After-store_text, In_ok-length}
