@@ -2,7 +2,7 @@
 use Rattle.std.proofs.Common.{◌≡◌, ◌≤◌, ◌<◌, ◌+◌, ◌-◌, ℕ, zero, suc, List, [], ◌∷◌, ◌++◌, Bool, not, ◌&&◌, ◌||◌, ◌==◌, length, take, drop, map, refl, sym, ◌∙◌, ap, arith, append_assoc, take-append-drop, Some, slice_get, ◌⊎◌, inl, inr, true, false, None}
 use Rattle.std.specs.Prelude.{bytes_eq, zip}
 use Rattle.std.specs.List.{filter, enumerate_from, AllByRecursion}
-use Rattle.std.proofs.lemmas.Bool.{cond_both, or_left, cases_Bool}
+use Rattle.std.proofs.lemmas.Bool.{cond_both, or_left, cases_Bool, false_from_ne_true}
 use Rattle.std.proofs.lemmas.List.{take-map, drop-map, append-nil, take_all, length-map}
 use Rattle.std.proofs.lemmas.List.Elements.{recursion_from_All, filter-append}
 use Rattle.std.proofs.lemmas.List.FromFn.{length-enumerate_from, get_or-enumerate_from}
@@ -13,14 +13,13 @@ use Rattle.mail_terms.specs.Listing.{Item, has_item}
 use Rattle.fetch_rules.specs.Record.{Row, is_delivered, merged}
 use Rattle.fetch_rules.specs.Wanted.{is_within, is_asked_for, candidates, at_most, wanted, DistinctAreFiltered}
 use Rattle.rc_file.specs.declared.settings.Settings.{Settings}
-use Rattle.mail_store.specs.Maildir.{Maildir}
-use Rattle.mail_store.specs.FileName.{is_held}
+use Rattle.mail_store.specs.Maildir.{File, Maildir}
+use Rattle.mail_store.specs.FileName.{is_held, mail_file}
 use Rattle.mail_terms.specs.UniqueId.{has_id, is_legal_id}
-use Rattle.run_law.specs.Mails.{ids_of, item_of, listing_of, is_selected, selected, texts_of}
+use Rattle.run_law.specs.Mails.{ids_of, item_of, listing_of, is_selected, selected, texts_of, without, WorldsShrink}
 use Rattle.run_law.specs.Steps.{AreTexts, file_for, is_unheld, Effect, IsHonest, ids_wanted, Stores}
 use Rattle.run_law.specs.Runs.{past_limit, is_past_count, CanEnd}
-use Rattle.run_law.proofs.Ids.{filter-map, any-map, all_map, all_take, all_filter, Distinct, are_distinct, front_is, filter-filter, filter_all, all_both, all_passing, all_parts, distinct_is, distinct_take, distinct_filter, ids_filtered, ids_both, all_at, all_ids_at, bytes_self, members, other_id, each_text, whole_part}
-use Rattle.run_law.proofs.Holds.{message_file}
+use Rattle.run_law.proofs.Ids.{filter-map, filter-swap, any-map, all_map, all_take, all_filter, Distinct, are_distinct, front_is, filter-filter, filter_all, all_both, all_passing, all_parts, distinct_is, distinct_take, distinct_filter, ids_filtered, ids_both, all_at, all_ids_at, bytes_self, members, other_id, each_text, whole_part}
 use Rattle.mail_store.specs.Held.{flags_of}
 use Rattle.run_law.specs.Accounts.{AccountMail}
 use Rattle.run_law.specs.Mboxes.{MboxMail, settled, none_held, MboxStores}
@@ -112,6 +111,10 @@ first_texts drop' (q ∷ qs) (text ∷ texts) (suc n) h t l =
 first_texts drop' qs [] n h t l = absurd (omega (arith, l))
 first_texts drop' qs texts n h t l = absurd t
 
+-- the file of a message
+abbrev pub message_file : List ℕ → Message → File
+message_file account m = mail_file account m.uid m.text
+
 -- what is stored of numbered messages is a filter of the messages
 pub stored_files : (account : List ℕ) (maildir : Maildir) (qs : List (ℕ × Message))
     → map (file_for account) (filter (is_unheld account maildir) (map with_text qs))
@@ -173,6 +176,20 @@ module _ (limit : ℕ) {all : List Message} (done rest : List Message) (mail : I
 
   pub done_texts : (id : List ℕ) → has_id (ids_of done) id ≡ true → texts_of done id ≡ texts_of all id
   done_texts id = whole_part done all id done_distinct (all_parts _ done _ (rw prefix at (all_filter _ (is_selected limit) _ (each_text all (distinct_is all mail.distinct))))).0
+
+-- ---- messages that are withdrawn
+
+pub worlds_shrink : WorldsShrink
+worlds_shrink all ids sound = record {
+  messages = all_filter _ _ _ sound.messages;
+  distinct = are_distinct _ (distinct_filter (λ (m : Message). not (has_id ids m.uid)) all (distinct_is all sound.distinct));
+}
+
+-- if none of these is done, the same messages are done
+pub prefix_left : (limit : ℕ) (all done rest : List Message) (ids : List (List ℕ)) → selected limit all ≡ done ++ rest → ((id : List ℕ) → has_id (ids_of done) id ≡ true → has_id ids id ≡ true → ⊥)
+    → selected limit (without ids all) ≡ done ++ without ids rest
+prefix_left limit all done rest ids prefix stays = let stay = λ (m : Message). not (has_id ids m.uid) in filter-swap (is_selected limit) stay all
+    ∙ rw (prefix, filter-append stay done rest, filter_all stay done (all_map _ (members done) (λ m is. ap not (false_from_ne_true _ (stays m.uid is)))))
 
 -- ---- a session
 

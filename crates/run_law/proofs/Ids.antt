@@ -22,7 +22,9 @@ use Rattle.fetch_rules.specs.Wanted.{DistinctAreFiltered}
 use Rattle.mail_store.specs.Maildir.{Maildir}
 use Rattle.mail_store.specs.FileName.{NamesHaveStems, StemsDiffer, is_held, stem}
 use Rattle.mail_store.specs.Held.{flags_of}
+use Rattle.mail_store.specs.Settling.{FrontsAreSettled}
 use Rattle.run_law.specs.Mboxes.{none_held}
+use Rattle.run_law.specs.Below.{Below}
 
 pub filter-filter : {X : Type 0} (p q : X → Bool) (xs : List X) → filter p (filter q xs) ≡ filter (λ x. q x && p x) xs
 filter-filter p q [] = refl
@@ -99,8 +101,13 @@ bytes_same a b test = (bytes_eq-Decides a b).0 test
 pub bytes_self : (a : List ℕ) → bytes_eq a a ≡ true
 bytes_self a = (bytes_eq-Decides a a).1 refl
 
+-- two tests are the same if what they tell is
+pub same_tests : {a b c d : List ℕ} → (a ≡ b → c ≡ d) → (c ≡ d → a ≡ b) → bytes_eq a b ≡ bytes_eq c d
+same_tests {a} {b} {c} {d} there back =
+    same_from_decides (bytes_eq a b) (bytes_eq c d) (bytes_eq-Decides a b) (Decides-like (bytes_eq c d) back there (bytes_eq-Decides c d))
+
 pub bytes_swap : (a b : List ℕ) → bytes_eq a b ≡ bytes_eq b a
-bytes_swap a b = same_from_decides (bytes_eq a b) (bytes_eq b a) (bytes_eq-Decides a b) (Decides-like (bytes_eq b a) sym sym (bytes_eq-Decides b a))
+bytes_swap a b = same_tests {a = a} {b = b} sym sym
 
 -- ---- whether an id is among these
 
@@ -213,69 +220,31 @@ each_text (m ∷ ms) d = (
 pub whole_part : (part ms : List Message) (id : List ℕ) → Distinct (ids_of part) → AllByRecursion (HasOneText ms) part → has_id (ids_of part) id ≡ true → texts_of part id ≡ texts_of ms id
 whole_part part ms id d each = all_at (λ id. texts_of part id ≡ texts_of ms id) part (all_both part (each_text part d) each (λ m e f. e ∙ sym f))
 
--- ---- what a record says of an id after it was merged and marked: the laws of the crates below
-
--- of names without their marks
-abbrev pub StemsOfBases : Type 0
-StemsOfBases = (name : List ℕ) → stem (base name) ≡ stem name
-
--- of a record after a merge and after a mark
-abbrev MergedIsDelivered : Type 0
-MergedIsDelivered = (rows : List Row) (listing : List Item) (held : List Bool) (now : ℕ) (uid : List ℕ)
-    → is_delivered (merged rows listing held now) uid ≡ (is_delivered rows uid || is_flagged listing held uid)
-
-abbrev pub MarkedIsDelivered : Type 0
-MarkedIsDelivered = (rows : List Row) (uid other : List ℕ)
-    → is_delivered (marked rows uid) other ≡ (is_delivered rows other || (has_row rows other && bytes_eq uid other))
-
--- of records and what is held
-pub record Records : Type 0 where
-  pub held : MergedIsDelivered
-  pub flags : (account : List ℕ) (maildir : Maildir) (items : List Item) (uid : List ℕ)
-      → is_flagged items (flags_of account maildir items) uid ≡ (has_item items uid && is_held account maildir uid)
-  pub marks : MarkedIsDelivered
-
--- of all that a session stores
-pub record Below : Type 0 where
-  pub differ : StemsDiffer
-  pub stems : NamesHaveStems
-  pub own : StemsOfBases
-  pub filtered : DistinctAreFiltered
-  pub records : Records
-
--- of the rows of a record
-pub record RowLaws : Type 0 where
-  pub held : MergedIsDelivered
-  pub listed : (rows : List Row) (listing : List Item) (held : List Bool) (now : ℕ) (uid : List ℕ)
-      → has_row (merged rows listing held now) uid ≡ (has_row rows uid || has_item listing uid)
-  pub marks : MarkedIsDelivered
-  pub keeps : (rows : List Row) (uid other : List ℕ) → has_row (marked rows uid) other ≡ has_row rows other
-
--- ---- marks
+-- ---- what a record says of an id after it was merged and marked
 
 -- an id that is recorded after these were marked was so before, or is one of them
-pub delivered_marked : MarkedIsDelivered → (rows : List Row) (uids : List (List ℕ)) (id : List ℕ) → is_delivered (marked_all rows uids) id ≡ true
+pub delivered_marked : Below → (rows : List Row) (uids : List (List ℕ)) (id : List ℕ) → is_delivered (marked_all rows uids) id ≡ true
     → (is_delivered rows id ≡ true) ⊎ (has_id uids id ≡ true)
-delivered_marked marks rows [] id e = inl e
-delivered_marked marks rows (uid ∷ uids) id e = grind (arith, delivered_marked marks (marked rows uid) uids id e, marks rows uid id, bytes_swap id uid)
+delivered_marked laws rows [] id e = inl e
+delivered_marked laws rows (uid ∷ uids) id e = grind (arith, delivered_marked laws (marked rows uid) uids id e, laws.marks rows uid id, bytes_swap id uid)
 
 -- what is recorded stays so after others were marked
-pub marks_stay : MarkedIsDelivered → (rows : List Row) (uids : List (List ℕ)) (id : List ℕ) → is_delivered rows id ≡ true → is_delivered (marked_all rows uids) id ≡ true
-marks_stay marks rows [] id e = e
-marks_stay marks rows (uid ∷ uids) id e = marks_stay marks (marked rows uid) uids id (marks rows uid id ∙ or_left _ _ e)
+pub marks_stay : Below → (rows : List Row) (uids : List (List ℕ)) (id : List ℕ) → is_delivered rows id ≡ true → is_delivered (marked_all rows uids) id ≡ true
+marks_stay laws rows [] id e = e
+marks_stay laws rows (uid ∷ uids) id e = marks_stay laws (marked rows uid) uids id (laws.marks rows uid id ∙ or_left _ _ e)
 
 -- after a merge an id is recorded exactly if it was before, or is listed and held
-pub delivered_merged : Records → (account : List ℕ) (maildir : Maildir) (rows : List Row) (items : List Item) (now : ℕ) (id : List ℕ)
+pub delivered_merged : Below → (account : List ℕ) (maildir : Maildir) (rows : List Row) (items : List Item) (now : ℕ) (id : List ℕ)
     → is_delivered (merged rows items (flags_of account maildir items) now) id ≡ (is_delivered rows id || (has_item items id && is_held account maildir id))
-delivered_merged laws account maildir rows items now id = laws.held rows items (flags_of account maildir items) now id
+delivered_merged laws account maildir rows items now id = laws.merges rows items (flags_of account maildir items) now id
     ∙ rw (laws.flags account maildir items id)
 
 -- ---- with nothing held, and marks of ids that have rows
 
-module _ (laws : RowLaws) (rows : List Row) where
+module _ (laws : Below) (rows : List Row) where
   -- after such a merge an id is recorded exactly if it was before
   pub delivered_unheld : (listing : List Item) (now : ℕ) (id : List ℕ) → is_delivered (merged rows listing (none_held listing) now) id ≡ is_delivered rows id
-  delivered_unheld listing now id = laws.held rows listing (none_held listing) now id ∙ rw (none_flagged listing) (or-false (is_delivered rows id))
+  delivered_unheld listing now id = laws.merges rows listing (none_held listing) now id ∙ rw (none_flagged listing) (or-false (is_delivered rows id))
     where
       none_flagged : (listing : List Item) → is_flagged listing (none_held listing) id ≡ false
       none_flagged [] = refl
@@ -285,12 +254,12 @@ module _ (laws : RowLaws) (rows : List Row) where
   pub delivered_one : (uid id : List ℕ) → has_row rows uid ≡ true → is_delivered (marked rows uid) id ≡ (is_delivered rows id || bytes_eq id uid)
   delivered_one uid id has = grind (arith, laws.marks rows uid id, bytes_swap uid id, has, λ (e : bytes_eq id uid ≡ true). bytes_same id uid e)
 
-pub rows_marked : RowLaws → (rows : List Row) (uids : List (List ℕ)) (id : List ℕ) → has_row (marked_all rows uids) id ≡ has_row rows id
+pub rows_marked : Below → (rows : List Row) (uids : List (List ℕ)) (id : List ℕ) → has_row (marked_all rows uids) id ≡ has_row rows id
 rows_marked laws rows [] id = refl
 rows_marked laws rows (uid ∷ uids) id = rows_marked laws (marked rows uid) uids id ∙ laws.keeps rows uid id
 
 -- the same for several ids
-pub delivered_all : RowLaws → (rows : List Row) (uids : List (List ℕ)) (id : List ℕ) → AllByRecursion (λ uid. has_row rows uid ≡ true) uids
+pub delivered_all : Below → (rows : List Row) (uids : List (List ℕ)) (id : List ℕ) → AllByRecursion (λ uid. has_row rows uid ≡ true) uids
     → is_delivered (marked_all rows uids) id ≡ (is_delivered rows id || has_id uids id)
 delivered_all laws rows [] id h = sym (or-false (is_delivered rows id))
 delivered_all laws rows (uid ∷ uids) id h =

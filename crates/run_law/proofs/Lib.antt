@@ -1,12 +1,6 @@
 mod Core
-mod Holds
 mod Ids
 mod Laws
 mod Linked
 mod Listed
 mod MboxKept
-mod MboxOthers
-mod Others
-mod Power
-mod Safety
-mod Tells

@@ -1,11 +1,11 @@
 -- What was got splits into replies in one way only, so what was read is what an honest server said of its maildrop.
-use Rattle.std.proofs.Common.{◌≡◌, ◌-◌, ◌+◌, ◌<◌, ℕ, List, [], ◌∷◌, ◌++◌, Bool, not, rules, length, map, get_or, refl, sym, ◌∙◌, ap, arith, Ok, Result, Option, Contains, true, false, inl, inr, append_assoc, Some, None}
+use Rattle.std.proofs.Common.{◌≡◌, ◌-◌, ◌+◌, ◌<◌, ℕ, cond, List, [], ◌∷◌, ◌++◌, Bool, not, rules, length, map, get_or, refl, sym, ◌∙◌, ap, arith, Ok, Result, Option, Contains, false, inl, inr, append_assoc, Some, None}
 use Rattle.std.specs.List.{All, AllByRecursion, AllZip, HoldsAt, enumerate_from, count_by, flat_map}
 use Rattle.std.proofs.lemmas.List.{ext_get_or, length-map, get_or-map, get_or_default, append-nil, append_cancel_left}
 use Rattle.std.proofs.lemmas.List.Elements.{All-from_recursion, recursion_from_All}
 use Rattle.std.proofs.lemmas.List.Sorted.{Contains-permutation}
+use Rattle.std.proofs.lemmas.List.Sums.{sum_by-cons}
 use Rattle.std.proofs.lemmas.List.FromFn.{length-enumerate_from, get_or-enumerate_from}
-use Rattle.std.proofs.lemmas.List.Sums.{length-filter}
 use Rattle.pop3_wire.specs.declared.command.Command.TheVariants.{Stat, Retr, UidlAll, ListAll}
 use Rattle.pop3_wire.specs.declared.fault.WireFault.{WireFault}
 use Rattle.pop3_wire.specs.declared.reply.Status.TheVariants.{Positive, Negative}
@@ -20,7 +20,6 @@ use Rattle.mail_terms.specs.Listing.{Item}
 use Rattle.run_law.specs.Mails.{item_of, listing_of}
 use Rattle.pop3_wire.specs.Reading.{WholeReply, body_bytes, reply_bytes, HasListing, OneListOfLines, GivesCount, has_body, IsBodyIf, IsReplyTo, OneReading}
 use Rattle.run_law.specs.Readings.{IsGood, TextsAreMessages, ListingIsMaildrop, AreGood, AreGranted, HonestIsGranted}
-use Rattle.run_law.proofs.Ids.{filter_all}
 use Rattle.pop3_wire.specs.declared.command.Command.{Command}
 
 -- a reply's body is what follows its first line
@@ -46,18 +45,12 @@ fresh n [] = refl
 fresh n (m ∷ ms) = ap (λ (l : List (ℕ × Message)). (n, m) ∷ l) (fresh (n + 1) ms)
 
 fresh_count : (ms : List Message) → count_by not (no_marks ms) ≡ length ms
-fresh_count ms = sym (length-filter not (no_marks ms)) ∙ ap length (filter_all not (no_marks ms) (unmarked ms)) ∙ length-map ms (λ _. false)
-  where
-    unmarked : (ms : List Message) → AllByRecursion (λ b. not b ≡ true) (no_marks ms)
-    unmarked [] = tt
-    unmarked (m ∷ ms) = (refl, unmarked ms)
-
-abbrev pair_of : {V : Type 0} → ℕ → V → ℕ × V
-pair_of n x = (n, x)
+fresh_count [] = refl
+fresh_count (m ∷ ms) = sum_by-cons (λ b. cond (not b) 1 0) false (no_marks ms) ∙ ap (λ (n : ℕ). 1 + n) (fresh_count ms) ∙ omega arith
 
 -- two readings of one row give the same number and value
 same_row : {V : Type 0} (n m : ℕ) (x y : V) → ◌≡◌ {A = Result (ℕ × V) WireFault} (Ok (n, x)) (Ok (m, y)) → (n ≡ m) × (x ≡ y)
-same_row {V} n m x y e = let both : pair_of n x ≡ pair_of m y = cc in (ap (λ (p : ℕ × V). p.0) both, ap (λ (p : ℕ × V). p.1) both)
+same_row {V} n m x y e = let both : ◌≡◌ {A = ℕ × V} (n, x) (m, y) = cc in (ap (λ (p : ℕ × V). p.0) both, ap (λ (p : ℕ × V). p.1) both)
 
 nobody : Message
 nobody = record { uid = []; size = 0; text = [] }
@@ -92,7 +85,7 @@ module _ {R V : Type 0} (read : List ℕ → Result (ℕ × V) WireFault) (numbe
       let same : l.lines ≡ lines = (lists l.lines lines [] [] l.content content (ap (λ b. b ++ []) (sym l.whole ∙ body_is one reply first body line says whole ∙ ap body_bytes is))).0 in
       let each = All-from_recursion _ l.numbered (each_has l.numbered lines rows (rw same at l.rows) are (recursion_from_All _ rows all)) in
       let q : ℕ × Message = (1 + k, get_or drop k nobody) in
-      let placed = get_or-enumerate_from 1 drop k q inside ∙ ap (pair_of (1 + k)) (get_or_default drop k q.1 nobody inside) in
+      let placed = get_or-enumerate_from 1 drop k q inside ∙ ap (λ (m : Message). (1 + k, m)) (get_or_default drop k q.1 nobody inside) in
       let there : Contains (enumerate_from 1 drop) q = (k, omega (arith, inside, length-enumerate_from 1 drop), placed) in
       let c = Contains-permutation (enumerate_from 1 drop) l.numbered q (rw (none, fresh) at l.all) there in
       let place : 1 + k - 1 ≡ k = omega arith in

@@ -1,30 +1,84 @@
--- Sessions with an mboxrd lead from kept states to kept ones.
-use Rattle.std.proofs.Common.{◌≡◌, ◌⊎◌, inl, inr, ℕ, zero, suc, List, [], ◌∷◌, ◌++◌, true, false, ◌||◌, length, take, map, refl, sym, ◌∙◌, ap, arith, append_assoc, length-append, None, Some, slice_get}
-use Rattle.std.specs.Prelude.{bytes_eq}
+-- Sessions with an mboxrd, and what happens between them, lead from kept states to kept ones.
+use Rattle.std.proofs.Common.{◌≡◌, inl, ℕ, List, [], ◌++◌, true, not, refl, sym, ◌∙◌, ap, ◌⊎◌, inr, zero, suc, ◌∷◌, false, ◌||◌, length, take, map, arith, append_assoc, length-append, None, Some, slice_get}
 use Rattle.std.specs.List.{AllByRecursion}
-use Rattle.std.proofs.lemmas.Bool.{both_ways, or_cases, or_left, or_right}
+use Rattle.std.proofs.lemmas.Bool.{both_ways, false_from_ne_true, or_cases, or_left, or_right}
 use Rattle.std.proofs.lemmas.List.{append-nil, get_or_at, map-append, take_at}
+use Rattle.std.proofs.Math.Logic.{⊎_map, ⊎_elim}
+use Rattle.mail_terms.specs.UniqueId.{has_id}
+use Rattle.pop3_wire.specs.World.{Message, IsWorld, maildrop_of}
+use Rattle.fetch_rules.specs.Record.{is_delivered, Row, has_row, marked, marked_all}
+use Rattle.run_law.specs.Mails.{ids_of, without, is_selected, selected}
+use Rattle.run_law.specs.MboxRuns.{MboxState, MboxWorld, MboxKept, MboxEvent, Withdrawn, MboxStartsKept, SomeAreRecorded, AreAllRecorded, IsUnbegun, mbox_world_after, HasEntry, IsNextOpen, after_visit, entries_of, Fetched, Between, Expired, Rewritten, MboxHappens, MboxPromised, MboxPromises, after_mbox_event, MboxKeptStaysKept, MboxKeptHolds}
+use Rattle.run_law.proofs.Ids.{all_ids_at, bytes_self, all_append, all_map, all_parts, all_mapped, all_take, all_filter, ids_both, gone_is_done, bytes_same, members, delivered_unheld, delivered_one, delivered_all, rows_marked}
+use Rattle.run_law.specs.Below.{Below}
+use Rattle.run_law.specs.Mboxes.{MboxMail, settled, mbox_rows, mbox_wanted, none_held, entries, intent_of, IsClosed, IsOpen, IsBroken, MboxLeaves, MboxStores}
+use Rattle.run_law.specs.Runs.{Visit}
+use Rattle.std.specs.Prelude.{bytes_eq}
 use Rattle.std.proofs.lemmas.Grind.{flat_map-append}
 use Rattle.std.proofs.lemmas.Option.{same_Some, slice_get_read}
 use Rattle.std.proofs.Math.Bool.{or-false}
-use Rattle.std.proofs.Math.Logic.{⊎_elim, ⊎_map}
-use Rattle.mail_terms.specs.UniqueId.{has_id}
 use Rattle.mail_terms.specs.Text.{IsWhole}
-use Rattle.pop3_wire.specs.World.{Message, IsWorld}
-use Rattle.fetch_rules.specs.Record.{Row, is_delivered, has_row, marked, marked_all}
-use Rattle.fetch_rules.specs.Wanted.{DistinctAreFiltered}
 use Rattle.mail_terms.specs.Listing.{Item}
 use Rattle.mail_store.specs.Mboxrd.{entry_of, MboxFile, EntryAddsText}
-use Rattle.mail_store.specs.Settling.{listed_size, FrontsAreSettled}
-use Rattle.run_law.specs.Mails.{ids_of, is_selected, selected}
+use Rattle.mail_store.specs.Settling.{listed_size}
 use Rattle.run_law.specs.Steps.{IsHonest, AreTexts}
-use Rattle.run_law.specs.Runs.{Visit}
-use Rattle.run_law.specs.Mboxes.{MboxMail, settled, mbox_rows, mbox_wanted, none_held, entries, intent_of, IsClosed, IsOpen, IsBroken, MboxLeaves, MboxStores}
-use Rattle.run_law.specs.MboxRuns.{MboxState, MboxWorld, MboxKept, HasEntry, IsNextOpen, after_visit, mbox_shown, entries_of, MboxEvent, Fetched, Between, Expired, Withdrawn, Rewritten, MboxHappens, MboxPromised, MboxPromises, after_mbox_event, mbox_world_after, MboxKeptStaysKept, MboxKeptHolds}
 use Rattle.run_law.proofs.Core as core
-use Rattle.run_law.proofs.Core.{Scene, IsScene, fetched, num_item, IsNumbered, has_listed, wants_placed}
-use Rattle.run_law.proofs.Ids.{all_map, all_parts, all_mapped, all_take, all_filter, ids_both, gone_is_done, bytes_same, members, RowLaws, delivered_unheld, delivered_one, delivered_all, rows_marked}
-use Rattle.run_law.proofs.MboxOthers.{expired_kept, withdrawn_kept, rewritten_kept, mbox_world_stays}
+use Rattle.run_law.proofs.Core.{Scene, IsScene, fetched, num_item, IsNumbered, has_listed, wants_placed, prefix_left, worlds_shrink}
+
+pub mbox_world_stays : (world : MboxWorld) → IsWorld world.all → (event : MboxEvent Visit MboxMail) → IsWorld (mbox_world_after world event).all
+mbox_world_stays world sound (Withdrawn ids) = worlds_shrink world.all ids sound
+mbox_world_stays world sound event = sound
+
+module _ {world : MboxWorld} {before : MboxState MboxMail} (ids : List (List ℕ)) (kept : MboxKept world before) where
+  pub expired_kept : AllByRecursion (λ id. is_delivered before.account.rows id ≡ true) ids → MboxKept world (record before { gone = before.gone ++ ids })
+  expired_kept all = record {
+    done = kept.done;
+    rest = kept.rest;
+    prefix = kept.prefix;
+    recorded = kept.recorded;
+    gone = all_append _ _ _ kept.gone (all_map _ all (λ id e. sym (kept.recorded id) ∙ e));
+    stands = kept.stands;
+  }
+
+  -- what is done is recorded, so it isn't withdrawn; nor is the next message, if its intent is open
+  pub withdrawn_kept : AllByRecursion (IsUnbegun before.account) ids → MboxKept (record world { all = without ids world.all }) before
+  withdrawn_kept all = record {
+    done = kept.done;
+    rest = without ids kept.rest;
+    prefix = prefix_left _ _ _ _ ids kept.prefix (λ id done withdrawn. both_ways (is_delivered before.account.rows id) (all_ids_at _ _ all withdrawn).0 (kept.recorded id ∙ done));
+    recorded = kept.recorded;
+    gone = kept.gone;
+    stands = ⊎_map (λ closed. closed) (λ o.
+        let stay : not (has_id ids o.next.uid) ≡ true = ap not (false_from_ne_true _ (λ withdrawn. both_ways _ ((all_ids_at _ _ all withdrawn).1 _ o.opened.intent) (bytes_self o.next.uid))) in
+        record { next = o.next; more = without ids o.more; is_next = ap (without ids) o.is_next ∙ rw stay; opened = o.opened; row = o.row }) kept.stands;
+  }
+
+-- ---- no intent is open, and the recorded messages are these
+
+starts : {world : MboxWorld} {state : MboxState MboxMail} → AreAllRecorded world state.account world.had → world.start ≡ state.account.file
+    → AllByRecursion (λ id. has_id (ids_of world.had) id ≡ true) state.gone → MboxKept world state
+starts {world} is file gone = record {
+  done = [];
+  rest = is.ahead;
+  prefix = rw append-nil is.prefix;
+  recorded = rw append-nil is.recorded;
+  gone = rw append-nil gone;
+  stands = inl (record { intent = is.closed; file = rw append-nil (sym file) });
+}
+
+pub mbox_starts : MboxStartsKept
+mbox_starts world found rest gone prefix recorded recorded_gone = starts (record { closed = refl; ahead = rest; prefix = prefix; recorded = recorded }) refl recorded_gone
+
+-- others write the file
+pub rewritten_kept : {world : MboxWorld} {before : MboxState MboxMail} {had : List Message} {file : List ℕ} → MboxKept world before → AreAllRecorded world before.account had
+    → MboxKept (record world { start = file; had = had }) (record before { account = record before.account { file = file } })
+rewritten_kept kept is = starts (record { closed = is.closed; ahead = is.ahead; prefix = is.prefix; recorded = is.recorded }) refl (all_map _ kept.gone (λ id e. sym (is.recorded id) ∙ kept.recorded id ∙ e))
+
+pub some_are_recorded : SomeAreRecorded
+some_are_recorded world state kept closed = (
+  world.had ++ kept.done,
+  record { closed = closed; ahead = kept.rest; prefix = kept.prefix; recorded = kept.recorded },
+)
 
 -- ---- entries
 
@@ -46,17 +100,17 @@ whole_texts : {world : MboxWorld} {state : MboxState MboxMail} → IsWorld world
 whole_texts {world} sound kept = all_parts _ _ _ (rw kept.prefix at (all_filter _ (is_selected world.max_size) _ (all_map _ sound.messages (λ m h. h.whole))))
 
 -- a front of an entry is all of it and counts, or is cut off
-settled_is : FrontsAreSettled → {bytes uid text : List ℕ} {account : MboxMail} (listing : List Item) → IsWhole text → IsOpen bytes uid text account
+settled_is : Below → {bytes uid text : List ℕ} {account : MboxMail} (listing : List Item) → IsWhole text → IsOpen bytes uid text account
     → (((settled listing account).rows ≡ marked account.rows uid) × ((settled listing account).file ≡ bytes ++ entry_of text))
     ⊎ (((settled listing account).rows ≡ account.rows) × ((settled listing account).file ≡ bytes))
-settled_is fronts {bytes} {uid} {text} listing whole o = ⊎_map (λ counts. (rw (o.intent, o.file, counts.0), rw (o.intent, o.file) (counts.1 ∙ ap (λ l. bytes ++ l) counts.2)))
-    (λ cut. (rw (o.intent, o.file, cut.0), rw (o.intent, o.file) cut.1)) (fronts bytes text o.front o.behind (listed_size listing uid) whole o.entry)
+settled_is laws {bytes} {uid} {text} listing whole o = ⊎_map (λ counts. (rw (o.intent, o.file, counts.0), rw (o.intent, o.file) (counts.1 ∙ ap (λ l. bytes ++ l) counts.2)))
+    (λ cut. (rw (o.intent, o.file, cut.0), rw (o.intent, o.file) cut.1)) (laws.fronts bytes text o.front o.behind (listed_size listing uid) whole o.entry)
 
-module _ (fronts : FrontsAreSettled) {world : MboxWorld} (sound : IsWorld world.all) {before : MboxState MboxMail} (kept : MboxKept world before) where
-  settle : RowLaws → (listing : List Item) → (k : MboxKept world (record before { account = settled listing before.account })) × ((settled listing before.account).file ≡ world.start ++ entries_of k.done)
-  settle laws listing = elim kept.stands [
+module _ (laws : Below) {world : MboxWorld} (sound : IsWorld world.all) {before : MboxState MboxMail} (kept : MboxKept world before) where
+  settle : (listing : List Item) → (k : MboxKept world (record before { account = settled listing before.account })) × ((settled listing before.account).file ≡ world.start ++ entries_of k.done)
+  settle listing = elim kept.stands [
     | inl closed ↦ let file : (settled listing before.account).file ≡ bytes_of kept = rw closed.intent closed.file in (no_more (rw closed.intent) file, file)
-    | inr o ↦ elim (settled_is fronts listing (rw o.is_next at (whole_texts sound kept).1).0 o.opened) [
+    | inr o ↦ elim (settled_is laws listing (rw o.is_next at (whole_texts sound kept).1).0 o.opened) [
       | inr (rows, file) ↦ (no_more rows file, file)
       | inl (rows, file) ↦
           let longer : (settled listing before.account).file ≡ world.start ++ entries_of (kept.done ++ o.next ∷ []) = file ∙ rw (entries-append kept.done (o.next ∷ [])) (simp (append_assoc, append-nil)) in (
@@ -93,7 +147,7 @@ module _ (fronts : FrontsAreSettled) {world : MboxWorld} (sound : IsWorld world.
         | inl same ↦ opened o o.opened.front o.opened.behind o.opened.entry (same ∙ o.opened.file)
         | inr cut ↦ ⊎_elim (λ whole. opened o (entry_of o.next.text) [] (sym (append-nil _)) (cut ∙ whole.1))
             (λ part. opened o [] (entry_of o.next.text) refl (cut ∙ part.1 ∙ sym (append-nil (bytes_of kept))))
-            (settled_is fronts v.effect.listing (rw o.is_next at (whole_texts sound kept).1).0 o.opened)
+            (settled_is laws v.effect.listing (rw o.is_next at (whole_texts sound kept).1).0 o.opened)
       ])
     ];
   }
@@ -148,10 +202,10 @@ at_place drop' (q ∷ qs) (x ∷ texts) (suc n) h t w g =
 
 -- ---- one session that stored something
 
-module _ (fronts : FrontsAreSettled) (laws : RowLaws) (filtered : DistinctAreFiltered) {world : MboxWorld} (sound : IsWorld world.all)
+module _ (laws : Below) {world : MboxWorld} (sound : IsWorld world.all)
     {before : MboxState MboxMail} (v : Visit MboxMail) (kept : MboxKept world before)
     (same : v.settings.max_size ≡ world.max_size) (only_new : v.settings.read_all ≡ false) (s : MboxStores v.settings before.account v.effect v.after)
-    (honest : IsHonest (mbox_wanted v.settings before.account v.effect) (mbox_shown world before v) v.effect) where
+    (honest : IsHonest (mbox_wanted v.settings before.account v.effect) (maildrop_of world.all v.come before.gone) v.effect) where
   abbrev rows : List Row
   rows = mbox_rows before.account v.effect
 
@@ -159,7 +213,7 @@ module _ (fronts : FrontsAreSettled) (laws : RowLaws) (filtered : DistinctAreFil
   account = settled v.effect.listing before.account
 
   origin : (k : MboxKept world (record before { account = account })) × (account.file ≡ world.start ++ entries_of k.done)
-  origin = settle fronts sound kept laws v.effect.listing
+  origin = settle laws sound kept v.effect.listing
 
   abbrev scene : Scene
   scene = record { all = world.all; max_size = world.max_size; gone = before.gone; come = v.come; settings = v.settings; rows = rows; effect = v.effect; done = world.had ++ origin.0.done; rest = origin.0.rest }
@@ -168,7 +222,7 @@ module _ (fronts : FrontsAreSettled) (laws : RowLaws) (filtered : DistinctAreFil
   known id = delivered_unheld laws account.rows v.effect.listing v.effect.now id ∙ origin.0.recorded id
 
   is_scene : IsScene scene
-  is_scene = record { filtered = filtered; mail = sound; same = same; prefix = origin.0.prefix; gone = origin.0.gone; known = λ id d. sym (known id) ∙ d; honest = honest }
+  is_scene = record { filtered = laws.filtered; mail = sound; same = same; prefix = origin.0.prefix; gone = origin.0.gone; known = λ id d. sym (known id) ∙ d; honest = honest }
 
   -- the first of the wanted messages are the next of the selected ones
   abbrev new : ℕ → List Message
@@ -258,22 +312,22 @@ module _ (fronts : FrontsAreSettled) (laws : RowLaws) (filtered : DistinctAreFil
 
 -- ---- one event
 
-happened : FrontsAreSettled → RowLaws → DistinctAreFiltered → (world : MboxWorld) (before : MboxState MboxMail) (event : MboxEvent Visit MboxMail)
+happened : Below → (world : MboxWorld) (before : MboxState MboxMail) (event : MboxEvent Visit MboxMail)
     → IsWorld world.all → MboxKept world before → MboxHappens world before event
     → MboxKept (mbox_world_after world event) (after_mbox_event after_visit before event) × MboxPromised world before event
-happened fronts laws filtered world before (Fetched v) sound kept h =
-    ⊎_elim (λ left. (left_kept fronts sound kept v left h.vanished, record { ends = λ ended. absurd (both_ways v.effect.ended left.ended ended); begun = rw left.begun tt }))
-    (λ (stores, honest). stored_promised fronts laws filtered sound v kept h.same h.only_new stores honest h.vanished) h.step
-happened fronts laws filtered world before (Between after) sound kept h = (rw h kept, tt)
-happened fronts laws filtered world before (Expired ids) sound kept h = (expired_kept ids kept h, tt)
-happened fronts laws filtered world before (Withdrawn ids) sound kept h = (withdrawn_kept ids kept h, tt)
-happened fronts laws filtered world before (Rewritten had file after) sound kept h = (rw h.1 (rewritten_kept kept h.0), tt)
+happened laws world before (Fetched v) sound kept h =
+    ⊎_elim (λ left. (left_kept laws sound kept v left h.vanished, record { ends = λ ended. absurd (both_ways v.effect.ended left.ended ended); begun = rw left.begun tt }))
+    (λ (stores, honest). stored_promised laws sound v kept h.same h.only_new stores honest h.vanished) h.step
+happened laws world before (Between after) sound kept h = (rw h kept, tt)
+happened laws world before (Expired ids) sound kept h = (expired_kept ids kept h, tt)
+happened laws world before (Withdrawn ids) sound kept h = (withdrawn_kept ids kept h, tt)
+happened laws world before (Rewritten had file after) sound kept h = (rw h.1 (rewritten_kept kept h.0), tt)
 
-pub mbox_kept_states : FrontsAreSettled → RowLaws → DistinctAreFiltered → MboxKeptStaysKept
-mbox_kept_states fronts laws filtered world start [] sound kept run = (kept, tt)
-mbox_kept_states fronts laws filtered world start (event ∷ events) sound kept run =
-    let one = happened fronts laws filtered world start event sound kept run.0 in
-    let more = mbox_kept_states fronts laws filtered (mbox_world_after world event) (after_mbox_event after_visit start event) events (mbox_world_stays world sound event) one.0 run.1 in
+pub mbox_kept_states : Below → MboxKeptStaysKept
+mbox_kept_states laws world start [] sound kept run = (kept, tt)
+mbox_kept_states laws world start (event ∷ events) sound kept run =
+    let one = happened laws world start event sound kept run.0 in
+    let more = mbox_kept_states laws (mbox_world_after world event) (after_mbox_event after_visit start event) events (mbox_world_stays world sound event) one.0 run.1 in
     (more.0, (one.1, one.0, more.1))
 
 -- ---- what a kept state holds

@@ -1,4 +1,5 @@
 pub mod Accounts
+pub mod Below
 pub mod Counted
 pub mod HonestSession
 pub mod Mails

@@ -28,15 +28,12 @@ pub record MboxWorld : Type 0 where
   pub max_size : ℕ
   pub all : List Message
 
-abbrev pub mbox_shown : MboxWorld → MboxState MboxMail → Visit MboxMail → List Message
-mbox_shown world before visit = maildrop_of world.all visit.come before.gone
-
 pub record MboxVisits (world : MboxWorld) (before : MboxState MboxMail) (visit : Visit MboxMail) : Type 0 where
   pub same : visit.settings.max_size ≡ world.max_size
   pub only_new : visit.settings.read_all ≡ false
   pub step : MboxLeaves before.account visit.effect visit.after
       ⊎ (MboxStores visit.settings before.account visit.effect visit.after
-      × IsHonest (mbox_wanted visit.settings before.account visit.effect) (mbox_shown world before visit) visit.effect)
+      × IsHonest (mbox_wanted visit.settings before.account visit.effect) (maildrop_of world.all visit.come before.gone) visit.effect)
   pub vanished : AllByRecursion (λ id. has_id visit.effect.begun id ≡ true) visit.vanished
 
 -- a session; anything else that leaves the record and the mboxrd file's bytes as they are; messages that are gone from the
@@ -130,7 +127,7 @@ pub record MboxEnds (world : MboxWorld) (before : MboxState MboxMail) (visit : V
   pub closed : visit.after.intent ≡ None
   pub leaves_out : AllByRecursion (λ (m : Message). (is_delivered visit.after.rows m.uid ≡ true) ⊎ (is_selected world.max_size m ≡ false)
       ⊎ (is_past_count visit.settings (mbox_rows before.account visit.effect) visit.effect.listing m.uid ≡ true))
-      (mbox_shown world before visit)
+      (maildrop_of world.all visit.come before.gone)
 
 -- the file has the whole entry of a message with this id
 pub record HasEntry (world : MboxWorld) (file id : List ℕ) : Type 0 where

@@ -2,8 +2,7 @@
 use Rattle.std.specs.Prelude.{◌≡◌, ◌⊎◌, ◌≤◌, ℕ, Bool, true, false, List, [], ◌++◌, map, take, length, Option, Some, None, slice_get}
 use Rattle.std.specs.List.{flat_map, AllByRecursion}
 use Rattle.mail_terms.specs.Listing.{Item}
-use Rattle.fetch_rules.specs.Record.{Row, is_delivered, marked_all, merged}
-use Rattle.fetch_rules.specs.Record.{Intent}
+use Rattle.fetch_rules.specs.Record.{Intent, Row, is_delivered, marked_all, merged}
 use Rattle.fetch_rules.specs.Intents.{closed_rows}
 use Rattle.fetch_rules.specs.Wanted.{wanted}
 use Rattle.rc_file.specs.declared.settings.Settings.{Settings}

@@ -1,5 +1,5 @@
 -- What one session did to an account, in states and lists of texts, not in octets.
-use Rattle.std.specs.Prelude.{◌≡◌, ◌⊎◌, ◌≤◌, ◌-◌, ℕ, Bool, true, false, not, List, [], ◌∷◌, ◌++◌, map, take, zip, length, Some, slice_get}
+use Rattle.std.specs.Prelude.{◌≡◌, ◌⊎◌, ◌≤◌, ℕ, Bool, true, false, not, List, [], ◌∷◌, ◌++◌, map, take, zip, length}
 use Rattle.std.specs.List.{filter, AllByRecursion}
 use Rattle.mail_terms.specs.Listing.{Item}
 use Rattle.fetch_rules.specs.Record.{Row, is_delivered, marked_all, merged}
@@ -11,6 +11,7 @@ use Rattle.mail_store.specs.Held.{flags_of}
 use Rattle.pop3_wire.specs.World.{Message}
 use Rattle.run_law.specs.Mails.{listing_of}
 use Rattle.run_law.specs.Accounts.{AccountMail}
+use Rattle.run_law.specs.Readings.{IsNumbered}
 
 -- the parts of a session that the law over runs uses
 pub record Effect : Type 0 where
@@ -67,15 +68,11 @@ pub record Stores (settings : Settings) (account : List ℕ) (before : AccountMa
   pub begun : AllByRecursion (λ id. is_delivered after.rows id ≡ true) effect.begun
   pub ended : effect.ended ≡ true → length (wanted_at settings account before effect) ≤ stored
 
--- the text is that of the message of this number, counted from 1
-abbrev pub IsTextOf : List Message → ℕ × Item → List ℕ → Type 0
-IsTextOf drop wanted text = (message : Message) × (slice_get drop (wanted.0 - 1) ≡ Some message) × (text ≡ message.text)
-
 -- the texts are those of the first of these messages
 abbrev pub AreTexts : List Message → List (ℕ × Item) → List (List ℕ) → Type 0
 AreTexts drop wanted [] = Unit {0}
 AreTexts drop [] (text ∷ texts) = ⊥
-AreTexts drop (first ∷ wanted) (text ∷ texts) = IsTextOf drop first text × AreTexts drop wanted texts
+AreTexts drop (first ∷ wanted) (text ∷ texts) = IsNumbered drop (first.0, text) × AreTexts drop wanted texts
 
 -- the server was honest: the listing is the maildrop's, and the texts are those of the wanted messages
 pub record IsHonest (wanted : List (ℕ × Item)) (drop : List Message) (effect : Effect) : Type 0 where

@@ -1,6 +1,7 @@
 //! Laws over runs of sessions: every list of sessions leads from a kept state to a kept one.
 #![tactic(auto)]
 
+ghost use Rattle.run_law.specs.Below.{Below};
 ghost use Rattle.run_law.specs.Mails.{WorldsShrink};
 ghost use Rattle.run_law.specs.Power.{AllMayBeLeft, OneMoreIsLast};
 ghost use Rattle.run_law.specs.Runs.{CanEnd, KeptHoldsWhatIsLeft, KeptStaysKept};
@@ -30,28 +31,38 @@ use pop3_wire::{
     only_one_reading,
 };
 
-/// Every list of sessions, with whatever readers, other programs and the server do between them,
-/// leads from a kept state to a kept state, and each session keeps its promises.
-pub fn kept_states()
-    ensures { KeptStaysKept }
+/// What the laws over runs take from the laws of the crates below.
+fn laws_below()
+    ensures { Below }
 {
     stems_differ();
     names_have_stems();
     marks_keep_the_base();
     distinct_messages_are_filtered();
-    held_is_delivered();
+    fronts_of_entries_are_settled();
     flags_tell_what_is_held();
+    held_is_delivered();
+    listed_has_row();
     marked_is_delivered();
+    marked_keeps_rows();
+}
+
+/// Every list of sessions, with whatever readers, other programs and the server do between them,
+/// leads from a kept state to a kept state, and each session keeps its promises.
+pub fn kept_states()
+    ensures { KeptStaysKept }
+{
+    laws_below();
 }
 
 /// What is left of a world after messages were withdrawn is a world.
-#[tactic(auto, using(crate::proofs::Others::worlds_shrink))]
+#[tactic(auto, using(crate::proofs::Core::worlds_shrink))]
 pub fn worlds_shrink()
     ensures { WorldsShrink }
 {}
 
 /// A loss of power may leave all files, with a record that shows the same or less.
-#[tactic(auto, using(crate::proofs::Power::all_may_be_left))]
+#[tactic(auto, using(crate::proofs::Laws::all_may_be_left))]
 pub fn all_may_be_left()
     ensures { AllMayBeLeft }
 {}
@@ -76,7 +87,7 @@ pub fn holds_exactly()
 {}
 
 /// An account with an empty record and no file of its own is kept, if nothing is gone from the server.
-#[tactic(auto, using(crate::proofs::Holds::starts_kept))]
+#[tactic(auto, using(crate::proofs::Laws::starts_kept))]
 pub fn starts_kept()
     ensures { StartsKept }
 {}
@@ -117,10 +128,11 @@ pub fn marks_are_asked()
 pub fn links_are_visits()
     ensures { LinksAreVisits }
 {
+    only_one_line();
+    only_one_reading();
     only_one_list_of_commands();
-    honest_is_granted();
-    texts_are_messages();
-    listing_is_maildrop();
+    only_one_body();
+    only_one_list_of_lines();
 }
 
 /// If its server is honest, whatever its maildrop, a session leaves the account as it was; or its
@@ -129,10 +141,11 @@ pub fn links_are_visits()
 pub fn honest_sessions_bring_messages()
     ensures { HonestSession }
 {
+    only_one_line();
+    only_one_reading();
     only_one_list_of_commands();
-    honest_is_granted();
-    texts_are_messages();
-    listing_is_maildrop();
+    only_one_body();
+    only_one_list_of_lines();
 }
 
 /// In every state there is a session that ends, so the laws over runs aren't about nothing.
@@ -143,7 +156,7 @@ pub fn can_end()
 }
 
 /// A session given by its numbers is one that the law over runs takes.
-#[tactic(auto, using(crate::proofs::Tells::counted_stores))]
+#[tactic(auto, using(crate::proofs::Linked::counted_stores))]
 pub fn counted_stores()
     ensures { CountedStores }
 {}
@@ -153,9 +166,7 @@ pub fn counted_stores()
 pub fn sessions_are_safe()
     ensures { SessionsAreSafe }
 {
-    held_is_delivered();
-    flags_tell_what_is_held();
-    marked_is_delivered();
+    laws_below();
 }
 
 /// With an mboxrd: every list of sessions that read only what is new, with whatever is gone from the
@@ -164,12 +175,7 @@ pub fn sessions_are_safe()
 pub fn mbox_states_are_kept()
     ensures { MboxKeptStaysKept }
 {
-    distinct_messages_are_filtered();
-    fronts_of_entries_are_settled();
-    held_is_delivered();
-    listed_has_row();
-    marked_is_delivered();
-    marked_keeps_rows();
+    laws_below();
 }
 
 /// With an mboxrd: a kept state's file is the one before the first session, followed by the
@@ -185,13 +191,13 @@ pub fn mbox_holds_exactly()
 /// With an mboxrd: an account without an open intent that records exactly a prefix of the
 /// selected messages as delivered is kept, whatever its file holds. An empty record is such a
 /// record, and a record of version 1 has no open intent.
-#[tactic(auto, using(crate::proofs::MboxOthers::mbox_starts))]
+#[tactic(auto, using(crate::proofs::MboxKept::mbox_starts))]
 pub fn mbox_starts_kept()
     ensures { MboxStartsKept }
 {}
 
 /// With an mboxrd: in a kept state without an open intent, others may write the file.
-#[tactic(auto, using(crate::proofs::MboxOthers::some_are_recorded))]
+#[tactic(auto, using(crate::proofs::MboxKept::some_are_recorded))]
 pub fn some_are_recorded()
     ensures { SomeAreRecorded }
 {}
@@ -200,10 +206,11 @@ pub fn some_are_recorded()
 pub fn mbox_links_are_visits()
     ensures { MboxLinksAreVisits }
 {
+    only_one_line();
+    only_one_reading();
     only_one_list_of_commands();
-    honest_is_granted();
-    texts_are_messages();
-    listing_is_maildrop();
+    only_one_body();
+    only_one_list_of_lines();
 }
 
 /// With an mboxrd: if its server is honest, whatever its maildrop, a session asked for no message; or
@@ -212,14 +219,15 @@ pub fn mbox_links_are_visits()
 pub fn honest_sessions_append_messages()
     ensures { MboxHonestSession }
 {
+    only_one_line();
+    only_one_reading();
     only_one_list_of_commands();
-    honest_is_granted();
-    texts_are_messages();
-    listing_is_maildrop();
+    only_one_body();
+    only_one_list_of_lines();
 }
 
 /// With an mboxrd: a session given by its numbers is one that the law over runs takes.
-#[tactic(auto, using(crate::proofs::Tells::mbox_counted_stores))]
+#[tactic(auto, using(crate::proofs::Linked::mbox_counted_stores))]
 pub fn mbox_counted_stores()
     ensures { MboxCountedStores }
 {}
@@ -237,8 +245,5 @@ pub fn mbox_can_end()
 pub fn mbox_sessions_are_safe()
     ensures { MboxSessionsAreSafe }
 {
-    held_is_delivered();
-    listed_has_row();
-    marked_is_delivered();
-    marked_keeps_rows();
+    laws_below();
 }

@@ -1,5 +1,5 @@
-use Rattle.run_law.proofs.Linked as laws
+use Rattle.run_law.proofs.Linked as lemmas
 use Rattle.run_law.proofs.honest_sessions_append_messages.Goals as goal
 
 pub returns : goal.returns
-returns c = search laws.mbox_honest_session
+returns c = lemmas.mbox_honest_session c.only_one_line.ensures c.only_one_reading.ensures c.only_one_list_of_commands.ensures c.only_one_body.ensures c.only_one_list_of_lines.ensures

@@ -1,5 +1,5 @@
-use Rattle.run_law.proofs.Safety as laws
+use Rattle.run_law.proofs.Linked as lemmas
 use Rattle.run_law.proofs.mbox_sessions_are_safe.Goals as goal
 
 pub returns : goal.returns
-returns c = search laws.mbox_sessions_are_safe
+returns c = lemmas.mbox_sessions_are_safe c.laws_below.ensures

@@ -1,5 +1,5 @@
-use Rattle.run_law.proofs.Safety as laws
+use Rattle.run_law.proofs.Linked as lemmas
 use Rattle.run_law.proofs.sessions_are_safe.Goals as goal
 
 pub returns : goal.returns
-returns c = search laws.sessions_are_safe
+returns c = lemmas.sessions_are_safe c.laws_below.ensures
