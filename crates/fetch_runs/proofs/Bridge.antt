@@ -16,35 +16,30 @@ use Rattle.pop3_client.specs.Conversation.{ConversationsArePaced, TurnsJoin}
 use Rattle.mail_store.specs.Maildir.{Maildir}
 use Rattle.rc_file.specs.declared.settings.Settings.{Settings}
 use Rattle.pop3_wire.specs.Honest.{FrontsAreAsked, Asked}
-use Rattle.run_law.specs.Sessions.{IsBegun, SendsOnly, BeginsOne}
+use Rattle.run_law.specs.Sessions.{IsBegun, SendsOnly, BeginsOne, Session as Stepped}
 use Rattle.run_law.specs.Steps.{Leaves, Effect}
 use Rattle.run_law.specs.Counted.{CountedStores}
 use Rattle.fetch_session.specs.declared.report.Outcome.TheVariants.{Ended}
 use Rattle.fetch_session.specs.Report.{retrieved_in}
-use Rattle.fetch_session.specs.Task.{Task, deletes}
-use Rattle.fetch_session.specs.Record.{record_state}
+use Rattle.fetch_session.specs.Task.{Task, deletes, Done, lines_of}
+use Rattle.fetch_session.specs.Record.{Keeps, KeepsRows}
 use Rattle.fetch_session.specs.Session.{keeps_files, outcome_of, Keeping, keeps_entries}
 use Rattle.fetch_session.specs.Target.{AsFiles, AsEntries, mail_in, no_maildir}
-use Rattle.fetch_runs.proofs.Ids.{bytes_self}
-use Rattle.fetch_runs.proofs.Lists.{all_back, all_map}
-use Rattle.fetch_runs.specs.Steps.{holds, IsStep, SessionIsAStep}
-use Rattle.fetch_runs.proofs.TalkConversation.{tail_for, is_tail_for, name_of, word_of, Spoke, session_spoke}
-use Rattle.fetch_runs.proofs.Courses.{Course, course, SessionCourse, Idle, Deals, session_course_of, begun_of, IsOfTask}
-use Rattle.fetch_runs.proofs.StateDone.{IsRight, deleted_in, deleted_by, text_found, Laws, effect_of, rows_after, records_part}
-use Rattle.fetch_runs.proofs.StateLaw.{is_ended, if_less, tally_number, tally_numbers, tally_right, CourseLeads, inputs, Leads, figures, course_leads}
-use Rattle.fetch_runs.proofs.TalkSpeech.{idle_said}
-use Rattle.run_law.specs.Mboxes.{mbox_wanted, MboxMail, settled, entries}
-use Rattle.run_law.specs.MboxSessions.{AsksForNoMessage, MboxSession as Stepped}
+use Rattle.fetch_runs.proofs.Lists.{bytes_self, all_back, all_map}
+use Rattle.fetch_runs.specs.Steps.{holds, IsStep, SessionIsAStep, IsMboxStep, MboxSessionIsAStep, AddsTexts, IsCounted, IsMboxCounted, mbox_holds}
+use Rattle.fetch_runs.proofs.TalkConversation.{name_of, word_of, Spoke, session_spoke}
+use Rattle.fetch_runs.proofs.Talk.{Course, course, SessionCourse, Idle, Deals, begun_of, IsOfTask, idle_said, begins_of, both_none, deleted_in, deleted_by, text_found, effect_of, tail_for, is_tail_for, course_proceeded}
+use Rattle.fetch_runs.proofs.StateDone.{IsRight, Laws, records_part, found_all}
+use Rattle.fetch_runs.proofs.StateLaw.{is_ended, if_less, tally_number, tally_numbers, tally_right, CourseLeads, inputs, Leads, figures, course_leads, mbox_inputs, MboxLeads, Rests, mbox_figures, course_leaves}
+use Rattle.run_law.specs.Mboxes.{mbox_wanted, MboxMail, settled, entries, MboxLeaves}
+use Rattle.run_law.specs.MboxSessions.{AsksForNoMessage, MboxSession as MboxStepped}
 use Rattle.run_law.specs.MboxCounted.{MboxCountedStores}
-use Rattle.fetch_runs.specs.MboxSteps.{IsMboxStep, MboxSessionIsAStep}
-use Rattle.fetch_runs.proofs.MboxState.{mbox_inputs, MboxLeads, Rests, mbox_figures, course_leaves}
 use Rattle.pop3_wire.specs.Body.{kept, text_of, unstuffed}
 use Rattle.pop3_wire.specs.Reading.{WholeReply}
 use Rattle.mail_terms.specs.Text.{IsWhole}
 use Rattle.mail_store.specs.Mboxrd.{MboxFile, EntryAddsText, entry_of}
 use Rattle.run_law.specs.Readings.{Retrieves}
-use Rattle.fetch_runs.specs.MboxTexts.{AddsTexts}
-use Rattle.fetch_runs.proofs.TalkCommands.{begins_of, both_none}
+use Rattle.fetch_rules.specs.Record.{Row, RecordState}
 
 -- ---- deletions
 
@@ -77,67 +72,53 @@ ended_if (Err cut) outcome is = (λ never. absurd cc, λ ended. absurd cc)
 
 pub session_is_a_step : Laws → CountedStores → TurnsJoin → ConversationsArePaced → FrontsAreAsked → SessionIsAStep
 session_is_a_step laws stores joining paced fronts settings account now link before rows report link' after valid keeps is =
-    joined (session_course_of settings (AsFiles account) now link (keeps_files before) report link' (keeps_files after) is)
+    joined (course_proceeded settings (AsFiles account) now (at link []) (keeps_files before) is.result is.mid (keeps_files after) is.notes is.proceeds)
     (course_leads laws settings account now before.maildir rows before.file keeps (at link []) is.result is.mid after is.notes is.proceeds)
     (session_spoke joining paced fronts settings valid (AsFiles account) now link (keeps_files before) report link' (keeps_files after) is)
   where
+    made : (c : Course) {rows' : List Row} {sent got : List ℕ} → link'.sent ≡ link.sent ++ sent → link'.got ≡ link.got ++ got → KeepsRows after.file.content rows'
+        → (stepped : Stepped settings account (holds rows before.maildir) sent got (effect_of now (is_ended is.result) c) (holds rows' after.maildir))
+        → (Leaves (holds rows before.maildir) (effect_of now (is_ended is.result) c) (holds rows' after.maildir) × (report.retrieved ≡ 0))
+        ⊎ IsCounted settings account (holds rows before.maildir) (effect_of now (is_ended is.result) c) (holds rows' after.maildir) report stepped.sends.commands stepped.sends.asked.part
+        → IsStep settings account now link before rows report link' after
+    made c sent_is got_is stays stepped left = search (sent_is, got_is, stays, left, ended_if is.result report.outcome is.reports.outcome_is)
+
     joined : (session_course : SessionCourse)
-        → CourseLeads (λ (c : Course). Leads settings account now before.maildir rows is.result c after.maildir after.file.content is.notes.lines) is.result (keeps_files before) (keeps_files after) is.notes.lines session_course
+        → CourseLeads (λ (c : Course). Leads settings account now before.maildir rows is.result c after.maildir after.file.content) is.result (keeps_files before) (keeps_files after) is.notes.lines session_course
         → Spoke settings (AsFiles account) now (keeps_files before) link link' is.result is.notes.lines session_course → IsStep settings account now link before rows report link' after
     joined Idle left said =
         let idle = idle_said fronts (name_of settings) (word_of settings) valid.valid_username valid.valid_password (tail_for is.result) (is_tail_for is.result) said.sent said.got said.said in
         let unchanged : Leaves (holds rows before.maildir) (effect_of now (is_ended is.result) (course [] [] [] [])) (holds rows after.maildir) =
         record { rows = refl; same = ap (λ (k : Keeping). k.store.maildir.files) left.1; begun = refl; ended = left.0 } in
-        record {
-          sent = said.sent;
-          got = said.got;
-          effect = effect_of now (is_ended is.result) (course [] [] [] []);
-          rows' = rows;
-          sent_is = said.sent_is;
-          got_is = said.got_is;
-          now_is = refl;
-          ended_is = ended_if is.result report.outcome is.reports.outcome_is;
-          keeps = rw (ap (λ (k : Keeping). k.file) left.1) keeps;
-          left = inl (unchanged, is.reports.retrieved_is ∙ ap retrieved_in left.2);
-          stepped = record { sends = sends_of account before.maildir [] [] tt idle.1 idle.2 idle.3; step = inl unchanged };
-        }
+        made (course [] [] [] []) said.sent_is said.got_is (rw (ap (λ (k : Keeping). k.file) left.1) keeps)
+        (record { sends = sends_of account before.maildir [] [] tt idle.1 idle.2 idle.3; step = inl unchanged }) (inl (unchanged, is.reports.retrieved_is ∙ ap retrieved_in left.2))
     joined (Deals c) left said =
         let p = inputs settings account now before.maildir rows c.items in
         let figures_of = figures laws settings account now before.maildir rows left in
-        record {
-          sent = said.sent;
-          got = said.got;
-          effect = effect_of now (is_ended is.result) c;
-          rows' = left.rows';
-          sent_is = said.sent_is;
-          got_is = said.got_is;
-          now_is = refl;
-          ended_is = ended_if is.result report.outcome is.reports.outcome_is;
-          keeps = left.keeps;
-          left = inr (record {
-            figures = figures_of;
-            retrieved_is = is.reports.retrieved_is ∙ left.tally.counts;
-            one_more = λ one. is.reports.outcome_is ∙ if_less left.tally.number (one ∙ tally_number laws p left.tally);
-            one_less = λ one. rw is.reports.outcome_is (if_less left.tally.mark one);
-            recorded = ⊎_map (λ same. same ∙ records_part laws p left.noted left.tally.part) (λ none. (
-              none.0,
-              ap (map text_found) none.1,
-              ap (deleted_by c.items) none.2,
-              none.3,
-              record {
-                name = said.speaks.name;
-                word = said.speaks.word;
-                more = said.speaks.more;
-                commands_are = refl;
-                only = rw is.reports.outcome_is (said.speaks.stops none.2);
-              },
-            )) left.recorded;
-          });
-          stepped = record {
-            sends = sends_of account before.maildir c.items (begun_of c) (tally_right laws p left.tally) said.speaks.asked said.speaks.deletes said.speaks.next;
-            step = inr (stores _ _ _ _ _ figures_of, said.speaks.reads now (is_ended is.result) _ (tally_numbers laws p left.tally));
-          };
-        }
+        made c said.sent_is said.got_is left.keeps
+        (record {
+          sends = sends_of account before.maildir c.items (begun_of c) (tally_right laws p left.tally) said.speaks.asked said.speaks.deletes said.speaks.next;
+          step = inr (stores _ _ _ _ _ figures_of, said.speaks.reads now (is_ended is.result) _ (tally_numbers laws p left.tally));
+        })
+        (inr (record {
+          figures = figures_of;
+          retrieved_is = is.reports.retrieved_is ∙ ap retrieved_in said.by.told ∙ (found_all c.taken said.by.took.each).1;
+          one_more = λ one. is.reports.outcome_is ∙ if_less left.tally.number (one ∙ tally_number laws p left.tally);
+          one_less = λ one. rw is.reports.outcome_is (if_less left.tally.mark one);
+          recorded = ⊎_map (λ same. same ∙ records_part laws p left.noted left.tally.part) (λ none. (
+            none.0,
+            ap (map text_found) none.1,
+            ap (deleted_by c.items) none.2,
+            none.3,
+            record {
+              name = name_of settings;
+              word = word_of settings;
+              more = said.speaks.more;
+              commands_are = refl;
+              only = rw is.reports.outcome_is (said.speaks.stops none.2);
+            },
+          )) left.recorded;
+        }))
 
 -- ---- without a task no message is asked for
 
@@ -150,64 +131,56 @@ no_message other is = tt
 
 pub mbox_session_is_a_step : Laws → MboxCountedStores → TurnsJoin → ConversationsArePaced → FrontsAreAsked → MboxSessionIsAStep
 mbox_session_is_a_step laws stores joining paced fronts settings now link before held report link' after valid keeps is =
-    joined (session_course_of settings AsEntries now link (keeps_entries before) report link' (keeps_entries after) is)
+    joined (course_proceeded settings AsEntries now (at link []) (keeps_entries before) is.result is.mid (keeps_entries after) is.notes is.proceeds)
     (course_leaves laws settings now (keeps_entries before) held keeps (at link []) is.result is.mid (keeps_entries after) is.notes is.proceeds)
     (session_spoke joining paced fronts settings valid AsEntries now link (keeps_entries before) report link' (keeps_entries after) is)
   where
+    made : (c : Course) {state : RecordState} {sent got : List ℕ} → link'.sent ≡ link.sent ++ sent → link'.got ≡ link.got ++ got → Keeps after.file.content state
+        → MboxStepped settings (mbox_holds held before.mbox) sent got (effect_of now (is_ended is.result) c) (mbox_holds state after.mbox)
+        → (MboxLeaves (mbox_holds held before.mbox) (effect_of now (is_ended is.result) c) (mbox_holds state after.mbox) × (report.retrieved ≡ 0))
+        ⊎ IsMboxCounted settings (mbox_holds held before.mbox) (effect_of now (is_ended is.result) c) (mbox_holds state after.mbox) report
+        → IsMboxStep settings now link before held report link' after
+    made c sent_is got_is stays stepped left = search (sent_is, got_is, stays, stepped, left, ended_if is.result report.outcome is.reports.outcome_is)
+
     -- no task was begun
-    quiet : (c : Course) → Rests now is.result c held before.mbox after.mbox after.file.content is.notes.lines → (sent got : List ℕ) → link'.sent ≡ link.sent ++ sent → link'.got ≡ link.got ++ got
+    quiet : (c : Course) → Rests now is.result c held before.mbox after.mbox after.file.content → report.retrieved ≡ 0 → (sent got : List ℕ) → link'.sent ≡ link.sent ++ sent → link'.got ≡ link.got ++ got
         → (commands : List Command) (asked : Asked commands sent) → AllByRecursion (IsOfTask (begun_of c)) commands → BeginsOne (IsOfTask (begun_of c)) asked.part
         → IsMboxStep settings now link before held report link' after
-    quiet c rests sent got sent_is got_is commands asked all next = record {
-      sent = sent;
-      got = got;
-      effect = effect_of now (is_ended is.result) c;
-      record_state' = held;
-      sent_is = sent_is;
-      got_is = got_is;
-      now_is = refl;
-      ended_is = ended_if is.result report.outcome is.reports.outcome_is;
-      keeps = rests.keeps;
-      left = inl (rests.leaves, is.reports.retrieved_is ∙ rests.told);
-      stepped = record {
-        sends = sends_of [] no_maildir c.items (begun_of c) (rw rests.none tt) asked all next;
-        step = inl (rests.leaves, (all_map _ AsksForNoMessage no_message commands (rw rests.none at all), begins_of no_message asked.part (rw rests.none at next)));
-      };
-    }
+    quiet c rests retrieved sent got sent_is got_is commands asked all next = made c sent_is got_is rests.keeps
+        (record {
+          sends = sends_of [] no_maildir c.items (begun_of c) (rw rests.none tt) asked all next;
+          step = inl (rests.leaves, (all_map _ AsksForNoMessage no_message commands (rw rests.none at all), begins_of no_message asked.part (rw rests.none at next)));
+        })
+        (inl (rests.leaves, retrieved))
 
     joined : (session_course : SessionCourse)
-        → CourseLeads (λ (c : Course). Rests now is.result c held before.mbox after.mbox after.file.content is.notes.lines
-        ⊎ MboxLeads settings now held before.mbox is.result c after.mbox after.file.content is.notes.lines) is.result (keeps_entries before) (keeps_entries after) is.notes.lines session_course
+        → CourseLeads (λ (c : Course). Rests now is.result c held before.mbox after.mbox after.file.content
+        ⊎ MboxLeads settings now held before.mbox is.result c after.mbox after.file.content) is.result (keeps_entries before) (keeps_entries after) is.notes.lines session_course
         → Spoke settings AsEntries now (keeps_entries before) link link' is.result is.notes.lines session_course → IsMboxStep settings now link before held report link' after
     joined Idle left said =
         let idle = idle_said fronts (name_of settings) (word_of settings) valid.valid_username valid.valid_password (tail_for is.result) (is_tail_for is.result) said.sent said.got said.said in
         quiet (course [] [] [] []) (record {
           none = refl;
-          told = ap retrieved_in left.2;
+          untaken = refl;
           keeps = rw (ap (λ (k : Keeping). k.file) left.1) keeps;
           leaves = record { rows = refl; intent = refl; file = inl (ap (λ (k : Keeping). mail_in k.store.mbox.content) left.1); begun = refl; ended = left.0 };
-        }) said.sent said.got said.sent_is said.got_is idle.0 idle.1 idle.2 idle.3
+        }) (is.reports.retrieved_is ∙ ap retrieved_in left.2) said.sent said.got said.sent_is said.got_is idle.0 idle.1 idle.2 idle.3
     joined (Deals c) (inl rests) said =
-        quiet c rests said.sent said.got said.sent_is said.got_is _ said.speaks.asked said.speaks.deletes said.speaks.next
+        quiet c rests (is.reports.retrieved_is ∙ ap retrieved_in said.by.told ∙ ap (λ (ds : List Done). retrieved_in (lines_of ds)) rests.untaken) said.sent said.got said.sent_is said.got_is _
+        said.speaks.asked said.speaks.deletes said.speaks.next
     joined (Deals c) (inr left) said =
         let p = mbox_inputs settings now held before.mbox c.items in
         let figures_of = mbox_figures laws settings now held before.mbox left in
-        record {
-          sent = said.sent;
-          got = said.got;
-          effect = effect_of now (is_ended is.result) c;
-          record_state' = record_state (rows_after p left.noted) left.intent';
-          sent_is = said.sent_is;
-          got_is = said.got_is;
-          now_is = refl;
-          ended_is = ended_if is.result report.outcome is.reports.outcome_is;
-          keeps = left.keeps;
-          left = inr (record { figures = figures_of; retrieved_is = is.reports.retrieved_is ∙ left.tally.counts; one_less = λ one. rw is.reports.outcome_is (if_less left.tally.mark one) });
-          stepped = record {
-            sends = sends_of [] no_maildir c.items (begun_of c) (tally_right laws p left.tally) said.speaks.asked said.speaks.deletes said.speaks.next;
-            step = inr (stores _ _ _ _ figures_of, said.speaks.reads now (is_ended is.result) _ (tally_numbers laws p left.tally));
-          };
-        }
+        made c said.sent_is said.got_is left.keeps
+        (record {
+          sends = sends_of [] no_maildir c.items (begun_of c) (tally_right laws p left.tally) said.speaks.asked said.speaks.deletes said.speaks.next;
+          step = inr (stores _ _ _ _ figures_of, said.speaks.reads now (is_ended is.result) _ (tally_numbers laws p left.tally));
+        })
+        (inr (record {
+          figures = figures_of;
+          retrieved_is = is.reports.retrieved_is ∙ ap retrieved_in said.by.told ∙ (found_all c.taken said.by.took.each).1;
+          one_less = λ one. rw is.reports.outcome_is (if_less left.tally.mark one);
+        }))
 
 -- ---- after a session that ended, the mboxrd file also stands for the texts that came: these are whole
 
@@ -233,7 +206,7 @@ texts_stand adds file first (text ∷ texts) whole stands =
 -- ---- all that was wanted
 
 pub adds_texts : EntryAddsText → (settings : Settings) (before : MboxMail) (effect : Effect) (after : MboxMail) → effect.ended ≡ true → (sent got : List ℕ)
-    → Stepped settings before sent got effect after → AddsTexts settings before effect after
+    → MboxStepped settings before sent got effect after → AddsTexts settings before effect after
 adds_texts adds settings before effect after ended sent got session = elim session.step [
   | inl (leaves, none) ↦ absurd (let nothing = leaves.ended in cc)
   | inr (stores, reads) ↦

@@ -1,8 +1,16 @@
--- Filters and maps of lists, and what holds of each element.
-use Rattle.std.proofs.Common.{◌≡◌, ℕ, zero, suc, List, [], ◌∷◌, ◌++◌, Bool, true, false, map, Some, refl, arith, length}
-use Rattle.std.specs.Prelude.{slice_get}
+-- Filters and maps of lists, ids among others, what holds of each element, and the one record for which a file stands.
+use Rattle.std.proofs.Common.{◌≡◌, ℕ, zero, suc, List, [], ◌∷◌, ◌++◌, Bool, true, false, map, Some, refl, arith, length, inl, inr, sym, subst, Option}
+use Rattle.std.specs.Prelude.{slice_get, bytes_eq}
 use Rattle.std.specs.List.{filter, list_any, AllByRecursion}
 use Rattle.std.proofs.lemmas.Option.{same_Some}
+use Rattle.std.proofs.lemmas.Bool.{both_ways, or_cases}
+use Rattle.std.proofs.lemmas.Slice.Eq.{bytes_eq-Decides}
+use Rattle.mail_terms.specs.UniqueId.{has_id}
+use Rattle.pop3_wire.specs.World.{Message}
+use Rattle.run_law.specs.Mails.{ids_of, texts_of}
+use Rattle.fetch_rules.specs.Record.{Row, RecordState}
+use Rattle.fetch_rules.specs.RecordGrowth.{OneRecord}
+use Rattle.fetch_session.specs.Record.{Keeps, KeepsRows}
 
 -- from which element an element of a mapped list comes
 pub mapped_at : {A B : Type 0} (f : A → B) (xs : List A) (n : ℕ) (y : B) → slice_get (map f xs) n ≡ Some y → (x : A) × (slice_get xs n ≡ Some x) × (f x ≡ y)
@@ -55,3 +63,29 @@ all_front P (x ∷ xs) ys h = (h.0, all_front P xs ys h.1)
 pub all_back : {X : Type 0} (P : X → Type 0) (xs ys : List X) → AllByRecursion P (xs ++ ys) → AllByRecursion P ys
 all_back P [] ys h = h
 all_back P (x ∷ xs) ys h = all_back P xs ys h.1
+
+pub bytes_same : (a b : List ℕ) → bytes_eq a b ≡ true → a ≡ b
+bytes_same a b test = (bytes_eq-Decides a b).0 test
+
+pub bytes_self : (a : List ℕ) → bytes_eq a a ≡ true
+bytes_self a = (bytes_eq-Decides a a).1 refl
+
+pub has_texts : (ms : List Message) (id : List ℕ) → has_id (ids_of ms) id ≡ is_some (texts_of ms id)
+has_texts [] id = refl
+has_texts (m ∷ ms) id = grind (arith, has_texts ms id)
+
+-- what holds of each id holds of any among them
+pub all_ids_at : (P : List ℕ → Type 0) (ids : List (List ℕ)) (id : List ℕ) → AllByRecursion P ids → has_id ids id ≡ true → P id
+all_ids_at P [] id h e = absurd (both_ways false refl e)
+all_ids_at P (x ∷ xs) id h e = elim (or_cases (bytes_eq id x) (has_id xs id) e) [
+  | inl same ↦ subst P (sym (bytes_same id x same)) h.0
+  | inr more ↦ all_ids_at P xs id h.1 more
+]
+
+-- ---- a file stands for one record
+
+pub same_held : OneRecord → (content : Option (List ℕ)) (a b : RecordState) → Keeps content a → Keeps content b → a ≡ b
+same_held one content a b x y = let same = one content a.rows b.rows a.intent b.intent x y in rw (same.0, same.1)
+
+pub same_rows : OneRecord → (content : Option (List ℕ)) (a b : List Row) → KeepsRows content a → KeepsRows content b → a ≡ b
+same_rows one content a b x y = (one content a b x.0 y.0 x.1 y.1).0

@@ -1,6 +1,5 @@
--- The tasks of a plan: what they fetch, whether it is held, and what comes before a deletion; and what those that were done retrieved, stored and recorded, compared with what was wanted.
-use Rattle.fetch_runs.proofs.Ids.{bytes_self, bytes_same}
-use Rattle.fetch_runs.proofs.Lists.{all_append, all_mapped, all_front, all_map, at_length}
+-- The tasks of a plan: what they fetch and delete; and what those that were done retrieved, stored and recorded, beside what was wanted.
+use Rattle.fetch_runs.proofs.Lists.{bytes_self, bytes_same, all_append, all_mapped, all_front, all_map, at_length}
 use Rattle.std.proofs.Common.{◌≡◌, ◌+◌, ◌-◌, ℕ, Bool, true, false, cond, List, [], ◌∷◌, ◌++◌, map, zip, Option, Some, refl, sym, ap, append_assoc, length, length-append, arith, rules, take, ◌∙◌}
 use Rattle.std.specs.Prelude.{◌&&◌, ◌<◌, bytes_eq, slice_get, ◌||◌, option_to_list}
 use Rattle.std.specs.List.{flat_map, filter, AllByRecursion, enumerate_from, AllZip}
@@ -23,9 +22,9 @@ use Rattle.fetch_session.specs.Target.{AsFiles, in_maildir}
 use Rattle.std.proofs.lemmas.List.Sums.{sum_by-append}
 use Rattle.pop3_wire.specs.Reading.{WholeReply}
 use Rattle.fetch_session.specs.Report.{is_taken, retrieved_in}
-use Rattle.run_law.specs.Steps.{file_for, is_unheld, Effect, ids_wanted}
+use Rattle.run_law.specs.Steps.{file_for, is_unheld, ids_wanted}
 use Rattle.std.proofs.lemmas.Simd.{map-map}
-use Rattle.fetch_runs.proofs.Courses.{found_in, found_by, Course, found_of, begun_of}
+use Rattle.fetch_runs.proofs.Talk.{found_in, found_by, deleted_in, deleted_by, number_found, text_found}
 use Rattle.mail_store.specs.Held.{flags_of}
 use Rattle.fetch_rules.specs.RecordGrowth.{OneRecord}
 use Rattle.fetch_session.specs.Laws.{SteadyFilesKeep, UnsavedFilesKeep}
@@ -46,14 +45,6 @@ fetched_in _ = []
 
 abbrev pub fetched : List Task → List (ℕ × List ℕ)
 fetched tasks = flat_map fetched_in tasks
-
--- the ids of the messages that tasks delete
-abbrev pub deleted_in : List Item → Task → List (List ℕ)
-deleted_in items (deletes number) = map (λ (item : Item). item.uid) (option_to_list (slice_get items (number - 1)))
-deleted_in items _ = []
-
-abbrev pub deleted_by : List Item → List Task → List (List ℕ)
-deleted_by items tasks = flat_map (deleted_in items) tasks
 
 -- what a task fetches is listed, and is stored only if it isn't held; what it deletes is at its number, and
 -- no other message has its id
@@ -157,15 +148,6 @@ module _ (D : List ℕ → Type 0) (p : Inputs) (delivered : (uid : List ℕ) �
       rw (tasks_are p) (all_append _ _ _ all.0 (tt, tt), all.1 tt)
 
 -- ---- tasks that were done
-
-abbrev pub number_found : ℕ × List ℕ → ℕ
-number_found found = found.0
-
-abbrev pub text_found : ℕ × List ℕ → List ℕ
-text_found found = found.1
-
-abbrev pub number_of : ℕ × Item → ℕ
-number_of message = message.0
 
 abbrev pub texts_by : List Done → List (List ℕ)
 texts_by dones = map text_found (found_by dones)
@@ -302,18 +284,6 @@ safe_front D items (stores number uid ∷ tasks) next later safe all = safe_fron
 safe_front D items (deletes number ∷ tasks) next later safe all =
     all_append D (deleted_in items (deletes number)) (deleted_by items (tasks ++ option_to_list next)) safe.0 (safe_front D items tasks next later safe.1 all)
 safe_front D items (other ∷ tasks) next later safe all = safe_front D items tasks next later safe all
-
--- ---- What a session did, as the law over runs takes it, from the tasks that it completed.
-
--- the parts of a session that the law over runs uses
-abbrev pub effect_of : ℕ → Bool → Course → Effect
-effect_of now ended course = record {
-  now = now;
-  listing = course.items;
-  texts = map text_found (found_of course);
-  begun = deleted_by course.items (begun_of course);
-  ended = ended;
-}
 
 module _ (laws : Laws) (p : Inputs) where
   pub right_front : (front rest : List Task) → tasks_on p ≡ front ++ rest → AllByRecursion (IsRightOn p) front

@@ -1,12 +1,12 @@
--- What a session leaves of its account: which tasks were retrieved and which recorded, for each way that its tasks can take; and the files of a Maildir.
+-- What a session leaves of its account, for each way that its tasks can take: what was retrieved and recorded, and the files.
 use Rattle.std.proofs.Common.{⊎_elim, arith, ◌+◌, ◌≡◌, ◌⊎◌, inl, inr, ℕ, Bool, true, false, List, [], ◌∷◌, ◌++◌, map, take, length, Option, None, Some, Result, Ok, Err, refl, sym, ap, ◌∙◌, append_assoc, length-append}
 use Rattle.std.specs.Prelude.{option_to_list}
 use mathlib.Core.Logic.{⊎_map}
 use Rattle.std.specs.List.{AllByRecursion}
-use Rattle.std.proofs.lemmas.List.{append-nil, length-map, map-append}
+use Rattle.std.proofs.lemmas.List.{append-nil, length-map, map-append, take_at}
 use Rattle.std.proofs.lemmas.List.Concat.{flat_map-append}
 use Rattle.std.proofs.lemmas.List.Folds.{flat_map-map}
-use Rattle.fetch_rules.specs.Record.{Row, RecordState, none_open, marked, marked_all}
+use Rattle.fetch_rules.specs.Record.{Row, RecordState, none_open, marked, marked_all, Intent}
 use Rattle.mail_store.specs.FlatFile.{Stored}
 use Rattle.mail_terms.specs.Listing.{Item}
 use Rattle.rc_file.specs.declared.settings.Settings.{Settings}
@@ -18,25 +18,30 @@ use Rattle.fetch_session.specs.declared.fault.Fault.TheVariants.{SeenRefused, No
 use Rattle.fetch_session.specs.declared.report.Outcome.{Outcome}
 use Rattle.fetch_session.specs.declared.report.Outcome.TheVariants.{Cut as WasCut}
 use Rattle.fetch_session.specs.declared.report.ReportLine.{ReportLine}
-use Rattle.fetch_session.specs.Plan.{Unprepared, Carried, Carries}
-use Rattle.fetch_session.specs.Task.{Task, Done, IsAnswered, stores, task_in, tasks_of, ids_in, ids_of, ids_ahead, lines_in, lines_of, delivered, files_of, file_from}
-use Rattle.fetch_session.specs.Record.{Keeps, Steady, Saves, KeepsRows}
-use Rattle.fetch_session.specs.Report.{retrieved_in}
-use Rattle.fetch_session.specs.Scene.{Scene, scene, Went, Fell, NoFile, FileNotSaved, Stops, Does}
+use Rattle.fetch_session.specs.Plan.{Unprepared, Carried, Carries, tasks_ahead as tasks_for}
+use Rattle.fetch_session.specs.Task.{Task, Done, IsAnswered, stores, task_in, tasks_of, ids_in, ids_of, ids_ahead, files_of, file_from, rereads, texts_in, texts_of}
+use Rattle.fetch_session.specs.Record.{Keeps, Steady, KeepsRows, record_state, with_open}
+use Rattle.fetch_session.specs.Scene.{Scene, scene, Went, Fell, NoFile, FileNotSaved, Stops, Does, EntryNotSaved}
 use Rattle.fetch_session.specs.Session.{outcome_of, Keeping, Noted, Proceeds, AccountFiles, keeping, keeps_files}
-use Rattle.fetch_session.specs.Target.{Target, Stores, AsFiles, in_maildir}
-use Rattle.fetch_runs.proofs.Lists.{all_append}
-use Rattle.fetch_runs.proofs.Courses.{Course, course, SessionCourse, Idle, Deals, course_carried, course_carries, course_proceeded, stored_done, found_in, found_by, found_of, spare_in, course_stopped, course_does, begun_of}
-use Rattle.fetch_runs.proofs.StateDone.{deleted_by, tasks_ahead, key, count, number_found, number_of, text_found, found_all, same_length, Laws, Inputs, rows_on, tasks_on, messages_on, rows_after, IsRecorded, IsRightOn, Part, safe_part, right_front, fetched_part, wanted_are, files_part, effect_of, records_part}
+use Rattle.fetch_session.specs.Target.{Target, Stores, AsFiles, in_maildir, no_maildir, AsEntries, mail_in, is_stored, closed_file, rows_in}
+use Rattle.fetch_runs.proofs.Lists.{all_append, same_rows, at_length, mapped_at, same_held as same_record}
+use Rattle.fetch_runs.proofs.Talk.{Course, course, SessionCourse, Idle, Deals, course_carried, course_carries, course_proceeded, stored_done, found_in, found_by, found_of, spare_in, course_stopped, course_does, begun_of, nothing_found, deleted_by, number_found, number_of, text_found, effect_of}
+use Rattle.fetch_runs.proofs.StateDone.{tasks_ahead, key, count, found_all, same_length, Laws, Inputs, rows_on, tasks_on, messages_on, rows_after, IsRecorded, IsRightOn, Part, safe_part, right_front, fetched_part, wanted_are, files_part, records_part, fetched_in, fetched, IsRight, texts_by, right_part}
 use Rattle.std.proofs.lemmas.Simd.{map-map}
-use Rattle.fetch_runs.proofs.TalkCommands.{nothing_found}
 use Rattle.mail_store.specs.Maildir.{Maildir}
 use Rattle.mail_store.specs.FileName.{stem_of}
-use Rattle.fetch_session.specs.declared.fault.Why.TheVariants as why
-use Rattle.fetch_session.specs.Readiness.{UnreadyCause}
+use Rattle.fetch_session.specs.Readiness.{UnreadyCause, IsSettledBy, Settles}
 use Rattle.fetch_session.specs.Store.{RefusesText}
 use Rattle.run_law.specs.Counted.{Adds, Counted}
-use Rattle.fetch_runs.specs.Steps.{holds}
+use Rattle.fetch_runs.specs.Steps.{holds, mbox_holds}
+use Rattle.mail_store.specs.Mboxrd.{entry_of}
+use Rattle.run_law.specs.Mboxes.{MboxLeaves, settled, entries}
+use Rattle.run_law.specs.MboxCounted.{bytes_at, OpensAt, AllRecorded, LastUnrecorded, MboxCounted}
+use Rattle.std.proofs.lemmas.Option.{same_Some}
+use Rattle.fetch_session.specs.Laws.{SteadyFilesKeep, UnsavedFilesKeep}
+use Rattle.fetch_session.specs.Mbox.{IsTakenBack, RefusesEntry, intent_of}
+use Rattle.fetch_session.specs.declared.fault.Why.TheVariants as why
+use Rattle.run_law.specs.Mboxes as Law
 
 abbrev pub is_ended : Result (Unit {0}) Cut → Bool
 is_ended (Ok done) = true
@@ -46,14 +51,10 @@ is_ended (Err cut) = false
 abbrev pub UnsavedIn : Outcome → Type 0
 UnsavedIn outcome = (outcome ≡ WasCut SeenRefused) ⊎ (outcome ≡ WasCut NoMemory)
 
-pub unsaved_why : (old : Stored) (was now : RecordState) (fault : Fault) (new : Stored) → Saves old was now (Err fault) new → UnsavedIn (WasCut fault)
-unsaved_why old was now fault new is = grind arith
-
--- the tasks of the plan begin with its rows, and with nothing reported
+-- the tasks of the plan begin with its rows
 pub record Starts (p : Inputs) (tasks : List Task) (old : Scene) : Type 0 where
   pub tasks_are : tasks ≡ tasks_on p
   pub rows : old.rows ≡ rows_on p
-  pub lines : old.lines ≡ []
   pub steady : Steady old.file.content (none_open old.rows)
 
 -- equal, or one less, and then this holds
@@ -68,7 +69,7 @@ if_less (inl same) less = absurd (omega (arith, same, less))
 if_less (inr is) less = is.1
 
 -- of a course: `full` was retrieved, `taken` is in the report, and `noted` was recorded; at most one more task was begun
-pub record Tally (p : Inputs) (result : Result (Unit {0}) Cut) (c : Course) (full noted : List Done) (lines : List ReportLine) (refused : Type 0) : Type 0 where
+pub record Tally (p : Inputs) (result : Result (Unit {0}) Cut) (c : Course) (full noted : List Done) (refused : Type 0) : Type 0 where
   pub found : found_of c ≡ found_by full
   pub whole : Part (tasks_on p) full
   pub part : Part (tasks_on p) noted
@@ -79,13 +80,12 @@ pub record Tally (p : Inputs) (result : Result (Unit {0}) Cut) (c : Course) (ful
   pub begun : tasks_of c.taken ++ c.under ≡ tasks_of noted ++ option_to_list next
   pub rest : part.rest ≡ option_to_list next ++ later
   pub ends : is_ended result ≡ true → (count c.taken ≡ length (messages_on p)) × (count noted ≡ length (messages_on p))
-  pub counts : retrieved_in lines ≡ count c.taken
 
 pub not_ended : {P : Type 0} → false ≡ true → P
 not_ended never = absurd cc
 
 module _ (laws : Laws) (p : Inputs) where
-  module _ {result : Result (Unit {0}) Cut} {c : Course} {full noted : List Done} {lines : List ReportLine} {refused : Type 0} (t : Tally p result c full noted lines refused) where
+  module _ {result : Result (Unit {0}) Cut} {c : Course} {full noted : List Done} {refused : Type 0} (t : Tally p result c full noted refused) where
     pub tally_right : AllByRecursion (IsRightOn p) (tasks_of c.taken ++ c.under)
     tally_right = rw t.begun (right_front laws p (tasks_of noted ++ option_to_list t.next) t.later (rw (append_assoc (tasks_of noted) (option_to_list t.next) t.later, ← t.rest) t.part.split))
 
@@ -99,9 +99,9 @@ module _ (laws : Laws) (p : Inputs) where
     tally_number = rw t.found (length-map (found_by full) text_found)
 
   -- what was begun was done and recorded
-  tally_recorded : {result : Result (Unit {0}) Cut} {lines : List ReportLine} {refused : Type 0} (dones : List Done) → Part (tasks_on p) dones
-      → (is_ended result ≡ true → count dones ≡ length (messages_on p)) → retrieved_in lines ≡ count dones → Tally p result (course p.items dones [] []) dones dones lines refused
-  tally_recorded dones part ends counts = record {
+  tally_recorded : {result : Result (Unit {0}) Cut} {refused : Type 0} (dones : List Done) → Part (tasks_on p) dones
+      → (is_ended result ≡ true → count dones ≡ length (messages_on p)) → Tally p result (course p.items dones [] []) dones dones refused
+  tally_recorded dones part ends = record {
     found = append-nil (found_by dones);
     whole = part;
     part = part;
@@ -112,12 +112,11 @@ module _ (laws : Laws) (p : Inputs) where
     begun = refl;
     rest = refl;
     ends = λ is. (ends is, ends is);
-    counts = counts;
   }
 
   -- nothing was done
-  pub tally_none : {cut : Cut} {refused : Type 0} (lines : List ReportLine) → retrieved_in lines ≡ 0 → Tally p (Err cut) (course p.items [] [] []) [] [] lines refused
-  tally_none lines counts = tally_recorded [] (record { rest = tasks_on p; split = refl; answered = tt }) not_ended counts
+  pub tally_none : {cut : Cut} {refused : Type 0} → Tally p (Err cut) (course p.items [] [] []) [] [] refused
+  tally_none = tally_recorded [] (record { rest = tasks_on p; split = refl; answered = tt }) not_ended
 
   module _ {target : Target} {tasks : List Task} {old : Scene} (starts : Starts p tasks old) where
     pub mid_rows : (dones : List Done) (mid : Scene) → Went target dones old mid → mid.rows ≡ rows_after p dones
@@ -126,16 +125,13 @@ module _ (laws : Laws) (p : Inputs) where
     pub mid_keeps : (dones : List Done) (mid : Scene) → Went target dones old mid → Keeps mid.file.content (none_open (rows_after p dones))
     mid_keeps dones mid went = rw (← mid_rows dones mid went) (laws.steady mid.file.content (none_open mid.rows) (went.saved starts.steady))
 
-    mid_count : (dones : List Done) (mid : Scene) → Went target dones old mid → retrieved_in mid.lines ≡ count dones
-    mid_count dones mid went = rw (went.lines, starts.lines) (found_all dones went.each).1
-
     -- all went well
     abbrev pub part_all : (dones : List Done) (new : Scene) → tasks ≡ tasks_of dones → Went target dones old new → Part (tasks_on p) dones
     part_all dones new all went = record { rest = []; split = sym starts.tasks_are ∙ all ∙ sym (append-nil (tasks_of dones)); answered = went.each }
 
-    pub tally_all : {done : Unit {0}} {refused : Type 0} (dones : List Done) (new : Scene) → tasks ≡ tasks_of dones → Went target dones old new → Tally p (Ok done) (course p.items dones [] []) dones dones new.lines refused
+    pub tally_all : {done : Unit {0}} {refused : Type 0} (dones : List Done) (new : Scene) → tasks ≡ tasks_of dones → Went target dones old new → Tally p (Ok done) (course p.items dones [] []) dones dones refused
     tally_all dones new all went =
-        tally_recorded dones (part_all dones new all went) (λ ended. sym (same_length dones went.each) ∙ rw (← all, starts.tasks_are, wanted_are laws p) (length-map (messages_on p) key)) (mid_count dones new went)
+        tally_recorded dones (part_all dones new all went) (λ ended. sym (same_length dones went.each) ∙ rw (← all, starts.tasks_are, wanted_are laws p) (length-map (messages_on p) key))
 
     -- ---- where the tasks stopped
 
@@ -145,9 +141,8 @@ module _ (laws : Laws) (p : Inputs) where
 
       -- the next task was begun, and not recorded
       tally_fell : {refused : Type 0} (c : Course) (full : List Done) → found_of c ≡ found_by full → Part (tasks_on p) full → IsOrLess (count c.taken) (count full) refused
-          → IsOrLess (count fell.dones) (count c.taken) (UnsavedIn (WasCut cut.fault)) → tasks_of c.taken ++ c.under ≡ tasks_of fell.dones ++ fell.next ∷ [] → retrieved_in new.lines ≡ count c.taken
-          → Tally p (Err cut) c full fell.dones new.lines refused
-      tally_fell c full found whole number mark begun counts = record {
+          → IsOrLess (count fell.dones) (count c.taken) (UnsavedIn (WasCut cut.fault)) → tasks_of c.taken ++ c.under ≡ tasks_of fell.dones ++ fell.next ∷ [] → Tally p (Err cut) c full fell.dones refused
+      tally_fell c full found whole number mark begun = record {
         found = found;
         whole = whole;
         part = part_done;
@@ -158,19 +153,11 @@ module _ (laws : Laws) (p : Inputs) where
         begun = begun;
         rest = refl;
         ends = not_ended;
-        counts = counts;
       }
 
-      same_count : new.lines ≡ fell.mid.lines → retrieved_in new.lines ≡ count fell.dones
-      same_count told = rw told (mid_count fell.dones fell.mid fell.went)
-
       -- it retrieved no text
-      pub tally_no_line : {refused : Type 0} → new.lines ≡ fell.mid.lines → Tally p (Err cut) (course p.items fell.dones [] (fell.next ∷ [])) fell.dones fell.dones new.lines refused
-      tally_no_line told = tally_fell _ fell.dones (rw (nothing_found fell.next) (append-nil (found_by fell.dones))) part_done (inl refl) (inl refl) refl (same_count told)
-
-      -- the next task wasn't begun
-      pub tally_before : {refused : Type 0} → new.lines ≡ fell.mid.lines → Tally p (Err cut) (course p.items fell.dones [] []) fell.dones fell.dones new.lines refused
-      tally_before told = tally_recorded fell.dones part_done not_ended (same_count told)
+      pub tally_no_line : {refused : Type 0} → Tally p (Err cut) (course p.items fell.dones [] (fell.next ∷ [])) fell.dones fell.dones refused
+      tally_no_line = tally_fell _ fell.dones (rw (nothing_found fell.next) (append-nil (found_by fell.dones))) part_done (inl refl) (inl refl) refl
 
       -- the next task retrieved a text
       module _ (number : ℕ) (uid : List ℕ) (reply : WholeReply) (is : fell.next ≡ stores number uid) (answered : IsAnswered (stored_done number uid reply)) where
@@ -194,21 +181,15 @@ module _ (laws : Laws) (p : Inputs) where
         one_found = simp (full_found, length-append)
 
         -- its text isn't in the report
-        pub tally_spare : {refused : Type 0} → new.lines ≡ fell.mid.lines → refused → Tally p (Err cut) (course p.items fell.dones (reply ∷ []) (fell.next ∷ [])) full fell.dones new.lines refused
-        tally_spare told refuses = tally_fell _ full (rw is (sym full_found)) part_full (inr (one_found, refuses)) (inl refl) refl (same_count told)
+        pub tally_spare : {refused : Type 0} → refused → Tally p (Err cut) (course p.items fell.dones (reply ∷ []) (fell.next ∷ [])) full fell.dones refused
+        tally_spare refuses = tally_fell _ full (rw is (sym full_found)) part_full (inr (one_found, refuses)) (inl refl) refl
 
         -- its text is in the report, and the record is one of two
-        module _ (told : new.lines ≡ fell.mid.lines ++ delivered number reply ∷ []) where
-          full_count : retrieved_in new.lines ≡ count full
-          full_count =
-              let lines_are : new.lines ≡ lines_of full = rw (told, fell.went.lines, starts.lines) (sym (flat_map-append (λ (d : Done). lines_in d.task d.replies) fell.dones (stored_done number uid reply ∷ []))) in
-              ap retrieved_in lines_are ∙ (found_all full part_full.answered).1
+        pub tally_old : {refused : Type 0} → UnsavedIn (WasCut cut.fault) → Tally p (Err cut) (course p.items full [] []) full fell.dones refused
+        tally_old less = tally_fell _ full (append-nil (found_by full)) part_full (inl refl) (inr (one_found, less)) (append-nil (tasks_of full) ∙ full_tasks)
 
-          pub tally_old : {refused : Type 0} → UnsavedIn (WasCut cut.fault) → Tally p (Err cut) (course p.items full [] []) full fell.dones new.lines refused
-          tally_old less = tally_fell _ full (append-nil (found_by full)) part_full (inl refl) (inr (one_found, less)) (append-nil (tasks_of full) ∙ full_tasks) full_count
-
-          pub tally_new : {refused : Type 0} → Tally p (Err cut) (course p.items full [] []) full full new.lines refused
-          tally_new = tally_recorded full part_full not_ended full_count
+        pub tally_new : {refused : Type 0} → Tally p (Err cut) (course p.items full [] []) full full refused
+        tally_new = tally_recorded full part_full not_ended
 
         last_mark : (r : List Row) (ids : List (List ℕ)) → marked (marked_all r ids) uid ≡ marked_all r (ids ++ uid ∷ [])
         last_mark r [] = refl
@@ -225,20 +206,20 @@ CourseLeads Leads result before after lines Idle = (is_ended result ≡ false) �
 CourseLeads Leads result before after lines (Deals c) = Leads c
 
 -- what holds if nothing was planned, and if what was planned was carried out
-module _ (settings : Settings) (target : Target) (now : ℕ) (before : Keeping) (Leads : Result (Unit {0}) Cut → Course → Stores → Stored → List ReportLine → Type 0)
+module _ (settings : Settings) (target : Target) (now : ℕ) (before : Keeping) (Leads : Result (Unit {0}) Cut → Course → Stores → Stored → Type 0)
     (unprepared : (items : List Item) (place : _) (cut : Cut) (new : Scene) → Unprepared target items now place before.store before.file [] cut new
-    → Leads (Err cut) (course items [] [] []) new.store new.file new.lines)
+    → Leads (Err cut) (course items [] [] []) new.store new.file)
     (carried : (items : List Item) (place : _) (result : Result (Unit {0}) Cut) (new : Scene) (skipped : _) (is : Carried settings target items now place before.store before.file [] result new skipped)
-    → Leads result (course_carried settings target items now place before.store before.file [] result new skipped is) new.store new.file new.lines) where
+    → Leads result (course_carried settings target items now place before.store before.file [] result new skipped is) new.store new.file) where
   carries_lead : (items : List Item) (place : _) (result : Result (Unit {0}) Cut) (place' : _) (after : Keeping) (lines : List ReportLine) (skipped : _)
       (is : Carries settings target items now place before.store before.file [] result place' after.store after.file lines skipped)
-      → Leads result (course_carries settings target items now place before.store before.file [] result place' after.store after.file lines skipped is) after.store after.file lines
+      → Leads result (course_carries settings target items now place before.store before.file [] result place' after.store after.file lines skipped is) after.store after.file
   carries_lead items place (Ok done) place' after lines skipped is = carried items place (Ok done) (scene place' after.store after.file is.0 lines) skipped is.1
   carries_lead items place (Err cut) place' after lines skipped (rows, inl (none, is)) = unprepared items place cut (scene place' after.store after.file rows lines) is
   carries_lead items place (Err cut) place' after lines skipped (rows, inr is) = carried items place (Err cut) (scene place' after.store after.file rows lines) skipped is
 
   pub by_course : (old : _) (result : Result (Unit {0}) Cut) (new : _) (after : Keeping) (notes : Noted) (is : Proceeds settings target now old before result new after notes)
-      → CourseLeads (λ (c : Course). Leads result c after.store after.file notes.lines) result before after notes.lines (course_proceeded settings target now old before result new after notes is)
+      → CourseLeads (λ (c : Course). Leads result c after.store after.file) result before after notes.lines (course_proceeded settings target now old before result new after notes is)
   by_course old (Ok done) new after notes dealt = carries_lead dealt.items dealt.mid (Ok done) new after notes.lines notes.skipped dealt.carries
   by_course old (Err cut) new after notes (inl stopped) = (refl, stopped.same, ap (λ (n : Noted). n.lines) stopped.nothing)
   by_course old (Err cut) new after notes (inr (inl wanting)) = (refl, wanting.same, ap (λ (n : Noted). n.lines) wanting.nothing)
@@ -259,10 +240,10 @@ abbrev AddsFiles : List ℕ → Maildir → List Done → Maildir → Type 0
 AddsFiles account maildir dones maildir' = maildir'.files ≡ maildir.files ++ files_of account dones
 
 -- the account that a session left, and what it found; the record is the old one only if no task was begun
-pub record Leads (settings : Settings) (account : List ℕ) (now : ℕ) (maildir : Maildir) (rows : List Row) (result : Result (Unit {0}) Cut) (c : Course) (maildir' : Maildir) (content' : Option (List ℕ)) (lines : List ReportLine) : Type 0 where
+pub record Leads (settings : Settings) (account : List ℕ) (now : ℕ) (maildir : Maildir) (rows : List Row) (result : Result (Unit {0}) Cut) (c : Course) (maildir' : Maildir) (content' : Option (List ℕ)) : Type 0 where
   pub full : List Done
   pub noted : List Done
-  pub tally : Tally (inputs settings account now maildir rows c.items) result c full noted lines (RefusedIn result)
+  pub tally : Tally (inputs settings account now maildir rows c.items) result c full noted (RefusedIn result)
   pub files : AddsFiles account maildir full maildir'
   pub rows' : List Row
   pub keeps : KeepsRows content' rows'
@@ -277,10 +258,10 @@ module _ (laws : Laws) (settings : Settings) (account : List ℕ) (now : ℕ) (m
   abbrev p : List Item → Inputs
   p items = inputs settings account now maildir rows items
 
-  abbrev Leading : Result (Unit {0}) Cut → Course → Maildir → Option (List ℕ) → List ReportLine → Type 0
-  Leading result c maildir' content' lines = Leads settings account now maildir rows result c maildir' content' lines
+  abbrev Leading : Result (Unit {0}) Cut → Course → Maildir → Option (List ℕ) → Type 0
+  Leading result c maildir' content' = Leads settings account now maildir rows result c maildir' content'
 
-  module _ {result : Result (Unit {0}) Cut} {c : Course} {maildir' : Maildir} {content' : Option (List ℕ)} {lines : List ReportLine} (l : Leading result c maildir' content' lines) where
+  module _ {result : Result (Unit {0}) Cut} {c : Course} {maildir' : Maildir} {content' : Option (List ℕ)} (l : Leading result c maildir' content') where
     pub came : (n : ℕ) → n ≡ count l.full → Adds settings account (holds rows maildir) (effect_of now (is_ended result) c) n (holds l.rows' maildir')
     came n is = rw (l.files, l.tally.found, is, files_part laws (p c.items) l.full l.tally.whole) refl
 
@@ -300,9 +281,9 @@ module _ (laws : Laws) (settings : Settings) (account : List ℕ) (now : ℕ) (m
   -- ---- of tasks
 
   module _ (items : List Item) where
-    lead : {result : Result (Unit {0}) Cut} {taken full noted : List Done} {spare : List WholeReply} {under : List Task} {lines : List ReportLine}
-        → Tally (p items) result (course items taken spare under) full noted lines (RefusedIn result) → (maildir' : Maildir) (content' : Option (List ℕ)) → AddsFiles account maildir full maildir'
-        → KeepsRows content' (rows_after (p items) noted) → Leading result (course items taken spare under) maildir' content' lines
+    lead : {result : Result (Unit {0}) Cut} {taken full noted : List Done} {spare : List WholeReply} {under : List Task}
+        → Tally (p items) result (course items taken spare under) full noted (RefusedIn result) → (maildir' : Maildir) (content' : Option (List ℕ)) → AddsFiles account maildir full maildir'
+        → KeepsRows content' (rows_after (p items) noted) → Leading result (course items taken spare under) maildir' content'
     lead t maildir' content' files keeps = record { full = _; noted = _; tally = t; files = files; rows' = _; keeps = keeps; recorded = inl refl }
 
     module _ {tasks : List Task} {old : Scene} (starts : Starts (p items) tasks old) (same_maildir : old.store.maildir ≡ maildir) where
@@ -312,15 +293,15 @@ module _ (laws : Laws) (settings : Settings) (account : List ℕ) (now : ℕ) (m
 
       module _ {cut : Cut} {new : Scene} (fell : Fell (AsFiles account) tasks old cut new) where
         abbrev Stopped : Course → Type 0
-        Stopped c = Leading (Err cut) c new.store.maildir new.file.content new.lines
+        Stopped c = Leading (Err cut) c new.store.maildir new.file.content
 
         still : new.file ≡ fell.mid.file → KeepsRows new.file.content (rows_after (p items) fell.dones)
         still file = rw file (None, mid_keeps laws (p items) starts fell.dones fell.mid fell.went)
 
-        -- the next task left the files and the report as they were
-        bare : new.store.maildir.files ≡ fell.mid.store.maildir.files → new.file ≡ fell.mid.file → new.lines ≡ fell.mid.lines → Stopped (course items fell.dones [] (fell.next ∷ []))
-        bare same file told =
-            lead (tally_no_line laws (p items) starts fell told) new.store.maildir new.file.content (same ∙ mid_files fell.dones fell.mid fell.went) (still file)
+        -- the next task left the files as they were
+        bare : new.store.maildir.files ≡ fell.mid.store.maildir.files → new.file ≡ fell.mid.file → Stopped (course items fell.dones [] (fell.next ∷ []))
+        bare same file =
+            lead (tally_no_line laws (p items) starts fell) new.store.maildir new.file.content (same ∙ mid_files fell.dones fell.mid fell.went) (still file)
 
         -- the file of the next task's text is there
         files : (number : ℕ) (uid : List ℕ) (reply : WholeReply) → new.store.maildir.files ≡ fell.mid.store.maildir.files ++ file_from account uid reply ∷ []
@@ -333,31 +314,31 @@ module _ (laws : Laws) (settings : Settings) (account : List ℕ) (now : ℕ) (m
             let there : AddsFiles account maildir (fell.dones ++ stored_done u.number u.uid u.reply ∷ []) new.store.maildir = files u.number u.uid u.reply u.stored.came in
             elim (laws.unsaved fell.mid.file (none_open fell.mid.rows) (none_open (marked fell.mid.rows u.uid)) cut.fault new.file u.saves (fell.went.saved starts.steady)) [
               | inl was ↦
-                  lead (tally_old laws (p items) starts fell u.number u.uid u.reply u.is u.talked.good u.lines
-                  (unsaved_why fell.mid.file (none_open fell.mid.rows) (none_open (marked fell.mid.rows u.uid)) cut.fault new.file u.saves)) new.store.maildir new.file.content there
+                  lead (tally_old laws (p items) starts fell u.number u.uid u.reply u.is u.talked.good
+                  (let saves = u.saves in grind (arith, saves))) new.store.maildir new.file.content there
                   (None, rw (← mid_rows laws (p items) starts fell.dones fell.mid fell.went) was)
               | inr more ↦
-                  lead (tally_new laws (p items) starts fell u.number u.uid u.reply u.is u.talked.good u.lines) new.store.maildir new.file.content there
+                  lead (tally_new laws (p items) starts fell u.number u.uid u.reply u.is u.talked.good) new.store.maildir new.file.content there
                   (None, rw (← full_rows laws (p items) starts fell u.number u.uid u.reply u.is u.talked.good) more)
             ]
 
         -- the store refused a text
         not_stored : (refused : NoFile account fell.next fell.mid new cut) → (refuses : RefusesText fell.mid.store.maildir (stem_of account refused.uid) refused.rest refused.text cut.fault new.store.maildir)
             → Stopped (course items fell.dones (spare_in refused refuses) (fell.next ∷ []))
-        not_stored refused (inl missing) = bare (ap (λ (m : Maildir). m.files) missing.2) refused.file refused.lines
-        not_stored refused (inr (is, inl same)) = bare (ap (λ (m : Maildir). m.files) same) refused.file refused.lines
+        not_stored refused (inl missing) = bare (ap (λ (m : Maildir). m.files) missing.2) refused.file
+        not_stored refused (inr (is, inl same)) = bare (ap (λ (m : Maildir). m.files) same) refused.file
         not_stored refused (inr (is, inr (done, there))) =
             let whole = refused.whole done in
-            lead (tally_spare laws (p items) starts fell refused.number refused.uid whole.0 refused.is whole.1.good refused.lines (ap WasCut is)) new.store.maildir new.file.content
+            lead (tally_spare laws (p items) starts fell refused.number refused.uid whole.0 refused.is whole.1.good (ap WasCut is)) new.store.maildir new.file.content
             (files refused.number refused.uid whole.0 (rw (there, whole.2) refl)) (still refused.file)
 
         stopped : (stops : Stops (AsFiles account) fell.next fell.mid cut new) → Stopped (course_stopped (AsFiles account) items fell.dones fell.next fell.mid new cut stops)
-        stopped (inl broken) = bare (ap (λ (s : Stores). s.maildir.files) broken.store) broken.file broken.lines
+        stopped (inl broken) = bare (ap (λ (s : Stores). s.maildir.files) broken.store) broken.file
         stopped (inr (inl refused)) = not_stored refused refused.refuses
         stopped (inr (inr refused)) = unsaved refused
 
       does_leads : (result : Result (Unit {0}) Cut) (new : Scene) (does : Does (AsFiles account) tasks old result new)
-          → Leading result (course_does (AsFiles account) items tasks old new result does) new.store.maildir new.file.content new.lines
+          → Leading result (course_does (AsFiles account) items tasks old new result does) new.store.maildir new.file.content
       does_leads (Ok done) new went =
           lead (tally_all laws (p items) starts went.dones new went.all went.went) new.store.maildir new.file.content
           (mid_files went.dones new went.went) (None, mid_keeps laws (p items) starts went.dones new went.went)
@@ -366,29 +347,315 @@ module _ (laws : Laws) (settings : Settings) (account : List ℕ) (now : ℕ) (m
   -- ---- of a session
 
   module _ (file : Stored) (keeps : KeepsRows file.content rows) where
-    -- the record that was read has these rows
-    same_rows : (was : RecordState) → Keeps file.content was → was.rows ≡ rows
-    same_rows was stood = (laws.one file.content was.rows rows was.intent keeps.0 stood keeps.1).0
-
     pub course_leads : (old : _) (result : Result (Unit {0}) Cut) (new : _) (after : AccountFiles) (notes : Noted)
         (is : Proceeds settings (AsFiles account) now old (keeping (in_maildir maildir) file) result new (keeps_files after) notes)
-        → CourseLeads (λ (c : Course). Leading result c after.maildir after.file.content notes.lines) result (keeping (in_maildir maildir) file) (keeps_files after) notes.lines
+        → CourseLeads (λ (c : Course). Leading result c after.maildir after.file.content) result (keeping (in_maildir maildir) file) (keeps_files after) notes.lines
         (course_proceeded settings (AsFiles account) now old (keeping (in_maildir maildir) file) result new (keeps_files after) notes is)
     course_leads old result new after notes is =
-        by_course settings (AsFiles account) now (keeping (in_maildir maildir) file) (λ r c store file' lines. Leading r c store.maildir file'.content lines)
+        by_course settings (AsFiles account) now (keeping (in_maildir maildir) file) (λ r c store file'. Leading r c store.maildir file'.content)
         (λ items place cut new is.
-        let none : Tally (p items) (Err cut) (course items [] [] []) [] [] new.lines (RefusedIn (Err cut)) = tally_none laws (p items) new.lines (ap retrieved_in is.lines_are) in
+        let none : Tally (p items) (Err cut) (course items [] [] []) [] [] (RefusedIn (Err cut)) = tally_none laws (p items) in
         let same : AddsFiles account maildir [] new.store.maildir = unready_files cut.fault maildir file new.store.maildir new.file is.unready.cause ∙ sym (append-nil maildir.files) in
         -- the record is as it was
-        let stays : KeepsRows new.file.content rows → Leading (Err cut) (course items [] [] []) new.store.maildir new.file.content new.lines =
+        let stays : KeepsRows new.file.content rows → Leading (Err cut) (course items [] [] []) new.store.maildir new.file.content =
         λ keeps'. record { full = []; noted = []; tally = none; files = same; rows' = rows; keeps = keeps'; recorded = inr (refl, refl, refl, refl) } in
         elim is.unready.content [
           | inl content ↦ stays (rw content keeps)
-          | inr (was, stood, settled, inl left) ↦ stays (was.intent, rw (← same_rows was stood) left)
-          | inr (was, stood, settled, inr merges) ↦ lead items none new.store.maildir new.file.content same (None, rw (← same_rows was stood) merges)
+          | inr (was, stood, settled, inl left) ↦ stays (was.intent, rw (← same_rows laws.one file.content was.rows rows (was.intent, stood) keeps) left)
+          | inr (was, stood, settled, inr merges) ↦ lead items none new.store.maildir new.file.content same (None, rw (← same_rows laws.one file.content was.rows rows (was.intent, stood) keeps) merges)
         ])
         (λ items place result new skipped is.
-        let rows_are : is.mid.rows ≡ rows_on (p items) = rw (is.prepared.rows, same_rows is.prepared.was is.prepared.stood) refl in
+        let rows_are : is.mid.rows ≡ rows_on (p items) = rw (is.prepared.rows, same_rows laws.one file.content is.prepared.was.rows rows (is.prepared.was.intent, is.prepared.stood) keeps) refl in
         let starts : Starts (p items) (tasks_ahead settings account items now maildir is.mid.rows) is.mid =
-        record { tasks_are = ap (tasks_ahead settings account items now maildir) rows_are; rows = rows_are; lines = is.prepared.lines_are; steady = is.prepared.saved } in
+        record { tasks_are = ap (tasks_ahead settings account items now maildir) rows_are; rows = rows_are; steady = is.prepared.saved } in
         does_leads items starts (ap (λ (s : Stores). s.maildir) is.prepared.settles) result new is.does) old result new (keeps_files after) notes is
+
+-- ---- The texts that tasks appended to an mboxrd file, and the intent of the next one.
+
+-- ---- texts
+
+-- no message counts as held, so each text that was retrieved was to be stored
+texts_one : (items : List Item) (task : Task) (replies : List WholeReply) → IsRight [] no_maildir items task → texts_in task replies ≡ map text_found (found_in task replies)
+texts_one items (stores number uid) replies right = sym (map-map text_found (λ (reply : WholeReply). (number, body_text reply.body)) replies)
+texts_one items (rereads number uid) replies right = absurd cc
+texts_one items other replies right = refl
+
+texts_same : (items : List Item) (dones : List Done) → AllByRecursion (IsRight [] no_maildir items) (tasks_of dones) → texts_of dones ≡ texts_by dones
+texts_same items [] right = refl
+texts_same items (d ∷ dones) right =
+    simp (map-append, texts_one items d.task d.replies right.0, texts_same items dones right.1)
+
+-- ---- the next message
+
+front_texts : (texts more : List (List ℕ)) (dones : List Done) → texts ≡ texts_by dones ++ more → take (count dones) texts ≡ texts_by dones
+front_texts texts more dones are = rw are (take_at (texts_by dones) more (count dones) (length-map (found_by dones) text_found))
+
+-- ---- what a text that wasn't appended leaves
+
+-- no intent is open, and the file is as it was; or the text's is open, and a prefix of its entry follows
+abbrev LeavesEntry : List ℕ → List Row → List ℕ → List ℕ → Stored → Stored → Type 0
+LeavesEntry was rows uid text mbox' file' = ((mbox'.content ≡ Some was) × Keeps file'.content (none_open rows))
+    ⊎ ((front behind : List ℕ) × (entry_of text ≡ front ++ behind) × (mbox'.content ≡ Some (was ++ front)) × Keeps file'.content (with_open rows (intent_of was uid text)))
+
+same_content : {a b : Stored} → a ≡ b → a.content ≡ b.content
+same_content same = ap (λ (s : Stored). s.content) same
+
+module _ (steadies : SteadyFilesKeep) (unsaved : UnsavedFilesKeep) (was : List ℕ) (mbox file : Stored) (rows : List Row) (uid text : List ℕ) (mbox' file' : Stored) (there : mbox.content ≡ Some was) (steady : Steady file.content (none_open rows)) where
+  -- what is known of the bytes before the entry is known of these
+  open_for : (other : List ℕ) → mbox.content ≡ Some other → Keeps file'.content (with_open rows (intent_of other uid text)) → Keeps file'.content (with_open rows (intent_of was uid text))
+  open_for other is keeps = rw (← same_Some other was (sym is ∙ there)) keeps
+
+  with_nothing : (other : List ℕ) → mbox.content ≡ Some other → mbox'.content ≡ mbox.content → Keeps file'.content (with_open rows (intent_of other uid text)) → LeavesEntry was rows uid text mbox' file'
+  with_nothing other is same keeps = inr ([], entry_of text, refl, same ∙ there ∙ ap Some (sym (append-nil was)), open_for other is keeps)
+
+  -- no intent was saved; or it was closed again, unless that was refused
+  unopened : (file' ≡ file) ⊎ IsTakenBack mbox file rows uid text file' → mbox'.content ≡ mbox.content → LeavesEntry was rows uid text mbox' file'
+  unopened (inl is) same = inl (same ∙ there, rw is (steadies file.content (none_open rows) steady))
+  unopened (inr (other, is, opened, saves, inl closes)) same = inl (same ∙ there, steadies file'.content (none_open rows) (closes.1 (saves.1 steady)))
+  unopened (inr (other, is, opened, saves, inr closes)) same =
+      ⊎_elim (with_nothing other is same) (λ new. inl (same ∙ there, new)) (unsaved opened (with_open rows (intent_of other uid text)) (none_open rows) SeenRefused file' closes (saves.1 steady))
+
+  leaves_entry : (fault : Fault) → RefusesEntry mbox file rows uid text fault mbox' file' → LeavesEntry was rows uid text mbox' file'
+  leaves_entry (StoreRefused why.Missing) (none, same, is) = unopened (inl is) (same_content same)
+  leaves_entry (StoreRefused why.Refused) (inl (same, how)) = unopened how (same_content same)
+  leaves_entry (StoreRefused why.Refused) (inr ((other, is, saves), (bytes, front, behind, goes_on, entry, now))) = inr (
+    front,
+    behind,
+    entry,
+    rw (now, same_Some bytes was (sym goes_on.0 ∙ there)) refl,
+    open_for other is (steadies file'.content (with_open rows (intent_of other uid text)) (saves.1 steady)),
+  )
+  leaves_entry (StoreRefused why.NotMbox) (other, same, back) = unopened (inr back) (same_content same)
+  leaves_entry SeenRefused (same, (other, is, saves)) =
+      ⊎_elim (λ old. inl (same_content same ∙ there, old)) (with_nothing other is (same_content same)) (unsaved file (none_open rows) (with_open rows (intent_of other uid text)) SeenRefused file' saves steady)
+  leaves_entry NoMemory (inl (same, how)) = unopened how (same_content same)
+  leaves_entry NoMemory (inr (how, (other, is, saves))) = with_nothing other is (grind (arith, how)) (steadies file'.content (with_open rows (intent_of other uid text)) (saves.1 steady))
+  leaves_entry other never = absurd never
+
+-- ---- the account that a session left, and what it found
+
+abbrev pub bytes_settled : List Item → RecordState → Stored → List ℕ
+bytes_settled items held mbox = (settled items (mbox_holds held mbox)).file
+
+-- the tasks are those of an account with an empty Maildir: no message counts as held
+abbrev pub mbox_inputs : Settings → ℕ → RecordState → Stored → List Item → Inputs
+mbox_inputs settings now held mbox items = record { settings = settings; account = []; items = items; now = now; maildir = no_maildir; rows = (settled items (mbox_holds held mbox)).rows }
+
+pub record MboxLeads (settings : Settings) (now : ℕ) (held : RecordState) (mbox : Stored) (result : Result (Unit {0}) Cut) (c : Course) (mbox' : Stored) (content' : Option (List ℕ)) : Type 0 where
+  pub full : List Done
+  pub noted : List Done
+  pub tally : Tally (mbox_inputs settings now held mbox c.items) result c full noted (Unit {0})
+  pub intent' : Option Intent
+  pub keeps : Keeps content' (record_state (rows_after (mbox_inputs settings now held mbox c.items) noted) intent')
+  pub marks : ((count noted ≡ count c.taken) × AllRecorded settings (mbox_holds held mbox) (effect_of now (is_ended result) c) (count c.taken) (mbox_holds (record_state (rows_after (mbox_inputs settings now held mbox c.items) noted) intent') mbox'))
+      ⊎ LastUnrecorded settings (mbox_holds held mbox) (effect_of now (is_ended result) c) (count c.taken) (count noted) (mbox_holds (record_state (rows_after (mbox_inputs settings now held mbox c.items) noted) intent') mbox')
+  pub closed : is_ended result ≡ true → intent' ≡ None
+
+-- nothing was asked for: the record is as it was, and the file is as it was, or settled
+pub record Rests (now : ℕ) (result : Result (Unit {0}) Cut) (c : Course) (held : RecordState) (mbox mbox' : Stored) (content' : Option (List ℕ)) : Type 0 where
+  pub none : begun_of c ≡ []
+  pub untaken : c.taken ≡ []
+  pub keeps : Keeps content' held
+  pub leaves : MboxLeaves (mbox_holds held mbox) (effect_of now (is_ended result) c) (mbox_holds held mbox')
+
+-- ---- settling, as the session and as the law over runs has it
+
+same_settled : (intent : Option Intent) (items : List Item) (bytes : List ℕ)
+    → (is_stored intent items bytes ≡ Law.is_stored intent items bytes) × (closed_file intent items bytes ≡ Law.closed_file intent items bytes)
+same_settled intent items bytes = (grind arith, grind arith)
+
+module _ (laws : Laws) (settings : Settings) (now : ℕ) (held : RecordState) (mbox : Stored) where
+  abbrev q : List Item → Inputs
+  q items = mbox_inputs settings now held mbox items
+
+  abbrev MboxLeading : Result (Unit {0}) Cut → Course → Stored → Option (List ℕ) → Type 0
+  MboxLeading result c mbox' content' = MboxLeads settings now held mbox result c mbox' content'
+
+  module _ {result : Result (Unit {0}) Cut} {c : Course} {mbox' : Stored} {content' : Option (List ℕ)} (l : MboxLeading result c mbox' content') where
+    -- what the law over runs takes
+    abbrev pub mbox_figures : MboxCounted settings (mbox_holds held mbox) (effect_of now (is_ended result) c) (mbox_holds (record_state (rows_after (q c.items) l.noted) l.intent') mbox')
+    mbox_figures = record {
+      k = count c.taken;
+      j = count l.noted;
+      number = rw (tally_number laws (q c.items) l.tally) (or_less l.tally.number);
+      rows = records_part laws (q c.items) l.noted l.tally.part;
+      marks = l.marks;
+      begun = tally_begun laws (q c.items) l.tally;
+      ended = λ is. ((l.tally.ends is).1, l.closed is);
+    }
+
+  -- ---- of tasks
+
+  module _ (items : List Item) where
+    abbrev bytes_after : List Done → List ℕ
+    bytes_after dones = bytes_settled items held mbox ++ entries (texts_by dones)
+
+    bytes_are : {result : Result (Unit {0}) Cut} {taken full noted : List Done} {spare : List WholeReply} {under : List Task}
+        → Tally (q items) result (course items taken spare under) full noted (Unit {0}) → (more : List (List ℕ)) → texts_by full ≡ texts_by taken ++ more
+        → bytes_at (mbox_holds held mbox) (effect_of now (is_ended result) (course items taken spare under)) (count taken) ≡ bytes_after taken
+    bytes_are {taken = taken} t more texts = ap (λ (ts : List (List ℕ)). bytes_settled items held mbox ++ entries ts) (front_texts _ more taken (ap (map text_found) t.found ∙ texts))
+
+    -- no intent is open
+    lead_closed : {result : Result (Unit {0}) Cut} {taken full : List Done} {spare : List WholeReply} {under : List Task}
+        → Tally (q items) result (course items taken spare under) full taken (Unit {0}) → (mbox' : Stored) (content' : Option (List ℕ)) (more : List (List ℕ)) → texts_by full ≡ texts_by taken ++ more
+        → Keeps content' (none_open (rows_after (q items) taken)) → mail_in mbox'.content ≡ bytes_after taken → MboxLeading result (course items taken spare under) mbox' content'
+    lead_closed t mbox' content' more texts keeps file = record {
+      full = _;
+      noted = _;
+      tally = t;
+      intent' = None;
+      keeps = keeps;
+      marks = inl (refl, record { text = []; front = []; behind = []; file = file ∙ sym (bytes_are t more texts) ∙ sym (append-nil _); ending = inl (refl, refl) });
+      closed = λ is. refl;
+    }
+
+    module _ {tasks : List Task} {old : Scene} (starts : Starts (q items) tasks old) (same_mbox : old.store.mbox.content ≡ Some (bytes_settled items held mbox)) where
+      -- what there was after the tasks that were done
+      content_after : (dones : List Done) (mid : Scene) → Went AsEntries dones old mid → Part (tasks_on (q items)) dones → mid.store.mbox.content ≡ Some (bytes_after dones)
+      content_after dones mid went part =
+          rw (went.stored.content, same_mbox, texts_same items dones (right_part laws (q items) dones part)) refl
+
+      module _ {cut : Cut} {new : Scene} (fell : Fell AsEntries tasks old cut new) where
+        abbrev MboxStopped : Course → Type 0
+        MboxStopped c = MboxLeading (Err cut) c new.store.mbox new.file.content
+
+        mid_content : fell.mid.store.mbox.content ≡ Some (bytes_after fell.dones)
+        mid_content = content_after fell.dones fell.mid fell.went (part_done laws (q items) starts fell)
+
+        same_held : (content : Option (List ℕ)) (intent : Option Intent) → Keeps content (record_state fell.mid.rows intent) → Keeps content (record_state (rows_after (q items) fell.dones) intent)
+        same_held content intent keeps = rw (← mid_rows laws (q items) starts fell.dones fell.mid fell.went) keeps
+
+        -- nothing more was recorded or appended
+        mbox_still : {spare : List WholeReply} {under : List Task} → Tally (q items) (Err cut) (course items fell.dones spare under) fell.dones fell.dones (Unit {0})
+            → new.store.mbox.content ≡ fell.mid.store.mbox.content → new.file ≡ fell.mid.file → MboxStopped (course items fell.dones spare under)
+        mbox_still t same file = lead_closed t new.store.mbox new.file.content [] (sym (append-nil _)) (rw file (mid_keeps laws (q items) starts fell.dones fell.mid fell.went)) (ap mail_in (same ∙ mid_content))
+
+        -- the next task retrieved a text
+        module _ (number : ℕ) (uid : List ℕ) (reply : WholeReply) (is : fell.next ≡ stores number uid) (answered : IsAnswered (stored_done number uid reply)) where
+          abbrev text : List ℕ
+          text = body_text reply.body
+
+          abbrev with_next : List Done
+          with_next = fell.dones ++ stored_done number uid reply ∷ []
+
+          full_texts : texts_by with_next ≡ texts_by fell.dones ++ text ∷ []
+          full_texts = rw (full_found laws (q items) starts fell number uid reply is answered) (map-append text_found (found_by fell.dones) ((number, text) ∷ []))
+
+          -- its intent is open after the entries of the tasks that were done
+          opens : (taken : List Done) (spare : List WholeReply) (under : List Task) → map text_found (found_of (course items taken spare under)) ≡ texts_by with_next
+              → OpensAt settings (mbox_holds held mbox) (effect_of now false (course items taken spare under)) (count fell.dones) text (mbox_holds (record_state (rows_after (q items) fell.dones) (Some (intent_of (bytes_after fell.dones) uid text))) new.store.mbox)
+          opens taken spare under texts =
+              -- its message is the next of the wanted ones
+              let next = mapped_at key (messages_on (q items)) (count fell.dones) (number, uid)
+              (rw (← wanted_are laws (q items), (part_done laws (q items) starts fell).split, is, flat_map-append fetched_in (tasks_of fell.dones) (stores number uid ∷ fell.later), ← same_length fell.dones fell.went.each)
+              (at_length (fetched (tasks_of fell.dones)) (number, uid) (fetched fell.later))) in
+              let are = texts ∙ full_texts in
+              record {
+                message = next.0;
+                wanted = next.1;
+                got = rw (are, ← length-map (found_by fell.dones) text_found) (at_length (texts_by fell.dones) text []);
+                intent = rw (front_texts _ (text ∷ []) fell.dones are) (ap (λ (k : ℕ × List ℕ). Some (intent_of (bytes_after fell.dones) k.1 text)) (sym next.2));
+              }
+
+          -- its entry wasn't appended, or only a prefix of it
+          refused : LeavesEntry (bytes_after fell.dones) fell.mid.rows uid text new.store.mbox new.file → MboxStopped (course items fell.dones (reply ∷ []) (fell.next ∷ []))
+          refused (inl (same, keeps)) =
+              lead_closed (tally_spare laws (q items) starts fell number uid reply is answered tt) new.store.mbox new.file.content (text ∷ []) full_texts (same_held _ _ keeps) (ap mail_in same)
+          refused (inr (front, behind, entry, now_is, keeps)) =
+              let t = tally_spare laws (q items) starts fell number uid reply is answered tt in
+              record {
+                full = with_next;
+                noted = fell.dones;
+                tally = t;
+                intent' = _;
+                keeps = same_held _ _ keeps;
+                marks = inl (refl, record { text = text; front = front; behind = behind; file = rw (bytes_are t (text ∷ []) full_texts) (ap mail_in now_is); ending = inr (opens fell.dones (reply ∷ []) (fell.next ∷ []) (ap (map text_found) t.found), entry) });
+                closed = not_ended;
+              }
+
+        -- its entry was appended, and the record is one of two
+        mbox_unsaved : (u : EntryNotSaved fell.next fell.mid new cut) → MboxStopped (course items (fell.dones ++ stored_done u.number u.uid u.reply ∷ []) [] [])
+        mbox_unsaved u =
+            let (was, there, between, first, second) = u.saves in
+            let all : List Done = fell.dones ++ stored_done u.number u.uid u.reply ∷ [] in
+            let content : new.store.mbox.content ≡ Some (bytes_after all) =
+            rw (u.stored.content, mid_content, full_texts u.number u.uid u.reply u.is u.talked.good, flat_map-append entry_of (texts_by fell.dones) (body_text u.reply.body ∷ []), append_assoc (bytes_settled items held mbox) (entries (texts_by fell.dones)) (entries (body_text u.reply.body ∷ []))) refl in
+            elim (laws.unsaved between (with_open fell.mid.rows (intent_of was u.uid (body_text u.reply.body))) (none_open (marked fell.mid.rows u.uid)) cut.fault new.file second (first.1 (fell.went.saved starts.steady))) [
+              | inl old_one ↦
+                  let t = tally_old laws (q items) starts fell u.number u.uid u.reply u.is u.talked.good
+                  (grind (arith, second)) in
+                  record {
+                    full = all;
+                    noted = fell.dones;
+                    tally = t;
+                    intent' = _;
+                    keeps = rw (← same_Some was (bytes_after fell.dones) (sym there ∙ mid_content)) (same_held _ _ old_one);
+                    marks = inr (record {
+                      one_less = one_found laws (q items) starts fell u.number u.uid u.reply u.is u.talked.good;
+                      text = body_text u.reply.body;
+                      file = rw (bytes_are t [] (sym (append-nil (texts_by all)))) (ap mail_in content);
+                      opens = opens u.number u.uid u.reply u.is u.talked.good all [] [] (ap (map text_found) t.found);
+                    });
+                    closed = not_ended;
+                  }
+              | inr new_one ↦
+                  lead_closed (tally_new laws (q items) starts fell u.number u.uid u.reply u.is u.talked.good) new.store.mbox new.file.content [] (sym (append-nil _))
+                  (rw (← full_rows laws (q items) starts fell u.number u.uid u.reply u.is u.talked.good) new_one) (ap mail_in content)
+            ]
+
+        mbox_stopped : (stops : Stops AsEntries fell.next fell.mid cut new) → MboxStopped (course_stopped AsEntries items fell.dones fell.next fell.mid new cut stops)
+        mbox_stopped (inl broken) = mbox_still (tally_no_line laws (q items) starts fell) (ap (λ (s : Stores). s.mbox.content) broken.store) broken.file
+        mbox_stopped (inr (inl (inl wanting))) = mbox_still (tally_no_line laws (q items) starts fell) (ap (λ (s : Stores). s.mbox.content) wanting.store) wanting.file
+        mbox_stopped (inr (inl (inr (inl r)))) =
+            refused r.number r.uid r.reply r.is r.talked.good
+            (leaves_entry laws.steady laws.unsaved (bytes_after fell.dones) fell.mid.store.mbox fell.mid.file fell.mid.rows r.uid (body_text r.reply.body) new.store.mbox new.file mid_content (fell.went.saved starts.steady) cut.fault r.refuses)
+        mbox_stopped (inr (inl (inr (inr stays)))) =
+            mbox_still (tally_recorded laws (q items) fell.dones (part_done laws (q items) starts fell) not_ended) (let looked = stays.refuses.2 in grind (arith, looked)) stays.file
+        mbox_stopped (inr (inr u)) = mbox_unsaved u
+
+      mbox_does_leads : (result : Result (Unit {0}) Cut) (new : Scene) (does : Does AsEntries tasks old result new)
+          → MboxLeading result (course_does AsEntries items tasks old new result does) new.store.mbox new.file.content
+      mbox_does_leads (Ok done) new went =
+          lead_closed (tally_all laws (q items) starts went.dones new went.all went.went) new.store.mbox new.file.content [] (sym (append-nil _))
+          (mid_keeps laws (q items) starts went.dones new went.went) (ap mail_in (content_after went.dones new went.went (part_all laws (q items) starts went.dones new went.all went.went)))
+      mbox_does_leads (Err cut) new fell = mbox_stopped fell fell.stops
+
+-- ---- of a session
+
+module _ (laws : Laws) (settings : Settings) (now : ℕ) (before : Keeping) (held : RecordState) (keeps : Keeps before.file.content held) where
+  closed_is : (was : RecordState) (bytes : List ℕ) (items : List Item) → Keeps before.file.content was → before.store.mbox.content ≡ Some bytes → closed_file was.intent items bytes ≡ bytes_settled items held before.store.mbox
+  closed_is was bytes items stood is = rw (same_record laws.one before.file.content was held stood keeps, is) (same_settled held.intent items bytes).1
+
+  rows_are : (was : RecordState) (items : List Item) → Keeps before.file.content was → rows_in AsEntries before.store was items ≡ (settled items (mbox_holds held before.store.mbox)).rows
+  rows_are was items stood = rw (same_record laws.one before.file.content was held stood keeps, (same_settled held.intent items (mail_in before.store.mbox.content)).0) refl
+
+  settled_content : (was : RecordState) (items : List Item) (new : Stores) → Keeps before.file.content was → Settles AsEntries was items before.store new → new.mbox.content ≡ Some (bytes_settled items held before.store.mbox)
+  settled_content was items new stood (bytes, is, settled, goes_on) = rw (settled, closed_is was bytes items stood is) refl
+
+  abbrev Left : Result (Unit {0}) Cut → Course → Stored → Option (List ℕ) → Type 0
+  Left result c mbox' content' = Rests now result c held before.store.mbox mbox' content' ⊎ MboxLeads settings now held before.store.mbox result c mbox' content'
+
+  pub course_leaves : (old : _) (result : Result (Unit {0}) Cut) (new : _) (after : Keeping) (notes : Noted) (is : Proceeds settings AsEntries now old before result new after notes)
+      → CourseLeads (λ (c : Course). Left result c after.store.mbox after.file.content) result before after notes.lines (course_proceeded settings AsEntries now old before result new after notes is)
+  course_leaves old result new after notes is =
+      by_course settings AsEntries now before (λ r c store file. Left r c store.mbox file.content)
+      (λ items place cut new is.
+      let rests : Keeps new.file.content held → (mail_in new.store.mbox.content ≡ mail_in before.store.mbox.content) ⊎ (mail_in new.store.mbox.content ≡ bytes_settled items held before.store.mbox)
+      → Rests now (Err cut) (course items [] [] []) held before.store.mbox new.store.mbox new.file.content =
+      λ stands mail. record { none = refl; untaken = refl; keeps = stands; leaves = record { rows = refl; intent = refl; file = mail; begun = refl; ended = refl } } in
+      elim is.unready.content [
+        | inl content ↦ inl (let by_cause : IsSettledBy items before.file before.store.mbox new.store.mbox = grind (arith, is.unready.cause) in rests (rw content keeps) (elim by_cause [
+          | inl same ↦ inl (ap mail_in same)
+          | inr (was, stood, inl same) ↦ inl (ap mail_in same)
+          | inr (was, stood, inr (bytes, there, settled)) ↦ inr (ap mail_in settled ∙ closed_is was bytes items stood there)
+        ]))
+        | inr (was, stood, settled, inl stays) ↦ inl (rests (rw (← same_record laws.one before.file.content was held stood keeps) stays) (inr (ap mail_in (settled_content was items new.store stood settled))))
+        | inr (was, stood, settled, inr merges) ↦
+            inr (lead_closed laws settings now held before.store.mbox items (tally_none laws (mbox_inputs settings now held before.store.mbox items)) new.store.mbox new.file.content [] refl
+            (rw (← rows_are was items stood) merges) (ap mail_in (settled_content was items new.store stood settled) ∙ sym (append-nil _)))
+      ])
+      (λ items place result new skipped is.
+      let rows : is.mid.rows ≡ rows_on (mbox_inputs settings now held before.store.mbox items) = rw (is.prepared.rows, rows_are is.prepared.was items is.prepared.stood) refl in
+      let starts : Starts (mbox_inputs settings now held before.store.mbox items) (tasks_for settings AsEntries items now before.store is.mid.rows) is.mid =
+      record { tasks_are = ap (tasks_for settings AsEntries items now before.store) rows; rows = rows; steady = is.prepared.saved } in
+      inr (mbox_does_leads laws settings now held before.store.mbox items starts (settled_content is.prepared.was items is.mid.store is.prepared.stood is.prepared.settles) result new is.does)) old result new after notes is

@@ -108,15 +108,8 @@ pub record SpeaksByPlan (settings : Settings) (account : List ℕ) (now : ℕ) (
   pub commands : List Command
   pub asked : Asked commands sent
   pub front : IsFrontOfPlan (string_bytes settings.username) (string_bytes settings.password) (planned settings rows items now) commands
-  pub hello : WholeReply
-  pub user : WholeReply
-  pub pass : WholeReply
-  pub stat : WholeReply
-  pub uidl : WholeReply
-  pub list : WholeReply
-  pub more : List WholeReply
-  pub replies : said.replies ≡ hello ∷ user ∷ pass ∷ stat ∷ uidl ∷ list ∷ more
-  pub listed : IsListed stat uidl list items
+  pub listed : (hello user pass stat uidl list : WholeReply) × (more : List WholeReply)
+      × (said.replies ≡ hello ∷ user ∷ pass ∷ stat ∷ uidl ∷ list ∷ more) × IsListed stat uidl list items
   pub counts : CountsTexts report.outcome said.done said.begun report.retrieved
   pub ended : report.outcome ≡ Ended → (said.begun ≡ []) × (said.later ≡ [])
 

@@ -91,4 +91,5 @@ FrontsAreSessions = (world : World) (state : State AccountFiles) (occasion : Occ
     uncut.items uncut.ready left)
     × ((report : Report) → Reports (WasCut there.fault) (length uncut.items)
     (skips_planned occasion.settings uncut.ready.rows uncut.items occasion.now) there.lines report
-    → IsStopped world state (cut_at occasion there.cut there.after report) left)
+    → IsStopped (IsSession world state (cut_at occasion there.cut there.after report)) HasTheSameFiles
+    (cut_at occasion there.cut there.after report) left)

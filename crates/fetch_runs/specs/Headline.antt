@@ -56,8 +56,8 @@ pub record Occasion (Account : Type 0) : Type 0 where
   pub vanished : List (List ℕ)
 
 -- the maildrop of an occasion
-abbrev pub maildrop_at : World → State AccountFiles → Occasion AccountFiles → List Message
-maildrop_at world state occasion = maildrop_of world.all occasion.come state.gone
+abbrev pub maildrop_at : {Account : Type 0} → List Message → List (List ℕ) → Occasion Account → List Message
+maildrop_at all gone occasion = maildrop_of all occasion.come gone
 
 -- it was a session, whatever cut it, and all that its link gained came from an honest server with this maildrop
 pub record IsSession (world : World) (state : State AccountFiles) (occasion : Occasion AccountFiles) : Type 0 where
@@ -65,7 +65,7 @@ pub record IsSession (world : World) (state : State AccountFiles) (occasion : Oc
   pub session : Session occasion.settings (digits_of occasion.settings) occasion.now occasion.link state.account
       occasion.report occasion.link' occasion.after
   pub served : (sent got : List ℕ) → occasion.link'.sent ≡ occasion.link.sent ++ sent → occasion.link'.got ≡ occasion.link.got ++ got
-      → Served (maildrop_at world state occasion) sent got occasion.vanished
+      → Served (maildrop_at world.all state.gone occasion) sent got occasion.vanished
 
 -- the record's file still stands for the rows that it stood for
 abbrev pub KeepsRecord : AccountFiles → AccountFiles → Type 0
@@ -173,7 +173,7 @@ IsHeldAfter world state occasion id = (is_held world.account occasion.after.mail
 -- the message could be fetched, but comes after the first `max_count` that could; 0 is no limit
 abbrev pub IsPastCount : World → State AccountFiles → Occasion AccountFiles → Message → Type 0
 IsPastCount world state occasion message =
-    let listing = listing_of (maildrop_at world state occasion) in
+    let listing = listing_of (maildrop_at world.all state.gone occasion) in
     (rows : List Row) × KeepsRows state.account.file.content rows
     × (is_past_count occasion.settings (merged rows listing (flags_of world.account state.account.maildir listing) occasion.now)
     listing message.uid ≡ true)
@@ -185,7 +185,7 @@ LeavesOutOnlyBeyondLimits world state occasion = occasion.report.outcome ≡ End
     IsHeldAfter world state occasion message.uid
     ⊎ (is_selected world.max_size message ≡ false)
     ⊎ IsPastCount world state occasion message)
-    (maildrop_at world state occasion)
+    (maildrop_at world.all state.gone occasion)
 
 -- a DELE gives the number, counted from 1, of a message of the maildrop whose id is of this kind; no other command deletes
 abbrev pub DeletesOneOf : List Message → (List ℕ → Type 0) → Command → Type 0
@@ -201,7 +201,7 @@ pub record DeletesOnly {Account : Type 0} (occasion : Occasion Account) (maildro
 
 -- each DELE is for a message that is held when the session returns, or was taken away before it began
 abbrev pub DeletesOnlyHeld : World → State AccountFiles → Occasion AccountFiles → Type 0
-DeletesOnlyHeld world state occasion = DeletesOnly occasion (maildrop_at world state occasion) (IsHeldAfter world state occasion)
+DeletesOnlyHeld world state occasion = DeletesOnly occasion (maildrop_at world.all state.gone occasion) (IsHeldAfter world state occasion)
 
 -- files of other names stay
 abbrev pub OthersStay : World → State AccountFiles → State AccountFiles → Type 0
@@ -305,8 +305,8 @@ pub record IsWordForWord (world : World) (state : State AccountFiles) (occasion 
   pub left_out : occasion.report.outcome ≡ Ended → AllByRecursion (λ (message : Message).
       (is_held world.account occasion.after.maildir message.uid ≡ true)
       ⊎ (is_selected world.max_size message ≡ false) ⊎ IsPastCount world state occasion message)
-      (maildrop_at world state occasion)
-  pub deletes : DeletesOnly occasion (maildrop_at world state occasion) (λ id. is_held world.account occasion.after.maildir id ≡ true)
+      (maildrop_at world.all state.gone occasion)
+  pub deletes : DeletesOnly occasion (maildrop_at world.all state.gone occasion) (λ id. is_held world.account occasion.after.maildir id ≡ true)
 
 abbrev pub SaysTheSentence : World → State AccountFiles → Event Occasion AccountFiles → Type 0
 SaysTheSentence world state (Fetched occasion) = IsWordForWord world state occasion
@@ -367,13 +367,14 @@ NewProcessesAreBetween = (world : World) (before after : AccountFiles) → HasTh
 
 -- a program was stopped in a session: the files are as that session leaves them if every call is refused from
 -- that moment on, the first of them with or without effect. That is a session that was cut
-pub record IsStopped (world : World) (state : State AccountFiles) (occasion : Occasion AccountFiles) (left : AccountFiles) : Type 0 where
-  pub session : IsSession world state occasion
+pub record IsStopped {Account : Type 0} (Happened : Type 0) (AreSame : Account → Account → Type 0) (occasion : Occasion Account)
+    (left : Account) : Type 0 where
+  pub session : Happened
   pub cut : occasion.report.outcome ≢ Ended
-  pub files : HasTheSameFiles occasion.after left
+  pub files : AreSame occasion.after left
 
 -- so a stop is a run: the session, and then a new process
 abbrev pub StopsAreRuns : Type 0
 StopsAreRuns = (world : World) (state : State AccountFiles) (occasion : Occasion AccountFiles) (left : AccountFiles)
-    → IsStopped world state occasion left
+    → IsStopped (IsSession world state occasion) HasTheSameFiles occasion left
     → IsRun world state (Fetched occasion ∷ Between left ∷ [])

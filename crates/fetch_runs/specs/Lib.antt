@@ -1,15 +1,7 @@
-pub mod AnyServer
 pub mod Conversations
 pub mod Fronts
 pub mod Headline
-pub mod HonestSession
-pub mod MboxAnyServer
 pub mod MboxHeadline
-pub mod MboxHonestSession
-pub mod MboxRuns
-pub mod MboxSteps
-pub mod MboxTexts
 pub mod Power
-pub mod PowerRuns
 pub mod Runs
 pub mod Steps

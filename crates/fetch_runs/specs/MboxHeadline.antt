@@ -5,9 +5,9 @@
 -- next entry is left, and only what its limits exclude is left out; and DELE was sent only for messages whose
 -- entry is whole. What was recorded as delivered before the first session counts as entered here; what was withdrawn from
 -- the server before it was fetched isn't part of its mail; and after others wrote the file the sentence begins anew.
-use Rattle.std.specs.Prelude.{◌≡◌, ◌≢◌, ◌⊎◌, ℕ, true, false, List, [], ◌∷◌, ◌++◌, None}
+use Rattle.std.specs.Prelude.{◌≡◌, ◌⊎◌, ℕ, true, false, List, [], ◌∷◌, ◌++◌, None}
 use Rattle.std.specs.List.{AllByRecursion}
-use Rattle.pop3_wire.specs.World.{Message, IsWorld, maildrop_of}
+use Rattle.pop3_wire.specs.World.{Message, IsWorld}
 use Rattle.mail_terms.specs.UniqueId.{has_id}
 use Rattle.rc_file.specs.Settings.{IsValid}
 use Rattle.rc_file.specs.declared.settings.Settings.{Settings}
@@ -23,8 +23,8 @@ use Rattle.run_law.specs.MboxRuns.{MboxEvent, Fetched, Between, Expired, Withdra
 use Rattle.run_law.specs.MboxRuns.{after_mbox_event, after_mbox_events, mbox_world_after, mbox_world_left}
 use Rattle.run_law.specs.Runs.{is_past_count}
 use Rattle.run_law.specs.Sessions.{Served}
-use Rattle.fetch_runs.specs.Headline.{Occasion, DeletesOnly}
-use Rattle.fetch_runs.specs.MboxSteps.{mbox_holds}
+use Rattle.fetch_runs.specs.Headline.{Occasion, DeletesOnly, maildrop_at, IsStopped}
+use Rattle.fetch_runs.specs.Steps.{mbox_holds}
 
 -- What stays throughout, but where others write the file or messages are withdrawn, is an `MboxWorld`: the file before the
 -- first session, the messages that were recorded as delivered then, the limit on sizes, and all mail that ever comes, in
@@ -40,16 +40,12 @@ pub record AreSettings (world : MboxWorld) (settings : Settings) : Type 0 where
 
 -- An `MboxEvent` is a session, or what happens between sessions.
 
--- the maildrop of an occasion
-abbrev pub maildrop_at : MboxWorld → MboxState MboxAccountFiles → Occasion MboxAccountFiles → List Message
-maildrop_at world state occasion = maildrop_of world.all occasion.come state.gone
-
 -- it was a session, whatever cut it, and all that its link gained came from an honest server with this maildrop
 pub record IsMboxSession (world : MboxWorld) (state : MboxState MboxAccountFiles) (occasion : Occasion MboxAccountFiles) : Type 0 where
   pub settings : AreSettings world occasion.settings
   pub session : MboxSession occasion.settings occasion.now occasion.link state.account occasion.report occasion.link' occasion.after
   pub served : (sent got : List ℕ) → occasion.link'.sent ≡ occasion.link.sent ++ sent → occasion.link'.got ≡ occasion.link.got ++ got
-      → Served (maildrop_at world state occasion) sent got occasion.vanished
+      → Served (maildrop_at world.all state.gone occasion) sent got occasion.vanished
 
 -- the record's file still stands for the record that it stood for, and the mboxrd file has the same bytes. The
 -- counts of refusals may have changed
@@ -114,7 +110,7 @@ IsEntered world state id = (has_id (ids_of world.had) id ≡ true) ⊎ HasEntry 
 -- the message could be fetched, but comes after the first `max_count` that could; 0 is no limit
 abbrev pub IsPastCount : MboxWorld → MboxState MboxAccountFiles → Occasion MboxAccountFiles → Message → Type 0
 IsPastCount world state occasion message =
-    let listing = listing_of (maildrop_at world state occasion) in
+    let listing = listing_of (maildrop_at world.all state.gone occasion) in
     (record_state : RecordState) × Keeps state.account.file.content record_state
     × (is_past_count occasion.settings
     (merged (settled listing (mbox_holds record_state state.account.mbox)).rows listing (none_held listing) occasion.now) listing
@@ -131,12 +127,12 @@ pub record EndsWhole (world : MboxWorld) (state : MboxState MboxAccountFiles) (o
   pub left_out : AllByRecursion (λ (message : Message). IsEntered world occasion.after message.uid
       ⊎ (is_selected world.max_size message ≡ false)
       ⊎ IsPastCount world state occasion message)
-      (maildrop_at world state occasion)
+      (maildrop_at world.all state.gone occasion)
 
 -- each DELE is for a message whose whole entry is in the file when the session returns, or that was recorded before the
 -- first session
 abbrev pub DeletesOnlyEntered : MboxWorld → MboxState MboxAccountFiles → Occasion MboxAccountFiles → Type 0
-DeletesOnlyEntered world state occasion = DeletesOnly occasion (maildrop_at world state occasion) (IsEntered world occasion.after)
+DeletesOnlyEntered world state occasion = DeletesOnly occasion (maildrop_at world.all state.gone occasion) (IsEntered world occasion.after)
 
 -- nothing is promised of what others do
 abbrev pub MboxPromised : MboxWorld → MboxState MboxAccountFiles → MboxEvent Occasion MboxAccountFiles → Type 0
@@ -206,16 +202,8 @@ pub record HasTheSameBytes (before after : MboxAccountFiles) : Type 0 where
   pub mbox : after.mbox.content ≡ before.mbox.content
   pub content : after.file.content ≡ before.file.content
 
--- a program was stopped in a session: the files are as that session leaves them if every call is refused from
--- that moment on, the first of them with or without effect. That is a session that was cut
-pub record IsMboxStopped (world : MboxWorld) (state : MboxState MboxAccountFiles) (occasion : Occasion MboxAccountFiles)
-    (left : MboxAccountFiles) : Type 0 where
-  pub session : IsMboxSession world state occasion
-  pub cut : occasion.report.outcome ≢ Ended
-  pub files : HasTheSameBytes occasion.after left
-
--- so a stop is a run: the session, and then a new process
+-- a stop of a program in a session is a run: the session, and then a new process
 abbrev pub MboxStopsAreRuns : Type 0
 MboxStopsAreRuns = (world : MboxWorld) (state : MboxState MboxAccountFiles) (occasion : Occasion MboxAccountFiles) (left : MboxAccountFiles)
-    → IsMboxStopped world state occasion left
+    → IsStopped (IsMboxSession world state occasion) HasTheSameBytes occasion left
     → IsMboxRun world state (Fetched occasion ∷ Between left ∷ [])

@@ -6,12 +6,14 @@ use Rattle.pop3_wire.specs.World.{Message, maildrop_of}
 use Rattle.rc_file.specs.declared.settings.Settings.{Settings}
 use Rattle.fetch_session.specs.declared.report.Report.{Report}
 use Rattle.fetch_session.specs.Account.{digits_of}
-use Rattle.fetch_session.specs.Session.{AccountFiles, Session, account_files}
+use Rattle.fetch_session.specs.Session.{AccountFiles, Session, account_files, MboxAccountFiles, MboxSession}
 use Rattle.mail_store.specs.Maildir.{AfterTaking, File, Maildir}
 use Rattle.run_law.specs.Sessions.{Fact, Served}
 use Rattle.fetch_runs.specs.declared.run.Visit.{Visit}
 use Rattle.fetch_runs.specs.Headline.{Occasion, AreTaken, after_session, HoldsAPrefix, Promised, IsKept}
 use Rattle.run_law.specs.Runs.{State, World, Event, Fetched, after_events}
+use Rattle.run_law.specs.MboxRuns.{MboxState, MboxWorld, Fetched as InMbox}
+use Rattle.fetch_runs.specs.MboxHeadline.{after_session as after_mbox, HoldsEntries, MboxPromised, IsMboxKept}
 
 -- the links of these visits do what is promised of links
 abbrev pub AreSound : {W : Type 0} → (W → Type 0) → List (Visit W) → Type 0
@@ -23,10 +25,7 @@ abbrev pub RunsBy : {W K : Type 0} → (Visit W → K → Report → Visit W →
 RunsBy Made [] first [] [] last = last ≡ first
 RunsBy {K = K} Made (old ∷ olds) first (report ∷ reports) (new ∷ news) last = (between : K)
     × Made old first report new between × RunsBy Made olds between reports news last
-RunsBy Made [] first (report ∷ reports) news last = ⊥
-RunsBy Made [] first [] (new ∷ news) last = ⊥
-RunsBy Made (old ∷ olds) first [] news last = ⊥
-RunsBy Made (old ∷ olds) first (report ∷ reports) [] last = ⊥
+RunsBy Made olds first reports news last = ⊥
 
 -- the visit was one session at its time, of what readers left
 abbrev pub WasMade : {W : Type 0} → (W → Link) → Settings → List ℕ → Visit W → AccountFiles → Report → Visit W → AccountFiles → Type 0
@@ -97,3 +96,31 @@ ArePromised seen settings world state (old ∷ olds) (report ∷ reports) (new �
     (after_session (after_events after_session state is.takings) (occasion_of seen settings old report new fact is.between))
     olds reports news facts last
 ArePromised seen settings world state olds reports news facts last = ⊥
+
+-- ---- with an mboxrd file
+
+-- the visit was one session at its time
+abbrev pub WasMadeInMbox : {W : Type 0} → (W → Link) → Settings → Visit W → MboxAccountFiles → Report → Visit W → MboxAccountFiles → Type 0
+WasMadeInMbox seen settings old before report new after =
+    MboxSession settings old.now (seen old.wire) before report (seen new.wire) after × (new.now ≡ old.now)
+
+-- each visit was one session at its time, in order, from what the one before left, and has its report
+abbrev pub MboxRuns : {W : Type 0} → (W → Link) → Settings → List (Visit W) → MboxAccountFiles → List Report → List (Visit W)
+    → MboxAccountFiles → Type 0
+MboxRuns seen settings olds first reports news last = RunsBy (WasMadeInMbox seen settings) olds first reports news last
+
+abbrev pub mbox_state : MboxAccountFiles → List (List ℕ) → MboxState MboxAccountFiles
+mbox_state account gone = record { account = account; gone = gone }
+
+-- the mboxrd file is as the headline says before and after each visit, each visit keeps its promises, and the
+-- last state is kept
+abbrev pub AreMboxPromised : {W : Type 0} → (W → Link) → Settings → MboxWorld → MboxState MboxAccountFiles → List (Visit W)
+    → List Report → List (Visit W) → List Fact → MboxAccountFiles → Type 0
+AreMboxPromised seen settings world state [] [] [] [] last = HoldsEntries world state × IsMboxKept world state × (state.account ≡ last)
+AreMboxPromised seen settings world state (old ∷ olds) (report ∷ reports) (new ∷ news) (fact ∷ facts) last =
+    (between : MboxAccountFiles) × MboxSession settings old.now (seen old.wire) state.account report (seen new.wire) between
+    × HoldsEntries world state × MboxPromised world state (InMbox (occasion_of seen settings old report new fact between))
+    × AreMboxPromised seen settings world
+    (after_mbox state (occasion_of seen settings old report new fact between))
+    olds reports news facts last
+AreMboxPromised seen settings world state olds reports news facts last = ⊥

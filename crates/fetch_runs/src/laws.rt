@@ -1,21 +1,16 @@
 //! Laws over what sessions sent and left, for the programs and crates above: a function here does
 //! nothing, and its contract is the law.
-ghost use Rattle.fetch_runs.specs.AnyServer.{AnyServer};
 ghost use Rattle.fetch_runs.specs.Conversations.{MboxSessionsFollowPlans, SessionsAreConversations};
 ghost use Rattle.fetch_runs.specs.Fronts.{FrontsAreSessions, UncutSessionsDoTasks};
 ghost use Rattle.fetch_runs.specs.Headline.{EmptyIsKept, Headline, HeadlineFromEmpty, HeadlineWordForWord};
 ghost use Rattle.fetch_runs.specs.Headline.{LostRecordsAreForgotten, NewProcessesAreBetween, StaysAway};
 ghost use Rattle.fetch_runs.specs.Headline.{StopsAreRuns, TakingsAreEvents};
-ghost use Rattle.fetch_runs.specs.HonestSession.{HonestSessions};
-ghost use Rattle.fetch_runs.specs.MboxAnyServer.{MboxAnyServer};
 ghost use Rattle.fetch_runs.specs.MboxHeadline.{MboxHeadline, MboxHeadlineFromStart, MboxStartIsKept};
 ghost use Rattle.fetch_runs.specs.MboxHeadline.{MboxStopsAreRuns, WritingsAreEvents};
-ghost use Rattle.fetch_runs.specs.MboxHonestSession.{MboxHonestSessions};
-ghost use Rattle.fetch_runs.specs.MboxSteps.{MboxSessionIsAStep};
-ghost use Rattle.fetch_runs.specs.MboxTexts.{MboxSessionsAddTexts};
-ghost use Rattle.fetch_runs.specs.Power.{AllMayBeOnDisk, LossesAreEvents, SessionsAndPower};
-ghost use Rattle.fetch_runs.specs.PowerRuns.{AsMuchIsSure, EventsKeepPower, HeadlineOn, TakingsRunOn};
-ghost use Rattle.fetch_runs.specs.Steps.{SessionIsAStep};
+ghost use Rattle.fetch_runs.specs.Power.{AllMayBeOnDisk, AsMuchIsSure, EventsKeepPower, HeadlineOn};
+ghost use Rattle.fetch_runs.specs.Power.{LossesAreEvents, SessionsAndPower, TakingsRunOn};
+ghost use Rattle.fetch_runs.specs.Steps.{AnyServer, HonestSessions, MboxAnyServer, MboxHonestSessions};
+ghost use Rattle.fetch_runs.specs.Steps.{MboxSessionIsAStep, MboxSessionsAddTexts, SessionIsAStep};
 
 use fetch_rules::{
     appended_counts, bytes_have_one_meaning, files_stand_for_one_record, held_is_delivered,
@@ -52,11 +47,11 @@ pub fn sessions_are_conversations()
     fronts_are_asked();
 }
 
-/// If the record's file stood for a record, a session is a step that the law over runs takes: its link
-/// gained a conversation that follows the plan, and it left the account as that conversation says.
-#[tactic(auto, using(crate::proofs::Bridge::session_is_a_step))]
-pub fn session_is_a_step()
-    ensures { SessionIsAStep }
+// A session is a step that the law over runs takes, with a Maildir and with an mboxrd file.
+#[tactic(auto, using(crate::proofs::Bridge::session_is_a_step, crate::proofs::Bridge::mbox_session_is_a_step))]
+fn sessions_are_steps()
+    ensures maildir { SessionIsAStep }
+    ensures mbox { MboxSessionIsAStep }
 {
     plans_fetch_wanted();
     held_is_delivered();
@@ -68,9 +63,18 @@ pub fn session_is_a_step()
     steady_files_keep();
     unsaved_files_keep();
     counted_stores();
+    mbox_counted_stores();
     turns_join();
     conversations_are_paced();
     fronts_are_asked();
+}
+
+/// If the record's file stood for a record, a session is a step that the law over runs takes: its link
+/// gained a conversation that follows the plan, and it left the account as that conversation says.
+pub fn session_is_a_step()
+    ensures { SessionIsAStep }
+{
+    sessions_are_steps();
 }
 
 /// If the record's file stood for a record, then, whatever its server says, a session loses and changes
@@ -128,7 +132,7 @@ pub fn headline_word_for_word()
 
 /// Whichever files readers take away from a kept state, also during a session, a list of events leads
 /// from it to the state without them.
-#[tactic(auto, using(crate::proofs::Takings::takings_are_events))]
+#[tactic(auto, using(crate::proofs::HeadlineLemmas::takings_are_events))]
 pub fn takings_are_events()
     ensures { TakingsAreEvents }
 {
@@ -143,7 +147,6 @@ pub fn recorded_stay_away()
     ensures { StaysAway }
 {
     headline();
-    worlds_shrink();
 }
 
 /// A loss of power is part of a run, whatever it may leave of the Maildir and of a record's file that can
@@ -167,11 +170,8 @@ pub fn sessions_and_power<D: MaildirDisk, F: FlatFile>()
     ensures { SessionsAndPower D.MaildirDisk F.FlatFile }
 {
     headline();
-    worlds_shrink();
     session_is_a_step();
     links_are_visits();
-    kept_states();
-    holds_what_is_left();
     files_stand_for_one_record();
     bytes_have_one_meaning();
     appended_counts();
@@ -188,6 +188,7 @@ pub fn sessions_and_power<D: MaildirDisk, F: FlatFile>()
 
 /// What devices made anew leave, if it is as much as the last ones left, is kept, also while readers
 /// take files away.
+#[tactic(auto, using(crate::proofs::Power::as_much_is_sure))]
 pub fn as_much_is_sure<D: MaildirDisk, F: FlatFile>()
     ensures { AsMuchIsSure D.MaildirDisk F.FlatFile }
 {
@@ -195,6 +196,7 @@ pub fn as_much_is_sure<D: MaildirDisk, F: FlatFile>()
 }
 
 /// Files that readers take away from a kept state, also during a session, are events over its devices.
+#[tactic(auto, using(crate::proofs::Power::takings_run_on))]
 pub fn takings_run_on<D: MaildirDisk, F: FlatFile>()
     ensures { TakingsRunOn D.MaildirDisk F.FlatFile }
 {
@@ -204,10 +206,10 @@ pub fn takings_run_on<D: MaildirDisk, F: FlatFile>()
 
 /// Each event keeps it, with what its devices keep; a loss of power is an event, and leaves devices from
 /// which it goes on.
+#[tactic(auto, using(crate::proofs::Power::events_keep_power))]
 pub fn events_keep_power<D: MaildirDisk, F: FlatFile>()
     ensures { EventsKeepPower D.MaildirDisk F.FlatFile }
 {
-    headline();
     files_stand_for_one_record();
     losses_are_events::<D, F>();
     all_on_disk::<D, F>();
@@ -246,7 +248,7 @@ pub fn stops_are_runs()
 {}
 
 /// An uncut session of an account with a Maildir did its tasks.
-#[tactic(auto, using(crate::proofs::Fronts::uncut_sessions_do_tasks))]
+#[tactic(auto, using(crate::proofs::TalkConversation::uncut_sessions_do_tasks))]
 pub fn uncut_sessions_do_tasks()
     ensures { UncutSessionsDoTasks }
 {}
@@ -292,23 +294,10 @@ pub fn mbox_sessions_follow_plans()
 /// With an mboxrd file: if the record's file stood for a record, a session is a step that the law
 /// over runs takes: its link gained a conversation that follows the plan, and it left the mboxrd
 /// file and the record as that conversation says.
-#[tactic(auto, using(crate::proofs::Bridge::mbox_session_is_a_step))]
 pub fn mbox_session_is_a_step()
     ensures { MboxSessionIsAStep }
 {
-    plans_fetch_wanted();
-    held_is_delivered();
-    listed_has_row();
-    marked_is_delivered();
-    marked_keeps_rows();
-    flags_tell_what_is_held();
-    files_stand_for_one_record();
-    steady_files_keep();
-    unsaved_files_keep();
-    mbox_counted_stores();
-    turns_join();
-    conversations_are_paced();
-    fronts_are_asked();
+    sessions_are_steps();
 }
 
 /// With an mboxrd file: if the record's file stood for a record, a session that ended got a text
@@ -367,7 +356,7 @@ pub fn mbox_headline()
 
 /// The headline for an mboxrd file may begin with any file, and with a record that has no open intent
 /// and shows exactly a prefix of the selected messages as delivered, as an empty one does.
-#[tactic(auto, using(crate::proofs::MboxHeadlineLemmas::start_is_kept))]
+#[tactic(auto, using(crate::proofs::HeadlineLemmas::start_is_kept))]
 pub fn mbox_start_is_kept()
     ensures { MboxStartIsKept }
 {
@@ -375,7 +364,7 @@ pub fn mbox_start_is_kept()
 }
 
 /// The headline for an mboxrd file from the first session on, with such a record.
-#[tactic(auto, using(crate::proofs::MboxHeadlineLemmas::from_start))]
+#[tactic(auto, using(crate::proofs::HeadlineLemmas::from_start))]
 pub fn mbox_headline_from_start()
     ensures { MboxHeadlineFromStart }
 {
@@ -385,7 +374,7 @@ pub fn mbox_headline_from_start()
 
 /// With an mboxrd file: whatever others do to the file of a kept state while no intent is open is an
 /// event of a run.
-#[tactic(auto, using(crate::proofs::MboxHeadlineLemmas::writings_are_events))]
+#[tactic(auto, using(crate::proofs::HeadlineLemmas::writings_are_events))]
 pub fn mbox_writings_are_events()
     ensures { WritingsAreEvents }
 {
@@ -396,7 +385,7 @@ pub fn mbox_writings_are_events()
 /// With an mboxrd file: a stop of the program, which leaves what a session leaves if all its calls
 /// are refused from that moment on, is part of a run: a session that was cut, and then a new
 /// process.
-#[tactic(auto, using(crate::proofs::MboxHeadlineLemmas::stops_are_runs))]
+#[tactic(auto, using(crate::proofs::HeadlineLemmas::mbox_stops_are_runs))]
 pub fn mbox_stops_are_runs()
     ensures { MboxStopsAreRuns }
 {}

@@ -5,7 +5,7 @@ ghost use Rattle.fetch_session.specs.Session.{account_files, mbox_account_files}
 ghost use Rattle.fetch_session.specs.Target.{IsSoundMaildir, IsSoundMbox, maildir_of, mbox_of};
 ghost use Rattle.fetch_runs.specs.Headline.{IsKept};
 ghost use Rattle.fetch_runs.specs.MboxHeadline.{AreSettings, IsMboxKept};
-ghost use Rattle.fetch_runs.specs.MboxRuns.{AreMboxPromised, MboxRuns, mbox_state};
+ghost use Rattle.fetch_runs.specs.Runs.{AreMboxPromised, MboxRuns, mbox_state};
 ghost use Rattle.fetch_runs.specs.Runs.{ArePromised, AreServed, AreSound, Runs, state_of, world_of};
 ghost use Rattle.pop3_wire.specs.World.{IsWorld, Message};
 ghost use Rattle.run_law.specs.Sessions.{Fact};

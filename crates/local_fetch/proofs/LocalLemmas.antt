@@ -11,7 +11,7 @@ use Rattle.pop3_wire.specs.Link.{Link}
 use Rattle.pop3_wire.specs.Commands.{line_of, can_be_sent}
 use Rattle.pop3_wire.specs.CommandLine.{HasNumbers}
 use Rattle.pop3_wire.specs.World.{Message, IsMessage}
-use Rattle.run_law.specs.Sessions.{IsMarked}
+use Rattle.run_law.specs.Sessions.{IsMarked, Served}
 use Rattle.rc_file.specs.Settings.{IsValid}
 use Rattle.rc_file.specs.declared.settings.Settings.{Settings}
 use Rattle.fetch_rules.specs.Plan.{planned}
@@ -130,16 +130,15 @@ module _ {M : Type 0} (sound : M → Type 0) (mail : M → Mail) (honesty : Give
 
 -- ---- such sessions are those of the headlines
 
+-- the octets of a link that wasn't used before are all that it gained
+served_by : (link : Link) {was drop : List Message} {vanished : List (List ℕ)} → was ≡ drop → Served was link.sent link.got vanished
+    → (sent got : List ℕ) → link.sent ≡ sent → link.got ≡ got → Served drop sent got vanished
+served_by link same served sent got sent_is got_is = rw (← same, ← sent_is, ← got_is) served
+
 pub are_sessions : {M : Type 0} (mail : M → Mail) → AreSessions mail
-are_sessions mail world state settings now come old new link report after are local drop = record {
-  settings = are;
-  session = local.session;
-  served = λ sent got sent_is got_is. rw (← drop, ← sent_is, ← got_is) local.served;
-}
+are_sessions mail world state settings now come old new link report after are local drop =
+    record { settings = are; session = local.session; served = served_by link drop local.served }
 
 pub are_mbox_sessions : {M : Type 0} (mail : M → Mail) → AreMboxSessions mail
-are_mbox_sessions mail world state settings now come old new link report after are local drop = record {
-  settings = are;
-  session = local.session;
-  served = λ sent got sent_is got_is. rw (← drop, ← sent_is, ← got_is) local.served;
-}
+are_mbox_sessions mail world state settings now come old new link report after are local drop =
+    record { settings = are; session = local.session; served = served_by link drop local.served }

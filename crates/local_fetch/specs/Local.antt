@@ -10,7 +10,7 @@ use Rattle.pop3_server.specs.LoopLink.{Loop}
 use Rattle.fetch_session.specs.Account.{digits_of}
 use Rattle.fetch_session.specs.declared.report.Report.{Report}
 use Rattle.fetch_session.specs.Session.{AccountFiles, MboxAccountFiles, Session, MboxSession}
-use Rattle.fetch_runs.specs.Headline.{AreSettings, IsSession}
+use Rattle.fetch_runs.specs.Headline.{AreSettings, Occasion, IsSession}
 use Rattle.fetch_runs.specs.MboxHeadline.{AreSettings as AreMboxSettings, IsMboxSession}
 use Rattle.run_law.specs.MboxRuns.{MboxState, MboxWorld}
 use Rattle.run_law.specs.Runs.{State, World}
@@ -49,6 +49,19 @@ abbrev pub MboxFetchesFrom : {M : Type 0} → (M → Mail) → Settings → ℕ 
 MboxFetchesFrom mail settings now old new link before report after =
     FetchesBy mail (MboxSession settings now unused before report link after) old new link
 
+-- a session over a link that wasn't used before
+abbrev pub occasion_of : {K : Type 0} → Settings → ℕ → Report → Link → K → ℕ → List (List ℕ) → Occasion K
+occasion_of settings now report link after come vanished = record {
+  settings = settings;
+  now = now;
+  report = report;
+  link = unused;
+  link' = link;
+  after = after;
+  come = come;
+  vanished = vanished;
+}
+
 -- a law: over the maildrop of a world, such a session is one that the headline is about
 abbrev pub AreSessions : {M : Type 0} → (M → Mail) → Type 0
 AreSessions {M} mail = (world : World) (state : State AccountFiles) (settings : Settings) (now come : ℕ)
@@ -56,16 +69,7 @@ AreSessions {M} mail = (world : World) (state : State AccountFiles) (settings : 
     → AreSettings world settings
     → (local : FetchesFrom mail settings (digits_of settings) now old new link state.account report after)
     → there (mail old.drop).slots ≡ maildrop_of world.all come state.gone
-    → IsSession world state (record {
-      settings = settings;
-      now = now;
-      report = report;
-      link = unused;
-      link' = link;
-      after = after;
-      come = come;
-      vanished = local.vanished;
-    })
+    → IsSession world state (occasion_of settings now report link after come local.vanished)
 
 -- a law: with an mboxrd file, such a session is one that the second headline is about
 abbrev pub AreMboxSessions : {M : Type 0} → (M → Mail) → Type 0
@@ -74,13 +78,4 @@ AreMboxSessions {M} mail = (world : MboxWorld) (state : MboxState MboxAccountFil
     → AreMboxSettings world settings
     → (local : MboxFetchesFrom mail settings now old new link state.account report after)
     → there (mail old.drop).slots ≡ maildrop_of world.all come state.gone
-    → IsMboxSession world state (record {
-      settings = settings;
-      now = now;
-      report = report;
-      link = unused;
-      link' = link;
-      after = after;
-      come = come;
-      vanished = local.vanished;
-    })
+    → IsMboxSession world state (occasion_of settings now report link after come local.vanished)

@@ -1,4 +1,4 @@
-use Rattle.fetch_runs.proofs.PowerLosses as lemmas
+use Rattle.fetch_runs.proofs.Power as lemmas
 use Rattle.fetch_runs.proofs.laws.all_on_disk.Goals as goal
 
 pub returns : goal.returns

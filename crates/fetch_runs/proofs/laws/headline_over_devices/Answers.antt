@@ -1,4 +1,4 @@
-use Rattle.fetch_runs.proofs.PowerEvents as lemmas
+use Rattle.fetch_runs.proofs.Power as lemmas
 use Rattle.fetch_runs.proofs.laws.headline_over_devices.Goals as goal
 
 pub returns : goal.returns

@@ -1,4 +1,4 @@
-use Rattle.fetch_runs.proofs.PowerLosses as lemmas
+use Rattle.fetch_runs.proofs.Power as lemmas
 use Rattle.fetch_runs.proofs.laws.losses_are_events.Goals as goal
 
 pub returns : goal.returns

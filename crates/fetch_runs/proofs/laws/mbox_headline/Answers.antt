@@ -1,4 +1,4 @@
-use Rattle.fetch_runs.proofs.MboxHeadlineLemmas as lemmas
+use Rattle.fetch_runs.proofs.HeadlineLemmas as lemmas
 use Rattle.fetch_runs.proofs.laws.mbox_headline.Goals as goal
 
 pub returns : goal.returns

@@ -1,13 +1,16 @@
-use Rattle.std.proofs.Common.{◌≡◌, ◌≤◌, ℕ, take, get_or, length}
+use Rattle.std.proofs.Common.{◌≡◌, ◌≤◌, ℕ, take, get_or, length, List}
 use Rattle.std.specs.Vec.{vec_capacity}
 use Rattle.fetch_session.specs.Account.{digits_of}
 use Rattle.fetch_session.specs.Session.{account_files, mbox_account_files}
 use Rattle.fetch_session.specs.Target.{IsSoundMaildir, IsSoundMbox, maildir_of, mbox_of}
-use Rattle.fetch_runs.specs.MboxRuns.{WasMadeInMbox}
-use Rattle.fetch_runs.specs.Runs.{WasMade}
+use Rattle.fetch_runs.specs.Runs.{WasMadeInMbox, WasMade, AreSound, RunsBy}
 use Rattle.fetch_runs.specs.declared.run.Visit.{Visit}
-use Rattle.fetch_runs.proofs.RunLemmas.{Ran}
 use Rattle.fetch_runs.proofs.run.run_sessions.Given as goal
+use Rattle.fetch_session.specs.declared.report.Report.{Report}
+
+-- the first of the visits were made
+pub record Ran {W K : Type 0} (sound : W → Type 0) (Made : Visit W → K → Report → Visit W → K → Type 0) (olds : List (Visit W)) (start : K) (at_start : Type 0) (reports : List Report) (news : List (Visit W)) (last : K) (at_last : Type 0) : Type 0 where
+  pub made : AreSound sound news → at_last → AreSound sound olds × at_start × RunsBy Made olds start reports news last
 
 abbrev pub invariant-loop-i : goal.invariant-loop-i
 invariant-loop-i g l = (l.account.settings ≡ l.fn.account.settings)
