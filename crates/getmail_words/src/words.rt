@@ -2,7 +2,7 @@
 ghost use Rattle.std.specs.Prelude.{◌≡◌, IfOk, map};
 ghost use Rattle.std.specs.String.{string_bytes};
 ghost use Rattle.clap.specs.Words.{FailsBy, app_of, fault_of, found_of, matches_of, rows_of};
-ghost use Rattle.getmail_words.specs.CommandLine.{AsksFor, flags_in, getmail, with_choices, with_loudness, with_places};
+ghost use Rattle.getmail_words.specs.CommandLine.{AsksFor, flags_in, getmail};
 
 use clap::{ArgMatches, Command, Error};
 use command_line::{add, flag, is_given, is_on, long_flag, program, switch, text, value_option};
@@ -57,44 +57,22 @@ const PRETEND: &str = "Say what would be fetched and deleted, and do nothing";
 
 const REHEARSE: &str = "Hold a session with standard input as the server, and store nothing";
 
-/// With the options that say where the files are.
-fn with_places<'a>(alloc: Global, command: Command<'a>) -> Result<Command<'a>, AllocError>
-    ensures { IfOk result (λ added. app_of added ≡ with_places (app_of command.entry)) }
-{
-    let command = add(command, value_option(alloc, "rcfile", 'r', "FILE", RCFILE))?;
-    add(
-        command,
-        value_option(alloc, "getmaildir", 'g', "DIR", GETMAILDIR),
-    )
-}
-
-/// With the flags that say how much is reported.
-fn with_loudness<'a>(alloc: Global, command: Command<'a>) -> Result<Command<'a>, AllocError>
-    ensures { IfOk result (λ added. app_of added ≡ with_loudness (app_of command.entry)) }
-{
-    let command = add(command, flag(alloc, "verbose", 'v', VERBOSE))?;
-    let command = add(command, flag(alloc, "quiet", 'q', QUIET))?;
-    let command = add(command, switch(alloc, "why", WHY))?;
-    add(command, switch(alloc, "trace", TRACE))
-}
-
-/// With the flags that say what is fetched and deleted.
-fn with_choices<'a>(alloc: Global, command: Command<'a>) -> Result<Command<'a>, AllocError>
-    ensures { IfOk result (λ added. app_of added ≡ with_choices (app_of command.entry)) }
-{
-    let command = add(command, flag(alloc, "all", 'a', ALL))?;
-    let command = add(command, flag(alloc, "new", 'n', NEW))?;
-    let command = add(command, flag(alloc, "delete", 'd', DELETE))?;
-    add(command, flag(alloc, "dont-delete", 'l', DONT_DELETE))
-}
-
 /// The options and flags of the program.
 fn command<'a>(alloc: Global) -> Result<Command<'a>, AllocError>
     ensures { IfOk result (λ command. app_of command ≡ getmail) }
 {
-    let command = with_places(alloc, program(alloc, "getmail", ABOUT))?;
-    let command = with_loudness(alloc, command)?;
-    let command = with_choices(alloc, command)?;
+    let command = program(alloc, "getmail", ABOUT);
+    let command = add(command, value_option(alloc, "rcfile", 'r', "FILE", RCFILE))?;
+    let dir = value_option(alloc, "getmaildir", 'g', "DIR", GETMAILDIR);
+    let command = add(command, dir)?;
+    let command = add(command, flag(alloc, "verbose", 'v', VERBOSE))?;
+    let command = add(command, flag(alloc, "quiet", 'q', QUIET))?;
+    let command = add(command, switch(alloc, "why", WHY))?;
+    let command = add(command, switch(alloc, "trace", TRACE))?;
+    let command = add(command, flag(alloc, "all", 'a', ALL))?;
+    let command = add(command, flag(alloc, "new", 'n', NEW))?;
+    let command = add(command, flag(alloc, "delete", 'd', DELETE))?;
+    let command = add(command, flag(alloc, "dont-delete", 'l', DONT_DELETE))?;
     let command = add(command, switch(alloc, "pretend", PRETEND))?;
     // For developers: getmail(1) explains it.
     add(command, long_flag(alloc, "rehearse", REHEARSE).hide(true))

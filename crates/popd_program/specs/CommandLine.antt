@@ -1,6 +1,6 @@
 -- The command line: its options, and what words ask for.
 use Rattle.std.specs.Prelude.{◌≡◌, ◌<◌, ◌^◌, ◌==◌, ◌&&◌, ℕ, Bool, not, List, [], Option, None, Some}
-use Rattle.std.specs.Prelude.{codes, is_some, length, map, option_map, pos, unwrap_or}
+use Rattle.std.specs.Prelude.{◌∷◌, codes, fold, is_some, length, map, option_map, pos, unwrap_or}
 use Rattle.std.specs.String.{string_bytes}
 use Rattle.std.specs.Str.Parse.{IsNumeral, digits_value, without_leading_plus}
 use Rattle.clap.specs.Words.{App, Row, Rule, all_of, first_of, new_rule, one_of, with_rule}
@@ -24,24 +24,12 @@ more_rule = record (new_rule (codes "more")) {
   action = Some Append;
 }
 
--- --listen ADDRESS, --connections N
-abbrev pub with_connections : App → App
-with_connections app = with_rule (with_rule app (long_value_rule (codes "listen"))) connections_rule
-
--- --rehearse, --verbose, --trace
-abbrev pub with_flags : App → App
-with_flags app =
-    with_rule (with_rule (with_rule app (long_flag_rule (codes "rehearse"))) (long_flag_rule (codes "verbose")))
-    (long_flag_rule (codes "trace"))
-
--- USER PASSFILE MAILDIR
-abbrev pub with_words : App → App
-with_words app =
-    with_rule (with_rule (with_rule app (word_rule (codes "user"))) (word_rule (codes "passfile")))
-    (word_rule (codes "maildir"))
-
+-- --listen ADDRESS, --connections N, --rehearse, --verbose, --trace, USER PASSFILE MAILDIR, and words after these
 abbrev pub popd : App
-popd = with_rule (with_words (with_flags (with_connections (program (codes "popd"))))) more_rule
+popd = fold with_rule (program (codes "popd"))
+    (long_value_rule (codes "listen") ∷ connections_rule
+    ∷ long_flag_rule (codes "rehearse") ∷ long_flag_rule (codes "verbose") ∷ long_flag_rule (codes "trace")
+    ∷ word_rule (codes "user") ∷ word_rule (codes "passfile") ∷ word_rule (codes "maildir") ∷ more_rule ∷ [])
 
 -- how many connections: the number after the option, or the greatest if there is none
 abbrev pub Numbers : Option (List ℕ) → ℕ → Type 0

@@ -2,7 +2,6 @@
 ghost use Rattle.std.specs.Prelude.{◌≡◌, ℕ, List, [], true, false, IfOk, IfErr, codes};
 ghost use Rattle.std.specs.String.{string_bytes};
 ghost use Rattle.popd_program.specs.Account.{IsAccount};
-ghost use Rattle.popd_program.specs.Password.{password_of};
 ghost use Rattle.popd_program.specs.Failures.{IsCause};
 ghost use Rattle.popd_program.specs.Start.{at_start};
 
@@ -63,19 +62,6 @@ impl Account {
     }
 }
 
-/// The account of a user, with the password from a password file of these bytes, and of a Maildir.
-fn account_of(alloc: Global, user: &str, file: &[u8], maildir: &str) -> Result<Account, AllocError>
-    ensures { IfOk result (λ account. (account.user.items ≡ user.now)
-        × (account.password.items ≡ password_of file.now)
-        × (string_bytes account.maildir ≡ maildir.now)) }
-{
-    Ok(Account {
-        user: Vec::from_slice(alloc, user.as_bytes())?,
-        password: Vec::from_slice(alloc, password(file))?,
-        maildir: String::from_str(alloc, maildir)?,
-    })
-}
-
 /// The octets of a file.
 fn read_file<R: Files + AllocGlobal>(system: &System<'_, R>, path: &str) -> io::Result<Vec<u8>> {
     let mut bytes = Vec::new(system.alloc());
@@ -106,5 +92,9 @@ pub fn read_account<'a, R: Files + AllocGlobal>(
         Ok(file) => file,
         Err(error) => return Err(failure_of(error, Failure::CannotRead(path))),
     };
-    Ok(account_of(alloc, user.as_str(), file.as_slice(), maildir.as_str())?)
+    Ok(Account {
+        user: Vec::from_slice(alloc, user.as_bytes())?,
+        password: Vec::from_slice(alloc, password(file.as_slice()))?,
+        maildir: String::from_str(alloc, maildir.as_str())?,
+    })
 }

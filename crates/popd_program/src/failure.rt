@@ -1,6 +1,8 @@
 //! Why the program serves nothing, or ends early: its line on standard error and its exit status.
 ghost use Rattle.std.specs.Prelude.{◌≡◌, ◌≢◌, ◌≤◌};
 ghost use Rattle.std.specs.IoError.{error_kind};
+ghost use Rattle.pop3_server.specs.declared.fault.ServerFault.TheVariants.{NoMemory};
+ghost use Rattle.popd_program.specs.declared.failure.Failure.TheVariants.{Fault};
 ghost use Rattle.popd_program.specs.Failures.{status_of};
 
 use pop3_server::ServerFault;
@@ -23,9 +25,6 @@ pub enum Failure<'a> {
 }
 
 impl<'a> From<ServerFault> for Failure<'a> {
-    ghost use Rattle.std.specs.Prelude.{◌≡◌};
-    ghost use Rattle.popd_program.specs.declared.failure.Failure.TheVariants.{Fault};
-
     ghost from_gives = { λ fault f. f ≡ Fault fault };
 
     fn from(fault: ServerFault) -> Failure<'a> {
@@ -34,10 +33,6 @@ impl<'a> From<ServerFault> for Failure<'a> {
 }
 
 impl<'a> From<AllocError> for Failure<'a> {
-    ghost use Rattle.std.specs.Prelude.{◌≡◌};
-    ghost use Rattle.popd_program.specs.declared.failure.Failure.TheVariants.{Fault};
-    ghost use Rattle.pop3_server.specs.declared.fault.ServerFault.TheVariants.{NoMemory};
-
     ghost from_gives = { λ _ f. f ≡ Fault NoMemory };
 
     fn from(_error: AllocError) -> Failure<'a> {

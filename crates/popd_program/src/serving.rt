@@ -12,7 +12,7 @@ use folder_drop::MaildirDrop;
 use pop3_server::{Journal, Maildrop, Server, ServerFault, serve_and_note};
 use pop3_wire::StreamWire;
 use std::io::{Read, Write};
-use std::net::{Net, SocketAddr, TcpListener, TcpStream};
+use std::net::{Net, TcpListener, TcpStream};
 use std::random::RandomSource;
 use std::rt::{Clock, Files};
 use std::thread;
@@ -108,33 +108,21 @@ where
     served
 }
 
-/// What one connection needs besides the Maildir.
-#[derive(Drop)]
-struct Connection<'a, R> {
-    account: Account,
-    stream: BoundedStream<'a, R>,
-    /// The peer's name.
-    name: String,
-}
-
-/// What a connection that was just accepted needs.
+/// What a connection that was just accepted needs besides the Maildir: its account, its stream and the
+/// peer's name.
 fn begin<'a, R: Clock + AllocGlobal>(
     system: &System<'a, R>,
     stream: &'a TcpStream,
     peer: Peer,
     account: &Account,
-) -> Result<Connection<'a, R>, ServerFault> {
+) -> Result<(Account, BoundedStream<'a, R>, String), ServerFault> {
     let account = account.copy(system.alloc())?;
     let stream = match BoundedStream::new(system.rt, stream) {
         Ok(stream) => stream,
         Err(_) => return Err(ServerFault::ReadFailed),
     };
     let name = format!(in system.alloc(); "{peer}")?;
-    Ok(Connection {
-        account,
-        stream,
-        name,
-    })
+    Ok((account, stream, name))
 }
 
 /// Serves one connection with limited waits, over the Maildir as it is now, and gives the Maildir
@@ -149,11 +137,7 @@ fn serve_connection<'a, R>(
 where
     R: Files + Clock + RandomSource + AllocGlobal + Eprint + Clone + Drop,
 {
-    let Connection {
-        account,
-        stream: bounded,
-        name,
-    } = match begin(system, stream, telling.peer, account) {
+    let (account, bounded, name) = match begin(system, stream, telling.peer, account) {
         Ok(connection) => connection,
         Err(fault) => return (Err(fault), maildir),
     };
@@ -171,34 +155,8 @@ where
     (served, maildir.renewed())
 }
 
-/// Serves one client's connection, and reports a fault. Gives the Maildir back for the next client.
-fn serve_client<'a, R>(
-    system: &System<'_, R>,
-    verbose: bool,
-    taken: &(TcpStream, SocketAddr),
-    account: &Account,
-    maildir: MaildirDrop<'a, R>,
-) -> MaildirDrop<'a, R>
-where
-    R: Files + Clock + RandomSource + AllocGlobal + Eprint + Clone + Drop,
-{
-    let rt = system.rt;
-    let (stream, client) = (&taken.0, taken.1);
-    let mut telling = Telling {
-        rt,
-        verbose,
-        peer: Peer::Address(client),
-    };
-    let (served, left) = serve_connection(system, &mut telling, stream, account, maildir);
-    if let Err(fault) = served {
-        tell(rt, Failure::Fault(fault));
-        warn(rt, Warning::Cut(client, fault));
-    }
-    left
-}
-
-/// Accepts the next client and serves it. If none can be accepted, that is reported after a pause.
-/// Gives the Maildir back for the client after it.
+/// Accepts the next client and serves it, and reports a fault. If none can be accepted, that is reported
+/// after a pause. Gives the Maildir back for the client after it.
 fn serve_next<'a, R>(
     system: &System<'_, R>,
     (listener, address): (&TcpListener, &str),
@@ -209,28 +167,23 @@ fn serve_next<'a, R>(
 where
     R: Files + Clock + RandomSource + AllocGlobal + Eprint + Clone + Drop,
 {
-    match system.refusals.noted("accept", address, listener.accept()) {
-        Ok(taken) => serve_client(system, verbose, &taken, account, maildir),
-        Err(_) => {
-            let rt = system.rt;
-            thread::sleep(rt, Duration::from_secs(PAUSE_SECONDS));
-            tell(rt, Failure::Fault(ServerFault::ReadFailed));
-            maildir
-        }
+    let rt = system.rt;
+    let Ok((stream, client)) = system.refusals.noted("accept", address, listener.accept()) else {
+        thread::sleep(rt, Duration::from_secs(PAUSE_SECONDS));
+        tell(rt, Failure::Fault(ServerFault::ReadFailed));
+        return maildir;
+    };
+    let mut telling = Telling {
+        rt,
+        verbose,
+        peer: Peer::Address(client),
+    };
+    let (served, left) = serve_connection(system, &mut telling, &stream, account, maildir);
+    if let Err(fault) = served {
+        tell(rt, Failure::Fault(fault));
+        warn(rt, Warning::Cut(client, fault));
     }
-}
-
-/// What listens on an address.
-fn bind<'a, R>(system: &System<'_, R>, address: &'a str) -> Result<TcpListener, Failure<'a>>
-where
-    R: Net<Listener = TcpListener, Stream = TcpStream> + AllocGlobal,
-    ensures { IfErr result (λ f. (f ≡ Failure.CannotListen address.entry) ⊎ (f ≡ Failure.Fault ServerFault.NoMemory)) }
-{
-    let bound = TcpListener::bind(system.rt, address);
-    match system.refusals.noted("bind", address, bound) {
-        Ok(listener) => Ok(listener),
-        Err(error) => Err(failure_of(error, Failure::CannotListen(address))),
-    }
+    left
 }
 
 /// Serves connections to an address, one after the other, as many as the words say. A fault of one of
@@ -246,7 +199,11 @@ where
     R: RandomSource + AllocGlobal + Eprint + Copy + Drop,
     ensures { IfErr result (λ f. (f ≡ Failure.CannotListen address.entry) ⊎ (f ≡ Failure.Fault ServerFault.NoMemory)) }
 {
-    let listener = bind(system, address)?;
+    let bound = TcpListener::bind(system.rt, address);
+    let listener = match system.refusals.noted("bind", address, bound) {
+        Ok(listener) => listener,
+        Err(error) => return Err(failure_of(error, Failure::CannotListen(address))),
+    };
     if words.verbose {
         tell_listening(system.rt, &listener);
     }

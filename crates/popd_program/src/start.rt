@@ -10,8 +10,8 @@ use crate::rehearsal::rehearsal_server;
 use crate::serving::{listen, serve_maildir, serve_streams};
 use crate::warning::warn_of;
 use crate::words::{Words, command, read_words};
+use clap::Error;
 use clap::error::ErrorKind;
-use clap::{Command, Error};
 use command_line::show;
 use pop3_server::ServerFault;
 use std::env;
@@ -78,17 +78,12 @@ fn explain<R: Print + Eprint>(rt: &R, error: &Error) -> u8
     }
 }
 
-/// Writes the usage of a command to standard error.
-fn show_usage_of<R: Eprint>(rt: &R, command: &mut Command<'_>) {
-    if let Ok(usage) = command.render_usage() {
-        let _ = rt.eprintln(usage);
-    }
-}
-
 /// Writes the usage to standard error.
 fn show_usage<R: Eprint + AllocGlobal>(rt: &R) {
     if let Ok(mut command) = command(rt.alloc()) {
-        show_usage_of(rt, &mut command);
+        if let Ok(usage) = command.render_usage() {
+            let _ = rt.eprintln(usage);
+        }
     }
 }
 
@@ -111,30 +106,8 @@ where
     status
 }
 
-/// Does what the command line asks for, and returns the exit status. If it is empty, the usage is
-/// shown too.
-fn obey<R, I, O>(rt: &R, arguments: &[String], streams: (I, O), err: Stderr) -> u8
-where
-    R: Net<Listener = TcpListener, Stream = TcpStream> + Files + Clock,
-    R: RandomSource + AllocGlobal + Print + Eprint + Copy + Drop,
-    I: Read + Drop,
-    O: Write + Drop,
-    ensures { result ≤ 2 }
-{
-    match read_words(rt.alloc(), arguments) {
-        Ok(words) => {
-            let status = obey_words(rt, &words, streams, err);
-            if arguments.len() <= 1 {
-                show_usage(rt);
-            }
-            status
-        }
-        Err(error) => explain(rt, &error),
-    }
-}
-
-/// Does what the command line of a runtime asks for, and returns the exit status. The streams are
-/// standard input and output; a trace goes to `err`.
+/// Does what the command line of a runtime asks for, and returns the exit status. If it is empty, the usage
+/// is shown too. The streams are standard input and output; a trace goes to `err`.
 pub fn obey_command_line<R, I, O>(rt: &R, streams: (I, O), err: Stderr) -> u8
 where
     R: Net<Listener = TcpListener, Stream = TcpStream> + Files + Env + Clock,
@@ -143,8 +116,18 @@ where
     O: Write + Drop,
     ensures { result ≤ 2 }
 {
-    match arguments(rt) {
-        Ok(arguments) => obey(rt, arguments.as_slice(), streams, err),
-        Err(failure) => end(rt, Err(failure)),
+    let arguments = match arguments(rt) {
+        Ok(arguments) => arguments,
+        Err(failure) => return end(rt, Err(failure)),
+    };
+    match read_words(rt.alloc(), arguments.as_slice()) {
+        Ok(words) => {
+            let status = obey_words(rt, &words, streams, err);
+            if arguments.len() <= 1 {
+                show_usage(rt);
+            }
+            status
+        }
+        Err(error) => explain(rt, &error),
     }
 }

@@ -67,16 +67,6 @@ impl<'a, R: Clock> BoundedStream<'a, R> {
         }
     }
 
-    /// Limits how long each read and each try to write waits from now on.
-    fn bound_waits(&self) -> io::Result<()> {
-        let (wait, each_try) = (
-            Duration::from_secs(IDLE_SECONDS),
-            Duration::from_secs(TRY_SECONDS),
-        );
-        self.stream.set_read_timeout(Some(wait))?;
-        self.stream.set_write_timeout(Some(each_try))
-    }
-
     /// Writes to a client that is logged in, as soon as it takes something.
     fn write_patiently(&self, buf: &[u8]) -> io::Result<usize>
         ensures { IfOk result (λ count. count ≤ length buf.now) }
@@ -91,11 +81,14 @@ impl<'a, R: Clock> BoundedStream<'a, R> {
         Err(ErrorKind::TimedOut.into())
     }
 
-    /// The client has logged in.
-    fn end_login(&self) {
-        if self.bound_waits().is_ok() {
-            self.taken.set(None);
-        }
+    /// The client has logged in: limits how long each read and each try to write waits from now on.
+    fn end_login(&self) -> io::Result<()> {
+        let wait = Duration::from_secs(IDLE_SECONDS);
+        self.stream.set_read_timeout(Some(wait))?;
+        let each_try = Duration::from_secs(TRY_SECONDS);
+        self.stream.set_write_timeout(Some(each_try))?;
+        self.taken.set(None);
+        Ok(())
     }
 }
 
@@ -134,7 +127,7 @@ pub struct LoginJournal<'a, R, J: Journal + Drop> {
 impl<'a, R: Clock, J: Journal + Drop> Journal for LoginJournal<'a, R, J> {
     fn note(&mut self, event: Event) {
         if let Event::LoggedIn(_) = event {
-            self.stream.end_login();
+            let _ = self.stream.end_login();
         }
         self.journal.note(event);
     }

@@ -2,8 +2,7 @@
 ghost use Rattle.std.specs.Prelude.{◌≡◌, IfOk, false, map};
 ghost use Rattle.std.specs.String.{string_bytes};
 ghost use Rattle.clap.specs.Words.{FailsBy, app_of, fault_of, found_of, matches_of, rows_of, rule_of};
-ghost use Rattle.popd_program.specs.CommandLine.{AsksFor, connections_rule, is_bare, more_rule, popd};
-ghost use Rattle.popd_program.specs.CommandLine.{with_connections, with_flags, with_words, words_after};
+ghost use Rattle.popd_program.specs.CommandLine.{AsksFor, connections_rule, is_bare, more_rule, popd, words_after};
 
 use clap::{Arg, ArgAction, ArgMatches, Command, Error, value_parser};
 use command_line::{add, is_given, long_flag, long_value_option, program, text, word};
@@ -87,43 +86,22 @@ fn more_words<'a>(alloc: Global) -> Arg<'a>
         .hide(true)
 }
 
-/// A command with the options that say which connections are served.
-fn with_connections<'a>(alloc: Global, command: Command<'a>) -> Result<Command<'a>, AllocError>
-    ensures { IfOk result (λ added. app_of added ≡ with_connections (app_of command.entry)) }
-{
-    let command = add(
-        command,
-        long_value_option(alloc, "listen", "ADDRESS", LISTEN),
-    )?;
-    add(command, connections_option(alloc))
-}
-
-/// A command with the flags.
-fn with_flags<'a>(alloc: Global, command: Command<'a>) -> Result<Command<'a>, AllocError>
-    ensures { IfOk result (λ added. app_of added ≡ with_flags (app_of command.entry)) }
-{
-    let command = add(command, long_flag(alloc, "rehearse", REHEARSE))?;
-    let command = add(command, long_flag(alloc, "verbose", VERBOSE))?;
-    add(command, long_flag(alloc, "trace", TRACE))
-}
-
-/// A command with USER PASSFILE MAILDIR.
-fn with_words<'a>(alloc: Global, command: Command<'a>) -> Result<Command<'a>, AllocError>
-    ensures { IfOk result (λ added. app_of added ≡ with_words (app_of command.entry)) }
-{
-    let command = add(command, word(alloc, "user", "USER", USER))?;
-    let command = add(command, word(alloc, "passfile", "PASSFILE", PASSFILE))?;
-    add(command, word(alloc, "maildir", "MAILDIR", MAILDIR))
-}
-
 /// The command line's options and words.
 pub fn command<'a>(alloc: Global) -> Result<Command<'a>, AllocError>
     ensures { IfOk result (λ command. app_of command ≡ popd) }
 {
     let command = program(alloc, "popd", ABOUT).override_usage(USAGE);
-    let command = with_connections(alloc, command)?;
-    let command = with_flags(alloc, command)?;
-    let command = with_words(alloc, command)?;
+    let command = add(
+        command,
+        long_value_option(alloc, "listen", "ADDRESS", LISTEN),
+    )?;
+    let command = add(command, connections_option(alloc))?;
+    let command = add(command, long_flag(alloc, "rehearse", REHEARSE))?;
+    let command = add(command, long_flag(alloc, "verbose", VERBOSE))?;
+    let command = add(command, long_flag(alloc, "trace", TRACE))?;
+    let command = add(command, word(alloc, "user", "USER", USER))?;
+    let command = add(command, word(alloc, "passfile", "PASSFILE", PASSFILE))?;
+    let command = add(command, word(alloc, "maildir", "MAILDIR", MAILDIR))?;
     add(command, more_words(alloc))
 }
 

@@ -5,7 +5,6 @@ ghost use Rattle.mail_terms.specs.Text.{IsWhole};
 use crate::stopwatch::Stopwatch;
 use crate::trouble::{Result, Trouble};
 use mail_store::{FlatFile, append_entry, is_whole, quote, read_mbox};
-use std::alloc::Global;
 use std::fs;
 
 /// The text in a file, which must be whole.
@@ -19,22 +18,14 @@ fn text_of(rt: &HostRuntime, path: &str) -> Result<Vec<u8>>
     Ok(text)
 }
 
-/// Appends the entry of a text to a file, `count` times.
-fn append_texts<F: FlatFile>(alloc: Global, file: &mut F, text: &[u8], count: u32) -> Result<()>
-    requires { IsWhole text.now }
-{
-    for _ in 0..count {
-        append_entry(file, Vec::from_slice(alloc, text)?)?;
-    }
-    Ok(())
-}
-
 /// Appends the entry of a text to the file, `count` times. The text is in the file of that name
 /// with `.text` after it.
 pub fn append<F: FlatFile>(rt: &HostRuntime, path: &str, file: &mut F, count: u32) -> Result<()> {
     let beside = format!(in rt.alloc(); "{path}.text")?;
     let text = text_of(rt, beside.as_str())?;
-    append_texts(rt.alloc(), file, &text, count)?;
+    for _ in 0..count {
+        append_entry(file, Vec::from_slice(rt.alloc(), &text)?)?;
+    }
     println!(rt; "{count}")?;
     Ok(())
 }

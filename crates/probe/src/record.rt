@@ -29,23 +29,14 @@ fn id_of(alloc: Global, number: u32) -> Result<Vec<u8>> {
     Ok(format!(in alloc; "{mixed:016x}")?.into_bytes())
 }
 
-/// Appends a row of a record.
-fn add_row(file: &mut Vec<u8>, id: &[u8], is_delivered: bool) -> Result<()> {
-    file.extend_from_slice(id)?;
-    file.extend_from_slice(if is_delivered {
-        b" 1700000000 1\n"
-    } else {
-        b" 1700000000 0\n"
-    })?;
-    Ok(())
-}
-
 /// The file of a record that has seen the ids of the numbers 1 to `count`, and has every other one
 /// delivered.
 fn file_of(alloc: Global, count: u32) -> Result<Vec<u8>> {
     let mut file = Vec::from_slice(alloc, b"getmail-seen 2\n")?;
     for number in 1..=count {
-        add_row(&mut file, &id_of(alloc, number)?, number % 2 == 1)?;
+        file.extend_from_slice(&id_of(alloc, number)?)?;
+        let rest = format!(in alloc; " 1700000000 {}\n", number % 2)?;
+        file.extend_from_slice(rest.as_bytes())?;
     }
     Ok(file)
 }
@@ -61,7 +52,7 @@ fn uid_rows(alloc: Global, known: u32, count: u32) -> Result<Vec<UidRow>> {
 }
 
 /// LIST's rows of `count` messages.
-fn scan_rows(alloc: Global, count: u32) -> Result<Vec<ScanRow>> {
+pub fn scan_rows(alloc: Global, count: u32) -> Result<Vec<ScanRow>> {
     let mut rows = Vec::with_capacity(alloc, count as usize)?;
     for number in 1..=count {
         rows.push(ScanRow { number, size: 2048 })?;
@@ -138,26 +129,16 @@ fn time_bytes(rt: &HostRuntime, least: usize, seen: &Seen<RandomState>) -> Resul
     Ok(())
 }
 
-/// Makes the calls of one session over a listing and a record in a file.
-fn time_calls(
-    rt: &HostRuntime,
-    listing: &Listing,
-    seen: &mut Seen<RandomState>,
-    file: &[u8],
-) -> Result<()> {
-    time_reading(rt, seen, file)?;
-    time_merge(rt, listing, seen)?;
-    time_plan(rt, &settings(rt.alloc()), listing, seen)?;
-    time_bytes(rt, file.len(), seen)
-}
-
 /// Makes the calls of one session over `count` messages and a record of as many rows. The record
 /// knows half of the messages.
 pub fn time_session(rt: &HostRuntime, count: u32) -> Result<()> {
     let listing = time_join(rt, count)?;
     let file = file_of(rt.alloc(), count)?;
-    let hasher = RandomState::new(rt)?;
-    time_calls(rt, &listing, &mut Seen::new(rt.alloc(), hasher), &file)
+    let mut seen = Seen::new(rt.alloc(), RandomState::new(rt)?);
+    time_reading(rt, &mut seen, &file)?;
+    time_merge(rt, &listing, &mut seen)?;
+    time_plan(rt, &settings(rt.alloc()), &listing, &seen)?;
+    time_bytes(rt, file.len(), &seen)
 }
 
 /// Reads a record of `count` rows.

@@ -1,14 +1,13 @@
 //! Calls of `mail_store` on a Maildir in a folder and on a file.
 
 use crate::mbox;
+use crate::record::scan_rows;
 use crate::stopwatch::Stopwatch;
 use crate::trouble::{Result, Trouble};
-use folder_store::{FolderMaildir, HostFile, HostFolder, HostFolders, ProcessMark};
+use folder_store::{FolderMaildir, HostFile, HostFolder, ProcessMark};
 use mail_store::{FlatFile, MaildirDisk, account_id, deliver, file_stem, held};
-use mail_terms::{Listing, ScanRow, UidRow, have_legal_ids, is_legal_id};
+use mail_terms::{Listing, UidRow, have_legal_ids, is_legal_id};
 use std::alloc::Global;
-use std::rt::Files;
-use std::time::Clock;
 use trace::{Refusals, System};
 
 /// The id of message `number`, as the driver names its files.
@@ -24,36 +23,14 @@ pub fn mark_of(rt: &HostRuntime) -> Result<ProcessMark> {
 /// The listing of messages 1 to `count`.
 fn listing_of(alloc: Global, count: u32) -> Result<Listing> {
     let mut uids = Vec::new(alloc);
-    let mut sizes = Vec::new(alloc);
     for number in 1..=count {
-        let uid = Vec::from_slice(alloc, id_of(alloc, number)?.as_bytes())?;
+        let uid = id_of(alloc, number)?.into_bytes();
         uids.push(UidRow { number, uid })?;
-        sizes.push(ScanRow { number, size: 2048 })?;
     }
     if !have_legal_ids(&uids) {
         return Err(Trouble::Other);
     }
-    Ok(Listing::join(alloc, count, &uids, &sizes)?)
-}
-
-/// A store beside which killed runs leave files.
-trait Leftovers {
-    /// Removes what killed runs left there.
-    fn remove_leftovers(&self);
-}
-
-impl<'a, R: Files + Clock + AllocGlobal + Clone + Drop> Leftovers
-    for FolderMaildir<HostFolders<'a, R>> {
-    fn remove_leftovers(&self) {
-        self.sweep(&account_id("bench", 110, "bench"));
-    }
-}
-
-impl<'a, R: Files + Clock + AllocGlobal + Clone + Drop> Leftovers
-    for HostFile<'a, HostFolder<'a, R>> {
-    fn remove_leftovers(&self) {
-        self.sweep();
-    }
+    Ok(Listing::join(alloc, count, &uids, &scan_rows(alloc, count)?)?)
 }
 
 // The types of real stores are large: they are made, and then moved into functions over any store, where they
@@ -98,7 +75,7 @@ fn time_deliver<D: MaildirDisk>(rt: &HostRuntime, disk: &mut D, count: u32) -> R
 }
 
 /// Makes the calls of this name on a Maildir of which nothing is known.
-fn use_maildir<D: MaildirDisk + Leftovers + Drop>(
+fn use_maildir<D: MaildirDisk + Drop>(
     rt: &HostRuntime,
     call: &str,
     mut disk: D,
@@ -109,10 +86,6 @@ fn use_maildir<D: MaildirDisk + Leftovers + Drop>(
     match call {
         "held" => time_held(rt, &mut disk, count),
         "deliver" => time_deliver(rt, &mut disk, count),
-        "sweep" => {
-            disk.remove_leftovers();
-            Ok(())
-        }
         _ => Err(Trouble::Other),
     }
 }
@@ -152,7 +125,7 @@ fn append_once<F: FlatFile>(rt: &HostRuntime, file: &mut F, count: u32) -> Resul
 }
 
 /// Makes the calls of this name on a file.
-fn use_file<F: FlatFile + Leftovers + Drop>(
+fn use_file<F: FlatFile + Drop>(
     rt: &HostRuntime,
     call: &str,
     path: &str,
@@ -164,10 +137,6 @@ fn use_file<F: FlatFile + Leftovers + Drop>(
         "append" => mbox::append(rt, path, &mut file, count),
         "blocks" => append_once(rt, &mut file, count),
         "texts" => mbox::time_texts(rt, &mut file),
-        "sweep" => {
-            file.remove_leftovers();
-            Ok(())
-        }
         _ => Err(Trouble::Other),
     }
 }
@@ -197,7 +166,11 @@ pub fn use_file_at(rt: &HostRuntime, call: &str, path: &str, count: u32) -> Resu
 
 /// Removes what killed runs left in the Maildir at a path and beside the record in it.
 pub fn sweep(rt: &HostRuntime, path: &str) -> Result<()> {
+    let mark = mark_of(rt)?;
     let record = format!(in rt.alloc(); "{path}/seen")?;
-    use_file_at(rt, "sweep", record.as_str(), 0)?;
-    use_maildir_at(rt, "sweep", path, 0)
+    let refusals = Refusals::new(rt.alloc(), None);
+    let system = System::new(rt, &refusals);
+    HostFile::at(&system, record.as_str(), mark).sweep();
+    FolderMaildir::at(&system, path, mark).sweep(&account_id("bench", 110, "bench"));
+    Ok(())
 }

@@ -1,14 +1,20 @@
 use Rattle.std.proofs.Common.{◌∙◌, ap, ap₂}
 use Rattle.std.proofs.lemmas.Result.{IfOk-weaker}
 use Rattle.clap.specs.Words.{rule_of, with_rule}
-use Rattle.getmail_words.specs.CommandLine.{with_choices, with_loudness, with_places}
 use Rattle.getmail_words.proofs.words.command.Goals as goal
 
 pub returns : goal.returns
 returns c =
-    let first = c.in_ok-command.ensures ∙ ap with_places c.program.ensures in
-    let second = c.in_ok-command-2.ensures ∙ ap with_loudness first in
-    let third = c.in_ok-command-3.ensures ∙ ap with_choices second in
-    let fourth = c.in_ok-command-4.ensures ∙ ap₂ with_rule third c.switch.ensures.rule in
+    let a1 = c.in_ok-command.ensures ∙ ap₂ with_rule c.program-command.ensures c.value_option.ensures.rule in
+    let a2 = c.in_ok-command-2.ensures ∙ ap₂ with_rule a1 c.value_option-dir.ensures.rule in
+    let a3 = c.in_ok-command-3.ensures ∙ ap₂ with_rule a2 c.flag.ensures.rule in
+    let a4 = c.in_ok-command-4.ensures ∙ ap₂ with_rule a3 c.flag-2.ensures.rule in
+    let a5 = c.in_ok-command-5.ensures ∙ ap₂ with_rule a4 c.switch.ensures.rule in
+    let a6 = c.in_ok-command-6.ensures ∙ ap₂ with_rule a5 c.switch-2.ensures.rule in
+    let a7 = c.in_ok-command-7.ensures ∙ ap₂ with_rule a6 c.flag-3.ensures.rule in
+    let a8 = c.in_ok-command-8.ensures ∙ ap₂ with_rule a7 c.flag-4.ensures.rule in
+    let a9 = c.in_ok-command-9.ensures ∙ ap₂ with_rule a8 c.flag-5.ensures.rule in
+    let a10 = c.in_ok-command-10.ensures ∙ ap₂ with_rule a9 c.flag-6.ensures.rule in
+    let a11 = c.in_ok-command-11.ensures ∙ ap₂ with_rule a10 c.switch-3.ensures.rule in
     let hidden = ap rule_of c.hide.ensures ∙ c.long_flag.ensures.rule in
-    IfOk-weaker c.add-2.result _ _ (λ command added. added ∙ ap₂ with_rule fourth hidden) c.add-2.ensures
+    IfOk-weaker c.add-12.result _ _ (λ command added. added ∙ ap₂ with_rule a11 hidden) c.add-12.ensures
