@@ -2,6 +2,7 @@ mod Bridge
 mod HeadlineLemmas
 mod Lists
 mod Power
+mod PowerSessions
 mod StateDone
 mod StateLaw
 mod Talk
