@@ -1,24 +1,20 @@
 -- A file in a folder: what the calls of the folder leave of it, and what a loss of power leaves of it after each call.
-use Rattle.std.proofs.Common.{◌≡◌, ℕ, ◌+◌, ◌<◌, zero, suc, length, get_or, refl, arith, List, [], ◌∷◌, ◌++◌, take, drop, cond, sym, ap, subst, ◌∙◌, Bool, true, false, Option, Some, None, Contains, option_map, bytes_eq, if◌then◌else◌, Result, Ok, Err, inl, inr, ⊎_elim, append_assoc, append-nil, take-append-drop, true≢false, ◌⊎◌, ◌-◌, ◌≤◌, min, length-append, slice_index, ◌==◌, ◌%◌, ◌/◌, OnOk, is_err}
+use Rattle.std.proofs.Common.{◌≡◌, ℕ, ◌+◌, ◌<◌, zero, suc, length, refl, arith, List, [], ◌∷◌, ◌++◌, take, drop, cond, sym, ap, subst, ◌∙◌, Bool, true, false, Option, Some, None, option_map, bytes_eq, if◌then◌else◌, Result, Ok, Err, inl, inr, ⊎_elim, append_assoc, append-nil, take-append-drop, true≢false, ◌⊎◌, ◌-◌, ◌≤◌, min, length-append, slice_index, ◌==◌, ◌%◌, ◌/◌, OnOk, is_err}
 use Rattle.std.proofs.lemmas.Slice.Eq.{bytes_eq-Decides}
-use Rattle.std.proofs.lemmas.Option.{none-some, same_Some}
-use Rattle.std.proofs.lemmas.Bool.{cases_Bool, cond-true, cond-false, cond_both, false_from_ne_true, cases_lt, eq-eqb}
+use Rattle.std.proofs.lemmas.Option.{same_Some}
+use Rattle.std.proofs.lemmas.Bool.{cases_Bool, cond-true, cond-false, cond_both, cases_lt, eq-eqb}
 use Rattle.mail_terms.specs.FailureCount.{is_refused}
 use Rattle.mail_store.specs.declared.fault.StoreFault.{StoreFault}
 use Rattle.mail_store.specs.FlatFile.{Appends, Cuts, Replaces}
-use Rattle.folder_store.specs.FileFolder.{Directory, Entry, Blob, Older, entry, names_in, find, placed, making, changed, appended, cut, doubted, flushed, secured, empty_blob, content_in, content_at, Makes, Writes, Alters, FlushesFile, FlushesNames}
+use Rattle.folder_store.specs.FileFolder.{Directory, Entry, Blob, Older, entry, find, placed, making, changed, appended, cut, doubted, flushed, secured, empty_blob, content_in, content_at, Makes, Writes, Alters, FlushesFile, FlushesNames}
 use Rattle.folder_store.specs.HostFile.{stored_in, Holds, Keeps, Becomes, BecomesInPart, MayBeFlushed, IsAppended, IsSoFar, IsPartAppended, AppendsFlushed, IsFrontAppended, CutsFlushed, PutsFlushed, ReplacesFlushed, Flushes, AppendsLast, CutsLast, ReplacesLast}
 use Rattle.std.proofs.lemmas.List.{take-append-drop, take-append-le, take-take, length-take, get_or-take, get_or_append_left, get_or-append-add}
 use Rattle.std.proofs.Math.Seq.{take-append-add, take-append_seam, take-length}
 use Rattle.mail_store.specs.Power.{IsLonger, LeavesNoMore, LastsWhole}
-use Rattle.folder_store.specs.PowerLoss.{IsTorn, IsByteLeft, IsLeft, IsLeftOf, WasOnce, MayBe, IsFlushed, IsSure, IsOnDisk, IsKnown, DiskIsLeft, DiskIsKnown, PowerLeaves}
+use Rattle.folder_store.specs.PowerLoss.{left_under, IsTorn, IsByteLeft, IsLeft, IsLeftOf, WasOnce, MayBe, IsFlushed, IsSure, IsOnDisk, IsKnown, DiskIsLeft, DiskIsKnown, PowerLeaves}
 use Rattle.std.specs.List.{list_all}
 use Rattle.std.proofs.lemmas.Grind.{same_number_lists}
 use Rattle.mail_store.specs.Settling.{block_size, MayBeLeft}
-use Rattle.folder_store.specs.MemoryFolder.{left_under}
-
-pub differ : (one two : List ℕ) → (one ≡ two → ⊥) → bytes_eq one two ≡ false
-differ one two apart = false_from_ne_true (bytes_eq one two) (λ same. apart ((bytes_eq-Decides one two).0 same))
 
 -- a name leads to the first file that has it
 pub find_here : (name : List ℕ) (e : Entry) (es : List Entry) → bytes_eq name e.name ≡ true → find name (e ∷ es) ≡ Some e.blob
@@ -32,27 +28,6 @@ pub find_placed : (name : List ℕ) (b : Blob) (es : List Entry) → find name (
 find_placed name b [] = ap (λ (v : Bool). cond v (Some b) None) ((bytes_eq-Decides name name).1 refl)
 find_placed name b (e ∷ es) = cond_both (bytes_eq name e.name) _ _ (λ (xs : List Entry). find name xs ≡ Some b)
     (λ _. find_here name (entry name b) es ((bytes_eq-Decides name name).1 refl)) (λ apart. find_later name e (placed name b es) apart ∙ find_placed name b es)
-
--- a name that leads to no file isn't the first
-pub not_here : (name : List ℕ) (e : Entry) (es : List Entry) → find name (e ∷ es) ≡ None → (bytes_eq name e.name ≡ false) × (find name es ≡ None)
-not_here name e es none = ⊎_elim (λ same. absurd (none-some e.blob (sym none ∙ find_here name e es same)))
-    (λ apart. (apart, sym (find_later name e es apart) ∙ none)) (cases_Bool (bytes_eq name e.name))
-
--- a name that isn't there leads to no file
-pub none_of : (name : List ℕ) (es : List Entry) → (Contains (names_in es) name → ⊥) → find name es ≡ None
-none_of name [] free = refl
-none_of name (e ∷ es) free = cond_both (bytes_eq name e.name) (Some e.blob) (find name es) (λ (o : Option Blob). o ≡ None)
-    (λ same. absurd (free (0, omega arith, sym ((bytes_eq-Decides name e.name).0 same)))) (λ _. none_of name es (λ c. free (suc c.0, omega (arith, c.1), c.2)))
-
-pub not_ahead : (name first : List ℕ) (names : List (List ℕ)) → (Contains names name → ⊥) → bytes_eq name first ≡ false → (k : ℕ) → k < length (first ∷ names)
-    → get_or (first ∷ names) k name ≡ name → ⊥
-not_ahead name first names free apart zero inside is = true≢false (sym ((bytes_eq-Decides name first).1 (sym is)) ∙ apart)
-not_ahead name first names free apart (suc k) inside is = free (k, omega (arith, inside), is)
-
--- a name that leads to no file is put after the others
-pub placed_new : (name : List ℕ) (b : Blob) (es : List Entry) → find name es ≡ None → placed name b es ≡ es ++ entry name b ∷ []
-placed_new name b [] none = refl
-placed_new name b (e ∷ es) none = let n = not_here name e es none in rw n.0 (ap (λ (xs : List Entry). e ∷ xs) (placed_new name b es n.1))
 
 -- a file with other bytes
 pub holds_changed : (old new : Directory) (name : List ℕ) (b : Blob) → new ≡ changed old name b → Holds new name (Some b) old.older

@@ -1,5 +1,3 @@
 mod Files
-mod MemoryFiles
 mod MailMoves
 mod MailCalls
-mod MemoryMail

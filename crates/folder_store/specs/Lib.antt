@@ -4,7 +4,5 @@ pub mod HostFile
 pub mod MailCalls
 pub mod MailFolders
 pub mod MailPower
-pub mod MemoryFolder
-pub mod MemoryFolders
 pub mod NewDevices
 pub mod PowerLoss

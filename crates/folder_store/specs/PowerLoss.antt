@@ -4,7 +4,7 @@ use Rattle.std.specs.Prelude.{true, false, Option, Some, None, Result, ◌⊎◌
 use Rattle.mail_store.specs.declared.fault.StoreFault.{StoreFault}
 use Rattle.mail_store.specs.Power.{LeavesEither, LeavesFronts, LeavesLonger, LeavesPart}
 use Rattle.mail_store.specs.Settling.{block_size}
-use Rattle.folder_store.specs.FileFolder.{Directory, Blob, Older, find, content_at, secured}
+use Rattle.folder_store.specs.FileFolder.{Directory, Blob, Entry, Older, entry, find, content_at, secured}
 
 -- the byte at a place and all after it in its block of the file are zeros
 abbrev pub IsZeroFrom : List ℕ → ℕ → Type 0
@@ -24,6 +24,11 @@ pub record IsTorn (content flushed : List ℕ) (uncut : ℕ) (left : List ℕ) :
   pub kept : left ≡ take uncut content ++ behind
   pub most : (length left ≤ length content) ⊎ (length left ≡ length flushed)
   pub each : (i : ℕ) → uncut ≤ i → i < length left → IsByteLeft content flushed left i
+
+-- the file of a name that is left with these bytes, all of them on the disk, or none
+abbrev pub left_under : List ℕ → Option (List ℕ) → List Entry
+left_under name None = []
+left_under name (Some bytes) = entry name (secured bytes) ∷ []
 
 -- a loss of power may leave these bytes of a file: those on the disk, those in memory, or a part of each
 abbrev pub IsLeft : Blob → List ℕ → Type 0

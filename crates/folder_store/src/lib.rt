@@ -13,8 +13,6 @@ mod laws;
 mod mail_folders;
 mod mail_steps;
 mod maildir;
-mod memory;
-mod memory_folders;
 mod process_mark;
 mod rests;
 mod steps;
@@ -32,7 +30,5 @@ pub use laws::{
 };
 pub use mail_folders::MailFolders;
 pub use maildir::{FolderMaildir, new_maildirs_keep_mail};
-pub use memory::{Left, MemoryFolder};
-pub use memory_folders::{MailLeft, MemoryFolders, ReaderStep};
 pub use process_mark::ProcessMark;
 pub use steps::Appending;

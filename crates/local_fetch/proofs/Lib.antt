@@ -1,1 +1,2 @@
 mod LocalLemmas
+mod LoopLemmas

@@ -10,10 +10,11 @@ ghost use Rattle.fetch_session.specs.Session.{account_files, mbox_account_files}
 ghost use Rattle.fetch_session.specs.Target.{IsSoundMaildir, IsSoundMbox, maildir_of, mbox_of};
 ghost use Rattle.local_fetch.specs.Local.{FetchesFrom, MboxFetchesFrom, loop_to};
 
+use crate::loop_wire::LoopWire;
 use fetch_runs::{mbox_sessions_follow_plans, sessions_are_conversations};
 use fetch_session::{Account, Report, session, sessions_by_store};
 use mail_store::{FlatFile, MaildirDisk};
-use pop3_server::{LoopWire, Maildrop, Server, loops_are_honest};
+use pop3_server::{Maildrop, Server, loops_are_honest};
 use std::alloc::Global;
 use std::hash::BuildHasher;
 

@@ -3,6 +3,8 @@
 
 mod fetch;
 mod laws;
+mod loop_wire;
 
 pub use fetch::fetch_local;
 pub use laws::{local_mbox_sessions_are_sessions, local_sessions_are_sessions};
+pub use loop_wire::LoopWire;

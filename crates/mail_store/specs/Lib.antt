@@ -2,7 +2,6 @@ pub mod Fault
 pub mod Maildir
 pub mod Devices
 pub mod FlatFile
-pub mod Fuse
 pub mod FileName
 pub mod Held
 pub mod Loss

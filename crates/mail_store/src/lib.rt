@@ -4,7 +4,6 @@
 mod account;
 mod fault;
 mod file;
-mod fused;
 mod maildir;
 mod mboxrd;
 mod refusal;
@@ -14,7 +13,6 @@ pub use fault::{EntryFault, StoreFault};
 pub use file::flat_file::{Edges, FlatFile, calls_keep_bytes};
 pub use file::memory::MemoryFile;
 pub use file::reading::{edges_of, read_piece};
-pub use fused::Fused;
 pub use maildir::delivery::deliver;
 pub use maildir::disk::{Folder, MaildirDisk};
 pub use maildir::held::{flags_tell_what_is_held, flush_held, held};

@@ -1,6 +1,5 @@
 mod EventLemmas
 mod HonestLemmas
-mod LoopLemmas
 mod RemovalLemmas
 mod RowLemmas
 mod ServeLemmas

@@ -20,7 +20,7 @@ use Rattle.pop3_server.specs.declared.fault.ServerFault.TheVariants.{ReadFailed,
 use Rattle.pop3_server.specs.declared.text_part.TextBody.{TextBody}
 use Rattle.pop3_server.specs.Maildrop.{Mail}
 use Rattle.pop3_server.specs.ServerMachine.{Machine, greeting, said, is_open}
-use Rattle.pop3_server.specs.LoopLaws.{lines_on, runs_on}
+use Rattle.pop3_server.specs.RunLaws.{lines_on, runs_on}
 use Rattle.pop3_server.specs.AnswersLines.{AnswersLines, AnswersLine, MakesAnswer}
 use Rattle.std.proofs.lemmas.Grind.{flat_map-append}
 

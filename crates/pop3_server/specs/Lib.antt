@@ -3,7 +3,7 @@ pub mod Events
 pub mod Got
 pub mod HonestLoop
 pub mod HonestServer
-pub mod LoopLaws
+pub mod RunLaws
 pub mod LoopLink
 pub mod Maildrop
 pub mod Removal

@@ -20,7 +20,7 @@ pub fn conversations_are_honest<D: Maildrop>()
     replies_are_read_as_written();
 }
 
-/// The same for a [`LoopWire`](crate::LoopWire) to a new server, for whole commands of a session and a
+/// The same for a link to a new server in the same process, for whole commands of a session and a
 /// part of one more, even if the link went down; and the server is open unless QUIT was sent whole.
 pub fn loops_are_honest<D: Maildrop>()
     ensures { GivesHonest D.sound D.mail }

@@ -1,5 +1,4 @@
 mod BodiesLemmas
 mod BodyLemmas
-mod EndlessLemmas
 mod LineReaderLemmas
 mod RowsLemmas

@@ -2,9 +2,7 @@ pub mod Bodies
 pub mod Body
 pub mod CommandLine
 pub mod Commands
-pub mod Endless
 pub mod Fields
-pub mod Fuse
 pub mod Honest
 pub mod Line
 pub mod Link
@@ -12,7 +10,6 @@ pub mod Place
 pub mod Reading
 pub mod Reply
 pub mod Rows
-pub mod Script
 pub mod Stuffed
 pub mod World
 pub mod Unstuffing

@@ -6,16 +6,13 @@ mod body;
 mod body_reader;
 mod command;
 mod command_line;
-mod endless_wire;
 mod fault;
 mod fields;
-mod fused_wire;
 mod keyword;
 mod line;
 mod line_reader;
 mod note;
 mod reply;
-mod script_wire;
 mod stream_wire;
 mod stuffing;
 mod unstuffer;
@@ -27,10 +24,8 @@ pub use command::{Command, command_bytes};
 pub use command_line::{
     commands_are_lines, fronts_are_asked, only_one_list_of_commands, read_as_written, read_command,
 };
-pub use endless_wire::EndlessWire;
 pub use fault::WireFault;
 pub use fields::{read_scan, read_stat, read_uid, scan_rows_have_a_form, uid_rows_have_a_form};
-pub use fused_wire::FusedWire;
 pub use line::{cut_line, only_one_line};
 pub use line_reader::{LineFault, LineReader};
 pub use mail_terms::{Bytes, is_legal_id};
@@ -38,7 +33,6 @@ pub use note::Note;
 pub use reply::{
     Status, only_one_list_of_lines, only_one_reading, read_status, replies_are_read_as_written,
 };
-pub use script_wire::ScriptWire;
 pub use stream_wire::StreamWire;
 pub use stuffing::{only_one_body, put_body, put_line, stuff, stuffed_is_body, stuffed_is_read};
 pub use unstuffer::{

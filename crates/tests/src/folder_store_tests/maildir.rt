@@ -1,8 +1,9 @@
 //! A Maildir in folders, asked for what no program asks of it.
 
-use folder_store::{FolderMaildir, MemoryFolders};
+use folder_store::FolderMaildir;
 use mail_store::{MaildirDisk, StoreFault};
 use std::test::Fail;
+use test_devices::MemoryFolders;
 
 #[test]
 fn names_no_file_of_another_folder(rt: HostRuntime) -> Result<(), Fail> {

@@ -1,12 +1,10 @@
 //! What a loss of power leaves of folders in memory, and of what the devices over them did.
 
-use folder_store::{
-    Appending, FileFolder, FolderMaildir, HostFile, Left, MailFolders, MailLeft, MemoryFolder,
-    MemoryFolders, ReaderStep,
-};
+use folder_store::{Appending, FileFolder, FolderMaildir, HostFile, MailFolders};
 use mail_store::{FlatFile, Folder, MaildirDisk, StoreFault};
 use std::alloc::Global;
 use std::test::Fail;
+use test_devices::{Left, MailLeft, MemoryFolder, MemoryFolders, ReaderStep};
 
 const WAYS: [Left; 5] = [
     Left::All,

@@ -1,7 +1,8 @@
 //! The lines of a trace.
 
 use crate::no_memory_tests::watched::{begin, end, tell, tell_answer, tell_bytes, tell_text};
-use pop3_wire::{Note, ScriptWire, Wire};
+use pop3_wire::{Note, Wire};
+use test_devices::ScriptWire;
 use trace::{TracedWire, line_text, refusal_text};
 
 fn tell_line(rt: &HostRuntime) {

@@ -1,8 +1,9 @@
 //! Bodies and links.
 
 use crate::no_memory_tests::watched::{begin, end, tell, tell_bytes, tell_no_memory};
-use pop3_wire::{EndlessWire, Wire, WireFault, stuff, unstuff};
+use pop3_wire::{Wire, WireFault, stuff, unstuff};
 use std::test::Fail;
+use test_devices::EndlessWire;
 
 /// Prints what a call answered.
 fn tell_wire(rt: &HostRuntime, answer: Result<Vec<u8>, WireFault>) {

@@ -4,13 +4,13 @@ ghost use Rattle.rc_file.specs.Settings.{IsValid};
 
 use fetch_rules::{Settings, read_rc};
 use fetch_session::{Account, Report, Store};
-use local_fetch::fetch_local;
-use mail_store::{Fused, MaildirDisk, MemoryFile, MemoryMaildir};
-use pop3_server::{LoopWire, MemoryDrop, Server};
-use pop3_wire::FusedWire;
+use local_fetch::{LoopWire, fetch_local};
+use mail_store::{MaildirDisk, MemoryFile, MemoryMaildir};
+use pop3_server::{MemoryDrop, Server};
 use std::alloc::{AllocError, Global};
 use std::hash::{BuildHasherDefault, FoldHasher};
 use std::test::Fail;
+use test_devices::{Fused, FusedWire};
 
 /// After how many calls a device refuses, and whether the first call that it refuses takes effect
 /// all the same.

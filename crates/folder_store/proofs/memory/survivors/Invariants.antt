@@ -1,7 +1,0 @@
-use Rattle.std.proofs.Common.{map, take}
-use Rattle.folder_store.specs.MemoryFolder.{Survive, entries_of, older_of}
-use Rattle.folder_store.proofs.memory.survivors.Given as goal
-
--- what was put in so far is left of the files in front
-abbrev pub invariant-loop-i : goal.invariant-loop-i
-invariant-loop-i l = Survive (map older_of l.older) (entries_of (take l.i l.files)) (entries_of l.left.items)

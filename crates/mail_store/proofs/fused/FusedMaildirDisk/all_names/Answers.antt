@@ -1,6 +1,0 @@
-use Rattle.std.proofs.Common.{rules}
-use Rattle.mail_store.proofs.MaildirLemmas.{part_same}
-use Rattle.mail_store.proofs.fused.FusedMaildirDisk.all_names.Goals as goal
-
-pub returns-in_err-pass-clause-lists : goal.returns-in_err-pass-clause-lists
-returns-in_err-pass-clause-lists g c = λ s. (search rules, (_, part_same _, search rules))

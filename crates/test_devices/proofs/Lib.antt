@@ -1,0 +1,4 @@
+mod EndlessLemmas
+mod MemoryFiles
+mod MemoryMail
+mod PartLemmas

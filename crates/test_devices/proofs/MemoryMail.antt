@@ -1,0 +1,116 @@
+-- The folders of a Maildir in memory.
+use Rattle.std.proofs.Common.{◌≡◌, ◌↔◌, ◌&&◌, ◌||◌, IsTrue, bytes_eq, inl, inr, ℕ, zero, suc, ◌<◌, Bool, true, false, not, List, [], ◌∷◌, ◌++◌, length, map, get_or, set, Contains, Option, Some, None, if◌then◌else◌, refl, sym, ap, subst, ◌∙◌, arith, String, Global, string_bytes, append-nil, true≢false, filter}
+use Rattle.std.proofs.lemmas.Bool.{not-false}
+use Rattle.std.specs.List.{list_any}
+use Rattle.std.proofs.lemmas.List.Folds.{list_any_at}
+use Rattle.std.proofs.lemmas.Map.Views.{Contains-from_any}
+use Rattle.std.proofs.lemmas.Slice.Eq.{bytes_eq-Decides}
+use Rattle.mail_store.specs.Power.{is_among}
+use Rattle.mail_store.specs.declared.maildir.disk.Folder.{Folder}
+use Rattle.mail_store.specs.declared.maildir.disk.Folder.TheVariants.{New, Cur}
+use Rattle.mail_store.specs.Maildir.{all_there}
+use Rattle.test_devices.specs.declared.memory_folders.StoredMail.{StoredMail}
+use Rattle.folder_store.specs.MailFolders.{Draft, MailFile, Directories, MovesFile, RestsFile, Each, Moved, is_in, is_left, name_at, rests_in}
+use Rattle.folder_store.specs.MailPower.{AreLeftAs}
+use Rattle.test_devices.specs.MemoryFolders.{MayBeLeftAs, list_of, mail_file}
+
+any_of_bytes : (names : List (String Global)) (name : List ℕ) → list_any (bytes_eq name) (map string_bytes names) ≡ is_among names name
+any_of_bytes [] name = refl
+any_of_bytes (x ∷ names) name = ap (λ (b : Bool). bytes_eq name (string_bytes x) || b) (any_of_bytes names name)
+
+pub among_has : (names : List (String Global)) (name : List ℕ) → IsTrue (is_among names name) ↔ Contains (map string_bytes names) name
+among_has names name = (
+  λ is. Contains-from_any (λ x y. (bytes_eq-Decides x y).0) name (map string_bytes names) (any_of_bytes names name ∙ is),
+  λ c. sym (any_of_bytes names name)
+      ∙ list_any_at (bytes_eq name) (map string_bytes names) c.0 name c.1 ((bytes_eq-Decides name _).1 (sym c.2)),
+)
+
+-- one more file came after others
+pub told_on : (f : MailFile → Bool) (ss : List MailFile) (s : MailFile)
+    → map name_at (filter f (filter is_left (ss ++ s ∷ []))) ≡ map name_at (filter f (filter is_left ss)) ++ (if is_left s && f s then s.name ∷ [] else [])
+told_on f [] s = grind arith
+told_on f (x ∷ ss) s = let rest = told_on f ss s in grind (arith, rest)
+
+-- ---- a loss of power
+
+pub left_on : (ss left : List MailFile) (s : MailFile) (o : Option MailFile) → AreLeftAs ss left → MayBeLeftAs s o → AreLeftAs (ss ++ s ∷ []) (left ++ list_of o)
+left_on [] left s None l gone = inl (gone, append-nil left ∙ l)
+left_on [] left s (Some t) l is = inr (t, [], ap (λ (ts : List MailFile). ts ++ t ∷ []) l, is, refl)
+left_on (x ∷ ss) left s o (inl (gone, l)) may = inl (gone, left_on ss left s o l may)
+left_on (x ∷ ss) left s o (inr (t, rest, e, is, l)) may =
+    inr (t, rest ++ list_of o, ap (λ (ts : List MailFile). ts ++ list_of o) e, is, left_on ss rest s o l may)
+
+-- ---- nothing moved
+
+each_same : (Does : MailFile → MailFile → Type 0) → ((s : MailFile) → Does s s) → (ss : List MailFile) → Each Does ss ss
+each_same Does same [] = tt
+each_same Does same (s ∷ ss) = (same s, each_same Does same ss)
+
+same_moves : (s : MailFile) → MovesFile s s
+same_moves s = record { keeps = record { title = refl; content = refl; flushed = λ h. h; named = λ h. h }; new = λ h. h; cur = λ h. h }
+
+same_rests : (folder : Folder) (s : MailFile) → RestsFile folder s s
+same_rests folder s = record { place = refl; name = λ h. refl; gone = λ h. refl }
+
+pub rest : (b : Directories) → Moved b b
+rest b = record {
+  there = refl;
+  made = refl;
+  moves = each_same MovesFile same_moves b.entries;
+  rests = λ folder quiet. (quiet, each_same (RestsFile folder) (same_rests folder) b.entries);
+}
+
+-- ---- a reader's move
+
+each_set : (Does : MailFile → MailFile → Type 0) → ((s : MailFile) → Does s s) → (files : List StoredMail) (i : ℕ) (x y : StoredMail) → i < length files → x ≡ get_or files i x
+    → Does (mail_file x) (mail_file y) → Each Does (map mail_file files) (map mail_file (set files i y))
+each_set Does same [] i x y below is does = absurd (omega (arith, below))
+each_set Does same (f ∷ files) zero x y below is does =
+    (subst (λ (k : StoredMail). Does (mail_file k) (mail_file y)) is does, each_same Does same (map mail_file files))
+each_set Does same (f ∷ files) (suc i) x y below is does = (same (mail_file f), each_set Does same files i x y (omega (arith, below)) is does)
+
+abbrev pub memory_dirs : List StoredMail → Bool → Bool → Option Draft → Directories
+memory_dirs files new_rests cur_rests made = record { there = all_there; entries = map mail_file files; new_rests = new_rests; cur_rests = cur_rests; made = made }
+
+-- the folder rests only if it did, and the file wasn't and isn't there
+abbrev Rested : Bool → Bool → Bool → Bool → Type 0
+Rested now rests was is = now ≡ true → (rests ≡ true) × (was ≡ false) × (is ≡ false)
+
+same_place : (folder : Folder) (s t : MailFile) → is_in folder s ≡ false → is_in folder t ≡ false → t.is_new ≡ s.is_new
+same_place New s t was is = is ∙ sym was
+same_place Cur s t was is = not-false t.is_new is ∙ sym (not-false s.is_new was)
+
+not_in : (folder : Folder) (s t : MailFile) → is_in folder s ≡ false → is_in folder t ≡ false → RestsFile folder s t
+not_in folder s t was is = record {
+  place = same_place folder s t was is;
+  name = λ here. absurd (true≢false (sym here ∙ was));
+  gone = λ here. absurd (true≢false (sym here ∙ was));
+}
+
+pub file_moves : (files : List StoredMail) (i : ℕ) (x y : StoredMail) (new new' cur cur' : Bool) (made : Option Draft) → i < length files → x ≡ get_or files i x
+    → MovesFile (mail_file x) (mail_file y) → Rested new' new x.is_new y.is_new → Rested cur' cur (not x.is_new) (not y.is_new)
+    → Moved (memory_dirs files new cur made) (memory_dirs (set files i y) new' cur' made)
+file_moves files i x y new new' cur cur' made below is moves in_new in_cur = record {
+  there = refl;
+  made = refl;
+  moves = each_set MovesFile same_moves files i x y below is moves;
+  rests = rest_of;
+}
+  where
+    rest_of : (folder : Folder) → rests_in folder (memory_dirs (set files i y) new' cur' made) ≡ true
+        → (rests_in folder (memory_dirs files new cur made) ≡ true) × Each (RestsFile folder) (map mail_file files) (map mail_file (set files i y))
+    rest_of New quiet =
+        let r = in_new quiet in
+        (r.0, each_set (RestsFile New) (same_rests New) files i x y below is (not_in New (mail_file x) (mail_file y) r.1 r.2))
+    rest_of Cur quiet =
+        let r = in_cur quiet in
+        (r.0, each_set (RestsFile Cur) (same_rests Cur) files i x y below is (not_in Cur (mail_file x) (mail_file y) r.1 r.2))
+
+-- ---- files that the reader took away
+
+abbrev pub not_gone : StoredMail → Bool
+not_gone k = not k.is_gone
+
+pub left_files : (files : List StoredMail) → map mail_file (filter not_gone files) ≡ filter is_left (map mail_file files)
+left_files [] = refl
+left_files (k ∷ files) = let rest = left_files files in grind (arith, rest)

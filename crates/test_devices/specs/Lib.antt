@@ -1,0 +1,6 @@
+pub mod Endless
+pub mod LinkFuse
+pub mod MemoryFolder
+pub mod MemoryFolders
+pub mod Script
+pub mod StoreFuse

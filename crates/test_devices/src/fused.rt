@@ -1,0 +1,377 @@
+//! A device that refuses every call after the first few.
+
+ghost use Rattle.mail_store.specs.Fault.{is_refusal};
+
+use mail_store::{Edges, FlatFile, Folder, MaildirDisk, StoreFault, admit, refuse};
+use mail_terms::FailureCount;
+
+/// A device that passes its first calls on to another one and then refuses every call, so that each
+/// place where a device can fail can be tried. It counts the refusals of both.
+#[derive(Drop)]
+pub struct Fused<D> {
+    device: D,
+    passes_left: u64,
+    takes_effect: bool,
+    failures: FailureCount,
+}
+
+impl<D> Fused<D> {
+    ghost use Rattle.std.specs.Prelude.{◌≡◌, ◌↔◌, ◌+◌, ◌-◌, ◌<◌, true, false, IfErr, IsTrue, OnErr, OnOk};
+    ghost use Rattle.mail_terms.specs.FailureCount.{Tallies, refuses, greatest_count, counted_up};
+    ghost use Rattle.test_devices.specs.StoreFuse.{device_of, passes_left, effect_is_due, refusals};
+
+    /// Passes `passes` calls that return a `Result` on to the device, and refuses every later one.
+    /// If `takes_effect` is true, the first call that it refuses itself still takes effect: whole,
+    /// if it is `settle` or `replace`, and on the first half of its bytes, rounded down, if it is
+    /// `append`.
+    pub fn new(device: D, passes: u64, takes_effect: bool) -> Fused<D>
+        ensures device { device_of result ≡ device }
+        ensures passes { passes_left result ≡ passes }
+        ensures effect { effect_is_due result ≡ takes_effect }
+        ensures refusals { refusals result ≡ 0 }
+    {
+        Fused {
+            device,
+            passes_left: passes,
+            takes_effect,
+            failures: FailureCount::new(),
+        }
+    }
+
+    /// The device.
+    pub fn device(&self) -> &D
+        ensures { result.now ≡ device_of self.now }
+    {
+        &self.device
+    }
+
+    /// Gives the device back.
+    pub fn into_inner(self) -> D
+        ensures { result ≡ device_of self }
+    {
+        self.device
+    }
+
+    // Whether a call that the fuse refuses now takes effect.
+    fn is_last_effect(&self) -> bool
+        ensures { IsTrue result ↔ ((self.now.failures < greatest_count) × (self.now.passes_left ≡ 0) × (self.now.takes_effect ≡ true)) }
+    {
+        !self.failures.is_full() && self.passes_left == 0 && self.takes_effect
+    }
+
+    // Uses up a pass, or refuses if none is left.
+    fn pass(&mut self) -> Result<(), StoreFault>
+        ensures passed { OnOk result ((self.old.failures < greatest_count) × (0 < self.old.passes_left)
+            × (self.new ≡ record self.old { passes_left = self.old.passes_left - 1 })) }
+        ensures fault { IfErr result (λ fault. fault ≡ StoreFault.Refused) }
+        ensures behind { OnErr result (self.new.device ≡ self.old.device) }
+        ensures counted { OnErr result (self.new.failures ≡ counted_up self.old.failures) }
+        ensures blown { OnErr result (self.old.failures < greatest_count → (self.old.passes_left ≡ 0)
+            × (self.new ≡ record self.old { failures = self.old.failures + 1; takes_effect = false })) }
+        ensures sound { OnErr result (self.new.failures < greatest_count → (self.old.failures < greatest_count)
+            × (self.new ≡ record self.old { failures = self.old.failures + 1; takes_effect = false })) }
+    {
+        admit(&self.failures)?;
+        if self.passes_left == 0 {
+            return Err(self.blow());
+        }
+        self.passes_left -= 1;
+        Ok(())
+    }
+
+    // Counts a refusal of the fuse's own; no later one takes effect.
+    fn blow(&mut self) -> StoreFault
+        requires { self.old.failures < greatest_count }
+        ensures fault { result ≡ StoreFault.Refused }
+        ensures counted { self.new ≡ record self.old { failures = self.old.failures + 1; takes_effect = false } }
+    {
+        self.takes_effect = false;
+        refuse(&mut self.failures)
+    }
+
+    // Counts the device's answer if it is a refusal.
+    fn tally<T>(&mut self, answer: Result<T, StoreFault>) -> Result<T, StoreFault>
+        requires { self.old.failures < greatest_count }
+        ensures answer { result ≡ answer }
+        ensures count { Tallies (refuses is_refusal answer) self.old.failures self.new.failures }
+        ensures others { self.new ≡ record self.old { failures = self.new.failures } }
+    {
+        match answer {
+            Err(StoreFault::Refused) => Err(refuse(&mut self.failures)),
+            other => other,
+        }
+    }
+}
+
+impl<D: MaildirDisk> MaildirDisk for Fused<D> {
+    ghost use Rattle.std.specs.Prelude.{◌≡◌, ◌<◌, IfErr, IsSome, OnErr, OnOk, Some, None};
+    ghost use Rattle.mail_terms.specs.FailureCount.{Tallies, refuses, greatest_count};
+    ghost use Rattle.mail_store.specs.Fault.{IsDeviceFault};
+    ghost use Rattle.mail_store.specs.Maildir.{AfterTaking, IsThere, Lists, ListsAll, Checks, Flushes, Begins, Adds, Settles};
+    ghost use Rattle.mail_store.specs.Maildir.{dropped, name_begun};
+    ghost use Rattle.mail_store.specs.Devices.{DiskDoes, DiskKeeps};
+    ghost use Rattle.mail_store.specs.Power.{FlushedOutlive, KeepsLeft, KeepsMail, SettledOutlives, ToldStay};
+    ghost use Rattle.test_devices.specs.StoreFuse.{device_of, passes_left, effect_is_due, refusals, fused_maildir};
+    ghost use Rattle.test_devices.specs.StoreFuse.{FusedIsSound, Burns, Fuses, SettlesBehind};
+
+    ghost maildir = { λ f. fused_maildir D.maildir f };
+
+    ghost stays = { λ f. D.stays (device_of f) };
+
+    ghost outlives = { λ f. D.outlives (device_of f) };
+
+    ghost sound = { λ f. FusedIsSound D.sound f };
+
+    fn names(&mut self, folder: Folder) -> Result<Vec<String>, StoreFault>
+        ensures lists { DiskDoes ⟦<Fused<D> as MaildirDisk>⟧ (λ old new.
+            AfterTaking old (λ left. Lists left folder result new)) self.old self.new }
+        ensures fault { IfErr result IsDeviceFault }
+        ensures lasts { FusedIsSound D.sound self.new → KeepsLeft (D.maildir (device_of self.old)).files
+            (D.maildir (device_of self.new)).files (D.stays (device_of self.old)) (D.outlives (device_of self.old))
+            (D.stays (device_of self.new)) (D.outlives (device_of self.new)) }
+        ensures count { Tallies (refuses is_refusal result) (refusals self.old) (refusals self.new) }
+        ensures fuse { Fuses (λ d. (D.maildir d).failures) self.old result self.new }
+    {
+        self.pass()?;
+        let answer = self.device.names(folder);
+        self.tally(answer)
+    }
+
+    fn all_names(&mut self) -> Result<Vec<String>, StoreFault>
+        ensures lists { DiskDoes ⟦<Fused<D> as MaildirDisk>⟧ (λ old new.
+            AfterTaking old (λ left. ListsAll left result new)) self.old self.new }
+        ensures fault { IfErr result IsDeviceFault }
+        ensures lasts { FusedIsSound D.sound self.new → KeepsLeft (D.maildir (device_of self.old)).files
+            (D.maildir (device_of self.new)).files (D.stays (device_of self.old)) (D.outlives (device_of self.old))
+            (D.stays (device_of self.new)) (D.outlives (device_of self.new))
+            × ToldStay result (D.stays (device_of self.new)) }
+        ensures count { Tallies (refuses is_refusal result) (refusals self.old) (refusals self.new) }
+        ensures fuse { Fuses (λ d. (D.maildir d).failures) self.old result self.new }
+    {
+        self.pass()?;
+        let answer = self.device.all_names();
+        self.tally(answer)
+    }
+
+    fn check(&mut self, folder: Folder) -> Result<(), StoreFault>
+        ensures checks { DiskDoes ⟦<Fused<D> as MaildirDisk>⟧ (λ old new. Checks old folder result new) self.old self.new }
+        ensures fault { IfErr result IsDeviceFault }
+        ensures keeps { DiskKeeps ⟦<Fused<D> as MaildirDisk>⟧ self.old result self.new }
+        ensures fuse { Fuses (λ d. (D.maildir d).failures) self.old result self.new }
+    {
+        self.pass()?;
+        let answer = self.device.check(folder);
+        self.tally(answer)
+    }
+
+    fn flush(&mut self, stems: &[String]) -> Result<(), StoreFault>
+        ensures flushes { DiskDoes ⟦<Fused<D> as MaildirDisk>⟧ (λ old new. Flushes old result new) self.old self.new }
+        ensures fault { IfErr result (λ e. e ≡ StoreFault.Refused) }
+        ensures keeps { DiskKeeps ⟦<Fused<D> as MaildirDisk>⟧ self.old result self.new }
+        ensures lasts { FusedIsSound D.sound self.new → FlushedOutlive (fused_maildir D.maildir self.old) stems.now result
+            (D.stays (device_of self.old)) (D.outlives (device_of self.new)) }
+        ensures fuse { Fuses (λ d. (D.maildir d).failures) self.old result self.new }
+    {
+        self.pass()?;
+        let answer = self.device.flush(stems);
+        self.tally(answer)
+    }
+
+    fn begin(&mut self, name: &str) -> Result<(), StoreFault>
+        requires { FusedIsSound D.sound self.old → (D.maildir (device_of self.old)).begun ≡ None }
+        ensures begins { DiskDoes ⟦<Fused<D> as MaildirDisk>⟧ (λ old new. Begins old name.now result new) self.old self.new }
+        ensures begun { OnOk result (name_begun (D.maildir (device_of self.new)) ≡ Some name.now)
+            × OnErr result ((D.maildir (device_of self.new)).begun ≡ (D.maildir (device_of self.old)).begun) }
+        ensures fault { IfErr result IsDeviceFault }
+        ensures keeps { DiskKeeps ⟦<Fused<D> as MaildirDisk>⟧ self.old result self.new }
+        ensures fuse { Fuses (λ d. (D.maildir d).failures) self.old result self.new }
+    {
+        self.pass()?;
+        let answer = self.device.begin(name);
+        self.tally(answer)
+    }
+
+    fn add(&mut self, bytes: &[u8]) -> Result<(), StoreFault>
+        requires { FusedIsSound D.sound self.old → IsSome (D.maildir (device_of self.old)).begun }
+        ensures adds { DiskDoes ⟦<Fused<D> as MaildirDisk>⟧ (λ old new. Adds old bytes.now result new) self.old self.new }
+        ensures begun { name_begun (D.maildir (device_of self.new)) ≡ name_begun (D.maildir (device_of self.old)) }
+        ensures fault { IfErr result (λ e. e ≡ StoreFault.Refused) }
+        ensures keeps { DiskKeeps ⟦<Fused<D> as MaildirDisk>⟧ self.old result self.new }
+        ensures fuse { Fuses (λ d. (D.maildir d).failures) self.old result self.new }
+    {
+        self.pass()?;
+        let answer = self.device.add(bytes);
+        self.tally(answer)
+    }
+
+    fn settle(&mut self, name: &str) -> Result<(), StoreFault>
+        requires begun { FusedIsSound D.sound self.old → IsSome (D.maildir (device_of self.old)).begun }
+        requires not_there { FusedIsSound D.sound self.old → IsThere (D.maildir (device_of self.old)) name.now → ⊥ }
+        ensures settles { DiskDoes ⟦<Fused<D> as MaildirDisk>⟧ (λ old new. Settles old name.now result new) self.old self.new }
+        ensures none_begun { (D.maildir (device_of self.new)).begun ≡ None }
+        ensures fault { IfErr result (λ e. e ≡ StoreFault.Refused) }
+        ensures keeps { DiskKeeps ⟦<Fused<D> as MaildirDisk>⟧ self.old result self.new }
+        ensures lasts { FusedIsSound D.sound self.new
+            → SettledOutlives (fused_maildir D.maildir self.old) name.now result (D.outlives (device_of self.new)) }
+        ensures fuse { (refusals self.old < greatest_count → Burns (λ d. (D.maildir d).failures) self.old result self.new)
+            × (passes_left self.old ≡ 0 → FusedIsSound D.sound self.new
+            → SettlesBehind (effect_is_due self.old) (D.maildir (device_of self.old)) name.now (D.maildir (device_of self.new))) }
+    {
+        if self.is_last_effect() {
+            let _ = self.device.settle(name);
+            return Err(self.blow());
+        }
+        if let Err(fault) = self.pass() {
+            self.device.abandon();
+            return Err(fault);
+        }
+        let answer = self.device.settle(name);
+        self.tally(answer)
+    }
+
+    fn abandon(&mut self)
+        ensures drops { DiskDoes ⟦<Fused<D> as MaildirDisk>⟧ (λ old new. new ≡ dropped old) self.old self.new }
+        ensures none_begun { (D.maildir (device_of self.new)).begun ≡ None }
+        ensures lasts { FusedIsSound D.sound self.new → KeepsMail (D.stays (device_of self.old)) (D.outlives (device_of self.old))
+            (D.stays (device_of self.new)) (D.outlives (device_of self.new)) }
+        ensures count { refusals self.new ≡ refusals self.old }
+        ensures fuse { self.new ≡ record self.old { device = self.new.device } }
+    {
+        self.device.abandon();
+    }
+
+    fn failures(&self) -> u64 {
+        self.failures.count()
+    }
+}
+
+impl<D: FlatFile> FlatFile for Fused<D> {
+    ghost use Rattle.std.specs.Prelude.{◌≡◌, ◌≤◌, ◌<◌, length, IfErr, IfOk, IsSome, OnOk};
+    ghost use Rattle.mail_terms.specs.FailureCount.{Tallies, refuses, greatest_count};
+    ghost use Rattle.mail_store.specs.FlatFile.{Loads, Measures, ReadsAt, Appends, Cuts, Replaces, HasBytes};
+    ghost use Rattle.mail_store.specs.Devices.{FileDoes, FileFlushes, FileReads, FileWrites};
+    ghost use Rattle.mail_store.specs.Power.{LastsWhole, LeavesEither, LeavesFronts, LeavesLonger, LeavesPart};
+    ghost use Rattle.test_devices.specs.StoreFuse.{device_of, passes_left, effect_is_due, refusals, fused_file};
+    ghost use Rattle.test_devices.specs.StoreFuse.{FusedIsSound, Burns, Fuses, AppendsBehind, ReplacesBehind};
+
+    ghost stored = { λ f. fused_file D.stored f };
+
+    ghost may_leave = { λ f. D.may_leave (device_of f) };
+
+    ghost is_on_disk = { λ f. D.is_on_disk (device_of f) };
+
+    ghost is_sure = { λ f. D.is_sure (device_of f) };
+
+    ghost sound = { λ f. FusedIsSound D.sound f };
+
+    fn load(&mut self) -> Result<Vec<u8>, StoreFault>
+        ensures loads { FileDoes ⟦<Fused<D> as FlatFile>⟧ (λ old new. Loads old result new) self.old self.new }
+        ensures keeps { FileFlushes ⟦<Fused<D> as FlatFile>⟧ self.old result self.new }
+        ensures fuse { Fuses (λ d. (D.stored d).failures) self.old result self.new }
+    {
+        self.pass()?;
+        let answer = self.device.load();
+        self.tally(answer)
+    }
+
+    fn peek(&mut self) -> Result<Vec<u8>, StoreFault>
+        ensures loads { FileDoes ⟦<Fused<D> as FlatFile>⟧ (λ old new. Loads old result new) self.old self.new }
+        ensures keeps { FileReads ⟦<Fused<D> as FlatFile>⟧ self.old result self.new }
+        ensures sure { FusedIsSound D.sound self.new → D.is_sure (device_of self.old) → D.is_sure (device_of self.new) }
+        ensures fuse { Fuses (λ d. (D.stored d).failures) self.old result self.new }
+    {
+        self.pass()?;
+        let answer = self.device.peek();
+        self.tally(answer)
+    }
+
+    fn edges(&mut self) -> Result<Edges, StoreFault>
+        ensures measures { FileDoes ⟦<Fused<D> as FlatFile>⟧ (λ old new. Measures old result new) self.old self.new }
+        ensures keeps { FileFlushes ⟦<Fused<D> as FlatFile>⟧ self.old result self.new }
+        ensures fuse { Fuses (λ d. (D.stored d).failures) self.old result self.new }
+    {
+        self.pass()?;
+        let answer = self.device.edges();
+        self.tally(answer)
+    }
+
+    fn peek_edges(&mut self) -> Result<Edges, StoreFault>
+        ensures measures { FileDoes ⟦<Fused<D> as FlatFile>⟧ (λ old new. Measures old result new) self.old self.new }
+        ensures keeps { FileReads ⟦<Fused<D> as FlatFile>⟧ self.old result self.new }
+        ensures sure { FusedIsSound D.sound self.new → D.is_sure (device_of self.old) → D.is_sure (device_of self.new) }
+        ensures fuse { Fuses (λ d. (D.stored d).failures) self.old result self.new }
+    {
+        self.pass()?;
+        let answer = self.device.peek_edges();
+        self.tally(answer)
+    }
+
+    fn read_at(&mut self, start: u64, buf: &mut [u8]) -> Result<usize, StoreFault>
+        ensures within { IfOk result (λ count. count ≤ length buf.new) }
+        ensures reads { FileDoes ⟦<Fused<D> as FlatFile>⟧ (λ old new. ReadsAt old start result buf.new new) self.old self.new }
+        ensures keeps { FileFlushes ⟦<Fused<D> as FlatFile>⟧ self.old result self.new }
+        ensures fuse { Fuses (λ d. (D.stored d).failures) self.old result self.new }
+    {
+        self.pass()?;
+        let answer = self.device.read_at(start, buf);
+        self.tally(answer)
+    }
+
+    fn append(&mut self, bytes: &[u8]) -> Result<(), StoreFault>
+        requires { FusedIsSound D.sound self.old → IsSome (D.stored (device_of self.old)).content }
+        ensures appends { FileDoes ⟦<Fused<D> as FlatFile>⟧ (λ old new. Appends old bytes.now result new) self.old self.new }
+        ensures keeps { FusedIsSound D.sound self.new → LeavesLonger (D.may_leave (device_of self.old)) (D.may_leave (device_of self.new))
+            × (LastsWhole (D.stored (device_of self.old)).content (D.is_on_disk (device_of self.old)) (D.may_leave (device_of self.old))
+            → LeavesPart (fused_file D.stored self.old).content bytes.now (D.may_leave (device_of self.new))) }
+        ensures lasts { FileWrites ⟦<Fused<D> as FlatFile>⟧ self.old result self.new }
+        ensures fuse { (refusals self.old < greatest_count → Burns (λ d. (D.stored d).failures) self.old result self.new)
+            × (passes_left self.old ≡ 0 → FusedIsSound D.sound self.new
+            → AppendsBehind (effect_is_due self.old) (D.stored (device_of self.old)) bytes.now (D.stored (device_of self.new))) }
+    {
+        if self.is_last_effect() {
+            let _ = self.device.append(&bytes[..bytes.len() / 2]);
+            return Err(self.blow());
+        }
+        self.pass()?;
+        let answer = self.device.append(bytes);
+        self.tally(answer)
+    }
+
+    fn cut_to(&mut self, len: u64) -> Result<(), StoreFault>
+        requires { FusedIsSound D.sound self.old → HasBytes (D.stored (device_of self.old)) len }
+        ensures cuts { FileDoes ⟦<Fused<D> as FlatFile>⟧ (λ old new. Cuts old len result new) self.old self.new }
+        ensures keeps { FusedIsSound D.sound self.new → LeavesFronts len (D.may_leave (device_of self.old))
+            (D.may_leave (device_of self.new)) }
+        ensures lasts { FileWrites ⟦<Fused<D> as FlatFile>⟧ self.old result self.new }
+        ensures fuse { Fuses (λ d. (D.stored d).failures) self.old result self.new }
+    {
+        self.pass()?;
+        let answer = self.device.cut_to(len);
+        self.tally(answer)
+    }
+
+    fn replace(&mut self, bytes: &[u8]) -> Result<(), StoreFault>
+        ensures replaces { FileDoes ⟦<Fused<D> as FlatFile>⟧ (λ old new. Replaces old bytes.now result new) self.old self.new }
+        ensures fault { IfErr result (λ e. e ≡ StoreFault.Refused) }
+        ensures leaves { FusedIsSound D.sound self.new → LeavesEither (D.may_leave (device_of self.old)) bytes.now
+            (D.may_leave (device_of self.new)) }
+        ensures lasts { FusedIsSound D.sound self.new → OnOk result (D.is_sure (device_of self.new)
+            × LastsWhole (fused_file D.stored self.new).content (D.is_on_disk (device_of self.new)) (D.may_leave (device_of self.new))) }
+        ensures count { Tallies (refuses is_refusal result) (refusals self.old) (refusals self.new) }
+        ensures fuse { (refusals self.old < greatest_count → Burns (λ d. (D.stored d).failures) self.old result self.new)
+            × (passes_left self.old ≡ 0 → FusedIsSound D.sound self.new
+            → ReplacesBehind (effect_is_due self.old) (D.stored (device_of self.old)) bytes.now (D.stored (device_of self.new))) }
+    {
+        if self.is_last_effect() {
+            let _ = self.device.replace(bytes);
+            return Err(self.blow());
+        }
+        self.pass()?;
+        let answer = self.device.replace(bytes);
+        self.tally(answer)
+    }
+
+    fn failures(&self) -> u64 {
+        self.failures.count()
+    }
+}

@@ -1,0 +1,568 @@
+//! The folders of a Maildir in memory.
+
+ghost use Rattle.std.specs.Prelude.{◌≡◌, ◌↔◌, ◌≤◌, ◌||◌, ◌++◌, [], ◌∷◌, Contains, HoldsAt, IfNone, IfOk, IfSome, IsTrue, OnErr, OnOk};
+ghost use Rattle.std.specs.Prelude.{false, if◌then◌else◌, length, true, map, option_map, string_bytes};
+ghost use Rattle.std.specs.List.{filter};
+ghost use Rattle.mail_terms.specs.MaildirName.{base};
+ghost use Rattle.mail_store.specs.Maildir.{all_there};
+ghost use Rattle.mail_store.specs.Power.{is_among};
+ghost use Rattle.folder_store.specs.MailCalls.{flushed_by, named_by};
+ghost use Rattle.folder_store.specs.MailFolders.{Moved, MovesFile, entries_in, is_in, is_left, is_told, name_at, touches};
+ghost use Rattle.folder_store.specs.MailPower.{AreLeftAs, LosesMail};
+ghost use Rattle.test_devices.specs.MemoryFolders.{list_of, mail_file};
+
+use folder_store::MailFolders;
+use mail_store::{Folder, StoreFault, marks_keep_the_base, stem};
+use mail_terms::base;
+use std::alloc::{AllocError, Global};
+use std::marker::Model;
+
+/// A file of one of the folders, and what of it is on the disk.
+#[derive(Drop)]
+struct StoredMail {
+    is_new: bool,
+    name: String,
+    content: Vec<u8>,
+    is_flushed: bool,
+    is_named: bool,
+    left_new: bool,
+    left_cur: bool,
+    is_gone: bool,
+}
+
+/// What a reader does before a call, to the file that came at a place among those that are known.
+#[derive(Clone, Copy)]
+pub enum ReaderStep {
+    /// Nothing.
+    Rest,
+    /// Moves it to `new`, without marks.
+    ToNew(usize),
+    /// Moves it to `cur`, and marks it as seen.
+    ToCur(usize),
+    /// Takes it away.
+    Away(usize),
+}
+
+/// What a loss of power leaves of a file.
+#[derive(Clone, Copy)]
+pub enum MailLeft {
+    /// It is where calls see it.
+    Here,
+    /// It is in the other folder, if it left that one since the names there were last flushed.
+    Elsewhere,
+    /// It is gone, if no name of it is on the disk.
+    Gone,
+    /// Its first octets, as many as this number, unless it was flushed.
+    Front(usize),
+}
+
+/// The folders of a Maildir in memory, and a reader that moves files, or takes them away, before each call. A call is
+/// refused only if memory runs out, or if no file was made.
+#[derive(Drop)]
+pub struct MemoryFolders {
+    alloc: Global,
+    files: Vec<StoredMail>,
+    new_rests: bool,
+    cur_rests: bool,
+    made: Option<(Vec<u8>, bool)>,
+    steps: Vec<ReaderStep>,
+    next: usize,
+}
+
+impl Model for MemoryFolders {
+    ghost use Rattle.std.specs.Prelude.{map, option_map};
+    ghost use Rattle.mail_store.specs.Maildir.{all_there};
+    ghost use Rattle.folder_store.specs.MailFolders.{Directories};
+    ghost use Rattle.test_devices.specs.MemoryFolders.{draft_of, mail_file};
+
+    ghost Value = { Directories };
+
+    ghost view = { λ m. record {
+      there = all_there;
+      entries = map mail_file m.files.items;
+      new_rests = m.new_rests;
+      cur_rests = m.cur_rests;
+      made = option_map draft_of m.made;
+    } };
+}
+
+/// Appends the name of a file, if it is in the folder and wasn't taken away.
+fn add_name(names: &mut Vec<String>, file: &StoredMail, folder: Folder) -> Result<(), AllocError>
+    ensures { OnOk result (map string_bytes names.new.items ≡ map string_bytes names.old.items
+        ++ (if is_told folder (mail_file file.now) then string_bytes file.now.name ∷ [] else [])) }
+{
+    if file.is_told(folder) {
+        names.push(file.name.clone()?)?;
+    }
+    Ok(())
+}
+
+/// The names of the files of a folder.
+fn names_in(alloc: Global, files: &[StoredMail], folder: Folder) -> Result<Vec<String>, AllocError>
+    ensures { IfOk result (λ names. map string_bytes names.items ≡ map name_at (entries_in folder (map mail_file files.now))) }
+{
+    let mut names = Vec::new(alloc);
+    for file in files {
+        add_name(&mut names, file, folder)?;
+    }
+    Ok(names)
+}
+
+/// The files with what a flush of the names of a folder makes last.
+fn named_files(
+    alloc: Global,
+    files: &[StoredMail],
+    folder: Folder,
+) -> Result<Vec<StoredMail>, AllocError>
+    ensures { IfOk result (λ named. map mail_file named.items ≡ map (named_by folder) (map mail_file files.now)) }
+{
+    let mut named = Vec::new(alloc);
+    for file in files {
+        named.push(file.named_by(folder)?)?;
+    }
+    Ok(named)
+}
+
+/// Whether one of some texts is this one.
+fn is_one_of(texts: &[String], text: &str) -> bool
+    ensures is { result ≡ is_among texts.now text.now }
+    ensures has { IsTrue result ↔ Contains (map string_bytes texts.now) text.now }
+{
+    texts.iter().any(|other| other.as_str() == text)
+}
+
+/// The files with what a flush of those with these stems makes last.
+fn flushed_files(
+    alloc: Global,
+    files: &[StoredMail],
+    stems: &[String],
+) -> Result<Vec<StoredMail>, AllocError>
+    ensures { IfOk result (λ flushed. map mail_file flushed.items ≡ map (flushed_by stems.now) (map mail_file files.now)) }
+{
+    let mut flushed = Vec::new(alloc);
+    for file in files {
+        flushed.push(file.flushed_by(stems)?)?;
+    }
+    Ok(flushed)
+}
+
+/// What is left of some files, one by one.
+fn files_left(
+    alloc: Global,
+    files: &[StoredMail],
+    choices: &[MailLeft],
+) -> Result<Vec<StoredMail>, AllocError>
+    ensures { IfOk result (λ left. AreLeftAs (map mail_file files.now) (map mail_file left.items)) }
+{
+    let mut left = Vec::new(alloc);
+    for (i, file) in files.iter().enumerate() {
+        let choice = choices.get(i).copied().unwrap_or(MailLeft::Here);
+        let rest = file.left(choice)?;
+        add_left(&mut left, rest)?;
+    }
+    Ok(left)
+}
+
+/// Appends what is left of a file, if anything is.
+fn add_left(left: &mut Vec<StoredMail>, file: Option<StoredMail>) -> Result<(), AllocError>
+    ensures { OnOk result (map mail_file left.new.items ≡ map mail_file left.old.items ++ list_of (option_map mail_file file)) }
+{
+    match file {
+        Some(file) => {
+            left.push(file)?;
+            Ok(())
+        }
+        None => Ok(()),
+    }
+}
+
+/// Whether a folder still rests once a file was moved: it did, and the file wasn't and isn't there.
+fn still_rests(rests: bool, was_there: bool, is_there: bool) -> bool
+    ensures { IsTrue result → (rests ≡ true) × (was_there ≡ false) × (is_there ≡ false) }
+{
+    rests && !was_there && !is_there
+}
+
+/// The base of a name, with the mark of a file that was seen after it, unless it is for `new`.
+fn name_for(alloc: Global, name: &str, is_new: bool) -> Result<String, AllocError>
+    ensures { IfOk result (λ text. base (string_bytes text) ≡ base name.now) }
+{
+    marks_keep_the_base();
+    let mut text = String::from_str(alloc, base(name))?;
+    if is_new {
+        return Ok(text);
+    }
+    text.push_str(":2,S")?;
+    Ok(text)
+}
+
+impl StoredMail {
+    ghost use Rattle.test_devices.specs.MemoryFolders.{MayBeLeftAs, left_with, mail_file};
+
+    fn is_in(&self, folder: Folder) -> bool
+        ensures { result ≡ is_in folder (mail_file self.now) }
+    {
+        match folder {
+            Folder::New => self.is_new,
+            Folder::Cur => !self.is_new,
+        }
+    }
+
+    // Whether it is in the folder and wasn't taken away.
+    fn is_told(&self, folder: Folder) -> bool
+        ensures { result ≡ is_told folder (mail_file self.now) }
+    {
+        !self.is_gone && self.is_in(folder)
+    }
+
+    // Whether it is in the folder, or left it since the names there were last flushed.
+    fn touches(&self, folder: Folder) -> bool
+        ensures { result ≡ touches folder (mail_file self.now) }
+    {
+        match folder {
+            Folder::New => self.is_new || self.left_new,
+            Folder::Cur => !self.is_new || self.left_cur,
+        }
+    }
+
+    // Whether a flush of the names of the folder leaves a name of it on the disk.
+    fn is_named_by(&self, folder: Folder) -> bool
+        ensures { result ≡ (self.now.is_named || touches folder (mail_file self.now)) }
+    {
+        self.is_named || self.touches(folder)
+    }
+
+    fn copy(&self) -> Result<StoredMail, AllocError>
+        ensures { IfOk result (λ stored. mail_file stored ≡ mail_file self.now) }
+    {
+        Ok(StoredMail {
+            is_new: self.is_new,
+            name: self.name.clone()?,
+            content: self.content.clone()?,
+            is_flushed: self.is_flushed,
+            is_named: self.is_named,
+            left_new: self.left_new,
+            left_cur: self.left_cur,
+            is_gone: self.is_gone,
+        })
+    }
+
+    // The file once the names of a folder were flushed.
+    fn named_by(&self, folder: Folder) -> Result<StoredMail, AllocError>
+        ensures { IfOk result (λ stored. mail_file stored ≡ named_by folder (mail_file self.now)) }
+    {
+        let mut copy = self.copy()?;
+        copy.is_named = self.is_named_by(folder);
+        match folder {
+            Folder::New => copy.left_new = false,
+            Folder::Cur => copy.left_cur = false,
+        }
+        Ok(copy)
+    }
+
+    // Whether its bytes are on the disk once files with these stems were flushed.
+    fn is_flushed_by(&self, stems: &[String]) -> bool
+        ensures { result ≡ (flushed_by stems.now (mail_file self.now)).is_flushed }
+    {
+        self.is_flushed || is_one_of(stems, stem(self.name.as_str()))
+    }
+
+    // The file once those with these stems were flushed.
+    fn flushed_by(&self, stems: &[String]) -> Result<StoredMail, AllocError>
+        ensures { IfOk result (λ stored. mail_file stored ≡ flushed_by stems.now (mail_file self.now)) }
+    {
+        let mut copy = self.copy()?;
+        copy.is_flushed = self.is_flushed_by(stems);
+        Ok(copy)
+    }
+
+    // The file once a reader moved it to `new`, or to `cur` with a mark.
+    fn moved(&self, alloc: Global, is_new: bool) -> Result<StoredMail, AllocError>
+        ensures moves { IfOk result (λ stored. MovesFile (mail_file self.now) (mail_file stored)) }
+        ensures place { IfOk result (λ stored. stored.is_new ≡ is_new) }
+    {
+        let name = name_for(alloc, self.name.as_str(), is_new)?;
+        let content = self.content.clone()?;
+        Ok(StoredMail {
+            is_new,
+            name,
+            content,
+            is_flushed: self.is_flushed,
+            is_named: self.is_named,
+            left_new: self.touches(Folder::New),
+            left_cur: self.touches(Folder::Cur),
+            is_gone: self.is_gone,
+        })
+    }
+
+    // The file after a loss of power, all of it on the disk.
+    fn left_with(&self, is_new: bool, content: Vec<u8>) -> Result<StoredMail, AllocError>
+        ensures { IfOk result (λ stored. mail_file stored ≡ left_with is_new content.items (mail_file self.now)) }
+    {
+        Ok(StoredMail {
+            is_new,
+            name: self.name.clone()?,
+            content,
+            is_flushed: true,
+            is_named: true,
+            left_new: false,
+            left_cur: false,
+            is_gone: self.is_gone,
+        })
+    }
+
+    // Whether it may be in the other folder: it left that one since the names there were last flushed.
+    fn may_be_elsewhere(&self) -> bool
+        ensures { result ≡ (if self.now.is_new then self.now.left_cur else self.now.left_new) }
+    {
+        if self.is_new {
+            self.left_cur
+        } else {
+            self.left_new
+        }
+    }
+
+    // What is left of the file, as the choice says.
+    fn left(&self, choice: MailLeft) -> Result<Option<StoredMail>, AllocError>
+        ensures { IfOk result (λ left. MayBeLeftAs (mail_file self.now) (option_map mail_file left)) }
+    {
+        match choice {
+            MailLeft::Gone if !self.is_named => Ok(None),
+            MailLeft::Elsewhere if self.may_be_elsewhere() => {
+                Ok(Some(self.left_with(!self.is_new, self.content.clone()?)?))
+            }
+            MailLeft::Front(len) if !self.is_flushed => {
+                let mut bytes = self.content.clone()?;
+                bytes.truncate(len);
+                Ok(Some(self.left_with(self.is_new, bytes)?))
+            }
+            _ => Ok(Some(self.left_with(self.is_new, self.content.clone()?)?)),
+        }
+    }
+}
+
+impl MemoryFolders {
+    /// Folders without files, and what a reader does before each of the calls that follow.
+    pub fn new(alloc: Global, steps: Vec<ReaderStep>) -> MemoryFolders
+        ensures { result ≡ record { there = all_there; entries = []; new_rests = false; cur_rests = false; made = None } }
+    {
+        MemoryFolders {
+            alloc,
+            files: Vec::new(alloc),
+            new_rests: false,
+            cur_rests: false,
+            made: None,
+            steps,
+            next: 0,
+        }
+    }
+
+    /// The bytes of the file that came at this place among those that are there.
+    pub fn content_at(&self, place: usize) -> Option<&[u8]>
+        ensures some { IfSome result (λ bytes. HoldsAt (λ s. s.content ≡ bytes.now) self.now.entries place) }
+        ensures none { IfNone result (length self.now.entries ≤ place) }
+    {
+        match self.files.get(place) {
+            Some(file) => Some(file.content.as_slice()),
+            None => None,
+        }
+    }
+
+    /// Loses the power: what is left of each file is what its choice says, or what calls see if it
+    /// has none. The choices are in the order in which the files came. The file that was made is
+    /// gone. Refused if memory runs out: then nothing is lost.
+    pub fn lose_power(&mut self, choices: &[MailLeft]) -> Result<(), StoreFault>
+        ensures ok { OnOk result (LosesMail self.old self.new) }
+        ensures err { OnErr result (self.new ≡ self.old) }
+    {
+        match files_left(self.alloc, &self.files, choices) {
+            Ok(files) => {
+                self.files = files;
+                self.made = None;
+                Ok(())
+            }
+            Err(_) => Err(StoreFault::Refused),
+        }
+    }
+
+    // What the reader does before a call.
+    fn let_reader_move(&mut self)
+        ensures { Moved self.old self.new }
+    {
+        let step = self
+            .steps
+            .get(self.next)
+            .copied()
+            .unwrap_or(ReaderStep::Rest);
+        self.next = self.next.saturating_add(1);
+        match step {
+            ReaderStep::Rest => {}
+            ReaderStep::ToNew(place) => self.move_file(place, true),
+            ReaderStep::ToCur(place) => self.move_file(place, false),
+            ReaderStep::Away(place) => self.take_file(place),
+        }
+    }
+
+    // Moves a file to `new` or to `cur`. If there is none at the place, or memory runs out, nothing is
+    // moved.
+    fn move_file(&mut self, place: usize, is_new: bool)
+        ensures { Moved self.old self.new }
+    {
+        if place >= self.files.len() {
+            return;
+        }
+        let file = &self.files[place];
+        let was_new = file.is_new;
+        let Ok(moved) = file.moved(self.alloc, is_new) else {
+            return;
+        };
+        self.new_rests = still_rests(self.new_rests, was_new, is_new);
+        self.cur_rests = still_rests(self.cur_rests, !was_new, !is_new);
+        self.files[place] = moved;
+    }
+
+    // Takes a file away. If there is none at the place, nothing is taken.
+    fn take_file(&mut self, place: usize)
+        ensures { Moved self.old self.new }
+    {
+        if place >= self.files.len() {
+            return;
+        }
+        let file = &mut self.files[place];
+        let was_new = file.is_new;
+        file.is_gone = true;
+        self.new_rests = still_rests(self.new_rests, was_new, was_new);
+        self.cur_rests = still_rests(self.cur_rests, !was_new, !was_new);
+    }
+
+    // Leaves out the files that the reader took away.
+    fn forget_taken(&mut self)
+        ensures { self.new ≡ record self.old { entries = filter is_left self.old.entries } }
+    {
+        self.files.retain(|file| !file.is_gone);
+    }
+}
+
+impl MailFolders for MemoryFolders {
+    ghost directories = { λ m. m };
+
+    ghost sound = { λ _. Unit {0} };
+
+    fn check(&mut self, _folder: Folder) -> Result<(), StoreFault> {
+        self.let_reader_move();
+        let _ = self.files.len();
+        Ok(())
+    }
+
+    fn list(&mut self, folder: Folder) -> Result<Vec<String>, StoreFault> {
+        self.let_reader_move();
+        let Ok(names) = names_in(self.alloc, &self.files, folder) else {
+            return Err(StoreFault::Refused);
+        };
+        self.forget_taken();
+        match folder {
+            Folder::New => self.new_rests = true,
+            Folder::Cur => self.cur_rests = true,
+        }
+        Ok(names)
+    }
+
+    fn rests(&mut self, folder: Folder) -> Result<bool, StoreFault> {
+        self.let_reader_move();
+        match folder {
+            Folder::New => Ok(self.new_rests),
+            Folder::Cur => Ok(self.cur_rests),
+        }
+    }
+
+    fn may_list_again(&mut self, _times: u32) -> bool {
+        true
+    }
+
+    fn has(&mut self, name: &str) -> Result<bool, StoreFault> {
+        self.let_reader_move();
+        let Ok(names) = names_in(self.alloc, &self.files, Folder::New) else {
+            return Err(StoreFault::Refused);
+        };
+        Ok(is_one_of(&names, name))
+    }
+
+    fn flush_files(&mut self, stems: &[String]) -> Result<(), StoreFault> {
+        self.let_reader_move();
+        match flushed_files(self.alloc, &self.files, stems) {
+            Ok(files) => {
+                self.files = files;
+                Ok(())
+            }
+            Err(_) => Err(StoreFault::Refused),
+        }
+    }
+
+    fn make(&mut self, _name: &str) -> Result<(), StoreFault> {
+        self.let_reader_move();
+        self.made = Some((Vec::new(self.alloc), false));
+        Ok(())
+    }
+
+    fn write(&mut self, bytes: &[u8]) -> Result<(), StoreFault> {
+        self.let_reader_move();
+        let Some((mut content, _)) = self.made.take() else {
+            return Err(StoreFault::Refused);
+        };
+        if content.extend_from_slice(bytes).is_err() {
+            return Err(StoreFault::Refused);
+        }
+        self.made = Some((content, false));
+        Ok(())
+    }
+
+    fn flush_made(&mut self) -> Result<(), StoreFault> {
+        self.let_reader_move();
+        let Some((content, _)) = self.made.take() else {
+            return Err(StoreFault::Refused);
+        };
+        self.made = Some((content, true));
+        Ok(())
+    }
+
+    fn put(&mut self, name: &str) -> Result<(), StoreFault> {
+        self.let_reader_move();
+        let Some((content, is_flushed)) = self.made.take() else {
+            return Err(StoreFault::Refused);
+        };
+        let Ok(name) = String::from_str(self.alloc, name) else {
+            return Err(StoreFault::Refused);
+        };
+        let file = StoredMail {
+            is_new: true,
+            name,
+            content,
+            is_flushed,
+            is_named: false,
+            left_new: false,
+            left_cur: false,
+            is_gone: false,
+        };
+        if self.files.push(file).is_err() {
+            return Err(StoreFault::Refused);
+        }
+        self.new_rests = false;
+        Ok(())
+    }
+
+    fn discard(&mut self) {
+        self.let_reader_move();
+        self.made = None;
+    }
+
+    fn flush_names(&mut self, folder: Folder) -> Result<(), StoreFault> {
+        self.let_reader_move();
+        match named_files(self.alloc, &self.files, folder) {
+            Ok(files) => {
+                self.files = files;
+                Ok(())
+            }
+            Err(_) => Err(StoreFault::Refused),
+        }
+    }
+}
