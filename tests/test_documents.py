@@ -26,7 +26,7 @@ NAME = re.compile(r"[A-Za-z_][A-Za-z0-9_]*")
 # Names of other programs and of what users have: nothing here has such a name.
 OTHERS = {"stunnel", "socat", "dovecot", "mutt", "fetchmail", "mpop", "Display", "BrokenUIDLPOP3Retriever", "killsize"}
 # The sources of the lines that report faults.
-TELLING = ("crates/getmail_program/src/failure.rt", "crates/fetch_session/src/text.rt", "crates/rc_file/src/text.rt")
+TELLING = ("crates/getmail_setup/src/failure.rt", "crates/fetch_session/src/text.rt", "crates/rc_file/src/text.rt")
 # The most lines of a document, and the most words of all documents and man pages together.
 MOST_LINES = {"README.md": 100, "docs/PROVED.md": 350, "docs/ARCHITECTURE.md": 200}
 MOST_WORDS = 22_000

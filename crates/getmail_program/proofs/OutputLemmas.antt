@@ -5,9 +5,9 @@ use Rattle.rc_file.specs.declared.settings.Settings.{Settings}
 use Rattle.fetch_session.specs.Text.{fault_text}
 use Rattle.fetch_session.specs.declared.fault.Fault.{Fault}
 use Rattle.fetch_session.specs.declared.report.Outcome.{Outcome}
-use Rattle.getmail_program.specs.declared.output.Output.{Output}
-use Rattle.getmail_program.specs.declared.why.Errors.{Errors}
-use Rattle.getmail_program.specs.Output.{Puts, number_text}
+use Rattle.getmail_setup.specs.declared.output.Output.{Output}
+use Rattle.getmail_setup.specs.declared.errors.Errors.{Errors}
+use Rattle.getmail_setup.specs.Output.{Puts, number_text}
 use Rattle.getmail_program.specs.Telling.{TellsCut, fault_line, outcome_line}
 
 pub puts_both : {W : Type 0} (contents : W → Option (List ℕ)) (old mid new : Output W) (first second : List ℕ)

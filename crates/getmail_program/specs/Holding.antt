@@ -13,9 +13,16 @@ use Rattle.fetch_session.specs.Lasting.{RunsSession}
 use Rattle.fetch_session.specs.Pretend.{Pretends, told_in, told_nothing}
 use Rattle.fetch_session.specs.Refusal.{IsWithinLimits}
 use Rattle.fetch_session.specs.Session.{keeping}
-use Rattle.fetch_session.specs.Target.{AfterTakingIn, is_sound, stores_of, target_of}
+use Rattle.fetch_session.specs.Target.{AfterTakingIn, Entries, Files, Kind, is_sound, stores_of, target_of}
+use Rattle.rc_file.specs.declared.settings.Dest.{Dest}
+use Rattle.rc_file.specs.declared.settings.Dest.TheVariants.{Maildir, Mboxrd}
 use Rattle.getmail_program.specs.declared.told.Told.{Told}
 use Rattle.getmail_program.specs.declared.told.Told.TheVariants.{Done, Ahead}
+
+-- the kind of store that a destination names
+abbrev pub kind_in : Dest → Kind
+kind_in (Maildir path) = Files
+kind_in (Mboxrd path) = Entries
 
 -- what an account holds that is made of these parts
 abbrev pub holding_of : {D F : Type 0} → Settings → Store D F → F → Holding D F

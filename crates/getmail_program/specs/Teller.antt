@@ -3,7 +3,7 @@ use Rattle.std.specs.Prelude.{◌≡◌, ℕ, List, [], ◌++◌, Option}
 use Rattle.std.proofs.Common.{sym, ap, ◌∙◌, append_assoc, append-nil}
 use Rattle.std.proofs.KnownBytes.{Appends-nil, Appends-trans}
 use Rattle.getmail_program.specs.declared.teller.Teller.{Teller}
-use Rattle.getmail_program.specs.Output.{Puts}
+use Rattle.getmail_setup.specs.Output.{Puts}
 
 -- it has the same output, and keeps what it wrote in the same place
 abbrev pub HasSameLinks : {O : Type 0} → Teller O → Teller O → Type 0

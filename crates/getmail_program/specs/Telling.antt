@@ -11,14 +11,14 @@ use Rattle.fetch_session.specs.declared.message_preview.MessagePreview.{MessageP
 use Rattle.fetch_session.specs.Reasons.{told_report}
 use Rattle.fetch_session.specs.Telling.{preview_text}
 use Rattle.fetch_session.specs.Text.{fault_text, outcome_number}
-use Rattle.getmail_program.specs.declared.output.Output.{Output}
-use Rattle.getmail_program.specs.declared.output.Refusal.{Refusal}
-use Rattle.getmail_program.specs.declared.output.Refusal.TheVariants.{NoMemory, Refused}
+use Rattle.getmail_setup.specs.declared.output.Output.{Output}
+use Rattle.getmail_setup.specs.declared.output.Refusal.{Refusal}
+use Rattle.getmail_setup.specs.declared.output.Refusal.TheVariants.{NoMemory, Refused}
 use Rattle.getmail_program.specs.declared.ending.Fetched.{Fetched}
 use Rattle.getmail_program.specs.declared.told.Told.{Told}
 use Rattle.getmail_program.specs.declared.told.Told.TheVariants.{Done, Ahead}
-use Rattle.getmail_program.specs.declared.why.Errors.{Errors}
-use Rattle.getmail_program.specs.Output.{Puts}
+use Rattle.getmail_setup.specs.declared.errors.Errors.{Errors}
+use Rattle.getmail_setup.specs.Output.{Puts}
 
 -- ---- what a session says
 

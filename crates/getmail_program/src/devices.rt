@@ -2,17 +2,14 @@
 ghost use Rattle.std.specs.Prelude.{◌≡◌, ◌≤◌};
 ghost use Rattle.rc_file.specs.Settings.{IsValid};
 ghost use Rattle.fetch_session.specs.Target.{NoneBegun, kind_of};
-ghost use Rattle.getmail_program.specs.Places.{kind_in};
+ghost use Rattle.getmail_program.specs.Holding.{kind_in};
 
-use crate::output::Output;
 use crate::run::{Parts, fetch_with};
-use crate::setup::{Paths, Setup, account_of};
-use crate::shown_wire::ShownWire;
 use crate::told::Manner;
-use crate::why::Errors;
 use fetch_rules::{Dest, Settings};
 use fetch_session::Store;
 use folder_store::{FolderMaildir, HostFile, HostFolder, HostFolders, ProcessMark};
+use getmail_setup::{Errors, Output, Paths, Setup, ShownWire, account_of};
 use mail_store::{FlatFile, MaildirDisk};
 use pop3_wire::Wire;
 use std::hash::BuildHasher;

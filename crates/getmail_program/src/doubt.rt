@@ -1,9 +1,9 @@
 //! What would keep a run from storing messages although a preview of it found nothing wrong.
 ghost use Rattle.getmail_program.specs.Holding.{SaysAhead};
 
-use crate::place::joined;
 use fetch_rules::Dest;
 use fetch_session::{Fate, Fault, Outcome, Preview, Why};
+use getmail_setup::joined;
 use std::io::{self, ErrorKind, Read};
 use std::rt::Files;
 use std::vec::Vec;

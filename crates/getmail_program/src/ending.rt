@@ -1,16 +1,15 @@
 //! What is written to standard error at a session's end.
 ghost use Rattle.std.specs.Prelude.{◌≡◌, ◌≤◌};
-ghost use Rattle.getmail_program.specs.Output.{Puts};
+ghost use Rattle.getmail_setup.specs.Output.{Puts};
 ghost use Rattle.getmail_program.specs.Telling.{TellsCut, TellsErrors, lacks_memory, outcome_line, status_when, unwritten_line};
 
-use crate::failure::OUT_OF_MEMORY;
 use crate::fault_line::put_fault;
 use crate::left_out::tell_left_out;
-use crate::output::{Output, Refusal};
+use crate::reason::reason_line;
 use crate::told::Told;
-use crate::why::{Errors, reason_line};
 use fetch_rules::Settings;
 use fetch_session::{Outcome, fault_number};
+use getmail_setup::{Errors, OUT_OF_MEMORY, Output, Refusal};
 use std::alloc::Global;
 use std::io::Write;
 

@@ -2,11 +2,11 @@
 ghost use Rattle.std.specs.Prelude.{◌≡◌, ◌++◌, IfOk, codes};
 ghost use Rattle.std.specs.String.{string_bytes};
 ghost use Rattle.fetch_session.specs.Text.{asked_text, fault_text};
-ghost use Rattle.getmail_program.specs.Output.{Puts, number_text};
+ghost use Rattle.getmail_setup.specs.Output.{Puts, number_text};
 ghost use Rattle.getmail_program.specs.Telling.{fault_line};
 
-use crate::output::Output;
 use fetch_session::{Fault, Why, fault_text};
+use getmail_setup::Output;
 use pop3_client::Asked;
 use std::alloc::{AllocError, Global};
 use std::io::Write;

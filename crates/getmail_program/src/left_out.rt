@@ -1,14 +1,14 @@
 //! The line on messages that a session left out although they aren't known.
 ghost use Rattle.std.specs.Prelude.{◌≡◌, IfOk};
 ghost use Rattle.std.specs.String.{string_bytes};
-ghost use Rattle.getmail_program.specs.Output.{Puts};
+ghost use Rattle.getmail_setup.specs.Output.{Puts};
 ghost use Rattle.getmail_program.specs.Telling.{count_text, left_out_line, left_out_said, left_out_text, with_comma};
 
-use crate::failure::OUT_OF_MEMORY;
+use crate::reason::line_of;
 use crate::told::Told;
-use crate::why::{Errors, line_of};
 use fetch_rules::Settings;
 use fetch_session::LeftOut;
+use getmail_setup::{Errors, OUT_OF_MEMORY};
 use std::alloc::{AllocError, Global};
 use std::io::Write;
 use std::vec::Vec;

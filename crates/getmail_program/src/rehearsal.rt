@@ -5,11 +5,10 @@ ghost use Rattle.rc_file.specs.Flags.{is_contradiction};
 ghost use Rattle.rc_file.specs.Settings.{IsValid};
 
 use crate::ending::unwritten_line;
-use crate::failure::OUT_OF_MEMORY;
-use crate::output::refusal_of;
 use crate::transcript::Transcript;
 use fetch_rules::{Dest, Flags, RcFault, Settings, override_with};
 use fetch_session::{Account, Outcome, Store, fault_number, session};
+use getmail_setup::{OUT_OF_MEMORY, refusal_of};
 use mail_store::{AccountId, Folder, MemoryFile, MemoryMaildir, account_id, uid_of};
 use pop3_wire::StreamWire;
 use std::alloc::{AllocError, Global};

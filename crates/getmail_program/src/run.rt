@@ -7,12 +7,10 @@ ghost use Rattle.getmail_program.specs.Telling.{TellsAll};
 ghost use Rattle.getmail_program.specs.declared.told.Told.{Told};
 
 use crate::ending::{Fetched, tell_all};
-use crate::output::Output;
-use crate::shown_wire::ShownWire;
 use crate::told::{Manner, hold};
-use crate::why::Errors;
 use fetch_rules::Settings;
 use fetch_session::{Account, Store};
+use getmail_setup::{Errors, Output, ShownWire};
 use mail_store::{FlatFile, MaildirDisk};
 use pop3_wire::Wire;
 use std::hash::BuildHasher;

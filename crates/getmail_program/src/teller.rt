@@ -3,8 +3,8 @@ ghost use Rattle.std.specs.Prelude.{◌≡◌, []};
 ghost use Rattle.std.proofs.Common.{refl, ◌∙◌};
 ghost use Rattle.getmail_program.specs.Teller.{HasSameLinks, WroteMore, wrote_nothing, wrote_both};
 
-use crate::output::Output;
 use fetch_session::{Listener, MessagePreview, ReportLine, explained_line};
+use getmail_setup::Output;
 use std::alloc::{AllocError, Global};
 use std::io::Write;
 use std::vec::Vec;

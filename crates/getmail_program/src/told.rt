@@ -6,19 +6,18 @@ ghost use Rattle.fetch_session.specs.Telling.{preview_text};
 ghost use Rattle.fetch_session.specs.Lasting.{RunsSession};
 ghost use Rattle.fetch_session.specs.Refusal.{IsWithinLimits};
 ghost use Rattle.getmail_program.specs.Holding.{HoldsSession};
-ghost use Rattle.getmail_program.specs.Output.{Puts};
+ghost use Rattle.getmail_setup.specs.Output.{Puts};
 ghost use Rattle.getmail_program.specs.Teller.{HasSameLinks, WroteMore};
 ghost use Rattle.getmail_program.specs.Telling.{Reported, is_idle, outcome_of};
 
 use crate::doubt::said_ahead;
-use crate::output::Output;
-use crate::shown_wire::ShownWire;
 use crate::teller::{Notes, Teller};
 use fetch_rules::Settings;
 use fetch_session::{
     Account, MessagePreview, Outcome, Preview, Report, heading, pretend, preview_text,
     session_told, told_report,
 };
+use getmail_setup::{Output, ShownWire};
 use mail_store::{FlatFile, MaildirDisk};
 use pop3_wire::Wire;
 use std::alloc::Global;

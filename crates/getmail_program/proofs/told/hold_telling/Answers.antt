@@ -1,5 +1,5 @@
 use Rattle.std.proofs.Common.{ℕ, List, ◌++◌, ◌≡◌, ap, ◌∙◌, subst, sym}
-use Rattle.getmail_program.specs.Output.{Puts}
+use Rattle.getmail_setup.specs.Output.{Puts}
 use Rattle.getmail_program.specs.Teller.{wrote_both}
 use Rattle.getmail_program.proofs.told.hold_telling.Goals as goal
 

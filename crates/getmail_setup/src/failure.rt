@@ -3,7 +3,7 @@ ghost use Rattle.std.specs.Prelude.{◌≡◌, ◌≢◌, ◌≤◌, true, false
 ghost use Rattle.std.specs.IoError.{error_kind};
 ghost use Rattle.clap.specs.Values.{kind_of};
 ghost use Rattle.command_line.specs.Rules.{is_asked_for};
-ghost use Rattle.getmail_program.specs.Failures.{status_of};
+ghost use Rattle.getmail_setup.specs.Failures.{status_of};
 
 use clap::Error;
 use command_line::show;
@@ -31,7 +31,7 @@ pub enum Failure<'a> {
 
 impl<'a> From<AllocError> for Failure<'a> {
     ghost use Rattle.std.specs.Prelude.{◌≡◌};
-    ghost use Rattle.getmail_program.specs.declared.failure.Failure.TheVariants.{NoMemory};
+    ghost use Rattle.getmail_setup.specs.declared.failure.Failure.TheVariants.{NoMemory};
 
     ghost from_gives = { λ _ failure. failure ≡ NoMemory };
 
@@ -42,7 +42,7 @@ impl<'a> From<AllocError> for Failure<'a> {
 
 impl<'a, T: Drop> From<AllocFailed<T>> for Failure<'a> {
     ghost use Rattle.std.specs.Prelude.{◌≡◌};
-    ghost use Rattle.getmail_program.specs.declared.failure.Failure.TheVariants.{NoMemory};
+    ghost use Rattle.getmail_setup.specs.declared.failure.Failure.TheVariants.{NoMemory};
 
     ghost from_gives = { λ _ failure. failure ≡ NoMemory };
 
@@ -53,7 +53,7 @@ impl<'a, T: Drop> From<AllocFailed<T>> for Failure<'a> {
 
 impl<'a> From<RcFault> for Failure<'a> {
     ghost use Rattle.std.specs.Prelude.{◌≡◌};
-    ghost use Rattle.getmail_program.specs.declared.failure.Failure.TheVariants.{Rc};
+    ghost use Rattle.getmail_setup.specs.declared.failure.Failure.TheVariants.{Rc};
 
     ghost from_gives = { λ fault failure. failure ≡ Rc fault };
 

@@ -9,11 +9,10 @@ use Rattle.rc_file.specs.declared.flags.Flags.{Flags}
 use Rattle.rc_file.specs.declared.settings.Settings.{Settings}
 use Rattle.rc_file.specs.declared.settings.Dest.{Dest}
 use Rattle.rc_file.specs.declared.settings.Dest.TheVariants.{Maildir, Mboxrd}
-use Rattle.fetch_session.specs.Account.{digits_of}
-use Rattle.fetch_session.specs.Target.{Kind, Files, Entries}
-use Rattle.getmail_program.specs.declared.setup.Paths.{Paths}
-use Rattle.getmail_program.specs.declared.setup.Setup.{Setup}
-use Rattle.getmail_words.specs.declared.words.Words.{Words}
+use Rattle.mail_store.specs.FileName.{account_text}
+use Rattle.getmail_setup.specs.declared.setup.Paths.{Paths}
+use Rattle.getmail_setup.specs.declared.setup.Setup.{Setup}
+use Rattle.getmail_setup.specs.declared.words.Words.{Words}
 
 -- the path of a file of a folder, with one '/' between them
 abbrev pub joined : List ℕ → List ℕ → List ℕ
@@ -32,11 +31,6 @@ abbrev pub path_in : Dest → List ℕ
 path_in (Maildir path) = string_bytes path
 path_in (Mboxrd path) = string_bytes path
 
--- the kind of store that it names
-abbrev pub kind_in : Dest → Kind
-kind_in (Maildir path) = Files
-kind_in (Mboxrd path) = Entries
-
 -- the folder of the rc file and the record: as given, or the default
 abbrev pub folder_given : Option (List ℕ) → List ℕ
 folder_given (Some path) = path
@@ -49,6 +43,10 @@ folder_path home given = whole_path home (folder_given given)
 abbrev pub rc_path : Option (List ℕ) → List ℕ → Option (List ℕ) → Option (List ℕ)
 rc_path home folder None = Some (joined folder (codes "getmailrc"))
 rc_path home folder (Some path) = if stands_alone path then whole_path home path else Some (joined folder path)
+
+-- the digits that tell the account of the settings apart
+abbrev pub digits_of : Settings → List ℕ
+digits_of settings = account_text (string_bytes settings.server) settings.port (string_bytes settings.username)
 
 -- the record is in the folder, under a name with the account's digits
 abbrev pub record_path : List ℕ → Settings → List ℕ

@@ -1,5 +1,5 @@
 //! Why an rc file gives no settings: the line, the value there, and the rule that it breaks.
-use crate::why::Reasons;
+use crate::errors::Reasons;
 use fetch_rules::{Flags, Key, RcFault, rc_text};
 use std::alloc::{AllocError, Global};
 use trace::line_text;

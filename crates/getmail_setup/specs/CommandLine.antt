@@ -4,7 +4,7 @@ use Rattle.std.specs.String.{string_bytes}
 use Rattle.clap.specs.Words.{App, Row, count_of, first_of, with_rule}
 use Rattle.command_line.specs.Rules.{flag_rule, is_given, is_on, long_flag_rule, program, switch_rule, value_rule}
 use Rattle.rc_file.specs.declared.flags.Flags.{Flags}
-use Rattle.getmail_words.specs.declared.words.Words.{Words}
+use Rattle.getmail_setup.specs.declared.words.Words.{Words}
 
 -- -r FILE, -g DIR
 abbrev pub with_places : App → App

@@ -2,15 +2,14 @@
 ghost use Rattle.std.specs.Prelude.{◌≡◌, ◌++◌, Some, IfOk, codes, option_map};
 ghost use Rattle.std.specs.String.{string_bytes};
 ghost use Rattle.rc_file.specs.Settings.{IsValid};
-ghost use Rattle.fetch_session.specs.Account.{digits_of};
-ghost use Rattle.getmail_program.specs.Places.{AreAsked, AreFor, IsSetUp, path_in, record_path, whole_path};
+ghost use Rattle.getmail_setup.specs.Places.{AreAsked, AreFor, IsSetUp, digits_of, path_in, record_path, whole_path};
 
+use crate::errors::Errors;
 use crate::failure::{Failure, failure_of};
 use crate::place::{folder, joined, rc_file, whole_path};
 use crate::rc_reason::keep_reason;
-use crate::why::Errors;
+use crate::words::Words;
 use fetch_rules::{Dest, Flags, Settings, Warning, override_with, read_rc, warning_text};
-use getmail_words::Words;
 use mail_store::{AccountId, account_id};
 use std::alloc::{AllocError, Global};
 use std::io::{self, Read};

@@ -2,7 +2,7 @@
 ghost use Rattle.std.specs.Prelude.{◌≡◌, IfOk, map};
 ghost use Rattle.std.specs.String.{string_bytes};
 ghost use Rattle.clap.specs.Words.{FailsBy, app_of, fault_of, found_of, matches_of, rows_of};
-ghost use Rattle.getmail_words.specs.CommandLine.{AsksFor, flags_in, getmail};
+ghost use Rattle.getmail_setup.specs.CommandLine.{AsksFor, flags_in, getmail};
 
 use clap::{ArgMatches, Command, Error};
 use command_line::{add, flag, is_given, is_on, long_flag, program, switch, text, value_option};

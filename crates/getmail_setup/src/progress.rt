@@ -1,7 +1,7 @@
 //! The line of progress, which a terminal shows while messages come.
 ghost use Rattle.std.specs.Prelude.{◌≡◌, IfOk};
 ghost use Rattle.std.specs.String.{string_bytes};
-ghost use Rattle.getmail_program.specs.Progress.{progress_text};
+ghost use Rattle.getmail_setup.specs.Progress.{progress_text};
 
 use pop3_wire::{Command, Note, read_command, read_stat, read_status};
 use std::alloc::{AllocError, Global};

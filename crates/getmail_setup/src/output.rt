@@ -3,7 +3,7 @@ ghost use Rattle.std.specs.Prelude.{◌≡◌, None, Some, OnOk};
 ghost use Rattle.std.specs.Fmt.{decimal};
 ghost use Rattle.std.specs.Io.KnownBytes.{Appends};
 ghost use Rattle.std.specs.IoError.{error_kind};
-ghost use Rattle.getmail_program.specs.Output.{Puts, number_text};
+ghost use Rattle.getmail_setup.specs.Output.{Puts, number_text};
 
 use std::io::{self, ErrorKind, Write};
 

@@ -1,7 +1,7 @@
 use Rattle.std.proofs.Common.{◌∙◌, ap, ap₂}
 use Rattle.std.proofs.lemmas.Result.{IfOk-weaker}
 use Rattle.clap.specs.Words.{rule_of, with_rule}
-use Rattle.getmail_words.proofs.words.command.Goals as goal
+use Rattle.getmail_setup.proofs.words.command.Goals as goal
 
 pub returns : goal.returns
 returns c =

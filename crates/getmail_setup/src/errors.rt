@@ -1,13 +1,11 @@
-//! The line after a fault's: the account, and the reason, if it is known.
-ghost use Rattle.std.specs.Prelude.{◌≡◌, ◌≤◌, IfOk};
-ghost use Rattle.getmail_program.specs.Failures.{status_of};
-ghost use Rattle.getmail_program.specs.Telling.{IsReason, reason_line};
+//! What a run writes to standard error before its session, and what it keeps of refused calls.
+ghost use Rattle.std.specs.Prelude.{◌≡◌, ◌≤◌};
+ghost use Rattle.getmail_setup.specs.Failures.{status_of};
 
 use crate::failure::{Failure, tell};
 use crate::output::Output;
 use fetch_rules::Settings;
-use fetch_session::{Fault, Outcome, Why};
-use std::alloc::{AllocError, Global};
+use std::alloc::Global;
 use std::cell::Cell;
 use std::io::{Stderr, Write};
 use std::str;
@@ -63,65 +61,6 @@ impl<'a, E: Write + Copy> Errors<'a, E> {
             None
         }
     }
-}
-
-/// What the peer said.
-fn words_of(alloc: Global, answer: &[u8]) -> Option<Vec<u8>> {
-    let mut words = Vec::from_slice(alloc, b"the server said: ").ok()?;
-    words.extend_from_slice(answer).ok()?;
-    Some(words)
-}
-
-/// The reason of a fault, if it is known: the server's words, or what was asked of the system and what
-/// it said.
-fn reason_of(alloc: Global, reasons: &Reasons, fault: &Fault) -> Option<Vec<u8>> {
-    let refused = match fault {
-        Fault::Refused(_) | Fault::BadReply => {
-            return words_of(alloc, reasons.answer.take()?.as_slice());
-        }
-        Fault::ReadFailed | Fault::WriteFailed => &reasons.link,
-        Fault::StoreRefused(Why::Missing | Why::Refused) => &reasons.store,
-        Fault::SeenRefused => &reasons.record,
-        _ => return None,
-    };
-    refused.take()?.text(alloc).ok()
-}
-
-/// The line of a reason: `getmail: `, the account, and the reason.
-pub fn line_of(alloc: Global, settings: &Settings, reason: &[u8]) -> Result<Vec<u8>, AllocError>
-    ensures { IfOk result (λ line. line.items ≡ reason_line settings.now reason.now) }
-{
-    let Settings {
-        server,
-        port,
-        username,
-        ..
-    } = settings;
-    let account = format!(in alloc; "getmail: {username}@{server}:{port}: ")?;
-    let mut line = Vec::from_slice(alloc, account.as_bytes())?;
-    line.extend_from_slice(reason)?;
-    line.extend_from_slice(b"\n")?;
-    Ok(line)
-}
-
-/// The line of the reason of the fault that cut a session, if one did, it is known and it is to be written;
-/// else it is empty.
-pub fn reason_line<E>(
-    alloc: Global,
-    settings: &Settings,
-    outcome: &Outcome,
-    errors: &Errors<'_, E>,
-) -> Vec<u8>
-    ensures { IsReason settings.now errors.now.says_why outcome.now result.items }
-{
-    if let (true, Outcome::Cut(fault)) = (errors.says_why, outcome) {
-        if let Some(reason) = reason_of(alloc, errors.reasons, fault) {
-            if let Ok(line) = line_of(alloc, settings, reason.as_slice()) {
-                return line;
-            }
-        }
-    }
-    Vec::new(alloc)
 }
 
 /// What was asked of the system before the session and what it said.

@@ -2,7 +2,7 @@
 use Rattle.std.specs.Prelude.{◌≡◌, ℕ, List, [], Option, None, Some}
 use Rattle.std.specs.Fmt.{decimal}
 use Rattle.std.specs.Io.KnownBytes.{Appends}
-use Rattle.getmail_program.specs.declared.output.Output.{Output}
+use Rattle.getmail_setup.specs.declared.output.Output.{Output}
 
 -- unless something was refused by now, these octets were written, and nothing else
 abbrev pub Puts : {W : Type 0} → (W → Option (List ℕ)) → Output W → List ℕ → Output W → Type 0

@@ -1,7 +1,7 @@
 -- The exit statuses of runs that end before their session.
 use Rattle.std.specs.Prelude.{ℕ}
-use Rattle.getmail_program.specs.declared.failure.Failure.{Failure}
-use Rattle.getmail_program.specs.declared.failure.Failure.TheVariants.{CannotConnect}
+use Rattle.getmail_setup.specs.declared.failure.Failure.{Failure}
+use Rattle.getmail_setup.specs.declared.failure.Failure.TheVariants.{CannotConnect}
 
 -- 1 if no connection was made, 2 for all that is found before
 abbrev pub status_of : Failure → ℕ

@@ -5,7 +5,7 @@ use Rattle.clap.specs.Words.{App, HasMatchesOf, fault_of, found_of, is_simple, i
 use Rattle.clap.specs.declared.error.Error.{Error}
 use Rattle.clap.specs.declared.parser.matches.ArgMatches.{ArgMatches}
 use Rattle.clap.proofs.OnLiterals.{clap_on_literals}
-use Rattle.getmail_words.specs.CommandLine.{getmail}
+use Rattle.getmail_setup.specs.CommandLine.{getmail}
 
 getmail_is_simple : is_simple getmail ≡ true
 unfolding clap_on_literals

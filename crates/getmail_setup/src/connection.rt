@@ -1,10 +1,11 @@
 //! The TCP connection to the server.
+use crate::errors::Errors;
+use crate::failure::{Failure, failure_of};
 use fetch_rules::Settings;
-use getmail_program::{Errors, Failure, failure_of};
 use pop3_wire::StreamWire;
 use std::alloc::{AllocError, Global};
 use std::io::{self, Stderr};
-use std::net::{SocketAddr, TcpStream, ToSocketAddrs};
+use std::net::{Net, SocketAddr, TcpStream, ToSocketAddrs};
 use std::time::Duration;
 use trace::{Noted, Refusals, TracedWire};
 
@@ -22,8 +23,8 @@ type End<'a> = Noted<'a, &'a TcpStream>;
 pub type Link<'a> = TracedWire<'a, StreamWire<End<'a>, End<'a>>, Stderr>;
 
 /// Connects to one address, and limits how long reads and writes wait. Each command goes out at once.
-fn connect_to(rt: &HostRuntime, address: SocketAddr) -> io::Result<TcpStream> {
-    let stream = TcpStream::connect_timeout(rt, &address, Duration::from_secs(CONNECT_SECONDS))?;
+fn connect_to<R: Net<Stream = TcpStream>>(net: &R, address: SocketAddr) -> io::Result<TcpStream> {
+    let stream = TcpStream::connect_timeout(net, &address, Duration::from_secs(CONNECT_SECONDS))?;
     let wait = Some(Duration::from_secs(WAIT_SECONDS));
     stream.set_read_timeout(wait)?;
     stream.set_write_timeout(wait)?;
@@ -39,8 +40,8 @@ fn note_refused(alloc: Global, refusals: &Refusals, address: SocketAddr, error: 
 }
 
 /// Connects to the first of the server's addresses that takes the connection.
-pub fn connect<'a>(
-    rt: &HostRuntime,
+pub fn connect<'a, R: Net<Stream = TcpStream> + AllocGlobal>(
+    rt: &R,
     refusals: &Refusals,
     server: &'a str,
     port: u16,

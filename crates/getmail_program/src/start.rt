@@ -1,0 +1,149 @@
+//! A run from its command line to its exit status.
+ghost use Rattle.std.specs.Prelude.{◌≤◌};
+ghost use Rattle.rc_file.specs.Settings.{IsValid};
+
+use crate::devices::fetch_at;
+use crate::rehearsal::rehearse;
+use fetch_rules::{RcFault, Settings};
+use folder_store::ProcessMark;
+use getmail_setup::{
+    Errors, Failure, Output, Peer, Reasons, Setup, Words, connect, explain, fail, failure_of, home,
+    link_over, peer_of, read_words, set_up, tell,
+};
+use std::env::{self, Env};
+use std::hash::RandomState;
+use std::io::{self, ErrorKind, IsTerminal, Read, Stderr, Write};
+use std::net::{Net, TcpStream};
+use std::process::Process;
+use std::random::RandomSource;
+use std::rt::{Clock, Files};
+
+/// The random values of a run: keys for hashing, since a server chooses the unique-ids and mustn't be
+/// able to choose ids that collide, and the mark of the files that the run writes.
+fn draw(random: &impl RandomSource, process: Process) -> io::Result<(RandomState, ProcessMark)> {
+    let hasher = RandomState::new(random)?;
+    let mark = ProcessMark::new(process, random)?;
+    Ok((hasher, mark))
+}
+
+/// What a run needs before it connects: the random values, and what the link needs.
+type Prepared = ((RandomState, ProcessMark), Peer);
+
+/// Prepares a run, so that nothing is refused for want of memory between the connection and the session.
+fn prepare<'a, R: RandomSource + AllocGlobal>(
+    rt: &R,
+    process: Process,
+    settings: &Settings,
+    errors: &Errors<'_, Stderr>,
+) -> Result<Prepared, Failure<'a>> {
+    match draw(rt, process) {
+        Ok(drawn) => Ok((drawn, peer_of(rt.alloc(), settings, errors)?)),
+        Err(error) => Err(failure_of(error, Failure::CannotRead)),
+    }
+}
+
+/// Connects, runs one session or only shows what it would do, and returns the exit status.
+fn fetch<R, O>(rt: &R, process: Process, setup: Setup, out: O, errors: Errors<'_, Stderr>) -> u8
+where
+    R: Net<Stream = TcpStream> + Files + Clock + RandomSource + AllocGlobal + Eprint + Clone + Drop,
+    O: Write + Drop,
+    requires { IsValid setup.settings }
+    ensures { result ≤ 2 }
+{
+    let settings = &setup.settings;
+    let (drawn, peer) = match prepare(rt, process, settings, &errors) {
+        Ok(prepared) => prepared,
+        Err(failure) => return fail(rt, failure, None, &errors),
+    };
+    let server = settings.server.as_str();
+    let stream = match connect(rt, &errors.reasons.before, server, settings.port) {
+        Ok(stream) => stream,
+        Err(failure) => return fail(rt, failure, Some(settings), &errors),
+    };
+    let link = link_over(rt.alloc(), &stream, peer, &errors);
+    fetch_at(rt, setup, link, drawn, &mut Output::new(out), errors)
+}
+
+/// Sets a run up, and runs it. Returns the exit status.
+fn run<R, O>(rt: &R, process: Process, words: &Words, out: O, errors: Errors<'_, Stderr>) -> u8
+where
+    R: Net<Stream = TcpStream> + Files + Env + Clock,
+    R: RandomSource + AllocGlobal + Eprint + Clone + Drop,
+    O: Write + Drop,
+    ensures { result ≤ 2 }
+{
+    let home = match home(rt) {
+        Ok(home) => home,
+        Err(failure) => return fail(rt, failure, None, &errors),
+    };
+    match set_up(rt, home.as_deref(), words, &errors) {
+        Ok(setup) => fetch(rt, process, setup, out, errors),
+        Err(failure) => fail(rt, failure, None, &errors),
+    }
+}
+
+/// Does what these words ask for, and returns the exit status.
+fn obey<R, I, O>(rt: &R, process: Process, words: &Words, streams: (I, O), mut err: Stderr) -> u8
+where
+    R: Net<Stream = TcpStream> + Files + Env + Clock,
+    R: RandomSource + AllocGlobal + Eprint + Clone + Drop,
+    I: Read + Drop,
+    O: Write + IsTerminal + Drop,
+    ensures { result ≤ 2 }
+{
+    let is_terminal = err.is_terminal();
+    let trace = if words.trace { Some(err) } else { None };
+    let reasons = Reasons::new(rt.alloc(), trace);
+    let errors = Errors {
+        err: Output::new(err),
+        shows_progress: is_terminal && !words.trace,
+        says_why: words.why || is_terminal,
+        explains: words.why || streams.1.is_terminal(),
+        reasons: &reasons,
+    };
+    if !words.rehearse {
+        return run(rt, process, words, streams.1, errors);
+    }
+    let status = rehearse(rt.alloc(), words.flags, streams, &mut err, trace);
+    if status == 2 {
+        return fail(rt, Failure::Rc(RcFault::Contradiction), None, &errors);
+    }
+    status
+}
+
+/// The words of the command line, the program's name first. If they can't be read, for example because
+/// one isn't UTF-8, a word that is no option takes their place, so that the usage is shown.
+fn arguments<'a, R: Env + AllocGlobal>(rt: &R) -> Result<Vec<String>, Failure<'a>> {
+    match env::args(rt) {
+        Ok(words) => Ok(words.collect(rt.alloc())?),
+        Err(error) => {
+            if error.kind() == ErrorKind::OutOfMemory {
+                return Err(Failure::NoMemory);
+            }
+            let mut words = Vec::new(rt.alloc());
+            words.push(String::from_str(rt.alloc(), "getmail")?)?;
+            words.push(String::from_str(rt.alloc(), "\u{FFFD}")?)?;
+            Ok(words)
+        }
+    }
+}
+
+/// Does what the command line of a runtime asks for, and returns the exit status. The streams are standard
+/// input and output; `err` is standard error, to which a trace goes.
+pub fn obey_command_line<R, I, O>(rt: &R, process: Process, streams: (I, O), err: Stderr) -> u8
+where
+    R: Net<Stream = TcpStream> + Files + Env + Clock,
+    R: RandomSource + AllocGlobal + Print + Eprint + Clone + Drop,
+    I: Read + Drop,
+    O: Write + IsTerminal + Drop,
+    ensures { result ≤ 2 }
+{
+    let arguments = match arguments(rt) {
+        Ok(arguments) => arguments,
+        Err(failure) => return tell(rt, failure),
+    };
+    match read_words(rt.alloc(), arguments.as_slice()) {
+        Ok(words) => obey(rt, process, &words, streams, err),
+        Err(error) => explain(rt, &error),
+    }
+}

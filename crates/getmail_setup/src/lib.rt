@@ -1,0 +1,22 @@
+//! What `getmail` does before its session: its words, its settings and paths, its output and the link.
+#![tactic(auto)]
+
+mod connection;
+mod errors;
+mod failure;
+mod output;
+mod place;
+mod progress;
+mod rc_reason;
+mod setup;
+mod shown_wire;
+mod words;
+
+pub use connection::{Link, Peer, connect, link_over, peer_of};
+pub use errors::{Errors, Reasons, fail};
+pub use failure::{Failure, OUT_OF_MEMORY, explain, failure_of, tell};
+pub use output::{Output, Refusal, refusal_of};
+pub use place::{home, joined};
+pub use setup::{Paths, Setup, account_of, set_up};
+pub use shown_wire::ShownWire;
+pub use words::{Words, read_words};
