@@ -16,13 +16,10 @@ use Rattle.mail_terms.specs.UniqueId.{has_id}
 use Rattle.run_law.specs.Mails.{ids_of, texts_of}
 use Rattle.std.proofs.Math.Bool.{or-false}
 use Rattle.mail_terms.specs.Listing.{Item, has_item, is_flagged}
-use Rattle.mail_terms.specs.MaildirName.{base}
 use Rattle.fetch_rules.specs.Record.{Row, has_row, is_delivered, marked, merged, marked_all}
-use Rattle.fetch_rules.specs.Wanted.{DistinctAreFiltered}
 use Rattle.mail_store.specs.Maildir.{Maildir}
-use Rattle.mail_store.specs.FileName.{NamesHaveStems, StemsDiffer, is_held, stem}
+use Rattle.mail_store.specs.FileName.{is_held}
 use Rattle.mail_store.specs.Held.{flags_of}
-use Rattle.mail_store.specs.Settling.{FrontsAreSettled}
 use Rattle.run_law.specs.Mboxes.{none_held}
 use Rattle.run_law.specs.Below.{Below}
 

@@ -1,5 +1,5 @@
 -- The folders of a Maildir in memory.
-use Rattle.std.proofs.Common.{◌≡◌, ◌↔◌, ◌&&◌, ◌||◌, IsTrue, bytes_eq, inl, inr, ℕ, zero, suc, ◌<◌, Bool, true, false, not, List, [], ◌∷◌, ◌++◌, length, map, get_or, set, Contains, Option, Some, None, if◌then◌else◌, refl, sym, ap, subst, ◌∙◌, arith, String, Global, string_bytes, append-nil, true≢false, filter}
+use Rattle.std.proofs.Common.{◌≡◌, ◌↔◌, ◌&&◌, ◌||◌, IsTrue, bytes_eq, inl, inr, ℕ, zero, suc, ◌<◌, Bool, true, false, not, List, [], ◌∷◌, ◌++◌, length, map, get_or, set, Contains, Option, Some, None, if◌then◌else◌, refl, sym, ap, ◌∙◌, arith, String, Global, string_bytes, append-nil, true≢false, filter}
 use Rattle.std.proofs.lemmas.Bool.{not-false}
 use Rattle.std.specs.List.{list_any}
 use Rattle.std.proofs.lemmas.List.Folds.{list_any_at}
@@ -10,7 +10,7 @@ use Rattle.mail_store.specs.declared.maildir.disk.Folder.{Folder}
 use Rattle.mail_store.specs.declared.maildir.disk.Folder.TheVariants.{New, Cur}
 use Rattle.mail_store.specs.Maildir.{all_there}
 use Rattle.test_devices.specs.declared.memory_folders.StoredMail.{StoredMail}
-use Rattle.folder_store.specs.MailFolders.{Draft, MailFile, Directories, MovesFile, RestsFile, Each, Moved, is_in, is_left, name_at, rests_in}
+use Rattle.folder_store.specs.MailFolders.{Draft, MailFile, Directories, MovesFile, RestsFile, Moved, OneMoves, is_in, is_left, name_at, rests_in}
 use Rattle.folder_store.specs.MailPower.{AreLeftAs}
 use Rattle.test_devices.specs.MemoryFolders.{MayBeLeftAs, list_of, mail_file}
 
@@ -40,34 +40,16 @@ left_on (x ∷ ss) left s o (inl (gone, l)) may = inl (gone, left_on ss left s o
 left_on (x ∷ ss) left s o (inr (t, rest, e, is, l)) may =
     inr (t, rest ++ list_of o, ap (λ (ts : List MailFile). ts ++ list_of o) e, is, left_on ss rest s o l may)
 
--- ---- nothing moved
-
-each_same : (Does : MailFile → MailFile → Type 0) → ((s : MailFile) → Does s s) → (ss : List MailFile) → Each Does ss ss
-each_same Does same [] = tt
-each_same Does same (s ∷ ss) = (same s, each_same Does same ss)
-
-same_moves : (s : MailFile) → MovesFile s s
-same_moves s = record { keeps = record { title = refl; content = refl; flushed = λ h. h; named = λ h. h }; new = λ h. h; cur = λ h. h }
-
-same_rests : (folder : Folder) (s : MailFile) → RestsFile folder s s
-same_rests folder s = record { place = refl; name = λ h. refl; gone = λ h. refl }
-
-pub rest : (b : Directories) → Moved b b
-rest b = record {
-  there = refl;
-  made = refl;
-  moves = each_same MovesFile same_moves b.entries;
-  rests = λ folder quiet. (quiet, each_same (RestsFile folder) (same_rests folder) b.entries);
-}
-
 -- ---- a reader's move
 
-each_set : (Does : MailFile → MailFile → Type 0) → ((s : MailFile) → Does s s) → (files : List StoredMail) (i : ℕ) (x y : StoredMail) → i < length files → x ≡ get_or files i x
-    → Does (mail_file x) (mail_file y) → Each Does (map mail_file files) (map mail_file (set files i y))
-each_set Does same [] i x y below is does = absurd (omega (arith, below))
-each_set Does same (f ∷ files) zero x y below is does =
-    (subst (λ (k : StoredMail). Does (mail_file k) (mail_file y)) is does, each_same Does same (map mail_file files))
-each_set Does same (f ∷ files) (suc i) x y below is does = (same (mail_file f), each_set Does same files i x y (omega (arith, below)) is does)
+-- the files before and behind a place
+around : (files : List StoredMail) (i : ℕ) (x y : StoredMail) → i < length files → x ≡ get_or files i x
+    → (front back : List MailFile) × (map mail_file files ≡ front ++ mail_file x ∷ back) × (map mail_file (set files i y) ≡ front ++ mail_file y ∷ back)
+around [] i x y below is = absurd (omega (arith, below))
+around (f ∷ files) zero x y below is = ([], map mail_file files, ap (λ (k : StoredMail). mail_file k ∷ map mail_file files) (sym is), refl)
+around (f ∷ files) (suc i) x y below is =
+    let (front, back, was, now) = around files i x y (omega (arith, below)) is in
+    (mail_file f ∷ front, back, ap (λ (ss : List MailFile). mail_file f ∷ ss) was, ap (λ (ss : List MailFile). mail_file f ∷ ss) now)
 
 abbrev pub memory_dirs : List StoredMail → Bool → Bool → Option Draft → Directories
 memory_dirs files new_rests cur_rests made = record { there = all_there; entries = map mail_file files; new_rests = new_rests; cur_rests = cur_rests; made = made }
@@ -87,24 +69,18 @@ not_in folder s t was is = record {
   gone = λ here. absurd (true≢false (sym here ∙ was));
 }
 
-pub file_moves : (files : List StoredMail) (i : ℕ) (x y : StoredMail) (new new' cur cur' : Bool) (made : Option Draft) → i < length files → x ≡ get_or files i x
+pub file_moves : ((old : Directories) (front back : List MailFile) (s t : MailFile) (new : Directories) → OneMoves old front back s t new → Moved old new)
+    → (files : List StoredMail) (i : ℕ) (x y : StoredMail) (new new' cur cur' : Bool) (made : Option Draft) → i < length files → x ≡ get_or files i x
     → MovesFile (mail_file x) (mail_file y) → Rested new' new x.is_new y.is_new → Rested cur' cur (not x.is_new) (not y.is_new)
     → Moved (memory_dirs files new cur made) (memory_dirs (set files i y) new' cur' made)
-file_moves files i x y new new' cur cur' made below is moves in_new in_cur = record {
-  there = refl;
-  made = refl;
-  moves = each_set MovesFile same_moves files i x y below is moves;
-  rests = rest_of;
-}
+file_moves one files i x y new new' cur cur' made below is moves in_new in_cur =
+    let (front, back, before, after) = around files i x y below is in
+    one _ front back (mail_file x) (mail_file y) _ (record { there = refl; made = refl; before = before; after = after; moves = moves; rests = rests_of })
   where
-    rest_of : (folder : Folder) → rests_in folder (memory_dirs (set files i y) new' cur' made) ≡ true
-        → (rests_in folder (memory_dirs files new cur made) ≡ true) × Each (RestsFile folder) (map mail_file files) (map mail_file (set files i y))
-    rest_of New quiet =
-        let r = in_new quiet in
-        (r.0, each_set (RestsFile New) (same_rests New) files i x y below is (not_in New (mail_file x) (mail_file y) r.1 r.2))
-    rest_of Cur quiet =
-        let r = in_cur quiet in
-        (r.0, each_set (RestsFile Cur) (same_rests Cur) files i x y below is (not_in Cur (mail_file x) (mail_file y) r.1 r.2))
+    rests_of : (folder : Folder) → rests_in folder (memory_dirs (set files i y) new' cur' made) ≡ true
+        → (rests_in folder (memory_dirs files new cur made) ≡ true) × RestsFile folder (mail_file x) (mail_file y)
+    rests_of New quiet = let r = in_new quiet in (r.0, not_in New (mail_file x) (mail_file y) r.1 r.2)
+    rests_of Cur quiet = let r = in_cur quiet in (r.0, not_in Cur (mail_file x) (mail_file y) r.1 r.2)
 
 -- ---- files that the reader took away
 

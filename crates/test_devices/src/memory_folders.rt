@@ -11,7 +11,7 @@ ghost use Rattle.folder_store.specs.MailFolders.{Moved, MovesFile, entries_in, i
 ghost use Rattle.folder_store.specs.MailPower.{AreLeftAs, LosesMail};
 ghost use Rattle.test_devices.specs.MemoryFolders.{list_of, mail_file};
 
-use folder_store::MailFolders;
+use folder_store::{MailFolders, readers_move};
 use mail_store::{Folder, StoreFault, marks_keep_the_base, stem};
 use mail_terms::base;
 use std::alloc::{AllocError, Global};
@@ -389,6 +389,7 @@ impl MemoryFolders {
     fn let_reader_move(&mut self)
         ensures { Moved self.old self.new }
     {
+        readers_move();
         let step = self
             .steps
             .get(self.next)
@@ -408,6 +409,7 @@ impl MemoryFolders {
     fn move_file(&mut self, place: usize, is_new: bool)
         ensures { Moved self.old self.new }
     {
+        readers_move();
         if place >= self.files.len() {
             return;
         }
@@ -425,6 +427,7 @@ impl MemoryFolders {
     fn take_file(&mut self, place: usize)
         ensures { Moved self.old self.new }
     {
+        readers_move();
         if place >= self.files.len() {
             return;
         }

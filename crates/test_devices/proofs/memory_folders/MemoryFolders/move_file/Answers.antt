@@ -1,18 +1,18 @@
 use Rattle.std.proofs.Common.{arith, not, option_map, ◌∙◌, ap}
 use Rattle.test_devices.specs.MemoryFolders.{draft_of}
-use Rattle.test_devices.proofs.MemoryMail.{file_moves, rest}
+use Rattle.test_devices.proofs.MemoryMail.{file_moves}
 use Rattle.test_devices.proofs.memory_folders.MemoryFolders.move_file.Goals as goal
 
 pub returns-then-place-len : goal.returns-then-place-len
-returns-then-place-len c = rest c.args.self.now
+returns-then-place-len c = c.readers_move.ensures.rest c.args.self.now
 
 pub returns-in_default : goal.returns-in_default
-returns-in_default c = rest c.args.self.now
+returns-in_default c = c.readers_move.ensures.rest c.args.self.now
 
 pub returns : goal.returns
 returns c =
     let was = c.self.inside in
-    rw c.self.view_is at (file_moves was.files.items c.args.place c.index-file.result.now c.in-Ok.moved was.new_rests c.still_rests-self-inside.result
+    rw c.self.view_is at (file_moves c.readers_move.ensures.one was.files.items c.args.place c.index-file.result.now c.in-Ok.moved was.new_rests c.still_rests-self-inside.result
     was.cur_rests c.still_rests-self-inside-2.result (option_map draft_of was.made)
     (omega (arith, c.if-place-len.false, c.len.ensures)) c.index-file.ensures c.in-Ok.ensures.moves
     (λ quiet. let r = c.still_rests-self-inside.ensures quiet in (r.0, r.1, c.in-Ok.ensures.place ∙ r.2))

@@ -1,16 +1,16 @@
 use Rattle.std.proofs.Common.{arith, option_map, refl, true}
 use Rattle.test_devices.specs.MemoryFolders.{draft_of}
-use Rattle.test_devices.proofs.MemoryMail.{file_moves, rest}
+use Rattle.test_devices.proofs.MemoryMail.{file_moves}
 use Rattle.test_devices.proofs.memory_folders.MemoryFolders.take_file.Goals as goal
 
 pub returns-then-place-len : goal.returns-then-place-len
-returns-then-place-len c = rest c.args.self.now
+returns-then-place-len c = c.readers_move.ensures.rest c.args.self.now
 
 pub returns : goal.returns
 returns c =
     let was = c.self.inside in
     let file = c.index_mut-file.result.now in
-    rw c.self.view_is at (file_moves was.files.items c.args.place file (record file { is_gone = true }) was.new_rests c.still_rests-self-inside.result
+    rw c.self.view_is at (file_moves c.readers_move.ensures.one was.files.items c.args.place file (record file { is_gone = true }) was.new_rests c.still_rests-self-inside.result
     was.cur_rests c.still_rests-self-inside-2.result (option_map draft_of was.made)
     (omega (arith, c.if-place-len.false, c.len.ensures)) c.index_mut-file.ensures.value
     (record { keeps = record { title = refl; content = refl; flushed = λ h. h; named = λ h. h }; new = λ h. h; cur = λ h. h })
