@@ -2,7 +2,7 @@
 #
 #   make demo       serves a message with popd, fetches it with getmail, and shows each step: within two minutes, also
 #                   before the programs are built
-#   make            proves and builds the programs into bin/: twenty to forty minutes on four cores the first time,
+#   make            proves and builds the programs into bin/: twenty minutes on four cores the first time, thirty on two,
 #                   seconds if nothing has changed
 #   make check      the gate: every proof, then every test; its last line is 'N passed, 0 failed'
 #   make quick      what can be checked in seconds: the layout, the wrong bodies' texts, the documents
@@ -46,11 +46,10 @@ probe:
 	@./build.py $@
 
 libraries:
-	cd crates/tests && rt test > /dev/null
+	@./build.py tests
 
 test:
-	@./build.py getmail popd probe
-	cd crates/tests && rt test > /dev/null
+	@./build.py getmail popd probe tests
 	python3 tests/test_documents.py
 	python3 tests/run.py
 
@@ -92,4 +91,4 @@ dist: bin/getmail bin/popd
 	packaging/dist.py
 
 clean:
-	rm -rf bin dist .building-*
+	rm -rf bin dist

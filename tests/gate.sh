@@ -1,5 +1,5 @@
 #!/bin/bash
-# The gate: what can be checked in a second, then every proof from nothing with `rt ci`, then the tests from outside
+# The gate: what can be checked in a second, then every proof with `rt ci`, then the tests from outside
 # over the programs that it built. The last line is that of `rt ci`, 'N passed, 0 failed', and is there only if all
 # else passed too.
 set -euo pipefail

@@ -30,11 +30,11 @@ DOCUMENTS = [f"share/doc/getmail/{name}" for name in (
 SCRIPTS = [f"share/doc/getmail/from-{name}.py" for name in ("getmail6", "mpop", "fetchmail")]
 MESSAGE = b"Subject: one\n\nIt is.\n"
 # What the rules of `make install` and `make dist` read.
-PARTS = ("Makefile", "build.py", "crates.txt", "install.sh", "README.md", "CHANGELOG.md", "LICENSE", "man", "completions", "examples",
-         "packaging", "docs/FROM-GETMAIL6.md", "docs/getmailrc.sample")
+PARTS = ("Makefile", "build.py", "crates.txt", "HANDLES", "install.sh", "README.md", "CHANGELOG.md", "LICENSE", "man", "completions",
+         "examples", "packaging", "docs/FROM-GETMAIL6.md", "docs/getmailrc.sample")
 
-# What stands in for `rt try`, for each run of a program, and for `rt lib` and `rt run`: they use the built programs. The second
-# writes down for each crate which libraries were there.
+# What stands in for `rt try`, for each run of a program, and for `rt ci`: they use the built programs. The second writes down
+# what is in each crate's folder; the third proves one crate and fails at the next.
 TRY = """#!/bin/sh
 name=${PWD##*/}
 while [ "$1" != -- ] && [ "$1" != --cases ]; do shift; done
@@ -46,11 +46,26 @@ for case in "$2"/*.args; do
 done
 """
 PROVE = """#!/bin/sh
-name=${PWD##*/}
-echo $name $(ls -d ../*/out/rlib/* 2>/dev/null | while read path; do echo ${path##*/}; done) >> $LOG
-sleep 2
-mkdir -p out/rlib
-if [ "$1" = run ]; then install $TOP/$name.built out/$name; else mkdir out/rlib/$name; fi
+cd crates
+for name in $(cut -d : -f 1 ../crates.txt); do
+    echo $name $(ls $name) >> $LOG
+    mkdir $name/out
+    if [ $name = getmail ]; then sleep 12; fi
+    if [ -f $TOP/$name.built ]; then install $TOP/$name.built $name/out/$name; fi
+    echo "rt: $name proved"
+done
+"""
+FAIL = """#!/bin/sh
+echo "== mail_terms"
+echo "all is well"
+echo "rt: mail_terms proved"
+echo "== pop3_wire"
+echo "an error"
+echo "rt: pop3_wire NOT PROVED"
+echo "== rc_file"
+echo "rt: rc_file proved"
+echo "rt: FAILED: pop3_wire"
+exit 1
 """
 
 
@@ -292,7 +307,7 @@ class Demo(Copied):
         """A folder with the few programs that are called, and with `rt` if its text is given."""
         folder = self.top.parent / "path"
         folder.mkdir()
-        for name in ("python3", "make", "bash", "sh", "mkdir", "install", "sleep", "ls", "cat"):
+        for name in ("python3", "make", "bash", "sh", "mkdir", "install", "sleep", "ls", "cat", "cut"):
             (folder / name).symlink_to(shutil.which(name))
         if rt:
             (folder / "rt").write_text(rt)
@@ -321,27 +336,38 @@ class Demo(Copied):
             (self.top / "crates" / name).mkdir(parents=True)
         self.check_demo(self.path_with(TRY), "aren't proved yet", "`make` proves them")
 
-    def test_make_proves_several_crates_at_once_in_their_order(self):
-        """Only those of the programs. It says how far it is."""
+    def make_crates(self):
+        """Makes the folders of all crates, in which `make` finds nothing to compile."""
+        lines = [line.partition("#")[0] for line in (self.top / "crates.txt").read_text().splitlines()]
+        for line in lines:
+            if ":" in line:
+                (self.top / "crates" / line.partition(":")[0] / "src").mkdir(parents=True)
+
+    def test_make_proves_the_crates_of_the_programs(self):
+        """Those alone, without their wrong bodies and what was built before. It says how far it is."""
         for name in ("getmail", "popd"):
             (self.top / "bin" / name).rename(self.top / f"{name}.built")
-        lines = [line.partition("#")[0].partition(":") for line in (self.top / "crates.txt").read_text().splitlines()]
-        for crate in (crate for crate, colon, _ in lines if colon):
-            (self.top / "crates" / crate / "src").mkdir(parents=True)
-        for crate in ("getmail", "popd"):
-            (self.top / "crates" / crate / "src/main.rt").touch()
+        self.make_crates()
+        for name in ("must-fail", "out"):
+            (self.top / "crates/mail_store" / name).mkdir()
         log = self.top.parent / "log"
         told = self.make(PATH=self.path_with(PROVE), LOG=str(log), TOP=str(self.top))
-        self.assertRegex(told, r"(?m)^ +0:1\d  \d+ of 17 crates proved; \d being proved: \w+")
+        self.assertRegex(told, r"(?m)^ +0:1\d  14 of 17 crates proved; 1 being proved: getmail$")
         begun = [line.split() for line in log.read_text().splitlines()]
         self.assertEqual(len(begun), 17)
-        self.assertNotIn("tests", [crate for crate, *_ in begun])
-        below = {crate: {name for name in libraries.split()} for crate, _, libraries in lines}
-        for at, (crate, *proved) in enumerate(begun):
-            self.assertLessEqual(below[crate] & set(below), set(proved))
-            self.assertLessEqual(set(proved), {crate for crate, *_ in begun[:at]})
+        self.assertEqual({what for _, *content in begun for what in content}, {"src"})
+        self.assertLessEqual({"mail_store", "getmail", "popd"}, {crate for crate, *_ in begun})
+        self.assertNotIn("run_law", {crate for crate, *_ in begun})
         for name in ("getmail", "popd"):
             self.assertTrue(os.access(self.top / "bin" / name, os.X_OK))
+
+    def test_make_shows_why_a_crate_is_not_proved(self):
+        self.make_crates()
+        done = subprocess.run(["make"], cwd=self.top, capture_output=True, text=True, env=programs.environment(PATH=self.path_with(FAIL)),
+                              timeout=programs.SECONDS)
+        self.assertNotEqual(done.returncode, 0)
+        self.assertIn("== pop3_wire\nan error\nrt: pop3_wire NOT PROVED\n== rc_file\nrt: rc_file proved\nrt: FAILED: pop3_wire\n", done.stderr)
+        self.assertNotIn("all is well", done.stderr)
 
 
 class Pages(unittest.TestCase):
