@@ -1,7 +1,7 @@
 """Where the built programs are, and one run of one of them.
 
-A program is looked for where `rt` leaves it, `crates/NAME/out/NAME`, unless `place` named another file for it. The built
-tests of the libraries are a program too.
+A program is looked for where `make` and the gate leave it, `crates/NAME/out/NAME`, unless `place` named another file for
+it. The built tests of the libraries are a program too.
 """
 
 import itertools
