@@ -70,7 +70,14 @@ serves_on {D} sound mail u v w p q = record {
   answers = rw (q.answers, p.answers, append_assoc u.answers);
   told = λ h. q.told (p.told h);
   sent = rw (q.sent, p.sent, append_assoc u.link.sent);
-  heard = rw (← append_assoc u.waiting, p.heard, append_assoc (flat_map ended p.lines), q.heard, flat_map-append, append_assoc (flat_map ended p.lines));
+  heard = rw (
+    ← append_assoc u.waiting,
+    p.heard,
+    append_assoc (flat_map ended p.lines),
+    q.heard,
+    flat_map-append,
+    append_assoc (flat_map ended p.lines),
+  );
   whole = ran.3;
   over = λ down. let first = p.over down in let later = q.over first.3 in
       (rw (first.0, later.0), rw (first.1, later.1), rw (first.2, later.2), later.3);
@@ -88,6 +95,10 @@ serves_on {D} sound mail u v w p q = record {
       | inr up ↦
           let whole = p.whole up in
           let first = rw (whole.0, append-nil, ← whole.1) at p.run in
-          let run = runs_on sound mail u.machine v.machine q.last p.lines q.lines p.more (q.more ++ q.lost) first q.run in
-          (q.last, rw (whole.0, append_assoc p.more) run, q.same, λ e. let later = q.whole e in (rw (whole.0, later.0), later.1, λ is. later.2 (whole.2 is)))
+          let run = runs_on sound mail u.machine v.machine q.last p.lines q.lines p.more (q.more ++ q.lost) first q.run in (
+            q.last,
+            rw (whole.0, append_assoc p.more) run,
+            q.same,
+            λ e. let later = q.whole e in (rw (whole.0, later.0), later.1, λ is. later.2 (whole.2 is)),
+          )
     ]
