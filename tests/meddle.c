@@ -11,8 +11,9 @@
    Each time that the folder of MEDDLE_RESTLESS is opened, the file of MEDDLE_FROM gets the name of MEDDLE_TO, or back.
 
    Each time that the file of MEDDLE_REFUSED is opened, that answers -1 with EACCES. Each read of the file of
-   MEDDLE_BROKEN but the first answers -1 with EIO. With MEDDLE_WHEN nothing of all this happens before the file of that
-   path is there. A file is known by the path that the program gives; a folder's ends with a slash. */
+   MEDDLE_BROKEN but the first answers -1 with EIO, and so does each removal of the file of MEDDLE_KEPT. With MEDDLE_WHEN
+   nothing of all this happens before the file of that path is there. A file is known by the path that the program gives;
+   a folder's ends with a slash. */
 
 #define _GNU_SOURCE
 #include <dirent.h>
@@ -116,6 +117,18 @@ int openat(int folder, const char *path, int flags, ...)
     mode = va_arg(more, mode_t);
     va_end(more);
     return meddle(path) ? -1 : noted(path, real(folder, path, flags, mode));
+}
+
+int unlink(const char *path)
+{
+    static int (*real)(const char *);
+
+    if (!real)
+        real = dlsym(RTLD_NEXT, "unlink");
+    if (!is_named(path, "MEDDLE_KEPT") || !is_on())
+        return real(path);
+    errno = EIO;
+    return -1;
 }
 
 ssize_t read(int file, void *octets, size_t count)

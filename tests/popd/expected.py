@@ -8,7 +8,9 @@ import hashlib
 import os
 import re
 import stat
+from collections import Counter
 from dataclasses import dataclass, field
+from pathlib import Path
 
 LINE_LIMIT = 512
 INPUT_LIMIT = 16_777_216
@@ -22,11 +24,12 @@ ARGUMENTS = {b"STAT": (0,), b"RSET": (0,), b"NOOP": (0,), b"QUIT": (0,), b"RETR"
 
 @dataclass(frozen=True)
 class Message:
-    """A message as it is listed, with its file, if any."""
+    """A message as it is listed, with its file, if any, and whether another file of its base has other octets."""
 
     uid: bytes
     text: bytes
     path: bytes = b""
+    has_rival: bool = False
 
     def lines(self):
         """The lines of the text; a last piece without its end is one."""
@@ -123,10 +126,15 @@ class Machine:
             return self.listing(keyword, left)
         if keyword == b"QUIT":
             self.is_closed = True
-            return b"+OK bye\r\n"
+            return b"+OK bye\r\n" if len(self.removed()) == len(self.marked) else b"-ERR some messages not removed\r\n"
         if keyword == b"RSET":
             self.marked.clear()
         return b"-ERR not now\r\n" if keyword in (b"USER", b"PASS") else b"+OK\r\n"
+
+    def removed(self):
+        """The marked messages that QUIT removes."""
+        marked = [self.messages[number - 1] for number in self.marked]
+        return [message for message in marked if not message.has_rival]
 
     def listing(self, keyword, left):
         """The answer to LIST or UIDL without a number."""
@@ -191,9 +199,10 @@ def messages_of(folder):
             if is_listed(path):
                 rows.append((name.split(b":")[0], place, name, path))
     messages, seen = [], set()
+    texts = {path: Path(os.fsdecode(path)).read_bytes() for _, _, _, path in rows}
+    bases = Counter(base for base, _ in {(base, texts[path]) for base, _, _, path in rows})
     for base, _, _, path in sorted(rows):
-        with open(path, "rb") as file:
-            message = Message(uid_of(base), file.read(), path)
+        message = Message(uid_of(base), texts[path], path, bases[base] > 1)
         if message.uid not in seen and message.size() <= SIZE_LIMIT:
             seen.add(message.uid)
             messages.append(message)

@@ -41,12 +41,12 @@ class RefusedGrowths(unittest.TestCase):
             self.check_each_growth(given, answers, "u", maildir.passfile, maildir.folder)
 
     def test_removals(self):
-        """A refused growth leaves every file, or the marked one is removed as the answer says."""
+        """A refused growth leaves every file, or the marked one and its copy are removed as the answer says."""
         given = b"USER u\r\nPASS p\r\nDELE 1\r\nQUIT\r\n"
         for refusal in growths.refusals():
             with Maildir() as maildir:
-                for name in ("a", "b"):
-                    maildir.add("new", name, b"x\n")
+                for part, name in (("cur", "a:2,"), ("new", "a"), ("new", "b")):
+                    maildir.add(part, name, b"x\n")
                 run = programs.run("popd", "u", maildir.passfile, maildir.folder, given=given, **refusal.environment())
                 left = [name for _, name in maildir.names()]
                 last = run.out.splitlines()[-1:]
@@ -54,7 +54,7 @@ class RefusedGrowths(unittest.TestCase):
                     self.assertEqual((run.status, left), (0, [b"b"]), f"growth {refusal.number} refused: {run}")
                 else:
                     self.assertTrue(refusal.came(), f"nothing was refused: {run}")
-                    self.assertEqual(left, [b"a", b"b"], f"growth {refusal.number} refused: {run}")
+                    self.assertEqual(left, [b"a:2,", b"a", b"b"], f"growth {refusal.number} refused: {run}")
 
     def test_one_connection_of_two(self):
         """If memory runs out in one connection, that is reported, and the next one is served whole."""

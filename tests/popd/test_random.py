@@ -56,8 +56,7 @@ def check_seed(test, seed):
             client.socket.shutdown(socket.SHUT_WR)
             test.assertEqual(client.rest_or_reset() if machine.is_closed else client.rest(), answers, given)
             test.assertEqual(service.finish()[0], 0)
-        marked = machine.marked if machine.is_closed else ()
-        gone = {expected.base_of(machine.messages[number - 1].path) for number in marked}
+        gone = {expected.base_of(message.path) for message in machine.removed()} if machine.is_closed else ()
         test.assertEqual(maildir.names(), [(part, name) for part, name in before if expected.base_of(name) not in gone])
 
 

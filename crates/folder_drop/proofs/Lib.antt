@@ -1,2 +1,3 @@
 mod DigestLemmas
 mod MaildirLemmas
+mod SameOctetsLemmas

@@ -3,3 +3,5 @@ pub mod ListedFiles
 pub mod ListedIds
 pub mod MaildirNames
 pub mod RealMaildir
+pub mod Removal
+pub mod SameOctets

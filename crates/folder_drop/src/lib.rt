@@ -6,6 +6,9 @@ mod listed_file;
 mod maildir_drop;
 mod maildir_folders;
 mod maildir_names;
+mod removal;
+mod same_octets;
 mod seen_files;
 
 pub use maildir_drop::MaildirDrop;
+pub use removal::TwoMessages;

@@ -13,6 +13,7 @@ mod texts;
 use crate::listed_file::Listing;
 use crate::maildir_drop::listing::ListedMessages;
 use crate::maildir_folders::MaildirFolders;
+use crate::removal::TwoMessages;
 use crate::seen_files::SeenFiles;
 use mail_terms::FailureCount;
 use pop3_server::{DropFault, Entry, MAX_COUNT, Maildrop};
@@ -39,6 +40,8 @@ pub struct MaildirDrop<'a, R: Files + AllocGlobal + Clone + Drop> {
     pub(crate) last_seen: SeenFiles,
     /// The file that was last read in part.
     pub(crate) open: Option<OpenText<Noted<'a, R::File>>>,
+    /// The messages that weren't removed, each with the other one of its name.
+    pub(crate) not_removed: Vec<TwoMessages>,
     failures: FailureCount,
     removals: u64,
 }
@@ -75,6 +78,7 @@ impl<'a, R: Files + Clock + RandomSource + AllocGlobal + Clone + Drop> MaildirDr
             unread: None,
             last_seen: SeenFiles::none(),
             open: None,
+            not_removed: Vec::new(system.alloc()),
             failures: FailureCount::new(),
             removals: 0,
         }
@@ -106,6 +110,12 @@ impl<'a, R: Files + Clock + RandomSource + AllocGlobal + Clone + Drop> MaildirDr
     /// The path of the file or folder that couldn't be read, if that made a listing fail.
     pub fn unread(&self) -> Option<&str> {
         self.unread.as_deref()
+    }
+
+    /// The messages that weren't removed because another file of the same name, up to the first colon, is
+    /// another message.
+    pub fn not_removed(&self) -> &[TwoMessages] {
+        self.not_removed.as_slice()
     }
 
     /// The path of what was refused last, unless memory ran out.

@@ -4,12 +4,14 @@ ghost use Rattle.std.specs.Prelude.{◌≡◌, ℕ, List};
 ghost use Rattle.std.specs.String.{string_bytes};
 
 use crate::folders_look::FoldersLook;
-use crate::listed_file::{count_size, stamp_of};
+use crate::listed_file::{ListedFile, PIECE, count_size, stamp_of};
 use crate::maildir_names::{Folder, PlacedFile, Stamp};
+use crate::removal::{FileNumber, Namesake, TwoMessages, listed_place, removed_with};
+use crate::same_octets::have_same_octets;
 use crate::seen_files::SeenFiles;
 use folder_store::{ChangeTime, list_names};
 use mail_terms::base;
-use std::io::{self, ErrorKind};
+use std::io::{self, BufReader, ErrorKind};
 use std::marker::Model;
 use std::rt::Files;
 use std::time::{Clock, Duration};
@@ -27,6 +29,8 @@ const MOST_SECONDS: u64 = 4;
 /// Why a file or a folder isn't read.
 const BUSY: &str = "changes all the time";
 
+const NOT_REGULAR: &str = "not a regular file";
+
 /// The folders `new` and `cur` of the Maildir at a path.
 #[derive(Drop)]
 pub struct MaildirFolders<'a, R: Files + AllocGlobal + Clone + Drop> {
@@ -38,6 +42,17 @@ impl<'a, R: Files + AllocGlobal + Clone + Drop> Model for MaildirFolders<'a, R> 
     ghost Value = { List ℕ };
 
     ghost view = { λ f. string_bytes f.path };
+}
+
+/// Opens a regular file. Nothing else is opened: a pipe that nobody writes to would be waited for.
+fn open_regular<'a, R: Files + AllocGlobal>(
+    system: &System<'a, R>,
+    path: &str,
+) -> io::Result<Noted<'a, R::File>> {
+    if system.lstat(path)?.is_file() {
+        return system.open(path);
+    }
+    Err(system.refusals.refuse(path, NOT_REGULAR))
 }
 
 impl<'a, R: Files + Clock + AllocGlobal + Clone + Drop> MaildirFolders<'a, R> {
@@ -143,8 +158,6 @@ impl<'a, R: Files + Clock + AllocGlobal + Clone + Drop> MaildirFolders<'a, R> {
             if path.as_str() != tried {
                 return Ok(Some(path));
             }
-        } else if seen.tells_all() {
-            return Ok(None);
         }
         seen.renew(self.list()?);
         match seen.with_base(base, 0) {
@@ -190,49 +203,130 @@ impl<'a, R: Files + Clock + AllocGlobal + Clone + Drop> MaildirFolders<'a, R> {
         }
     }
 
-    /// Opens a file. None if it is gone.
+    /// Opens a regular file. None if it is gone.
     pub fn open(
         &self,
         seen: &mut SeenFiles,
         folder: Folder,
         name: &str,
     ) -> io::Result<Option<Noted<'a, R::File>>> {
-        self.reach(seen, folder, name, |system, path| system.open(path))
+        self.reach(
+            seen,
+            folder,
+            name,
+            |system, path| open_regular(system, path),
+        )
     }
 
-    /// Removes a regular file, if it is still there.
-    fn remove_regular(&self, path: &str) -> io::Result<()> {
-        let removed = match self.system.lstat(path) {
-            Ok(found) if found.is_file() => self.system.unlink(path),
-            Ok(_) => Ok(()),
-            Err(error) => Err(error),
-        };
-        match removed {
-            Err(error) if error.kind() == ErrorKind::NotFound => Ok(()),
-            answer => answer,
+    /// A file with the base of a listed one, as it is now. None if it isn't a regular file; in the place of the
+    /// listed one that is refused. NotFound if it isn't where it was seen.
+    fn namesake(&self, file: &PlacedFile, listed: &ListedFile) -> io::Result<Option<Namesake>> {
+        let is_in_place = file.folder == listed.folder
+            && file.name.as_str() == listed.name.as_str();
+        let path = self.path_of(file.folder, file.name.as_str())?;
+        let found = self.system.lstat(path.as_str())?;
+        if found.is_file() {
+            return Ok(Some(Namesake {
+                path,
+                number: FileNumber::of(&found),
+                stamp: stamp_of(&found),
+                is_in_place,
+                is_copy: false,
+            }));
         }
+        if is_in_place {
+            return Err(self.system.refusals.refuse(path.as_str(), NOT_REGULAR));
+        }
+        Ok(None)
     }
 
-    /// Removes the files with a base, if there are several, from where they were seen.
-    fn remove_all(&self, seen: &SeenFiles, base: &[u8]) -> io::Result<()> {
-        if seen.with_base(base, 1).is_none() {
-            return Ok(());
-        }
+    /// The regular files that were seen with the base of a listed one, as they are now.
+    fn namesakes(&self, seen: &SeenFiles, listed: &ListedFile) -> io::Result<Vec<Namesake>> {
+        let mut files = Vec::new(self.system.alloc());
         for place in 0..usize::MAX {
-            let Some(file) = seen.with_base(base, place) else {
+            let Some(file) = seen.with_base(base(listed.name.as_str()).as_bytes(), place) else {
                 break;
             };
-            let path = self.path_of(file.folder, file.name.as_str())?;
-            self.remove_regular(path.as_str())?;
+            if let Some(file) = self.namesake(file, listed)? {
+                files.push(file)?;
+            }
+        }
+        Ok(files)
+    }
+
+    /// A file that is read piece by piece.
+    fn reader(&self, file: &Namesake) -> io::Result<BufReader<Noted<'a, R::File>>> {
+        let opened = open_regular(self.system, file.path.as_str())?;
+        BufReader::with_capacity(self.system.alloc(), PIECE, opened)
+    }
+
+    /// Notes which of the other files are copies of the listed one: another file, of the same octets.
+    fn compare(&self, listed: &Namesake, others: &mut [Namesake]) -> io::Result<()> {
+        for other in others {
+            if other.number != listed.number {
+                other.is_copy = have_same_octets(
+                    &mut self.reader(listed)?,
+                    &mut self.reader(other)?,
+                )?;
+            }
         }
         Ok(())
     }
 
-    /// Removes a file, and each other one that was seen with its base: a message may be linked in both
-    /// folders. One that is gone already counts as removed.
-    pub fn remove(&self, seen: &mut SeenFiles, folder: Folder, name: &str) -> io::Result<()> {
-        self.reach(seen, folder, name, |system, path| system.unlink(path))?;
-        self.remove_all(seen, base(name).as_bytes())
+    /// Removes a listed file, and before it those that go with it, from where they were seen. NotFound if one
+    /// isn't there.
+    fn remove_seen(
+        &self,
+        seen: &SeenFiles,
+        listed: &ListedFile,
+    ) -> io::Result<Option<TwoMessages>> {
+        let alloc = self.system.alloc();
+        let mut others = self.namesakes(seen, listed)?;
+        let Some(place) = listed_place(others.as_slice(), listed.stamp) else {
+            return match others.pop() {
+                Some(other) => {
+                    let listed = self.path_of(listed.folder, listed.name.as_str())?;
+                    Ok(Some(TwoMessages {
+                        listed,
+                        other: other.path,
+                    }))
+                }
+                None => Ok(None),
+            };
+        };
+        let listed = others.swap_remove(place);
+        self.compare(&listed, others.as_mut_slice())?;
+        match removed_with(listed.number, others.as_slice()) {
+            Ok(removed) => {
+                for file in removed {
+                    self.system.unlink(file.path.as_str())?;
+                }
+                self.system.unlink(listed.path.as_str())?;
+                Ok(None)
+            }
+            Err(other) => Ok(Some(TwoMessages {
+                other: String::from_str(alloc, other.path.as_str())?,
+                listed: listed.path,
+            })),
+        }
+    }
+
+    /// Removes a listed file and those that go with it. One that is gone already counts as removed. If a file
+    /// with its base is another message, none is removed, and that one is returned with it.
+    pub fn remove(
+        &self,
+        seen: &mut SeenFiles,
+        listed: &ListedFile,
+    ) -> io::Result<Option<TwoMessages>> {
+        for _ in 0..MOST_TRIES {
+            match self.remove_seen(seen, listed) {
+                Err(error) if error.kind() == ErrorKind::NotFound => {}
+                answer => return answer,
+            }
+            seen.renew(self.list()?);
+        }
+        let path = self.path_of(listed.folder, listed.name.as_str())?;
+        Err(self.system.refusals.refuse(path.as_str(), BUSY))
     }
 
     /// The size of a file as a message; the file is read in pieces. None if it is gone.

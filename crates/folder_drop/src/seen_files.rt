@@ -45,8 +45,8 @@ impl SeenFiles {
         }
     }
 
-    /// From now on a file that wasn't seen counts as gone: one look is enough for all removals of a
-    /// session. Returns whether they only begin now.
+    /// Forgets what was seen before the removals of a session: one look is enough for all of them. Returns whether
+    /// they only begin now.
     pub fn begin_removals(&mut self) -> bool
         ensures first { result ≡ not self.old.are_removed }
         ensures begun { self.new ≡ (if self.old.are_removed then self.old else record { files = None; are_removed = true }) }
@@ -61,7 +61,7 @@ impl SeenFiles {
         true
     }
 
-    /// Whether a file that wasn't seen counts as gone.
+    /// Whether there was a look since the removals began: a file that it didn't see is gone.
     pub fn tells_all(&self) -> bool
         ensures { result ≡ (self.now.are_removed && is_some self.now.files) }
     {

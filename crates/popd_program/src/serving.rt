@@ -79,13 +79,17 @@ where
     )
 }
 
-/// Warns of the file or folder that couldn't be read, if that made the maildrop unavailable.
-fn warn_of_unread<R>(rt: &R, maildir: &MaildirDrop<'_, R>)
+/// Warns of the file or folder that couldn't be read, if that made the maildrop unavailable, and of each message
+/// that wasn't removed because another one has its name.
+fn warn_of_maildir<R>(rt: &R, maildir: &MaildirDrop<'_, R>)
 where
     R: Files + Clock + RandomSource + AllocGlobal + Eprint + Clone + Drop,
 {
     if let Some(path) = maildir.unread() {
         warn(rt, Warning::Unread(path));
+    }
+    for two in maildir.not_removed() {
+        warn(rt, Warning::NotRemoved(two));
     }
 }
 
@@ -104,7 +108,7 @@ where
     let maildir = account.open_maildir(system)?;
     let mut server = account.into_server(system.alloc(), maildir);
     let served = serve_streams(system, &mut server, verbose, streams);
-    warn_of_unread(system.rt, &server.into_drop());
+    warn_of_maildir(system.rt, &server.into_drop());
     served
 }
 
@@ -151,7 +155,7 @@ where
     let (input, output) = ((&bounded, name.as_str()), (&bounded, name.as_str()));
     let served = serve_traced(system, &mut server, &mut journal, input, output);
     let maildir = server.into_drop();
-    warn_of_unread(system.rt, &maildir);
+    warn_of_maildir(system.rt, &maildir);
     (served, maildir.renewed())
 }
 

@@ -1,5 +1,6 @@
 //! Warnings: the program goes on after them.
 use crate::account::Account;
+use folder_drop::TwoMessages;
 use mail_terms::is_credential;
 use pop3_server::ServerFault;
 use std::alloc::AllocError;
@@ -22,6 +23,8 @@ pub enum Warning<'a> {
     OpenPassfile(&'a str),
     /// A message's file, or a folder of the Maildir, can't be read.
     Unread(&'a str),
+    /// A message wasn't removed, since the other file of its name may be another one.
+    NotRemoved(&'a TwoMessages),
     /// This fault ended the connection from this address.
     Cut(SocketAddr, ServerFault),
 }
@@ -66,6 +69,11 @@ pub fn warn<R: Eprint>(rt: &R, warning: Warning<'_>) {
         Warning::Unread(path) => {
             rt.eprintln(format_args!("popd: warning: cannot read {}", Shown(path)))
         }
+        Warning::NotRemoved(two) => rt.eprintln(format_args!(
+            "popd: warning: not removed: {} and {} have one unique-id but may be different messages",
+            Shown(two.listed.as_str()),
+            Shown(two.other.as_str())
+        )),
         Warning::Cut(client, fault) => {
             rt.eprintln(format_args!("popd: warning: {client}: {fault}"))
         }

@@ -93,8 +93,9 @@ impl<'a, R: Files + Clock + RandomSource + AllocGlobal + Clone + Drop> MaildirDr
         Ok(n)
     }
 
-    /// Removes the file at a place of the last listing, and each other one with its base. One that is
-    /// gone already counts as removed. The first removal of a session lists the folders for all.
+    /// Removes the file at a place of the last listing, and each other one with its base, unless one of them is
+    /// another message. One that is gone already counts as removed. The first removal of a session lists the
+    /// folders for all; if that fails, all are refused.
     pub(crate) fn remove_file(&mut self, i: usize) -> io::Result<()>
         ensures same { self.new ≡ self.old }
     {
@@ -104,8 +105,15 @@ impl<'a, R: Files + Clock + RandomSource + AllocGlobal + Clone + Drop> MaildirDr
         if self.last_seen.begin_removals() {
             self.last_seen.renew(self.folders.list()?);
         }
-        let name = listed.name.as_str();
-        self.folders
-            .remove(&mut self.last_seen, listed.folder, name)
+        if !self.last_seen.tells_all() {
+            return Err(missing());
+        }
+        match self.folders.remove(&mut self.last_seen, listed)? {
+            None => Ok(()),
+            Some(two) => {
+                self.not_removed.push(two)?;
+                Err(io::Error::from(ErrorKind::AlreadyExists))
+            }
+        }
     }
 }
