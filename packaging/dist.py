@@ -23,7 +23,7 @@ TOP = Path(__file__).resolve().parent.parent
 CONTENT = ("bin/getmail", "bin/popd", "install.sh", "README.md", "CHANGELOG.md", "LICENSE", "man", "completions", "examples",
            "docs/FROM-GETMAIL6.md", "docs/getmailrc.sample")
 # What demo runs leave in the repository, and what belongs to no machine without it.
-LEFT_OUT = re.compile(r"__pycache__|/seen-|/demo(/|$)|\.pyc$")
+LEFT_OUT = re.compile(r"__pycache__|/seen-|/lock-|/demo(/|$)|\.pyc$")
 MAINTAINER = "The Quailtuffet authors <maintainers@users.noreply.quailtuffet.example>"
 CONTROL = """\
 Package: getmail

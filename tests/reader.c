@@ -6,13 +6,19 @@
    Just before the third call, here, by which the program reads entries of a folder, each file of the Maildir's `new`
    is moved to `cur`, and each file of `cur` whose name ends in `:2,` gets `:2,S` there, and the other way round. With
    READER_BACK each file of `cur` is put back into `new` instead, with its flags, as mutt does. The file `note` is made
-   at that moment, so that the caller can tell a run with fewer calls. With READER_CALL=0 this is done before each call. */
+   at that moment, so that the caller can tell a run with fewer calls. With READER_CALL=0 this is done before each call.
+
+       READER_MAILDIR=Maildir READER_CALL=-1 READER_OPEN=2 READER_OPENS=5 READER_NOTE=note LD_PRELOAD=./reader.so PROGRAM ..
+
+   Just before the second open, here, of a file of `new` or `cur`, and before the four after it, that file alone is moved
+   to `cur` with other flags; with READER_AWAY it is removed. */
 
 #define _GNU_SOURCE
 #include <dirent.h>
 #include <dlfcn.h>
 #include <fcntl.h>
 #include <limits.h>
+#include <stdarg.h>
 #include <stdio.h>
 #include <stdlib.h>
 #include <string.h>
@@ -70,13 +76,19 @@ static void move_all(const char *maildir, const char *part, const char *target)
     }
 }
 
-static void read_mail(void)
+static void make_note(void)
 {
-    const char *maildir = getenv("READER_MAILDIR"), *note = getenv("READER_NOTE");
-    int descriptor = open(note, O_WRONLY | O_CREAT, 0600);
+    int descriptor = open(getenv("READER_NOTE"), O_WRONLY | O_CREAT, 0600);
 
     if (descriptor >= 0)
         close(descriptor);
+}
+
+static void read_mail(void)
+{
+    const char *maildir = getenv("READER_MAILDIR");
+
+    make_note();
     if (getenv("READER_BACK")) {
         move_all(maildir, "cur", "new");
         return;
@@ -84,6 +96,42 @@ static void read_mail(void)
     /* What was in `cur` first, so that no file is moved twice. */
     move_all(maildir, "cur", "cur");
     move_all(maildir, "new", "cur");
+}
+
+static void before_open(const char *path)
+{
+    static long opens = 0;
+    const char *maildir = getenv("READER_MAILDIR"), *first = getenv("READER_OPEN"), *number = getenv("READER_OPENS");
+    const char *rest = path + strlen(maildir);
+    char to[2 * PATH_MAX], other[PATH_MAX];
+
+    if (!first || strncmp(path, maildir, strlen(maildir)) != 0)
+        return;
+    if ((strncmp(rest, "/new/", 5) != 0 && strncmp(rest, "/cur/", 5) != 0) || !rest[5])
+        return;
+    opens++;
+    if (opens < atol(first) || opens >= atol(first) + (number ? atol(number) : 1))
+        return;
+    make_note();
+    flag(rest + 5, other);
+    snprintf(to, sizeof to, "%s/cur/%s", maildir, other);
+    if (getenv("READER_AWAY") ? unlink(path) : rename(path, to))
+        abort();
+}
+
+int open(const char *path, int flags, ...)
+{
+    static int (*next)(const char *, int, ...);
+    va_list more;
+    mode_t mode;
+
+    if (!next)
+        next = (int (*)(const char *, int, ...))dlsym(RTLD_NEXT, "open");
+    va_start(more, flags);
+    mode = va_arg(more, mode_t);
+    va_end(more);
+    before_open(path);
+    return next(path, flags, mode);
 }
 
 ssize_t getdents64(int folder, void *entries, size_t size)

@@ -4,13 +4,15 @@
        REFUSED_CALL=read-timeout LD_PRELOAD=./refuse_call.so PROGRAM ..
 
    The kinds: `read-timeout` and `write-timeout`, a bound on the waits of a socket; `random`, random octets; `look`, a
-   look at a file of a folder `new`, which fails by a fault of the device. */
+   look at a file of a folder `new`, which fails by a fault of the device; `folder-flush`, the flush of a folder, as on a
+   file system that has none; `lock-none-left` and `lock-unsupported`, the lock of a file. */
 
 #define _GNU_SOURCE
 #include <dlfcn.h>
 #include <errno.h>
 #include <stdlib.h>
 #include <string.h>
+#include <sys/file.h>
 #include <sys/socket.h>
 #include <sys/stat.h>
 #include <unistd.h>
@@ -41,6 +43,17 @@ int setsockopt(int socket, int level, int name, const void *value, socklen_t siz
     return next(socket, level, name, value, size);
 }
 
+int flock(int file, int how)
+{
+    int (*next)(int, int) = dlsym(RTLD_NEXT, "flock");
+
+    if (refuses("lock-none-left") || refuses("lock-unsupported")) {
+        errno = refuses("lock-none-left") ? ENOLCK : EOPNOTSUPP;
+        return -1;
+    }
+    return next(file, how);
+}
+
 int getentropy(void *buffer, size_t length)
 {
     int (*next)(void *, size_t) = dlsym(RTLD_NEXT, "getentropy");
@@ -50,6 +63,18 @@ int getentropy(void *buffer, size_t length)
         return -1;
     }
     return next(buffer, length);
+}
+
+int fsync(int descriptor)
+{
+    int (*next)(int) = dlsym(RTLD_NEXT, "fsync");
+    struct stat found;
+
+    if (refuses("folder-flush") && !fstat(descriptor, &found) && S_ISDIR(found.st_mode)) {
+        errno = EINVAL;
+        return -1;
+    }
+    return next(descriptor);
 }
 
 int statx(int folder, const char *path, int flags, unsigned int mask, struct statx *found)

@@ -5,8 +5,8 @@
 
    The steps are open, openat, statx, lseek, read, write, fsync, ftruncate, rename and unlink of a file or a folder below
    that one, and connect, send and recv. Each adds a line to the file `note`: its word and what it is for. The seventh,
-   here, is answered -1 with EIO, and its line begins with `refused`. Its effect is `none`, `whole` or `half`: the first
-   half of the bytes for a write or a send, nothing for any other step. With STEP_LATER set all later steps
+   here, is answered -1 with EIO, and its line begins with `refused`. Its effect is `none`, `whole`, `half`, the first
+   half of the bytes for a write or a send and nothing for any other step, or `zero`: a write is answered 0. With STEP_LATER set all later steps
    are refused too, with no effect. Without STEP_REFUSED none is refused. */
 
 #include "note.h"
@@ -37,6 +37,13 @@ static int is_of_file(int descriptor)
 
 enum effect { DONE, NONE, HALF, WHOLE };
 
+static int answers_zero(void)
+{
+    const char *effect = getenv("STEP_EFFECT");
+
+    return effect && !strcmp(effect, "zero");
+}
+
 /* Counts a step, and tells what becomes of it. */
 static enum effect taken(const char *word, const char *what)
 {
@@ -51,7 +58,7 @@ static enum effect taken(const char *word, const char *what)
         abort();
     if (!is_refused)
         return DONE;
-    if (!is_first || !effect || !strcmp(effect, "none"))
+    if (!is_first || !effect || !strcmp(effect, "none") || answers_zero())
         return NONE;
     return !strcmp(effect, "half") ? HALF : WHOLE;
 }
@@ -134,6 +141,8 @@ ssize_t write(int descriptor, const void *bytes, size_t size)
 
     if (effect == DONE)
         return next(descriptor, bytes, size);
+    if (answers_zero())
+        return 0;
     if (effect != NONE)
         (void)!next(descriptor, bytes, effect == HALF ? size / 2 : size);
     return refused();

@@ -6,16 +6,13 @@ top or in any crate; `make WORD` is a target that the Makefile names after .PHON
 a definition, a test or a man page uses. Names in capitals stand for something else (`FILE`), and those in OTHERS aren't
 names of this repository.
 
-And the man page lists the line of each fault of getmail, PROVED.md has the table of headline_files.py and the true lengths of
-the code that only tests show, and the documents are no longer than their limits.
+And the man page lists the line of each fault of getmail, and the documents are no longer than their limits.
 """
 
 import re
 import subprocess
 import sys
 from pathlib import Path
-
-import headline_files
 
 TOP = Path(__file__).resolve().parent.parent
 DOCUMENTS = ["README.md", "CONTRIBUTING.md", "CHANGELOG.md", "bench/README.md", *sorted(
@@ -27,12 +24,8 @@ NAME = re.compile(r"[A-Za-z_][A-Za-z0-9_]*")
 OTHERS = {"stunnel", "socat", "dovecot", "mutt", "fetchmail", "mpop", "Display", "BrokenUIDLPOP3Retriever", "killsize"}
 # The sources of the lines that report faults.
 TELLING = ("crates/getmail_setup/src/failure.rt", "crates/fetch_session/src/text.rt", "crates/rc_file/src/text.rt")
-# The most lines of a document, and the most words of all documents and man pages together.
+# The most lines of a document.
 MOST_LINES = {"README.md": 100, "docs/PROVED.md": 350, "docs/ARCHITECTURE.md": 200}
-MOST_WORDS = 22_000
-# Comments, imports and contracts, each with all of its lines.
-NO_CODE = re.compile(r"^ *(?://.*|(?:pub |ghost )?use [^;]*;|(?:requires|ensures|ghost) [^{]*\{(?:[^{}]|\{(?:[^{}]|\{[^{}]*\})*\})*\};?)$",
-                     re.MULTILINE)
 # Folders that a user, a build or an installation makes.
 MADE = ("~", "/", "bin/", "out/", "share/", "examples/demo/Maildir")
 
@@ -103,44 +96,12 @@ def told_without_help():
                 yield f"man/getmail.1 doesn't list '{line}' of {source}"
 
 
-def other_definitions():
-    """A line if PROVED.md has another table of the headlines' definitions."""
-    rows, total = headline_files.table()
-    text = (TOP / "docs/PROVED.md").read_text()
-    if "\n".join(rows) not in text or f"{total:,} in all" not in text:
-        yield "docs/PROVED.md: the table of definitions isn't what tests/headline_files.py prints"
-
-
-def code_lines(path):
-    """How many lines of a source are neither empty nor comments, imports or contracts."""
-    return sum(line.strip() != "" for line in NO_CODE.sub("", path.read_text()).splitlines())
-
-
-def other_lengths():
-    """A line for each row of the table of code that only tests show with another length than that of its files."""
-    section = (TOP / "docs/PROVED.md").read_text().partition("\n## What only tests show\n")[2].partition("\nEverywhere:\n")[0]
-    total = 0
-    for files, told in re.findall(r"^\|.*\|(.*)\| ([\d,]+) \|$", section, re.MULTILINE):
-        names = re.findall("`(.*?)`", files)
-        paths = [TOP / "crates" / (name if "/" in name else f"{Path(names[0]).parent}/{name}") for name in names]
-        length = sum(map(code_lines, paths))
-        total += length
-        if told != f"{length:,}":
-            yield f"docs/PROVED.md: {files.strip()} has {length:,} lines of code"
-    if f"Together they are {total:,} lines" not in section:
-        yield f"docs/PROVED.md: the code that only tests show has {total:,} lines"
-
-
 def too_long():
-    """A line for each document that is too long, and one if all together are."""
+    """A line for each document that is too long."""
     for name, most in MOST_LINES.items():
         lines = len((TOP / name).read_text().splitlines())
         if lines > most:
             yield f"{name}: {lines} lines, at most {most}"
-    pages = [path for path in DOCUMENTS if not path.startswith("bench/")] + list((TOP / "man").iterdir())
-    words = sum(len((TOP / page).read_text().split()) for page in pages)
-    if words > MOST_WORDS:
-        yield f"documents and man pages: {words:,} words, at most {MOST_WORDS:,}"
 
 
 def main():
@@ -148,7 +109,7 @@ def main():
     words = words_of(paths)
     targets = set(" ".join(re.findall(r"^\.PHONY: (.*)", (TOP / "Makefile").read_text(), re.MULTILINE)).split())
     faults = [fault for document in DOCUMENTS for fault in faults_in(document, paths, words, targets)]
-    faults += [*told_without_help(), *other_definitions(), *other_lengths(), *too_long()]
+    faults += [*told_without_help(), *too_long()]
     for fault in faults:
         print(fault)
     if not faults:

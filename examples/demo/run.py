@@ -136,7 +136,7 @@ def main():
     signal.signal(signal.SIGTERM, lambda *_: sys.exit(1))
     with tempfile.TemporaryDirectory() as place, contextlib.ExitStack() as stack:
         folder = Path(place) / "demo"
-        shutil.copytree(DEMO, folder, ignore=shutil.ignore_patterns("seen-*", f"{'?' * 64}.*", "__pycache__"))
+        shutil.copytree(DEMO, folder, ignore=shutil.ignore_patterns("seen-*", "lock-*", f"{'?' * 64}.*", "__pycache__"))
         (folder / "password").chmod(0o600)
         show(stack, folder)
     say("\nThat was all: popd has ended, and its folder is removed. `man man/getmail.1` says how to set up an account.")

@@ -42,6 +42,7 @@ class Account:
         self.rcfile.chmod(0o600)
         self.digest = hashlib.sha256(f"{LOOPBACK}\0{port}\0{user}".encode()).hexdigest()
         self.record = self.folder / f"seen-{self.digest}"
+        self.lock = self.folder / f"lock-{self.digest}"
 
     def __enter__(self):
         return self
@@ -66,6 +67,10 @@ class Account:
     def name(self, uid, text):
         """The name of the file of a unique-id's text."""
         return f"{self.stem(uid)},S={len(text)}"
+
+    def refuse_lock(self):
+        """Has a folder in the place of the lock's file, so that runs go on without a lock."""
+        self.lock.mkdir()
 
     def held(self):
         """The unique-ids of the files in `new` and `cur` with their bytes, one pair for each file. Bytes under a

@@ -38,6 +38,7 @@ class Server:
     def __init__(self, messages, refuses=()):
         self.messages = list(messages)
         self.refuses = tuple(refuses)
+        self.greeting = b"+OK ready\r\n"
         self.commands = []
         self.room = None
         self.pause = None
@@ -84,7 +85,7 @@ class Server:
         self.marked = set()
         with self.client, self.client.makefile("rb") as given:
             try:
-                self._say(b"+OK ready\r\n")
+                self._say(self.greeting)
                 for line in given if self.deaf_after is None else itertools.islice(given, self.deaf_after):
                     if not line.endswith(b"\r\n"):
                         # A command whose sending was cut.

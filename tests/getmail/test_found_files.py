@@ -1,5 +1,5 @@
 """Files of listed messages that are in the Maildir while the record doesn't show them, as a backup brings them back: each of them
-is flushed before the record does."""
+is flushed before the record does, whatever a reader does to it meanwhile."""
 
 import os
 import unittest
@@ -11,6 +11,9 @@ from harness.power import rows_of
 
 LETTERS = [(b"uid-%d" % number, b"Subject: %d\n\ntext\n" % number) for number in range(3)]
 
+# Two files of each message, as a copy leaves them.
+BOTH = (("new", ""), ("cur", ":2,F"))
+
 
 class FoundFiles(unittest.TestCase):
     def setUp(self):
@@ -18,47 +21,51 @@ class FoundFiles(unittest.TestCase):
         self.server = self.enterContext(SharedServer(LETTERS))
         self.account = self.enterContext(Account(self.server.port))
 
-    def put(self, part, marks):
-        """Puts a file of each message into a folder that has no other files, without a record, and answers their inodes."""
+    def put(self, *places):
+        """Puts a file of each message into each place, a folder and marks, of a Maildir that has no other files, without a
+        record, and answers their inodes."""
         self.account.record.unlink(missing_ok=True)
         for folder in ("new", "cur"):
             for name in os.listdir(self.account.maildir / folder):
                 (self.account.maildir / folder / name).unlink()
-        paths = [self.account.maildir / part / (self.account.name(uid, text) + marks) for uid, text in LETTERS]
-        for path, (_, text) in zip(paths, LETTERS):
-            path.write_bytes(text)
-        return {path.stat().st_ino for path in paths}
+        inodes = set()
+        for part, marks in places:
+            for uid, text in LETTERS:
+                path = self.account.maildir / part / (self.account.name(uid, text) + marks)
+                path.write_bytes(text)
+                inodes.add(path.stat().st_ino)
+        return inodes
 
-    def changes_of_run(self, *libraries, **changes):
-        """The rows of a run that ends well."""
+    def changes_of_run(self, *libraries, copies=1, **changes):
+        """The rows of a run that ends well, after which there are so many copies of each message."""
         note = self.account.home / "changes"
         note.unlink(missing_ok=True)
         run = self.account.run("-q", LD_PRELOAD=":".join(map(str, (*libraries, self.noting))), CHANGES_NOTE=str(note),
                                **changes)
         self.server.wait_for_end()
         self.assertEqual((run.status, run.out, run.err), (0, b"", b""))
-        self.assertEqual(self.account.held(), LETTERS)
+        self.assertEqual(self.account.held(), sorted(LETTERS * copies))
         return [words for words, _ in rows_of(note.read_bytes())]
 
-    def check_flushed_first(self, rows, inodes):
-        """Each of the files is flushed before the record's file is made."""
+    def flushed_first(self, rows):
+        """The files that are flushed before the record's file is made."""
         made = next(place for place, words in enumerate(rows)
                     if words[0] == "make" and str(self.account.record) in words[2])
-        flushed = [int(words[1]) for words in rows[:made] if words[0] == "flush"]
-        self.assertEqual(set(flushed), inodes)
-        return flushed
+        return [int(words[1]) for words in rows[:made] if words[0] == "flush"]
+
+    def check_flushed_first(self, rows, inodes):
+        self.assertEqual(set(self.flushed_first(rows)), inodes)
 
     def test_each_is_flushed_once_before_the_record_shows_it(self):
         for part, marks in (("new", ""), ("cur", ":2,S")):
             with self.subTest(part=part):
-                inodes = self.put(part, marks)
-                flushed = self.check_flushed_first(self.changes_of_run(), inodes)
-                self.assertEqual(len(flushed), len(inodes))
+                inodes = self.put((part, marks))
+                self.assertEqual(sorted(self.flushed_first(self.changes_of_run())), sorted(inodes))
                 self.assertEqual({words[0] for words in self.changes_of_run()}, {"send"})
 
     def test_those_that_the_record_shows_are_not_flushed(self):
         """One more message comes, so that the Maildir is asked what it holds."""
-        inodes = self.put("new", "")
+        inodes = self.put(("new", ""))
         self.changes_of_run()
         self.server.messages.append((b"uid-3", b"one more\n"))
         self.addCleanup(self.server.messages.pop)
@@ -67,22 +74,64 @@ class FoundFiles(unittest.TestCase):
         rows = [words for words, _ in rows_of((self.account.home / "more").read_bytes())]
         self.assertFalse(inodes & {int(words[1]) for words in rows if words[0] == "flush"})
 
-    def test_those_that_a_reader_moves_meanwhile(self):
-        """The reader works just before one of the calls by which the program reads a folder, each of them in turn."""
+    def test_both_files_of_a_message(self):
+        inodes = self.put(*BOTH)
+        self.check_flushed_first(self.changes_of_run(copies=2), inodes)
+
+    def check_each(self, more_than, places, changes_at, copies=1):
+        """The reader works at one moment of a run, each of them in turn. There are more moments than this number."""
+        told = self.account.home / "told"
         with preload.library("reader") as reader:
-            for call in range(1, 200):
-                with self.subTest(call=call):
-                    inodes = self.put("new", "")
-                    told = self.account.home / "told"
+            for moment in range(1, 200):
+                with self.subTest(moment=moment):
                     told.unlink(missing_ok=True)
-                    rows = self.changes_of_run(reader, READER_MAILDIR=str(self.account.maildir), READER_CALL=str(call),
-                                               READER_NOTE=str(told))
+                    inodes = self.put(*places)
+                    rows = self.changes_of_run(reader, copies=copies, READER_MAILDIR=str(self.account.maildir),
+                                               READER_NOTE=str(told), **changes_at(moment))
                     self.check_flushed_first(rows, inodes)
                 if not told.exists():
-                    # Both folders are read twice, each with a last call that finds nothing more.
-                    self.assertGreater(call, 8)
+                    self.assertGreater(moment, more_than)
                     return
-        self.fail("more than 200 calls")
+        self.fail("more than 200 moments")
+
+    def test_those_that_a_reader_moves_meanwhile(self):
+        """The reader works just before one of the calls by which the program reads a folder: it reads both twice, each
+        with a last call that finds nothing more. It takes all files from `new`, or puts all back there."""
+        self.check_each(8, [("new", "")], lambda call: {"READER_CALL": str(call)})
+        self.check_each(8, BOTH, lambda call: {"READER_CALL": str(call), "READER_BACK": "1"}, copies=2)
+
+    def test_one_that_a_reader_moves_just_before_it_is_opened(self):
+        """Also if the message's other file was flushed already, or is flushed next."""
+        def moved_at(opening):
+            return {"READER_CALL": "-1", "READER_OPEN": str(opening)}
+
+        self.check_each(3, [("new", "")], moved_at)
+        self.check_each(6, BOTH, moved_at, copies=2)
+
+    def test_those_that_a_reader_moves_again_and_again(self):
+        """Each of the three, twenty times."""
+        inodes = self.put(("new", ""))
+        with preload.library("reader") as reader:
+            rows = self.changes_of_run(reader, READER_MAILDIR=str(self.account.maildir), READER_CALL="-1", READER_OPEN="1",
+                                       READER_OPENS="60", READER_NOTE=str(self.account.home / "told"))
+        self.check_flushed_first(rows, inodes)
+
+    def test_those_that_a_reader_takes_away_meanwhile(self):
+        """They weren't there, and are fetched; the others are flushed."""
+        with preload.library("reader") as reader:
+            for opening in range(1, 4):
+                for opens in range(1, 4):
+                    with self.subTest(opening=opening, opens=opens):
+                        inodes = self.put(("cur", ":2,S"))
+                        self.server.forget()
+                        rows = self.changes_of_run(reader, READER_MAILDIR=str(self.account.maildir), READER_CALL="-1",
+                                                   READER_OPEN=str(opening), READER_OPENS=str(opens), READER_AWAY="1",
+                                                   READER_NOTE=str(self.account.home / "told"))
+                        left = inodes & {path.stat().st_ino for path in (self.account.maildir / "cur").iterdir()}
+                        fetched = [line for line in self.server.commands[1] if line.startswith("RETR")]
+                        self.assertEqual(len(left) + len(fetched), len(LETTERS))
+                        self.assertTrue(fetched)
+                        self.assertLessEqual(left, set(self.flushed_first(rows)))
 
 
 if __name__ == "__main__":

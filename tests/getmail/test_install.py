@@ -29,6 +29,7 @@ DOCUMENTS = [f"share/doc/getmail/{name}" for name in (
     "make_record.py")]
 SCRIPTS = [f"share/doc/getmail/from-{name}.py" for name in ("getmail6", "mpop", "fetchmail")]
 MESSAGE = b"Subject: one\n\nIt is.\n"
+AT_WORK = b"getmail: another getmail is at work for this account"
 # What the rules of `make install` and `make dist` read.
 PARTS = ("Makefile", "build.py", "crates.txt", "HANDLES", "install.sh", "README.md", "CHANGELOG.md", "LICENSE", "man", "completions",
          "examples", "packaging", "docs/FROM-GETMAIL6.md", "docs/getmailrc.sample")
@@ -409,7 +410,7 @@ class Readme(unittest.TestCase):
             self.assertEqual((done.returncode, done.stderr), (0, ""))
             self.assertEqual(len(os.listdir(Path(home) / "Maildir/new")), len(messages))
             self.assertEqual(stat.S_IMODE((Path(home) / ".getmail/getmailrc").stat().st_mode), 0o600)
-        self.assertIn("flock -n ~/.getmail/lock $(command -v getmail) -q", lines[-1])
+        self.assertIn("*/10 * * * * $(command -v getmail) -q --why", lines[-1])
 
 
 class Regular(unittest.TestCase):
@@ -446,14 +447,15 @@ class Timer(Regular):
                 self.assertEqual((status, len(account.held())), (0, 1))
                 self.assertIn(b"1 messages (4 bytes) retrieved", out)
 
-    def test_a_run_beside_another_does_nothing(self):
+    def test_a_run_beside_another_ends_at_once(self):
         for unit in ("getmail.service", "getmail@.service"):
             with self.subTest(unit), SilentServer(b"+OK\r\n") as server, Account(server.port) as account:
                 shutil.copy(account.rcfile, account.folder / "work")
                 first = self.start(account, self.words(unit, account))
                 try:
                     server.taken.wait(programs.SECONDS)
-                    self.assertEqual(self.run_whole(account, self.words(unit, account)), (0, b""))
+                    status, out = self.run_whole(account, self.words(unit, account))
+                    self.assertEqual((status, out.splitlines()[0]), (1, AT_WORK))
                     self.assertIsNone(first.poll())
                 finally:
                     server.over.set()
@@ -496,7 +498,8 @@ class Cron(Regular):
             first = self.start(account)
             try:
                 server.taken.wait(programs.SECONDS)
-                self.assertEqual(self.run_whole(account), (1, b""))
+                status, out = self.run_whole(account)
+                self.assertEqual((status, out.splitlines()[0]), (1, AT_WORK))
                 self.assertIsNone(first.poll())
             finally:
                 server.over.set()

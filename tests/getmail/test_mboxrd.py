@@ -270,7 +270,7 @@ class Files(Mboxrd):
     def test_nothing_else_is_made(self):
         self.check_session(RETRS + ["QUIT"])
         self.assertEqual(sorted(os.listdir(self.account.home)), [".getmail", "Maildir", "mbox"])
-        self.assertEqual(sorted(os.listdir(self.account.folder)), ["getmailrc", self.account.record.name])
+        self.assertEqual(sorted(os.listdir(self.account.folder)), ["getmailrc", self.account.lock.name, self.account.record.name])
         self.assertEqual([path for path in self.account.maildir.rglob("*") if path.is_file()], [])
 
     def test_a_rehearsal_keeps_its_maildir(self):

@@ -14,7 +14,8 @@ import time
 import unittest
 
 from getmail.mbox_account import OTHER, MboxAccount
-from getmail.server import MeddlingServer, OtherSizes, Server
+from getmail.server import Cut, MeddlingServer, OtherSizes, Server
+from getmail.shared_server import SharedServer
 from harness import preload, programs
 from harness.mboxrd import SEPARATOR, entries, entry, quoted, unquoted
 
@@ -150,14 +151,44 @@ class Intents(unittest.TestCase):
         whole = entry(text)
         for rest in (whole[:100], whole[:8192], whole[:-1]):
             half = rest[:len(rest) // 2]
+            # Of a file that is compared in pieces, the second piece differs.
+            other = rest[:5000] + b"?" + rest[5001:]
             for had, left in ((b"", None), (half, None), (rest[:-1], None), (rest, None), (OTHER, OTHER + rest),
-                              (OTHER + rest, OTHER + rest), (OTHER + half, OTHER + half + rest)):
+                              (OTHER + rest, OTHER + rest), (OTHER + half, OTHER + half + rest), (other, other + rest)):
                 with self.subTest(rest=len(rest), had=len(had)), \
                         Server([THREE[0], (b"b", text), THREE[2]]) as server, MboxAccount(server.port) as account:
                     account.kept.write_bytes(had)
                     self.assertEqual(self.settle(server, account, rest, text), GOOD if left is None else told(account))
                     self.assertEqual(account.content(), entries([TEXTS[0], text, TEXTS[2]]))
                     self.assertEqual(account.kept.read_bytes() if account.kept.exists() else None, left)
+
+    def test_a_rest_that_nobody_knows_is_told_until_it_is_removed(self):
+        """A killed run had kept it and its message never comes. Each run that has something to do names it; not one that
+        has nothing to do, or finds nothing in the file."""
+        with SharedServer(THREE[:1]) as server, MboxAccount(server.port) as account:
+            def run(*words):
+                answer = account.run("-q", *words)
+                server.wait_for_end()
+                return answer
+
+            def cut(*_):
+                raise Cut
+
+            account.kept.write_bytes(b"")
+            give, server.give = server.give, cut
+            self.assertEqual(run(), programs.Run(1, b"", b"getmail: connection ended by the server\n"))
+            server.give = give
+            self.assertEqual(run(), GOOD)
+            account.kept.write_bytes(OTHER)
+            for number in range(1, 3):
+                self.assertEqual(run(), GOOD)
+                server.messages.append(THREE[number])
+                self.assertEqual(run("--pretend").err, b"")
+                self.assertEqual(run(), told(account))
+            self.assertEqual(account.kept.read_bytes(), OTHER)
+            account.kept.unlink()
+            self.assertEqual(run("-d"), GOOD)
+            self.assertEqual(account.content(), entries(TEXTS))
 
     def test_a_rest_that_cannot_be_kept(self):
         """Nothing is cut off while a folder has that name; the next session goes on."""

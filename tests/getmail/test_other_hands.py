@@ -71,7 +71,7 @@ class OtherHands(OneAccount):
                     self.account.record.write_bytes(old)
                     self.assertEqual(self.session("-d", bound=bound), (RECORD_REFUSED, ["RSET", "QUIT"]))
                     self.assertEqual(self.account.record.read_bytes(), old)
-                    self.assertEqual(sorted(os.listdir(self.account.folder)), ["getmailrc", self.account.record.name])
+                    self.assertEqual(sorted(os.listdir(self.account.folder)), ["getmailrc", self.account.lock.name, self.account.record.name])
         self.assertEqual(self.server.messages, THREE)
         self.assertEqual(self.session("-d")[0], SILENT)
         self.assertEqual(self.account.held(), THREE)

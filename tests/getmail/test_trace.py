@@ -4,10 +4,11 @@ import os
 import shutil
 import subprocess
 import unittest
+from contextlib import contextmanager
 
 from getmail.account import Account
 from getmail.server import Server
-from harness import programs
+from harness import preload, programs
 from harness.kernel import LOOPBACK
 
 TWO = [(b"a", b"one\n"), (b"b", b"two\n.\n")]
@@ -84,6 +85,12 @@ class Session(unittest.TestCase):
         thread.join(programs.SECONDS)
         return run
 
+    @contextmanager
+    def server_thread(self):
+        thread = self.server.begin_session()
+        yield
+        thread.join(programs.SECONDS)
+
     def missing_record(self):
         return f"trace: stat {self.account.record}: {NO_MEMBER}"
 
@@ -124,7 +131,7 @@ class Session(unittest.TestCase):
             with self.subTest(said):
                 run = self.session("--trace")
                 self.assertIn("C: PASS *", lines_of(run))
-                self.assertIn(f"S: {said.split()[0]} *", lines_of(run))
+                self.assertIn(f"S: {said.split()[0]}", lines_of(run))
                 self.assertNotIn(b"s3c", run.err)
                 self.assertNotIn(b"s3c", run.out)
 
@@ -152,6 +159,26 @@ class Session(unittest.TestCase):
         self.session()
         self.account.record.chmod(0)
         self.assertIn(f"trace: open {self.account.record}: Permission denied", lines_of(self.session("--trace")))
+
+    def test_a_rename_that_is_refused(self):
+        """The old name, then the new one."""
+        with preload.library("refuse_step") as refuse_step:
+            note = self.account.home / "note"
+            below = {"LD_PRELOAD": str(refuse_step), "STEP_BELOW": str(self.account.maildir), "STEP_NOTE": str(note)}
+            with self.server_thread():
+                self.account.run("-q", **below)
+            steps = [line.split("\t") for line in note.read_text().splitlines()]
+            number = next(k for k, (step, _) in enumerate(steps, 1) if step == "rename")
+            shutil.rmtree(self.account.maildir / "new")
+            (self.account.maildir / "new").mkdir()
+            self.account.record.unlink()
+            note.unlink()
+            with self.server_thread():
+                run = self.account.run("-q", "--trace", STEP_REFUSED=str(number), **below)
+        told = [line for line in lines_of(run) if line.startswith("trace: rename")]
+        new = f"{self.account.maildir}/new/{self.account.name(*TWO[0])}"
+        self.assertEqual(len(told), 1)
+        self.assertRegex(told[0], f"^trace: rename {self.account.maildir}/tmp/[^/ ]+ to {new}: Input/output error$")
 
     def test_a_path_is_escaped(self):
         name = "\x1b[2J.rc"

@@ -1,4 +1,5 @@
-"""Two runs of one account at once, and what a killed run left: nothing is lost and nothing is torn.
+"""Two runs of one account at once, where no lock keeps them apart, and what a killed run left: nothing is lost and
+nothing is torn.
 
 At worst two runs leave a record that has to be mended. TESTS_KILLS is the number of rounds in which both are
 killed.
@@ -27,6 +28,7 @@ class TwoRuns(unittest.TestCase):
         self.server = SharedServer()
         self.addCleanup(self.server.close)
         self.account = Account(self.server.port)
+        self.account.refuse_lock()
         self.addCleanup(self.account.holder.cleanup)
 
     def check_nothing_lost_or_torn(self, messages):
@@ -165,6 +167,7 @@ class Killed(TwoRuns):
         for number in range(self.ROUNDS):
             with self.subTest(number=number), Account(self.server.port) as account:
                 self.account = account
+                self.account.refuse_lock()
                 self.play(source, length * number / self.ROUNDS)
 
 

@@ -8,7 +8,7 @@ from getmail import terminal
 from getmail.account import Account
 from getmail.mbox_account import MboxAccount
 from getmail.server import Server
-from harness import programs
+from harness import preload, programs
 from harness.kernel import LOOPBACK
 
 TWO = [(b"a", b"one\n"), (b"b", b"two\n")]
@@ -24,9 +24,9 @@ class Sessions(unittest.TestCase):
         self.account = self.account_class(self.server.port)
         self.addCleanup(self.account.holder.cleanup)
 
-    def session(self, *words):
+    def session(self, *words, **changes):
         thread = self.server.begin_session()
-        run = self.account.run("-q", *words)
+        run = self.account.run("-q", *words, **changes)
         thread.join(programs.SECONDS)
         return run
 
@@ -40,7 +40,21 @@ class Sessions(unittest.TestCase):
         self.assertRegex(second, f"^getmail: u@{LOOPBACK}:{self.server.port}: {reason}$")
 
 
+    def check_unflushed(self, folder):
+        """A file system that flushes no folders is no fault. One of them is named, if reasons are asked for, by a run that
+        relies on it."""
+        line = f"getmail: u@{LOOPBACK}:{self.server.port}: {folder}: its file system flushes no folders\n".encode()
+        with preload.library("refuse_call") as library:
+            for words, messages, told in (((), TWO[:1], b""), (("--why",), TWO, line), (("--why",), TWO, b"")):
+                self.server.messages = list(messages)
+                run = self.session(*words, LD_PRELOAD=str(library), REFUSED_CALL="folder-flush")
+                self.assertEqual(run, programs.Run(0, b"", told))
+
+
 class OfMaildirs(Sessions):
+    def test_a_folder_that_is_not_flushed(self):
+        self.check_unflushed(self.account.maildir / "new")
+
     def test_what_the_server_said(self):
         self.server.refuses = ("RETR 2",)
         self.check_told("server refused RETR 2", "the server said: -ERR refused")
@@ -98,6 +112,9 @@ class OfMaildirs(Sessions):
 
 class OfMboxes(Sessions):
     account_class = MboxAccount
+
+    def test_a_folder_that_is_not_flushed(self):
+        self.check_unflushed(self.account.home)
 
     def test_a_file_that_is_missing(self):
         self.account.mbox.unlink()
@@ -161,6 +178,10 @@ class BeforeSessions(unittest.TestCase):
                 (b"path = ~/Maildir/", b"path = ~/Mail\x1bdir", "destination.path has a bad form",
                  "line 10: path = ~/Mail\\x1bdir: a Maildir's path ends in / and an mboxrd file's doesn't; it is one line with "
                  "no $, and ~ only as ~/ at its front"),
+                (b"password = p\n", b"password = p\nport = 110\nport = 7x\n", "retriever.port has a bad value",
+                 "line 8: port = 7x: 1 to 65535"),
+                (b"port = 1", b"port = 1\nport = 0\nport = 110\nport = 0x", "retriever.port has a bad value",
+                 "line 7: port = 0x: 1 to 65535"),
                 (b"type = Maildir", b"TYPE: Mbox", "destination.type unknown", "line 9: type = Mbox: Maildir or Mboxrd")):
             with self.subTest(new), Account(1) as self.account:
                 self.put(old, new)
@@ -179,14 +200,81 @@ class BeforeSessions(unittest.TestCase):
         self.check_told(2, "rc file line 1 not understood", "the file begins with a byte order mark: save it without one")
 
     def test_an_rc_file_that_others_may_read(self):
-        self.account.rcfile.chmod(0o640)
-        run = self.account.run("--why")
         warning = f"getmail: warning: others than its owner may read or write {self.account.rcfile}\n"
-        self.assertTrue(run.err.decode().startswith(warning), run.err)
+        for mode in (0o604, 0o602, 0o640, 0o620):
+            self.account.rcfile.chmod(mode)
+            run = self.account.run("--why")
+            self.assertTrue(run.err.decode().startswith(warning), (mode, run.err))
         self.assertEqual(self.account.run().err, f"getmail: cannot connect to {LOOPBACK}:1\n".encode())
         self.account.rcfile.rename(self.account.folder / "rc\nfile")
         run = self.account.run("--why", "-r", "rc\nfile")
         self.assertIn(b"/rc\\x0afile\n", run.err)
+
+
+class Table(unittest.TestCase):
+    """Each fault's reason, with an earlier refusal and a later denial beside it. Before the first session there is no
+    record, which is noted as a refusal, and QUIT is always denied."""
+
+    def setUp(self):
+        self.server = Server(TWO)
+        self.addCleanup(self.server.socket.close)
+        self.account = Account(self.server.port)
+        self.addCleanup(self.account.holder.cleanup)
+        self.usual = self.server._answer
+        self.server._answer = lambda command: self.answers.get(command.decode()) or self.usual(command)
+        self.answers = {"QUIT": b"-ERR later\r\n"}
+
+    def session(self, **changes):
+        thread = self.server.begin_session()
+        run = self.account.run("-q", "--why", **changes)
+        thread.join(programs.SECONDS)
+        return run
+
+    def check_told(self, fault, *reasons, **changes):
+        run = self.session(**changes)
+        self.assertEqual((run.status, run.err.decode().splitlines()),
+                         (1, [f"getmail: {fault}", *(f"getmail: u@{LOOPBACK}:{self.server.port}: {told}" for told in reasons)]))
+
+    def test_the_first_denial(self):
+        for command in ("USER u", "STAT", "UIDL", "LIST", "RETR 1", "RETR 2"):
+            with self.subTest(command):
+                self.answers[command] = f"-ERR no {command}\r\n".encode()
+                self.check_told(f"server refused {command.removesuffix(' u')}", f"the server said: -ERR no {command}")
+                del self.answers[command]
+        self.check_told("server refused QUIT", "the server said: -ERR later")
+
+    def test_a_reply_that_is_not_understood(self):
+        self.answers["UIDL"] = b"250 fine\r\n"
+        self.check_told("reply not understood", "the server said: 250 fine")
+        self.server.greeting = b"HTTP/1.1 400 Bad Request\r\n"
+        self.check_told("reply not understood", "the server said: HTTP/1.1 400 Bad Request")
+
+    def test_a_call_of_the_link_that_is_refused(self):
+        with preload.library("refuse_step") as refuse_step:
+            for number, fault in ((2, "reading from"), (3, "writing to"), (6, "reading from"), (7, "writing to")):
+                with self.subTest(number):
+                    self.check_told(f"{fault} the server failed", f"{LOOPBACK}:{self.server.port}: Input/output error",
+                                    LD_PRELOAD=str(refuse_step), STEP_REFUSED=str(number))
+
+    def test_a_flush_that_a_system_does_not_have(self):
+        """It is no reason of what no call was refused for: a file of the message's name that came meanwhile."""
+        taken = self.account.maildir / "new" / self.account.name(*TWO[0])
+        self.server._answer = lambda command: (command == b"RETR 1" and taken.touch()) or self.usual(command)
+        with preload.library("refuse_call") as refuse_call:
+            self.check_told("destination refused", LD_PRELOAD=str(refuse_call), REFUSED_CALL="folder-flush")
+
+    def test_a_fault_without_a_reason_is_not_told_the_last_one(self):
+        """A write to the record that takes no octet is no refusal of the system: what was refused before isn't its reason."""
+        with preload.library("refuse_step") as refuse_step:
+            note = self.account.home / "note"
+            below = {"LD_PRELOAD": str(refuse_step), "STEP_BELOW": str(self.account.home)}
+            with Account(self.server.port) as other:
+                thread = self.server.begin_session()
+                other.run("-q", "--why", LD_PRELOAD=str(refuse_step), STEP_BELOW=str(other.home), STEP_NOTE=str(note))
+                thread.join(programs.SECONDS)
+            steps = [line.split("\t") for line in note.read_text().splitlines()]
+            number = next(k for k, (step, path) in enumerate(steps, 1) if step == "write" and "/.getmail/" in path)
+            self.check_told("seen file refused", **below, STEP_REFUSED=str(number), STEP_EFFECT="zero")
 
 
 del Sessions

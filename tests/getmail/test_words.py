@@ -86,13 +86,13 @@ Options:
   -g, --getmaildir <DIR>  Keep the rc file and the record in DIR [~/.getmail]
   -v, --verbose...        Report more, each time by one, up to 2
   -q, --quiet...          Write no report
-      --why               Say why a run failed, also if standard error is no terminal
-      --trace             Show the conversation and refused calls of the system on standard error
+      --why...            Say why a run failed, also if standard error is no terminal
+      --trace...          Show the conversation and refused calls of the system on standard error
   -a, --all...            Fetch all messages, also those that were delivered before
   -n, --new...            Fetch only messages that were not delivered before
   -d, --delete...         Delete from the server what was delivered, held or not
   -l, --dont-delete...    Take delete as false; delete_after still deletes
-      --pretend           Say what would be fetched and deleted, and do nothing
+      --pretend...        Say what would be fetched and deleted, and do nothing
   -h, --help              Print help
   -V, --version           Print version
 """
@@ -103,7 +103,7 @@ class Words(unittest.TestCase):
         lines = (["--rehears"], ["--rehearse", "x"], ["x", "--rehearse"], [""], ["-"], ["--rehearse="], ["--Rehearse"],
                  [" --rehearse"], ["--rehearse", ""], ["rehearse"], ["--rehearse\n"], ["x" * 100_000], [b"\xff"],
                  ["--rehearse", b"\xff"], ["-r"], ["-g"], ["-r", "a", "-r", "b"], ["-g", "a", "--getmaildir", "b"],
-                 ["--pretend", "--pretend"], ["--trace", "--trace"], ["-x"])
+                 ["-x"])
         for words in lines:
             with self.subTest(words):
                 run = programs.run("getmail", *words, given=b"+OK hi\r\n")
@@ -153,6 +153,14 @@ class RcFile(unittest.TestCase):
 
     def test_no_server_at_the_port(self):
         self.assertEqual(self.account.run(), self.refused)
+
+    def test_a_flag_counts_as_given_however_often(self):
+        for flag in ("--why", "--trace", "--pretend", "--verbose", "--quiet", "--all", "--new", "--delete", "--dont-delete"):
+            with self.subTest(flag):
+                once = self.account.run(flag)
+                self.assertEqual((once.status, once.out), (1, b""))
+                self.assertEqual(self.account.run(flag, flag), once)
+                self.assertEqual(self.account.run(*[flag] * 3), once)
 
     def test_no_rc_file(self):
         self.check_told(2, b"getmail: cannot read rc file\n", "-r", "other")

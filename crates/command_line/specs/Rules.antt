@@ -4,7 +4,7 @@ use Rattle.std.specs.Option.{option_map_or}
 use Rattle.clap.specs.Words.{App, Row, Rule, count_of, first_of, new_app, new_rule}
 use Rattle.clap.specs.declared.error.kind.ErrorKind.{ErrorKind}
 use Rattle.clap.specs.declared.error.kind.ErrorKind.TheVariants.{DisplayHelp, DisplayVersion}
-use Rattle.clap.specs.declared.builder.action.ArgAction.TheVariants.{Set, SetTrue, Count}
+use Rattle.clap.specs.declared.builder.action.ArgAction.TheVariants.{Set, Count}
 
 -- a program of this name, with --version
 abbrev pub program : List ℕ → App
@@ -26,10 +26,6 @@ flag_rule name short = record (new_rule name) { long = Some name; short = Some s
 abbrev pub long_flag_rule : List ℕ → Rule
 long_flag_rule name = record (new_rule name) { long = Some name; action = Some Count }
 
--- a flag with no short form, given at most once
-abbrev pub switch_rule : List ℕ → Rule
-switch_rule name = record (new_rule name) { long = Some name; action = Some SetTrue }
-
 -- a word that is no option
 abbrev pub word_rule : List ℕ → Rule
 word_rule name = record (new_rule name) { value_names = 1; action = Some Set }
@@ -37,10 +33,6 @@ word_rule name = record (new_rule name) { value_names = 1; action = Some Set }
 -- whether a flag was given, however often
 abbrev pub is_given : List ℕ → List Row → Bool
 is_given name rows = nat_lt 0 (count_of name rows)
-
--- whether a flag was given that may be given once
-abbrev pub is_on : List ℕ → List Row → Bool
-is_on name rows = option_map_or (λ text. bytes_eq text (codes "true")) (first_of name rows) false
 
 -- clap's text is one that was asked for
 abbrev pub is_asked_for : ErrorKind → Bool

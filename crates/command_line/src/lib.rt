@@ -6,7 +6,7 @@ mod options;
 mod shown;
 mod standard_files;
 
-pub use matched::{is_given, is_on, text};
-pub use options::{add, flag, long_flag, long_value_option, program, switch, value_option, word};
+pub use matched::{is_given, text};
+pub use options::{add, flag, long_flag, long_value_option, program, value_option, word};
 pub use shown::show;
 pub use standard_files::StandIns;

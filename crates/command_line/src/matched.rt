@@ -2,7 +2,7 @@
 ghost use Rattle.std.specs.Prelude.{◌≡◌, IfOk, option_map};
 ghost use Rattle.std.specs.String.{string_bytes};
 ghost use Rattle.clap.specs.Words.{first_of, found_of, rows_of};
-ghost use Rattle.command_line.specs.Rules.{is_given, is_on};
+ghost use Rattle.command_line.specs.Rules.{is_given};
 
 use clap::ArgMatches;
 use std::alloc::{AllocError, Global};
@@ -26,14 +26,4 @@ pub fn is_given(matches: &ArgMatches<'_>, name: &str) -> bool
     ensures { result ≡ is_given name.now (rows_of (found_of matches.now)) }
 {
     matches.get_count(name) > 0
-}
-
-/// Whether a flag was given that may be given once.
-pub fn is_on(matches: &ArgMatches<'_>, name: &str) -> bool
-    ensures { result ≡ is_on name.now (rows_of (found_of matches.now)) }
-{
-    match matches.get_str(name) {
-        None => false,
-        Some(text) => text == "true",
-    }
 }

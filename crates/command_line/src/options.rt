@@ -1,7 +1,7 @@
 //! A program's command, options, flags and words, and adding them to a command.
 ghost use Rattle.std.specs.Prelude.{◌≡◌, IfOk, false};
 ghost use Rattle.clap.specs.Words.{app_of, rule_of, with_rule};
-ghost use Rattle.command_line.specs.Rules.{flag_rule, long_flag_rule, long_value_rule, program, switch_rule, value_rule, word_rule};
+ghost use Rattle.command_line.specs.Rules.{flag_rule, long_flag_rule, long_value_rule, program, value_rule, word_rule};
 
 use clap::{Arg, ArgAction, Command};
 use std::alloc::{AllocError, Global};
@@ -59,17 +59,6 @@ pub fn flag<'a>(alloc: Global, name: &'a str, short: char, help: &'a str) -> Arg
     ensures local { result.global ≡ false }
 {
     long_flag(alloc, name, help).short(short)
-}
-
-/// A flag with no short form, given at most once.
-pub fn switch<'a>(alloc: Global, name: &'a str, help: &'a str) -> Arg<'a>
-    ensures rule { rule_of result ≡ switch_rule name.entry.now }
-    ensures local { result.global ≡ false }
-{
-    Arg::new(alloc, name)
-        .long(name)
-        .help(help)
-        .action(ArgAction::SetTrue)
 }
 
 /// A word that is no option.

@@ -1,1 +1,2 @@
+mod EarlyLemmas
 mod OutputLemmas

@@ -1,36 +1,85 @@
--- What is written of a report while its session runs.
-use Rattle.std.specs.Prelude.{◌≡◌, ℕ, List, [], ◌++◌, Option}
-use Rattle.std.proofs.Common.{sym, ap, ◌∙◌, append_assoc, append-nil}
+-- What is written of a report while its session runs: its first line, and lines of messages, but no line of a deletion.
+use Rattle.std.specs.Prelude.{◌≡◌, ◌⊎◌, ℕ, List, [], ◌++◌, Option, flat_map, false}
+use Rattle.std.proofs.Common.{refl, sym, ap, ◌∙◌, append_assoc, append-nil, subst}
 use Rattle.std.proofs.KnownBytes.{Appends-nil, Appends-trans}
+use Rattle.std.proofs.lemmas.Grind.{flat_map-append}
+use Rattle.rc_file.specs.declared.settings.Settings.{Settings}
+use Rattle.fetch_session.specs.Reasons.{explained_line}
+use Rattle.fetch_session.specs.Text.{heading}
+use Rattle.fetch_session.specs.Report.{is_deletion}
+use Rattle.fetch_session.specs.declared.message_preview.MessagePreview.{MessagePreview}
+use Rattle.fetch_session.specs.declared.report.ReportLine.{ReportLine}
 use Rattle.getmail_program.specs.declared.teller.Teller.{Teller}
+use Rattle.getmail_setup.specs.declared.output.Output.{Output}
 use Rattle.getmail_setup.specs.Output.{Puts}
 
--- it has the same output, and keeps what it wrote in the same place
-abbrev pub HasSameLinks : {O : Type 0} → Teller O → Teller O → Type 0
-HasSameLinks old new = (new.out.ghost_name ≡ old.out.ghost_name) × (new.notes.ghost_name ≡ old.notes.ghost_name)
+-- a line of a report that tells no deletion, of a session with this many messages and this plan
+pub record EarlyLine : Type 0 where
+  pub total : ℕ
+  pub plan : List MessagePreview
+  pub line : ReportLine
+  pub no_deletion : is_deletion line ≡ false
 
--- what was written to the output is kept
-pub record WroteMore {O : Type 0} (contents : O → Option (List ℕ)) (old new : Teller O) : Type 0 where
-  pub more : List ℕ
+abbrev pub text_of : ℕ → EarlyLine → List ℕ
+text_of verbose told = explained_line verbose told.total told.plan told.line
+
+-- it has the same output, keeps what it wrote in the same place, and tells as much
+abbrev pub HasSameLinks : {O : Type 0} → Teller O → Teller O → Type 0
+HasSameLinks old new =
+    (new.out.ghost_name ≡ old.out.ghost_name) × (new.notes.ghost_name ≡ old.notes.ghost_name) × (new.verbose ≡ old.verbose)
+
+-- these octets were written to the output, and are kept
+pub record Wrote {O : Type 0} (contents : O → Option (List ℕ)) (more : List ℕ) (old new : Teller O) : Type 0 where
   pub kept : new.notes.now.written.items ≡ old.notes.now.written.items ++ more
   pub puts : Puts contents old.out.now more new.out.now
 
-pub wrote_nothing : {O : Type 0} (contents : O → Option (List ℕ)) (a : Teller O) → WroteMore contents a a
-wrote_nothing contents a = record {
-  more = [];
+-- a text was written, or nothing
+abbrev pub WroteText : {O : Type 0} → (O → Option (List ℕ)) → List ℕ → Teller O → Teller O → Type 0
+WroteText contents text old new = Wrote contents [] old new ⊎ Wrote contents text old new
+
+-- lines were written, none of which tells a deletion
+pub record WroteMore {O : Type 0} (contents : O → Option (List ℕ)) (old new : Teller O) : Type 0 where
+  pub lines : List EarlyLine
+  pub wrote : Wrote contents (flat_map (text_of old.verbose) lines) old new
+
+-- of a report that was written before its session's end: its first line, and lines that tell no deletion
+pub record TellsEarly {O : Type 0} (contents : O → Option (List ℕ)) (settings : Settings) (out : Output O) (text : List ℕ)
+    (out' : Output O) : Type 0 where
+  pub first : List ℕ
+  pub is_first : (first ≡ []) ⊎ (first ≡ heading settings)
+  pub lines : List EarlyLine
+  pub is_text : text ≡ first ++ flat_map (text_of settings.verbose) lines
+  pub puts : Puts contents out text out'
+
+pub wrote_none : {O : Type 0} (contents : O → Option (List ℕ)) (a : Teller O) → Wrote contents [] a a
+wrote_none contents a = record {
   kept = sym (append-nil a.notes.now.written.items);
-  puts = λ whole. (whole, Appends-nil (contents a.out.now.writer));
+  puts = record { whole = λ clean. (clean, Appends-nil (contents a.out.now.writer)); stays = λ _. refl };
 }
 
-pub wrote_both : {O : Type 0} (contents : O → Option (List ℕ)) (a b c : Teller O) → WroteMore contents a b → WroteMore contents b c
-    → WroteMore contents a c
-wrote_both contents a b c p q = record {
-  more = p.more ++ q.more;
-  kept = q.kept ∙ ap (λ (bytes : List ℕ). bytes ++ q.more) p.kept ∙ append_assoc a.notes.now.written.items p.more q.more;
-  puts = λ whole.
-      let rest = q.puts whole in
-      let begun = p.puts rest.0 in (
-        begun.0,
-        Appends-trans (contents a.out.now.writer) (contents b.out.now.writer) (contents c.out.now.writer) p.more q.more begun.1 rest.1,
-      );
+pub wrote_then : {O : Type 0} (contents : O → Option (List ℕ)) (first second : List ℕ) (a b c : Teller O) → Wrote contents first a b
+    → Wrote contents second b c → Wrote contents (first ++ second) a c
+wrote_then contents first second a b c p q = record {
+  kept = q.kept ∙ ap (λ (bytes : List ℕ). bytes ++ second) p.kept ∙ append_assoc a.notes.now.written.items first second;
+  puts = record {
+    whole = λ clean.
+        let rest = q.puts.whole clean in
+        let begun = p.puts.whole rest.0 in (
+          begun.0,
+          Appends-trans (contents a.out.now.writer) (contents b.out.now.writer) (contents c.out.now.writer) first second begun.1 rest.1,
+        );
+    stays = λ refused. q.puts.stays (λ clean. refused (p.puts.whole clean).0) ∙ p.puts.stays refused;
+  };
+}
+
+pub wrote_nothing : {O : Type 0} (contents : O → Option (List ℕ)) (a : Teller O) → WroteMore contents a a
+wrote_nothing contents a = record { lines = []; wrote = wrote_none contents a }
+
+pub wrote_both : {O : Type 0} (contents : O → Option (List ℕ)) (a b c : Teller O) → b.verbose ≡ a.verbose → WroteMore contents a b
+    → WroteMore contents b c → WroteMore contents a c
+wrote_both contents a b c same p q = record {
+  lines = p.lines ++ q.lines;
+  wrote = subst (λ (text : List ℕ). Wrote contents text a c) (sym (flat_map-append (text_of a.verbose) p.lines q.lines))
+      (wrote_then contents _ _ a b c p.wrote
+      (subst (λ (verbose : ℕ). Wrote contents (flat_map (text_of verbose) q.lines) b c) same q.wrote));
 }

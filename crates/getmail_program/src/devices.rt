@@ -4,7 +4,8 @@ ghost use Rattle.rc_file.specs.Settings.{IsValid};
 ghost use Rattle.fetch_session.specs.Target.{NoneBegun, kind_of};
 ghost use Rattle.getmail_program.specs.Holding.{kind_in};
 
-use crate::run::{Parts, fetch_with};
+use crate::reason::line_of;
+use crate::run::{Left, Parts, fetch_with};
 use crate::told::Manner;
 use fetch_rules::{Dest, Settings};
 use fetch_session::Store;
@@ -12,6 +13,7 @@ use folder_store::{FolderMaildir, HostFile, HostFolder, HostFolders, ProcessMark
 use getmail_setup::{Errors, Output, Paths, Setup, ShownWire, account_of};
 use mail_store::{FlatFile, MaildirDisk};
 use pop3_wire::Wire;
+use std::alloc::Global;
 use std::hash::BuildHasher;
 use std::io::Write;
 use std::rt::{Clock, Files};
@@ -56,15 +58,17 @@ fn store_at<'a, R: Files + Clock + AllocGlobal + Clone + Drop>(
     }
 }
 
-/// Writes where is kept what was cut off from an mboxrd file, if it isn't known to have been a part of
-/// an entry that was appended since; else it is removed.
+/// Writes where is kept what this run or an earlier one cut off from an mboxrd file, if it isn't known to
+/// have been a part of an entry that was appended since; else it is removed. A run that had nothing to fetch
+/// tells only of what it cut off itself.
 fn tell_rests<R: Files + Clock + AllocGlobal + Clone + Drop, E: Write>(
     mbox: &HostRecord<'_, R>,
     rests: &str,
+    is_idle: bool,
     err: &mut Output<E>,
 ) {
     mbox.drop_ours();
-    if mbox.keeps_others() {
+    if mbox.keeps_others() || (!is_idle && mbox.has_rests()) {
         err.put(b"getmail: what was cut off from the mbox file is kept in ");
         err.put(rests.as_bytes());
         err.put(b"\n");
@@ -74,14 +78,68 @@ fn tell_rests<R: Files + Clock + AllocGlobal + Clone + Drop, E: Write>(
 /// The store of a run.
 type HostStore<'a, R> = Store<HostMaildir<'a, R>, HostRecord<'a, R>>;
 
-/// Writes where is kept what a run cut off from an mboxrd file, if it has one.
-fn tell_kept<R: Files + Clock + AllocGlobal + Clone + Drop, E: Write>(
-    store: &HostStore<'_, R>,
-    rests: &str,
-    err: &mut Output<E>,
+/// What a run leaves.
+type HostLeft<'a, R> = Left<HostMaildir<'a, R>, HostRecord<'a, R>>;
+
+/// Writes the line of a reason, if there is memory for it.
+fn put_reason<E: Write>(
+    alloc: Global,
+    settings: &Settings,
+    reason: &[u8],
+    errors: &mut Errors<'_, E>,
 ) {
-    if let Store::Mboxrd(mbox) = store {
-        tell_rests(mbox, rests, err);
+    if let Ok(line) = line_of(alloc, settings, reason) {
+        errors.err.put(line.as_slice());
+    }
+}
+
+/// Writes why the store refused the run, unless that was told as the fault's reason.
+fn tell_refusal<E: Write>(alloc: Global, settings: &Settings, errors: &mut Errors<'_, E>) {
+    let Some(refusal) = errors.reasons.store.take() else {
+        return;
+    };
+    if let Ok(reason) = refusal.text(alloc) {
+        put_reason(alloc, settings, reason.as_slice(), errors);
+    }
+}
+
+/// Writes where is kept what was cut off from an mboxrd file; or what bears the name of a message in a
+/// Maildir and refused the run: else nobody learns why all later runs are refused too.
+fn tell_store<R: Files + Clock + AllocGlobal + Clone + Drop, E: Write>(
+    alloc: Global,
+    left: &HostLeft<'_, R>,
+    rests: &str,
+    errors: &mut Errors<'_, E>,
+) {
+    match &left.store {
+        Store::Mboxrd(mbox) => tell_rests(mbox, rests, left.fetched.is_idle, &mut errors.err),
+        Store::Maildir(maildir) => {
+            if maildir.is_obstructed() {
+                tell_refusal(alloc, &left.settings, errors);
+            }
+        }
+    }
+}
+
+/// Tells of a folder whose names weren't flushed because the system flushes no folders, if reasons are asked
+/// for and there is one: a loss of power may take back what was put there.
+fn tell_unflushed<R: Files + Clock + AllocGlobal + Clone + Drop, E: Write>(
+    alloc: Global,
+    left: &HostLeft<'_, R>,
+    errors: &mut Errors<'_, E>,
+) {
+    let in_store = match &left.store {
+        Store::Maildir(maildir) => maildir.unflushed(),
+        Store::Mboxrd(mbox) => mbox.unflushed(),
+    };
+    let found = match in_store {
+        None => left.seen_file.unflushed(),
+        path => path,
+    };
+    if let (true, Some(path)) = (errors.says_why, found) {
+        if let Ok(reason) = format!(in alloc; "{path}: its file system flushes no folders") {
+            put_reason(alloc, &left.settings, reason.as_bytes(), errors);
+        }
     }
 }
 
@@ -140,7 +198,8 @@ pub fn fetch_at<
         explains: errors.explains,
     };
     let left = fetch_with(rt, parts, &mut wire, manner, out, &mut errors);
-    tell_kept(&left.store, paths.rests.as_str(), &mut errors.err);
+    tell_store(rt.alloc(), &left, paths.rests.as_str(), &mut errors);
+    tell_unflushed(rt.alloc(), &left, &mut errors);
     if !left.fetched.is_idle {
         sweep(&left.settings, &left.store, &left.seen_file);
     }

@@ -1,16 +1,18 @@
 //! A run from its command line to its exit status.
-ghost use Rattle.std.specs.Prelude.{◌≤◌};
+ghost use Rattle.std.specs.Prelude.{◌≡◌, ◌≤◌, true};
 ghost use Rattle.rc_file.specs.Settings.{IsValid};
+ghost use Rattle.getmail_setup.specs.Lock.{goes_on};
 
 use crate::devices::fetch_at;
 use crate::rehearsal::rehearse;
 use fetch_rules::{RcFault, Settings};
 use folder_store::ProcessMark;
 use getmail_setup::{
-    Errors, Failure, Output, Peer, Reasons, Setup, Words, connect, explain, fail, failure_of, home,
-    link_over, peer_of, read_words, set_up, tell,
+    Errors, Failure, Lock, Output, Peer, Reasons, Setup, Words, connect, explain, fail, failure_of,
+    home, link_over, peer_of, read_words, set_up, take_lock, tell,
 };
 use std::env::{self, Env};
+use std::fs::File;
 use std::hash::RandomState;
 use std::io::{self, ErrorKind, IsTerminal, Read, Stderr, Write};
 use std::net::{Net, TcpStream};
@@ -34,27 +36,32 @@ fn prepare<'a, R: RandomSource + AllocGlobal>(
     rt: &R,
     process: Process,
     settings: &Settings,
-    errors: &Errors<'_, Stderr>,
 ) -> Result<Prepared, Failure<'a>> {
     match draw(rt, process) {
-        Ok(drawn) => Ok((drawn, peer_of(rt.alloc(), settings, errors)?)),
+        Ok(drawn) => Ok((drawn, peer_of(rt.alloc(), settings)?)),
         Err(error) => Err(failure_of(error, Failure::CannotRead)),
     }
 }
 
-/// Connects, runs one session or only shows what it would do, and returns the exit status.
-fn fetch<R, O>(rt: &R, process: Process, setup: Setup, out: O, errors: Errors<'_, Stderr>) -> u8
+/// Connects, runs one session or only shows what it would do, and returns the exit status. A run of which
+/// another one has the lock does neither.
+fn fetch_with<R, O>(
+    rt: &R,
+    setup: Setup,
+    prepared: Prepared,
+    _lock: &Lock,
+    out: O,
+    errors: Errors<'_, Stderr>,
+) -> u8
 where
-    R: Net<Stream = TcpStream> + Files + Clock + RandomSource + AllocGlobal + Eprint + Clone + Drop,
+    R: Net<Stream = TcpStream> + Files + Clock + AllocGlobal + Eprint + Clone + Drop,
     O: Write + Drop,
-    requires { IsValid setup.settings }
+    requires valid { IsValid setup.settings }
+    requires turn { goes_on _lock.now ≡ true }
     ensures { result ≤ 2 }
 {
     let settings = &setup.settings;
-    let (drawn, peer) = match prepare(rt, process, settings, &errors) {
-        Ok(prepared) => prepared,
-        Err(failure) => return fail(rt, failure, None, &errors),
-    };
+    let (drawn, peer) = prepared;
     let server = settings.server.as_str();
     let stream = match connect(rt, &errors.reasons.before, server, settings.port) {
         Ok(stream) => stream,
@@ -64,10 +71,31 @@ where
     fetch_at(rt, setup, link, drawn, &mut Output::new(out), errors)
 }
 
+/// Takes the lock, which is held to the end, then connects and runs one session or only shows what it would
+/// do, and returns the exit status.
+fn fetch<R, O>(rt: &R, process: Process, setup: Setup, out: O, errors: Errors<'_, Stderr>) -> u8
+where
+    R: Net<Stream = TcpStream> + Files<File = File> + Clock + RandomSource + AllocGlobal,
+    R: Eprint + Clone + Drop,
+    O: Write + Drop,
+    requires { IsValid setup.settings }
+    ensures { result ≤ 2 }
+{
+    let prepared = match prepare(rt, process, &setup.settings) {
+        Ok(prepared) => prepared,
+        Err(failure) => return fail(rt, failure, None, &errors),
+    };
+    let lock = take_lock(rt, &setup, &errors);
+    if let Lock::Elsewhere = &lock {
+        return fail(rt, Failure::AtWork, Some(&setup.settings), &errors);
+    }
+    fetch_with(rt, setup, prepared, &lock, out, errors)
+}
+
 /// Sets a run up, and runs it. Returns the exit status.
 fn run<R, O>(rt: &R, process: Process, words: &Words, out: O, errors: Errors<'_, Stderr>) -> u8
 where
-    R: Net<Stream = TcpStream> + Files + Env + Clock,
+    R: Net<Stream = TcpStream> + Files<File = File> + Env + Clock,
     R: RandomSource + AllocGlobal + Eprint + Clone + Drop,
     O: Write + Drop,
     ensures { result ≤ 2 }
@@ -85,7 +113,7 @@ where
 /// Does what these words ask for, and returns the exit status.
 fn obey<R, I, O>(rt: &R, process: Process, words: &Words, streams: (I, O), mut err: Stderr) -> u8
 where
-    R: Net<Stream = TcpStream> + Files + Env + Clock,
+    R: Net<Stream = TcpStream> + Files<File = File> + Env + Clock,
     R: RandomSource + AllocGlobal + Eprint + Clone + Drop,
     I: Read + Drop,
     O: Write + IsTerminal + Drop,
@@ -132,7 +160,7 @@ fn arguments<'a, R: Env + AllocGlobal>(rt: &R) -> Result<Vec<String>, Failure<'a
 /// input and output; `err` is standard error, to which a trace goes.
 pub fn obey_command_line<R, I, O>(rt: &R, process: Process, streams: (I, O), err: Stderr) -> u8
 where
-    R: Net<Stream = TcpStream> + Files + Env + Clock,
+    R: Net<Stream = TcpStream> + Files<File = File> + Env + Clock,
     R: RandomSource + AllocGlobal + Print + Eprint + Clone + Drop,
     I: Read + Drop,
     O: Write + IsTerminal + Drop,

@@ -1,7 +1,8 @@
 //! The lines of a report that are written while its session runs.
-ghost use Rattle.std.specs.Prelude.{◌≡◌, []};
+ghost use Rattle.std.specs.Prelude.{◌≡◌, ℕ, List, [], IfOk};
+ghost use Rattle.std.specs.String.{string_bytes};
 ghost use Rattle.std.proofs.Common.{refl, ◌∙◌};
-ghost use Rattle.getmail_program.specs.Teller.{HasSameLinks, WroteMore, wrote_nothing, wrote_both};
+ghost use Rattle.getmail_program.specs.Teller.{HasSameLinks, WroteMore, WroteText, wrote_nothing, wrote_both};
 
 use fetch_session::{Listener, MessagePreview, ReportLine, explained_line};
 use getmail_setup::Output;
@@ -31,7 +32,7 @@ impl Notes {
 }
 
 /// Writes the first line of a report and the lines of its messages as they come, up to the first deletion:
-/// a cut may take back deletions. It keeps what it wrote. After a refused write it writes no more.
+/// a cut may take back deletions. It keeps what it wrote.
 #[derive(Drop)]
 pub struct Teller<'a, O> {
     pub(crate) alloc: Global,
@@ -55,6 +56,7 @@ impl<'a, O: Write> Teller<'a, O> {
     ) -> Teller<'a, O>
         ensures links { (result.out.ghost_name ≡ out.entry.ghost_name) × (result.notes.ghost_name ≡ notes.entry.ghost_name) }
         ensures start { (result.out.now ≡ out.old) × (result.notes.now.written.items ≡ notes.old.written.items) }
+        ensures verbose { result.verbose ≡ verbose }
     {
         Teller {
             alloc,
@@ -70,9 +72,9 @@ impl<'a, O: Write> Teller<'a, O> {
     /// Writes a text, unless there is no memory for it or nothing more is to be written.
     pub fn put(&mut self, text: Result<String, AllocError>)
         ensures links { HasSameLinks self.old self.new }
-        ensures wrote { WroteMore O.contents self.old self.new }
+        ensures wrote { (words : List ℕ) → IfOk text (λ made. string_bytes made ≡ words) → WroteText O.contents words self.old self.new }
     {
-        if !self.is_open || self.out.refusal().is_some() {
+        if !self.is_open {
             return;
         }
         if let Ok(text) = text {
@@ -81,6 +83,19 @@ impl<'a, O: Write> Teller<'a, O> {
             }
         }
         self.is_open = false;
+    }
+
+    /// Writes a line, unless it tells a deletion: then nothing more is written.
+    fn tell(&mut self, total: u32, line: &ReportLine)
+        ensures links { HasSameLinks self.old self.new }
+        ensures wrote { WroteMore O.contents self.old self.new }
+    {
+        if let ReportLine::Deleted { .. } = line {
+            self.is_open = false;
+            return;
+        }
+        let text = explained_line(self.alloc, self.verbose, total, &self.notes.plan, line);
+        self.put(text);
     }
 }
 
@@ -97,15 +112,13 @@ impl<'a, O: Write> Listener for Teller<'a, O> {
 
     fn hear(&mut self, total: u32, lines: &[ReportLine]) {
         for i in self.heard..lines.len() {
-            let line = &lines[i];
-            self.is_open = self.is_open && !matches!(line, ReportLine::Deleted { .. });
-            let text = explained_line(self.alloc, self.verbose, total, &self.notes.plan, line);
-            self.put(text);
+            self.tell(total, &lines[i]);
         }
         self.heard = lines.len();
     }
 
-    ghost goes_same = { λ a. ((refl, refl), wrote_nothing O.contents a) };
+    ghost goes_same = { λ a. ((refl, refl, refl), wrote_nothing O.contents a) };
 
-    ghost goes_further = { λ a b c p q. ((q.0.0 ∙ p.0.0, q.0.1 ∙ p.0.1), wrote_both O.contents a b c p.1 q.1) };
+    ghost goes_further = { λ a b c p q.
+        ((q.0.0 ∙ p.0.0, q.0.1 ∙ p.0.1, q.0.2 ∙ p.0.2), wrote_both O.contents a b c p.0.2 p.1 q.1) };
 }

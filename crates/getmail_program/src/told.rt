@@ -7,7 +7,7 @@ ghost use Rattle.fetch_session.specs.Lasting.{RunsSession};
 ghost use Rattle.fetch_session.specs.Refusal.{IsWithinLimits};
 ghost use Rattle.getmail_program.specs.Holding.{HoldsSession};
 ghost use Rattle.getmail_setup.specs.Output.{Puts};
-ghost use Rattle.getmail_program.specs.Teller.{HasSameLinks, WroteMore};
+ghost use Rattle.getmail_program.specs.Teller.{HasSameLinks, TellsEarly, WroteMore};
 ghost use Rattle.getmail_program.specs.Telling.{Reported, is_idle, outcome_of};
 
 use crate::doubt::said_ahead;
@@ -116,7 +116,8 @@ fn hold_over<W: Wire, S: Write, D: MaildirDisk, F: FlatFile, H: BuildHasher, O: 
 }
 
 /// Runs one session of the account over the link. The first line of its report and those of its messages are
-/// written as they come, up to a deletion. Returns the report, and what was written of it and heard.
+/// written as they come, up to a deletion: what is written is a front of the report, and tells no deletion.
+/// Returns the report, and what was written of it and heard.
 fn hold_telling<W: Wire, S: Write, D: MaildirDisk, F: FlatFile, H: BuildHasher, O: Write>(
     alloc: Global,
     account: &mut Account<D, F, H>,
@@ -129,7 +130,7 @@ fn hold_telling<W: Wire, S: Write, D: MaildirDisk, F: FlatFile, H: BuildHasher, 
     ensures limits { IsWithinLimits W.Wire wire.old.wire result.0 wire.new.wire }
     ensures runs { RunsSession W.Wire D.MaildirDisk F.FlatFile manner.entry.now account.old wire.old.wire result.0
         account.new wire.new.wire }
-    ensures told { Puts O.contents out.old result.1.written.items out.new }
+    ensures told { TellsEarly O.contents account.old.settings out.old result.1.written.items out.new }
 {
     let mut notes = Notes::new(alloc);
     let verbose = account.settings().verbose;

@@ -2,7 +2,7 @@
 use Rattle.std.specs.Prelude.{◌≡◌, List, codes, option_map}
 use Rattle.std.specs.String.{string_bytes}
 use Rattle.clap.specs.Words.{App, Row, count_of, first_of, with_rule}
-use Rattle.command_line.specs.Rules.{flag_rule, is_given, is_on, long_flag_rule, program, switch_rule, value_rule}
+use Rattle.command_line.specs.Rules.{flag_rule, is_given, long_flag_rule, program, value_rule}
 use Rattle.rc_file.specs.declared.flags.Flags.{Flags}
 use Rattle.getmail_setup.specs.declared.words.Words.{Words}
 
@@ -14,7 +14,7 @@ with_places app = with_rule (with_rule app (value_rule (codes "rcfile") 114)) (v
 abbrev pub with_loudness : App → App
 with_loudness app =
     with_rule (with_rule (with_rule (with_rule app
-    (flag_rule (codes "verbose") 118)) (flag_rule (codes "quiet") 113)) (switch_rule (codes "why"))) (switch_rule (codes "trace"))
+    (flag_rule (codes "verbose") 118)) (flag_rule (codes "quiet") 113)) (long_flag_rule (codes "why"))) (long_flag_rule (codes "trace"))
 
 -- -a, -n, -d, -l
 abbrev pub with_choices : App → App
@@ -25,7 +25,7 @@ with_choices app =
 abbrev pub getmail : App
 getmail =
     with_rule (with_rule (with_choices (with_loudness (with_places (program (codes "getmail")))))
-    (switch_rule (codes "pretend"))) (long_flag_rule (codes "rehearse"))
+    (long_flag_rule (codes "pretend"))) (long_flag_rule (codes "rehearse"))
 
 -- the flags that were given
 abbrev pub flags_in : List Row → Flags
@@ -44,6 +44,6 @@ pub record AsksFor (rows : List Row) (words : Words) : Type 0 where
   pub dir : option_map string_bytes words.dir ≡ first_of (codes "getmaildir") rows
   pub flags : words.flags ≡ flags_in rows
   pub rehearse : words.rehearse ≡ is_given (codes "rehearse") rows
-  pub pretend : words.pretend ≡ is_on (codes "pretend") rows
-  pub why : words.why ≡ is_on (codes "why") rows
-  pub trace : words.trace ≡ is_on (codes "trace") rows
+  pub pretend : words.pretend ≡ is_given (codes "pretend") rows
+  pub why : words.why ≡ is_given (codes "why") rows
+  pub trace : words.trace ≡ is_given (codes "trace") rows

@@ -1,5 +1,6 @@
 pub mod CommandLine
 pub mod Failures
+pub mod Lock
 pub mod Output
 pub mod Places
 pub mod Progress

@@ -48,9 +48,9 @@ rc_path home folder (Some path) = if stands_alone path then whole_path home path
 abbrev pub digits_of : Settings → List ℕ
 digits_of settings = account_text (string_bytes settings.server) settings.port (string_bytes settings.username)
 
--- the record is in the folder, under a name with the account's digits
-abbrev pub record_path : List ℕ → Settings → List ℕ
-record_path folder settings = joined folder (codes "seen-" ++ digits_of settings)
+-- a file of an account is in the folder, under a name that has the account's digits after a front
+abbrev pub account_path : List ℕ → List ℕ → Settings → List ℕ
+account_path folder front settings = joined folder (front ++ digits_of settings)
 
 -- the settings are those that an rc file of these octets means, changed by the flags, which aren't opposite
 pub record AreAsked (flags : Flags) (settings : Settings) : Type 0 where
@@ -61,13 +61,14 @@ pub record AreAsked (flags : Flags) (settings : Settings) : Type 0 where
   pub agree : is_contradiction flags ≡ false
   pub changed : content_of settings ≡ overridden content flags
 
--- with this home the destination is the one of the settings, the record is in the folder that the words name, and what is
--- cut off from an mboxrd file is kept beside it
+-- with this home the destination is the one of the settings, the record and the lock are in the folder that the words name, and
+-- what is cut off from an mboxrd file is kept beside the record
 pub record AreFor (home : Option (List ℕ)) (words : Words) (settings : Settings) (paths : Paths) : Type 0 where
   pub destination_is : whole_path home (path_in settings.dest) ≡ Some (string_bytes paths.destination)
   pub folder : List ℕ
   pub folder_is : folder_path home (option_map string_bytes words.dir) ≡ Some folder
-  pub record_is : string_bytes paths.record ≡ record_path folder settings
+  pub record_is : string_bytes paths.record ≡ account_path folder (codes "seen-") settings
+  pub lock_is : string_bytes paths.lock ≡ account_path folder (codes "lock-") settings
   pub rests_is : string_bytes paths.rests ≡ string_bytes paths.record ++ codes ".rest"
 
 -- a run's settings and paths are those that an rc file, the words and the home mean

@@ -1,4 +1,8 @@
 //! The TCP connection to the server.
+ghost use Rattle.std.specs.Prelude.{◌≡◌, IfOk};
+ghost use Rattle.std.specs.String.{string_bytes};
+ghost use Rattle.trace.specs.Wire.{Hides};
+
 use crate::errors::Errors;
 use crate::failure::{Failure, failure_of};
 use fetch_rules::Settings;
@@ -64,38 +68,31 @@ pub fn connect<'a, R: Net<Stream = TcpStream> + AllocGlobal>(
 #[derive(Drop)]
 pub struct Peer {
     name: String,
-    password: Option<Vec<u8>>,
+    password: Vec<u8>,
 }
 
-/// What the link needs, which is nothing if nothing is shown of it. It is made before there is a connection,
-/// so that want of memory doesn't end one.
-pub fn peer_of(
-    alloc: Global,
-    settings: &Settings,
-    errors: &Errors<'_, Stderr>,
-) -> Result<Peer, AllocError> {
-    if !errors.says_why && errors.reasons.link.trace().is_none() {
-        return Ok(Peer {
-            name: String::new(alloc),
-            password: None,
-        });
-    }
+/// What the link needs. It is made before there is a connection, so that want of memory doesn't end one.
+pub fn peer_of(alloc: Global, settings: &Settings) -> Result<Peer, AllocError>
+    ensures { IfOk result (λ peer. peer.password.items ≡ string_bytes settings.now.password) }
+{
     let server = settings.server.as_str();
     let port = settings.port;
     Ok(Peer {
         name: format!(in alloc; "{server}:{port}")?,
-        password: Some(Vec::from_slice(alloc, settings.password.as_bytes())?),
+        password: Vec::from_slice(alloc, settings.password.as_bytes())?,
     })
 }
 
 /// The link over a connection to the server. Its conversation is shown if there is a trace, and the first
-/// denial is kept if reasons are written.
+/// denial is kept if reasons are written; neither has the password.
 pub fn link_over<'a>(
     alloc: Global,
     stream: &'a TcpStream,
     peer: Peer,
     errors: &Errors<'a, Stderr>,
-) -> Link<'a> {
+) -> Link<'a>
+    ensures { Hides result peer.password.items }
+{
     let reasons = errors.reasons;
     let Peer { name, password } = peer;
     let name = name.as_str();
@@ -108,5 +105,5 @@ pub fn link_over<'a>(
     } else {
         None
     };
-    TracedWire::new(alloc, wire, reasons.link.trace(), password, denial)
+    TracedWire::new(alloc, wire, reasons.link.trace(), Some(password), denial)
 }

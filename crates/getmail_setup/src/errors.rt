@@ -81,10 +81,14 @@ fn tell_cause<R: Eprint + AllocGlobal>(
         Failure::Rc(_) => reasons.rule.take(),
         _ => refused_before(rt.alloc(), reasons),
     };
-    let Some(reason) = reason else {
-        return;
-    };
-    let Ok(reason) = str::from_utf8(reason.as_slice()) else {
+    if let Some(reason) = reason {
+        tell_reason(rt, account, "", reason.as_slice());
+    }
+}
+
+/// Writes a line with these words and a reason, which is text.
+fn tell_reason<R: Eprint>(rt: &R, account: Option<&Settings>, words: &str, reason: &[u8]) {
+    let Ok(reason) = str::from_utf8(reason) else {
         return;
     };
     let _ = match account {
@@ -95,9 +99,20 @@ fn tell_cause<R: Eprint + AllocGlobal>(
                 username,
                 ..
             },
-        ) => rt.eprintln(format_args!("getmail: {username}@{server}:{port}: {reason}")),
-        None => rt.eprintln(format_args!("getmail: {reason}")),
+        ) => rt.eprintln(format_args!("getmail: {username}@{server}:{port}: {words}{reason}")),
+        None => rt.eprintln(format_args!("getmail: {words}{reason}")),
     };
+}
+
+/// Writes why a run goes on without a lock, if that is known and reasons are to be written.
+pub(crate) fn tell_unlocked<R: Eprint + AllocGlobal, E>(
+    rt: &R,
+    settings: &Settings,
+    errors: &Errors<'_, E>,
+) {
+    if let (Some(reason), true) = (refused_before(rt.alloc(), errors.reasons), errors.says_why) {
+        tell_reason(rt, Some(settings), "no lock: ", reason.as_slice());
+    }
 }
 
 /// Writes a failure's line to standard error, and its reason, if that is known and is to be written.

@@ -23,6 +23,8 @@ pub enum Failure<'a> {
     CannotRead,
     /// The rc file or the flags are wrong.
     Rc(RcFault),
+    /// Another run of the account is at work.
+    AtWork,
     /// No address of this server takes a connection to this port.
     CannotConnect(&'a str, u16),
     /// Out of memory before there was a connection.
@@ -83,8 +85,8 @@ fn tell_rc_fault<R: Eprint + AllocGlobal>(rt: &R, fault: &RcFault) {
     };
 }
 
-/// Writes a failure's line to standard error and returns the exit status: 1 if there was no
-/// connection, 2 for all that is found before. A line that can't be written changes nothing.
+/// Writes a failure's line to standard error and returns the exit status: 1 if another run
+/// is at work or there was no connection, 2 for all that is found before. A line that can't be written changes nothing.
 pub fn tell<R: Eprint + AllocGlobal>(rt: &R, failure: Failure<'_>) -> u8
     ensures status { result ≡ status_of failure.entry }
     ensures within { result ≤ 2 }
@@ -96,13 +98,14 @@ pub fn tell<R: Eprint + AllocGlobal>(rt: &R, failure: Failure<'_>) -> u8
             tell_rc_fault(rt, &fault);
             Ok(())
         }
+        Failure::AtWork => rt.eprintln("getmail: another getmail is at work for this account"),
         Failure::CannotConnect(server, port) => {
             rt.eprintln(format_args!("getmail: cannot connect to {server}:{port}"))
         }
         Failure::NoMemory => rt.eprintln("getmail: out of memory"),
     };
     match failure {
-        Failure::CannotConnect(_, _) => 1,
+        Failure::AtWork | Failure::CannotConnect(_, _) => 1,
         _ => 2,
     }
 }

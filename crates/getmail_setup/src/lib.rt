@@ -4,6 +4,7 @@
 mod connection;
 mod errors;
 mod failure;
+mod lock;
 mod output;
 mod place;
 mod progress;
@@ -15,6 +16,7 @@ mod words;
 pub use connection::{Link, Peer, connect, link_over, peer_of};
 pub use errors::{Errors, Reasons, fail};
 pub use failure::{Failure, OUT_OF_MEMORY, explain, failure_of, tell};
+pub use lock::{Lock, take_lock};
 pub use output::{Output, Refusal, refusal_of};
 pub use place::{home, joined};
 pub use setup::{Paths, Setup, account_of, set_up};

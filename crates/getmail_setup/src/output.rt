@@ -77,10 +77,13 @@ impl<W: Write> Output<W> {
         self.refusal
     }
 
-    /// Writes these octets.
+    /// Writes these octets, unless something was refused before: no text is to have a gap.
     pub fn put(&mut self, octets: &[u8])
         ensures { Puts W.contents self.old octets.now self.new }
     {
+        if self.refusal.is_some() {
+            return;
+        }
         if let Err(error) = write_whole(&mut self.writer, octets) {
             self.refusal = Some(refusal_of(&error));
         }
@@ -90,17 +93,19 @@ impl<W: Write> Output<W> {
     pub fn put_number(&mut self, number: Option<u32>)
         ensures { Puts W.contents self.old (number_text number) self.new }
     {
-        let Some(number) = number else {
-            return self.put(b"");
-        };
-        if let Err(error) = write_number(&mut self.writer, number) {
-            self.refusal = Some(refusal_of(&error));
+        match (number, self.refusal) {
+            (Some(number), None) => {
+                if let Err(error) = write_number(&mut self.writer, number) {
+                    self.refusal = Some(refusal_of(&error));
+                }
+            }
+            _ => self.put(b""),
         }
     }
 
     /// Remembers that there was no memory for something.
     pub fn lack_memory(&mut self)
-        ensures { self.new.refusal ≡ Some Refusal.NoMemory }
+        ensures { self.new ≡ record { writer = self.old.writer; refusal = Some Refusal.NoMemory } }
     {
         self.refusal = Some(Refusal::NoMemory);
     }

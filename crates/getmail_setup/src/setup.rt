@@ -2,7 +2,7 @@
 ghost use Rattle.std.specs.Prelude.{◌≡◌, ◌++◌, Some, IfOk, codes, option_map};
 ghost use Rattle.std.specs.String.{string_bytes};
 ghost use Rattle.rc_file.specs.Settings.{IsValid};
-ghost use Rattle.getmail_setup.specs.Places.{AreAsked, AreFor, IsSetUp, digits_of, path_in, record_path, whole_path};
+ghost use Rattle.getmail_setup.specs.Places.{AreAsked, AreFor, IsSetUp, account_path, digits_of, path_in, whole_path};
 
 use crate::errors::Errors;
 use crate::failure::{Failure, failure_of};
@@ -31,6 +31,8 @@ pub struct Paths {
     pub destination: String,
     /// The record's path.
     pub record: String,
+    /// The path of the file whose lock keeps two runs apart.
+    pub lock: String,
     /// The path of the file in which is kept what is cut off from an mboxrd file.
     pub rests: String,
 }
@@ -140,13 +142,18 @@ pub fn account_of(settings: &Settings) -> AccountId
     )
 }
 
-/// The path of the account's record in the folder.
-fn record_path(alloc: Global, folder: &str, settings: &Settings) -> Result<String, AllocError>
-    ensures { IfOk result (λ path. string_bytes path ≡ record_path folder.now settings.now) }
+/// The path of a file of the account in the folder. Its name begins in this way.
+fn account_path(
+    alloc: Global,
+    folder: &str,
+    front: &str,
+    settings: &Settings,
+) -> Result<String, AllocError>
+    ensures { IfOk result (λ path. string_bytes path ≡ account_path folder.now front.now settings.now) }
 {
     let account = account_of(settings);
     let digest = account.as_str();
-    let name = format!(in alloc; "seen-{digest}")?;
+    let name = format!(in alloc; "{front}{digest}")?;
     joined(alloc, folder, name.as_str())
 }
 
@@ -183,11 +190,13 @@ fn places<'a>(
 {
     let destination = destination_path(alloc, home, &settings.dest)?;
     let folder = folder(alloc, home, words.dir.as_deref())?;
-    let record = record_path(alloc, folder.as_str(), settings)?;
+    let record = account_path(alloc, folder.as_str(), "seen-", settings)?;
+    let lock = account_path(alloc, folder.as_str(), "lock-", settings)?;
     let rests = rests_path(alloc, record.as_str())?;
     Ok(Paths {
         destination,
         record,
+        lock,
         rests,
     })
 }

@@ -5,7 +5,7 @@ ghost use Rattle.clap.specs.Words.{FailsBy, app_of, fault_of, found_of, matches_
 ghost use Rattle.getmail_setup.specs.CommandLine.{AsksFor, flags_in, getmail};
 
 use clap::{ArgMatches, Command, Error};
-use command_line::{add, flag, is_given, is_on, long_flag, program, switch, text, value_option};
+use command_line::{add, flag, is_given, long_flag, program, text, value_option};
 use rc_file::Flags;
 use std::alloc::{AllocError, Global};
 
@@ -67,13 +67,13 @@ fn command<'a>(alloc: Global) -> Result<Command<'a>, AllocError>
     let command = add(command, dir)?;
     let command = add(command, flag(alloc, "verbose", 'v', VERBOSE))?;
     let command = add(command, flag(alloc, "quiet", 'q', QUIET))?;
-    let command = add(command, switch(alloc, "why", WHY))?;
-    let command = add(command, switch(alloc, "trace", TRACE))?;
+    let command = add(command, long_flag(alloc, "why", WHY))?;
+    let command = add(command, long_flag(alloc, "trace", TRACE))?;
     let command = add(command, flag(alloc, "all", 'a', ALL))?;
     let command = add(command, flag(alloc, "new", 'n', NEW))?;
     let command = add(command, flag(alloc, "delete", 'd', DELETE))?;
     let command = add(command, flag(alloc, "dont-delete", 'l', DONT_DELETE))?;
-    let command = add(command, switch(alloc, "pretend", PRETEND))?;
+    let command = add(command, long_flag(alloc, "pretend", PRETEND))?;
     // For developers: getmail(1) explains it.
     add(command, long_flag(alloc, "rehearse", REHEARSE).hide(true))
 }
@@ -101,9 +101,9 @@ fn words_of(alloc: Global, matches: &ArgMatches<'_>) -> Result<Words, AllocError
         dir: text(alloc, matches, "getmaildir")?,
         flags: flags_of(matches),
         rehearse: is_given(matches, "rehearse"),
-        pretend: is_on(matches, "pretend"),
-        why: is_on(matches, "why"),
-        trace: is_on(matches, "trace"),
+        pretend: is_given(matches, "pretend"),
+        why: is_given(matches, "why"),
+        trace: is_given(matches, "trace"),
     })
 }
 

@@ -1,2 +1,4 @@
 pub mod Command
 pub mod Line
+pub mod Masking
+pub mod Wire

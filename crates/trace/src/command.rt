@@ -1,23 +1,26 @@
-//! What is shown of a command, and of an answer in which the password occurs.
+//! What is shown of a command.
 ghost use Rattle.std.specs.Prelude.{◌≡◌, ◌++◌, ℕ, List, codes};
-ghost use Rattle.memchr.specs.Find.{OccursAt};
-ghost use Rattle.trace.specs.Command.{IsFree, hidden_answer, shown_command};
+ghost use Rattle.trace.specs.Command.{is_word, shown_command};
 
-use memchr::memmem;
+/// Whether a command begins with this word of four octets, in upper or lower case.
+pub fn is_word(command: &[u8], word: &[u8]) -> bool
+    ensures { result ≡ is_word command.now word.now }
+{
+    command[..command.len().min(4)].eq_ignore_ascii_case(word)
+}
 
 /// A command as it is shown. What follows the words PASS, AUTH and APOP, in upper or lower case, is
 /// shown as `*`.
 pub fn shown_command(command: &[u8]) -> &[u8]
     ensures { result.now ≡ shown_command command.now }
 {
-    let word = &command[..command.len().min(4)];
-    if word.eq_ignore_ascii_case(b"PASS") {
+    if is_word(command, b"PASS") {
         return b"PASS *";
     }
-    if word.eq_ignore_ascii_case(b"AUTH") {
+    if is_word(command, b"AUTH") {
         return b"AUTH *";
     }
-    if word.eq_ignore_ascii_case(b"APOP") {
+    if is_word(command, b"APOP") {
         return b"APOP *";
     }
     command
@@ -27,28 +30,3 @@ pub fn shown_command(command: &[u8]) -> &[u8]
 pub fn commands_hide_passwords()
     ensures { (password other : List ℕ) → shown_command (codes "PASS " ++ password) ≡ shown_command (codes "PASS " ++ other) }
 {}
-
-/// The status of an answer, and `*` for what follows it.
-fn hidden_answer(answer: &[u8]) -> &[u8]
-    ensures { result.now ≡ hidden_answer answer.now }
-{
-    if answer.starts_with(b"+OK") {
-        return b"+OK *";
-    }
-    if answer.starts_with(b"-ERR") {
-        return b"-ERR *";
-    }
-    b"*"
-}
-
-/// The first line of an answer as it is shown: without what the server says if the password occurs
-/// in it.
-pub fn shown_answer<'a>(answer: &'a [u8], password: &[u8]) -> &'a [u8]
-    ensures free { IsFree answer.now password.now → result.now ≡ answer.now }
-    ensures held { (k : ℕ) → OccursAt answer.now password.now k → result.now ≡ hidden_answer answer.now }
-{
-    match memmem::find(answer, password) {
-        Some(_) => hidden_answer(answer),
-        None => answer,
-    }
-}

@@ -1,5 +1,6 @@
 //! The first answer of a peer that wasn't positive.
 use crate::line::shown;
+use crate::masking::Shown;
 use std::alloc::Global;
 use std::cell::Cell;
 
@@ -19,7 +20,8 @@ impl Denial {
     }
 
     /// Takes note of an answer.
-    pub fn note(&self, alloc: Global, answer: &[u8]) {
+    pub fn note(&self, alloc: Global, answer: Shown<'_>) {
+        let answer = answer.front();
         if answer.starts_with(b"+OK") {
             return;
         }

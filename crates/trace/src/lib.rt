@@ -5,13 +5,14 @@
 mod command;
 mod denial;
 mod line;
+mod masking;
 mod noted;
 mod refusal;
 mod refusals;
 mod system;
 mod wire;
 
-pub use command::{commands_hide_passwords, shown_answer, shown_command};
+pub use command::{commands_hide_passwords, shown_command};
 pub use denial::Denial;
 pub use line::line_text;
 pub use noted::Noted;

@@ -1,9 +1,12 @@
 //! A link that is traced.
-ghost use Rattle.std.specs.Prelude.{◌≡◌};
+ghost use Rattle.std.specs.Prelude.{◌≡◌, ◌-◌, ℕ, List, Some, OnOk, codes, option_map};
+ghost use Rattle.trace.specs.Line.{count_text};
+ghost use Rattle.trace.specs.Wire.{Adds, Hides, ShowsAnswer, ShowsPart};
 
-use crate::command::{shown_answer, shown_command};
+use crate::command::shown_command;
 use crate::denial::Denial;
 use crate::line::{count_text, cut, write_line};
+use crate::masking::{Shown, is_login};
 use pop3_wire::{Note, Wire, WireDown};
 use std::alloc::Global;
 use std::io::{self, Write};
@@ -20,49 +23,68 @@ struct Trace<'a, E> {
     denial: Option<&'a Denial>,
     /// The password, if answers are searched for it.
     password: Option<Vec<u8>>,
+    /// Whether the last command was one for whose answer the password is searched row by row.
+    to_login: bool,
     /// How much has come of the body under way.
     lines: u64,
     octets: u64,
 }
 
 impl<'a, E: Write> Trace<'a, E> {
-    fn show(&mut self, mark: &str, octets: &[u8]) -> io::Result<()> {
+    fn show(&mut self, mark: &str, octets: &[u8]) -> io::Result<()>
+        ensures shown { OnOk result (Adds E.contents self.old.err self.new.err mark.now octets.now) }
+        ensures same { self.new ≡ record self.old { err = self.new.err } }
+    {
         match &mut self.err {
             Some(err) => write_line(self.alloc, err, mark, octets),
             None => Ok(()),
         }
     }
 
-    fn show_answer(&mut self, answer: &[u8]) -> io::Result<()> {
+    fn show_answer(&mut self, answer: &[u8]) -> io::Result<()>
+        ensures shown { OnOk result (ShowsAnswer E.contents self.old answer.now self.new) }
+        ensures same { self.new.password ≡ self.old.password }
+    {
         self.lines = 0;
         self.octets = 0;
-        let answer = match &self.password {
-            Some(password) => shown_answer(answer, password.as_slice()),
-            None => answer,
-        };
+        let answer = Shown::new(self.alloc, self.to_login, answer, self.password.as_deref())?;
         if let Some(denial) = self.denial {
-            denial.note(self.alloc, cut(answer));
+            denial.note(self.alloc, answer);
         }
-        self.show("S: ", cut(answer))
+        self.show("S: ", answer.front())
     }
 
-    fn show_count(&mut self) -> io::Result<()> {
+    fn show_count(&mut self) -> io::Result<()>
+        ensures shown { OnOk result (Adds E.contents self.old.err self.new.err (codes "S: ") (count_text self.old.lines (self.old.octets - 3))) }
+        ensures same { self.new ≡ record self.old { err = self.new.err } }
+    {
         let octets = self.octets.saturating_sub(END_MARK);
         let text = count_text(self.alloc, self.lines, octets)?;
         self.show("S: ", text.as_bytes())
     }
 
-    /// More of a body came.
-    fn count(&mut self, text: &[u8], octets: usize) {
+    /// More of a body came, whose lines and octets are told at its end, if there is a writer.
+    fn count(&mut self, text: &[u8], octets: usize)
+        ensures { self.new ≡ record self.old { lines = self.new.lines; octets = self.new.octets } }
+    {
+        if self.err.is_none() {
+            return;
+        }
         let lines = text.iter().filter(|octet| **octet == b'\n').count();
         self.lines = self.lines.saturating_add(lines as u64);
         self.octets = self.octets.saturating_add(octets as u64);
     }
 
     /// Shows a part of the conversation, unless it is within a body.
-    fn note(&mut self, part: Note<'_>) -> io::Result<()> {
+    fn note(&mut self, part: Note<'_>) -> io::Result<()>
+        ensures shown { OnOk result (ShowsPart E.contents self.old part.entry self.new) }
+        ensures same { self.new.password ≡ self.old.password }
+    {
         match part {
-            Note::Command(command) => self.show("C: ", cut(shown_command(command))),
+            Note::Command(command) => {
+                self.to_login = is_login(command);
+                self.show("C: ", cut(shown_command(command)))
+            }
             Note::Reply(answer) => self.show_answer(answer),
             Note::Body {
                 text,
@@ -87,7 +109,7 @@ pub struct TracedWire<'a, W, E> {
 }
 
 impl<'a, W: Wire, E: Write + Drop> TracedWire<'a, W, E> {
-    /// A link around this one. What an answer says isn't shown if this password occurs in it.
+    /// A link around this one. This password isn't shown if an answer repeats it.
     pub fn new(
         alloc: Global,
         wire: W,
@@ -95,7 +117,8 @@ impl<'a, W: Wire, E: Write + Drop> TracedWire<'a, W, E> {
         password: Option<Vec<u8>>,
         denial: Option<&'a Denial>,
     ) -> TracedWire<'a, W, E>
-        ensures { result.wire ≡ wire }
+        ensures wire { result.wire ≡ wire }
+        ensures hides { (secret : List ℕ) → option_map (λ p. p.items) password ≡ Some secret → Hides result secret }
     {
         if err.is_none() && denial.is_none() {
             return TracedWire { wire, trace: None };
@@ -105,6 +128,7 @@ impl<'a, W: Wire, E: Write + Drop> TracedWire<'a, W, E> {
             err,
             denial,
             password,
+            to_login: false,
             lines: 0,
             octets: 0,
         });

@@ -8,7 +8,7 @@ returns-clause-reported g c = record {
   plan = c.asked_for-plan.result.now;
   asked = c.asked_for-plan.ensures;
   puts = rw (c.settings.ensures.value, c.hold_telling-report.ensures.settings) at
-      (c.put_report.ensures c.args.out.now (rw c.deref-2.ensures.value c.hold_telling-report.ensures.told));
+      (c.put_report.ensures c.args.out.now (rw c.deref-2.ensures.value c.hold_telling-report.ensures.told.puts));
 }
 
 pub returns-clause-held : goal.returns-clause-held

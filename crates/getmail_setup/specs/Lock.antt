@@ -1,0 +1,18 @@
+-- What becomes of the lock that keeps two runs of an account apart.
+use Rattle.std.specs.Prelude.{Bool, true, false, Result, Ok, Err}
+use Rattle.std.specs.declared.fs.File.{File}
+use Rattle.std.specs.declared.fs.locks.TryLockError.{TryLockError}
+use Rattle.std.specs.declared.fs.locks.TryLockError.TheVariants.{Error, WouldBlock}
+use Rattle.getmail_setup.specs.declared.lock.Lock.{Lock}
+use Rattle.getmail_setup.specs.declared.lock.Lock.TheVariants.{Held, Elsewhere, Without}
+
+-- by the system's answer: a lock that another run has isn't waited for, and any other refusal is no hindrance
+abbrev pub lock_of : File → Result (Unit {0}) TryLockError → Lock
+lock_of file (Ok done) = Held file
+lock_of file (Err WouldBlock) = Elsewhere
+lock_of file (Err (Error error)) = Without
+
+-- a run goes on unless another one has the lock
+abbrev pub goes_on : Lock → Bool
+goes_on Elsewhere = false
+goes_on lock = true

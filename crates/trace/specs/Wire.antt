@@ -1,0 +1,36 @@
+-- What a trace shows of a conversation.
+use Rattle.std.specs.Prelude.{◌≡◌, ◌-◌, ℕ, true, false, List, Option, None, Some, MatchOption, codes, option_map, take}
+use Rattle.pop3_wire.specs.declared.note.Note.{Note}
+use Rattle.pop3_wire.specs.declared.note.Note.TheVariants.{Command, Reply, Body}
+use Rattle.trace.specs.Command.{shown_command}
+use Rattle.trace.specs.Line.{IsWritten, count_text, most_shown}
+use Rattle.trace.specs.Masking.{IsShown, is_login}
+use Rattle.trace.specs.declared.wire.Trace.{Trace}
+use Rattle.trace.specs.declared.wire.TracedWire.{TracedWire}
+
+-- a line was written, if there is a writer
+abbrev pub Adds : {E : Type 0} → (E → Option (List ℕ)) → Option E → Option E → List ℕ → List ℕ → Type 0
+Adds contents None None mark octets = Unit {0}
+Adds contents (Some old) (Some new) mark octets = IsWritten contents old new mark octets
+Adds contents old new mark octets = ⊥
+
+-- the password that a trace hides
+abbrev pub hidden_in : {E : Type 0} → Trace E → Option (List ℕ)
+hidden_in trace = option_map (λ password. password.items) trace.password
+
+-- a link hides this password, if anything of it is shown or kept
+abbrev pub Hides : {W E : Type 0} → TracedWire W E → List ℕ → Type 0
+Hides link password = MatchOption link.trace (Unit {0}) (λ trace. hidden_in trace ≡ Some password)
+
+-- the first line of an answer was shown, in which the password is hidden
+abbrev pub ShowsAnswer : {E : Type 0} → (E → Option (List ℕ)) → Trace E → List ℕ → Trace E → Type 0
+ShowsAnswer contents old answer new =
+    (shown : List ℕ) × IsShown (hidden_in old) old.to_login answer shown × Adds contents old.err new.err (codes "S: ") (take most_shown shown)
+
+-- a part of a conversation was shown: of a body, how many lines and octets came, at its end
+abbrev pub ShowsPart : {E : Type 0} → (E → Option (List ℕ)) → Trace E → Note → Trace E → Type 0
+ShowsPart contents old (Command command) new =
+    (new.to_login ≡ is_login command.now) × Adds contents old.err new.err (codes "C: ") (take most_shown (shown_command command.now))
+ShowsPart contents old (Reply answer) new = ShowsAnswer contents old answer.now new
+ShowsPart contents old (Body text octets false) new = new.err ≡ old.err
+ShowsPart contents old (Body text octets true) new = Adds contents old.err new.err (codes "S: ") (count_text new.lines (new.octets - 3))
