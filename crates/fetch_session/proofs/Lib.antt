@@ -3,5 +3,6 @@ mod PartLemmas
 mod ReadyLemmas
 mod SceneLemmas
 mod SessionLemmas
+mod TakenLemmas
 mod TalkLemmas
 mod TextLemmas

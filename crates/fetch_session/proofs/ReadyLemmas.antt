@@ -1,5 +1,5 @@
 -- What is planned and which ids stay fresh, what a session has ready, or why it isn't ready, and what of it outlives a loss of power.
-use Rattle.std.proofs.Common.{◌≡◌, ◌≢◌, inl, inr, ◌<◌, ◌+◌, ℕ, suc, Bool, true, false, List, [], ◌∷◌, ◌++◌, drop, get_or, length, refl, sym, ap, ◌∙◌, arith, append_assoc, ◌||◌, bytes_eq, drop-cons, not, map, take, Option, Ok, subst, HoldsAt, Result, Err, All, IfOk, ⊎_elim, None}
+use Rattle.std.proofs.Common.{◌≡◌, ◌≢◌, inl, inr, ◌<◌, ◌+◌, ℕ, suc, Bool, true, false, List, [], ◌∷◌, ◌++◌, drop, get_or, length, refl, sym, ap, ◌∙◌, arith, append_assoc, ◌||◌, bytes_eq, drop-cons, not, map, take, Option, Ok, subst, HoldsAt, Result, Err, All, IfOk, ⊎_elim, None, append-nil}
 use Rattle.std.specs.List.{AllByRecursion}
 use Rattle.std.proofs.lemmas.Bool.{false_from_ne_true, true≢false, or_parts}
 use Rattle.std.proofs.lemmas.Grind.{flat_map-append}
@@ -7,7 +7,7 @@ use Rattle.std.proofs.lemmas.Slice.Eq.{bytes_eq-Decides}
 use Rattle.mail_terms.specs.UniqueId.{IsLegalId}
 use Rattle.mail_terms.specs.Listing.{Item, has_item, numbered}
 use Rattle.fetch_rules.specs.declared.steps.Step.{Step}
-use Rattle.mail_store.specs.Maildir.{Maildir, with_file, File, IsPart}
+use Rattle.mail_store.specs.Maildir.{Maildir, WereTaken, with_file, File}
 use Rattle.mail_store.specs.FileName.{mail_file, stem_of, is_held, IsAccountText}
 use Rattle.fetch_session.specs.Task.{Task, ids_ahead, AreFresh, fetching, deleting, tasks_in, tasks_planned}
 use Rattle.fetch_session.specs.Store.{MayGain}
@@ -16,7 +16,7 @@ use Rattle.mail_store.specs.declared.maildir.disk.MaildirDisk.{Ghosts as DiskGho
 use Rattle.mail_store.specs.declared.file.flat_file.FlatFile.{Ghosts as FileGhosts}
 use Rattle.fetch_session.specs.declared.account.Store.{Store}
 use Rattle.fetch_session.specs.declared.account.Store.TheVariants.{Maildir as InMaildir, Mboxrd as InMbox}
-use Rattle.fetch_session.specs.Target.{flags_in, stores_of, target_of, Stores, in_maildir, kind_of, left_in, AfterTakingIn, AsFiles, Target, AsEntries, closed_file, rows_in, Kind, Files, Entries, in_mbox}
+use Rattle.fetch_session.specs.Target.{flags_in, stores_of, target_of, Stores, in_maildir, kind_of, with_maildir, AfterTakingIn, AsFiles, Target, AsEntries, closed_file, rows_in, Kind, Files, Entries, in_mbox}
 use Rattle.mail_store.specs.Held.{flags_of, FoundOutlive}
 use Rattle.fetch_rules.specs.Laws.{FetchesFirsts}
 use Rattle.fetch_session.proofs.SceneLemmas.{all_append, all_weaker, read_keeps, steady_keeps, not_whole, read_steady}
@@ -160,10 +160,10 @@ found_last account rows (item ∷ rest) flags maildir outlives is found = let f 
 
 -- a file of the record stands for the rows that were read
 pub news_found : OneRecord → {D F : Type 0} (disk : DiskGhosts D) (files : FileGhosts F) (was store : Store D F) (account : List ℕ) (content : Option (List ℕ)) (loaded : Loaded)
-    (items : List Item) (found : Found) (left : List File) → ReadAs content loaded → kind_of store ≡ kind_of was
-    → FindsIn (target_of was account) loaded.intent (left_in (stores_of disk files was) left) items (Ok found) (stores_of disk files store)
+    (items : List Item) (found : Found) (left : Maildir) → ReadAs content loaded → kind_of store ≡ kind_of was
+    → FindsIn (target_of was account) loaded.intent (with_maildir (stores_of disk files was) left) items (Ok found) (stores_of disk files store)
     → FoundLastIn disk account loaded.rows items store
-    → NewsLast disk (target_of was account) content items (left_in (stores_of disk files was) left) store
+    → NewsLast disk (target_of was account) content items (with_maildir (stores_of disk files was) left) store
 news_found one disk files (InMaildir device) (InMaildir now) account content loaded items found left read same finds last = λ held stood.
     let rows = (one content loaded.rows held.rows loaded.intent held.intent (read_keeps content loaded read) stood).0 in
     let maildir = ap (λ (s : Stores). s.maildir) finds.2 in
@@ -174,12 +174,11 @@ news_found one disk files (InMbox device) store account content loaded items fou
 -- ---- what outlives a loss of power once a record was made ready, or wasn't
 
 -- no file was taken away
-pub part_same : (files : List File) → IsPart files files
-part_same [] = refl
-part_same (f ∷ files) = inr (files, refl, part_same files)
+pub none_taken : (maildir : Maildir) → WereTaken maildir maildir
+none_taken maildir = record { gone = []; files = refl; is = rw append-nil refl }
 
-pub untaken : {Q : List File → Type 0} (files : List File) → Q files → (left : List File) × IsPart files left × Q left
-untaken files is = (files, part_same files, is)
+pub untaken : {Q : Maildir → Type 0} (maildir : Maildir) → Q maildir → (left : Maildir) × WereTaken maildir left × Q left
+untaken maildir is = (maildir, none_taken maildir, is)
 
 -- a record's file that couldn't be read or flushed has the same bytes
 pub misread_same : (old new : Stored) (loaded : Loaded) (fault : Fault) → Reads old loaded (Err fault) new → new.content ≡ old.content
@@ -214,14 +213,14 @@ module _ {D F : Type 0} (disk : DiskGhosts D) (files : FileGhosts F) where
   )
 
   -- the files that are left are those that are there now
-  pub left_found : (was store : Store D F) (account : List ℕ) (intent : Option Intent) (items : List Item) (r : Result Found Fault) (left : List File)
-      → FindsIn (target_of was account) intent (left_in (stores_of disk files was) left) items r (stores_of disk files store)
-      → KeepsLeftIn disk files was (stores_of disk files store).maildir.files store → KeepsLeftIn disk files was left store
+  pub left_found : (was store : Store D F) (account : List ℕ) (intent : Option Intent) (items : List Item) (r : Result Found Fault) (left : Maildir)
+      → FindsIn (target_of was account) intent (with_maildir (stores_of disk files was) left) items r (stores_of disk files store)
+      → KeepsLeftIn disk files was (stores_of disk files store).maildir.files store → KeepsLeftIn disk files was left.files store
   left_found (InMaildir device) store account intent items r left finds keeps =
       subst (λ (fs : List File). KeepsLeftIn disk files (InMaildir device) fs store) (same r finds) keeps
     where
-      same : (r : Result Found Fault) → FindsIn (AsFiles account) intent (left_in (in_maildir (disk.maildir device)) left) items r (stores_of disk files store)
-          → (stores_of disk files store).maildir.files ≡ left
+      same : (r : Result Found Fault) → FindsIn (AsFiles account) intent (with_maildir (in_maildir (disk.maildir device)) left) items r (stores_of disk files store)
+          → (stores_of disk files store).maildir.files ≡ left.files
       same (Ok found) (held, stored, is) = ap (λ (s : Stores). s.maildir.files) is
       same (Err (StoreRefused why.Missing)) is = ap (λ (m : Maildir). m.files) is.1
       same (Err (StoreRefused why.Refused)) is = ap (λ (m : Maildir). m.files) is
@@ -270,13 +269,13 @@ module _ {D F : Type 0} (disk : DiskGhosts D) (files : FileGhosts F) where
 -- ---- what was found
 
 -- what follows from what the store told, of what readers have left of it
-pub asked : {A B : Type 0} {Part P Q : List File → Type 0} → A × ((left : List File) × Part left × P left) → B
-    → ((left : List File) → P left → Q left) → A × B × ((left : List File) × Part left × Q left)
+pub asked : {A B : Type 0} {Part P Q : Maildir → Type 0} → A × ((left : Maildir) × Part left × P left) → B
+    → ((left : Maildir) → P left → Q left) → A × B × ((left : Maildir) × Part left × Q left)
 asked told sound both = (told.0, sound, (told.1.0, told.1.1, both told.1.0 told.1.2))
 
 -- the same of a part of a session, which leads its link from another place
-pub followed : {A A' B C L L' : Type 0} {Part P Q : List File → Type 0} → A × B × C × L × ((left : List File) × Part left × P left)
-    → A' → L' → ((left : List File) → P left → Q left) → A' × B × C × L' × ((left : List File) × Part left × Q left)
+pub followed : {A A' B C L L' : Type 0} {Part P Q : Maildir → Type 0} → A × B × C × L × ((left : Maildir) × Part left × P left)
+    → A' → L' → ((left : Maildir) → P left → Q left) → A' × B × C × L' × ((left : Maildir) × Part left × Q left)
 followed went sound leads both = (sound, went.1, went.2, leads, (went.4.0, went.4.1, both went.4.0 went.4.2))
 
 -- the rows once the open intent was ended by what was found, which messages are held, and the store
@@ -326,12 +325,12 @@ stop_of (Ok done) = NoMemory
 stop_of (Err fault) = fault
 
 module _ {D F : Type 0} (disk : DiskGhosts D) (files : FileGhosts F) (was place : Store D F) (from f : F) (account : List ℕ)
-    (settings : Settings) (items : List Item) (now : ℕ) (left : List File) (loaded : Loaded) (found : Found)
+    (settings : Settings) (items : List Item) (now : ℕ) (left : Maildir) (loaded : Loaded) (found : Found)
     (stood : ReadAs (files.stored from).content loaded)
-    (finds : FindsIn (target_of was account) loaded.intent (left_in (stores_of disk files was) left) items (Ok found)
+    (finds : FindsIn (target_of was account) loaded.intent (with_maildir (stores_of disk files was) left) items (Ok found)
     (stores_of disk files place)) where
   abbrev store : Stores
-  store = left_in (stores_of disk files was) left
+  store = with_maildir (stores_of disk files was) left
 
   abbrev state : RecordState
   state = record_state_in loaded
@@ -374,7 +373,7 @@ module _ {D F : Type 0} (disk : DiskGhosts D) (files : FileGhosts F) (was place 
   module _ (law : OneRecord) {safe : Type 0} (kind : kind_of place ≡ kind_of was)
       (keeps : KeepsLeftIn disk files was (stores_of disk files place).maildir.files place)
       (lasts : safe → IsSafeStore files place × AllStayIn disk place × FoundLastIn disk account loaded.rows items place) where
-    mail : KeepsLeftIn disk files was left place
+    mail : KeepsLeftIn disk files was left.files place
     mail = left_found disk files was place account loaded.intent items (Ok found) left finds keeps
 
     news : FoundLastIn disk account loaded.rows items place

@@ -180,7 +180,7 @@ read_fault old new loaded why _ same is at = absurd at
 -- ---- lists of tasks
 
 pub gained_none : (m : Maildir) → Gained m m []
-gained_none m = record { came = sym (append-nil m.files); there = refl; none_begun = λ none_begun. none_begun; failures = omega arith }
+gained_none m = record { came = sym (append-nil m.files); taken = refl; there = refl; none_begun = λ none_begun. none_begun; failures = omega arith }
 
 pub marked_on : (rows : List Row) (xs ys : List (List ℕ)) → marked_all rows (xs ++ ys) ≡ marked_all (marked_all rows xs) ys
 marked_on rows [] ys = refl
@@ -213,6 +213,7 @@ brings_on : (target : Target) (xs ys : List Done) (a b c : Stores) → Brings ta
 brings_on (AsFiles account) xs ys a b c first second =
     simp flat_map-append (record {
       came = simp (second.came, first.came, append_assoc);
+      taken = second.taken ∙ first.taken;
       there = second.there ∙ first.there;
       none_begun = λ none_begun. second.none_begun (first.none_begun none_begun);
       failures = omega (arith, first.failures, second.failures);

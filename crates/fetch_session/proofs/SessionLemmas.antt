@@ -11,7 +11,7 @@ use Rattle.mail_store.specs.FlatFile.{Stored}
 use Rattle.mail_store.specs.declared.maildir.disk.MaildirDisk.{Ghosts as DiskGhosts}
 use Rattle.mail_store.specs.declared.file.flat_file.FlatFile.{Ghosts as FileGhosts}
 use Rattle.mail_store.specs.FileName.{sized, sized_file}
-use Rattle.mail_store.specs.Maildir.{Maildir, File, file, with_file, mail}
+use Rattle.mail_store.specs.Maildir.{Maildir, File, IsWithout, WereTaken, file, with_file, mail}
 use Rattle.mail_store.specs.Mboxrd.{entry_of}
 use Rattle.mail_store.specs.Power.{IsLonger, KeepsMail, KeepsWhole, LastsWhole, LeavesEither, LeavesLonger, LeavesNoMore, LeavesPart, Outlives}
 use Rattle.pop3_client.specs.Conversation.{TurnsJoin, Talks}
@@ -23,7 +23,7 @@ use Rattle.fetch_session.specs.Record.{Steady, bytes_in, record_state, ReadAs, r
 use Rattle.fetch_session.specs.Scene.{Scene, scene, Went, AllWent}
 use Rattle.fetch_session.specs.Store.{Brings, Ends, begun_with}
 use Rattle.fetch_session.specs.Lasting.{AreLeft, CutLasts, DoesAndLasts, DonesLast, IsSafe, IsSafeStore, IsSafeWork, IsUntouched, IsLeft, KeepsMailIn, RowsStillLast, KeepsWork, Leaves, LeavesLeft, LeavesMerged, NewOutlive, RowsLast, ShowsRows, TextsLast, may_leave_in, outlives_in, CarriesLast, ProceedsLast, SessionLasts, AllStayIn, AreSure, CarriedLasts, KeepsLeftIn, Lasts, MailLasts, NewsLast, StayFrom}
-use Rattle.fetch_session.specs.Target.{Target, AsFiles, AsEntries, Stores, kind_of, stores_of, target_of, AfterTakingIn, IsSoundMaildir, IsSoundMbox, in_maildir, in_mbox, is_sound, left_in, maildir_of, mbox_of, flags_in}
+use Rattle.fetch_session.specs.Target.{Target, AsFiles, AsEntries, Stores, kind_of, stores_of, target_of, AfterTakingIn, IsSoundMaildir, IsSoundMbox, in_maildir, in_mbox, is_sound, no_maildir, with_maildir, maildir_of, mbox_of, flags_in}
 use Rattle.fetch_session.specs.Task.{Task, Done, files_of, ids_in, ids_of, texts_of, ids_ahead, says, tasks_planned}
 use Rattle.fetch_session.proofs.SceneLemmas.{is_there, not_whole, read_keeps, all_append, all_weaker, all_on, fell_before, fell_on, marked_on}
 use Rattle.fetch_session.proofs.TextLemmas.{settled}
@@ -333,12 +333,20 @@ files_session disk file (InMbox device) (InMaildir device') digits Did A B C kin
 files_session disk file store (InMbox device') digits Did A B C kind met never = absurd never
 
 -- no file is taken from an mboxrd file
+none_left : (left : Maildir) → WereTaken no_maildir left → left ≡ no_maildir
+none_left left taken = let none = is_none taken.gone taken.files in taken.is ∙ rw (none.0, none.1) refl
+  where
+    is_none : (gone : List File) → IsWithout [] gone left.files → (gone ≡ []) × (left.files ≡ [])
+    is_none [] e = (refl, e)
+    is_none (f ∷ gone) ([], back, e, is) = absurd cc
+    is_none (f ∷ gone) (g ∷ front, back, e, is) = absurd cc
+
 pub entries_session : {D F : Type 0} (disk : DiskGhosts D) (file : FileGhosts F) (store store' : Store D F) (digits : List ℕ) (Did : Target → Stores → Stores → Type 0) (A B C : Type 0) → kind_of store' ≡ kind_of store
     → (is_sound disk file store' → A × is_sound disk file store × B × C × AfterTakingIn (stores_of disk file store) (λ (left : Stores). Did (target_of store digits) left (stores_of disk file store')))
     → IsSoundMbox file store' → A × IsSoundMbox file store × B × C × Did AsEntries (in_mbox (mbox_of file store)) (in_mbox (mbox_of file store'))
 entries_session disk file (InMbox device) (InMbox device') digits Did A B C kind met sound =
     let m = met sound in
-    let none = subst (λ (files : List File). Did AsEntries (left_in (in_mbox (file.stored device)) files) (in_mbox (file.stored device'))) m.4.1 m.4.2 in
+    let none = subst (λ (maildir : Maildir). Did AsEntries (with_maildir (in_mbox (file.stored device)) maildir) (in_mbox (file.stored device'))) (none_left m.4.0 m.4.1) m.4.2 in
     (m.0, m.1, m.2, m.3, none)
 entries_session disk file (InMaildir device) (InMbox device') digits Did A B C kind met sound = absurd cc
 entries_session disk file store (InMaildir device') digits Did A B C kind met never = absurd never

@@ -39,7 +39,7 @@ use Rattle.fetch_session.specs.Mbox.{AppendsText, AsksMbox, HoldsText, IsIntende
 -- ---- what storing a text leaves
 
 pub gained_file : (old new : Maildir) (f : File) → new ≡ with_file old f → Gained old new (f ∷ [])
-gained_file old new f is = rw is (record { came = refl; there = refl; none_begun = λ none_begun. refl; failures = omega arith })
+gained_file old new f is = rw is (record { came = refl; taken = refl; there = refl; none_begun = λ none_begun. refl; failures = omega arith })
 
 pub not_grown : (old new : Maildir) (name : List ℕ) → old.begun ≡ None → new ≡ old → MayGain name old new
 not_grown old new name none_begun is = rw is (record { none_begun = none_begun; came = inl refl })

@@ -3,7 +3,9 @@ use Rattle.std.specs.Prelude.{◌≡◌, ◌⊎◌, ℕ, List, [], ◌∷◌, �
 use Rattle.std.specs.List.{flat_map, AllZip}
 use Rattle.fetch_rules.specs.Record.{RecordState, none_open, marked_all}
 use Rattle.mail_store.specs.FlatFile.{Stored}
-use Rattle.mail_store.specs.Maildir.{File, AfterTaking}
+use Rattle.mail_store.specs.Maildir.{File, IsWithout, AfterTaking}
+use Rattle.pop3_wire.specs.Link.{Link}
+use Rattle.rc_file.specs.declared.settings.Settings.{Settings}
 use Rattle.pop3_wire.specs.Reading.{WholeReply, reply_bytes}
 use Rattle.pop3_client.specs.Turns.{IsGood}
 use Rattle.fetch_session.specs.declared.fault.Fault.{Fault}
@@ -16,7 +18,7 @@ use Rattle.fetch_session.specs.Scene.{Scene, Fell, WhereAllSound}
 use Rattle.fetch_session.specs.Target.{AsFiles, IsSoundMaildir, IsSoundMbox, maildir_of, mbox_of}
 use Rattle.fetch_session.specs.Account.{Holding, IsSameAccount, digits_of}
 use Rattle.fetch_session.specs.Lasting.{RunsSession}
-use Rattle.fetch_session.specs.Session.{MboxSession, Session, account_files, mbox_account_files}
+use Rattle.fetch_session.specs.Session.{AccountFiles, MboxSession, Session, account_files, mbox_account_files}
 use Rattle.fetch_session.specs.declared.report.Report.{Report}
 use Rattle.mail_store.specs.declared.file.flat_file.FlatFile.{Ghosts as FileGhosts}
 use Rattle.mail_store.specs.declared.maildir.disk.MaildirDisk.{Ghosts as DiskGhosts}
@@ -75,6 +77,14 @@ MboxSessions {W} {D} {F} link disk files = (now : ℕ) (old new : Holding D F) (
     → WhereAllSound link.sound link.leads_to (IsSoundMbox files) files.sound wire wire' old.store new.store old.file new.file
     (MboxSession old.settings now (link.history wire) (mbox_account_files (mbox_of files old.store) (files.stored old.file)) report
     (link.history wire') (mbox_account_files (mbox_of files new.store) (files.stored new.file)))
+
+-- of the files that were there before a session, exactly those are missing after it that `taken` gained; others came
+abbrev pub SessionsKeepFiles : Type 0
+SessionsKeepFiles = (settings : Settings) (account : List ℕ) (now : ℕ) (link : Link) (before : AccountFiles) (report : Report)
+    (link' : Link) (after : AccountFiles)
+    → AfterTaking before.maildir (λ left. Session settings account now link (account_files left before.file) report link' after)
+    → (left came gone : List File) × IsWithout before.maildir.files gone left × (after.maildir.files ≡ left ++ came)
+    × (after.maildir.taken ≡ before.maildir.taken ++ gone)
 
 -- a file of version 2 that stands for a record and has no torn end stands for that record
 abbrev pub SteadyFilesKeep : Type 0

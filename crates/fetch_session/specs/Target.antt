@@ -7,7 +7,7 @@ use Rattle.mail_store.specs.declared.maildir.disk.MaildirDisk.{Ghosts as DiskGho
 use Rattle.mail_store.specs.declared.file.flat_file.FlatFile.{Ghosts as FileGhosts}
 use Rattle.mail_store.specs.FlatFile.{Stored}
 use Rattle.mail_store.specs.Held.{flags_of}
-use Rattle.mail_store.specs.Maildir.{File, IsPart, Maildir, with_files}
+use Rattle.mail_store.specs.Maildir.{Maildir, WereTaken}
 use Rattle.mail_store.specs.Settling.{listed_size, stands_whole, settled_file}
 use Rattle.fetch_session.specs.declared.account.Store.{Store}
 use Rattle.fetch_session.specs.declared.account.Store.TheVariants.{Maildir as InMaildir, Mboxrd as InMbox}
@@ -28,7 +28,7 @@ pub record Stores : Type 0 where
   pub mbox : Stored
 
 abbrev pub no_maildir : Maildir
-no_maildir = record { there = record { tmp = false; new = false; cur = false }; files = []; begun = None; failures = 0 }
+no_maildir = record { there = record { tmp = false; new = false; cur = false }; files = []; begun = None; failures = 0; taken = [] }
 
 abbrev pub no_mbox : Stored
 no_mbox = record { content = None; failures = 0 }
@@ -39,13 +39,13 @@ in_maildir maildir = record { maildir = maildir; mbox = no_mbox }
 abbrev pub in_mbox : Stored → Stores
 in_mbox mbox = record { maildir = no_maildir; mbox = mbox }
 
--- a store with these files in its Maildir
-abbrev pub left_in : Stores → List File → Stores
-left_in store files = record store { maildir = with_files files store.maildir }
+-- a store with this Maildir
+abbrev pub with_maildir : Stores → Maildir → Stores
+with_maildir store maildir = record store { maildir = maildir }
 
--- since names were last told readers have taken some files of its Maildir away, and this holds of what they left
+-- this holds of what readers have left of its Maildir since names were last told
 abbrev pub AfterTakingIn : Stores → (Stores → Type 0) → Type 0
-AfterTakingIn store Does = (left : List File) × IsPart store.maildir.files left × Does (left_in store left)
+AfterTakingIn store Does = (left : Maildir) × WereTaken store.maildir left × Does (with_maildir store left)
 
 -- ---- a store
 

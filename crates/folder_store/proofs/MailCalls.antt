@@ -1,17 +1,17 @@
 -- What telling the names of the folders, and writing and settling a file, does to the Maildir of the folders.
 use Rattle.std.proofs.Common.{◌≡◌, ◌≤◌, ◌+◌, inl, inr, ⊎_elim, ℕ, List, [], ◌∷◌, bytes_eq, cond, refl, subst, arith, ◌⊎◌, true, sym, ap, ◌∙◌, Bool, false, not, ◌++◌, map, get_or, Contains, Option, Result, Ok, Err, IsErrAnd, IsPermutation, IsTrue, IfErr, String, Global, Vec, string_bytes, filter, if◌then◌else◌, ◌≢◌, suc, Some, append_assoc, append-nil, None}
-use Rattle.mail_store.specs.Maildir.{File, IsPart, Folders, bases_told, names_of, is_there, AreTheirs, AfterTaking, Checks, Lists, ListsAll, with_files, file, mail, counted, dropped, with_file}
+use Rattle.mail_store.specs.Maildir.{File, IsPart, Folders, bases_told, names_of, is_there, AreTheirs, AfterTaking, Checks, IsWithout, Lists, ListsAll, Maildir, WereTaken, file, mail, counted, dropped, with_file}
 use Rattle.mail_store.specs.Power.{count_named, KeepsLeft, TookOne, ToldStay, KeepsMail, FlushedOutlive, is_among}
 use Rattle.std.specs.List.{AllByRecursion, filter}
-use Rattle.std.proofs.lemmas.Bool.{cond_both, or_left, or_right}
+use Rattle.std.proofs.lemmas.Bool.{cases_Bool, cond_both, or_left, or_right}
 use Rattle.std.proofs.lemmas.List.Elements.{All-filter, All-from_recursion, recursion_from_All, All-weaker, filter_passes, All-push}
 use Rattle.std.proofs.lemmas.Slice.Eq.{bytes_eq-Decides}
 use Rattle.mail_terms.specs.MaildirName.{base}
 use Rattle.mail_store.specs.declared.maildir.disk.Folder.{Folder}
 use Rattle.mail_store.specs.declared.maildir.disk.Folder.TheVariants.{New, Cur}
-use Rattle.folder_store.specs.MailFolders.{MailFile, Directories, Each, KeepsFile, files_at, is_left, mail_at, MovesFile, Moved, touches, touches_new, touches_cur, name_at, is_in, entries_in, maildir_in, Draft, content_made}
+use Rattle.folder_store.specs.MailFolders.{MailFile, Directories, Each, KeepsFile, files_at, is_left, is_taken, mail_at, MovesFile, Moved, touches, touches_new, touches_cur, name_at, is_in, entries_in, maildir_in, Draft, content_made}
 use Rattle.folder_store.specs.MailPower.{SomeIs, StaysIn, OutlivesIn, AllFlushed, AllNamed, AreLeftAs}
-use Rattle.folder_store.specs.MailCalls.{AreKnown, Leads, Learns, listed, Then, TellsBoth, Lacks, TellsRest, ChecksIn, ListsIn, FlushesNamesIn, ToldBoth, TellsOne, LooksAtBoth, named_by, names_flushed_in, Brings, ChangesMade, FlushesDraft, PutsIntoNew, put_as, IsUnknown, StandsIn, PutsForGood, GivesUp, MakesDraft, PutsDraft, WritesDraft, FlushesFiles, flushed_by, SettlingKeepsFlushed, TellingKeepsFlushed, WritingKeepsFlushed}
+use Rattle.folder_store.specs.MailCalls.{AreKnown, Leads, Learns, listed, without_taken, Then, TellsBoth, Lacks, TellsRest, ChecksIn, ListsIn, FlushesNamesIn, ToldBoth, TellsOne, LooksAtBoth, named_by, names_flushed_in, Brings, ChangesMade, FlushesDraft, PutsIntoNew, put_as, IsUnknown, StandsIn, PutsForGood, GivesUp, MakesDraft, PutsDraft, WritesDraft, FlushesFiles, flushed_by, SettlingKeepsFlushed, TellingKeepsFlushed, WritingKeepsFlushed}
 use Rattle.std.proofs.lemmas.List.{map-append, get_or-map, length-map}
 use Rattle.std.proofs.lemmas.List.Sorted.{Contains-permutation, IsPermutation-append, IsPermutation-sym, IsPermutation-map, IsPermutation-trans, IsPermutation-filter_both}
 use Rattle.std.proofs.lemmas.Result.{err_from_is_err_and}
@@ -20,7 +20,7 @@ use Rattle.mail_store.specs.declared.fault.StoreFault.{StoreFault}
 use Rattle.mail_store.specs.declared.fault.StoreFault.TheVariants.{Missing, Refused}
 use Rattle.mail_terms.specs.FailureCount.{refuses}
 use Rattle.mail_store.specs.Fault.{IsDeviceFault, is_refusal}
-use Rattle.folder_store.proofs.MailMoves.{leads_same, both_named, each_by, files_kept, flush_keeps, keeps_on, mapped_leads, moved_leads, moved_same, named_moved, same_keeps, same_mail, rests_new, some_kept, some_map, stays_there, there_some, leads_maildir, named_stays, flushed_kept, leads_keep, part_on, were_left}
+use Rattle.folder_store.proofs.MailMoves.{leads_same, both_named, each_by, files_kept, flush_keeps, keeps_on, mapped_leads, moved_leads, moved_same, named_moved, same_keeps, same_mail, rests_new, some_kept, some_map, stays_there, there_some, leads_maildir, named_stays, flushed_kept, leads_keep, part_on, were_left, without_kept}
 use Rattle.std.proofs.lemmas.Option.{same_Some}
 use Rattle.mail_store.specs.FileName.{stem}
 use Rattle.folder_store.specs.NewDevices.{FlushingKeepsFlushed}
@@ -30,12 +30,6 @@ use Rattle.folder_store.specs.NewDevices.{FlushingKeepsFlushed}
 -- one more file, of this name or of another
 pub counts_more : (name : List ℕ) (f : File) (files : List File) → count_named name (f ∷ files) ≡ cond (bytes_eq name f.name) 1 0 + count_named name files
 counts_more name f files = grind arith
-
--- a part has no more files of a name
-pub part_counts : (name : List ℕ) (a b : List File) → IsPart a b → count_named name b ≤ count_named name a
-part_counts name [] b is = rw is (omega arith)
-part_counts name (f ∷ a) b (inl is) = omega (arith, counts_more name f a, part_counts name a b is)
-part_counts name (f ∷ a) b (inr (rest, e, is)) = rw e (omega (arith, counts_more name f a, counts_more name f rest, part_counts name a rest is))
 
 -- each file is known, or only those that weren't taken away
 each_known : (ss ts : List MailFile) → Each KeepsFile ss ts → AreKnown ss ts
@@ -53,11 +47,14 @@ known_on (s ∷ ss) ts us (inr (t, rest, e, k, first)) next =
     ⊎_elim (λ next. inl (known_on ss rest us first next)) (λ r. inr (r.0, r.1, r.2, keeps_on s t r.0 k r.3, known_on ss rest r.1 first r.4))
     (subst (λ (ts : List MailFile). AreKnown ts us) e next)
 
-known_part : (ss ts : List MailFile) → AreKnown ss ts → IsPart (files_at ss) (files_at ts)
-known_part [] ts e = ap files_at e
-known_part (s ∷ ss) ts (inl l) = inl (known_part ss ts l)
-known_part (s ∷ ss) ts (inr (t, rest, e, k, l)) =
-    inr (files_at rest, ap files_at e ∙ ap (λ (f : File). f ∷ files_at rest) (same_mail s t k.title k.content), known_part ss rest l)
+-- no more files of a name are known
+known_counts : (name : List ℕ) (ss ts : List MailFile) → AreKnown ss ts → count_named name (files_at ts) ≤ count_named name (files_at ss)
+known_counts name [] ts e = rw e (omega arith)
+known_counts name (s ∷ ss) ts (inl l) = omega (arith, counts_more name (mail_at s) (files_at ss), known_counts name ss ts l)
+known_counts name (s ∷ ss) ts (inr (t, rest, e, k, l)) =
+    let one : ◌≡◌ {A = ℕ} (cond (bytes_eq name (base t.name)) 1 0) (cond (bytes_eq name (base s.name)) 1 0) =
+    ap (λ (title : List ℕ). cond (bytes_eq name title) 1 0) k.title in
+    rw e (omega (arith, counts_more name (mail_at s) (files_at ss), counts_more name (mail_at t) (files_at rest), one, known_counts name ss rest l))
 
 known_flushed : (ss ts : List MailFile) → AreKnown ss ts → AllFlushed ss → AllFlushed ts
 known_flushed [] ts e all = rw e tt
@@ -71,7 +68,7 @@ known_or_took : {Is Will : MailFile → Type 0} (name : List ℕ) → ((s : Mail
 known_or_took name named each [] ts l is = absurd is
 known_or_took name named each (s ∷ ss) ts (inl l) (inl is) =
     let same : bytes_eq name (base s.name) ≡ true = (bytes_eq-Decides name (base s.name)).1 (sym (named s is)) in
-    inr (rw same (omega (arith, part_counts name (files_at ss) (files_at ts) (known_part ss ts l))))
+    inr (rw same (omega (arith, known_counts name ss ts l)))
 known_or_took name named each (s ∷ ss) ts (inl l) (inr is) =
     ⊎_elim inl (λ took. inr (omega (arith, took, counts_more name (mail_at s) (files_at ss)))) (known_or_took name named each ss ts l is)
 known_or_took name named each (s ∷ ss) ts (inr (t, rest, e, k, l)) (inl is) = rw e (inl (inl (each s t k is)))
@@ -105,18 +102,48 @@ pub listed_is : (folder : Folder) (a : Directories) → ((listed folder a).entri
 listed_is New a = (refl, refl)
 listed_is Cur a = (refl, refl)
 
+-- what is left once those that readers took away were taken from the others
+left_without : (ss : List MailFile) → IsWithout (files_at ss) (files_at (filter is_taken ss)) (files_at (filter is_left ss))
+left_without [] = refl
+left_without (s ∷ ss) = ⊎_elim (λ gone. rw gone ([], files_at ss, refl, left_without ss))
+    (λ here. rw here (without_kept (mail_at s) _ _ _ (left_without ss))) (cases_Bool s.is_gone)
+
+without_on : (first next files mid left : List File) → IsWithout files first mid → IsWithout mid next left → IsWithout files (first ++ next) left
+without_on [] next files mid left e second = subst (λ (fs : List File). IsWithout fs next left) e second
+without_on (f ∷ first) next files mid left (front, back, e, is) second = (front, back, e, without_on first next (front ++ back) mid left is second)
+
+taken_learns : (a : Directories) (new_rests cur_rests : Bool) → Learns a (record (without_taken a) { new_rests = new_rests; cur_rests = cur_rests })
+taken_learns a new_rests cur_rests = record {
+  there = refl;
+  made = refl;
+  known = left_known a.entries;
+  gone = files_at (filter is_taken a.entries);
+  taken = refl;
+  left = left_without a.entries;
+}
+
 listed_learns : (folder : Folder) (a : Directories) → Learns a (listed folder a)
-listed_learns New a = record { there = refl; made = refl; known = left_known a.entries }
-listed_learns Cur a = record { there = refl; made = refl; known = left_known a.entries }
+listed_learns New a = taken_learns a true a.cur_rests
+listed_learns Cur a = taken_learns a a.new_rests true
 
 pub leads_learns : (a b : Directories) → Leads a b → Learns a b
-leads_learns a b l = record { there = l.there; made = l.made; known = each_known a.entries b.entries l.keeps }
+leads_learns a b l = record {
+  there = l.there;
+  made = l.made;
+  known = each_known a.entries b.entries l.keeps;
+  gone = [];
+  taken = l.taken ∙ sym (append-nil a.taken);
+  left = files_kept a.entries b.entries l.keeps;
+}
 
 pub learns_on : (a b c : Directories) → Learns a b → Learns b c → Learns a c
 learns_on a b c first next = record {
   there = next.there ∙ first.there;
   made = next.made ∙ first.made;
   known = known_on a.entries b.entries c.entries first.known next.known;
+  gone = first.gone ++ next.gone;
+  taken = next.taken ∙ ap (λ (fs : List File). fs ++ next.gone) first.taken ∙ append_assoc a.taken first.gone next.gone;
+  left = without_on first.gone next.gone (files_at a.entries) (files_at b.entries) (files_at c.entries) first.left next.left;
 }
 
 -- one more call
@@ -291,9 +318,15 @@ abbrev IsCountAfter : {T : Type 0} → Result T StoreFault → ℕ → ℕ → T
 IsCountAfter r n m = m ≡ (if refuses is_refusal r then n + 1 else n)
 
 -- the same with the files that are left
-left_as : (a b : Directories) (begun : Option (List ℕ)) (m k : ℕ) → Learns a b → m ≡ k
-    → maildir_in b begun m ≡ with_files (files_at b.entries) (maildir_in a begun k)
-left_as a b begun m k l e = rw (l.there, l.made, e) refl
+abbrev left_in : Directories → Directories → Option (List ℕ) → ℕ → Maildir
+left_in a b begun n = record (maildir_in a begun n) { files = files_at b.entries; taken = b.taken }
+
+were_taken : (a b : Directories) (begun : Option (List ℕ)) (n : ℕ) → Learns a b → WereTaken (maildir_in a begun n) (left_in a b begun n)
+were_taken a b begun n l = record { gone = l.gone; files = l.left; is = rw l.taken refl }
+
+left_as : (a b : Directories) (begun : Option (List ℕ)) (m k n : ℕ) → Learns a b → m ≡ k
+    → maildir_in b begun m ≡ record (left_in a b begun n) { failures = k }
+left_as a b begun m k n l e = rw (l.there, l.made, e) refl
 
 one_lacks : (there : Folders) (folder : Folder) → is_there there folder ≡ false → (there.new ≡ false) ⊎ (there.cur ≡ false)
 one_lacks there New e = inl e
@@ -304,27 +337,27 @@ pub told_all : {A B : Type 0} (a b : Directories) (begun : Option (List ℕ)) (n
     → IfErr r IsDeviceFault → IsCountAfter r n m → AfterTaking (maildir_in a begun n) (λ left. ListsAll left r (maildir_in b begun m)) × ToldStay r (StaysIn b.entries)
 told_all a b begun n m (Ok names) (l, told, _) device k = (
   (
-    files_at b.entries,
-    known_part a.entries b.entries l.known,
-    (rw (sym l.there) told.new_is_there, rw (sym l.there) told.cur_is_there, told.lists, left_as a b begun m n l k),
+    left_in a b begun n,
+    were_taken a b begun n l,
+    (rw (sym l.there) told.new_is_there, rw (sym l.there) told.cur_is_there, told.lists, left_as a b begun m n n l k),
   ),
   λ name inside. named_stays b.entries name told.named (Contains-permutation _ _ name (IsPermutation-sym _ _ told.lists) inside),
 )
 told_all a b begun n m (Err Missing) (l, _, missing) device k =
     let lacks = missing refl in
-    ((files_at b.entries, known_part a.entries b.entries l.known, (rw (sym l.there) (one_lacks b.there lacks.0 lacks.1), left_as a b begun m n l k)), tt)
+    ((left_in a b begun n, were_taken a b begun n l, (rw (sym l.there) (one_lacks b.there lacks.0 lacks.1), left_as a b begun m n n l k)), tt)
 told_all a b begun n m (Err Refused) (l, _, missing) device k =
-    ((files_at b.entries, known_part a.entries b.entries l.known, left_as a b begun m (n + 1) l k), tt)
+    ((left_in a b begun n, were_taken a b begun n l, left_as a b begun m (n + 1) n l k), tt)
 told_all a b begun n m (Err _) t device k = absurd (⊎_elim (λ e. cc) (λ e. cc) device)
 
 pub told_those : {A B : Type 0} (a b : Directories) (folder : Folder) (begun : Option (List ℕ)) (n m : ℕ) (r : Result (Vec (String A) B) StoreFault) → TellsOne a folder r b
     → IfErr r IsDeviceFault → IsCountAfter r n m → AfterTaking (maildir_in a begun n) (λ left. Lists left folder r (maildir_in b begun m))
 told_those a b folder begun n m (Ok names) (l, (there, theirs), _, _) device k =
-    (files_at b.entries, known_part a.entries b.entries l.known, (rw (sym l.there) there, theirs, left_as a b begun m n l k))
+    (left_in a b begun n, were_taken a b begun n l, (rw (sym l.there) there, theirs, left_as a b begun m n n l k))
 told_those a b folder begun n m (Err Missing) (l, _, _, missing) device k =
-    (files_at b.entries, known_part a.entries b.entries l.known, (rw (sym l.there) (missing refl), left_as a b begun m n l k))
+    (left_in a b begun n, were_taken a b begun n l, (rw (sym l.there) (missing refl), left_as a b begun m n n l k))
 told_those a b folder begun n m (Err Refused) (l, _, _, _) device k =
-    (files_at b.entries, known_part a.entries b.entries l.known, left_as a b begun m (n + 1) l k)
+    (left_in a b begun n, were_taken a b begun n l, left_as a b begun m (n + 1) n l k)
 told_those a b folder begun n m (Err _) t device k = absurd (⊎_elim (λ e. cc) (λ e. cc) device)
 
 pub checked : {T : Type 0} (a b : Directories) (folder : Folder) (begun : Option (List ℕ)) (n m : ℕ) (r : Result T StoreFault) → Then (ChecksIn folder r) a b
@@ -341,15 +374,16 @@ checked a b folder begun n m (Err _) t device k = absurd (⊎_elim (λ e. cc) (�
 pub leads_bring : (a b : Directories) (d : Option Draft) → Leads a b → Brings a [] (record b { made = d })
 leads_bring a b d l = record {
   there = l.there;
+  taken = l.taken;
   files = files_kept a.entries b.entries l.keeps ∙ sym (append-nil (files_at a.entries));
   keeps = leads_keep a b l;
   leaves = λ left loses.
       let r = were_left a.entries b.entries l.keeps left.entries loses.each in
       record {
-        before = record left { there = a.there; entries = r.0 };
+        before = record left { there = a.there; entries = r.0; taken = a.taken };
         part = [];
-        loses = record { there = refl; each = r.1; made = loses.made };
-        is_part = refl;
+        loses = record { there = refl; each = r.1; made = loses.made; taken = refl };
+        is_part = ([], refl);
         files = r.2 ∙ sym (append-nil (files_at r.0));
       };
   flushed = flushed_kept a.entries b.entries l.keeps;
@@ -358,6 +392,7 @@ leads_bring a b d l = record {
 pub brings_on : (a b c : Directories) (xs ys : List File) → Brings a xs b → Brings b ys c → Brings a (xs ++ ys) c
 brings_on a b c xs ys first next = record {
   there = next.there ∙ first.there;
+  taken = next.taken ∙ first.taken;
   files = next.files ∙ ap (λ (fs : List File). fs ++ ys) first.files ∙ append_assoc (files_at a.entries) xs ys;
   keeps = (λ name is. next.keeps.0 name (first.keeps.0 name is), λ f is. next.keeps.1 f (first.keeps.1 f is));
   leaves = λ left loses.
@@ -404,9 +439,9 @@ abbrev WereLeftBut : List MailFile → File → List MailFile → Type 0
 WereLeftBut ss f left = (before : List MailFile) × (part : List File) × AreLeftAs ss before × IsPart (f ∷ []) part × (files_at left ≡ files_at before ++ part)
 
 left_besides : (ss : List MailFile) (s : MailFile) → s.is_flushed ≡ true → (left : List MailFile) → AreLeftAs (ss ++ s ∷ []) left → WereLeftBut ss (mail_at s) left
-left_besides [] s flushed left (inl (gone, e)) = ([], [], refl, inl refl, ap files_at e)
+left_besides [] s flushed left (inl (gone, e)) = ([], [], refl, (mail_at s ∷ [], ([], [], refl, refl)), ap files_at e)
 left_besides [] s flushed left (inr (t, rest, e, is, none)) =
-    ([], mail_at s ∷ [], refl, inr ([], refl, refl), rw (e, none) (ap (λ (f : File). f ∷ []) (same_mail s t is.title (is.content flushed))))
+    ([], mail_at s ∷ [], refl, ([], refl), rw (e, none) (ap (λ (f : File). f ∷ []) (same_mail s t is.title (is.content flushed))))
 left_besides (x ∷ ss) s flushed left (inl (gone, l)) = let r = left_besides ss s flushed left l in (r.0, r.1, inl (gone, r.2), r.3, r.4)
 left_besides (x ∷ ss) s flushed left (inr (t, rest, e, is, l)) =
     let r = left_besides ss s flushed rest l in
@@ -420,14 +455,15 @@ put_brings m b name p unknown flushed =
     rw (p.is (free_from m.entries name unknown)) (
       record {
         there = refl;
+        taken = refl;
         files = map-append mail_at m.entries (put ∷ []);
         keeps = (λ name. some_before _ m.entries put, λ f. some_before _ m.entries put);
         leaves = λ left loses.
             let r = left_besides m.entries put flushed left.entries loses.each in
             record {
-              before = record left { there = m.there; entries = r.0 };
+              before = record left { there = m.there; entries = r.0; taken = m.taken };
               part = r.1;
-              loses = record { there = refl; each = r.2; made = loses.made };
+              loses = record { there = refl; each = r.2; made = loses.made; taken = refl };
               is_part = r.3;
               files = r.4;
             };
@@ -485,7 +521,7 @@ pub begun_anew : (a b : Directories) (begun : Option (List ℕ)) (title name : L
     → (a.there.tmp ≡ true) × (maildir_in b (Some title) n ≡ record (maildir_in a begun n) { begun = Some (file name []) })
 begun_anew a b begun title name n same (m, v, (there, e)) =
     let h = makes_bring a b (Ok tt) (m, v, (there, e)) in
-    (rw (sym v.there) there, rw (h.there, h.files, append-nil (files_at a.entries), ap (λ (x : Directories). x.made) e, same) refl)
+    (rw (sym v.there) there, rw (h.there, h.taken, h.files, append-nil (files_at a.entries), ap (λ (x : Directories). x.made) e, same) refl)
 
 pub begin_missing : (a b : Directories) (begun : Option (List ℕ)) (n : ℕ) (fault : StoreFault) → fault ≡ Missing
     → Then (MakesDraft {T = Unit {0}} (Err fault)) a b
@@ -496,7 +532,7 @@ begin_missing a b begun n fault is (m, v, (change, missing)) =
 
 pub begin_refused : (a b : Directories) (begun : Option (List ℕ)) (n k : ℕ) → k ≡ n + 1 → Brings a [] b → (maildir_in a begun n).begun ≡ None
     → maildir_in b begun k ≡ counted (maildir_in a begun n)
-begin_refused a b None n k up h none = rw (h.there, h.files, append-nil (files_at a.entries), up) refl
+begin_refused a b None n k up h none = rw (h.there, h.taken, h.files, append-nil (files_at a.entries), up) refl
 begin_refused a b (Some name) n k up h none = absurd cc
 
 -- ---- add
@@ -515,13 +551,13 @@ pub added : (a b : Directories) (begun : Option (List ℕ)) (bytes : List ℕ) (
 added a b begun bytes n (m, v, (d, made, e)) f h =
     let is = begun_is a begun n f h in
     let brings = writes_bring a b bytes (Ok tt) (m, v, (d, made, e)) in
-    rw (is.0, sym is.1, sym v.made ∙ made, brings.there, brings.files, append-nil (files_at a.entries), ap (λ (x : Directories). x.made) e) refl
+    rw (is.0, sym is.1, sym v.made ∙ made, brings.there, brings.taken, brings.files, append-nil (files_at a.entries), ap (λ (x : Directories). x.made) e) refl
 
 pub not_added : (a b : Directories) (begun : Option (List ℕ)) (n k : ℕ) → k ≡ n + 1 → Then ChangesMade a b → (f : File) → (maildir_in a begun n).begun ≡ Some f
     → (content : List ℕ) × (maildir_in b begun k ≡ counted (record (maildir_in a begun n) { begun = Some (file f.name content) }))
 not_added a b begun n k up t f h =
     let came = changes_bring a b t in
-    (content_made b.made, rw (came.there, came.files, append-nil (files_at a.entries), up, (begun_is a begun n f h).0) refl)
+    (content_made b.made, rw (came.there, came.taken, came.files, append-nil (files_at a.entries), up, (begun_is a begun n f h).0) refl)
 
 -- ---- abandon and settle
 
@@ -530,7 +566,7 @@ gives_up a b (m, v, e) = changes_bring a b (m, v, (None, e))
 
 -- none is being written, and the files are as they were
 pub maildir_dropped : (a b : Directories) (begun : Option (List ℕ)) (n k : ℕ) → Brings a [] b → maildir_in b None k ≡ record (dropped (maildir_in a begun n)) { failures = k }
-maildir_dropped a b begun n k h = rw (h.there, h.files, append-nil (files_at a.entries)) refl
+maildir_dropped a b begun n k h = rw (h.there, h.taken, h.files, append-nil (files_at a.entries)) refl
 
 pub settled : (a b : Directories) (begun : Option (List ℕ)) (name : List ℕ) (n : ℕ) → PutsForGood {T = Unit {0}} a name (Ok tt) b → IsUnknown name a
     → (f : File) → (maildir_in a begun n).begun ≡ Some f
@@ -538,7 +574,7 @@ pub settled : (a b : Directories) (begun : Option (List ℕ)) (name : List ℕ) 
 settled a b begun name n (d, made, put) unknown f h =
     let came = put unknown in
     let same : d.content ≡ f.content = ap content_made (sym made) ∙ (begun_is a begun n f h).1 in
-    (rw (came.0.there, came.0.files, same) refl, rw same at came.1)
+    (rw (came.0.there, came.0.taken, came.0.files, same) refl, rw same at came.1)
 
 pub not_settled : (a b c : Directories) (begun : Option (List ℕ)) (name : List ℕ) (n k : ℕ) (fault : StoreFault) → k ≡ n + 1 → PutsForGood {T = Unit {0}} a name (Err fault) b
     → Then GivesUp b c → IsUnknown name a
@@ -547,10 +583,10 @@ pub not_settled : (a b c : Directories) (begun : Option (List ℕ)) (name : List
     × KeepsMail (StaysIn a.entries) (OutlivesIn a.entries) (StaysIn c.entries) (OutlivesIn c.entries)
 not_settled a b c begun name n k fault up (inl none) gives unknown =
     let came = brings_on a b c [] [] none (gives_up b c gives) in
-    (λ f h. inl (rw (came.there, came.files, append-nil (files_at a.entries), up) refl), came.keeps)
+    (λ f h. inl (rw (came.there, came.taken, came.files, append-nil (files_at a.entries), up) refl), came.keeps)
 not_settled a b c begun name n k fault up (inr (d, made, put)) gives unknown =
     let came = brings_on a b c (mail name d.content ∷ []) [] (put unknown) (gives_up b c gives) in
-    (λ f h. inr (rw (came.there, came.files, up, sym (ap content_made made), (begun_is a begun n f h).1) refl), came.keeps)
+    (λ f h. inr (rw (came.there, came.taken, came.files, up, sym (ap content_made made), (begun_is a begun n f h).1) refl), came.keeps)
 
 -- ---- the calls of settling
 
@@ -563,11 +599,12 @@ not_put b0 b1 b2 b3 name fault x f led (m, v, inr p) = inr (put_unnamed b0 b1 b2
 -- ---- what a flush of files does to the folders of a Maildir
 
 module _ {A : Type 0} (stems : List (String A)) where
-  pub files_lead : {T : Type 0} (a b : Directories) (r : Result T StoreFault) → Then (FlushesFiles stems r) a b → Leads a b
-  files_lead a b (Ok done) (mid, v, e) =
+  pub files_lead : (a b : Directories) (r : Result Bool StoreFault) → Then (FlushesFiles stems r) a b → Leads a b
+  files_lead a b (Ok true) (mid, v, e) =
       let keeps : (s : MailFile) → KeepsFile s (flushed_by stems s) = λ s.
       record { title = refl; content = refl; flushed = or_left s.is_flushed (is_among stems (stem s.name)); named = λ h. h } in
       rw e (mapped_leads (flushed_by stems) keeps a mid v)
+  files_lead a b (Ok false) (mid, v, e) = moved_same a mid b v e
   files_lead a b (Err fault) (mid, v, e) = moved_same a mid b v e
 
   -- one of these files has the name, and is on the disk
@@ -584,24 +621,23 @@ module _ {A : Type 0} (stems : List (String A)) where
       let r = flushed_stays same ss name among is in
       (r.0, (suc r.1.0, omega (arith, r.1.1), r.1.2), r.2, inr r.3)
 
-  pub flushed_outlive : {T : Type 0} (a b : Directories) (begun : Option (List ℕ)) (n : ℕ) (r : Result T StoreFault) → ((name : List ℕ) → stem (base name) ≡ stem name)
+  pub flushed_outlive : (a b : Directories) (begun : Option (List ℕ)) (n : ℕ) (r : Result Bool StoreFault) → ((name : List ℕ) → stem (base name) ≡ stem name)
       → Then (FlushesFiles stems r) a b → FlushedOutlive (maildir_in a begun n) stems r (StaysIn a.entries) (OutlivesIn b.entries)
-  flushed_outlive a b begun n (Ok done) same (mid, v, e) = λ name there among stays.
+  flushed_outlive a b begun n (Ok true) same (mid, v, e) = λ name there among stays.
       let here = flushed_stays same mid.entries name among ((leads_keep a mid (moved_leads a mid v)).0 name stays) in
       (here.0, rw (files_kept a.entries mid.entries (moved_leads a mid v).keeps) at here.1, here.2, rw e here.3)
+  flushed_outlive a b begun n (Ok false) same t = tt
   flushed_outlive a b begun n (Err fault) same t = tt
 
 -- ---- what a loss of power leaves to a device, and what a device that is made anew begins with
 
 -- what a loss of power leaves of files whose bytes are on the disk is some of them, in order
 pub flushed_part : (ss left : List MailFile) → AllFlushed ss → AreLeftAs ss left → IsPart (files_at ss) (files_at left)
-flushed_part [] left all e = ap files_at e
-flushed_part (s ∷ ss) left all (inl (gone, l)) = inl (flushed_part ss left all.1 l)
-flushed_part (s ∷ ss) left all (inr (t, rest, e, is, l)) = inr (
-  files_at rest,
-  ap files_at e ∙ ap (λ (f : File). f ∷ files_at rest) (same_mail s t is.title (is.content all.0)),
-  flushed_part ss rest all.1 l,
-)
+flushed_part [] left all e = ([], ap files_at e)
+flushed_part (s ∷ ss) left all (inl (gone, l)) = let part = flushed_part ss left all.1 l in (mail_at s ∷ part.0, ([], files_at ss, refl, part.1))
+flushed_part (s ∷ ss) left all (inr (t, rest, e, is, l)) =
+    let part = flushed_part ss rest all.1 l in
+    (part.0, rw (e, same_mail s t is.title (is.content all.0)) (without_kept (mail_at s) part.0 (files_at ss) (files_at rest) part.1))
 
 -- ---- the calls of a Maildir
 

@@ -1,12 +1,12 @@
 -- What others' moves and flushes of names leave as it was.
-use Rattle.std.proofs.Common.{◌≡◌, ◌||◌, Contains, inl, inr, ⊎_elim, ℕ, zero, suc, Bool, true, false, not, List, [], ◌∷◌, ◌++◌, map, None, Option, refl, sym, ap, subst, ◌∙◌, arith, true≢false}
+use Rattle.std.proofs.Common.{◌≡◌, ◌||◌, Contains, append_assoc, inl, inr, ⊎_elim, ℕ, zero, suc, Bool, true, false, not, List, [], ◌∷◌, ◌++◌, map, None, Option, refl, sym, ap, subst, ◌∙◌, arith, true≢false}
 use Rattle.std.specs.List.{AllByRecursion}
 use Rattle.std.proofs.lemmas.Bool.{false_from_ne_true, or_left}
 use Rattle.std.proofs.lemmas.Simd.{map-map}
 use Rattle.mail_terms.specs.MaildirName.{base}
 use Rattle.mail_store.specs.declared.maildir.disk.Folder.{Folder}
 use Rattle.mail_store.specs.declared.maildir.disk.Folder.TheVariants.{New, Cur}
-use Rattle.mail_store.specs.Maildir.{File, IsPart, names_of}
+use Rattle.mail_store.specs.Maildir.{File, IsPart, IsWithout, names_of}
 use Rattle.mail_store.specs.Power.{KeepsMail}
 use Rattle.folder_store.specs.MailFolders.{MailFile, Directories, KeepsFile, MovesFile, RestsFile, Each, Moved, mail_at, files_at, name_at, entries_in, touches_new, touches_cur, maildir_in, OneMoves, is_in}
 use Rattle.folder_store.specs.MailPower.{AreLeftAs, IsLeftAs, SomeIs, StaysIn, OutlivesIn, AllFlushed, AllNamed, AllOnDisk, StayingMailIsLeft, OutlivingMailIsLeft, MailOnDiskIsLeft, MailCanLosePower}
@@ -105,7 +105,7 @@ pub each_keeps : (a b : List MailFile) → Each MovesFile a b → Each KeepsFile
 each_keeps a b = each_by MovesFile (Each KeepsFile) tt (λ s t ss ts m rest. (m.keeps, rest)) a b
 
 pub moved_leads : (a b : Directories) → Moved a b → Leads a b
-moved_leads a b m = record { there = m.there; made = m.made; keeps = each_keeps a.entries b.entries m.moves }
+moved_leads a b m = record { there = m.there; made = m.made; taken = m.taken; keeps = each_keeps a.entries b.entries m.moves }
 
 -- others moved files, and a call changed nothing
 pub moved_same : (a m b : Directories) → Moved a m → b ≡ m → Leads a b
@@ -123,15 +123,24 @@ each_same Does same [] = tt
 each_same Does same (s ∷ ss) = (same s, each_same Does same ss)
 
 pub leads_same : (a : Directories) → Leads a a
-leads_same a = record { there = refl; made = refl; keeps = each_same KeepsFile same_keeps a.entries }
+leads_same a = record { there = refl; made = refl; taken = refl; keeps = each_same KeepsFile same_keeps a.entries }
 
 -- ---- one after another
 
+pub without_kept : (f : File) (gone files left : List File) → IsWithout files gone left → IsWithout (f ∷ files) gone (f ∷ left)
+without_kept f [] files left e = ap (λ (fs : List File). f ∷ fs) e
+without_kept f (g ∷ gone) files left (front, back, e, is) =
+    (f ∷ front, back, ap (λ (fs : List File). f ∷ fs) e, without_kept f gone (front ++ back) left is)
+
+without_behind : (xs ys gone q : List File) → IsWithout ys gone q → IsWithout (xs ++ ys) gone (xs ++ q)
+without_behind [] ys gone q is = is
+without_behind (x ∷ xs) ys gone q is = without_kept x gone (xs ++ ys) (xs ++ q) (without_behind xs ys gone q is)
+
 pub part_on : (xs ys p q : List File) → IsPart xs p → IsPart ys q → IsPart (xs ++ ys) (p ++ q)
-part_on [] ys p q first then = subst (λ (z : List File). IsPart ys (z ++ q)) (sym first) then
-part_on (x ∷ xs) ys p q (inl first) then = inl (part_on xs ys p q first then)
-part_on (x ∷ xs) ys p q (inr (rest, e, first)) then =
-    inr (rest ++ q, ap (λ (z : List File). z ++ q) e, part_on xs ys rest q first then)
+part_on xs ys p q ([], e) (gone, then) = (gone, rw e (without_behind xs ys gone q then))
+part_on xs ys p q (f ∷ first, (front, back, e, is)) then =
+    let (gone, both) = part_on (front ++ back) ys p q (first, is) then in
+    (f ∷ gone, (front, back ++ ys, ap (λ (fs : List File). fs ++ ys) e ∙ append_assoc front (f ∷ back) ys, rw append_assoc at both))
 
 pub keeps_on : (s t u : MailFile) → KeepsFile s t → KeepsFile t u → KeepsFile s u
 keeps_on s t u a b = record {
@@ -146,13 +155,14 @@ pub mapped_leads : (f : MailFile → MailFile) → ((s : MailFile) → KeepsFile
 mapped_leads f keeps a m v = record {
   there = v.there;
   made = v.made;
+  taken = v.taken;
   keeps = each_by MovesFile (λ a b. Each KeepsFile a (map f b)) tt
       (λ s t ss ts m rest. (keeps_on s t (f t) m.keeps (keeps t), rest)) a.entries m.entries v.moves;
 }
 
 -- the Maildir is as it was
 pub leads_maildir : (a b : Directories) (begun : Option (List ℕ)) (n : ℕ) → Leads a b → maildir_in b begun n ≡ maildir_in a begun n
-leads_maildir a b begun n l = rw (l.there, l.made, files_kept a.entries b.entries l.keeps) refl
+leads_maildir a b begun n l = rw (l.there, l.made, l.taken, files_kept a.entries b.entries l.keeps) refl
 
 -- ---- names on the disk
 
@@ -201,6 +211,7 @@ pub rest : (b : Directories) → Moved b b
 rest b = record {
   there = refl;
   made = refl;
+  taken = refl;
   moves = each_same MovesFile same_moves b.entries;
   rests = λ folder quiet. (quiet, each_same (RestsFile folder) (same_rests folder) b.entries);
 }
@@ -214,6 +225,7 @@ pub one : (old : Directories) (front back : List MailFile) (s t : MailFile) (new
 one old front back s t new o = record {
   there = o.there;
   made = o.made;
+  taken = o.taken;
   moves = rw (o.before, o.after) (each_one MovesFile same_moves front back s t o.moves);
   rests = λ folder quiet.
       let r = o.rests folder quiet in
@@ -245,6 +257,7 @@ pub on : (a b c : Directories) → Moved a b → Moved b c → Moved a c
 on a b c first then = record {
   there = then.there ∙ first.there;
   made = then.made ∙ first.made;
+  taken = then.taken ∙ first.taken;
   moves = each_on MovesFile moves_on a.entries b.entries c.entries first.moves then.moves;
   rests = λ folder quiet.
       let after = then.rests folder quiet in
@@ -306,7 +319,7 @@ staying_left s = record {
 pub mail_can_lose_power : MailCanLosePower
 mail_can_lose_power old =
     let r = all_staying old.entries in
-    (record old { entries = r.0; made = None }, record { there = refl; each = r.1; made = refl })
+    (record old { entries = r.0; made = None }, record { there = refl; each = r.1; made = refl; taken = refl })
   where
     all_staying : (ss : List MailFile) → (left : List MailFile) × AreLeftAs ss left
     all_staying [] = ([], refl)

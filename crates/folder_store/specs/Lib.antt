@@ -1,5 +1,6 @@
 pub mod ExactListing
 pub mod FileFolder
+pub mod FlushPass
 pub mod HostFile
 pub mod MailCalls
 pub mod MailFolders

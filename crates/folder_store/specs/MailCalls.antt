@@ -8,10 +8,10 @@ use Rattle.mail_store.specs.declared.fault.StoreFault.{StoreFault}
 use Rattle.mail_store.specs.declared.fault.StoreFault.TheVariants.{Missing, Refused}
 use Rattle.mail_store.specs.declared.maildir.disk.Folder.{Folder}
 use Rattle.mail_store.specs.declared.maildir.disk.Folder.TheVariants.{New, Cur}
-use Rattle.mail_store.specs.Maildir.{File, mail, bases_told, names_of, is_there, AreTheirs}
+use Rattle.mail_store.specs.Maildir.{File, IsWithout, mail, bases_told, names_of, is_there, AreTheirs}
 use Rattle.mail_store.specs.FileName.{stem}
 use Rattle.mail_store.specs.Power.{KeepsMail, ToldStay, is_among}
-use Rattle.folder_store.specs.MailFolders.{Directories, MailFile, Draft, Each, KeepsFile, Moved, files_at, is_left}
+use Rattle.folder_store.specs.MailFolders.{Directories, MailFile, Draft, Each, KeepsFile, Moved, files_at, is_left, is_taken}
 use Rattle.folder_store.specs.MailFolders.{name_at, entries_in, rests_in, touches_new, touches_cur}
 use Rattle.folder_store.specs.MailPower.{AllFlushed, AllNamed, StaysIn, OutlivesIn, LeavesMail}
 
@@ -31,10 +31,14 @@ Lacks old folder fault new = (new ≡ old) × (fault ≡ Missing → is_there ol
 abbrev pub IfMissing : {T : Type 0} → Result T StoreFault → Type 0 → Type 0
 IfMissing r P = IfErr r (λ fault. fault ≡ Missing → P)
 
--- a folder was listed, and has rested since; files that readers took away are known no longer
+-- files that readers took away are known no longer, but as taken
+abbrev pub without_taken : Directories → Directories
+without_taken d = record d { entries = filter is_left d.entries; taken = d.taken ++ files_at (filter is_taken d.entries) }
+
+-- a folder was listed, and has rested since
 abbrev pub listed : Folder → Directories → Directories
-listed New d = record d { entries = filter is_left d.entries; new_rests = true }
-listed Cur d = record d { entries = filter is_left d.entries; cur_rests = true }
+listed New d = record (without_taken d) { new_rests = true }
+listed Cur d = record (without_taken d) { cur_rests = true }
 
 -- `check`: the folder is there
 abbrev pub ChecksIn : {T : Type 0} → Folder → Result T StoreFault → Directories → Directories → Type 0
@@ -126,10 +130,10 @@ flushed_by stems s = record s { is_flushed = s.is_flushed || is_among stems (ste
 abbrev pub files_flushed : {A : Type 0} → List (String A) → Directories → Directories
 files_flushed stems d = record d { entries = map (flushed_by stems) d.entries }
 
--- `flush_files`: the bytes of each file with one of these stems are on the disk
-abbrev pub FlushesFiles : {A T : Type 0} → List (String A) → Result T StoreFault → Directories → Directories → Type 0
-FlushesFiles stems (Ok done) old new = new ≡ files_flushed stems old
-FlushesFiles stems (Err fault) old new = new ≡ old
+-- `flush_files`: the bytes of each file with one of these stems are on the disk, if the answer is true
+abbrev pub FlushesFiles : {A : Type 0} → List (String A) → Result Bool StoreFault → Directories → Directories → Type 0
+FlushesFiles stems (Ok true) old new = new ≡ files_flushed stems old
+FlushesFiles stems answer old new = new ≡ old
 
 -- ---- several calls
 
@@ -137,6 +141,7 @@ FlushesFiles stems (Err fault) old new = new ≡ old
 -- these files besides what it could have left before
 pub record Brings (old : Directories) (added : List File) (new : Directories) : Type 0 where
   pub there : new.there ≡ old.there
+  pub taken : new.taken ≡ old.taken
   pub files : files_at new.entries ≡ files_at old.entries ++ added
   pub keeps : KeepsMail (StaysIn old.entries) (OutlivesIn old.entries) (StaysIn new.entries) (OutlivesIn new.entries)
   pub leaves : LeavesMail old added new
@@ -146,6 +151,7 @@ pub record Brings (old : Directories) (added : List File) (new : Directories) : 
 pub record Leads (old new : Directories) : Type 0 where
   pub there : new.there ≡ old.there
   pub made : new.made ≡ old.made
+  pub taken : new.taken ≡ old.taken
   pub keeps : Each KeepsFile old.entries new.entries
 
 -- each file is kept, or known no longer, in order
@@ -155,11 +161,14 @@ AreKnown (s ∷ entries) known =
     AreKnown entries known
     ⊎ ((t : MailFile) × (rest : List MailFile) × (known ≡ t ∷ rest) × KeepsFile s t × AreKnown entries rest)
 
--- the same, but files that readers took away may be known no longer
+-- the same, but files that readers took away may be known no longer, except as taken
 pub record Learns (old new : Directories) : Type 0 where
   pub there : new.there ≡ old.there
   pub made : new.made ≡ old.made
   pub known : AreKnown old.entries new.entries
+  pub gone : List File
+  pub taken : new.taken ≡ old.taken ++ gone
+  pub left : IsWithout (files_at old.entries) gone (files_at new.entries)
 
 -- the names of both folders at one moment, each of a file that has a name on the disk
 pub record ToldBoth {A : Type 0} (names : List (String A)) (d : Directories) : Type 0 where

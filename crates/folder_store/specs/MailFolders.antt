@@ -26,14 +26,15 @@ pub record Draft : Type 0 where
   pub is_flushed : Bool
 
 -- which of the folders are there; the files of `new` and `cur` in the order in which they came; whether `new`, and
--- `cur`, have rested since they were last listed: no file came, went or got another name there; and the file that
--- was made
+-- `cur`, have rested since they were last listed: no file came, went or got another name there; the file that was
+-- made; and the files that readers took away, in the order in which that was seen
 pub record Directories : Type 0 where
   pub there : Folders
   pub entries : List MailFile
   pub new_rests : Bool
   pub cur_rests : Bool
   pub made : Option Draft
+  pub taken : List File
 
 -- what a flush of the names of `new`, or of `cur`, makes last
 abbrev pub touches_new : MailFile → Bool
@@ -58,6 +59,10 @@ is_in Cur s = not s.is_new
 -- no reader took it away
 abbrev pub is_left : MailFile → Bool
 is_left s = not s.is_gone
+
+-- a reader took it away
+abbrev pub is_taken : MailFile → Bool
+is_taken s = s.is_gone
 
 -- it is in the folder, and no reader took it away
 abbrev pub is_told : Folder → MailFile → Bool
@@ -103,6 +108,7 @@ Each Does (s ∷ ss) (t ∷ ts) = Does s t × Each Does ss ts
 pub record Moved (old new : Directories) : Type 0 where
   pub there : new.there ≡ old.there
   pub made : new.made ≡ old.made
+  pub taken : new.taken ≡ old.taken
   pub moves : Each MovesFile old.entries new.entries
   pub rests : (folder : Folder) → rests_in folder new ≡ true
       → (rests_in folder old ≡ true) × Each (RestsFile folder) old.entries new.entries
@@ -111,6 +117,7 @@ pub record Moved (old new : Directories) : Type 0 where
 pub record OneMoves (old : Directories) (front back : List MailFile) (s t : MailFile) (new : Directories) : Type 0 where
   pub there : new.there ≡ old.there
   pub made : new.made ≡ old.made
+  pub taken : new.taken ≡ old.taken
   pub before : old.entries ≡ front ++ s ∷ back
   pub after : new.entries ≡ front ++ t ∷ back
   pub moves : MovesFile s t
@@ -134,6 +141,7 @@ maildir_in d begun failures = record {
   files = files_at d.entries;
   begun = option_map (λ name. file name (content_made d.made)) begun;
   failures = failures;
+  taken = d.taken;
 }
 
 -- folders of which nothing is known
@@ -144,6 +152,7 @@ unknown_directories = record {
   new_rests = false;
   cur_rests = false;
   made = None;
+  taken = [];
 }
 
 -- a Maildir of which nothing is known; no file is being written and no call was refused

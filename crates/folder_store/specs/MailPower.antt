@@ -30,6 +30,7 @@ pub record LosesMail (old new : Directories) : Type 0 where
   pub there : new.there ≡ old.there
   pub each : AreLeftAs old.entries new.entries
   pub made : new.made ≡ None
+  pub taken : new.taken ≡ old.taken
 
 -- ---- what stays and what outlives
 

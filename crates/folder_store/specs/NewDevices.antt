@@ -38,7 +38,7 @@ LeftMaildirsStay {D} disk folders = (old left : Directories) (device : D) → Lo
 
 -- a law: if the bytes of each file were on the disk, they are once files were flushed
 abbrev pub FlushingKeepsFlushed : Type 0
-FlushingKeepsFlushed = (old new : Directories) (stems : List (String Global)) (r : Result (Unit {0}) StoreFault)
+FlushingKeepsFlushed = (old new : Directories) (stems : List (String Global)) (r : Result Bool StoreFault)
     → Then (FlushesFiles stems r) old new → KeepsFlushed old new
 
 -- ---- a file

@@ -1,6 +1,6 @@
 //! The names of a folder, listed exactly although others rename files in it meanwhile.
 
-ghost use Rattle.std.specs.Prelude.{◌≡◌};
+ghost use Rattle.std.specs.Prelude.{◌≡◌, ◌≢◌, pos};
 ghost use Rattle.std.specs.Duration.{as_nanos};
 ghost use Rattle.folder_store.specs.ExactListing.{IsListing, left_of};
 
@@ -48,7 +48,10 @@ impl ChangeTime {
     }
 
     /// How long a folder must be at rest so that a later change gives it another time than this.
-    fn step(self) -> Duration {
+    fn step(self) -> Duration
+        ensures whole { self.nanoseconds ≡ pos 0 → as_nanos result ≡ 1_020_000_000 }
+        ensures finer { self.nanoseconds ≢ pos 0 → as_nanos result ≡ 20_000_000 }
+    {
         Duration::from_millis(if self.nanoseconds == 0 {
             STEP_OF_SECONDS_MILLIS
         } else {

@@ -111,6 +111,23 @@ impl<'a, F: FileFolder + Drop> HostFile<'a, F> {
 }
 
 impl<'a, R: Files + AllocGlobal> HostFile<'a, HostFolder<'a, R>> {
+    /// Whether something is kept of what was cut off from the file, by this run or an earlier one.
+    pub fn has_rests(&self) -> bool {
+        match &self.rests {
+            Some(rests) => {
+                let (folder, name) = rests.place();
+                folder.has_octets(name)
+            }
+            None => false,
+        }
+    }
+
+    /// The path of a folder of the file whose names weren't flushed because the system flushes no folders, if
+    /// there is one.
+    pub fn unflushed(&self) -> Option<String> {
+        self.folder.unflushed()
+    }
+
     /// The file at a path, absolute or taken from the working folder. There need be none. What is
     /// appended is flushed once, which suits long texts whose writer finds and cuts off what a loss of
     /// power left of one.
@@ -162,7 +179,8 @@ impl<'a, R: Files + AllocGlobal> HostFile<'a, HostFolder<'a, R>> {
     /// with all of it.
     pub fn drop_ours(&self) {
         if let Some(rests) = &self.rests {
-            if let Some((folder, name)) = rests.ours() {
+            if rests.are_ours() {
+                let (folder, name) = rests.place();
                 folder.remove(name);
             }
         }

@@ -29,6 +29,31 @@ pub struct Changed<F: Drop> {
     pub name: String,
 }
 
+/// A folder itself, open, and which one it is.
+#[derive(Drop)]
+pub struct Names<F: Drop> {
+    folder: F,
+    device: u64,
+    inode: u64,
+}
+
+impl<F: OpenFile + Drop> Names<F> {
+    /// The names of an open folder.
+    pub fn of(folder: F) -> io::Result<Names<F>> {
+        let found = folder.metadata()?;
+        Ok(Names {
+            folder,
+            device: found.dev(),
+            inode: found.ino(),
+        })
+    }
+
+    /// Whether this is the folder that the system reports.
+    pub fn is_of(&self, found: &Metadata) -> bool {
+        self.device == found.dev() && self.inode == found.ino()
+    }
+}
+
 /// The files of a folder that are open, and how a watched one was left.
 #[derive(Drop)]
 pub struct Handles<F: Drop> {
@@ -42,7 +67,9 @@ pub struct Handles<F: Drop> {
     /// How the watched file was seen first, or left by the last change here.
     left: Option<FileState>,
     /// The folder itself, from its first flush on.
-    names: Option<F>,
+    names: Option<Names<F>>,
+    /// Whether the system flushes no folders, so that the names may not be on the disk.
+    is_unflushed: bool,
 }
 
 impl<F: Drop> Handles<F> {
@@ -55,6 +82,7 @@ impl<F: Drop> Handles<F> {
             watches,
             left: None,
             names: None,
+            is_unflushed: false,
         }
     }
 
@@ -103,8 +131,13 @@ impl<F: Drop> Handles<F> {
     }
 
     /// The folder itself, if it is open. It is taken out.
-    pub fn take_names(&mut self) -> Option<F> {
+    pub fn take_names(&mut self) -> Option<Names<F>> {
         self.names.take()
+    }
+
+    /// Whether the names weren't flushed, because the system flushes no folders.
+    pub fn is_unflushed(&self) -> bool {
+        self.is_unflushed
     }
 }
 
@@ -207,9 +240,9 @@ impl<F: OpenFile + Drop> Handles<F> {
     }
 
     /// Flushes the names of the folder, which stays open unless that is refused.
-    pub fn sync_names(&mut self, folder: F, refusals: &Refusals) -> io::Result<()> {
-        flush_folder(&folder, refusals)?;
-        self.names = Some(folder);
+    pub fn sync_names(&mut self, names: Names<F>, refusals: &Refusals) -> io::Result<()> {
+        self.is_unflushed |= !flush_folder(&names.folder, refusals)?;
+        self.names = Some(names);
         Ok(())
     }
 }

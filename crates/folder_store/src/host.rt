@@ -6,7 +6,7 @@ ghost use Rattle.folder_store.specs.FileFolder.{unknown_directory};
 
 use crate::device::FileFolder;
 use crate::exact_listing::{FolderNames, list_names};
-use crate::handles::{Changed, Handles, bytes_in, piece_in};
+use crate::handles::{Changed, Handles, Names, bytes_in, piece_in};
 use crate::host_paths::HostPaths;
 use crate::process_mark::ProcessMark;
 use crate::system::{folder_of, make_file, sweep};
@@ -18,6 +18,9 @@ use std::os::unix::fs::MetadataExt;
 use std::rt::Files;
 use std::time::Clock;
 use trace::{Noted, Refusals, System};
+
+/// Why what a name leads to isn't used.
+const IRREGULAR: &str = "not a regular file";
 
 /// A folder of the machine's file system. Nothing is known of what the system does. Each call asks the
 /// system for one or two things, so that a reader can compare it with what the trait says.
@@ -104,7 +107,7 @@ impl<'a, R: Files + AllocGlobal> HostFolder<'a, R> {
         let path = self.paths.path_of(name)?;
         let found = self.system.stat(path.as_str())?;
         if !found.is_file() && !found.is_dir() {
-            return Err(self.paths.refuse(name, "not a regular file"));
+            return Err(self.paths.refuse(name, IRREGULAR));
         }
         Ok(path)
     }
@@ -119,12 +122,39 @@ impl<'a, R: Files + AllocGlobal> HostFolder<'a, R> {
         self.system.stat(self.paths.folder_path()?.as_str())
     }
 
-    // Whether a name leads to a file.
-    pub(crate) fn has(&self, name: &str) -> Result<bool, StoreFault> {
+    // Whether what has a name is a regular file, if there is something, which is noted: it is in the place
+    // of another file.
+    pub(crate) fn is_file(&self, name: &str) -> Result<Option<bool>, StoreFault> {
         match answer_of(self.system.refusals, self.look_up(name)) {
-            Ok(_) => Ok(true),
-            Err(StoreFault::Missing) => Ok(false),
+            Ok(found) => {
+                let is_file = found.is_file();
+                let words = if is_file {
+                    "is there already"
+                } else {
+                    IRREGULAR
+                };
+                self.paths.refuse(name, words);
+                Ok(Some(is_file))
+            }
+            Err(StoreFault::Missing) => Ok(None),
             Err(fault) => Err(fault),
+        }
+    }
+
+    /// Whether there is a file of a name that has octets.
+    pub fn has_octets(&self, name: &str) -> bool {
+        match self.look_up(name) {
+            Ok(found) => !found.is_dir() && found.len() > 0,
+            Err(_) => false,
+        }
+    }
+
+    /// The path of the folder, if its names weren't flushed because the system flushes no folders.
+    pub fn unflushed(&self) -> Option<String> {
+        if self.handles.is_unflushed() {
+            self.paths.folder_path().ok()
+        } else {
+            None
         }
     }
 
@@ -225,25 +255,48 @@ impl<'a, R: Files + AllocGlobal> HostFolder<'a, R> {
         self.open_regular(name)?.sync_all()
     }
 
-    // Flushes a file's bytes, and says whether there was such a file.
+    // Flushes the bytes of a regular file, or of one that a link leads to, and says whether the name is
+    // still there. It is refused if the name stands for anything else.
     pub(crate) fn sync_if_there(&self, name: &str) -> io::Result<bool> {
-        match self.open_regular(name) {
-            Ok(file) => {
-                file.sync_all()?;
-                Ok(true)
+        let file = match self.open_regular(name) {
+            Err(fault) if fault.kind() == ErrorKind::NotFound => {
+                self.check_gone(name)?;
+                return Ok(false);
             }
-            Err(fault) if fault.kind() == ErrorKind::NotFound => Ok(false),
-            Err(fault) => Err(fault),
+            answer => answer?,
+        };
+        if file.metadata()?.is_dir() {
+            return Err(self.paths.refuse(name, IRREGULAR));
+        }
+        file.sync_all()?;
+        Ok(true)
+    }
+
+    // What leads to nothing has gone, or is a link, which is refused.
+    fn check_gone(&self, name: &str) -> io::Result<()> {
+        match self.look_up(name) {
+            Ok(found) if found.is_symlink() => {
+                Err(self.paths.refuse(name, "a link that leads nowhere"))
+            }
+            Err(fault) if fault.kind() != ErrorKind::NotFound => Err(fault),
+            _ => {
+                self.system.refusals.forget();
+                Ok(())
+            }
         }
     }
 
-    // The folder is opened once, and again after a fault.
+    // The folder is opened once, and again after a fault, and if its path leads to another one by now:
+    // files are put there by their paths.
     pub(crate) fn sync_names(&mut self) -> io::Result<()> {
-        let folder = match self.handles.take_names() {
-            Some(folder) => folder,
-            None => self.system.open(self.paths.folder_path()?.as_str())?,
-        };
-        self.handles.sync_names(folder, self.system.refusals)
+        let path = self.paths.folder_path()?;
+        if let Some(names) = self.handles.take_names() {
+            if names.is_of(&self.system.stat(path.as_str())?) {
+                return self.handles.sync_names(names, self.system.refusals);
+            }
+        }
+        let names = Names::of(self.system.open(path.as_str())?)?;
+        self.handles.sync_names(names, self.system.refusals)
     }
 }
 

@@ -5,11 +5,13 @@ ghost use Rattle.folder_store.specs.MailFolders.{unknown_directories};
 
 use crate::device::FileFolder;
 use crate::exact_listing::{ChangeTime, FolderNames};
+use crate::flush_pass::{Found, unsettled};
 use crate::host::{HostFolder, answer_of};
 use crate::mail_folders::MailFolders;
 use crate::process_mark::ProcessMark;
 use mail_store::{Folder, StoreFault, stem};
-use std::collections::BTreeMap;
+use std::alloc::{AllocError, Global};
+use std::collections::BTreeSet;
 use std::io;
 use std::rt::Files;
 use std::time::{Clock, Duration};
@@ -38,6 +40,8 @@ pub struct HostFolders<'a, R: Files> {
     cur_folder: ListedFolder<'a, R>,
     /// When the folders were first listed for the present answer, by the clock that never goes back.
     start: Duration,
+    /// Whether a call was refused because of what bears the name of a message.
+    is_obstructed: bool,
 }
 
 impl<'a, R: Files + AllocGlobal> ListedFolder<'a, R> {
@@ -68,6 +72,7 @@ impl<'a, R: Files + Clock + AllocGlobal + Clone + Drop> HostFolders<'a, R> {
             new_folder: ListedFolder::of_maildir(system, path, "new", mark),
             cur_folder: ListedFolder::of_maildir(system, path, "cur", mark),
             start: Duration::ZERO,
+            is_obstructed: false,
         }
     }
 
@@ -77,34 +82,56 @@ impl<'a, R: Files + Clock + AllocGlobal + Clone + Drop> HostFolders<'a, R> {
         self.new_folder.host.sweep(front);
     }
 
-    // Flushes the files of a folder that have one of these stems, unless an earlier pass found one.
-    fn sync_in(
-        &self,
-        host: &HostFolder<'a, R>,
-        found: &mut BTreeMap<&str, u32>,
-        pass: u32,
-    ) -> io::Result<()> {
-        for name in &host.read_names()?.names {
-            let Some(at) = found.get_mut(stem(name.as_str())) else {
-                continue;
-            };
-            if (*at == 0 || *at == pass) && host.sync_if_there(name.as_str())? {
-                *at = pass;
-            }
-        }
-        Ok(())
+    /// Whether a call was refused because of what bears the name of a message.
+    pub fn is_obstructed(&self) -> bool {
+        self.is_obstructed
     }
 
-    // Flushes the files that have one of these stems. False if one of the stems has none.
-    fn sync_all_of(&self, stems: &[String]) -> io::Result<bool> {
-        let mut found = BTreeMap::new(self.system.alloc());
-        for stem in stems {
-            found.insert(stem.as_str(), 0)?;
+    /// The path of a folder whose names weren't flushed because the system flushes no folders, if there is
+    /// one.
+    pub fn unflushed(&self) -> Option<String> {
+        match self.new_folder.host.unflushed() {
+            None => self.cur_folder.host.unflushed(),
+            path => path,
         }
-        for pass in 1..=MOST_PASSES {
-            self.sync_in(&self.new_folder.host, &mut found, pass)?;
-            self.sync_in(&self.cur_folder.host, &mut found, pass)?;
-            if found.values().all(|at| *at != 0) {
+    }
+
+    // Flushes the files with one of these stems that both folders have at one moment. If `new` changed
+    // while they were listed, a reader may have moved one past the listing: then none counts as found.
+    fn sync_pass(&mut self, stems: &[&str]) -> io::Result<Vec<Found>> {
+        let in_new = self.new_folder.host.read_names()?;
+        let in_cur = self.cur_folder.host.read_names()?;
+        let now = self.new_folder.host.look_at_folder()?;
+        if ChangeTime::of(&in_new.folder) != ChangeTime::of(&now) {
+            return Ok(Vec::new(self.system.alloc()));
+        }
+        let answer = self.sync_listed(in_new.names, in_cur.names, stems);
+        self.is_obstructed = answer.is_err();
+        answer
+    }
+
+    // Flushes those that have one of these stems among the files with these names in `new` and in `cur`.
+    fn sync_listed(
+        &self,
+        in_new: Vec<String>,
+        in_cur: Vec<String>,
+        stems: &[&str],
+    ) -> io::Result<Vec<Found>> {
+        let mut found = Vec::new(self.system.alloc());
+        let stems = set_of(self.system.alloc(), stems)?;
+        sync_named(&self.new_folder.host, in_new, &stems, &mut found)?;
+        sync_named(&self.cur_folder.host, in_cur, &stems, &mut found)?;
+        Ok(found)
+    }
+
+    // Flushes the files that have one of these stems. False if one of the stems has none, or readers move
+    // its files all the time.
+    fn sync_all_of(&mut self, stems: &[String]) -> io::Result<bool> {
+        let mut left = texts_of(self.system.alloc(), stems)?;
+        for _ in 0..MOST_PASSES {
+            let found = self.sync_pass(&left)?;
+            left = unsettled(self.system.alloc(), &left, &found)?;
+            if left.is_empty() {
                 return Ok(true);
             }
         }
@@ -117,6 +144,38 @@ impl<'a, R: Files + Clock + AllocGlobal + Clone + Drop> HostFolders<'a, R> {
             Folder::Cur => &mut self.cur_folder,
         }
     }
+}
+
+fn texts_of(alloc: Global, texts: &[String]) -> Result<Vec<&str>, AllocError> {
+    let mut all = Vec::new(alloc);
+    for text in texts {
+        all.push(text.as_str())?;
+    }
+    Ok(all)
+}
+
+fn set_of<'b>(alloc: Global, texts: &[&'b str]) -> Result<BTreeSet<&'b str>, AllocError> {
+    let mut all = BTreeSet::new(alloc);
+    for text in texts {
+        all.insert(*text)?;
+    }
+    Ok(all)
+}
+
+/// Flushes those of a folder's files that have one of these stems.
+fn sync_named<R: Files + AllocGlobal>(
+    host: &HostFolder<'_, R>,
+    names: Vec<String>,
+    stems: &BTreeSet<&str>,
+    found: &mut Vec<Found>,
+) -> io::Result<()> {
+    for name in names {
+        if stems.contains(stem(name.as_str())) {
+            let is_flushed = host.sync_if_there(name.as_str())?;
+            found.push(Found { name, is_flushed })?;
+        }
+    }
+    Ok(())
 }
 
 impl<'a, R: Files + Clock + AllocGlobal + Clone + Drop> MailFolders for HostFolders<'a, R> {
@@ -171,21 +230,22 @@ impl<'a, R: Files + Clock + AllocGlobal + Clone + Drop> MailFolders for HostFold
     }
 
     fn has(&mut self, name: &str) -> Result<bool, StoreFault> {
-        self.new_folder.host.has(name)
+        let is_file = self.new_folder.host.is_file(name)?;
+        self.is_obstructed = is_file == Some(false);
+        Ok(is_file.is_some())
     }
 
     // A file that a reader moves meanwhile is looked up again.
-    fn flush_files(&mut self, stems: &[String]) -> Result<(), StoreFault> {
-        match answer_of(self.system.refusals, self.sync_all_of(stems)) {
-            Ok(true) => Ok(()),
-            Ok(false) => {
-                self.new_folder
-                    .host
-                    .refuse_folder("a file to be flushed went away");
-                Err(StoreFault::Refused)
-            }
-            Err(fault) => Err(fault),
+    fn flush_files(&mut self, stems: &[String], may_miss: bool) -> Result<bool, StoreFault> {
+        let answer = self.sync_all_of(stems);
+        let are_flushed = answer_of(self.system.refusals, answer)?;
+        if are_flushed || may_miss {
+            return Ok(are_flushed);
         }
+        self.new_folder
+            .host
+            .refuse_folder("files to be flushed go away all the time");
+        Err(StoreFault::Refused)
     }
 
     fn make(&mut self, name: &str) -> Result<(), StoreFault> {

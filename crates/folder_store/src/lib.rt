@@ -5,6 +5,7 @@ mod device;
 mod exact_listing;
 mod file;
 mod file_state;
+mod flush_pass;
 mod handles;
 mod host;
 mod host_folders;

@@ -9,7 +9,7 @@ use mail_store::{Folder, StoreFault};
 /// A file is made without a name in the two, at a place that no other call sees, and then put into
 /// `new` at one step. No call removes a file that has a name.
 pub trait MailFolders {
-    ghost use Rattle.std.specs.Prelude.{◌≡◌, IfErr};
+    ghost use Rattle.std.specs.Prelude.{◌≡◌, false, true, IfErr, Ok};
     ghost use Rattle.mail_store.specs.Fault.{IsDeviceFault};
     ghost use Rattle.folder_store.specs.MailFolders.{Directories};
     ghost use Rattle.folder_store.specs.MailCalls.{ChecksIn, FlushesDraft, FlushesFiles, FlushesNamesIn};
@@ -52,10 +52,11 @@ pub trait MailFolders {
             × Then (LooksUpNew name.now result) (directories self.old) (directories self.new) };
 
     /// Flushes the bytes of each file whose name has one of these stems, whichever folder it is in by
-    /// now. Refused also if one of them has no file.
-    fn flush_files(&mut self, stems: &[String]) -> Result<(), StoreFault>
-        ensures { sound self.new → sound self.old
-            × Then (FlushesFiles stems.now result) (directories self.old) (directories self.new) };
+    /// now. False, only if `may_miss`, if one of them has no file: then nothing is known of the others.
+    fn flush_files(&mut self, stems: &[String], may_miss: bool) -> Result<bool, StoreFault>
+        ensures flushes { sound self.new → sound self.old
+            × Then (FlushesFiles stems.now result) (directories self.old) (directories self.new) }
+        ensures misses { result ≡ Ok false → may_miss ≡ true };
 
     /// Makes a file, which its owner alone can read. The name tells it from others that were made.
     /// Missing if the place for such files isn't there.

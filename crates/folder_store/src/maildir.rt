@@ -80,6 +80,17 @@ impl<'a, R: Files + Clock + AllocGlobal + Clone + Drop> FolderMaildir<HostFolder
             self.folders.sweep(front.as_str());
         }
     }
+
+    /// Whether a call was refused because of what bears the name of a message.
+    pub fn is_obstructed(&self) -> bool {
+        self.folders.is_obstructed()
+    }
+
+    /// The path of a folder whose names weren't flushed because the system flushes no folders, if there is
+    /// one.
+    pub fn unflushed(&self) -> Option<String> {
+        self.folders.unflushed()
+    }
 }
 
 /// Whether a name stands for a file of the folder itself that readers of a Maildir look at: it
@@ -112,11 +123,11 @@ impl<F: MailFolders + Drop> MaildirDisk for FolderMaildir<F> {
         tally(&mut self.failures, self.folders.check(folder))
     }
 
-    fn flush(&mut self, stems: &[String]) -> Result<(), StoreFault> {
+    fn flush(&mut self, stems: &[String], may_miss: bool) -> Result<bool, StoreFault> {
         marks_keep_the_base();
         admit(&self.failures)?;
-        match self.folders.flush_files(stems) {
-            Ok(()) => Ok(()),
+        match self.folders.flush_files(stems, may_miss) {
+            Ok(are_flushed) => Ok(are_flushed),
             Err(_) => Err(refuse(&mut self.failures)),
         }
     }

@@ -57,13 +57,14 @@ impl<'a, F> Rests<'a, F> {
         self.has_kept && !self.are_ours
     }
 
-    /// The folder and the name, if bytes that were appended since have all that is kept.
-    pub fn ours(&self) -> Option<(&F, &str)> {
-        if self.are_ours {
-            Some((&self.folder, self.name))
-        } else {
-            None
-        }
+    /// The folder and the name.
+    pub fn place(&self) -> (&F, &str) {
+        (&self.folder, self.name)
+    }
+
+    /// Whether bytes that were appended since have all that this run kept.
+    pub fn are_ours(&self) -> bool {
+        self.are_ours
     }
 }
 

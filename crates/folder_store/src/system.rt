@@ -25,19 +25,20 @@ pub fn make_file<'a, R: Files + AllocGlobal>(
     )
 }
 
-/// Flushes the names of a folder to the disk, so that they outlive a loss of power. A system that
-/// flushes no folders answers Ok.
-pub fn flush_folder<F: OpenFile>(folder: &F, refusals: &Refusals) -> io::Result<()> {
+/// Flushes the names of a folder to the disk, so that they outlive a loss of power. False if the system
+/// flushes no folders, which is no fault.
+pub fn flush_folder<F: OpenFile>(folder: &F, refusals: &Refusals) -> io::Result<bool> {
     match folder.sync_all() {
+        Ok(()) => Ok(true),
         Err(fault)
             if matches!(
                 fault.kind(),
                 ErrorKind::InvalidInput | ErrorKind::Unsupported
             ) => {
             refusals.forget();
-            Ok(())
+            Ok(false)
         }
-        answer => answer,
+        Err(fault) => Err(fault),
     }
 }
 

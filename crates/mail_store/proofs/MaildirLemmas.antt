@@ -1,10 +1,10 @@
 -- Names of files and what they hold; files that a Maildir in memory keeps in two folders; which stems are flushed.
-use Rattle.std.proofs.Common.{◌≡◌, ℕ, zero, suc, ◌/◌, ◌%◌, ◌==◌, ◌<◌, Bool, true, false, List, [], ◌∷◌, ◌++◌, length, get_or, slice_index, refl, sym, ap, ◌∙◌, arith, Ok, inl, inr, All, not, codes, subst, ◌+◌, ◌≤◌, take, drop, map, String, Vec, string_bytes, remove, insert, set, HoldsAt, Contains, ◌≢◌, IsPermutation, ◌||◌, ◌&&◌, bytes_eq, Result, Err, below_more}
+use Rattle.std.proofs.Common.{◌≡◌, ⊎_elim, cond, ℕ, zero, suc, ◌/◌, ◌%◌, ◌==◌, ◌<◌, Bool, true, false, List, [], ◌∷◌, ◌++◌, length, get_or, slice_index, refl, sym, ap, ◌∙◌, arith, Ok, inl, inr, All, not, codes, subst, ◌+◌, ◌≤◌, take, drop, map, String, Vec, string_bytes, remove, insert, set, HoldsAt, Contains, ◌≢◌, IsPermutation, ◌||◌, ◌&&◌, bytes_eq, Result, Err, below_more}
 use Rattle.std.specs.List.{AllPass, before_first, position_or_len, list_any}
 use Rattle.std.specs.Fmt.{decimal, digits, digits_onto, digit_glyph}
 use Rattle.std.proofs.lemmas.Bool.{cases_lt, cond_both, both_ways}
-use Rattle.std.proofs.lemmas.List.{append_cancel_left, take_all, take-append-le, get_or-take, get_or_past, length-take, append_assoc, map-append, length-map, length-append, get_or-map, length-take-le, take_more, take-append-drop}
-use Rattle.std.proofs.lemmas.List.Elements.{All-nil, All-cons, All-append, All-from_recursion, All-map, Contains-append_left, Contains-append_right, Contains-get_or}
+use Rattle.std.proofs.lemmas.List.{append-nil, append_cancel_left, take_all, take-append-le, get_or-take, get_or_past, length-take, append_assoc, map-append, length-map, length-append, get_or-map, length-take-le, take_more, take-append-drop}
+use Rattle.std.proofs.lemmas.List.Elements.{filter-append, All-nil, All-cons, All-append, All-from_recursion, All-map, Contains-append_left, Contains-append_right, Contains-get_or}
 use Rattle.std.proofs.lemmas.List.Sums.{AllPass-from_list_all, fails_before_first, position_or_len_is, prefix_len-le-length}
 use Rattle.std.proofs.lemmas.List.Folds.{prefix_len-append, list_any-append, list_any_at, Any-from_list_any}
 use Rattle.std.proofs.lemmas.Bool.Decides.{nat_tests}
@@ -22,13 +22,14 @@ use Rattle.mail_terms.specs.UniqueId.{IsLegalId, HasIdRanges}
 use Rattle.mail_terms.specs.MaildirName.{base, is_colon}
 use Rattle.mail_terms.specs.Listing.{Item, has_item, is_flagged}
 use Rattle.mail_store.specs.FileName.{account_text, is_comma, is_lower_hex_digit, name_of, stem, stem_of, IsAccountText, mail_file, names_id, is_held}
-use Rattle.mail_store.specs.Maildir.{File, file_of, name_in, names_of, bases_told, AreTheirs, IsPart, Maildir, IsThere, with_file, file}
+use Rattle.mail_store.specs.Maildir.{AfterTaking, File, file_of, name_in, names_of, bases_told, AreTheirs, Maildir, IsThere, IsWithout, WereTaken, with_file, file}
 use Rattle.mail_store.specs.declared.maildir.disk.Folder.{Folder}
 use Rattle.mail_store.specs.declared.maildir.disk.Folder.TheVariants.{New, Cur}
 use Rattle.mail_store.specs.MemoryMaildir.{TwoFolders, count, files_of_folder, merged, shown}
-use Rattle.mail_store.specs.Held.{any_name, flags_of, FoundOutlive, HasLasting, HasStem, HasStems}
+use Rattle.mail_store.specs.Held.{Finds, any_name, flags_of, FoundOutlive, HasLasting, HasStem, HasStems}
 use Rattle.mail_store.specs.declared.fault.StoreFault.{StoreFault}
-use Rattle.mail_store.specs.Power.{AllStay, FlushedOutlive, is_among}
+use Rattle.mail_store.specs.declared.fault.StoreFault.TheVariants.{Missing, Refused, NotMbox, NoMemory}
+use Rattle.mail_store.specs.Power.{AllStay, FlushedOutlive, KeepsLeft, count_named, is_among}
 
 -- ---- digits
 
@@ -318,9 +319,60 @@ names_tell_both files in_new in_cur names both told =
 
 -- ---- files that readers took away
 
-pub part_same : (files : List File) → IsPart files files
-part_same [] = refl
-part_same (f ∷ files) = inr (files, refl, part_same files)
+pub none_taken : (maildir : Maildir) → WereTaken maildir maildir
+none_taken maildir = record { gone = []; files = refl; is = rw append-nil refl }
+
+-- what was taken first, and then of the rest
+without_on : (first next files mid left : List File) → IsWithout files first mid → IsWithout mid next left → IsWithout files (first ++ next) left
+without_on [] next files mid left e second = subst (λ (fs : List File). IsWithout fs next left) e second
+without_on (f ∷ first) next files mid left (front, back, e, is) second = (front, back, e, without_on first next (front ++ back) mid left is second)
+
+taken_on : (a b c : Maildir) → WereTaken a b → WereTaken b c → WereTaken a c
+taken_on a b c first next = record {
+  gone = first.gone ++ next.gone;
+  files = without_on first.gone next.gone a.files b.files c.files first.files next.files;
+  is = next.is ∙ ap (λ (m : Maildir). record m { files = c.files; taken = m.taken ++ next.gone }) first.is
+      ∙ ap (λ (taken : List File). record a { files = c.files; taken = taken }) (append_assoc a.taken first.gone next.gone);
+}
+
+counts_on : (name : List ℕ) (xs ys : List File) → count_named name (xs ++ ys) ≡ count_named name xs + count_named name ys
+counts_on name xs ys = rw (filter-append, length-append) refl
+
+-- what is left has no more files of a name
+without_counts : (name : List ℕ) (gone files left : List File) → IsWithout files gone left → count_named name left ≤ count_named name files
+without_counts name [] files left is = rw is (omega arith)
+without_counts name (f ∷ gone) files left (front, back, e, is) = rw e (
+    omega (arith, without_counts name gone (front ++ back) left is, counts_on name front back, counts_on name front (f ∷ back), counts_on name (f ∷ []) back))
+
+taken_counts : (name : List ℕ) (a b : Maildir) → WereTaken a b → count_named name b.files ≤ count_named name a.files
+taken_counts name a b is = without_counts name is.gone a.files b.files is.files
+
+-- what is held of what readers left twice
+pub finds_on : {B : Type 0} (account : List ℕ) (items : List Item) (old mid new : Maildir) (r : Result (Vec Bool B) StoreFault)
+    → WereTaken old mid → AfterTaking mid (λ m. Finds account m items r new) → AfterTaking old (λ m. Finds account m items r new)
+finds_on account items old mid new r first (left, next, finds) = (left, taken_on old mid left first next, finds)
+
+pub finds_files : {B : Type 0} (account : List ℕ) (old : Maildir) (items : List Item) (r : Result (Vec Bool B) StoreFault) (new : Maildir)
+    → Finds account old items r new → new.files ≡ old.files
+finds_files account old items (Ok flags) new finds = ap (λ (m : Maildir). m.files) finds.1
+finds_files account old items (Err Missing) new finds = ap (λ (m : Maildir). m.files) finds.1
+finds_files account old items (Err Refused) new finds = ap (λ (m : Maildir). m.files) finds
+finds_files account old items (Err NotMbox) new finds = absurd finds
+finds_files account old items (Err NoMemory) new finds = ap (λ (m : Maildir). m.files) finds
+
+-- what a second call keeps of what a first one kept
+pub left_on : {stays mid_stays new_stays : List ℕ → Type 0} {outlives mid_outlives new_outlives : File → Type 0} (old mid left : Maildir) (new : List File)
+    → WereTaken old mid → WereTaken mid left → new ≡ left.files
+    → KeepsLeft old.files mid.files stays outlives mid_stays mid_outlives
+    → KeepsLeft mid.files new mid_stays mid_outlives new_stays new_outlives → KeepsLeft old.files new stays outlives new_stays new_outlives
+left_on old mid left new first next e keeps then =
+    let before = λ (name : List ℕ). taken_counts name old mid first in
+    let after : (name : List ℕ) → count_named name new ≤ count_named name mid.files = λ name. rw e (taken_counts name mid left next) in (
+      λ name s. ⊎_elim (λ m. ⊎_elim inl (λ took. inr (omega (arith, took, before name))) (then.0 name m))
+          (λ took. inr (omega (arith, took, after name))) (keeps.0 name s),
+      λ f s. ⊎_elim (λ m. ⊎_elim inl (λ took. inr (omega (arith, took, before f.name))) (then.1 f m))
+          (λ took. inr (omega (arith, took, after f.name))) (keeps.1 f s),
+    )
 
 pub same_digits : (account a b : List ℕ) → bytes_eq (account ++ 46 ∷ a) (account ++ 46 ∷ b) ≡ bytes_eq a b
 same_digits account a b = grind (arith, bytes_eq-Decides (account ++ 46 ∷ a) (account ++ 46 ∷ b), bytes_eq-Decides a b, append_cancel_left {A = ℕ})
@@ -394,7 +446,7 @@ stems_more account items held flags i stems x uid has at is = below_more (HasSte
 
 -- the files of these stems were flushed, so that of each id whose stem is among them a file outlives a loss of power
 pub flushed_lasts : {A : Type 0} (account : List ℕ) (maildir : Maildir) (stems : List (String A)) (stays : List ℕ → Type 0) (outlives : File → Type 0)
-    → AllStay maildir stays → FlushedOutlive {T = Unit {0}} maildir stems (Ok tt) stays outlives
+    → AllStay maildir stays → FlushedOutlive maildir stems (Ok true) stays outlives
     → (uid : List ℕ) → is_among stems (stem_of account uid) ≡ true → is_held account maildir uid ≡ true → HasLasting account maildir outlives uid
 flushed_lasts account maildir stems stays outlives all flushed uid among held =
     let of = Any-from_list_any (λ (f : File). names_id account uid f.name) maildir.files held in
@@ -414,10 +466,9 @@ found_outlive account maildir stems outlives lasts (item ∷ items) (flag ∷ fl
 found_outlive account maildir stems outlives lasts items flags has = tt
 
 -- all files of a device in memory outlive a loss of power
-pub all_outlive : {A T : Type 0} (maildir : Maildir) (stems : List (String A)) (r : Result T StoreFault)
-    → FlushedOutlive maildir stems r (λ _. Unit {0}) (λ _. Unit {0})
-all_outlive maildir stems (Ok done) = λ name there among here.
+pub all_outlive : {A : Type 0} (maildir : Maildir) (stems : List (String A))
+    → FlushedOutlive maildir stems (Ok true) (λ _. Unit {0}) (λ _. Unit {0})
+all_outlive maildir stems = λ name there among here.
     let none = file [] [] in
     let inside : there.0 < length maildir.files = omega (arith, there.1, length-map maildir.files name_in) in
     (get_or maildir.files there.0 none, Contains-get_or maildir.files there.0 none inside, sym (get_or-map name_in maildir.files there.0 none name inside) ∙ there.2, tt)
-all_outlive maildir stems (Err fault) = tt

@@ -22,13 +22,15 @@ pub record Folders : Type 0 where
   pub cur : Bool
 
 -- what is known of a Maildir: its folders, the files of `new` and `cur` together in the order in
--- which they came, the file that is being written in `tmp`, and how many calls were refused. A file
--- that a reader takes away is among the files until names are told again
+-- which they came, the file that is being written in `tmp`, how many calls were refused, and the
+-- files that readers took away, in the order in which that was seen. A file that a reader takes away
+-- is among the files until names are told again
 pub record Maildir : Type 0 where
   pub there : Folders
   pub files : List File
   pub begun : Option File
   pub failures : ℕ
+  pub taken : List File
 
 abbrev pub name_in : File → List ℕ
 name_in f = f.name
@@ -69,18 +71,24 @@ with_file old f = record old { files = old.files ++ f ∷ []; begun = None }
 abbrev pub name_begun : Maildir → Option (List ℕ)
 name_begun maildir = option_map name_in maildir.begun
 
+-- what is left of some files, in order, once these were taken from them, one after another
+abbrev pub IsWithout : List File → List File → List File → Type 0
+IsWithout files [] left = left ≡ files
+IsWithout files (f ∷ gone) left = (front back : List File) × (files ≡ front ++ f ∷ back) × IsWithout (front ++ back) gone left
+
 -- some of these files, in order
 abbrev pub IsPart : List File → List File → Type 0
-IsPart [] part = part ≡ []
-IsPart (f ∷ files) part = IsPart files part ⊎ ((rest : List File) × (part ≡ f ∷ rest) × IsPart files rest)
+IsPart files part = (gone : List File) × IsWithout files gone part
 
--- the Maildir with these files
-abbrev pub with_files : List File → Maildir → Maildir
-with_files files old = record old { files = files }
+-- readers were seen to have taken some files away: what is missing is what `taken` gained
+pub record WereTaken (old left : Maildir) : Type 0 where
+  pub gone : List File
+  pub files : IsWithout old.files gone left.files
+  pub is : left ≡ record old { files = left.files; taken = old.taken ++ gone }
 
--- since names were last told readers have taken some files away, and this holds of what they left
+-- this holds of what readers have left since names were last told
 abbrev pub AfterTaking : Maildir → (Maildir → Type 0) → Type 0
-AfterTaking old Does = (left : List File) × IsPart old.files left × Does (with_files left old)
+AfterTaking old Does = (left : Maildir) × WereTaken old left × Does left
 
 -- some file of `new` or `cur` has this name, with whatever marks
 abbrev pub IsThere : Maildir → List ℕ → Type 0

@@ -43,10 +43,10 @@ abbrev pub is_among : {A : Type 0} → List (String A) → List ℕ → Bool
 is_among texts text = list_any (λ other. bytes_eq text (string_bytes other)) texts
 
 -- `flush`: of each name that stays and has one of these stems a file that is there outlives a loss of power
-abbrev pub FlushedOutlive : {A T : Type 0} → Maildir → List (String A) → Result T StoreFault → (List ℕ → Type 0) → (File → Type 0) → Type 0
-FlushedOutlive maildir stems (Ok done) stays outlives = (name : List ℕ) → Contains (names_of maildir.files) name
+abbrev pub FlushedOutlive : {A : Type 0} → Maildir → List (String A) → Result Bool StoreFault → (List ℕ → Type 0) → (File → Type 0) → Type 0
+FlushedOutlive maildir stems (Ok true) stays outlives = (name : List ℕ) → Contains (names_of maildir.files) name
     → is_among stems (stem name) ≡ true → stays name → (f : File) × Contains maildir.files f × (f.name ≡ name) × outlives f
-FlushedOutlive maildir stems (Err fault) stays outlives = Unit {0}
+FlushedOutlive maildir stems answer stays outlives = Unit {0}
 
 -- each name that calls see stays
 abbrev pub AllStay : Maildir → (List ℕ → Type 0) → Type 0

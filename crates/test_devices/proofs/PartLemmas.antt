@@ -1,11 +1,10 @@
--- Parts of lists of files, and of bytes that may be left.
-use Rattle.std.proofs.Common.{◌+◌, ℕ, List, [], ◌∷◌, ◌++◌, refl, inr}
-use Rattle.mail_store.specs.Maildir.{File, IsPart}
+-- Files that readers took, and bytes that may be left.
+use Rattle.std.proofs.Common.{◌+◌, ℕ, List, [], ◌∷◌, ◌++◌, append-nil, refl}
+use Rattle.mail_store.specs.Maildir.{Maildir, WereTaken}
 use Rattle.mail_store.specs.Settling.{MayBeLeft}
 
-pub part_same : (files : List File) → IsPart files files
-part_same [] = refl
-part_same (f ∷ files) = inr (files, refl, part_same files)
+pub none_taken : (maildir : Maildir) → WereTaken maildir maildir
+none_taken maildir = record { gone = []; files = refl; is = rw append-nil refl }
 
 pub part_left : (place : ℕ) (part rest left : List ℕ) → MayBeLeft place part left → MayBeLeft place (part ++ rest) left
 part_left place part rest [] may = tt

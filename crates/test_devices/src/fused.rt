@@ -104,7 +104,7 @@ impl<D> Fused<D> {
 }
 
 impl<D: MaildirDisk> MaildirDisk for Fused<D> {
-    ghost use Rattle.std.specs.Prelude.{◌≡◌, ◌<◌, IfErr, IsSome, OnErr, OnOk, Some, None};
+    ghost use Rattle.std.specs.Prelude.{◌≡◌, ◌<◌, false, true, IfErr, IsSome, Ok, OnErr, OnOk, Some, None};
     ghost use Rattle.mail_terms.specs.FailureCount.{Tallies, refuses, greatest_count};
     ghost use Rattle.mail_store.specs.Fault.{IsDeviceFault};
     ghost use Rattle.mail_store.specs.Maildir.{AfterTaking, IsThere, Lists, ListsAll, Checks, Flushes, Begins, Adds, Settles};
@@ -164,7 +164,8 @@ impl<D: MaildirDisk> MaildirDisk for Fused<D> {
         self.tally(answer)
     }
 
-    fn flush(&mut self, stems: &[String]) -> Result<(), StoreFault>
+    fn flush(&mut self, stems: &[String], may_miss: bool) -> Result<bool, StoreFault>
+        ensures misses { result ≡ Ok false → may_miss ≡ true }
         ensures flushes { DiskDoes ⟦<Fused<D> as MaildirDisk>⟧ (λ old new. Flushes old result new) self.old self.new }
         ensures fault { IfErr result (λ e. e ≡ StoreFault.Refused) }
         ensures keeps { DiskKeeps ⟦<Fused<D> as MaildirDisk>⟧ self.old result self.new }
@@ -173,7 +174,7 @@ impl<D: MaildirDisk> MaildirDisk for Fused<D> {
         ensures fuse { Fuses (λ d. (D.maildir d).failures) self.old result self.new }
     {
         self.pass()?;
-        let answer = self.device.flush(stems);
+        let answer = self.device.flush(stems, may_miss);
         self.tally(answer)
     }
 

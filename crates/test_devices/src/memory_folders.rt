@@ -6,8 +6,8 @@ ghost use Rattle.std.specs.List.{filter};
 ghost use Rattle.mail_terms.specs.MaildirName.{base};
 ghost use Rattle.mail_store.specs.Maildir.{all_there};
 ghost use Rattle.mail_store.specs.Power.{is_among};
-ghost use Rattle.folder_store.specs.MailCalls.{flushed_by, named_by};
-ghost use Rattle.folder_store.specs.MailFolders.{Moved, MovesFile, entries_in, is_in, is_left, is_told, name_at, touches};
+ghost use Rattle.folder_store.specs.MailCalls.{flushed_by, named_by, without_taken};
+ghost use Rattle.folder_store.specs.MailFolders.{Moved, MovesFile, entries_in, is_in, is_taken, is_told, name_at, touches};
 ghost use Rattle.folder_store.specs.MailPower.{AreLeftAs, LosesMail};
 ghost use Rattle.test_devices.specs.MemoryFolders.{list_of, mail_file};
 
@@ -65,6 +65,7 @@ pub struct MemoryFolders {
     new_rests: bool,
     cur_rests: bool,
     made: Option<(Vec<u8>, bool)>,
+    taken: Vec<StoredMail>,
     steps: Vec<ReaderStep>,
     next: usize,
 }
@@ -72,7 +73,7 @@ pub struct MemoryFolders {
 impl Model for MemoryFolders {
     ghost use Rattle.std.specs.Prelude.{map, option_map};
     ghost use Rattle.mail_store.specs.Maildir.{all_there};
-    ghost use Rattle.folder_store.specs.MailFolders.{Directories};
+    ghost use Rattle.folder_store.specs.MailFolders.{Directories, files_at};
     ghost use Rattle.test_devices.specs.MemoryFolders.{draft_of, mail_file};
 
     ghost Value = { Directories };
@@ -83,6 +84,7 @@ impl Model for MemoryFolders {
       new_rests = m.new_rests;
       cur_rests = m.cur_rests;
       made = option_map draft_of m.made;
+      taken = files_at (map mail_file m.taken.items);
     } };
 }
 
@@ -174,6 +176,28 @@ fn add_left(left: &mut Vec<StoredMail>, file: Option<StoredMail>) -> Result<(), 
         }
         None => Ok(()),
     }
+}
+
+/// Appends a file, if a reader took it away.
+fn add_taken(taken: &mut Vec<StoredMail>, file: &StoredMail) -> Result<(), AllocError>
+    ensures { OnOk result (map mail_file taken.new.items ≡ map mail_file taken.old.items
+        ++ filter is_taken (mail_file file.now ∷ [])) }
+{
+    if file.is_gone {
+        taken.push(file.copy()?)?;
+    }
+    Ok(())
+}
+
+/// The files that a reader took away.
+fn taken_files(alloc: Global, files: &[StoredMail]) -> Result<Vec<StoredMail>, AllocError>
+    ensures { IfOk result (λ taken. map mail_file taken.items ≡ filter is_taken (map mail_file files.now)) }
+{
+    let mut taken = Vec::new(alloc);
+    for file in files {
+        add_taken(&mut taken, file)?;
+    }
+    Ok(taken)
 }
 
 /// Whether a folder still rests once a file was moved: it did, and the file wasn't and isn't there.
@@ -344,7 +368,14 @@ impl StoredMail {
 impl MemoryFolders {
     /// Folders without files, and what a reader does before each of the calls that follow.
     pub fn new(alloc: Global, steps: Vec<ReaderStep>) -> MemoryFolders
-        ensures { result ≡ record { there = all_there; entries = []; new_rests = false; cur_rests = false; made = None } }
+        ensures { result ≡ record {
+          there = all_there;
+          entries = [];
+          new_rests = false;
+          cur_rests = false;
+          made = None;
+          taken = [];
+        } }
     {
         MemoryFolders {
             alloc,
@@ -352,6 +383,7 @@ impl MemoryFolders {
             new_rests: false,
             cur_rests: false,
             made: None,
+            taken: Vec::new(alloc),
             steps,
             next: 0,
         }
@@ -438,11 +470,15 @@ impl MemoryFolders {
         self.cur_rests = still_rests(self.cur_rests, !was_new, !was_new);
     }
 
-    // Leaves out the files that the reader took away.
-    fn forget_taken(&mut self)
-        ensures { self.new ≡ record self.old { entries = filter is_left self.old.entries } }
+    // Leaves out the files that the reader took away. If memory runs out, nothing changes.
+    fn forget_taken(&mut self) -> Result<(), AllocError>
+        ensures ok { OnOk result (self.new ≡ without_taken self.old) }
+        ensures err { OnErr result (self.new ≡ self.old) }
     {
+        let mut taken = taken_files(self.alloc, &self.files)?;
+        self.taken.append(&mut taken)?;
         self.files.retain(|file| !file.is_gone);
+        Ok(())
     }
 }
 
@@ -462,7 +498,9 @@ impl MailFolders for MemoryFolders {
         let Ok(names) = names_in(self.alloc, &self.files, folder) else {
             return Err(StoreFault::Refused);
         };
-        self.forget_taken();
+        if let Err(_) = self.forget_taken() {
+            return Err(StoreFault::Refused);
+        }
         match folder {
             Folder::New => self.new_rests = true,
             Folder::Cur => self.cur_rests = true,
@@ -490,12 +528,12 @@ impl MailFolders for MemoryFolders {
         Ok(is_one_of(&names, name))
     }
 
-    fn flush_files(&mut self, stems: &[String]) -> Result<(), StoreFault> {
+    fn flush_files(&mut self, stems: &[String], _may_miss: bool) -> Result<bool, StoreFault> {
         self.let_reader_move();
         match flushed_files(self.alloc, &self.files, stems) {
             Ok(files) => {
                 self.files = files;
-                Ok(())
+                Ok(true)
             }
             Err(_) => Err(StoreFault::Refused),
         }

@@ -21,7 +21,7 @@ pub enum Folder {
 /// name before that colon and its bytes, and neither its folder nor its marks; and only those that
 /// tell names see that a file was taken away.
 pub trait MaildirDisk {
-    ghost use Rattle.std.specs.Prelude.{◌≡◌, ℕ, List, IfErr, IsSome, OnErr, OnOk, Some, None};
+    ghost use Rattle.std.specs.Prelude.{◌≡◌, ℕ, List, false, true, IfErr, IsSome, Ok, OnErr, OnOk, Some, None};
     ghost use Rattle.mail_terms.specs.FailureCount.{Tallies, refuses};
     ghost use Rattle.mail_store.specs.Fault.{is_refusal, IsDeviceFault};
     ghost use Rattle.mail_store.specs.Maildir.{Maildir, AfterTaking, File, IsThere, Lists, ListsAll, Checks};
@@ -72,11 +72,13 @@ pub trait MaildirDisk {
         ensures lasts { sound self.new → KeepsMail (stays self.old) (outlives self.old) (stays self.new) (outlives self.new) }
         ensures count { Tallies (refuses is_refusal result) (maildir self.old).failures (maildir self.new).failures };
 
-    /// Flushes the bytes of the files whose names have one of these stems (see `stem`). The only fault
-    /// is Refused: also if a stem has no file any more, as when a reader took it away.
-    fn flush(&mut self, stems: &[String]) -> Result<(), StoreFault>
+    /// Flushes the bytes of the files whose names have one of these stems (see `stem`). False, only if
+    /// `may_miss`, if a stem has no file any more, as when a reader took it away: then nothing is known of
+    /// the others. The only fault is Refused.
+    fn flush(&mut self, stems: &[String], may_miss: bool) -> Result<bool, StoreFault>
         ensures flushes { sound self.new → sound self.old
             × Flushes (maildir self.old) result (maildir self.new) }
+        ensures misses { result ≡ Ok false → may_miss ≡ true }
         ensures fault { IfErr result (λ e. e ≡ StoreFault.Refused) }
         ensures lasts { sound self.new → KeepsMail (stays self.old) (outlives self.old) (stays self.new) (outlives self.new)
             × FlushedOutlive (maildir self.old) stems.now result (stays self.old) (outlives self.new) }

@@ -18,6 +18,9 @@ use mail_terms::Listing;
 use std::alloc::{AllocError, Global};
 use std::collections::BTreeSet;
 
+/// How many times more it is asked what is held, because readers took away files that were to be flushed.
+const MOST_TIMES: u32 = 8;
+
 /// Adds the digits of the id in the stem of a name, if it is one of the account's.
 fn add_name<'a>(
     found: &mut BTreeSet<&'a str>,
@@ -127,8 +130,40 @@ pub fn held<D: MaildirDisk>(
     Ok(flags_of(alloc, &found, listing)?)
 }
 
+/// As `flush_held`, but asks what is held this many times more.
+fn flush_within<D: MaildirDisk>(
+    alloc: Global,
+    disk: &mut D,
+    account: &AccountId,
+    listing: &Listing,
+    flags: &[bool],
+    times: u32,
+) -> Result<Vec<bool>, StoreFault>
+    requires { length flags.now ≡ length listing.now }
+    ensures finds { D.sound disk.new → D.sound disk.old
+        × AfterTaking (D.maildir disk.old) (λ left. Finds account.now left listing.now result (D.maildir disk.new)) }
+    ensures lasts { D.sound disk.new → KeepsLeft (D.maildir disk.old).files (D.maildir disk.new).files
+        (D.stays disk.old) (D.outlives disk.old) (D.stays disk.new) (D.outlives disk.new)
+        × OnOk result (AllStay (D.maildir disk.new) (D.stays disk.new)
+        × FoundOutlive account.now (D.maildir disk.new) (D.outlives disk.new) listing.now flags.now) }
+    ensures count { Tallies (refuses is_refusal result) (D.maildir disk.old).failures (D.maildir disk.new).failures }
+    ensures length { IfOk result (λ flags. vec_len flags ≡ length listing.now) }
+    ensures fault { result ≢ Err StoreFault.NotMbox }
+{
+    let found = held(alloc, disk, account, listing)?;
+    let stems = stems_of(alloc, account, listing, &found, flags)?;
+    if stems.is_empty() {
+        return Ok(found);
+    }
+    if disk.flush(&stems, times > 0)? {
+        return Ok(found);
+    }
+    flush_within(alloc, disk, account, listing, flags, times - 1)
+}
+
 /// As `held`, and flushes the file of each item that is held and for which a flag is set, one for each
-/// item in the listing's order. Refused also if readers took such a file away meanwhile.
+/// item in the listing's order. If a reader took such a file away meanwhile, it is asked again what is held;
+/// Refused also if readers do so again and again.
 pub fn flush_held<D: MaildirDisk>(
     alloc: Global,
     disk: &mut D,
@@ -147,11 +182,5 @@ pub fn flush_held<D: MaildirDisk>(
     ensures length { IfOk result (λ flags. vec_len flags ≡ length listing.now) }
     ensures fault { result ≢ Err StoreFault.NotMbox }
 {
-    let found = held(alloc, disk, account, listing)?;
-    let stems = stems_of(alloc, account, listing, &found, flags)?;
-    if stems.is_empty() {
-        return Ok(found);
-    }
-    disk.flush(&stems)?;
-    Ok(found)
+    flush_within(alloc, disk, account, listing, flags, MOST_TIMES)
 }

@@ -26,7 +26,7 @@ pub struct MemoryMaildir {
 }
 
 impl Model for MemoryMaildir {
-    ghost use Rattle.std.specs.Prelude.{◌≡◌, length, map, option_map, true, false};
+    ghost use Rattle.std.specs.Prelude.{[], ◌≡◌, length, map, option_map, true, false};
     ghost use Rattle.mail_store.specs.Maildir.{Maildir, file_of, all_there};
     ghost use Rattle.mail_store.specs.MemoryMaildir.{TwoFolders, count, merged, shown};
 
@@ -38,6 +38,7 @@ impl Model for MemoryMaildir {
         files = map shown (merged d.are_new.items (map file_of d.in_new.items) (map file_of d.in_cur.items));
         begun = option_map file_of d.begun;
         failures = d.failures;
+        taken = [];
       };
       in_new = map file_of d.in_new.items;
       in_cur = map file_of d.in_cur.items;
@@ -55,7 +56,7 @@ impl MemoryMaildir {
     /// A Maildir without files.
     pub fn new(alloc: Global) -> MemoryMaildir
         ensures maildir { result ≡ record {
-          maildir = record { there = all_there; files = []; begun = None; failures = 0 };
+          maildir = record { there = all_there; files = []; begun = None; failures = 0; taken = [] };
           in_new = [];
           in_cur = [];
         } }
@@ -218,9 +219,9 @@ impl MaildirDisk for MemoryMaildir {
         admit(&self.failures)
     }
 
-    #[tactic(auto, using(crate::proofs::MaildirLemmas::all_outlive))]
-    fn flush(&mut self, _stems: &[String]) -> Result<(), StoreFault> {
-        admit(&self.failures)
+    fn flush(&mut self, _stems: &[String], _may_miss: bool) -> Result<bool, StoreFault> {
+        admit(&self.failures)?;
+        Ok(true)
     }
 
     fn begin(&mut self, name: &str) -> Result<(), StoreFault> {

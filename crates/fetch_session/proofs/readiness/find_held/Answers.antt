@@ -1,6 +1,6 @@
 use Rattle.std.proofs.Common.{◌∙◌, refl}
 use Rattle.fetch_session.proofs.TalkLemmas.{err_is}
-use Rattle.fetch_session.proofs.ReadyLemmas.{found_last, part_same}
+use Rattle.fetch_session.proofs.ReadyLemmas.{found_last, none_taken}
 use Rattle.fetch_session.proofs.SceneLemmas.{and_so}
 use Rattle.fetch_session.proofs.readiness.find_held.Goals as goal
 
@@ -10,5 +10,5 @@ returns-clause-lasts g c = λ d. and_so (c.in_ok-flush_held.ensures.lasts d) (λ
 
 pub returns-in_err-flags-clause-finds : goal.returns-in_err-flags-clause-finds
 returns-in_err-flags-clause-finds g c = rw (err_is c.from_residual.ensures.1) (λ d.
-    let files = (g.D.MaildirDisk.maildir c.args.disk.now).files in
-    (d, (files, part_same files, refl)))
+    let maildir = g.D.MaildirDisk.maildir c.args.disk.now in
+    (d, (maildir, none_taken maildir, refl)))

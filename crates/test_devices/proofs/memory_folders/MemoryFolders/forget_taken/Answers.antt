@@ -1,15 +1,20 @@
-use Rattle.std.proofs.Common.{◌∙◌, List, ap, option_map, rules, filter}
+use Rattle.std.proofs.Common.{◌∙◌, ◌++◌, List, ap, map, option_map, rules, filter}
+use Rattle.std.proofs.lemmas.List.{map-append}
 use Rattle.std.proofs.lemmas.List.Elements.{filter_from_retain}
-use Rattle.folder_store.specs.MailFolders.{Directories, MailFile, is_left}
-use Rattle.test_devices.specs.MemoryFolders.{draft_of}
+use Rattle.folder_store.specs.MailCalls.{without_taken}
+use Rattle.folder_store.specs.MailFolders.{MailFile, files_at, is_left, mail_at}
+use Rattle.test_devices.specs.declared.memory_folders.StoredMail.{StoredMail}
+use Rattle.test_devices.specs.MemoryFolders.{draft_of, mail_file}
 use Rattle.test_devices.proofs.MemoryMail.{not_gone, left_files, memory_dirs}
 use Rattle.test_devices.proofs.memory_folders.MemoryFolders.forget_taken.Goals as goal
 
-pub returns : goal.returns
-returns c =
+pub returns-clause-ok : goal.returns-clause-ok
+returns-clause-ok c =
     let was = c.self.inside in
     let made = option_map draft_of was.made in
     let left = filter_from_retain _ not_gone (λ p x b q h. search rules) _ _ _ c.retain.ensures.filtered in
-    ap (λ files. memory_dirs files was.new_rests was.cur_rests made) left
-    ∙ ap (λ (ss : List MailFile). record (memory_dirs was.files.items was.new_rests was.cur_rests made) { entries = ss }) (left_files was.files.items)
-    ∙ ap (λ (d : Directories). record d { entries = filter is_left d.entries }) c.self.view_is
+    let stay = ap (λ (files : List StoredMail). map mail_file files) left ∙ left_files was.files.items in
+    let taken = ap (λ (files : List StoredMail). files_at (map mail_file files)) c.in_ok-append.ensures.items
+    ∙ ap files_at (map-append mail_file was.taken.items c.in_ok-taken.taken.items) ∙ map-append mail_at _ _
+    ∙ ap (λ (ss : List MailFile). files_at (map mail_file was.taken.items) ++ files_at ss) c.in_ok-taken.ensures in
+    rw (← c.self.view_is) (rw (stay, taken) refl)

@@ -1,0 +1,73 @@
+//! Which files are still to be flushed after a pass through the folders of a Maildir.
+
+ghost use Rattle.std.specs.Prelude.{◌≡◌, ℕ, List, ◌||◌, bytes_eq, not, IfOk, OnOk};
+ghost use Rattle.std.specs.List.{filter};
+ghost use Rattle.mail_store.specs.FileName.{stem};
+ghost use Rattle.mail_store.specs.Held.{has_text};
+ghost use Rattle.folder_store.specs.FlushPass.{has_flushed, has_missed, is_settled};
+
+use mail_store::stem;
+use std::alloc::{AllocError, Global};
+use std::collections::BTreeSet;
+
+/// A file that a pass found under a name.
+#[derive(Drop)]
+pub struct Found {
+    pub name: String,
+    /// Whether it was flushed; else it had gone from there.
+    pub is_flushed: bool,
+}
+
+/// Adds the stem of a name.
+fn add_stem<'a>(stems: &mut BTreeSet<&'a str>, name: &'a str) -> Result<(), AllocError>
+    ensures { OnOk result ((q : List ℕ) → has_text stems.new q ≡ (has_text stems.old q || bytes_eq q (stem name.now))) }
+{
+    stems.insert(stem(name))?;
+    Ok(())
+}
+
+/// Adds the stems of the files that were flushed, and of those that weren't.
+fn add_stems<'a>(
+    flushed: &mut BTreeSet<&'a str>,
+    missed: &mut BTreeSet<&'a str>,
+    found: &'a [Found],
+) -> Result<(), AllocError>
+    ensures flushed { OnOk result ((q : List ℕ) → has_text flushed.new q ≡ (has_text flushed.old q || has_flushed found.now q)) }
+    ensures missed { OnOk result ((q : List ℕ) → has_text missed.new q ≡ (has_text missed.old q || has_missed found.now q)) }
+{
+    for file in found {
+        if file.is_flushed {
+            add_stem(flushed, file.name.as_str())?;
+        } else {
+            add_stem(missed, file.name.as_str())?;
+        }
+    }
+    Ok(())
+}
+
+/// Whether a stem isn't among those of the files that were flushed, or is among the others.
+fn is_left(flushed: &BTreeSet<&str>, missed: &BTreeSet<&str>, stem: &str) -> bool
+    ensures { result ≡ (not (has_text flushed.now stem.now) || has_text missed.now stem.now) }
+{
+    !flushed.contains(stem) || missed.contains(stem)
+}
+
+/// Those of the stems whose messages aren't settled by a pass that found these files.
+pub fn unsettled<'a>(
+    alloc: Global,
+    stems: &[&'a str],
+    found: &[Found],
+) -> Result<Vec<&'a str>, AllocError>
+    ensures { IfOk result (λ left. left.items ≡ filter (λ stem. not (is_settled found.now stem.now)) stems.now) }
+{
+    let mut flushed = BTreeSet::new(alloc);
+    let mut missed = BTreeSet::new(alloc);
+    add_stems(&mut flushed, &mut missed, found)?;
+    let mut left = Vec::new(alloc);
+    for stem in stems {
+        if is_left(&flushed, &missed, *stem) {
+            left.push(*stem)?;
+        }
+    }
+    Ok(left)
+}
