@@ -1,6 +1,6 @@
 -- The server's conversations are honest: how its rows follow the messages and their marks, and what each answer says.
-use Rattle.std.proofs.Common.{length-append, ◌%◌, ◌≡◌, ◌≢◌, ◌⊎◌, inl, inr, ◌<◌, ◌≤◌, ◌+◌, ◌-◌, ◌*◌, ◌^◌, ℕ, zero, suc, Bool, true, false, cond, List, [], ◌∷◌, ◌++◌, map, length, refl, sym, ap, subst, ◌∙◌, arith, append_assoc, Some, None, codes, not, slice_get, slice_set, decimal, length-append, Option, Ok, bytes_eq, ◌&&◌, ap₂}
-use Rattle.std.specs.List.{flat_map, All, AllByRecursion, AllZip, count_by}
+use Rattle.std.proofs.Common.{length-append, ◌%◌, ◌≡◌, ◌⊎◌, inl, inr, ◌<◌, ◌≤◌, ◌+◌, ◌-◌, ◌*◌, ◌^◌, ℕ, zero, suc, Bool, true, false, cond, List, [], ◌∷◌, ◌++◌, map, length, refl, sym, ap, subst, ◌∙◌, arith, append_assoc, Some, None, codes, not, slice_get, slice_set, decimal, length-append, Option, Ok, bytes_eq, ◌&&◌, ap₂}
+use Rattle.std.specs.List.{flat_map, All, AllByRecursion, AllZip, count_by, enumerate_from}
 use Rattle.std.proofs.lemmas.Bool.{and_from, cond-true, cond-false, false≢true}
 use Rattle.std.proofs.lemmas.Fmt.{decimal_by_steps}
 use Rattle.std.proofs.lemmas.List.{length-map, append-nil, length-set}
@@ -15,7 +15,7 @@ use Rattle.pop3_wire.specs.Line.{crlf, ended, HoldsNoLf, IsLine, OneLine}
 use Rattle.pop3_wire.specs.Body.{dot, IsContent, unstuffed}
 use Rattle.pop3_wire.specs.Fields.{number_and_size, number_and_id}
 use Rattle.pop3_wire.specs.World.{Message, IsMessage}
-use Rattle.pop3_wire.specs.Honest.{SaysAnything, FirstLinesAreRead, IsUnmarked, unmarked_from, IsScanRow, IsUidRow, ListsAll, Reply, no_marks, Honest, Grants, Replies}
+use Rattle.pop3_wire.specs.Honest.{SaysAnything, FirstLinesAreRead, UidRowsHaveFields, ScanRowsHaveFields, IsScanRow, IsUidRow, ListsAll, Reply, no_marks, Honest, Grants, Replies}
 use Rattle.pop3_wire.specs.Rows.{ScanRowsAreRead, UidRowsAreRead, scan_row}
 use Rattle.pop3_server.specs.declared.rows.MessageRow.{MessageRow}
 use Rattle.pop3_server.proofs.RemovalLemmas.{none_gone, left_by_quit}
@@ -39,6 +39,8 @@ pub record Laws : Type 0 where
   pub first : FirstLinesAreRead
   pub scan : ScanRowsAreRead
   pub uid : UidRowsAreRead
+  pub uid_fields : UidRowsHaveFields
+  pub scan_fields : ScanRowsHaveFields
   pub stuffed : StuffedIsBody
   pub read : ReadAsWritten
 
@@ -87,22 +89,22 @@ marked_rows (m ∷ ms) (b ∷ bs) (suc i) = ap (λ (rows : List MessageRow). row
 -- the row at a place is that of an unmarked message, which is at this place, or there is none
 found_at : (ms : List Message) (bs : List Bool) (i : ℕ) → AllByRecursion IsServed ms
     → (unless_marked (slice_get (rows_with ms bs) i) ≡ None)
-    ⊎ ((m : Message) × (unless_marked (slice_get (rows_with ms bs) i) ≡ Some (row_with m false)) × (slice_get ms i ≡ Some m) × (slice_get bs i ≡ Some false)
+    ⊎ ((m : Message) × (unless_marked (slice_get (rows_with ms bs) i) ≡ Some (row_with m false)) × (slice_get ms i ≡ Some m)
     × (slice_get (map Some ms) i ≡ Some (Some m)) × IsServed m)
 found_at [] bs i all = inl refl
 found_at (m ∷ ms) [] i all = inl refl
 found_at (m ∷ ms) (true ∷ bs) zero all = inl refl
-found_at (m ∷ ms) (false ∷ bs) zero all = inr (m, refl, refl, refl, refl, all.0)
+found_at (m ∷ ms) (false ∷ bs) zero all = inr (m, refl, refl, refl, all.0)
 found_at (m ∷ ms) (b ∷ bs) (suc i) all = found_at ms bs i all.1
 
 pub found : (ms : List Message) (bs : List Bool) (k : ℕ) → AllByRecursion IsServed ms
     → (row_at (rows_with ms bs) k ≡ None)
-    ⊎ ((m : Message) × (row_at (rows_with ms bs) k ≡ Some (row_with m false)) × IsUnmarked ms bs k m × (slice_get (map Some ms) (k - 1) ≡ Some (Some m)) × IsServed m)
+    ⊎ ((m : Message) × (row_at (rows_with ms bs) k ≡ Some (row_with m false)) × (slice_get ms (k - 1) ≡ Some m) × (slice_get (map Some ms) (k - 1) ≡ Some (Some m)) × IsServed m)
 found ms bs k all = elim (eqb_tells k 0) [
   | inl p ↦ inl (cond-true _ _ _ p.0)
   | inr p ↦ elim (found_at ms bs (k - 1) all) [
     | inl none ↦ inl (cond-false _ _ _ p.0 ∙ none)
-    | inr some ↦ inr (some.0, cond-false _ _ _ p.0 ∙ some.1, record { counted = (let other : k ≢ 0 = p.1 in omega arith); there = some.2; unmarked = some.3 }, some.4, some.5)
+    | inr some ↦ inr (some.0, cond-false _ _ _ p.0 ∙ some.1, some.2, some.3, some.4)
   ]
 ]
 
@@ -124,16 +126,30 @@ no_lf_decimal = decimal_by_steps (λ _ digits. HoldsNoLf digits) (λ n small. di
     digit n small = grind (arith, nat_tests)
 
 pub refused : Laws → (ms : List Message) (bs : List Bool) (c : Command) (answer after : List ℕ) → answer ≡ said (codes "-ERR" ++ after) → HoldsNoLf after → Reply ms bs c answer bs
-refused laws ms bs c answer after is none = inl (rw is (_, laws.first Negative after none), refl)
+refused laws ms bs c answer after is none = inl ((after, ((laws.first Negative after none).0, is)), refl)
 
 pub granted : Laws → (answer after : List ℕ) → answer ≡ said (codes "+OK" ++ after) → HoldsNoLf after → SaysAnything Positive answer
-granted laws answer after is none = rw is (_, laws.first Positive after none)
+granted laws answer after is none = (after, ((laws.first Positive after none).0, is))
 
 -- ---- listings
 
 -- each row of a served message is a line of a body, and is read as that message's
 abbrev pub GoodRows : (ℕ → MessageRow → List ℕ) → (ℕ × Message → List ℕ → Type 0) → Type 0
 GoodRows line IsRow = (k : ℕ) (m : Message) → k ≤ 4294967295 → IsServed m → IsContent (line k (row_with m false)) × IsRow (k, m) (unstuffed (line k (row_with m false)))
+
+-- the messages that aren't marked, with their numbers, from this number on
+abbrev unmarked_from : ℕ → List Message → List Bool → List (ℕ × Message)
+unmarked_from number [] marks = []
+unmarked_from number (m ∷ ms) [] = []
+unmarked_from number (m ∷ ms) (mark ∷ marks) = cond mark (unmarked_from (number + 1) ms marks) ((number, m) ∷ unmarked_from (number + 1) ms marks)
+
+fresh : (n : ℕ) (ms : List Message) → unmarked_from n ms (no_marks ms) ≡ enumerate_from n ms
+fresh n [] = refl
+fresh n (m ∷ ms) = ap (λ (l : List (ℕ × Message)). (n, m) ∷ l) (fresh (n + 1) ms)
+
+fresh_count : (ms : List Message) → count_by not (no_marks ms) ≡ length ms
+fresh_count [] = refl
+fresh_count (m ∷ ms) = sum_by-cons (λ b. cond (not b) 1 0) false (no_marks ms) ∙ ap (λ (n : ℕ). 1 + n) (fresh_count ms) ∙ omega arith
 
 rows_content : (line : ℕ → MessageRow → List ℕ) (IsRow : ℕ × Message → List ℕ → Type 0) → GoodRows line IsRow → (k : ℕ) (ms : List Message) (bs : List Bool)
     → k + length ms ≤ 4294967296 → AllByRecursion IsServed ms
@@ -149,29 +165,29 @@ rows_content line IsRow good k (m ∷ ms) (false ∷ bs) few all =
 pub scan_rows : Laws → GoodRows scan_line IsScanRow
 scan_rows laws k m few served =
     let row = laws.scan k m.size few (omega (arith, served.within)) in
-    (row.0.0, ap number_and_size row.0.1 ∙ row.1)
+    (row.0.0, laws.scan_fields _ k m (ap number_and_size row.0.1 ∙ row.1))
 
 pub uid_rows : Laws → GoodRows uid_line IsUidRow
 uid_rows laws k m few served =
     let row = laws.uid k m.uid few served.is_message.legal in
-    (row.0.0, ap number_and_id row.0.1 ∙ row.1)
+    (row.0.0, laws.uid_fields _ k m (ap number_and_id row.0.1 ∙ row.1))
 
 pub lists_all : Laws → (line : ℕ → MessageRow → List ℕ) (IsRow : ℕ × Message → List ℕ → Type 0) → GoodRows line IsRow → (ms : List Message) (bs : List Bool) (answer : List ℕ) → AreServed ms → answer ≡ listed line (rows_with ms bs)
-    → (first body : List ℕ) × (answer ≡ first ++ body) × SaysAnything Positive first × ListsAll IsRow ms bs body × (bs ≡ bs)
+    → ListsAll IsRow ms bs answer × (bs ≡ bs)
 lists_all laws line IsRow good ms bs answer served is =
     let few : length ms ≤ 100000 = served.few in
     let rows = rows_content line IsRow good 1 ms bs (omega arith) served.served in (
-      said (codes "+OK"),
-      lines_from line 1 (rows_with ms bs) ++ ended dot,
-      is ∙ append_assoc (codes "+OK" ++ crlf) (lines_from line 1 (rows_with ms bs)) (ended dot),
-      granted laws (said (codes "+OK")) [] refl refl,
       record {
+        first = said (codes "+OK");
+        says = granted laws (said (codes "+OK")) [] refl refl;
         lines = rows.0;
         content = rows.2;
-        whole = ap (λ (l : List ℕ). l ++ ended dot) rows.1;
-        numbered = unmarked_from 1 ms bs;
-        all = IsPermutation-refl (unmarked_from 1 ms bs);
-        rows = rows.3;
+        whole = is ∙ append_assoc (codes "+OK" ++ crlf) (lines_from line 1 (rows_with ms bs)) (ended dot) ∙ ap (λ (l : List ℕ). said (codes "+OK") ++ (l ++ ended dot)) rows.1;
+        rows = λ none. (
+          enumerate_from 1 ms,
+          IsPermutation-refl (enumerate_from 1 ms),
+          subst (λ (q : List (ℕ × Message)). AllZip IsRow q (map unstuffed rows.0)) (ap (unmarked_from 1 ms) none ∙ fresh 1 ms) rows.3,
+        );
       },
       refl,
     )
@@ -254,7 +270,7 @@ module _ (laws : Laws) {D : Type 0} (sound : D → Type 0) (mail : D → Mail) (
 
   module _ (marks : List Bool) (stands : IsStateWith ms (Transaction (rows_with ms marks)) (mail old) marks) where
     -- RETR of an unmarked message
-    gave : (k : ℕ) (m : Message) → IsUnmarked ms marks k m → slice_get (map Some ms) (k - 1) ≡ Some (Some m) → IsServed m
+    gave : (k : ℕ) (m : Message) → slice_get ms (k - 1) ≡ Some m → slice_get (map Some ms) (k - 1) ≡ Some (Some m) → IsServed m
         → Does sound mail (Give (rows_with ms marks) (k - 1) (said (octets_line (row_with m false))) None) old answer next new → Replied ms marks (Retr k) answer next (mail new)
     gave k m at slot served (state, inl (is, known)) =
         replies marks state (known s).1 (refused laws ms marks (Retr k) answer (codes " message unavailable") is refl) stands (inl refl)
@@ -268,8 +284,8 @@ module _ (laws : Laws) {D : Type 0} (sound : D → Type 0) (mail : D → Mail) (
           said (octets_line (row_with m false)),
           stuffed_lines (lines_of_text text),
           m,
-          is,
           granted laws (said (octets_line (row_with m false))) (32 ∷ (decimal m.size ++ codes " octets")) refl none,
+          is,
           at,
           rw words (rw (whole_stays m.text served.is_message.whole) at (laws.stuffed m.text)),
           refl,
@@ -285,11 +301,12 @@ module _ (laws : Laws) {D : Type 0} (sound : D → Type 0) (mail : D → Mail) (
         let small : count ≤ 4294967295 = omega arith in
         let fits : total < 2 ^ 64 = omega arith in
         let none : HoldsNoLf (32 ∷ scan_row count total) = simp (list_all-append, no_lf_decimal count (omega arith), no_lf_decimal total fits) in
+        let (field, more, (word, are, value), size) = laws.scan_fields (scan_row count total) count (record { uid = []; size = total; text = [] }) (laws.scan count total small (omega arith)).1 in
         replies marks does.1 (ap mail does.2) (inr (
-          scan_row count total,
-          total,
-          rw does.0 (laws.first Positive (32 ∷ scan_row count total) none),
-          (laws.scan count total small (omega arith)).1 ∙ ap (λ n. Ok (n, total)) left.0,
+          32 ∷ scan_row count total,
+          field ∷ more,
+          ((laws.first Positive (32 ∷ scan_row count total) none).0, does.0),
+          λ fresh. (word, are, value ∙ left.0 ∙ ap (count_by not) fresh ∙ fresh_count ms),
           refl,
         )) stands (inl refl)
 
@@ -307,7 +324,7 @@ module _ (laws : Laws) {D : Type 0} (sound : D → Type 0) (mail : D → Mail) (
     ]
     in_trans (Dele k) asked does = elim (found ms marks k stands.3.served) [
       | inl none ↦ says_no (codes " no such message") (rw none at does) refl stands refl
-      | inr some ↦ says_yes (slice_set marks (k - 1) true) (codes " marked") (rw some.1 at does) refl (λ says. (some.0, says, some.2, refl))
+      | inr some ↦ says_yes (slice_set marks (k - 1) true) (codes " marked") (rw some.1 at does) refl (λ says. (says, refl))
           (stands.0, length-set marks (k - 1) true ∙ stands.1, marked_rows ms marks (k - 1), stands.3) (inl refl)
     ]
     in_trans Rset asked does =

@@ -5,7 +5,7 @@ ghost use Rattle.pop3_server.specs.HonestLoop.{GivesHonest};
 use crate::maildrop::Maildrop;
 use pop3_wire::{
     commands_are_lines, only_one_line, read_as_written, replies_are_read_as_written,
-    stuffed_is_body,
+    rows_have_fields, stuffed_is_body,
 };
 
 /// A new server's greeting and its answers to any commands that a session sends, one after another,
@@ -18,6 +18,7 @@ pub fn conversations_are_honest<D: Maildrop>()
     stuffed_is_body();
     read_as_written();
     replies_are_read_as_written();
+    rows_have_fields();
 }
 
 /// The same for a link to a new server in the same process, for whole commands of a session and a
@@ -28,6 +29,7 @@ pub fn loops_are_honest<D: Maildrop>()
     stuffed_is_body();
     read_as_written();
     replies_are_read_as_written();
+    rows_have_fields();
     only_one_line();
     commands_are_lines();
 }

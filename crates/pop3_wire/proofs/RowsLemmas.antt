@@ -1,6 +1,6 @@
 -- Rows of listings and lines of commands: what is read has the form, and what is written is read and holds no line break.
-use Rattle.std.proofs.Common.{ℕ, ◌+◌, ◌≤◌, ◌<◌, ◌≡◌, ◌≢◌, true, false, List, [], ◌∷◌, ◌++◌, length, take, drop, refl, sym, ap, subst, ◌∙◌, arith, inl, inr, Result, Ok, Err, take-append-drop, nat_lt, nat_le, ◌&&◌, ◌==◌, Bool, IsTrue, cond, take_while, append-nil, take_at, drop_at, get_or, length-drop, ◌-◌, ◌*◌, ◌^◌, rules, length-append, append_assoc, not, codes, decimal, ne_eqb, ◌⊎◌}
-use Rattle.std.specs.List.{prefix_len, list_all, before_first, suffix_len, All, AllByRecursion, slice_split, count_by}
+use Rattle.std.proofs.Common.{ℕ, ◌+◌, ◌≤◌, ◌<◌, ◌≡◌, ◌≢◌, true, false, List, [], ◌∷◌, ◌++◌, length, take, drop, refl, sym, ap, ap₂, subst, ◌∙◌, arith, inl, inr, Result, Ok, Err, take-append-drop, nat_lt, nat_le, ◌&&◌, ◌==◌, Bool, IsTrue, cond, take_while, append-nil, take_at, drop_at, get_or, length-drop, ◌-◌, ◌*◌, ◌^◌, rules, length-append, append_assoc, not, codes, decimal, ne_eqb, ◌⊎◌}
+use Rattle.std.specs.List.{filter, prefix_len, list_all, before_first, suffix_len, All, AllByRecursion, slice_split, count_by}
 use Rattle.std.specs.Char.{is_ascii_digit}
 use Rattle.std.specs.Str.Parse.{digits_value}
 use Rattle.std.proofs.lemmas.Bool.{and_parts, and_from, cond-true, cond-false, leb-true, le-leb, ltb-true, not-true, le-ltb, eqb-false}
@@ -15,7 +15,7 @@ use Rattle.std.proofs.Math.Logic.{⊎_elim, ⊎_map}
 use Rattle.pop3_wire.specs.Rows.{AreSpaces, StandsFor, HasNumber, HasScanForm, HasUidForm, NumbersAreRead, IsSentAsIs, ScanRowsAreRead, UidRowsAreRead}
 use Rattle.std.proofs.lemmas.Fmt.{digits_decimal, decimal_is_IsNumeral, length-decimal-le, decimal_nonempty}
 use Rattle.std.proofs.lemmas.Str.Parse.{IsNumeralModel, numerals_by_fold}
-use Rattle.std.proofs.lemmas.List.Splits.{slice_split_none, slice_split_at, length-slice_split}
+use Rattle.std.proofs.lemmas.List.Splits.{slice_split_none, slice_split_at, slice_split-cons_yes, length-slice_split}
 use Rattle.pop3_wire.specs.declared.command.Command.TheVariants.{User, Pass, UidlOne, ListOne, Retr, Dele, Top}
 use Rattle.mail_terms.specs.Credential.{is_credential, is_plain}
 use Rattle.pop3_wire.specs.Commands.{line_of, can_be_sent, octets_of}
@@ -23,7 +23,7 @@ use Rattle.pop3_wire.specs.CommandLine.{keyword_of, trimmed, arguments, rest_of,
 use Rattle.std.proofs.lemmas.List.Folds.{list_all-append}
 use Rattle.pop3_wire.specs.Line.{IsLine, is_no_lf, ended}
 use Rattle.pop3_wire.specs.declared.reply.Status.TheVariants.{Positive, Negative}
-use Rattle.pop3_wire.specs.Honest.{FirstLinesAreRead, Asked, OneListOfCommands, FrontsAreAsked}
+use Rattle.pop3_wire.specs.Honest.{FirstLinesAreRead, fields, HasFields, UidRowsHaveFields, ScanRowsHaveFields, Asked, OneListOfCommands, FrontsAreAsked}
 use Rattle.mail_terms.specs.Text.{HasNoLf}
 use Rattle.pop3_wire.proofs.BodyLemmas.{no_pair, first_line_same}
 use Rattle.pop3_wire.specs.declared.command.Command.{Command}
@@ -153,11 +153,87 @@ uid_form line n uid e =
       over = over.1;
     }
 
--- ---- the other direction: a line of the form is read
+-- ---- the fields of a line
 
 -- what follows doesn't begin with a byte that passes
 abbrev Stops : (ℕ → Bool) → List ℕ → Type 0
 Stops test rest = (byte : ℕ) (more : List ℕ) → rest ≡ byte ∷ more → test byte ≡ false
+
+spaces_first : (front rest : List ℕ) → AreSpaces front → fields (front ++ rest) ≡ fields rest
+spaces_first [] rest all = refl
+spaces_first (byte ∷ front) rest all =
+    let parts = and_parts (is_space byte) (list_all is_space front) all in
+    ap (filter _) (slice_split-cons_yes is_space byte (front ++ rest) parts.0) ∙ spaces_first front rest parts.1
+
+no_fields : (rest : List ℕ) → AreSpaces rest → fields rest ≡ []
+no_fields rest all = ap fields (sym (append-nil rest)) ∙ spaces_first rest [] all
+
+no_spaces : (word : List ℕ) → list_all is_in_field word ≡ true → All (λ byte. is_space byte ≡ false) word
+no_spaces word all = λ k other inside. not-true _ (AllPass-from_list_all is_in_field word all k other inside)
+
+some_kept : (byte : ℕ) (word : List ℕ) (parts : List (List ℕ)) → filter (λ field. nat_lt 0 (length field)) ((byte ∷ word) ∷ parts) ≡ (byte ∷ word) ∷ filter (λ field. nat_lt 0 (length field)) parts
+some_kept byte word parts = let some : nat_lt 0 (length (byte ∷ word)) ≡ true = grind (arith, nat_tests) in cond-true _ _ _ some
+
+word_first : (word rest : List ℕ) → word ≢ [] → list_all is_in_field word ≡ true → Stops is_in_field rest → fields (word ++ rest) ≡ word ∷ fields rest
+word_first [] rest some all stops = absurd (some refl)
+word_first (byte ∷ word) [] some all stops =
+    ap fields (append-nil (byte ∷ word)) ∙ ap (filter _) (slice_split_none is_space (byte ∷ word) (no_spaces (byte ∷ word) all)) ∙ some_kept byte word []
+word_first (byte ∷ word) (next ∷ rest) some all stops =
+    let space : is_space next ≡ true = grind (arith, nat_tests, stops next rest refl) in
+    ap (filter _) (slice_split_at is_space (byte ∷ word) next rest (no_spaces (byte ∷ word) all) space) ∙ some_kept byte word (slice_split is_space rest)
+    ∙ ap (λ (l : List (List ℕ)). (byte ∷ word) ∷ l) (sym (spaces_first (next ∷ []) rest (and_from _ _ space refl)))
+
+next_fields : (line field : List ℕ) → next_field line ≡ Ok field → fields line ≡ take_while is_in_field field ∷ fields (past is_in_field field)
+next_fields line [] e = absurd ((next_ok line [] e).1 refl)
+next_fields line (byte ∷ more) e =
+    let field = byte ∷ more in
+    let is = (next_ok line field e).0 in
+    let some : take_while is_in_field field ≢ [] = (λ none. grind (arith, nat_tests, take_while-cons is_in_field byte more, behind_fails is_space line byte more is, none)) in
+    ap fields (split_at is_space line) ∙ spaces_first (take_while is_space line) (past is_space line) (front_passes is_space line) ∙ ap fields (is ∙ split_at is_in_field field)
+    ∙ word_first (take_while is_in_field field) (past is_in_field field) some (front_passes is_in_field field) (behind_fails is_in_field field)
+
+number_fields : (line rest : List ℕ) (n : ℕ) → message_number line ≡ Ok (n, rest) → HasFields n (fields rest) line
+number_fields line rest n e =
+    let (field, read, first) = bind_ok (next_field line) _ (n, rest) e in
+    let (m, counted, last) = bind_ok (number greatest_number (take_while is_in_field field)) _ (n, rest) first in
+    let (same, ends) = pair_ok m n (past is_in_field field) rest last in
+    (take_while is_in_field field, next_fields line field read ∙ ap (λ (l : List ℕ). take_while is_in_field field ∷ fields l) ends, sym (number_ok greatest_number _ m counted).value ∙ same)
+
+-- the digits that a field begins with are those that the rest of the line begins with
+digits_first : (rest : List ℕ) → take_while is_ascii_digit (take_while is_in_field rest) ≡ take_while is_ascii_digit rest
+digits_first [] = refl
+digits_first (byte ∷ rest) =
+    grind (arith, nat_tests, take_while-cons is_in_field byte rest, take_while-cons is_ascii_digit byte rest, take_while-cons is_ascii_digit byte (take_while is_in_field rest), digits_first rest)
+
+pub scan_fields : ScanRowsHaveFields
+unfolding number_and_size
+scan_fields row n message e =
+    let (first, numbered, e1) = bind_ok (message_number row) _ (n, message.size) e in
+    let (field, next, e2) = bind_ok (next_field first.1) _ (n, message.size) e1 in
+    let (m, sized, e3) = bind_ok (number greatest_size (take_while is_ascii_digit field)) _ (n, message.size) e2 in
+    let (same, same') = pair_ok first.0 n m message.size e3 in
+    let (word, are, value) = number_fields row first.1 first.0 numbered in (
+      take_while is_in_field field,
+      fields (past is_in_field field),
+      (word, are ∙ ap (λ (l : List (List ℕ)). word ∷ l) (next_fields first.1 field next), value ∙ same),
+      ap (digits_value 10) (digits_first field) ∙ sym (number_ok greatest_size _ m sized).value ∙ same',
+    )
+
+pub uid_fields : UidRowsHaveFields
+unfolding number_and_id
+uid_fields row n message e =
+    let (first, numbered, e1) = bind_ok (message_number row) _ (n, message.uid) e in
+    let (field, next, e2) = bind_ok (next_field first.1) _ (n, message.uid) e1 in
+    let (id, named, e3) = bind_ok (legal_id (take_while is_in_field field)) _ (n, message.uid) e2 in
+    let (whole, ends, e4) = bind_ok (nothing_more id (past is_in_field field)) _ (n, message.uid) e3 in
+    let (same, same') = pair_ok first.0 n whole message.uid e4 in
+    let over = more_ok id _ whole ends in
+    let none = no_fields (past is_in_field field) over.1 in
+    let uid : take_while is_in_field field ≡ message.uid = (id_ok _ id named).0 ∙ over.0 ∙ same' in
+    let (word, are, value) = number_fields row first.1 first.0 numbered in
+    (word, are ∙ ap (λ (l : List (List ℕ)). word ∷ l) (next_fields first.1 field next) ∙ ap₂ (λ (x : List ℕ) (l : List (List ℕ)). word ∷ x ∷ l) uid none, value ∙ same)
+
+-- ---- the other direction: a line of the form is read
 
 front_length : (test : ℕ → Bool) (front rest : List ℕ) → list_all test front ≡ true → Stops test rest → prefix_len test (front ++ rest) ≡ length front
 front_length test [] [] all stops = refl
@@ -413,8 +489,8 @@ uid_rows_are_read number uid few legal = rw (append_assoc (decimal number) (32 �
 )
 
 pub first_lines_are_read : FirstLinesAreRead
-first_lines_are_read Positive after none = record { line = codes "+OK" ++ after; is_line = line_without_lf (codes "+OK" ++ after) none; first = (after, refl, refl); whole = refl }
-first_lines_are_read Negative after none = record { line = codes "-ERR" ++ after; is_line = line_without_lf (codes "-ERR" ++ after) none; first = (after, refl, refl); whole = refl }
+first_lines_are_read Positive after none = (line_without_lf (codes "+OK" ++ after) none, (after, refl, refl))
+first_lines_are_read Negative after none = (line_without_lf (codes "-ERR" ++ after) none, (after, refl, refl))
 
 -- ---- the octets sent determine the commands
 

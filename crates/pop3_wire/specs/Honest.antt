@@ -1,88 +1,85 @@
 -- What a server may answer to the commands of a session, and whole conversations (RFC 1939, sections 3 to 7).
-use Rattle.std.specs.Prelude.{◌≡◌, ◌⊎◌, ◌<◌, ◌-◌, ◌+◌, ℕ, Bool, true, false, not, List, [], ◌∷◌}
-use Rattle.std.specs.Prelude.{◌++◌, map, Some, Ok, slice_get, slice_set, if◌then◌else◌, IsPermutation}
-use Rattle.std.specs.List.{count_by, AllZip, AllByRecursion}
+use Rattle.std.specs.Prelude.{◌≡◌, ◌⊎◌, ◌-◌, ℕ, Bool, true, false, List, [], ◌∷◌, ◌++◌, map, length, take_while, nat_lt}
+use Rattle.std.specs.Prelude.{Some, Ok, slice_get, slice_set, IsPermutation}
+use Rattle.std.specs.Char.{is_ascii_digit}
+use Rattle.std.specs.List.{filter, slice_split, enumerate_from, AllZip, AllByRecursion}
+use Rattle.std.specs.Str.Parse.{digits_value}
 use Rattle.pop3_wire.specs.declared.command.Command.{Command}
-use Rattle.pop3_wire.specs.declared.command.Command.TheVariants.{User, Pass, Stat, UidlAll, UidlOne, ListAll}
-use Rattle.pop3_wire.specs.declared.command.Command.TheVariants.{ListOne, Retr, Dele, Rset, Noop, Top, Quit}
+use Rattle.pop3_wire.specs.declared.command.Command.TheVariants.{Stat, UidlAll, ListAll, Retr, Dele, Rset, Top}
 use Rattle.pop3_wire.specs.declared.reply.Status.{Status}
 use Rattle.pop3_wire.specs.declared.reply.Status.TheVariants.{Positive, Negative}
 use Rattle.pop3_wire.specs.Line.{IsLine, ended, HoldsNoLf}
 use Rattle.pop3_wire.specs.Body.{IsContent, unstuffed, body_of, Body}
 use Rattle.pop3_wire.specs.Reply.{IsFirstLine, indicator, without_space}
-use Rattle.pop3_wire.specs.Fields.{number_and_size, number_and_id}
+use Rattle.pop3_wire.specs.Fields.{is_space, number_and_size, number_and_id}
 use Rattle.pop3_wire.specs.Commands.{line_of, can_be_sent, octets_of}
 use Rattle.pop3_wire.specs.CommandLine.{HasNumbers}
 use Rattle.pop3_wire.specs.World.{Message}
 
--- a first line of this status with its CR LF, and its rest
-pub record Says (status : Status) (bytes rest : List ℕ) : Type 0 where
-  pub line : List ℕ
-  pub is_line : IsLine line
-  pub first : IsFirstLine line status rest
-  pub whole : bytes ≡ ended line
+-- a first line of this status with its CR LF, and what follows the status on it
+abbrev pub Says : Status → List ℕ → List ℕ → Type 0
+Says status bytes after = IsLine (indicator status ++ after) × (bytes ≡ ended (indicator status ++ after))
+
+abbrev pub SaysAnything : Status → List ℕ → Type 0
+SaysAnything status bytes = (after : List ℕ) × Says status bytes after
 
 -- a status and the text after it, without LF, are read as that status and the text after the space between the two
 abbrev pub FirstLinesAreRead : Type 0
 FirstLinesAreRead = (status : Status) (after : List ℕ) → HoldsNoLf after
-    → Says status (ended (indicator status ++ after)) (without_space after)
+    → IsLine (indicator status ++ after) × IsFirstLine (indicator status ++ after) status (without_space after)
 
--- a first line of this status, whatever its rest
-abbrev pub SaysAnything : Status → List ℕ → Type 0
-SaysAnything status bytes = (rest : List ℕ) × Says status bytes rest
+-- the fields of a line: what its spaces separate
+abbrev pub fields : List ℕ → List (List ℕ)
+fields line = filter (λ field. nat_lt 0 (length field)) (slice_split is_space line)
 
--- the message of a number, counted from 1, that isn't marked as deleted
-pub record IsUnmarked (messages : List Message) (marks : List Bool) (number : ℕ) (message : Message) : Type 0 where
-  pub counted : 0 < number
-  pub there : slice_get messages (number - 1) ≡ Some message
-  pub unmarked : slice_get marks (number - 1) ≡ Some false
+-- the first field reads as this number in decimal, and these follow it
+abbrev pub HasFields : ℕ → List (List ℕ) → List ℕ → Type 0
+HasFields number more line = (field : List ℕ) × (fields line ≡ field ∷ more) × (digits_value 10 field ≡ number)
 
--- the messages that aren't marked, with their numbers, from this number on
-abbrev pub unmarked_from : ℕ → List Message → List Bool → List (ℕ × Message)
-unmarked_from number [] marks = []
-unmarked_from number (message ∷ messages) [] = []
-unmarked_from number (message ∷ messages) (mark ∷ marks) =
-    if mark then unmarked_from (number + 1) messages marks else (number, message) ∷ unmarked_from (number + 1) messages marks
-
--- the row gives this message under this number, in LIST and in UIDL; `IsScanLine` and `IsUidLine` say which
--- row a client's line, dot-stuffed as it came, stands for
-abbrev pub IsScanRow : ℕ × Message → List ℕ → Type 0
-IsScanRow numbered row = number_and_size row ≡ Ok (numbered.0, numbered.1.size)
-
+-- a row of UIDL, and one of LIST, in which anything may follow the size, gives this message under this number
 abbrev pub IsUidRow : ℕ × Message → List ℕ → Type 0
-IsUidRow numbered row = number_and_id row ≡ Ok (numbered.0, numbered.1.uid)
+IsUidRow (number, message) row = HasFields number (message.uid ∷ []) row
 
--- a body with one row for each message that isn't marked, in any order
-pub record ListsAll (IsRow : ℕ × Message → List ℕ → Type 0) (messages : List Message) (marks : List Bool) (body : List ℕ) : Type 0 where
+abbrev pub IsScanRow : ℕ × Message → List ℕ → Type 0
+IsScanRow (number, message) row = (field : List ℕ) × (more : List (List ℕ)) × HasFields number (field ∷ more) row
+    × (digits_value 10 (take_while is_ascii_digit field) ≡ message.size)
+
+-- rows that are read have these fields
+abbrev pub UidRowsHaveFields : Type 0
+UidRowsHaveFields = (row : List ℕ) (number : ℕ) (message : Message) → number_and_id row ≡ Ok (number, message.uid)
+    → IsUidRow (number, message) row
+
+abbrev pub ScanRowsHaveFields : Type 0
+ScanRowsHaveFields = (row : List ℕ) (number : ℕ) (message : Message) → number_and_size row ≡ Ok (number, message.size)
+    → IsScanRow (number, message) row
+
+-- nothing is marked
+abbrev pub no_marks : List Message → List Bool
+no_marks messages = map (λ _. false) messages
+
+-- a first line and a body, which has a row for each message, in any order, if none is marked: a session lists
+-- before it deletes
+pub record ListsAll (IsRow : ℕ × Message → List ℕ → Type 0) (messages : List Message) (marks : List Bool) (bytes : List ℕ) : Type 0 where
+  pub first : List ℕ
+  pub says : SaysAnything Positive first
   pub lines : List (List ℕ)
   pub content : AllByRecursion IsContent lines
-  pub whole : body ≡ body_of lines
-  pub numbered : List (ℕ × Message)
-  pub all : IsPermutation (unmarked_from 1 messages marks) numbered
-  pub rows : AllZip IsRow numbered (map unstuffed lines)
+  pub whole : bytes ≡ first ++ body_of lines
+  pub rows : marks ≡ no_marks messages
+      → (numbered : List (ℕ × Message)) × IsPermutation (enumerate_from 1 messages) numbered × AllZip IsRow numbered (map unstuffed lines)
 
--- a positive reply to a command, and the marks after it; there is none to the commands that a session never sends
+-- a positive reply to a command, and the marks after it; a session never sends TOP
 abbrev pub Grants : List Message → List Bool → Command → List ℕ → List Bool → Type 0
-Grants messages marks (User name) bytes next = SaysAnything Positive bytes × (next ≡ marks)
-Grants messages marks (Pass password) bytes next = SaysAnything Positive bytes × (next ≡ marks)
-Grants messages marks Stat bytes next =
-    (rest : List ℕ) × (total : ℕ) × Says Positive bytes rest × (number_and_size rest ≡ Ok (count_by not marks, total)) × (next ≡ marks)
-Grants messages marks UidlAll bytes next =
-    (first body : List ℕ) × (bytes ≡ first ++ body) × SaysAnything Positive first × ListsAll IsUidRow messages marks body × (next ≡ marks)
-Grants messages marks (UidlOne number) bytes next = ⊥
-Grants messages marks ListAll bytes next =
-    (first body : List ℕ) × (bytes ≡ first ++ body) × SaysAnything Positive first × ListsAll IsScanRow messages marks body × (next ≡ marks)
-Grants messages marks (ListOne number) bytes next = ⊥
-Grants messages marks (Retr number) bytes next =
-    (first body : List ℕ) × (message : Message) × (bytes ≡ first ++ body) × SaysAnything Positive first
-    × IsUnmarked messages marks number message × Body body message.text × (next ≡ marks)
-Grants messages marks (Dele number) bytes next =
-    (message : Message) × SaysAnything Positive bytes × IsUnmarked messages marks number message
-    × (next ≡ slice_set marks (number - 1) true)
+Grants messages marks Stat bytes next = (after : List ℕ) × (more : List (List ℕ)) × Says Positive bytes after
+    × (marks ≡ no_marks messages → HasFields (length messages) more after) × (next ≡ marks)
+Grants messages marks UidlAll bytes next = ListsAll IsUidRow messages marks bytes × (next ≡ marks)
+Grants messages marks ListAll bytes next = ListsAll IsScanRow messages marks bytes × (next ≡ marks)
+Grants messages marks (Retr number) bytes next = (first body : List ℕ) × (message : Message) × SaysAnything Positive first
+    × (bytes ≡ first ++ body) × (slice_get messages (number - 1) ≡ Some message) × Body body message.text × (next ≡ marks)
+Grants messages marks (Dele number) bytes next = SaysAnything Positive bytes × (next ≡ slice_set marks (number - 1) true)
 Grants messages marks Rset bytes next = SaysAnything Positive bytes × (next ≡ map (λ _. false) marks)
-Grants messages marks Noop bytes next = SaysAnything Positive bytes × (next ≡ marks)
 Grants messages marks (Top number lines) bytes next = ⊥
-Grants messages marks Quit bytes next = SaysAnything Positive bytes × (next ≡ marks)
+Grants messages marks command bytes next = SaysAnything Positive bytes × (next ≡ marks)
 
 -- a negative reply leaves the marks; a positive one has what the command asks for
 abbrev pub Reply : List Message → List Bool → Command → List ℕ → List Bool → Type 0
@@ -95,10 +92,6 @@ Replies messages marks [] bytes last = (bytes ≡ []) × (last ≡ marks)
 Replies messages marks (command ∷ commands) bytes last =
     (first more : List ℕ) × (next : List Bool) × (bytes ≡ first ++ more)
     × Reply messages marks command first next × Replies messages next commands more last
-
--- nothing is marked
-abbrev pub no_marks : List Message → List Bool
-no_marks messages = map (λ _. false) messages
 
 -- these commands were sent whole, each on one line and with numbers below 2 ^ 32, and perhaps a part of one more
 pub record Asked (commands : List Command) (sent : List ℕ) : Type 0 where

@@ -6,6 +6,7 @@ ghost use Rattle.pop3_wire.specs.Fields.{is_space, is_in_field, past, number, ne
 ghost use Rattle.pop3_wire.specs.Fields.{nothing_more, message_number, number_and_size, number_and_id};
 ghost use Rattle.mail_terms.specs.UniqueId.{is_legal_id, IsLegalId};
 ghost use Rattle.mail_terms.specs.Numeral.{greatest_number, greatest_size};
+ghost use Rattle.pop3_wire.specs.Honest.{ScanRowsHaveFields, UidRowsHaveFields};
 ghost use Rattle.pop3_wire.specs.Rows.{ScanRowsHaveForm, UidRowsHaveForm};
 
 use crate::fault::WireFault;
@@ -158,4 +159,11 @@ pub fn scan_rows_have_a_form()
 /// or more, a legal unique-id, and any spaces. The result is this number and this id.
 pub fn uid_rows_have_a_form()
     ensures { UidRowsHaveForm }
+{}
+
+/// A row of UIDL, or of LIST, that is accepted has the fields of an honest server's row.
+#[tactic(auto, using(crate::proofs::RowsLemmas::uid_fields, crate::proofs::RowsLemmas::scan_fields))]
+pub fn rows_have_fields()
+    ensures uid { UidRowsHaveFields }
+    ensures scan { ScanRowsHaveFields }
 {}

@@ -25,7 +25,9 @@ pub use command_line::{
     commands_are_lines, fronts_are_asked, only_one_list_of_commands, read_as_written, read_command,
 };
 pub use fault::WireFault;
-pub use fields::{read_scan, read_stat, read_uid, scan_rows_have_a_form, uid_rows_have_a_form};
+pub use fields::{
+    read_scan, read_stat, read_uid, rows_have_fields, scan_rows_have_a_form, uid_rows_have_a_form,
+};
 pub use line::{cut_line, only_one_line};
 pub use line_reader::{LineFault, LineReader};
 pub use mail_terms::{Bytes, is_legal_id};
